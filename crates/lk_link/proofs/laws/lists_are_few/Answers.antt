@@ -1,0 +1,5 @@
+use Rattle.lk_link.specs.Laws.{few}
+use Rattle.lk_link.proofs.laws.lists_are_few.Goals as goal
+
+pub returns : goal.returns
+returns c = few

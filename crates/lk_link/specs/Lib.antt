@@ -1,0 +1,12 @@
+pub mod Alignments
+pub mod Files
+pub mod Laws
+pub mod Limits
+pub mod Parts
+pub mod Places
+pub mod Powers
+pub mod Rules
+pub mod Starts
+pub mod Texts
+pub mod Unfaulted
+pub mod WellFormed

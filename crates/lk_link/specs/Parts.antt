@@ -1,0 +1,19 @@
+-- The parts of output sections, numbered over all sections in order.
+use Rattle.std.specs.Prelude.{◌≡◌, ℕ, ◌+◌, ◌≤◌, List, length, take, slice_index}
+use Rattle.std.specs.List.{flat_map}
+use Rattle.lk_link.specs.declared.plan.PlanPart.{PlanPart}
+use Rattle.lk_link.specs.declared.plan.PlanSection.{PlanSection}
+
+-- all parts, in order
+abbrev pub all_parts : List PlanSection → List PlanPart
+all_parts sections = flat_map (λ s. s.parts) sections
+
+-- how many parts stand before a section: the number of its first part
+abbrev pub first_part : List PlanSection → ℕ → ℕ
+first_part sections k = length (all_parts (take k sections))
+
+-- parts and starts are the index of the sections
+pub record IsIndexed (sections : List PlanSection) (parts : List PlanPart) (starts : List ℕ) : Type 0 where
+  pub all : parts ≡ all_parts sections
+  pub count : length starts ≡ length sections + 1
+  pub each : (k : ℕ) → k ≤ length sections → slice_index starts k ≡ first_part sections k

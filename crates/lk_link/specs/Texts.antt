@@ -1,0 +1,43 @@
+-- How limits, rules and places are written.
+use Rattle.std.specs.Prelude.{ℕ, List, [], ◌∷◌, ◌++◌, codes}
+use Rattle.std.specs.Fmt.{decimal}
+use Rattle.lk_link.specs.declared.fault.Limited.{Limited}
+use Rattle.lk_link.specs.declared.fault.Limited.TheVariants as limited
+use Rattle.lk_link.specs.declared.fault.Rule.{Rule}
+use Rattle.lk_link.specs.declared.fault.Rule.TheVariants as rule
+use Rattle.lk_link.specs.declared.fault.Place.{Place}
+use Rattle.lk_link.specs.declared.fault.Place.TheVariants as place
+
+-- the pieces, one after the other
+abbrev pub joined : List (List ℕ) → List ℕ
+joined [] = []
+joined (t ∷ []) = t
+joined (t ∷ u ∷ ts) = t ++ joined (u ∷ ts)
+
+-- what a limit speaks of
+abbrev pub limited_text : Limited → List ℕ
+limited_text limited.Groups = codes "groups"
+limited_text limited.Files = codes "files"
+limited_text limited.OutputSections = codes "output sections"
+limited_text limited.Parts = codes "parts"
+limited_text limited.Segments = codes "segments"
+limited_text limited.Events = codes "events"
+limited_text limited.InputSections = codes "input sections"
+limited_text limited.NameBytes = codes "name bytes"
+
+-- the number under which a rule is told
+abbrev pub rule_number : Rule → ℕ
+rule_number rule.Page = 2
+rule_number rule.Sections = 3
+rule_number rule.Events = 7
+rule_number rule.Prelude = 9
+rule_number rule.InputSections = 11
+
+-- a place
+abbrev pub place_text : Place → List ℕ
+place_text place.Plan = codes "plan"
+place_text (place.Section i) = joined (codes "section " ∷ decimal i ∷ [])
+place_text (place.Part p) = joined (codes "part " ∷ decimal p ∷ [])
+place_text (place.Event i) = joined (codes "event " ∷ decimal i ∷ [])
+place_text (place.File id) = joined (codes "file " ∷ decimal id.group ∷ codes " " ∷ decimal id.file ∷ [])
+place_text (place.Input id i) = joined (codes "input " ∷ decimal id.group ∷ codes " " ∷ decimal id.file ∷ codes " " ∷ decimal i ∷ [])

@@ -1,0 +1,183 @@
+//! The plan: output sections with their parts, segments, and the events that place them.
+
+ghost use Rattle.std.specs.Prelude.{◌≡◌, ◌+◌, ◌≤◌, ◌<◌, ◌==◌, length, slice_get, IfOk};
+ghost use Rattle.std.specs.Option.{option_copied};
+
+use crate::expression::Expression;
+use crate::ids::{OutputSectionId, PartId, SegmentId};
+use crate::list::List;
+use crate::text::Text;
+use std::alloc::{AllocError, Global};
+use std::marker::Model;
+
+/// The attributes of an output section.
+pub mod attributes {
+    /// Has memory when the program runs.
+    pub const ALLOC: u32 = 1;
+    /// May be written.
+    pub const WRITE: u32 = 2;
+    /// Holds code.
+    pub const EXEC: u32 = 4;
+    /// Holds thread-local data.
+    pub const TLS: u32 = 8;
+    /// Takes no bytes of the file.
+    pub const NOBITS: u32 = 16;
+}
+
+/// A part of an output section: the input sections of one alignment.
+#[derive(Clone, Copy, Debug, PartialEq, Eq)]
+pub struct PlanPart {
+    /// Bytes; a power of two up to 65,536 in a checked link.
+    pub alignment: u64,
+    /// Whether sizes are taken as they are, and not rounded up to the alignment.
+    pub packed: bool,
+}
+
+/// An output section.
+#[derive(Drop)]
+pub struct PlanSection {
+    pub name: Text,
+    /// A set of `attributes`, below 32 in a checked link.
+    pub attrs: u32,
+    /// At least one in a checked link, with alignments that fall.
+    pub parts: List<PlanPart>,
+}
+
+/// What a segment is for.
+#[derive(Clone, Copy, Debug, PartialEq, Eq)]
+pub enum SegmentKind {
+    /// Loaded into memory.
+    Load,
+}
+
+/// A segment.
+#[derive(Clone, Copy, Debug, PartialEq, Eq)]
+pub struct PlanSegment {
+    pub kind: SegmentKind,
+}
+
+/// A step of the placement, in order (libwild: `OrderEvent`).
+#[derive(Clone, Copy, Debug, PartialEq, Eq)]
+pub enum OrderEvent {
+    /// A segment opens.
+    SegmentStart(SegmentId),
+    /// A segment closes.
+    SegmentEnd(SegmentId),
+    /// A section is placed.
+    Section(OutputSectionId),
+}
+
+/// The plan of a link.
+#[derive(Drop)]
+pub struct Plan {
+    /// Bytes of a memory page; a power of two up to 65,536 in a checked link.
+    pub page: u64,
+    /// Where memory starts.
+    pub base: Expression,
+    pub sections: PlanSections,
+    pub segments: List<PlanSegment>,
+    pub events: List<OrderEvent>,
+}
+
+/// The output sections, with an index of their parts. Contracts see the list of sections alone.
+#[derive(Drop)]
+pub struct PlanSections {
+    sections: Vec<PlanSection>,
+    parts: Vec<PlanPart>,
+    starts: Vec<usize>,
+}
+
+impl Model for PlanSections {
+    ghost use Rattle.std.specs.Prelude.{List};
+    ghost use Rattle.lk_link.specs.declared.plan.PlanSection.{PlanSection};
+
+    ghost Value = { List PlanSection };
+
+    ghost use Rattle.lk_link.specs.Parts.{IsIndexed};
+
+    ghost view = { λ a. a.sections.items };
+
+    ghost invariant = { λ a. IsIndexed a.sections.items a.parts.items a.starts.items };
+}
+
+impl PlanSections {
+    ghost use Rattle.lk_link.specs.Parts.{all_parts, first_part};
+
+    /// Makes the index of the sections.
+    pub fn new(alloc: Global, sections: List<PlanSection>) -> Result<PlanSections, AllocError>
+        ensures { IfOk result (λ all. all ≡ sections) }
+    {
+        let sections = sections.into_vec();
+        let mut parts = Vec::new(alloc);
+        let mut starts = Vec::with_capacity(alloc, sections.len())?;
+        for section in &sections {
+            starts.push(parts.len())?;
+            parts.extend_from_slice(section.parts.as_slice())?;
+        }
+        starts.push(parts.len())?;
+        Ok(PlanSections {
+            sections,
+            parts,
+            starts,
+        })
+    }
+
+    /// All sections, lent.
+    pub fn as_slice(&self) -> &[PlanSection]
+        ensures { result.now ≡ self.now }
+    {
+        self.sections.as_slice()
+    }
+
+    /// How many sections there are.
+    pub fn len(&self) -> usize
+        ensures { result ≡ length self.now }
+    {
+        self.sections.len()
+    }
+
+    /// Whether there are none.
+    pub fn is_empty(&self) -> bool
+        ensures { result ≡ (length self.now == 0) }
+    {
+        self.sections.is_empty()
+    }
+
+    /// The section with this number, if there is one.
+    pub fn get(&self, section: OutputSectionId) -> Option<&PlanSection>
+        ensures { option_copied result ≡ slice_get self.now section }
+    {
+        self.sections.as_slice().get(section.as_usize())
+    }
+
+    /// The parts of all sections, in order, lent.
+    pub fn parts(&self) -> &[PlanPart]
+        ensures { result.now ≡ all_parts self.now }
+    {
+        self.parts.as_slice()
+    }
+
+    /// The part with this number over all sections, if there is one. Takes constant time.
+    pub fn part(&self, part: PartId) -> Option<&PlanPart>
+        ensures { option_copied result ≡ slice_get (all_parts self.now) part }
+    {
+        self.parts.as_slice().get(part.as_usize())
+    }
+
+    /// The number of a section's first part; at the number of sections, the number of parts.
+    pub fn first_part(&self, section: usize) -> usize
+        requires { section ≤ length self.now }
+        ensures { result ≡ first_part self.now section }
+    {
+        self.starts[section]
+    }
+
+    /// The numbers of a section's first part, and of the part behind its last.
+    pub fn part_range(&self, section: usize) -> (usize, usize)
+        requires { section < length self.now }
+        ensures first { result.0 ≡ first_part self.now section }
+        ensures behind { result.1 ≡ first_part self.now (section + 1) }
+    {
+        (self.starts[section], self.starts[section + 1])
+    }
+}
