@@ -1,0 +1,63 @@
+-- Reading a link description: what bytes give, or why they give none.
+use Rattle.std.specs.Prelude.{◌≡◌, ℕ, List, [], ◌∷◌, Option, Some, None, Result, Ok, Err, if◌then◌else◌}
+use Rattle.std.specs.Str.{is_utf8}
+use Rattle.serde_json.specs.Data.{Data}
+use Rattle.serde_json.specs.Read.{read as read_json}
+use Rattle.serde_json.specs.Errors.{IsMemory}
+use Rattle.serde_json.specs.declared.error.Error.{Error as JsonError}
+use Rattle.serde_json.specs.View.{view}
+use Rattle.serde_json.specs.declared.value.Value.{Value}
+use Rattle.lk_link.specs.declared.link.LinkInput.{LinkInput}
+use Rattle.lk_input.specs.declared.read.error.InputError.{InputError}
+use Rattle.lk_input.specs.declared.read.error.InputError.TheVariants.{NotJson, Shape, NoMemory}
+use Rattle.lk_input.specs.declared.read.word.Key.TheVariants as key
+use Rattle.lk_input.specs.ReadingSteps.{Path, ◌>>=◌, object, required, defaulted, none_of, list_of}
+use Rattle.lk_input.specs.ReadingPlan.{plan_of}
+use Rattle.lk_input.specs.ReadingFiles.{input_file_of}
+
+-- the whole description
+unfoldable pub link_of : Data → Result LinkInput Path
+link_of d = do
+  _ ← object d
+  _ ← none_of (key.Options ∷ []) d
+  plan ← required plan_of key.Plan d
+  groups ← defaulted [] (list_of (list_of input_file_of)) key.Groups d
+  Ok (record { plan = plan; groups = groups })
+
+-- the JSON value that bytes are
+abbrev pub json_of : List ℕ → Option Data
+json_of bytes = if is_utf8 bytes then read_json bytes else None
+
+-- what is read, or where its first value of a wrong shape is
+abbrev pub shaped : {A : Type 0} → Result A Path → Result A InputError
+shaped (Ok x) = Ok x
+shaped (Err path) = Err (Shape path)
+
+-- what a JSON value gives
+abbrev pub reading_of_json : Option Data → Result LinkInput InputError
+reading_of_json None = Err NotJson
+reading_of_json (Some d) = shaped (link_of d)
+
+-- the description that bytes give, or why they give none
+abbrev pub reading_of : List ℕ → Result LinkInput InputError
+reading_of bytes = reading_of_json (json_of bytes)
+
+-- what was answered is the reading, unless memory ran out
+abbrev pub Answers : {A : Type 0} → Result A InputError → Result A InputError → Type 0
+Answers (Ok x) reading = reading ≡ Ok x
+Answers (Err NotJson) reading = reading ≡ Err NotJson
+Answers (Err (Shape path)) reading = reading ≡ Err (Shape path)
+Answers (Err NoMemory) reading = Unit {0}
+
+-- the error of text that is no JSON, or of want of memory
+abbrev pub IsOfJson : JsonError → InputError → Type 0
+IsOfJson e NotJson = ¬ IsMemory e
+IsOfJson e (Shape path) = ⊥
+IsOfJson e NoMemory = IsMemory e
+
+-- what was answered for the JSON value, unless memory ran out
+abbrev pub GivesJson : Result Value InputError → Option Data → Type 0
+GivesJson (Ok v) json = json ≡ Some (view v)
+GivesJson (Err NotJson) json = json ≡ None
+GivesJson (Err (Shape path)) json = ⊥
+GivesJson (Err NoMemory) json = Unit {0}

@@ -1,0 +1,147 @@
+-- The steps of reading a JSON value: each gives what is read, or the path of the first value of a wrong shape.
+use Rattle.std.specs.Prelude.{◌≡◌, ℕ, suc, Bool, List, [], ◌∷◌, ◌++◌, Option, Some, None, Result, Ok, Err, ⊤, is_some, nat_lt, ◌^◌, if◌then◌else◌, option_and_then}
+use Rattle.std.specs.Fmt.{decimal}
+use Rattle.std.specs.Str.{bytes_eq}
+use Rattle.serde_json.specs.Data.{Data, Items, no_items, item}
+use Rattle.serde_json.specs.Find.{get, at, as_bool, as_number, as_str, as_array, as_object, as_u64}
+use Rattle.lk_input.specs.declared.read.word.Key.{Key}
+use Rattle.lk_input.specs.declared.read.word.Word.{Word}
+use Rattle.lk_input.specs.declared.read.error.InputError.{InputError}
+use Rattle.lk_input.specs.declared.read.error.InputError.TheVariants.{NotJson, Shape, NoMemory}
+use Rattle.lk_input.specs.ReadingWords.{key_text, word_text}
+
+-- where a value stands below another, as `/key/index`; empty for the value itself
+abbrev pub Path : Type 0
+Path = List ℕ
+
+-- the next step, unless one before it found a fault
+infixl 10 ◌>>=◌
+abbrev pub ◌>>=◌ : {A B : Type 0} → Result A Path → (A → Result B Path) → Result B Path
+(Ok x) >>= f = f x
+(Err path) >>= f = Err path
+
+-- ---- what the code answers
+
+-- an error is the fault that reading finds, or want of memory
+abbrev pub Fails : {A : Type 0} → InputError → Result A Path → Type 0
+Fails NotJson read = ⊥
+Fails (Shape path) read = read ≡ Err path
+Fails NoMemory read = Unit {0}
+
+-- what was returned is what reading gives, unless memory ran out
+abbrev pub Gives : {A : Type 0} → Result A InputError → Result A Path → Type 0
+Gives (Ok x) read = read ≡ Ok x
+Gives (Err e) read = Fails e read
+
+-- an error that tells of this path, or of want of memory
+abbrev pub IsFaultAt : Path → InputError → Type 0
+IsFaultAt path NotJson = ⊥
+IsFaultAt path (Shape p) = p ≡ path
+IsFaultAt path NoMemory = Unit {0}
+
+-- an error as seen from one step above
+abbrev pub IsBelow : List ℕ → InputError → InputError → Type 0
+IsBelow step NotJson seen = seen ≡ NotJson
+IsBelow step (Shape path) seen = IsFaultAt (47 ∷ step ++ path) seen
+IsBelow step NoMemory seen = seen ≡ NoMemory
+
+-- ---- one value
+
+-- a value of the wanted form, if it is one
+abbrev pub wanted : {A : Type 0} → Option A → Result A Path
+wanted None = Err []
+wanted (Some x) = Ok x
+
+-- a value that was looked for, if it was found
+abbrev pub found_by : {A : Type 0} → (Data → Result A Path) → Option Data → Result A Path
+found_by f found = wanted found >>= f
+
+-- whether a value is as wanted
+abbrev pub wanted_true : Bool → Result ⊤ Path
+wanted_true b = if b then Ok tt else Err []
+
+-- what stands one step below
+abbrev pub below : {A : Type 0} → List ℕ → Result A Path → Result A Path
+below step (Ok x) = Ok x
+below step (Err path) = Err (47 ∷ step ++ path)
+
+-- a whole number below 2^64
+abbrev pub number_of : Data → Result ℕ Path
+number_of d = wanted (option_and_then as_u64 (as_number d))
+
+-- a whole number below 2^32
+abbrev pub index_of : Data → Result ℕ Path
+index_of d = number_of d >>= λ n. if nat_lt n (2 ^ 32) then Ok n else Err []
+
+-- a truth value
+abbrev pub truth_of : Data → Result Bool Path
+truth_of d = wanted (as_bool d)
+
+-- a text
+abbrev pub text_of : Data → Result (List ℕ) Path
+text_of d = wanted (as_str d)
+
+-- what the first row with this text stands for
+abbrev pub row_of : {A : Type 0} → List (Word × A) → List ℕ → Option A
+row_of [] t = None
+row_of (row ∷ rows) t = if bytes_eq t (word_text row.0) then Some row.1 else row_of rows t
+
+-- one of the listed texts
+abbrev pub one_of : {A : Type 0} → List (Word × A) → Data → Result A Path
+one_of rows d = wanted (option_and_then (row_of rows) (as_str d))
+
+-- ---- objects
+
+-- the value is an object
+abbrev pub object : Data → Result ⊤ Path
+object d = wanted_true (is_some (as_object d))
+
+-- the member with this key
+abbrev pub required : {A : Type 0} → (Data → Result A Path) → Key → Data → Result A Path
+required f key d = below (key_text key) (found_by f (get (key_text key) d))
+
+-- a member that was looked for, or the default
+abbrev pub found_or : {A : Type 0} → A → (Data → Result A Path) → Option Data → Result A Path
+found_or other f None = Ok other
+found_or other f (Some d) = f d
+
+-- the member with this key, or the default
+abbrev pub defaulted : {A : Type 0} → A → (Data → Result A Path) → Key → Data → Result A Path
+defaulted other f key d = below (key_text key) (found_or other f (get (key_text key) d))
+
+-- a value that isn't read: wherever it stands it has a wrong shape
+abbrev pub unread : Data → Result ⊤ Path
+unread d = Err []
+
+-- no member has one of these keys: fields of the format that aren't read yet
+unfoldable pub none_of : List Key → Data → Result ⊤ Path
+none_of [] d = Ok tt
+none_of (key ∷ keys) d = do
+  _ ← defaulted tt unread key d
+  none_of keys d
+
+-- ---- lists
+
+-- the item at an index of a fixed list
+abbrev pub element : {A : Type 0} → (Data → Result A Path) → ℕ → Data → Result A Path
+element f i d = below (decimal i) (found_by f (at i d))
+
+-- the value is a list, as fixed lists are
+abbrev pub fixed_list : Data → Result ⊤ Path
+fixed_list d = wanted_true (is_some (as_array d))
+
+-- a fixed list has at most so many items
+abbrev pub at_most : ℕ → Data → Result ⊤ Path
+at_most n d = if is_some (at n d) then Err [] else Ok tt
+
+-- the items of a list, counted from i
+unfoldable pub items_of : {A : Type 0} → (Data → Result A Path) → ℕ → Items → Result (List A) Path
+items_of f i no_items = Ok []
+items_of f i (item d ds) = do
+  x ← below (decimal i) (f d)
+  xs ← items_of f (suc i) ds
+  Ok (x ∷ xs)
+
+-- a list of values that f reads
+abbrev pub list_of : {A : Type 0} → (Data → Result A Path) → Data → Result (List A) Path
+list_of f d = wanted (as_array d) >>= items_of f 0

@@ -1,0 +1,141 @@
+//! The limits on the lists of a link.
+
+ghost use Rattle.std.specs.Prelude.{◌≡◌, ◌+◌, ◌-◌, ◌^◌, min, nat_lt, length, sum_by};
+ghost use Rattle.lk_link.specs.Limits.{counted, limit_of, excess, first_excess, first_exceeded, file_count, input_section_count, name_bytes};
+ghost use Rattle.lk_input.specs.Check.{check_of};
+
+use lk_link::fault::{Limited, LinkFault};
+use lk_link::file::InputFile;
+use lk_link::link::LinkInput;
+
+/// The limits, in the order in which they are looked at.
+const ALL_LIMITS: [Limited; 8] = [
+    Limited::Groups,
+    Limited::Files,
+    Limited::OutputSections,
+    Limited::Parts,
+    Limited::Segments,
+    Limited::Events,
+    Limited::InputSections,
+    Limited::NameBytes,
+];
+
+/// Refuses a link with a list that is too long, by the first such list.
+#[tactic(auto, unfolding(crate::specs::Check::check_of, lk_link::specs::Limits::first_excess))]
+pub fn check_limits(link: &LinkInput) -> Result<(), LinkFault>
+    ensures { result ≡ check_of (first_excess link.now) }
+{
+    match first_exceeded(link) {
+        None => Ok(()),
+        Some(what) => Err(excess(link, what)),
+    }
+}
+
+/// The first list that is longer than it may be.
+fn first_exceeded(link: &LinkInput) -> Option<Limited>
+    ensures { result ≡ first_exceeded link.now }
+{
+    ALL_LIMITS
+        .iter()
+        .copied()
+        .find(|what| is_exceeded(link, *what))
+}
+
+/// Whether a list is longer than it may be.
+#[tactic(auto, using(crate::proofs::Bounds::exceeding))]
+fn is_exceeded(link: &LinkInput, what: Limited) -> bool
+    ensures { result ≡ nat_lt (limit_of what) (counted link.now what) }
+{
+    limit_of(what) < count(link, what)
+}
+
+/// The fault of a list that is too long.
+fn excess(link: &LinkInput, what: Limited) -> LinkFault
+    ensures { result ≡ excess link.now what }
+{
+    LinkFault::TooMany {
+        what,
+        count: count(link, what),
+        limit: limit_of(what),
+    }
+}
+
+/// How long a list may be.
+#[tactic(auto, unfolding(lk_link::specs::Limits::limit_of))]
+fn limit_of(what: Limited) -> u64
+    ensures { result ≡ limit_of what }
+{
+    match what {
+        Limited::Groups => 65535,
+        Limited::Files => 16777216,
+        Limited::OutputSections => 65279,
+        Limited::Parts => 1048576,
+        Limited::Segments => 64,
+        Limited::Events => 262144,
+        Limited::InputSections => 16777216,
+        Limited::NameBytes => 2147483647,
+    }
+}
+
+/// How long a list is; a count past 2^64 - 1 is given as that.
+#[tactic(auto, unfolding(lk_link::specs::Limits::counted))]
+fn count(link: &LinkInput, what: Limited) -> u64
+    ensures { result ≡ min (counted link.now what) (2 ^ 64 - 1) }
+{
+    match what {
+        Limited::Groups => link.groups.len() as u64,
+        Limited::Files => file_count(link),
+        Limited::OutputSections => link.plan.sections.len() as u64,
+        Limited::Parts => link.plan.sections.parts().len() as u64,
+        Limited::Segments => link.plan.segments.len() as u64,
+        Limited::Events => link.plan.events.len() as u64,
+        Limited::InputSections => input_section_count(link),
+        Limited::NameBytes => name_bytes(link),
+    }
+}
+
+/// How many files there are.
+fn file_count(link: &LinkInput) -> u64
+    ensures { result ≡ min (file_count link.now) (2 ^ 64 - 1) }
+{
+    let mut count = 0u64;
+    for files in link.groups.as_slice() {
+        count = count.saturating_add(files.len() as u64);
+    }
+    count
+}
+
+/// How many input sections some files have.
+fn sections_of(files: &[InputFile]) -> u64
+    ensures { result ≡ min (sum_by (λ f. length f.sections) files.now) (2 ^ 64 - 1) }
+{
+    let mut count = 0u64;
+    for file in files {
+        count = count.saturating_add(file.sections.len() as u64);
+    }
+    count
+}
+
+/// How many input sections all files have.
+fn input_section_count(link: &LinkInput) -> u64
+    ensures { result ≡ min (input_section_count link.now) (2 ^ 64 - 1) }
+{
+    let mut count = 0u64;
+    for files in link.groups.as_slice() {
+        count = count.saturating_add(sections_of(files.as_slice()));
+    }
+    count
+}
+
+/// How many bytes all names have, one more for each.
+fn name_bytes(link: &LinkInput) -> u64
+    ensures { result ≡ min (name_bytes link.now) (2 ^ 64 - 1) }
+{
+    let mut count = input_section_count(link);
+    for section in link.plan.sections.as_slice() {
+        count = count
+            .saturating_add(section.name.len() as u64)
+            .saturating_add(1);
+    }
+    count
+}

@@ -1,0 +1,87 @@
+//! Why no description was read.
+
+ghost use Rattle.std.specs.Prelude.{◌≡◌, []};
+ghost use Rattle.lk_input.specs.declared.read.error.InputError.TheVariants.{NotJson, Shape, NoMemory};
+
+use crate::read::word::Step;
+use lk_link::text::Text;
+use std::alloc::{AllocError, AllocFailed, Global};
+use std::str::Utf8Error;
+
+/// Why bytes give no link description.
+#[derive(Debug, Drop)]
+pub enum InputError {
+    /// The bytes are no JSON text.
+    NotJson,
+    /// The first value, in the order of the format, that is missing or has a wrong shape: its path from the top, as
+    /// `/plan/page`; empty for the top itself.
+    Shape(Text),
+    /// Memory ran out.
+    NoMemory,
+}
+
+impl From<AllocError> for InputError {
+    ghost from_gives = { λ _ e. e ≡ NoMemory };
+
+    fn from(_e: AllocError) -> InputError {
+        InputError::NoMemory
+    }
+}
+
+impl<T: Drop> From<AllocFailed<T>> for InputError {
+    ghost from_gives = { λ _ e. e ≡ NoMemory };
+
+    fn from(_e: AllocFailed<T>) -> InputError {
+        InputError::NoMemory
+    }
+}
+
+/// Bytes that are no text are no JSON.
+impl From<Utf8Error> for InputError {
+    ghost from_gives = { λ _ e. e ≡ NotJson };
+
+    fn from(_e: Utf8Error) -> InputError {
+        InputError::NotJson
+    }
+}
+
+impl From<serde_json::Error> for InputError {
+    ghost use Rattle.lk_input.specs.Reading.{IsOfJson};
+
+    ghost from_gives = { IsOfJson };
+
+    fn from(e: serde_json::Error) -> InputError {
+        if e.is_memory() {
+            InputError::NoMemory
+        } else {
+            InputError::NotJson
+        }
+    }
+}
+
+impl InputError {
+    ghost use Rattle.lk_input.specs.ReadingSteps.{IsBelow};
+    ghost use Rattle.lk_input.specs.ReadingWords.{step_text};
+
+    /// The fault of a value of a wrong shape, before its path is known.
+    pub(crate) fn misfit(alloc: Global) -> InputError
+        ensures { result ≡ Shape [] }
+    {
+        InputError::Shape(Text::new(alloc))
+    }
+
+    /// The fault as seen from one step above.
+    pub(crate) fn below(self, alloc: Global, step: Step) -> InputError
+        ensures { IsBelow (step_text step) self result }
+    {
+        match self {
+            InputError::Shape(path) => {
+                match format!(in alloc; "/{step}{path}", path = path.as_str()) {
+                    Ok(longer) => InputError::Shape(Text::from_string(longer)),
+                    Err(_) => InputError::NoMemory,
+                }
+            }
+            other => other,
+        }
+    }
+}
