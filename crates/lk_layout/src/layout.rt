@@ -1,0 +1,21 @@
+//! The layout of a link.
+
+use crate::live::LiveSection;
+use crate::record::OutputRecordLayout;
+use crate::segments::SegmentLayout;
+use lk_link::list::List;
+
+/// Where everything stands (libwild: `Layout`).
+#[derive(Drop)]
+pub struct Layout {
+    /// Of each output section.
+    pub section_layouts: List<OutputRecordLayout>,
+    /// Of each part, numbered over all sections.
+    pub section_part_layouts: List<OutputRecordLayout>,
+    /// For each output section its index in the output; none where it isn't emitted.
+    pub output_section_indexes: List<Option<u32>>,
+    /// Of each active segment, by number.
+    pub segment_layouts: List<SegmentLayout>,
+    /// Each live input section, by file and index.
+    pub live_sections: List<LiveSection>,
+}
