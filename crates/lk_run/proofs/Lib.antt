@@ -1,0 +1,5 @@
+pub mod Commands
+pub mod Lines
+pub mod Past
+pub mod Written
+pub mod RunLaws

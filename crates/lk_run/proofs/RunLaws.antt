@@ -1,0 +1,83 @@
+-- The steps of a run make the run that is promised.
+use Rattle.std.proofs.Common.{◌≡◌, ◌⊎◌, inl, inr, ℕ, List, Option, Some, None, Result, Ok, Err, sym, subst, ap, ◌∙◌, refl}
+use Rattle.std.proofs.lemmas.Bool.{false≢true}
+use Rattle.std.specs.Prelude.{IsSome, MatchOption}
+use Rattle.lk_input.specs.declared.read.error.InputError.{InputError}
+use Rattle.lk_input.specs.Reading.{reading_of}
+use Rattle.lk_link.specs.declared.link.LinkInput.{LinkInput}
+use Rattle.lk_layout.specs.declared.error.LayoutError.{LayoutError}
+use Rattle.lk_layout.specs.declared.layout.Layout.{Layout}
+use Rattle.lk_run.specs.declared.answer.Answer.{Answer}
+use Rattle.lk_run.specs.declared.status.Status.{Status}
+use Rattle.lk_run.specs.declared.status.Status.TheVariants.{LaidOut, Refused, Usage, Unreadable, ReadFault, WriteFault, NoMemory}
+use Rattle.lk_run.specs.declared.words.Command.{Command}
+use Rattle.lk_run.specs.Run.{Held, Whole, Longer, SourceState, SinkState, IsKept, IsAnswerTo, IsAnswerToReading, IsDefinedFor, Commanded, Uncommanded, IsRun, IsCommandRun, IsUsageRun, IsFailure, GivesAnswer, told_of}
+use Rattle.lk_run.specs.Words.{command_of, usage}
+
+-- what an answer's status may be
+abbrev IsTold : Status → Type 0
+IsTold status = (status ≡ LaidOut) ⊎ ((status ≡ Refused) ⊎ (status ≡ Unreadable))
+
+told_link : (link : LinkInput) (layout : Result Layout LayoutError) → IsTold (told_of link layout).status
+told_link link (Ok layout) = inl refl
+told_link link (Err e) = inr (inl refl)
+
+told_reading : (reading : Result LinkInput InputError) (answer : Answer) → IsAnswerToReading reading answer → IsTold answer.status
+told_reading (Ok link) answer is = subst (λ (a : Answer). IsTold a.status) (sym is.2) (told_link link is.0)
+told_reading (Err e) answer is = inr (inr (ap (λ (a : Answer). a.status) is))
+
+told_held : (held : Held) (answer : Answer) → IsAnswerTo held answer → IsTold answer.status
+told_held (Whole bytes) answer is = told_reading (reading_of bytes) answer is
+told_held Longer answer is = inr (inr (ap (λ (a : Answer). a.status) is))
+
+chosen_some : (o : Option Command) (P Q : Type 0) → IsSome o → Q → MatchOption o P (λ command. Q)
+chosen_some None P Q h q = absurd (false≢true h)
+chosen_some (Some command) P Q h q = q
+
+chosen_none : (o : Option Command) (P Q : Type 0) → o ≡ None → P → MatchOption o P (λ command. Q)
+chosen_none None P Q h p = p
+chosen_none (Some command) P Q h p = absurd (cc)
+
+defined : (words : List (List ℕ)) (from to : SourceState) (answer : Answer) → IsSome (command_of words) → GivesAnswer (Ok answer) from to → IsDefinedFor words from to answer
+defined words from to answer command gives =
+    chosen_some (command_of words) (Uncommanded words from to answer) (Commanded words from to answer) command
+    (record { command = command; held = gives.0; holds = gives.1; answers = gives.2; read = gives.3; faultless = gives.4 })
+
+failed_run : (words : List (List ℕ)) (from to : SourceState) (before after : SinkState) (status : Status) → IsSome (command_of words) → IsFailure status from to → IsKept before after → IsRun words from to before after status
+failed_run words from to before after ReadFault command why kept = record { command = command; faulty = why; kept = kept }
+failed_run words from to before after NoMemory command why kept = record { command = command; faultless = why; kept = kept }
+failed_run words from to before after LaidOut command why kept = absurd why
+failed_run words from to before after Refused command why kept = absurd why
+failed_run words from to before after Usage command why kept = absurd why
+failed_run words from to before after Unreadable command why kept = absurd why
+failed_run words from to before after WriteFault command why kept = absurd why
+
+-- a command that was run
+pub command_run : (words : List (List ℕ)) (from to : SourceState) (before after : SinkState) (status : Status) → IsSome (command_of words) → IsCommandRun from to before after status → IsRun words from to before after status
+command_run words from to before after status command (inr failed) = failed_run words from to before after status command failed.0 failed.1
+command_run words from to before after status command (inl told) =
+    let answer : Answer = told.0 in
+    let is_defined : IsDefinedFor words from to answer = defined words from to answer command told.1 in
+    let run : Status → Type 0 = λ s. IsRun words from to before after s in
+    elim told.2 [
+      | inr cut ↦ subst run (sym cut.0) (record { answer = answer; defined = is_defined; written = cut.1 })
+      | inl whole ↦ elim (told_held told.1.0 answer told.1.2) [
+        | inl laid ↦ subst run (sym (whole.0 ∙ laid)) (record { answer = answer; defined = is_defined; same = sym laid; written = whole.1 })
+        | inr other ↦ elim other [
+          | inl refused ↦ subst run (sym (whole.0 ∙ refused)) (record { answer = answer; defined = is_defined; same = sym refused; written = whole.1 })
+          | inr unreadable ↦ subst run (sym (whole.0 ∙ unreadable)) (record { answer = answer; defined = is_defined; same = sym unreadable; written = whole.1 })
+        ]
+      ]
+    ]
+
+-- words that are no command
+pub usage_run : (words : List (List ℕ)) (from : SourceState) (before after : SinkState) (status : Status) → command_of words ≡ None → IsUsageRun before after status → IsRun words from from before after status
+usage_run words from before after status none told =
+    let answer : Answer = record { status = Usage; text = usage } in
+    let is_defined : IsDefinedFor words from from answer =
+    chosen_none (command_of words) (Uncommanded words from from answer) (Commanded words from from answer) none (record { no_command = none; untouched = refl; answers = refl }) in
+    let run : Status → Type 0 = λ s. IsRun words from from before after s in
+    elim told [
+      | inl whole ↦ subst run (sym whole.0) (record { answer = answer; defined = is_defined; same = refl; written = whole.1 })
+      | inr cut ↦ subst run (sym cut.0) (record { answer = answer; defined = is_defined; written = cut.1 })
+    ]

@@ -1,0 +1,113 @@
+-- The report: the lines that tell where everything of a link stands.
+use Rattle.std.specs.Prelude.{ℕ, suc, ◌+◌, ◌==◌, ◌&&◌, ◌||◌, not, nat_lt, Bool, false, if◌then◌else◌, List, [], ◌∷◌, ◌++◌, Option, Some, None, codes, slice_get, slice_range}
+use Rattle.std.specs.List.{list_any}
+use Rattle.std.specs.Fmt.{decimal, digits}
+use Rattle.lk_link.specs.declared.link.LinkInput.{LinkInput}
+use Rattle.lk_link.specs.declared.plan.PlanSection.{PlanSection}
+use Rattle.lk_link.specs.Parts.{first_part}
+use Rattle.lk_link.specs.Texts.{joined}
+use Rattle.lk_layout.specs.declared.layout.Layout.{Layout}
+use Rattle.lk_layout.specs.declared.live.LiveSection.{LiveSection}
+use Rattle.lk_layout.specs.declared.segments.SegmentLayout.{SegmentLayout}
+use Rattle.lk_layout.specs.Records.{Record}
+
+-- ---- pieces of a line
+
+-- a number behind `0x`
+abbrev pub hexadecimal : ℕ → List ℕ
+hexadecimal n = digits 16 false n
+
+-- where something stands in memory and in the file, and its alignment
+unfoldable pub range_text : Record → List ℕ
+range_text r = joined (
+    codes "mem 0x" ∷ hexadecimal r.mem_offset ∷ codes " " ∷ decimal r.mem_size ∷
+    codes " file 0x" ∷ hexadecimal r.file_offset ∷ codes " " ∷ decimal r.file_size ∷
+    codes " align " ∷ decimal r.alignment ∷ [])
+
+-- an index in the output, or `-` where there is none
+abbrev pub index_text : Option ℕ → List ℕ
+index_text None = codes "-"
+index_text (Some k) = decimal k
+
+-- the texts of all items, one after the other, each by its number; the first has the number n
+unfoldable pub each : {X : Type 0} → (ℕ → X → List ℕ) → ℕ → List X → List ℕ
+each text n [] = []
+each text n (x ∷ xs) = text n x ++ each text (suc n) xs
+
+-- ---- sections
+
+-- the line of an output section
+unfoldable pub section_line : ℕ → PlanSection → Record → Option ℕ → List ℕ
+section_line s section r index = joined (
+    codes "section " ∷ decimal s ∷ codes " index " ∷ index_text index ∷ codes " " ∷ range_text r ∷
+    codes " lma 0x" ∷ hexadecimal r.lma_offset ∷ codes " attrs " ∷ decimal section.attrs ∷ codes "\n" ∷ [])
+
+-- the same, where the section has a record and an index; else nothing
+unfoldable pub section_text : ℕ → PlanSection → Option Record → Option (Option ℕ) → List ℕ
+section_text s section None index = []
+section_text s section (Some r) None = []
+section_text s section (Some r) (Some index) = section_line s section r index
+
+-- the lines of all output sections
+abbrev pub section_lines : List PlanSection → Layout → List ℕ
+section_lines sections layout =
+    each (λ s section. section_text s section (slice_get layout.section_layouts s) (slice_get layout.output_section_indexes s)) 0 sections
+
+-- ---- parts
+
+-- whether a part has bytes
+abbrev pub has_bytes : Record → Bool
+has_bytes r = nat_lt 0 r.mem_size
+
+-- the line of a part
+unfoldable pub part_line : ℕ → Record → List ℕ
+part_line p r = joined (codes "part " ∷ decimal p ∷ codes " " ∷ range_text r ∷ codes "\n" ∷ [])
+
+-- the same, where the part is told: one with bytes, and the first part of a section without bytes
+unfoldable pub part_text : Bool → ℕ → ℕ → Record → List ℕ
+part_text is_empty first p r = if has_bytes r || (is_empty && p == first) then part_line p r else []
+
+-- the lines of a section's parts that are told; the first part has the number first
+abbrev pub told_lines : ℕ → List Record → List ℕ
+told_lines first parts = each (part_text (not (list_any has_bytes parts)) first) first parts
+
+-- the lines of a section's parts
+abbrev pub section_part_lines : List PlanSection → List Record → ℕ → List ℕ
+section_part_lines sections parts s =
+    told_lines (first_part sections s) (slice_range parts (first_part sections s) (first_part sections (s + 1)))
+
+-- the lines of all parts
+abbrev pub part_lines : List PlanSection → List Record → List ℕ
+part_lines sections parts = each (λ s section. section_part_lines sections parts s) 0 sections
+
+-- ---- segments and live sections
+
+-- the line of a segment
+unfoldable pub segment_line : SegmentLayout → List ℕ
+segment_line segment = joined (codes "segment " ∷ decimal segment.id ∷ codes " " ∷ range_text segment.sizes ∷ codes "\n" ∷ [])
+
+-- the lines of the active segments
+abbrev pub segment_lines : List SegmentLayout → List ℕ
+segment_lines segments = each (λ _ segment. segment_line segment) 0 segments
+
+-- the line of a live section
+unfoldable pub live_line : LiveSection → List ℕ
+live_line live = joined (
+    codes "live " ∷ decimal live.file.group ∷ codes " " ∷ decimal live.file.file ∷ codes " " ∷ decimal live.index ∷
+    codes " 0x" ∷ hexadecimal live.address ∷ codes " " ∷ decimal live.size ∷ codes "\n" ∷ [])
+
+-- the lines of the live sections
+abbrev pub live_lines : List LiveSection → List ℕ
+live_lines live = each (λ _ section. live_line section) 0 live
+
+-- ---- the report
+
+-- the report of a link's layout; a section or a part that the layout has no record of is left out
+abbrev pub report : LinkInput → Layout → List ℕ
+report link layout = joined (
+    codes "layout\n" ∷
+    section_lines link.plan.sections layout ∷
+    part_lines link.plan.sections layout.section_part_layouts ∷
+    segment_lines layout.segment_layouts ∷
+    live_lines layout.live_sections ∷
+    codes "entry -\nend\n" ∷ [])

@@ -1,0 +1,287 @@
+//! The report of a layout.
+
+ghost use Rattle.std.specs.Prelude.{◌≡◌, ◌+◌, ◌^◌, ◌<◌, ◌++◌, string_bytes, slice_range, length, Option, slice_get, IfOk};
+ghost use Rattle.std.specs.List.{list_any};
+ghost use Rattle.lk_run.specs.Report.{report, range_text, index_text, has_bytes, part_text, section_line, section_text, section_lines, part_line, told_lines, section_part_lines, part_lines, segment_line, segment_lines, live_line, live_lines};
+
+use lk_layout::layout::Layout;
+use lk_layout::live::LiveSection;
+use lk_layout::record::OutputRecordLayout;
+use lk_layout::segments::SegmentLayout;
+use lk_link::link::LinkInput;
+use lk_link::plan::{PlanSection, PlanSections};
+use std::alloc::{AllocError, Global};
+use std::fmt;
+
+/// Bytes that a line with a record mostly has room in.
+const RECORD_LINE: usize = 112;
+
+/// Bytes that a live section's line mostly has room in.
+const LIVE_LINE: usize = 48;
+
+/// A record as it is printed.
+#[derive(Clone, Copy)]
+struct RangeText {
+    range: OutputRecordLayout,
+}
+
+/// As `mem 0x1000 8 file 0x0 8 align 8`.
+#[tactic(auto, unfolding(crate::specs::Report::range_text))]
+impl fmt::Display for RangeText {
+    ghost use Rattle.std.specs.Prelude.{Some};
+
+    ghost output = { λ shown. Some (range_text shown.range) };
+
+    fn fmt<W: fmt::Write>(&self, f: &mut fmt::Formatter<W>) -> fmt::Result {
+        let address = self.range.mem_offset;
+        let bytes = self.range.mem_size;
+        let offset = self.range.file_offset;
+        let size = self.range.file_size;
+        let alignment = self.range.alignment.value();
+        write!(
+            f,
+            "mem 0x{address:x} {bytes} file 0x{offset:x} {size} align {alignment}"
+        )
+    }
+}
+
+/// An output index as it is printed.
+#[derive(Clone, Copy)]
+struct IndexText {
+    index: Option<u32>,
+}
+
+/// The number, or `-` for none.
+impl fmt::Display for IndexText {
+    ghost use Rattle.std.specs.Prelude.{Some};
+
+    ghost output = { λ shown. Some (index_text shown.index) };
+
+    fn fmt<W: fmt::Write>(&self, f: &mut fmt::Formatter<W>) -> fmt::Result {
+        match self.index {
+            None => write!(f, "-"),
+            Some(index) => write!(f, "{index}"),
+        }
+    }
+}
+
+/// The report of a link's layout: a line for each output section, each part that has bytes or is the first of a section
+/// without bytes, each active segment and each live section. What the layout has no record of is left out.
+pub fn report_text(alloc: Global, link: &LinkInput, layout: &Layout) -> Result<String, AllocError>
+    ensures { IfOk result (λ text. string_bytes text ≡ report link.now layout.now) }
+{
+    let mut text = String::with_capacity(alloc, room_of(layout))?;
+    text.push_str("layout\n")?;
+    write_sections(&mut text, link.plan.sections.as_slice(), layout)?;
+    write_parts(
+        &mut text,
+        &link.plan.sections,
+        layout.section_part_layouts.as_slice(),
+    )?;
+    write_segments(&mut text, layout.segment_layouts.as_slice())?;
+    write_live_sections(&mut text, layout.live_sections.as_slice())?;
+    text.push_str("entry -\nend\n")?;
+    Ok(text)
+}
+
+/// How many bytes the report mostly has, so that its text seldom grows.
+fn room_of(layout: &Layout) -> usize {
+    let records = layout
+        .section_layouts
+        .len()
+        .saturating_add(layout.section_part_layouts.len())
+        .saturating_add(layout.segment_layouts.len())
+        .saturating_add(1);
+    records
+        .saturating_mul(RECORD_LINE)
+        .saturating_add(layout.live_sections.len().saturating_mul(LIVE_LINE))
+}
+
+/// The lines of the output sections.
+fn write_sections(
+    text: &mut String,
+    sections: &[PlanSection],
+    layout: &Layout,
+) -> Result<(), AllocError>
+    ensures { IfOk result (λ _. string_bytes text.new ≡ string_bytes text.old ++ section_lines sections.now layout.now) }
+{
+    for (number, section) in sections.iter().enumerate() {
+        write_section(text, number, section, layout)?;
+    }
+    Ok(())
+}
+
+/// The line of an output section that the layout has a record of.
+#[tactic(auto, unfolding(crate::specs::Report::section_text))]
+fn write_section(
+    text: &mut String,
+    number: usize,
+    section: &PlanSection,
+    layout: &Layout,
+) -> Result<(), AllocError>
+    ensures { IfOk result (λ _. string_bytes text.new ≡ string_bytes text.old ++ section_text number section.now (slice_get layout.now.section_layouts number) (slice_get layout.now.output_section_indexes number)) }
+{
+    let range = layout.section_layouts.get(number);
+    let index = layout.output_section_indexes.get(number);
+    match (range, index) {
+        (Some(range), Some(index)) => write_section_line(text, number, section, range, *index),
+        _ => Ok(()),
+    }
+}
+
+/// The line of an output section.
+#[tactic(auto, unfolding(crate::specs::Report::section_line))]
+fn write_section_line(
+    text: &mut String,
+    number: usize,
+    section: &PlanSection,
+    range: &OutputRecordLayout,
+    index: Option<u32>,
+) -> Result<(), AllocError>
+    ensures { IfOk result (λ _. string_bytes text.new ≡ string_bytes text.old ++ section_line number section.now range.now index) }
+{
+    let index = IndexText { index };
+    let place = RangeText { range: *range };
+    let loaded = range.lma_offset;
+    let attrs = section.attrs;
+    write!(
+        text,
+        "section {number} index {index} {place} lma 0x{loaded:x} attrs {attrs}\n"
+    )
+}
+
+/// The lines of the parts, section by section.
+fn write_parts(
+    text: &mut String,
+    sections: &PlanSections,
+    parts: &[OutputRecordLayout],
+) -> Result<(), AllocError>
+    ensures { IfOk result (λ _. string_bytes text.new ≡ string_bytes text.old ++ part_lines sections.now parts.now) }
+{
+    for (number, _) in sections.as_slice().iter().enumerate() {
+        write_section_parts(text, sections, parts, number)?;
+    }
+    Ok(())
+}
+
+/// The lines of a section's parts.
+fn write_section_parts(
+    text: &mut String,
+    sections: &PlanSections,
+    parts: &[OutputRecordLayout],
+    number: usize,
+) -> Result<(), AllocError>
+    requires { number < length sections.now }
+    ensures { IfOk result (λ _. string_bytes text.new ≡ string_bytes text.old ++ section_part_lines sections.now parts.now number) }
+{
+    let (first, behind) = sections.part_range(number);
+    write_told(text, first, from_to(parts, first, behind))
+}
+
+/// The records from one number up to another, as far as there are any.
+fn from_to(parts: &[OutputRecordLayout], first: usize, behind: usize) -> &[OutputRecordLayout]
+    ensures value { result.now ≡ slice_range parts.now first behind }
+    ensures room { first + length result.now < 2 ^ 64 }
+{
+    let behind = behind.min(parts.len());
+    let first = first.min(behind);
+    &parts[first..behind]
+}
+
+/// The lines of a section's parts that are told, of which the first has this number.
+fn write_told(
+    text: &mut String,
+    first: usize,
+    parts: &[OutputRecordLayout],
+) -> Result<(), AllocError>
+    requires { first + length parts.now < 2 ^ 64 }
+    ensures { IfOk result (λ _. string_bytes text.new ≡ string_bytes text.old ++ told_lines first parts.now) }
+{
+    let is_empty = !any_has_bytes(parts);
+    for (offset, range) in parts.iter().enumerate() {
+        write_part(text, is_empty, first, first + offset, range)?;
+    }
+    Ok(())
+}
+
+/// Whether a part has bytes.
+fn any_has_bytes(parts: &[OutputRecordLayout]) -> bool
+    ensures { result ≡ list_any has_bytes parts.now }
+{
+    parts.iter().any(|range| range.mem_size > 0)
+}
+
+/// The line of a part, where it is told: one with bytes, and the first part of a section without bytes.
+#[tactic(auto, unfolding(crate::specs::Report::part_text))]
+fn write_part(
+    text: &mut String,
+    is_empty: bool,
+    first: usize,
+    number: usize,
+    range: &OutputRecordLayout,
+) -> Result<(), AllocError>
+    ensures { IfOk result (λ _. string_bytes text.new ≡ string_bytes text.old ++ part_text is_empty first number range.now) }
+{
+    if range.mem_size > 0 || (is_empty && number == first) {
+        write_part_line(text, number, range)?;
+    }
+    Ok(())
+}
+
+/// The line of a part.
+#[tactic(auto, unfolding(crate::specs::Report::part_line))]
+fn write_part_line(
+    text: &mut String,
+    number: usize,
+    range: &OutputRecordLayout,
+) -> Result<(), AllocError>
+    ensures { IfOk result (λ _. string_bytes text.new ≡ string_bytes text.old ++ part_line number range.now) }
+{
+    let place = RangeText { range: *range };
+    write!(text, "part {number} {place}\n")
+}
+
+/// The lines of the active segments.
+fn write_segments(text: &mut String, segments: &[SegmentLayout]) -> Result<(), AllocError>
+    ensures { IfOk result (λ _. string_bytes text.new ≡ string_bytes text.old ++ segment_lines segments.now) }
+{
+    for segment in segments {
+        write_segment(text, segment)?;
+    }
+    Ok(())
+}
+
+/// The line of a segment.
+#[tactic(auto, unfolding(crate::specs::Report::segment_line))]
+fn write_segment(text: &mut String, segment: &SegmentLayout) -> Result<(), AllocError>
+    ensures { IfOk result (λ _. string_bytes text.new ≡ string_bytes text.old ++ segment_line segment.now) }
+{
+    let number = segment.id.as_u32();
+    let place = RangeText {
+        range: segment.sizes,
+    };
+    write!(text, "segment {number} {place}\n")
+}
+
+/// The lines of the live sections.
+fn write_live_sections(text: &mut String, live: &[LiveSection]) -> Result<(), AllocError>
+    ensures { IfOk result (λ _. string_bytes text.new ≡ string_bytes text.old ++ live_lines live.now) }
+{
+    for section in live {
+        write_live_section(text, section)?;
+    }
+    Ok(())
+}
+
+/// The line of a live section.
+#[tactic(auto, unfolding(crate::specs::Report::live_line))]
+fn write_live_section(text: &mut String, section: &LiveSection) -> Result<(), AllocError>
+    ensures { IfOk result (λ _. string_bytes text.new ≡ string_bytes text.old ++ live_line section.now) }
+{
+    let group = section.file.group;
+    let file = section.file.file;
+    let index = section.index;
+    let address = section.address;
+    let size = section.size;
+    write!(text, "live {group} {file} {index} 0x{address:x} {size}\n")
+}

@@ -1,0 +1,32 @@
+//! How a run ends.
+
+ghost use Rattle.std.specs.Prelude.{◌≡◌};
+ghost use Rattle.lk_run.specs.Status.{code_of};
+
+/// How a run ended, and what it wrote.
+#[derive(Clone, Copy, Debug, PartialEq, Eq)]
+pub enum Status {
+    /// The link is laid out; the report is written.
+    LaidOut = 0,
+    /// The link is refused; the text of the fault is written.
+    Refused = 1,
+    /// The words are no command; the usage text is written.
+    Usage = 2,
+    /// The input is too long, is not JSON, or describes no link; a text says which.
+    Unreadable = 3,
+    /// The source failed; nothing is written.
+    ReadFault = 4,
+    /// The sink failed; a prefix of the text is written.
+    WriteFault = 5,
+    /// Memory ran out; nothing is written.
+    NoMemory = 6,
+}
+
+impl Status {
+    /// The number that the program ends with.
+    pub fn code(self) -> u8
+        ensures { result ≡ code_of self }
+    {
+        self as u8
+    }
+}

@@ -1,0 +1,115 @@
+//! Whole inputs and whole outputs, over the calls of a source and a sink.
+
+ghost use Rattle.std.specs.Prelude.{◌≡◌, ◌+◌, ◌≤◌, ◌<◌, [], drop, length, take, vec_len, IfOk, IfSome, OnErr, OnOk, IsErrOf};
+ghost use Rattle.std.specs.Io.KnownBytes.{Consumes, IsAtEnd};
+ghost use Rattle.lk_run.specs.Device.{Appends, AppendsPrefix, HasCause};
+ghost use Rattle.lk_run.specs.ReadAll.{HoldsExactly, HoldsMore, ReadAllHasCause};
+
+use crate::sink::Sink;
+use crate::source::{Failed, Source};
+use std::alloc::{AllocError, Global};
+
+/// The most bytes that one read of `read_all` asks for.
+const CHUNK: usize = 65536;
+
+/// Why an input was not read to its end.
+#[derive(Clone, Copy, Debug, PartialEq, Eq)]
+pub enum ReadAllError {
+    /// The source holds more bytes than the limit.
+    TooLong,
+    /// A read failed.
+    Failed,
+    /// Memory ran out.
+    NoMemory,
+}
+
+impl From<Failed> for ReadAllError {
+    ghost use Rattle.lk_run.specs.declared.transfer.ReadAllError.TheVariants as E;
+
+    ghost from_gives = { λ _ e. e ≡ E.Failed };
+
+    fn from(_error: Failed) -> ReadAllError {
+        ReadAllError::Failed
+    }
+}
+
+impl From<AllocError> for ReadAllError {
+    ghost use Rattle.lk_run.specs.declared.transfer.ReadAllError.TheVariants as E;
+
+    ghost from_gives = { λ _ e. e ≡ E.NoMemory };
+
+    fn from(_error: AllocError) -> ReadAllError {
+        ReadAllError::NoMemory
+    }
+}
+
+/// Reads the source to its end, which is at most `limit` bytes away. Of a longer input it reads one byte past the
+/// limit; the rest stays unread.
+pub fn read_all<S: Source>(
+    alloc: Global,
+    source: &mut S,
+    limit: u64,
+) -> Result<Vec<u8>, ReadAllError>
+    ensures whole { IfOk result (λ bytes. HoldsExactly (S.left source.old) bytes.items) }
+    ensures to_its_end { OnOk result (IfSome (S.left source.old) (λ _. S.left source.new ≡ Some [])) }
+    ensures within { IfOk result (λ bytes. vec_len bytes ≤ limit) }
+    ensures too_long { IsErrOf result ReadAllError.TooLong → HoldsMore (S.left source.old) limit }
+    ensures rest_unread { IsErrOf result ReadAllError.TooLong →
+        IfSome (S.left source.old) (λ held. S.left source.new ≡ Some (drop (limit + 1) held)) }
+    ensures cause { ReadAllHasCause result (S.faults source.old) (S.faults source.new) }
+{
+    let mut chunk = new_chunk(alloc)?;
+    let mut bytes = Vec::new(alloc);
+    loop {
+        let room = limit - bytes.len() as u64;
+        let count = read_turn(source, &mut chunk, room)?;
+        if count == 0 {
+            return Ok(bytes);
+        }
+        if count as u64 > room {
+            return Err(ReadAllError::TooLong);
+        }
+        bytes.extend_from_slice(&chunk[..count])?;
+    }
+}
+
+/// The buffer that reads go into.
+fn new_chunk(alloc: Global) -> Result<Vec<u8>, AllocError>
+    ensures { IfOk result (λ chunk. 0 < vec_len chunk) }
+{
+    let mut chunk = Vec::new(alloc);
+    chunk.resize(CHUNK, 0)?;
+    Ok(chunk)
+}
+
+/// One read into the front of `chunk`, of one byte more than there is room for, so that too long an input shows.
+fn read_turn<S: Source>(source: &mut S, chunk: &mut [u8], room: u64) -> Result<usize, Failed>
+    requires { 0 < length chunk.old }
+    ensures within { IfOk result (λ n. (n ≤ length chunk.new) × (n ≤ room + 1)) }
+    ensures cause { HasCause result (S.faults source.old) (S.faults source.new) }
+    ensures bytes { IfOk result (λ n. Consumes (S.left source.old) (S.left source.new) (take n chunk.new)) }
+    ensures end { IfOk result (λ n. n ≡ 0 → IsAtEnd (S.left source.old)) }
+{
+    let most = chunk.len().min(room.saturating_add(1) as usize);
+    source.read(&mut chunk[..most])
+}
+
+/// Writes the whole text, in as many calls as the sink needs. After a failed call the sink has a prefix of the text.
+/// Takes no memory.
+#[tactic(auto, using(crate::proofs::Written::goes_on))]
+pub fn write_all<K: Sink>(sink: &mut K, text: &[u8]) -> Result<(), Failed>
+    ensures whole { OnOk result (Appends (K.taken sink.old) (K.taken sink.new) text.now) }
+    ensures prefix { OnErr result (AppendsPrefix (K.taken sink.old) (K.taken sink.new) text.now) }
+    ensures cause { HasCause result (K.faults sink.old) (K.faults sink.new) }
+{
+    let mut at = 0;
+    while at < text.len() {
+        let (_, rest) = text.split_at(at);
+        let count = sink.write(rest)?;
+        if count == 0 {
+            return Err(Failed);
+        }
+        at += count;
+    }
+    Ok(())
+}
