@@ -1,0 +1,99 @@
+#!/usr/bin/env python3
+"""Compare the program with the reference on random small descriptions.
+
+usage: compare.py PROGRAM COUNT [SEED [FIRST]]
+
+Runs PROGRAM on the fixed descriptions and on the random ones of the numbers FIRST to
+FIRST + COUNT - 1, and shows each one on which status or bytes differ from the reference's. Ends
+with 1 if there was one. The same SEED and number give the same description.
+"""
+
+import collections
+import subprocess
+import sys
+
+import cases
+import reference
+
+MOST_SHOWN = 2000
+BAD_WORDS = (
+    [],
+    ["layout"],
+    ["layout", ""],
+    ["layout", "00"],
+    ["layout", "07"],
+    ["layout", "65"],
+    ["layout", "-0"],
+    ["layout", "+0"],
+    ["layout", " 0"],
+    ["layout", "0", "0"],
+    ["layout 0"],
+    ["Layout", "0"],
+    ["0"],
+    ["gen"],
+    ["--help"],
+)
+
+
+def run(program, words, data):
+    """The program's status and its bytes; a status below 0 is the signal that ended it."""
+    done = subprocess.run([program, *words], input=data, stdout=subprocess.PIPE, check=False)
+    return done.returncode, done.stdout
+
+
+def shown(text):
+    return text.decode("utf-8", "replace")[:MOST_SHOWN]
+
+
+def kind_of(status, text):
+    """A short name of an answer, for the counts at the end."""
+    if status == reference.LAID_OUT:
+        return "laid out"
+    return "%d %s" % (status, shown(text).split(":")[0].strip().rstrip("0123456789"))
+
+
+class Comparison:
+    def __init__(self, program):
+        self.program = program
+        self.kinds = collections.Counter()
+        self.mismatches = 0
+
+    def compare(self, name, words, data):
+        wanted = reference.answer(words, data)
+        try:
+            got = run(self.program, words, data)
+        except BrokenPipeError:
+            got = None, b"(input not read)"
+        kind = kind_of(*wanted)
+        self.kinds[" ".join(kind.split()[:4])] += 1
+        if got != wanted:
+            self.mismatches += 1
+            print("MISMATCH %s, words %r, input of %d bytes:" % (name, words, len(data)))
+            print(shown(data))
+            print("wanted status %s:\n%s" % (wanted[0], shown(wanted[1])))
+            print("got status %s:\n%s" % (got[0], shown(got[1])))
+
+    def summary(self):
+        for kind, count in self.kinds.most_common():
+            print("%7d  %s" % (count, kind))
+        print("%d cases, %d mismatches" % (sum(self.kinds.values()), self.mismatches))
+
+
+def main(words):
+    if not 2 <= len(words) <= 4 or not all(word.isdigit() for word in words[1:]):
+        sys.exit("usage: compare.py PROGRAM COUNT [SEED [FIRST]]")
+    count, seed, first = (list(map(int, words[1:])) + [0, 0])[:3]
+    comparison = Comparison(words[0])
+    for bad in BAD_WORDS:
+        comparison.compare("words", bad, b"{}")
+    for name, data in cases.fixed_cases().items():
+        comparison.compare("fixed, " + name, ["layout", "0"], data)
+    for number in range(first, first + count):
+        data = cases.case(seed, number)
+        comparison.compare("random %d:%d" % (seed, number), ["layout", "0"], data)
+    comparison.summary()
+    sys.exit(1 if comparison.mismatches else 0)
+
+
+if __name__ == "__main__":
+    main(sys.argv[1:])

@@ -1,0 +1,181 @@
+#!/usr/bin/env python3
+"""Write a valid link description of about BYTES bytes to standard output.
+
+usage: generate.py BYTES [SEED [SHAPE]]
+
+The description depends on the three words alone. It is written as it is made: no more than one
+file of it is held at a time. SHAPE says what the bytes go to:
+
+    objects   groups of eight objects of some 25 sections each (the default)
+    plan      as many output sections as fit, up to the limit, then objects
+    files     objects without sections
+    single    one object with all input sections
+"""
+
+import math
+import random
+import sys
+
+PAGE = 4096
+BASE = 4194304
+MOST_BYTES = 500_000_000
+MOST_OUTPUT_SECTIONS = 65_000
+MOST_SEGMENTS = 8
+SHAPES = ("objects", "plan", "files", "single")
+
+ALLOCATED, WRITABLE, EXECUTABLE, ZERO_FILL = 1, 2, 4, 16
+
+# Share of the output sections, attributes, name, and alignments to choose from. The order is the
+# order in memory: within a segment nothing with file bytes follows a zero-filled section.
+KINDS = (
+    (0.30, ALLOCATED, ".rodata", (32, 16, 8, 4, 1)),
+    (0.60, ALLOCATED | EXECUTABLE, ".text", (64, 16, 8, 4, 2)),
+    (0.80, ALLOCATED | WRITABLE, ".data", (4096, 32, 16, 8, 1)),
+    (0.88, ALLOCATED | WRITABLE | ZERO_FILL, ".bss", (64, 32, 16, 8, 1)),
+    (1.00, 0, ".debug", (8, 4, 2, 1)),
+)
+
+
+class Writer:
+    """Standard output with a count of the bytes that went there."""
+
+    def __init__(self, stream):
+        self.stream = stream
+        self.written = 0
+
+    def put(self, text):
+        self.stream.write(text)
+        self.written += len(text)
+
+
+def output_section_count(total, shape):
+    """The number of output sections of a description of `total` bytes."""
+    if shape == "plan":
+        return max(8, min(MOST_OUTPUT_SECTIONS, total // 90))
+    return max(3, min(32, total // 400)) + math.isqrt(total) // 10
+
+
+def section_text(rng, index, count):
+    """One output section: its text, whether it is allocated, and the number of its parts."""
+    place = index / count
+    _, attributes, name, choices = next(kind for kind in KINDS if place < kind[0])
+    parts = [
+        "[%d,%s]" % (alignment, "true" if rng.random() < 0.1 else "false")
+        for alignment in choices
+        if rng.random() < 0.5
+    ] or ["[%d,false]" % choices[-1]]
+    text = '{"name":"%s_%05d","attrs":%d,"parts":[%s]}' % (name, index, attributes, ",".join(parts))
+    return text, attributes & ALLOCATED != 0, len(parts)
+
+
+def event_texts(allocated, count, segments):
+    """The events: the allocated sections cut into that many segments, the others behind them."""
+    for segment in range(segments):
+        first = allocated * segment // segments
+        last = allocated * (segment + 1) // segments
+        yield '["seg",%d]' % segment
+        for section in range(first, last):
+            yield '["sec",%d]' % section
+        yield '["endseg",%d]' % segment
+    for section in range(allocated, count):
+        yield '["sec",%d]' % section
+
+
+def put_list(writer, texts):
+    """The items of a list, one to a line."""
+    separator = "\n"
+    for text in texts:
+        writer.put(separator + text)
+        separator = ",\n"
+
+
+def put_plan(writer, rng, count):
+    """The plan; answers the number of its parts."""
+    totals = {"allocated": 0, "parts": 0}
+
+    def sections():
+        for index in range(count):
+            text, allocated, parts = section_text(rng, index, count)
+            totals["allocated"] += allocated
+            totals["parts"] += parts
+            yield text
+
+    writer.put('{"plan":{"page":%d,"base":["num",%d],"sections":[' % (PAGE, BASE))
+    put_list(writer, sections())
+    segments = min(MOST_SEGMENTS, 1 + count // 24)
+    writer.put('],\n"segments":[%s]' % ",".join(['{"kind":"load"}'] * segments))
+    writer.put(',\n"events":[')
+    put_list(writer, event_texts(totals["allocated"], count, segments))
+    writer.put("]},\n")
+    return totals["parts"]
+
+
+def input_section_text(rng, parts):
+    """One input section: low parts are the common ones, and small sizes the common sizes."""
+    part = int(parts * rng.random() ** 2)
+    size = int(2000 * rng.random() ** 3)
+    return '{"slot":"must","part":%d,"size":%d}' % (part, size)
+
+
+def object_start(number):
+    """An object's text up to its list of sections."""
+    return '{"kind":"object","name":"lib/unit_%04d/source_%07d.o","sections":[' % (
+        number // 64 % 10000,
+        number,
+    )
+
+
+def put_single(writer, rng, parts, total):
+    """One group of one object that holds all input sections."""
+    writer.put(",\n[" + object_start(0))
+    separator = ""
+    while writer.written < total - 20:
+        writer.put(separator + input_section_text(rng, parts))
+        separator = ","
+    writer.put("]}]")
+
+
+def put_objects(writer, rng, parts, total, shape):
+    """Groups of objects until the description is long enough."""
+    group_files = max(8, total // (4_000_000 if shape == "files" else 50_000_000))
+    number = 0
+    while number == 0 or writer.written < total - 500:
+        writer.put(",\n[")
+        for place in range(group_files):
+            if place > 0 and writer.written >= total - 500:
+                break
+            most = 0 if shape == "files" else 1 + int(49 * rng.random())
+            texts = [input_section_text(rng, parts) for _ in range(most)]
+            separator = "," if place > 0 else ""
+            writer.put(separator + object_start(number) + ",".join(texts) + "]}\n")
+            number += 1
+        writer.put("]")
+
+
+def generate(stream, total, seed, shape):
+    """The whole description."""
+    rng = random.Random(seed)
+    writer = Writer(stream)
+    parts = put_plan(writer, rng, output_section_count(total, shape))
+    writer.put('"groups":[\n[{"kind":"prelude"}]')
+    if shape == "single":
+        put_single(writer, rng, parts, total)
+    else:
+        put_objects(writer, rng, parts, total, shape)
+    writer.put("\n]}\n")
+
+
+def main(words):
+    usage = "usage: generate.py BYTES [SEED [%s]], BYTES up to %d" % ("|".join(SHAPES), MOST_BYTES)
+    if not 1 <= len(words) <= 3 or not all(word.isdigit() for word in words[:2]):
+        sys.exit(usage)
+    total = int(words[0])
+    seed = int(words[1]) if len(words) > 1 else 0
+    shape = words[2] if len(words) > 2 else "objects"
+    if total > MOST_BYTES or shape not in SHAPES:
+        sys.exit(usage)
+    generate(sys.stdout, total, seed, shape)
+
+
+if __name__ == "__main__":
+    main(sys.argv[1:])
