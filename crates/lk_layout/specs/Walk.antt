@@ -1,5 +1,5 @@
 -- The placement, computed from front to back. Contracts of private functions speak of it; that it is the placement that
--- `Placement` defines is a law.
+-- `Placement` defines is proved by lemmas (`WalkLaws`).
 use Rattle.std.specs.Prelude.{ℕ, suc, ◌+◌, Bool, if◌then◌else◌, List, [], ◌∷◌, ◌++◌, take, drop, map, min}
 use Rattle.std.specs.Int.{next_multiple_of}
 use Rattle.std.specs.List.{list_all}
