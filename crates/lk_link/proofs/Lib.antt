@@ -1,0 +1,5 @@
+mod EndsLemmas
+mod NameLemmas
+mod NumberedLemmas
+mod SectionGroupLemmas
+pub mod SymbolLemmas

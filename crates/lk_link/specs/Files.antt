@@ -1,12 +1,11 @@
 -- The files of a link, by groups.
-use Rattle.std.specs.Prelude.{ℕ, suc, List, [], ◌∷◌, Option, Some, None, option_and_then, slice_get}
+use Rattle.std.specs.Prelude.{ℕ, suc, ◌≤◌, List, [], ◌∷◌, Option, Some, None, option_and_then, length, sum_by, slice_get}
 use Rattle.lk_link.specs.declared.ids.FileId.{FileId}
 use Rattle.lk_link.specs.declared.file.InputFile.{InputFile}
-use Rattle.lk_link.specs.declared.link.LinkInput.{LinkInput}
 
 -- the file with this number
-abbrev pub file_at : LinkInput → FileId → Option InputFile
-file_at link id = option_and_then (λ group. slice_get group id.file) (slice_get link.groups id.group)
+abbrev pub file_in : List (List InputFile) → FileId → Option InputFile
+file_in groups id = option_and_then (λ group. slice_get group id.file) (slice_get groups id.group)
 
 -- the first answer, else the second
 unfoldable pub first_some : {X : Type 0} → Option X → Option X → Option X
@@ -25,3 +24,8 @@ first_in_group f g files = first_at (λ n file. f (record { group = g; file = n 
 -- what f answers first over all files, group by group
 abbrev pub first_file : {Y : Type 0} → (FileId → InputFile → Option Y) → List (List InputFile) → Option Y
 first_file f groups = first_at (λ g files. first_in_group f g files) 0 groups
+
+-- groups and files few enough to be numbered by 32 bits
+pub record AreNumbered (groups : List (List InputFile)) : Type 0 where
+  pub few_groups : length groups ≤ 65535
+  pub few_files : sum_by length groups ≤ 16777216

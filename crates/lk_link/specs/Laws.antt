@@ -1,51 +1,130 @@
--- What holds of a well-formed link.
-use Rattle.std.specs.Prelude.{◌≡◌, ℕ, ◌+◌, ◌<◌, ◌≤◌, ◌&&◌, true, Some, None, List, length, nat_lt, slice_get, sum_by}
+-- What holds of a well-formed link: its options, its plan, and how much it has.
+use Rattle.std.specs.Prelude.{◌≡◌, ◌≢◌, ℕ, ◌+◌, ◌<◌, ◌≤◌, ◌==◌, ◌&&◌, ◌⊎◌, true, false, List, Option, Some, None, is_none, is_some, length, nat_le, nat_lt, slice_get, sum_by, refl}
 use Rattle.std.specs.List.{list_all}
-use Rattle.std.proofs.lemmas.Bool.{and_parts, ltb-true}
+use Rattle.std.specs.Option.{ForSome, option_map_or}
+use Rattle.std.proofs.Common.{inl, inr, ⊎_elim, ap, sym, ◌∙◌}
+use Rattle.std.proofs.lemmas.Bool.{and_parts, eqb-true, leb-true, ltb-true, or_cases}
 use Rattle.std.proofs.lemmas.List.Folds.{length-flat_map-take}
 use Rattle.std.proofs.lemmas.List.Sums.{get_or-le-sum_by}
 use Rattle.std.proofs.lemmas.Option.{slice_get_within, get_or_from_slice_get}
 use Rattle.lk_link.specs.declared.fault.Limited.TheVariants as limited
 use Rattle.lk_link.specs.declared.file.InputFile.{InputFile}
-use Rattle.lk_link.specs.declared.file.InputSection.{InputSection}
+use Rattle.lk_link.specs.declared.symbol.InputSymbol.{InputSymbol}
 use Rattle.lk_link.specs.declared.link.LinkInput.{LinkInput}
+use Rattle.lk_link.specs.declared.options.Options.{Options}
 use Rattle.lk_link.specs.declared.plan.OrderEvent.{OrderEvent}
 use Rattle.lk_link.specs.declared.plan.OrderEvent.TheVariants.{SegmentStart, SegmentEnd, Section}
 use Rattle.lk_link.specs.declared.plan.PlanPart.{PlanPart}
 use Rattle.lk_link.specs.declared.plan.PlanSection.{PlanSection}
 use Rattle.lk_link.specs.Alignments.{is_alignment}
-use Rattle.lk_link.specs.Limits.{counted, limit_of, file_count, input_section_count, name_bytes}
+use Rattle.lk_link.specs.Limits.{counted, limit_of, file_count, input_section_count, candidate_count, name_bytes, merge_bytes}
 use Rattle.lk_link.specs.Parts.{all_parts, first_part}
 use Rattle.lk_link.specs.Places.{all_at, all_from, all_joined}
 use Rattle.lk_link.specs.Powers.{alignment-pos, alignment-le}
-use Rattle.lk_link.specs.Rules.{falls, is_good_section, is_good_input}
-use Rattle.lk_link.specs.WellFormed.{IsInRange, IsWellFormed, first_fault}
+use Rattle.lk_link.specs.Rules.{is_branch_range, has_entry, is_good_options, falls, is_primary, has_primary, is_good_section}
+use Rattle.lk_link.specs.Symbols.{all_files, symbol_at, symbol_count}
+use Rattle.lk_link.specs.WellFormed.{IsInRange, IsAboutPlace, IsWellFormed, first_fault}
 
--- ---- a good section, taken apart
+-- ---- options
 
-pub record IsGoodSection (s : PlanSection) : Type 0 where
+-- good options, taken apart
+pub record AreGoodOptions (groups : List (List InputFile)) (o : Options) : Type 0 where
+  pub branch_range : (o.branch_range ≡ 0) ⊎ (2097152 < o.branch_range)
+  pub bucket_limit : o.bucket_limit ≤ 268435456
+  pub merge_group_least : 1 ≤ o.merge_group
+  pub merge_group_most : o.merge_group ≤ 4294967296
+  pub entry : ForSome o.entry (λ s. (x : InputSymbol) × (symbol_at groups s ≡ Some x))
+
+branch : (n : ℕ) → is_branch_range n ≡ true → (n ≡ 0) ⊎ (2097152 < n)
+branch n h = ⊎_elim (λ none. inl (eqb-true n 0 none)) (λ far. inr (ltb-true 2097152 n far)) (or_cases (n == 0) (nat_lt 2097152 n) h)
+
+some_of : {X : Type 0} (o : Option X) → is_some o ≡ true → (x : X) × (o ≡ Some x)
+some_of None h = absurd (cc)
+some_of (Some x) h = (x, refl)
+
+entry_there : (groups : List (List InputFile)) (entry : Option ℕ) (s : ℕ) → has_entry groups entry ≡ true → entry ≡ Some s → (x : InputSymbol) × (symbol_at groups s ≡ Some x)
+entry_there groups entry s h e = some_of (symbol_at groups s) (ap (has_entry groups) (sym e) ∙ h)
+
+pub good_options : (groups : List (List InputFile)) (o : Options) → is_good_options groups o ≡ true → AreGoodOptions groups o
+good_options groups o h =
+    let branches = is_branch_range o.branch_range in
+    let bucket = nat_le o.bucket_limit 268435456 in
+    let least = nat_le 1 o.merge_group in
+    let most = nat_le o.merge_group 4294967296 in
+    let all = and_parts (branches && bucket && least && most) (has_entry groups o.entry) h in
+    let four = and_parts (branches && bucket && least) most all.0 in
+    let three = and_parts (branches && bucket) least four.0 in
+    let two = and_parts branches bucket three.0 in
+    record {
+      branch_range = branch o.branch_range two.0;
+      bucket_limit = leb-true o.bucket_limit 268435456 two.1;
+      merge_group_least = leb-true 1 o.merge_group three.1;
+      merge_group_most = leb-true o.merge_group 4294967296 four.1;
+      entry = λ s e. entry_there groups o.entry s all.1 e;
+    }
+
+-- ---- output sections
+
+-- a section that isn't secondary
+abbrev pub IsPrimary : List PlanSection → ℕ → Type 0
+IsPrimary sections p = (q : PlanSection) × (slice_get sections p ≡ Some q) × (q.primary ≡ None)
+
+-- a good section, taken apart
+pub record IsGoodSection (sections : List PlanSection) (s : PlanSection) : Type 0 where
   pub has_part : 0 < length s.parts
+  pub aligned_self : is_alignment s.align ≡ true
   pub aligned : list_all (λ p. is_alignment p.alignment) s.parts ≡ true
   pub falling : falls s.parts ≡ true
   pub few_attrs : s.attrs < 32
+  pub primary : ForSome s.primary (IsPrimary sections)
 
-pub good_section : (s : PlanSection) → is_good_section s ≡ true → IsGoodSection s
-good_section s h =
+none_of : {X : Type 0} (o : Option X) → is_none o ≡ true → o ≡ None
+none_of None h = refl
+none_of (Some x) h = absurd (cc)
+
+primary_from : (o : Option PlanSection) → option_map_or (λ q. is_none q.primary) o false ≡ true → (q : PlanSection) × (o ≡ Some q) × (q.primary ≡ None)
+primary_from None h = absurd (cc)
+primary_from (Some q) h = (q, refl, none_of q.primary h)
+
+primary_there : (sections : List PlanSection) (primary : Option ℕ) (p : ℕ) → option_map_or (is_primary sections) primary true ≡ true → primary ≡ Some p → IsPrimary sections p
+primary_there sections primary p h e =
+    primary_from (slice_get sections p) (ap (λ o. option_map_or (is_primary sections) o true) (sym e) ∙ h)
+
+pub good_section : (sections : List PlanSection) (s : PlanSection) → is_good_section sections s ≡ true → IsGoodSection sections s
+good_section sections s h =
     let parts = nat_lt 0 (length s.parts) in
+    let own = is_alignment s.align in
     let aligned = list_all (λ p. is_alignment p.alignment) s.parts in
-    let attrs = and_parts (parts && aligned && falls s.parts) (nat_lt s.attrs 32) h in
-    let falling = and_parts (parts && aligned) (falls s.parts) attrs.0 in
-    let first = and_parts parts aligned falling.0 in
+    let attrs = nat_lt s.attrs 32 in
+    let all = and_parts (parts && own && aligned && falls s.parts && attrs) (has_primary sections s) h in
+    let five = and_parts (parts && own && aligned && falls s.parts) attrs all.0 in
+    let four = and_parts (parts && own && aligned) (falls s.parts) five.0 in
+    let three = and_parts (parts && own) aligned four.0 in
+    let two = and_parts parts own three.0 in
     record {
-      has_part = ltb-true 0 (length s.parts) first.0;
-      aligned = first.1;
-      falling = falling.1;
-      few_attrs = ltb-true s.attrs 32 attrs.1;
+      has_part = ltb-true 0 (length s.parts) two.0;
+      aligned_self = two.1;
+      aligned = three.1;
+      falling = four.1;
+      few_attrs = ltb-true s.attrs 32 five.1;
+      primary = λ p e. primary_there sections s.primary p all.1 e;
     }
 
 -- each section of a well-formed link is good
-pub section_of : (link : LinkInput) (s : ℕ) (section : PlanSection) → IsWellFormed link → slice_get link.plan.sections s ≡ Some section → IsGoodSection section
-section_of link s section h at_s = good_section section (all_at is_good_section link.plan.sections s section h.sections at_s)
+pub section_of : (link : LinkInput) (s : ℕ) (section : PlanSection) → IsWellFormed link → slice_get link.plan.sections s ≡ Some section → IsGoodSection link.plan.sections section
+section_of link s section h at_s =
+    good_section link.plan.sections section (all_at (is_good_section link.plan.sections) link.plan.sections s section h.sections at_s)
+
+-- a section is secondary to another one, which isn't secondary itself
+pub primary_of : (link : LinkInput) (s p : ℕ) (section : PlanSection) → IsWellFormed link → slice_get link.plan.sections s ≡ Some section → section.primary ≡ Some p → (p ≢ s) × IsPrimary link.plan.sections p
+primary_of link s p section h at_s e =
+    let there = (section_of link s section h at_s).primary p e in (
+      λ same. let at_p : slice_get link.plan.sections s ≡ Some there.0 = ap (slice_get link.plan.sections) (sym same) ∙ there.1 in
+          let one : Some section ≡ Some there.0 = sym at_s ∙ at_p in
+          let secondary : there.0.primary ≡ Some p = cc in
+          absurd (cc),
+      there,
+    )
 
 -- ---- parts
 
@@ -86,9 +165,9 @@ section_parts_within sections s section at_s =
 pub event_in_range : (link : LinkInput) (k : ℕ) (e : OrderEvent) → IsWellFormed link → slice_get link.plan.events k ≡ Some e → IsInRange link.plan e
 event_in_range link k e h at_k = h.events.in_range k e at_k
 
--- no event stands twice
-pub event_once : (link : LinkInput) (j k : ℕ) (e : OrderEvent) → IsWellFormed link → slice_get link.plan.events j ≡ Some e → slice_get link.plan.events k ≡ Some e → j ≡ k
-event_once link j k e h at_j at_k = h.events.once j k e at_j at_k
+-- no event but those that move the location stands twice
+pub event_once : (link : LinkInput) (j k : ℕ) (e : OrderEvent) → IsWellFormed link → IsAboutPlace e → slice_get link.plan.events j ≡ Some e → slice_get link.plan.events k ≡ Some e → j ≡ k
+event_once link j k e h place at_j at_k = h.events.once j k e place at_j at_k
 
 -- each section is placed
 pub section_placed : (link : LinkInput) (s : ℕ) → IsWellFormed link → s < length link.plan.sections → (k : ℕ) × (slice_get link.plan.events k ≡ Some (Section s))
@@ -97,16 +176,6 @@ section_placed link s h lt = h.events.placed s lt
 -- each segment opens, and closes after that
 pub segment_opened : (link : LinkInput) (i : ℕ) → IsWellFormed link → i < length link.plan.segments → (j : ℕ) × (k : ℕ) × (j < k) × (slice_get link.plan.events j ≡ Some (SegmentStart i)) × (slice_get link.plan.events k ≡ Some (SegmentEnd i))
 segment_opened link i h lt = h.events.opened i lt
-
--- ---- input sections
-
--- an input section goes to a part of the plan
-pub input_part : (link : LinkInput) (g n i : ℕ) (files : List InputFile) (file : InputFile) (section : InputSection) → IsWellFormed link → slice_get link.groups g ≡ Some files → slice_get files n ≡ Some file → slice_get file.sections i ≡ Some section → section.part < length (all_parts link.plan.sections)
-input_part link g n i files file section h at_g at_n at_i =
-    let parts = length (all_parts link.plan.sections) in
-    let in_files = all_at (λ fs. list_all (λ f. list_all (is_good_input parts) f.sections) fs) link.groups g files h.inputs at_g in
-    let in_file = all_at (λ f. list_all (is_good_input parts) f.sections) files n file in_files at_n in
-    ltb-true section.part parts (all_at (is_good_input parts) file.sections i section in_file at_i)
 
 -- ---- numbers
 
@@ -117,9 +186,13 @@ pub record AreFew (link : LinkInput) : Type 0 where
   pub sections : length link.plan.sections ≤ 65279
   pub parts : length (all_parts link.plan.sections) ≤ 1048576
   pub segments : length link.plan.segments ≤ 64
+  pub regions : length link.plan.regions ≤ 64
   pub events : length link.plan.events ≤ 262144
+  pub symbols : symbol_count (all_files link.groups) ≤ 16777216
   pub inputs : input_section_count link ≤ 16777216
+  pub candidates : candidate_count link ≤ 16777216
   pub names : name_bytes link ≤ 2147483647
+  pub merged : merge_bytes link ≤ 1099511627776
 
 pub few : (link : LinkInput) → IsWellFormed link → AreFew link
 unfolding counted limit_of
@@ -129,9 +202,13 @@ few link h = record {
   sections = h.within limited.OutputSections;
   parts = h.within limited.Parts;
   segments = h.within limited.Segments;
+  regions = h.within limited.Regions;
   events = h.within limited.Events;
+  symbols = h.within limited.Symbols;
   inputs = h.within limited.InputSections;
+  candidates = h.within limited.Candidates;
   names = h.within limited.NameBytes;
+  merged = h.within limited.MergeBytes;
 }
 
 -- a group has no more files than all groups together
@@ -148,25 +225,32 @@ files_of_group groups g files at_g =
 abbrev pub UnfaultedIsWellFormed : Type 0
 UnfaultedIsWellFormed = (link : LinkInput) → first_fault link ≡ None → IsWellFormed link
 
+-- the options of a well-formed link are good: numbers are in their ranges, and the entry is a symbol
+abbrev pub OptionsAreGood : Type 0
+OptionsAreGood = (link : LinkInput) → IsWellFormed link → AreGoodOptions link.groups link.options
+
 -- the parts of a well-formed link have alignments, between 1 and 65,536
 abbrev pub PartsAreAligned : Type 0
 PartsAreAligned = (link : LinkInput) (p : ℕ) (part : PlanPart) → IsWellFormed link → slice_get (all_parts link.plan.sections) p ≡ Some part → (is_alignment part.alignment ≡ true) × (0 < part.alignment) × (part.alignment ≤ 65536)
 
 -- its sections are good, and their parts stand among all parts
 abbrev pub SectionsAreGood : Type 0
-SectionsAreGood = (link : LinkInput) (s : ℕ) (section : PlanSection) → IsWellFormed link → slice_get link.plan.sections s ≡ Some section → IsGoodSection section × (first_part link.plan.sections s + length section.parts ≤ length (all_parts link.plan.sections))
+SectionsAreGood = (link : LinkInput) (s : ℕ) (section : PlanSection) → IsWellFormed link → slice_get link.plan.sections s ≡ Some section → IsGoodSection link.plan.sections section × (first_part link.plan.sections s + length section.parts ≤ length (all_parts link.plan.sections))
+
+-- its secondary sections are so to others, which aren't
+abbrev pub PrimariesAreOthers : Type 0
+PrimariesAreOthers = (link : LinkInput) (s p : ℕ) (section : PlanSection) → IsWellFormed link → slice_get link.plan.sections s ≡ Some section → section.primary ≡ Some p → (p ≢ s) × IsPrimary link.plan.sections p
 
 -- its events name what is there, each of them once
 abbrev pub EventsStandOnce : Type 0
-EventsStandOnce = (link : LinkInput) (j k : ℕ) (e : OrderEvent) → IsWellFormed link → slice_get link.plan.events j ≡ Some e → slice_get link.plan.events k ≡ Some e → IsInRange link.plan e × (j ≡ k)
-
--- its input sections go to parts of the plan
-abbrev pub InputsGoToParts : Type 0
-InputsGoToParts = (link : LinkInput) (g n i : ℕ) (files : List InputFile) (file : InputFile) (section : InputSection) → IsWellFormed link → slice_get link.groups g ≡ Some files → slice_get files n ≡ Some file → slice_get file.sections i ≡ Some section → section.part < length (all_parts link.plan.sections)
+EventsStandOnce = (link : LinkInput) (j k : ℕ) (e : OrderEvent) → IsWellFormed link → slice_get link.plan.events j ≡ Some e → slice_get link.plan.events k ≡ Some e → IsInRange link.plan e × (IsAboutPlace e → j ≡ k)
 
 -- its lists are within the limits
 abbrev pub ListsAreFew : Type 0
 ListsAreFew = (link : LinkInput) → IsWellFormed link → AreFew link
+
+pub options_are_good : OptionsAreGood
+options_are_good link h = good_options link.groups link.options h.options
 
 pub parts_are_aligned : PartsAreAligned
 parts_are_aligned link p part h at_p = (part_aligned link p part h at_p, part_alignment-pos link p part h at_p, part_alignment-le link p part h at_p)
@@ -175,4 +259,4 @@ pub sections_are_good : SectionsAreGood
 sections_are_good link s section h at_s = (section_of link s section h at_s, section_parts_within link.plan.sections s section at_s)
 
 pub events_stand_once : EventsStandOnce
-events_stand_once link j k e h at_j at_k = (event_in_range link j e h at_j, event_once link j k e h at_j at_k)
+events_stand_once link j k e h at_j at_k = (event_in_range link j e h at_j, λ place. event_once link j k e h place at_j at_k)

@@ -21,23 +21,38 @@ limited_text limited.Files = codes "files"
 limited_text limited.OutputSections = codes "output sections"
 limited_text limited.Parts = codes "parts"
 limited_text limited.Segments = codes "segments"
+limited_text limited.Regions = codes "regions"
 limited_text limited.Events = codes "events"
+limited_text limited.Symbols = codes "symbols"
 limited_text limited.InputSections = codes "input sections"
+limited_text limited.Candidates = codes "candidates"
+limited_text limited.Relocations = codes "relocations"
+limited_text limited.Relaxations = codes "relaxations"
 limited_text limited.NameBytes = codes "name bytes"
+limited_text limited.MergeBytes = codes "merge bytes"
 
 -- the number under which a rule is told
 abbrev pub rule_number : Rule → ℕ
+rule_number rule.Options = 1
 rule_number rule.Page = 2
 rule_number rule.Sections = 3
+rule_number rule.TlsSegment = 6
 rule_number rule.Events = 7
 rule_number rule.Prelude = 9
+rule_number rule.Symbols = 10
 rule_number rule.InputSections = 11
 
 -- a place
 abbrev pub place_text : Place → List ℕ
+place_text place.Options = codes "options"
 place_text place.Plan = codes "plan"
+place_text place.Base = codes "base"
 place_text (place.Section i) = joined (codes "section " ∷ decimal i ∷ [])
+place_text (place.PartField k) = joined (codes "part field " ∷ decimal k ∷ [])
 place_text (place.Part p) = joined (codes "part " ∷ decimal p ∷ [])
+place_text (place.Segment i) = joined (codes "segment " ∷ decimal i ∷ [])
+place_text (place.Region i) = joined (codes "region " ∷ decimal i ∷ [])
 place_text (place.Event i) = joined (codes "event " ∷ decimal i ∷ [])
+place_text (place.Symbol s) = joined (codes "symbol " ∷ decimal s ∷ [])
 place_text (place.File id) = joined (codes "file " ∷ decimal id.group ∷ codes " " ∷ decimal id.file ∷ [])
 place_text (place.Input id i) = joined (codes "input " ∷ decimal id.group ∷ codes " " ∷ decimal id.file ∷ codes " " ∷ decimal i ∷ [])

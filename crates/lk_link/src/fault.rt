@@ -5,7 +5,7 @@ ghost use Rattle.std.specs.Prelude.{◌≡◌};
 use crate::ids::FileId;
 use std::fmt;
 
-/// A list whose length is limited.
+/// A list whose length is limited, or a number of bytes.
 #[derive(Clone, Copy, Debug, PartialEq, Eq)]
 pub enum Limited {
     Groups,
@@ -13,37 +13,69 @@ pub enum Limited {
     OutputSections,
     Parts,
     Segments,
+    Regions,
     Events,
+    /// Of all files.
+    Symbols,
+    /// Of all files.
     InputSections,
+    /// Of all files.
+    Candidates,
+    /// Of one input section, the first that has too many.
+    Relocations,
+    /// Of one input section, the first that has too many.
+    Relaxations,
+    /// Of the names of symbols, output sections and input sections, one more for each.
     NameBytes,
+    /// Of all merge sections, each rounded up to a multiple of 256.
+    MergeBytes,
 }
 
 /// A rule that a link keeps.
 #[derive(Clone, Copy, Debug, PartialEq, Eq)]
 pub enum Rule {
+    /// The numbers among the options are in their ranges, and the entry is a symbol.
+    Options,
     /// The page is a power of two up to 65,536.
     Page,
-    /// A section has parts, whose alignments are powers of two up to 65,536 and fall; its attributes are below 32.
+    /// A section has parts, whose alignments are powers of two up to 65,536 and fall, as its own alignment is one; its
+    /// attributes are below 32; it is secondary only to a section that isn't.
     Sections,
-    /// Each section is placed once; each segment is opened once, and closed once after that.
+    /// At most one segment is for thread-local data.
+    TlsSegment,
+    /// Each section is placed once; each segment is opened once, and closed once after that; what an event names is
+    /// there; only where a script is does the location counter move.
     Events,
     /// The first file of the first group is the prelude, and no other is.
     Prelude,
-    /// An input section goes to a part of the plan.
+    /// What stands for a symbol stands for itself; its flags are below 64; its placement is one of those that its kind
+    /// of file has, and what that names is there.
+    Symbols,
+    /// An input section that isn't discarded goes to a part of the plan that fits it; its attributes are among those
+    /// for writing and for code; what its relocations and relaxations name is there.
     InputSections,
 }
 
 /// A place of the description.
 #[derive(Clone, Copy, Debug, PartialEq, Eq)]
 pub enum Place {
+    Options,
     Plan,
+    /// Where memory starts.
+    Base,
     /// An output section.
     Section(usize),
+    /// One of the parts that the plan names, by its place among them.
+    PartField(usize),
     /// A part, numbered over all sections.
     Part(usize),
+    Segment(usize),
+    Region(usize),
     /// An event; the number of events for what is missing.
     Event(usize),
     File(FileId),
+    /// A symbol, numbered over all files.
+    Symbol(usize),
     /// An input section, by its index in its file.
     Input(FileId, usize),
 }
@@ -78,9 +110,15 @@ impl fmt::Display for Limited {
             Limited::OutputSections => write!(f, "output sections"),
             Limited::Parts => write!(f, "parts"),
             Limited::Segments => write!(f, "segments"),
+            Limited::Regions => write!(f, "regions"),
             Limited::Events => write!(f, "events"),
+            Limited::Symbols => write!(f, "symbols"),
             Limited::InputSections => write!(f, "input sections"),
+            Limited::Candidates => write!(f, "candidates"),
+            Limited::Relocations => write!(f, "relocations"),
+            Limited::Relaxations => write!(f, "relaxations"),
             Limited::NameBytes => write!(f, "name bytes"),
+            Limited::MergeBytes => write!(f, "merge bytes"),
         }
     }
 }
@@ -93,10 +131,13 @@ impl Rule {
         ensures { result ≡ rule_number self }
     {
         match self {
+            Rule::Options => 1,
             Rule::Page => 2,
             Rule::Sections => 3,
+            Rule::TlsSegment => 6,
             Rule::Events => 7,
             Rule::Prelude => 9,
+            Rule::Symbols => 10,
             Rule::InputSections => 11,
         }
     }
@@ -111,10 +152,16 @@ impl fmt::Display for Place {
 
     fn fmt<W: fmt::Write>(&self, f: &mut fmt::Formatter<W>) -> fmt::Result {
         match *self {
+            Place::Options => write!(f, "options"),
             Place::Plan => write!(f, "plan"),
+            Place::Base => write!(f, "base"),
             Place::Section(i) => write!(f, "section {i}"),
+            Place::PartField(i) => write!(f, "part field {i}"),
             Place::Part(i) => write!(f, "part {i}"),
+            Place::Segment(i) => write!(f, "segment {i}"),
+            Place::Region(i) => write!(f, "region {i}"),
             Place::Event(i) => write!(f, "event {i}"),
+            Place::Symbol(i) => write!(f, "symbol {i}"),
             Place::File(id) => {
                 let FileId { group, file } = id;
                 write!(f, "file {group} {file}")

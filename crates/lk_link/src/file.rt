@@ -1,7 +1,10 @@
-//! Input files and their sections.
+//! Input files.
 
-use crate::ids::PartId;
+pub use crate::candidates::Candidates;
+use crate::ids::{FileId, OutputSectionId};
 use crate::list::List;
+pub use crate::sections::InputSections;
+use crate::symbol::InputSymbol;
 use crate::text::Text;
 
 /// What kind of file it is.
@@ -11,23 +14,23 @@ pub enum FileKind {
     Prelude,
     /// An object file.
     Object,
+    /// A shared object that the output refers to.
+    Dynamic,
+    /// A file that nothing made the linker load.
+    NotLoaded,
+    /// Symbols that the linker makes, as the starts of sections.
+    SyntheticSymbols,
+    /// A linker script.
+    LinkerScript,
 }
 
-/// What becomes of an input section (libwild: `SectionSlot`).
+/// A section that a symbol at the start or the end of an output section keeps.
 #[derive(Clone, Copy, Debug, PartialEq, Eq)]
-pub enum SectionSlot {
-    /// Kept, whether or not something refers to it.
-    MustLoad,
-}
-
-/// A section of an object file.
-#[derive(Clone, Copy, Debug, PartialEq, Eq)]
-pub struct InputSection {
-    pub slot: SectionSlot,
-    /// The part that it goes to; one of the plan's in a checked link.
-    pub part: PartId,
-    /// Bytes.
-    pub size: u64,
+pub struct Candidate {
+    pub output: OutputSectionId,
+    pub file: FileId,
+    /// The input section, by its index in the file.
+    pub index: u32,
 }
 
 /// An input file, its symbols resolved.
@@ -35,6 +38,14 @@ pub struct InputSection {
 pub struct InputFile {
     pub kind: FileKind,
     pub name: Text,
+    pub symbols: List<InputSymbol>,
     /// Empty in files that are no objects.
-    pub sections: List<InputSection>,
+    pub sections: InputSections,
+    /// Whether it comes out of an archive.
+    pub archive: bool,
+    /// Whether its symbols are exported all the same.
+    pub export: bool,
+    /// Whether undefined symbols of this dynamic file are looked at.
+    pub check: bool,
+    pub candidates: Candidates,
 }

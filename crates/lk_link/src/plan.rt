@@ -33,14 +33,36 @@ pub struct PlanPart {
     pub packed: bool,
 }
 
+/// When an output section is emitted.
+#[derive(Clone, Copy, Debug, PartialEq, Eq)]
+pub enum Emit {
+    /// Where something of it is kept.
+    Auto,
+    Always,
+    Never,
+}
+
 /// An output section.
 #[derive(Drop)]
 pub struct PlanSection {
     pub name: Text,
     /// A set of `attributes`, below 32 in a checked link.
     pub attrs: u32,
+    /// The least alignment; a power of two up to 65,536 in a checked link.
+    pub align: u64,
     /// At least one in a checked link, with alignments that fall.
     pub parts: List<PlanPart>,
+    /// The section that this one is secondary to; in a checked link another one, which isn't secondary itself.
+    pub primary: Option<OutputSectionId>,
+    pub emit: Emit,
+    /// The name of the region that it is placed in.
+    pub region: Option<Text>,
+    /// Where it is loaded from.
+    pub at: Option<Expression>,
+    /// Whether the file cursor stays where a location moves this section, if it is secondary.
+    pub top: bool,
+    /// Whether it stretches its primary to its own ends, if it is secondary.
+    pub counters: bool,
 }
 
 /// What a segment is for.
@@ -48,16 +70,34 @@ pub struct PlanSection {
 pub enum SegmentKind {
     /// Loaded into memory.
     Load,
+    /// Thread-local data.
+    Tls,
+    /// The stack.
+    Stack,
+    /// Anything else.
+    Other,
 }
 
 /// A segment.
 #[derive(Clone, Copy, Debug, PartialEq, Eq)]
 pub struct PlanSegment {
     pub kind: SegmentKind,
+    /// Whether it is told even where nothing is inside.
+    pub always: bool,
+}
+
+/// A memory region.
+#[derive(Drop)]
+pub struct Region {
+    pub name: Text,
+    /// The first address.
+    pub origin: Expression,
+    /// Bytes.
+    pub length: Expression,
 }
 
 /// A step of the placement, in order (libwild: `OrderEvent`).
-#[derive(Clone, Copy, Debug, PartialEq, Eq)]
+#[derive(Drop)]
 pub enum OrderEvent {
     /// A segment opens.
     SegmentStart(SegmentId),
@@ -65,6 +105,32 @@ pub enum OrderEvent {
     SegmentEnd(SegmentId),
     /// A section is placed.
     Section(OutputSectionId),
+    /// The location counter moves.
+    SetLocation(Expression),
+    /// The location counter moves, and not before the start of a section.
+    SetLocationRelative(Expression, OutputSectionId),
+    /// The next section gets this address.
+    SetSectionAddress(Expression),
+}
+
+/// The parts that the plan gives a meaning of their own. The first eleven, up to the section names, are table parts.
+#[derive(Clone, Copy, Debug, PartialEq, Eq)]
+pub struct NamedParts {
+    pub got: Option<PartId>,
+    pub plt: Option<PartId>,
+    pub symtab_local: Option<PartId>,
+    pub symtab_global: Option<PartId>,
+    pub strtab: Option<PartId>,
+    pub dynsym: Option<PartId>,
+    pub dynstr: Option<PartId>,
+    pub file_header: Option<PartId>,
+    pub program_headers: Option<PartId>,
+    pub section_headers: Option<PartId>,
+    pub shstrtab: Option<PartId>,
+    /// Where the linker's identity goes.
+    pub comment: Option<PartId>,
+    /// The code that thunks are made for.
+    pub primary: Option<PartId>,
 }
 
 /// The plan of a link.
@@ -74,9 +140,19 @@ pub struct Plan {
     pub page: u64,
     /// Where memory starts.
     pub base: Expression,
+    /// Whether the base was asked for, and isn't the platform's.
+    pub custom_base: bool,
+    /// Whether the program headers were asked for, and all segments are told.
+    pub custom_phdrs: bool,
+    /// Whether the headers stand in a segment.
+    pub phdrs_headers: bool,
     pub sections: PlanSections,
     pub segments: List<PlanSegment>,
+    pub regions: List<Region>,
     pub events: List<OrderEvent>,
+    pub named: NamedParts,
+    /// The section whose input sections stay output sections of their own in partial output.
+    pub singletons: Option<OutputSectionId>,
 }
 
 /// The output sections, with an index of their parts. Contracts see the list of sections alone.

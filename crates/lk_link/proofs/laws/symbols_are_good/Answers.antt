@@ -1,0 +1,5 @@
+use Rattle.lk_link.specs.SymbolLaws.{symbol_of}
+use Rattle.lk_link.proofs.laws.symbols_are_good.Goals as goal
+
+pub returns : goal.returns
+returns c = symbol_of

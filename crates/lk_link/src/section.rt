@@ -1,0 +1,163 @@
+//! Sections of object files.
+
+ghost use Rattle.std.specs.Prelude.{◌≡◌, ◌-◌, ◌^◌, ◌≤◌, ◌<◌, IsTrue, SomeIff};
+ghost use Rattle.lk_link.specs.Alignments.{is_alignment};
+
+use crate::ids::PartId;
+use crate::list::List;
+use crate::plan::PlanPart;
+use crate::relocation::{RelaxCandidate, Relocation};
+use crate::text::Text;
+use std::marker::Model;
+
+/// What the description says of an input section: whether it is kept.
+#[derive(Clone, Copy, Debug, PartialEq, Eq)]
+pub enum InputSlot {
+    /// Left out, whatever refers to it.
+    Discard,
+    /// Kept if something refers to it.
+    Unloaded,
+    /// Kept.
+    MustLoad,
+    /// Debug data, kept if something refers to it.
+    DebugInfo,
+    /// Debug data, kept.
+    MustLoadDebugInfo,
+    /// Strings or constants, of which equal ones are kept once.
+    Merge,
+}
+
+/// A section of an object file.
+#[derive(Drop)]
+pub struct InputSection {
+    pub name: Text,
+    pub slot: InputSlot,
+    /// The part that it goes to; one of the plan's in a checked link, unless the section is discarded.
+    pub part: PartId,
+    /// Bytes; of a merge section, how many it holds.
+    pub size: u64,
+    /// What a merge section holds; empty for others.
+    pub bytes: List<u8>,
+    /// Whether a merge section holds strings that end in a zero byte, and not one constant.
+    pub strings: bool,
+    /// Whether it is put in order by its name.
+    pub sorted: bool,
+    /// A set of `attributes`: written, code, or both in a checked link.
+    pub attrs: u32,
+    /// The section group that it is in, among the sections of its file.
+    pub group: Option<u32>,
+    pub relocs: List<Relocation>,
+    pub relax: List<RelaxCandidate>,
+}
+
+/// A section that is kept (libwild: `Section`).
+#[derive(Clone, Copy, Debug, PartialEq, Eq)]
+pub struct Section {
+    /// Bytes in the output.
+    pub size: u64,
+}
+
+impl Section {
+    ghost use Rattle.lk_link.specs.Sizes.{capacity};
+
+    /// The bytes that it takes in a part: its size where the part is packed, and otherwise the size rounded up to the
+    /// alignment; none where that passes 2^64 - 1 (libwild: `Section::capacity`).
+    #[tactic(auto, using(crate::specs::Powers::alignments_small))]
+    pub fn capacity(self, part: &PlanPart) -> Option<u64>
+        requires { IsTrue (is_alignment part.now.alignment) }
+        ensures { SomeIff result (capacity part.now self.size < 2 ^ 64) (capacity part.now self.size) }
+    {
+        if part.packed {
+            Some(self.size)
+        } else {
+            self.size.checked_next_multiple_of(part.alignment)
+        }
+    }
+
+    /// Its size without the padding inside, in bytes (libwild: `Section::content_size`).
+    pub fn content_size(self, padding: u64) -> u64
+        requires { padding ≤ self.size }
+        ensures { result ≡ self.size - padding }
+    {
+        self.size - padding
+    }
+}
+
+/// A section that isn't kept yet (libwild: `UnloadedSection`).
+#[derive(Clone, Copy, Debug, PartialEq, Eq)]
+pub struct UnloadedSection {
+    pub needs_sorting: bool,
+}
+
+/// What became of an input section (libwild: `SectionSlot`).
+#[derive(Clone, Copy, Debug, PartialEq, Eq)]
+pub enum SectionSlot {
+    /// Left out.
+    Discard,
+    Unloaded(UnloadedSection),
+    /// To be kept, and not looked at yet.
+    MustLoad(UnloadedSection),
+    UnloadedDebugInfo { must_load: bool },
+    LoadedDebugInfo(Section),
+    Loaded(Section),
+    /// Kept, in the order of names.
+    Sorted(Section),
+    MergeStrings,
+    /// Kept, as an output section of its own in partial output.
+    PartialLinkSingleton(Section),
+}
+
+impl SectionSlot {
+    ghost use Rattle.lk_link.specs.Slots.{is_loaded};
+
+    /// Whether its bytes stand in the output (libwild: `SectionSlot::is_loaded`).
+    pub fn is_loaded(self) -> bool
+        ensures { result ≡ is_loaded self }
+    {
+        match self {
+            SectionSlot::Discard
+            | SectionSlot::Unloaded(_)
+            | SectionSlot::MustLoad(_)
+            | SectionSlot::UnloadedDebugInfo { .. } => false,
+            SectionSlot::LoadedDebugInfo(_)
+            | SectionSlot::Loaded(_)
+            | SectionSlot::Sorted(_)
+            | SectionSlot::MergeStrings
+            | SectionSlot::PartialLinkSingleton(_) => true,
+        }
+    }
+}
+
+/// A section of an object that is looked at for what it refers to, by its index (libwild: `SectionGcUnit`).
+#[derive(Clone, Copy, Debug, PartialEq, Eq)]
+pub struct SectionGcUnit {
+    index: u32,
+}
+
+impl Model for SectionGcUnit {
+    ghost use Rattle.std.specs.Prelude.{ℕ};
+
+    ghost Value = { ℕ };
+
+    ghost view = { λ a. a.index };
+
+    ghost inverse = { λ n. record { index = n } };
+}
+
+impl SectionGcUnit {
+    /// The section with this index in its file.
+    pub fn new(section_index: u32) -> SectionGcUnit
+        ensures { result ≡ section_index }
+    {
+        SectionGcUnit {
+            index: section_index,
+        }
+    }
+
+    /// Its index in the file.
+    pub fn section_index(self) -> u32
+        ensures { result ≡ self }
+    {
+        self.index
+    }
+}

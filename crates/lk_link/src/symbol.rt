@@ -1,0 +1,75 @@
+//! The symbols of input files.
+
+use crate::expression::Expression;
+use crate::flags::ValueFlags;
+use crate::ids::{OutputSectionId, PartId, SymbolId};
+use crate::text::Text;
+
+/// Where the location counter stands that a redirect's expression may name (libwild: `SymbolLoc`).
+#[derive(Clone, Copy, Debug, PartialEq, Eq)]
+pub enum SymbolLoc {
+    /// Nowhere.
+    None,
+    /// At the start of an output section.
+    SectionStart(OutputSectionId),
+    /// At the end of an output section.
+    SectionEnd(OutputSectionId),
+    /// At the location event with this number, counted from 1 over those of the kinds `loc` and `locrel`; 0 is the base.
+    Counter(u32),
+}
+
+/// What a symbol stands for (libwild: `SymbolPlacement` for internal symbols). Each kind of file has placements of its
+/// own.
+#[derive(Drop)]
+pub enum SymbolPlacement {
+    /// In an object: a place in one of its sections.
+    Section {
+        index: u32,
+        offset: u64,
+    },
+    /// In an object: bytes of a part that all objects share.
+    Common {
+        part: PartId,
+        size: u64,
+    },
+    /// In an object: a number.
+    Absolute(u64),
+    /// In an object, or in a file that is dynamic or isn't loaded: not defined here.
+    Undef,
+    /// In a file that is dynamic or isn't loaded: defined there.
+    Dynamic,
+    /// In the prelude, a synthetic file or a script: not defined.
+    Undefined,
+    /// In the prelude, a synthetic file or a script: not defined, and wanted all the same.
+    ForceUndefined,
+    /// The start of an output section.
+    SectionStart(OutputSectionId),
+    /// The end of an output section.
+    SectionEnd(OutputSectionId),
+    /// The end of an output section and of those that are secondary to it.
+    SectionGroupEnd(OutputSectionId),
+    /// The end of thread-local data.
+    TlsEnd,
+    /// The start of the first load segment.
+    LoadBaseAddress,
+    /// What an expression gives; `provide`: only if something wants it.
+    Redirect {
+        expression: Expression,
+        loc: SymbolLoc,
+        provide: bool,
+    },
+}
+
+/// A symbol of an input file.
+#[derive(Drop)]
+pub struct InputSymbol {
+    pub name: Text,
+    pub at: SymbolPlacement,
+    /// The symbol that stands for it; none where it stands for itself.
+    pub def: Option<SymbolId>,
+    /// Below 64 in a checked link.
+    pub flags: ValueFlags,
+    pub local: bool,
+    pub weak: bool,
+    pub hidden: bool,
+}
