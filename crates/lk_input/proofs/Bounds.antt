@@ -2,13 +2,15 @@
 use Rattle.std.proofs.Common.{◌≡◌, ℕ, ◌-◌, ◌^◌, ◌<◌, ◌≤◌, min, nat_lt, length, Option, Some, None, Result, Ok, Err, OnOk, refl, subst, arith, sym}
 use Rattle.std.proofs.lemmas.Bool.Decides.{nat_tests}
 use Rattle.lk_link.specs.declared.fault.Limited.{Limited}
-use Rattle.lk_link.specs.declared.fault.Limited.TheVariants.{Groups, Files, OutputSections, Parts, Segments, Events, InputSections, NameBytes}
+use Rattle.lk_link.specs.declared.fault.Limited.TheVariants.{Groups, Files, OutputSections, Parts, Segments, Regions, Events, Symbols, InputSections, Candidates, Relocations, Relaxations, NameBytes, MergeBytes}
 use Rattle.lk_link.specs.declared.fault.LinkFault.{LinkFault}
 use Rattle.lk_link.specs.declared.link.LinkInput.{LinkInput}
 use Rattle.lk_link.specs.Limits.{counted, limit_of, first_excess}
 use Rattle.lk_link.specs.Unfaulted.{within_limits, unfaulted}
 use Rattle.lk_link.specs.WellFormed.{IsWellFormed, first_broken, first_fault}
-use Rattle.lk_input.specs.Check.{check_of, AreNumbered}
+use Rattle.lk_link.specs.Files.{AreNumbered}
+use Rattle.lk_link.specs.Symbols.{all_files, symbol_count}
+use Rattle.lk_input.specs.Check.{check_of}
 use Rattle.lk_input.proofs.Faults.{passes, fails}
 
 limit_below : (what : Limited) → limit_of what < 2 ^ 64 - 1
@@ -18,9 +20,15 @@ limit_below Files = omega arith
 limit_below OutputSections = omega arith
 limit_below Parts = omega arith
 limit_below Segments = omega arith
+limit_below Regions = omega arith
 limit_below Events = omega arith
+limit_below Symbols = omega arith
 limit_below InputSections = omega arith
+limit_below Candidates = omega arith
+limit_below Relocations = omega arith
+limit_below Relaxations = omega arith
 limit_below NameBytes = omega arith
+limit_below MergeBytes = omega arith
 
 same_test : (a b m : ℕ) → a < m → nat_lt a (min b m) ≡ nat_lt a b
 same_test a b m h = grind (arith, nat_tests)
@@ -49,6 +57,10 @@ pub few_sections : (link : LinkInput) (t : Unit {0}) → Ok t ≡ check_of (firs
 unfolding counted limit_of
 few_sections link t h = within link t h OutputSections
 
+pub few_symbols : (link : LinkInput) (t : Unit {0}) → Ok t ≡ check_of (first_excess link) → symbol_count (all_files link.groups) ≤ 16777216
+unfolding counted limit_of
+few_symbols link t h = within link t h Symbols
+
 pub few_segments : (link : LinkInput) (t : Unit {0}) → Ok t ≡ check_of (first_excess link) → length link.plan.segments ≤ 64
 unfolding counted limit_of
 few_segments link t h = within link t h Segments
@@ -74,4 +86,4 @@ well_formed link r h =
     let P : Result (Unit {0}) LinkFault → Type 0 = λ x. OnOk x (IsWellFormed link) in
     subst P (sym h) (good link (first_fault link) refl)
 
-pub ruleset limits = (numbered, few_sections, few_segments, stops_early, goes_on, well_formed)
+pub ruleset limits = (numbered, few_symbols, few_sections, few_segments, stops_early, goes_on, well_formed)

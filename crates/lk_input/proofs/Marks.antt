@@ -5,8 +5,9 @@ use Rattle.std.proofs.lemmas.List.{take_more, drop_more, drop_all, take_all, get
 use Rattle.std.proofs.lemmas.List.Folds.{list_any-append}
 use Rattle.std.proofs.lemmas.Bool.{eq-eqb, ne_eqb, ltb-true, cases_eq, lt-ltb, cases_lt, and_parts}
 use Rattle.std.proofs.lemmas.Bool.Decides.{same_from_decides, Decides-by_and, Decides-below_and, Decides-like}
+use Rattle.lk_link.specs.declared.expression.Expression.{Expression}
 use Rattle.lk_link.specs.declared.plan.OrderEvent.{OrderEvent}
-use Rattle.lk_link.specs.declared.plan.OrderEvent.TheVariants.{SegmentStart, SegmentEnd, Section}
+use Rattle.lk_link.specs.declared.plan.OrderEvent.TheVariants.{SegmentStart, SegmentEnd, Section, SetLocation, SetLocationRelative, SetSectionAddress}
 use Rattle.lk_link.specs.declared.plan.Plan.{Plan}
 use Rattle.lk_link.specs.Files.{first_some}
 use Rattle.lk_link.specs.Rules.{is_section, is_start, is_end, is_good_event, bad_event_from, first_bad_event, all_below, is_complete}
@@ -46,9 +47,9 @@ same_fresh names before old n len e h = ap (λ l. nat_lt n l && not (has_mark ol
 
 -- ---- a section
 
-pub section_exact : (plan : Plan) (before : List OrderEvent) (placed opened closed new : List Bool) (s : ℕ) (fresh : Bool) → AreMarks plan before placed opened closed → Marks s placed new fresh → fresh ≡ is_good_event plan before (Section s)
+pub section_exact : (script : Bool) (plan : Plan) (before : List OrderEvent) (placed opened closed new : List Bool) (s : ℕ) (fresh : Bool) → AreMarks plan before placed opened closed → Marks s placed new fresh → fresh ≡ is_good_event script plan before (Section s)
 unfolding is_good_event
-section_exact plan before placed opened closed new s fresh h m = m.is_fresh ∙ same_fresh is_section before placed s (length plan.sections) h.all_sections h.on_sections
+section_exact script plan before placed opened closed new s fresh h m = m.is_fresh ∙ same_fresh is_section before placed s (length plan.sections) h.all_sections h.on_sections
 
 pub section_marks : (plan : Plan) (before : List OrderEvent) (placed opened closed new : List Bool) (s : ℕ) (fresh : Bool) → AreMarks plan before placed opened closed → Marks s placed new fresh → fresh ≡ true → AreMarks plan (before ++ Section s ∷ []) new opened closed
 section_marks plan before placed opened closed new s fresh h m good =
@@ -64,9 +65,9 @@ section_marks plan before placed opened closed new s fresh h m good =
 
 -- ---- a segment that opens
 
-pub start_exact : (plan : Plan) (before : List OrderEvent) (placed opened closed new : List Bool) (i : ℕ) (fresh : Bool) → AreMarks plan before placed opened closed → Marks i opened new fresh → fresh ≡ is_good_event plan before (SegmentStart i)
+pub start_exact : (script : Bool) (plan : Plan) (before : List OrderEvent) (placed opened closed new : List Bool) (i : ℕ) (fresh : Bool) → AreMarks plan before placed opened closed → Marks i opened new fresh → fresh ≡ is_good_event script plan before (SegmentStart i)
 unfolding is_good_event
-start_exact plan before placed opened closed new i fresh h m = m.is_fresh ∙ same_fresh is_start before opened i (length plan.segments) h.all_starts h.on_starts
+start_exact script plan before placed opened closed new i fresh h m = m.is_fresh ∙ same_fresh is_start before opened i (length plan.segments) h.all_starts h.on_starts
 
 pub start_marks : (plan : Plan) (before : List OrderEvent) (placed opened closed new : List Bool) (i : ℕ) (fresh : Bool) → AreMarks plan before placed opened closed → Marks i opened new fresh → fresh ≡ true → AreMarks plan (before ++ SegmentStart i ∷ []) placed new closed
 start_marks plan before placed opened closed new i fresh h m good =
@@ -85,17 +86,17 @@ start_marks plan before placed opened closed new i fresh h m good =
 has_place : (marks : List Bool) (n : ℕ) → has_mark marks n ≡ true → n < length marks
 has_place marks n h = ⊎_elim (λ lt. lt) (λ past. absurd (let none : has_mark marks n ≡ false = get_or_past marks n false past in cc)) (cases_lt n (length marks))
 
-pub end_exact : (plan : Plan) (before : List OrderEvent) (placed opened closed new : List Bool) (i : ℕ) (fresh : Bool) → AreMarks plan before placed opened closed → has_mark opened i ≡ true → Marks i closed new fresh → fresh ≡ is_good_event plan before (SegmentEnd i)
+pub end_exact : (script : Bool) (plan : Plan) (before : List OrderEvent) (placed opened closed new : List Bool) (i : ℕ) (fresh : Bool) → AreMarks plan before placed opened closed → has_mark opened i ≡ true → Marks i closed new fresh → fresh ≡ is_good_event script plan before (SegmentEnd i)
 unfolding is_good_event
-end_exact plan before placed opened closed new i fresh h begun m =
+end_exact script plan before placed opened closed new i fresh h begun m =
     let within : i < length closed = omega (arith, has_place opened i begun, h.all_starts, h.all_ends) in
     m.is_fresh
     ∙ ap (λ b. b && not (has_mark closed i)) (lt-ltb i (length closed) within ∙ sym (sym (h.on_starts.each i) ∙ begun))
     ∙ ap (λ b. list_any (is_start i) before && not b) (h.on_ends.each i)
 
-pub end_refused : (plan : Plan) (before : List OrderEvent) (placed opened closed : List Bool) (i : ℕ) → AreMarks plan before placed opened closed → has_mark opened i ≡ false → is_good_event plan before (SegmentEnd i) ≡ false
+pub end_refused : (script : Bool) (plan : Plan) (before : List OrderEvent) (placed opened closed : List Bool) (i : ℕ) → AreMarks plan before placed opened closed → has_mark opened i ≡ false → is_good_event script plan before (SegmentEnd i) ≡ false
 unfolding is_good_event
-end_refused plan before placed opened closed i h shut = ap (λ b. b && not (list_any (is_end i) before)) (sym (h.on_starts.each i) ∙ shut)
+end_refused script plan before placed opened closed i h shut = ap (λ b. b && not (list_any (is_end i) before)) (sym (h.on_starts.each i) ∙ shut)
 
 pub end_marks : (plan : Plan) (before : List OrderEvent) (placed opened closed new : List Bool) (i : ℕ) (fresh : Bool) → AreMarks plan before placed opened closed → Marks i closed new fresh → fresh ≡ true → AreMarks plan (before ++ SegmentEnd i ∷ []) placed opened new
 end_marks plan before placed opened closed new i fresh h m good =
@@ -108,6 +109,25 @@ end_marks plan before placed opened closed new i fresh h m good =
       on_starts = kept is_start before (SegmentEnd i) opened h.on_starts (λ k. refl);
       on_ends = marked is_end before (SegmentEnd i) closed new i h.on_ends (m.is_marked within) m.others (eq-eqb i i refl) (λ k other. ne_eqb i k (λ e. other (sym e)));
     }
+
+-- ---- an event that moves the location
+
+pub location_exact : (script : Bool) (plan : Plan) (before : List OrderEvent) (x : Expression) → script ≡ is_good_event script plan before (SetLocation x)
+unfolding is_good_event
+location_exact script plan before x = refl
+
+pub address_exact : (script : Bool) (plan : Plan) (before : List OrderEvent) (x : Expression) → true ≡ is_good_event script plan before (SetSectionAddress x)
+unfolding is_good_event
+address_exact script plan before x = refl
+
+pub relative_exact : (script : Bool) (plan : Plan) (before : List OrderEvent) (placed opened closed : List Bool) (x : Expression) (s : ℕ) → AreMarks plan before placed opened closed → script ≡ true → nat_lt s (length placed) ≡ is_good_event script plan before (SetLocationRelative x s)
+unfolding is_good_event
+relative_exact script plan before placed opened closed x s h on =
+    ap (nat_lt s) h.all_sections ∙ ap (λ b. b && nat_lt s (length plan.sections)) (sym on)
+
+pub relative_refused : (script : Bool) (plan : Plan) (before : List OrderEvent) (x : Expression) (s : ℕ) → script ≡ false → script ≡ is_good_event script plan before (SetLocationRelative x s)
+unfolding is_good_event
+relative_refused script plan before x s off = off ∙ ap (λ b. b && nat_lt s (length plan.sections)) (sym off)
 
 -- ---- no event yet
 
@@ -173,41 +193,41 @@ pub ruleset admission = (section_exact, section_marks, start_exact, start_marks,
 
 -- ---- the walk
 
-goes : (plan : Plan) (before rest : List OrderEvent) (e : OrderEvent) → is_good_event plan before e ≡ true → bad_event_from plan before (e ∷ rest) ≡ bad_event_from plan (before ++ e ∷ []) rest
+goes : (script : Bool) (plan : Plan) (before rest : List OrderEvent) (e : OrderEvent) → is_good_event script plan before e ≡ true → bad_event_from script plan before (e ∷ rest) ≡ bad_event_from script plan (before ++ e ∷ []) rest
 unfolding bad_event_from
-goes plan before rest e good = ap (λ b. cond b (bad_event_from plan (before ++ e ∷ []) rest) (Some (length before))) good
+goes script plan before rest e good = ap (λ b. cond b (bad_event_from script plan (before ++ e ∷ []) rest) (Some (length before))) good
 
-stops : (plan : Plan) (before rest : List OrderEvent) (e : OrderEvent) → is_good_event plan before e ≡ false → bad_event_from plan before (e ∷ rest) ≡ Some (length before)
+stops : (script : Bool) (plan : Plan) (before rest : List OrderEvent) (e : OrderEvent) → is_good_event script plan before e ≡ false → bad_event_from script plan before (e ∷ rest) ≡ Some (length before)
 unfolding bad_event_from
-stops plan before rest e bad = ap (λ b. cond b (bad_event_from plan (before ++ e ∷ []) rest) (Some (length before))) bad
+stops script plan before rest e bad = ap (λ b. cond b (bad_event_from script plan (before ++ e ∷ []) rest) (Some (length before))) bad
 
 -- a good event leaves the answer to those behind it
-pub goes_on : (plan : Plan) (es : List OrderEvent) (i : ℕ) (d : OrderEvent) → i < length es → is_good_event plan (take i es) (get_or es i d) ≡ true → bad_event_from plan (take (i + 1) es) (drop (i + 1) es) ≡ bad_event_from plan (take i es) (drop i es)
-goes_on plan es i d h good =
-    ap (λ before. bad_event_from plan before (drop (i + 1) es)) (take_more es i d h)
-    ∙ sym (ap (bad_event_from plan (take i es)) (drop_more es i d h) ∙ goes plan (take i es) (drop (i + 1) es) (get_or es i d) good)
+pub goes_on : (script : Bool) (plan : Plan) (es : List OrderEvent) (i : ℕ) (d : OrderEvent) → i < length es → is_good_event script plan (take i es) (get_or es i d) ≡ true → bad_event_from script plan (take (i + 1) es) (drop (i + 1) es) ≡ bad_event_from script plan (take i es) (drop i es)
+goes_on script plan es i d h good =
+    ap (λ before. bad_event_from script plan before (drop (i + 1) es)) (take_more es i d h)
+    ∙ sym (ap (bad_event_from script plan (take i es)) (drop_more es i d h) ∙ goes script plan (take i es) (drop (i + 1) es) (get_or es i d) good)
 
 -- a bad one is the answer
-pub stops_at : (plan : Plan) (es : List OrderEvent) (i : ℕ) (d : OrderEvent) → i < length es → is_good_event plan (take i es) (get_or es i d) ≡ false → bad_event_from plan (take i es) (drop i es) ≡ Some i
-stops_at plan es i d h bad =
-    ap (bad_event_from plan (take i es)) (drop_more es i d h)
-    ∙ stops plan (take i es) (drop (i + 1) es) (get_or es i d) bad
+pub stops_at : (script : Bool) (plan : Plan) (es : List OrderEvent) (i : ℕ) (d : OrderEvent) → i < length es → is_good_event script plan (take i es) (get_or es i d) ≡ false → bad_event_from script plan (take i es) (drop i es) ≡ Some i
+stops_at script plan es i d h bad =
+    ap (bad_event_from script plan (take i es)) (drop_more es i d h)
+    ∙ stops script plan (take i es) (drop (i + 1) es) (get_or es i d) bad
     ∙ ap (λ n. Some n) (length-take-le i es (omega arith))
 
 -- no event is left
-pub ends : (plan : Plan) (es : List OrderEvent) (i : ℕ) → length es ≤ i → bad_event_from plan (take i es) (drop i es) ≡ None
+pub ends : (script : Bool) (plan : Plan) (es : List OrderEvent) (i : ℕ) → length es ≤ i → bad_event_from script plan (take i es) (drop i es) ≡ None
 unfolding bad_event_from
-ends plan es i h = ap (bad_event_from plan (take i es)) (drop_all i es h)
+ends script plan es i h = ap (bad_event_from script plan (take i es)) (drop_all i es h)
 
 -- the answer, where an event is bad
-pub bad_place : (plan : Plan) (i : ℕ) → bad_event_from plan [] plan.events ≡ Some i → first_bad_event plan ≡ Some i
+pub bad_place : (script : Bool) (plan : Plan) (i : ℕ) → bad_event_from script plan [] plan.events ≡ Some i → first_bad_event script plan ≡ Some i
 unfolding first_some
-bad_place plan i h = ap (λ o. first_some o (cond (is_complete plan) None (Some (length plan.events)))) h
+bad_place script plan i h = ap (λ o. first_some o (cond (is_complete plan) None (Some (length plan.events)))) h
 
 -- and where none is
-pub missing : (plan : Plan) (b : Bool) → bad_event_from plan [] plan.events ≡ None → is_complete plan ≡ b → first_bad_event plan ≡ cond b None (Some (length plan.events))
+pub missing : (script : Bool) (plan : Plan) (b : Bool) → bad_event_from script plan [] plan.events ≡ None → is_complete plan ≡ b → first_bad_event script plan ≡ cond b None (Some (length plan.events))
 unfolding first_some
-missing plan b h e =
+missing script plan b h e =
     ap (λ o. first_some o (cond (is_complete plan) None (Some (length plan.events)))) h
     ∙ ap (λ c. cond c None (Some (length plan.events))) e
 

@@ -17,3 +17,5 @@ Fails-below step (Shape path) NoMemory read h b = tt
 Fails-below step NoMemory NotJson read h b = absurd cc
 Fails-below step NoMemory (Shape p) read h b = absurd cc
 Fails-below step NoMemory NoMemory read h b = tt
+
+pub ruleset on_their_way_out = (Fails-below)

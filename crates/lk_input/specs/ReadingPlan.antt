@@ -1,112 +1,78 @@
 -- What is read of the plan, in the order of its fields.
-use Rattle.std.specs.Prelude.{ℕ, List, [], ◌∷◌, Result, Ok}
+use Rattle.std.specs.Prelude.{ℕ, List, [], Option, Result, Ok, false, codes}
 use Rattle.serde_json.specs.Data.{Data}
-use Rattle.lk_link.specs.declared.expression.Expression.{Expression}
-use Rattle.lk_link.specs.declared.expression.Expression.TheVariants.{Number}
+use Rattle.lk_link.specs.Expressions.{number}
 use Rattle.lk_link.specs.declared.plan.Plan.{Plan}
-use Rattle.lk_link.specs.declared.plan.PlanPart.{PlanPart}
-use Rattle.lk_link.specs.declared.plan.PlanSection.{PlanSection}
-use Rattle.lk_link.specs.declared.plan.PlanSegment.{PlanSegment}
-use Rattle.lk_link.specs.declared.plan.SegmentKind.{SegmentKind}
-use Rattle.lk_link.specs.declared.plan.SegmentKind.TheVariants.{Load}
-use Rattle.lk_link.specs.declared.plan.OrderEvent.{OrderEvent}
-use Rattle.lk_link.specs.declared.plan.OrderEvent.TheVariants.{SegmentStart, SegmentEnd, Section}
-use Rattle.lk_input.specs.declared.read.plan.ExpressionForm.{ExpressionForm}
-use Rattle.lk_input.specs.declared.read.plan.ExpressionForm.TheVariants as form
-use Rattle.lk_input.specs.declared.read.plan.EventForm.{EventForm}
-use Rattle.lk_input.specs.declared.read.plan.EventForm.TheVariants as event
-use Rattle.lk_input.specs.declared.read.word.Word.{Word}
-use Rattle.lk_input.specs.declared.read.word.Word.TheVariants as word
-use Rattle.lk_input.specs.declared.read.word.Key.{Key}
-use Rattle.lk_input.specs.declared.read.word.Key.TheVariants as key
-use Rattle.lk_input.specs.ReadingSteps.{Path, ◌>>=◌, number_of, index_of, truth_of, text_of, one_of, object, required, defaulted, none_of, fixed_list, element, at_most, list_of}
+use Rattle.lk_link.specs.declared.plan.NamedParts.{NamedParts}
+use Rattle.lk_input.specs.declared.read.plan.PlanKey.{PlanKey}
+use Rattle.lk_input.specs.declared.read.plan.PlanKey.TheVariants as key
+use Rattle.lk_input.specs.ReadingSteps.{Path, ◌>>=◌, number_of, index_of, truth_of, object, required, defaulted, optional, list_of}
+use Rattle.lk_input.specs.ReadingExpressions.{expression_of}
+use Rattle.lk_input.specs.ReadingOutputSections.{plan_section_of}
+use Rattle.lk_input.specs.ReadingSegments.{plan_segment_of, region_of}
+use Rattle.lk_input.specs.ReadingEvents.{order_event_of}
 
--- ---- expressions
+-- how a key of the plan is written
+unfoldable pub plan_key_text : PlanKey → List ℕ
+plan_key_text key.Page = codes "page"
+plan_key_text key.Base = codes "base"
+plan_key_text key.CustomBase = codes "custom_base"
+plan_key_text key.CustomPhdrs = codes "custom_phdrs"
+plan_key_text key.PhdrsHeaders = codes "phdrs_headers"
+plan_key_text key.Sections = codes "sections"
+plan_key_text key.Segments = codes "segments"
+plan_key_text key.Regions = codes "regions"
+plan_key_text key.Events = codes "events"
+plan_key_text key.Got = codes "got"
+plan_key_text key.Plt = codes "plt"
+plan_key_text key.SymtabLocal = codes "symtab_local"
+plan_key_text key.SymtabGlobal = codes "symtab_global"
+plan_key_text key.Strtab = codes "strtab"
+plan_key_text key.Dynsym = codes "dynsym"
+plan_key_text key.Dynstr = codes "dynstr"
+plan_key_text key.FileHeader = codes "file_header"
+plan_key_text key.ProgramHeaders = codes "program_headers"
+plan_key_text key.SectionHeaders = codes "section_headers"
+plan_key_text key.Shstrtab = codes "shstrtab"
+plan_key_text key.Comment = codes "comment"
+plan_key_text key.Primary = codes "primary"
+plan_key_text key.Singletons = codes "singletons"
 
--- what an expression begins with
-abbrev pub expression_forms : List (Word × ExpressionForm)
-expression_forms = (word.Num, form.Number) ∷ []
+-- the number of the part with this key, if the plan names one
+abbrev pub part_at : PlanKey → Data → Result (Option ℕ) Path
+part_at k d = optional index_of (plan_key_text k) d
 
--- `["num", n]`
-unfoldable pub expression_of : Data → Result Expression Path
-expression_of d = do
-  _ ← fixed_list d
-  form ← element (one_of expression_forms) 0 d
-  n ← element number_of 1 d
-  _ ← at_most 2 d
-  Ok (Number n)
+-- the parts that the plan names
+unfoldable pub named_parts_of : Data → Result NamedParts Path
+named_parts_of d = do
+  got ← part_at key.Got d
+  plt ← part_at key.Plt d
+  symtab_local ← part_at key.SymtabLocal d
+  symtab_global ← part_at key.SymtabGlobal d
+  strtab ← part_at key.Strtab d
+  dynsym ← part_at key.Dynsym d
+  dynstr ← part_at key.Dynstr d
+  file_header ← part_at key.FileHeader d
+  program_headers ← part_at key.ProgramHeaders d
+  section_headers ← part_at key.SectionHeaders d
+  shstrtab ← part_at key.Shstrtab d
+  comment ← part_at key.Comment d
+  primary ← part_at key.Primary d
+  Ok (record { got = got; plt = plt; symtab_local = symtab_local; symtab_global = symtab_global; strtab = strtab; dynsym = dynsym; dynstr = dynstr; file_header = file_header; program_headers = program_headers; section_headers = section_headers; shstrtab = shstrtab; comment = comment; primary = primary })
 
--- ---- events
-
--- what an event begins with
-abbrev pub event_forms : List (Word × EventForm)
-event_forms = (word.Seg, event.SegmentStart) ∷ (word.Endseg, event.SegmentEnd) ∷ (word.Sec, event.Section) ∷ []
-
--- the event of a form, about the segment or section with this number
-abbrev pub event_at : EventForm → ℕ → OrderEvent
-event_at event.SegmentStart i = SegmentStart i
-event_at event.SegmentEnd i = SegmentEnd i
-event_at event.Section i = Section i
-
--- `["seg", i]`, `["endseg", i]` or `["sec", i]`
-unfoldable pub order_event_of : Data → Result OrderEvent Path
-order_event_of d = do
-  _ ← fixed_list d
-  form ← element (one_of event_forms) 0 d
-  i ← element index_of 1 d
-  _ ← at_most 2 d
-  Ok (event_at form i)
-
--- ---- sections and segments
-
--- `[alignment, packed]`
-unfoldable pub plan_part_of : Data → Result PlanPart Path
-plan_part_of d = do
-  _ ← fixed_list d
-  alignment ← element number_of 0 d
-  packed ← element truth_of 1 d
-  _ ← at_most 2 d
-  Ok (record { alignment = alignment; packed = packed })
-
--- an output section; the parts are numbered over all sections in order
-unfoldable pub plan_section_of : Data → Result PlanSection Path
-plan_section_of d = do
-  _ ← object d
-  name ← defaulted [] text_of key.Name d
-  attrs ← defaulted 0 index_of key.Attrs d
-  _ ← none_of (key.Align ∷ []) d
-  parts ← defaulted [] (list_of plan_part_of) key.Parts d
-  _ ← none_of (key.Primary ∷ key.Emit ∷ key.Region ∷ key.At ∷ key.Top ∷ key.Counters ∷ []) d
-  Ok (record { name = name; attrs = attrs; parts = parts })
-
--- what a segment is for
-abbrev pub segment_kinds : List (Word × SegmentKind)
-segment_kinds = (word.Load, Load) ∷ []
-
--- a segment
-unfoldable pub plan_segment_of : Data → Result PlanSegment Path
-plan_segment_of d = do
-  _ ← object d
-  kind ← required (one_of segment_kinds) key.Kind d
-  _ ← none_of (key.Always ∷ []) d
-  Ok (record { kind = kind })
-
--- ---- the plan
-
--- the parts that the plan names, and the section of singletons
-abbrev pub plan_numbers : List Key
-plan_numbers = key.Got ∷ key.Plt ∷ key.SymtabLocal ∷ key.SymtabGlobal ∷ key.Strtab ∷ key.Dynsym ∷ key.Dynstr ∷ key.FileHeader ∷ key.ProgramHeaders ∷ key.SectionHeaders ∷ key.Shstrtab ∷ key.Comment ∷ key.Primary ∷ key.Singletons ∷ []
-
--- the plan: the page must be given
+-- the plan: its page must be given
 unfoldable pub plan_of : Data → Result Plan Path
 plan_of d = do
   _ ← object d
-  page ← required number_of key.Page d
-  base ← defaulted (Number 0) expression_of key.Base d
-  _ ← none_of (key.CustomBase ∷ key.CustomPhdrs ∷ key.PhdrsHeaders ∷ []) d
-  sections ← defaulted [] (list_of plan_section_of) key.Sections d
-  segments ← defaulted [] (list_of plan_segment_of) key.Segments d
-  _ ← none_of (key.Regions ∷ []) d
-  events ← defaulted [] (list_of order_event_of) key.Events d
-  _ ← none_of plan_numbers d
-  Ok (record { page = page; base = base; sections = sections; segments = segments; events = events })
+  page ← required number_of (plan_key_text key.Page) d
+  base ← defaulted (number 0) expression_of (plan_key_text key.Base) d
+  custom_base ← defaulted false truth_of (plan_key_text key.CustomBase) d
+  custom_phdrs ← defaulted false truth_of (plan_key_text key.CustomPhdrs) d
+  phdrs_headers ← defaulted false truth_of (plan_key_text key.PhdrsHeaders) d
+  sections ← defaulted [] (list_of plan_section_of) (plan_key_text key.Sections) d
+  segments ← defaulted [] (list_of plan_segment_of) (plan_key_text key.Segments) d
+  regions ← defaulted [] (list_of region_of) (plan_key_text key.Regions) d
+  events ← defaulted [] (list_of order_event_of) (plan_key_text key.Events) d
+  named ← named_parts_of d
+  singletons ← optional index_of (plan_key_text key.Singletons) d
+  Ok (record { page = page; base = base; custom_base = custom_base; custom_phdrs = custom_phdrs; phdrs_headers = phdrs_headers; sections = sections; segments = segments; regions = regions; events = events; named = named; singletons = singletons })

@@ -1,18 +1,22 @@
 -- The steps of reading a JSON value: each gives what is read, or the path of the first value of a wrong shape.
-use Rattle.std.specs.Prelude.{◌≡◌, ℕ, suc, Bool, List, [], ◌∷◌, ◌++◌, Option, Some, None, Result, Ok, Err, ⊤, is_some, nat_lt, ◌^◌, if◌then◌else◌, option_and_then}
+use Rattle.std.specs.Prelude.{◌≡◌, ℕ, suc, ℤ, Bool, List, [], ◌∷◌, ◌++◌, Option, Some, None, Result, Ok, Err, ⊤, is_some, nat_lt, ◌^◌, if◌then◌else◌, option_and_then, unwrap_or, find}
 use Rattle.std.specs.Fmt.{decimal}
 use Rattle.std.specs.Str.{bytes_eq}
-use Rattle.serde_json.specs.Data.{Data, Items, no_items, item}
-use Rattle.serde_json.specs.Find.{get, at, as_bool, as_number, as_str, as_array, as_object, as_u64}
-use Rattle.lk_input.specs.declared.read.word.Key.{Key}
-use Rattle.lk_input.specs.declared.read.word.Word.{Word}
+use Rattle.serde_json.specs.Data.{Data, object as object_of, Items, no_items, item, no_members}
+use Rattle.serde_json.specs.Find.{get, at, as_bool, as_number, as_str, as_array, as_object, as_u64, as_i64}
+use Rattle.lk_input.specs.declared.read.word.Step.{Step}
+use Rattle.lk_input.specs.declared.read.word.Step.TheVariants.{Member, Item}
 use Rattle.lk_input.specs.declared.read.error.InputError.{InputError}
 use Rattle.lk_input.specs.declared.read.error.InputError.TheVariants.{NotJson, Shape, NoMemory}
-use Rattle.lk_input.specs.ReadingWords.{key_text, word_text}
 
 -- where a value stands below another, as `/key/index`; empty for the value itself
 abbrev pub Path : Type 0
 Path = List ℕ
+
+-- how a step of a path is written
+abbrev pub step_text : Step → List ℕ
+step_text (Member key) = key.now
+step_text (Item i) = decimal i
 
 -- the next step, unless one before it found a fault
 infixl 10 ◌>>=◌
@@ -32,6 +36,11 @@ Fails NoMemory read = Unit {0}
 abbrev pub Gives : {A : Type 0} → Result A InputError → Result A Path → Type 0
 Gives (Ok x) read = read ≡ Ok x
 Gives (Err e) read = Fails e read
+
+-- what was read stands behind what was there, unless memory ran out
+abbrev pub Adds : {A : Type 0} → List A → List A → Result ⊤ InputError → Result (List A) Path → Type 0
+Adds {A} old new (Ok _) read = (xs : List A) × (read ≡ Ok xs) × (new ≡ old ++ xs)
+Adds old new (Err e) read = Fails e read
 
 -- an error that tells of this path, or of want of memory
 abbrev pub IsFaultAt : Path → InputError → Type 0
@@ -73,6 +82,10 @@ number_of d = wanted (option_and_then as_u64 (as_number d))
 abbrev pub index_of : Data → Result ℕ Path
 index_of d = number_of d >>= λ n. if nat_lt n (2 ^ 32) then Ok n else Err []
 
+-- a whole number from -2^63 to 2^63 - 1
+abbrev pub signed_of : Data → Result ℤ Path
+signed_of d = wanted (option_and_then as_i64 (as_number d))
+
 -- a truth value
 abbrev pub truth_of : Data → Result Bool Path
 truth_of d = wanted (as_bool d)
@@ -81,14 +94,13 @@ truth_of d = wanted (as_bool d)
 abbrev pub text_of : Data → Result (List ℕ) Path
 text_of d = wanted (as_str d)
 
--- what the first row with this text stands for
-abbrev pub row_of : {A : Type 0} → List (Word × A) → List ℕ → Option A
-row_of [] t = None
-row_of (row ∷ rows) t = if bytes_eq t (word_text row.0) then Some row.1 else row_of rows t
+-- the first of these words that is written so
+abbrev pub word_of : {A : Type 0} → (A → List ℕ) → List A → List ℕ → Option A
+word_of spelling words t = find (λ w. bytes_eq t (spelling w)) words
 
--- one of the listed texts
-abbrev pub one_of : {A : Type 0} → List (Word × A) → Data → Result A Path
-one_of rows d = wanted (option_and_then (row_of rows) (as_str d))
+-- one of these words
+abbrev pub one_of : {A : Type 0} → (A → List ℕ) → List A → Data → Result A Path
+one_of spelling words d = wanted (option_and_then (word_of spelling words) (as_str d))
 
 -- ---- objects
 
@@ -97,8 +109,8 @@ abbrev pub object : Data → Result ⊤ Path
 object d = wanted_true (is_some (as_object d))
 
 -- the member with this key
-abbrev pub required : {A : Type 0} → (Data → Result A Path) → Key → Data → Result A Path
-required f key d = below (key_text key) (found_by f (get (key_text key) d))
+abbrev pub required : {A : Type 0} → (Data → Result A Path) → List ℕ → Data → Result A Path
+required f key d = below key (found_by f (get key d))
 
 -- a member that was looked for, or the default
 abbrev pub found_or : {A : Type 0} → A → (Data → Result A Path) → Option Data → Result A Path
@@ -106,19 +118,20 @@ found_or other f None = Ok other
 found_or other f (Some d) = f d
 
 -- the member with this key, or the default
-abbrev pub defaulted : {A : Type 0} → A → (Data → Result A Path) → Key → Data → Result A Path
-defaulted other f key d = below (key_text key) (found_or other f (get (key_text key) d))
+abbrev pub defaulted : {A : Type 0} → A → (Data → Result A Path) → List ℕ → Data → Result A Path
+defaulted other f key d = below key (found_or other f (get key d))
 
--- a value that isn't read: wherever it stands it has a wrong shape
-abbrev pub unread : Data → Result ⊤ Path
-unread d = Err []
+-- what may be there, if it is
+abbrev pub present : {A : Type 0} → (Data → Result A Path) → Data → Result (Option A) Path
+present f d = f d >>= λ x. Ok (Some x)
 
--- no member has one of these keys: fields of the format that aren't read yet
-unfoldable pub none_of : List Key → Data → Result ⊤ Path
-none_of [] d = Ok tt
-none_of (key ∷ keys) d = do
-  _ ← defaulted tt unread key d
-  none_of keys d
+-- the member with this key, if there is one
+abbrev pub optional : {A : Type 0} → (Data → Result A Path) → List ℕ → Data → Result (Option A) Path
+optional f key d = defaulted None (present f) key d
+
+-- the object with this key; a missing one has no members
+abbrev pub object_or_empty : {A : Type 0} → (Data → Result A Path) → List ℕ → Data → Result A Path
+object_or_empty f key d = below key (f (unwrap_or (get key d) (object_of no_members)))
 
 -- ---- lists
 
@@ -133,6 +146,27 @@ fixed_list d = wanted_true (is_some (as_array d))
 -- a fixed list has at most so many items
 abbrev pub at_most : ℕ → Data → Result ⊤ Path
 at_most n d = if is_some (at n d) then Err [] else Ok tt
+
+-- nothing stands behind what a fixed list begins with
+unfoldable pub alone : {A : Type 0} → A → Data → Result A Path
+alone x d = do
+  _ ← at_most 1 d
+  Ok x
+
+-- one item stands behind it
+unfoldable pub single : {A : Type 0} → (Data → Result A Path) → Data → Result A Path
+single f d = do
+  x ← element f 1 d
+  _ ← at_most 2 d
+  Ok x
+
+-- two items stand behind it
+unfoldable pub double : {A B : Type 0} → (Data → Result A Path) → (Data → Result B Path) → Data → Result (A × B) Path
+double f g d = do
+  x ← element f 1 d
+  y ← element g 2 d
+  _ ← at_most 3 d
+  Ok (x, y)
 
 -- the items of a list, counted from i
 unfoldable pub items_of : {A : Type 0} → (Data → Result A Path) → ℕ → Items → Result (List A) Path

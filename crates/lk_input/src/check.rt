@@ -7,12 +7,22 @@ ghost use Rattle.lk_input.specs.Check.{check_of};
 use lk_link::fault::LinkFault;
 use lk_link::link::LinkInput;
 
+mod counts;
 mod events;
+mod input;
 mod inputs;
+mod lengths;
 mod limits;
+mod options;
+mod parts;
 mod prelude;
 mod rules;
 mod sections;
+mod segments;
+mod slots;
+mod symbol;
+mod symbols;
+mod walk;
 
 /// Checks that a link is well formed. Refuses with the first list that is too long, else with the first rule that is
 /// broken, at its first place. Takes linear time and no memory.

@@ -2,7 +2,10 @@
 #![tactic(auto)]
 
 pub use check::check_link;
-pub use lk_link::{alignment, expression, fault, file, ids, link, list, plan, platform, text};
+pub use lk_link::{
+    alignment, expression, fault, file, flags, groups, ids, laws, link, list, names, options, plan,
+    platform, relocation, section, symbol, text,
+};
 pub use read::{InputError, read_link};
 
 mod check;

@@ -2,23 +2,52 @@
 
 ghost use Rattle.std.specs.Prelude.{◌≡◌};
 ghost use Rattle.serde_json.specs.View.{view};
-ghost use Rattle.lk_input.specs.Reading.{link_of, json_of, reading_of, GivesJson, Answers};
+ghost use Rattle.lk_input.specs.Reading.{link_key_text, link_of, json_of, reading_of, GivesJson, Answers};
 
 mod described;
 mod error;
+mod event;
+mod expression;
 mod file;
 mod member;
+mod options;
+mod output_section;
 mod plan;
+mod relocation;
+mod section;
+mod segment;
+mod symbol;
 mod word;
 
 use crate::read::described::Described;
-use crate::read::member::{defaulted, none_of, object, required};
-use crate::read::word::Key;
+use crate::read::member::{defaulted, object, object_or_empty, required};
+use crate::read::word::Word;
 pub use error::InputError;
+use lk_link::groups::InputGroups;
 use lk_link::link::LinkInput;
-use lk_link::list::List;
 use serde_json::Value;
 use std::alloc::Global;
+
+/// A key of the description.
+#[derive(Clone, Copy, Debug, PartialEq, Eq)]
+enum LinkKey {
+    Options,
+    Plan,
+    Groups,
+}
+
+#[tactic(auto, unfolding(crate::specs::Reading::link_key_text))]
+impl Word for LinkKey {
+    ghost spelling = { link_key_text };
+
+    fn text(self) -> &'static str {
+        match self {
+            LinkKey::Options => "options",
+            LinkKey::Plan => "plan",
+            LinkKey::Groups => "groups",
+        }
+    }
+}
 
 #[tactic(auto, unfolding(crate::specs::Reading::link_of))]
 impl Described for LinkInput {
@@ -26,10 +55,14 @@ impl Described for LinkInput {
 
     fn read(alloc: Global, value: &Value) -> Result<LinkInput, InputError> {
         object(alloc, value)?;
-        none_of(alloc, value, &[Key::Options])?;
-        let plan = required(alloc, value, Key::Plan)?;
-        let groups = defaulted(alloc, value, Key::Groups, List::new(alloc))?;
-        Ok(LinkInput { plan, groups })
+        let options = object_or_empty(alloc, value, LinkKey::Options)?;
+        let plan = required(alloc, value, LinkKey::Plan)?;
+        let groups = defaulted(alloc, value, LinkKey::Groups, InputGroups::empty(alloc))?;
+        Ok(LinkInput {
+            options,
+            plan,
+            groups,
+        })
     }
 }
 

@@ -1,15 +1,19 @@
 //! The rule on events.
 
-ghost use Rattle.std.specs.Prelude.{◌≡◌, ℕ, ◌+◌, ◌≤◌, false, true, List, [], ◌∷◌, ◌++◌, length, replicate};
+ghost use Rattle.std.specs.Prelude.{◌≡◌, ℕ, ◌+◌, ◌≤◌, false, true, List, [], ◌∷◌, ◌++◌, count_by, length, replicate};
 ghost use Rattle.lk_link.specs.declared.plan.OrderEvent.{OrderEvent};
 ghost use Rattle.lk_link.specs.declared.plan.Plan.{Plan};
-ghost use Rattle.std.specs.List.{list_all};
-ghost use Rattle.lk_link.specs.Rules.{is_good_event, first_bad_event, is_complete};
+ghost use Rattle.std.specs.List.{list_all, list_any};
+ghost use Rattle.lk_link.specs.Rules.{is_good_event, first_bad_event, has_script, is_complete, is_location, is_script_kind};
+ghost use Rattle.lk_link.specs.SymbolRules.{location_count};
 ghost use Rattle.lk_link.specs.WellFormed.{event_fault};
 ghost use Rattle.lk_input.specs.Check.{check_of};
 ghost use Rattle.lk_input.specs.CheckMarks.{has_mark, AreMarks, Marks};
 
 use lk_link::fault::{LinkFault, Place, Rule};
+use lk_link::file::{FileKind, InputFile};
+use lk_link::link::LinkInput;
+use lk_link::list::List;
 use lk_link::plan::{OrderEvent, Plan};
 
 /// The most output sections.
@@ -18,15 +22,17 @@ const MOST_SECTIONS: usize = 65279;
 /// The most segments.
 const MOST_SEGMENTS: usize = 64;
 
-/// Each section is placed once, and each segment opened once, and closed once after that; else the place is the first
-/// event after which that can't be, the number of events for what is missing.
+/// Each section is placed once, and each segment opened once, and closed once after that; what an event names is there,
+/// and only where a script is does the location counter move. Else the place is the first event after which that can't
+/// be, the number of events for what is missing.
 #[tactic(auto, unfolding(crate::specs::Check::check_of, lk_link::specs::WellFormed::event_fault))]
-pub fn check_events(plan: &Plan) -> Result<(), LinkFault>
-    requires sections { length plan.now.sections ≤ 65279 }
-    requires segments { length plan.now.segments ≤ 64 }
-    ensures { result ≡ check_of (event_fault plan.now) }
+pub fn check_events(link: &LinkInput) -> Result<(), LinkFault>
+    requires sections { length link.now.plan.sections ≤ 65279 }
+    requires segments { length link.now.plan.segments ≤ 64 }
+    ensures { result ≡ check_of (event_fault link.now) }
 {
-    match first_bad_event::<MOST_SECTIONS, MOST_SEGMENTS>(plan) {
+    let script = has_script(link.groups.as_slice());
+    match first_bad_event::<MOST_SECTIONS, MOST_SEGMENTS>(&link.plan, script) {
         None => Ok(()),
         Some(event) => Err(LinkFault::BadLink {
             rule: Rule::Events,
@@ -35,13 +41,62 @@ pub fn check_events(plan: &Plan) -> Result<(), LinkFault>
     }
 }
 
+/// Whether a file is a script.
+fn has_script(groups: &[List<InputFile>]) -> bool
+    ensures { result ≡ has_script groups.now }
+{
+    groups.iter().any(|files| has_script_in(files.as_slice()))
+}
+
+/// Whether one of these files is.
+fn has_script_in(files: &[InputFile]) -> bool
+    ensures { result ≡ list_any (λ f. is_script_kind f.kind) files.now }
+{
+    files
+        .iter()
+        .any(|file| matches!(file.kind, FileKind::LinkerScript))
+}
+
+/// How many events move the location counter.
+pub fn location_count(plan: &Plan) -> usize
+    ensures { result ≡ location_count plan.now }
+{
+    count_locations(plan.events.as_slice())
+}
+
+/// How many of these events do.
+fn count_locations(events: &[OrderEvent]) -> usize
+    ensures { result ≡ count_by is_location events.now }
+{
+    let mut count = 0;
+    for event in events {
+        if is_location(event) {
+            count += 1;
+        }
+    }
+    count
+}
+
+/// Whether an event moves it.
+fn is_location(event: &OrderEvent) -> bool
+    ensures { result ≡ is_location event.now }
+{
+    matches!(
+        event,
+        OrderEvent::SetLocation(_) | OrderEvent::SetLocationRelative(_, _)
+    )
+}
+
 /// The first event that breaks the rule, in a plan of at most so many sections and segments.
 #[tactic(auto, using(crate::proofs::Marks::room))]
-fn first_bad_event<const SECTIONS: usize, const SEGMENTS: usize>(plan: &Plan) -> Option<usize>
+fn first_bad_event<const SECTIONS: usize, const SEGMENTS: usize>(
+    plan: &Plan,
+    script: bool,
+) -> Option<usize>
     requires sections { length plan.now.sections ≤ SECTIONS }
     requires segments { length plan.now.segments ≤ SEGMENTS }
     requires marks { SECTIONS + SEGMENTS ≤ 65536 }
-    ensures { result ≡ first_bad_event plan.now }
+    ensures { result ≡ first_bad_event script plan.now }
 {
     let mut placed = [false; SECTIONS];
     let mut opened = [false; SEGMENTS];
@@ -50,6 +105,7 @@ fn first_bad_event<const SECTIONS: usize, const SEGMENTS: usize>(plan: &Plan) ->
     let segments = plan.segments.len();
     bad_event(
         plan,
+        script,
         &mut placed[..sections],
         &mut opened[..segments],
         &mut closed[..segments],
@@ -59,6 +115,7 @@ fn first_bad_event<const SECTIONS: usize, const SEGMENTS: usize>(plan: &Plan) ->
 /// The same, with room for a mark on each section, and on each segment that opened or closed.
 fn bad_event(
     plan: &Plan,
+    script: bool,
     placed: &mut [bool],
     opened: &mut [bool],
     closed: &mut [bool],
@@ -66,10 +123,10 @@ fn bad_event(
     requires placed { placed.old ≡ replicate (length plan.now.sections) false }
     requires opened { opened.old ≡ replicate (length plan.now.segments) false }
     requires closed { closed.old ≡ replicate (length plan.now.segments) false }
-    ensures { result ≡ first_bad_event plan.now }
+    ensures { result ≡ first_bad_event script plan.now }
 {
     for (place, event) in plan.events.as_slice().iter().enumerate() {
-        if !admits(*event, placed, opened, closed) {
+        if !admits(event, script, placed, opened, closed) {
             return Some(place);
         }
     }
@@ -82,9 +139,15 @@ fn bad_event(
 
 /// Whether an event may stand behind those before it, which gave the marks; marks what it names.
 #[tactic(auto, using(crate::proofs::Marks::admission))]
-fn admits(event: OrderEvent, placed: &mut [bool], opened: &mut [bool], closed: &mut [bool]) -> bool
-    ensures exact { (plan : Plan) (before : List OrderEvent) → AreMarks plan before placed.old opened.old closed.old → result ≡ is_good_event plan before event }
-    ensures marks { (plan : Plan) (before : List OrderEvent) → AreMarks plan before placed.old opened.old closed.old → result ≡ true → AreMarks plan (before ++ event ∷ []) placed.new opened.new closed.new }
+fn admits(
+    event: &OrderEvent,
+    script: bool,
+    placed: &mut [bool],
+    opened: &mut [bool],
+    closed: &mut [bool],
+) -> bool
+    ensures exact { (plan : Plan) (before : List OrderEvent) → AreMarks plan before placed.old opened.old closed.old → result ≡ is_good_event script plan before event.now }
+    ensures marks { (plan : Plan) (before : List OrderEvent) → AreMarks plan before placed.old opened.old closed.old → result ≡ true → AreMarks plan (before ++ event.now ∷ []) placed.new opened.new closed.new }
 {
     match event {
         OrderEvent::Section(section) => mark(placed, section.as_usize()),
@@ -92,6 +155,11 @@ fn admits(event: OrderEvent, placed: &mut [bool], opened: &mut [bool], closed: &
         OrderEvent::SegmentEnd(segment) => {
             has_mark(opened, segment.as_usize()) && mark(closed, segment.as_usize())
         }
+        OrderEvent::SetLocation(_) => script,
+        OrderEvent::SetLocationRelative(_, section) => {
+            script && section.as_usize() < placed.len()
+        }
+        OrderEvent::SetSectionAddress(_) => true,
     }
 }
 

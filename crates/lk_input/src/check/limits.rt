@@ -1,23 +1,30 @@
 //! The limits on the lists of a link.
 
 ghost use Rattle.std.specs.Prelude.{◌≡◌, ◌+◌, ◌-◌, ◌^◌, min, nat_lt, length, sum_by};
-ghost use Rattle.lk_link.specs.Limits.{counted, limit_of, excess, first_excess, first_exceeded, file_count, input_section_count, name_bytes};
+ghost use Rattle.lk_link.specs.Limits.{counted, limit_of, excess, first_excess, first_exceeded, file_count, name_bytes};
 ghost use Rattle.lk_input.specs.Check.{check_of};
 
+use crate::check::counts::{FileNumber, over_files};
+use crate::check::lengths::{SectionList, first_length_past};
 use lk_link::fault::{Limited, LinkFault};
-use lk_link::file::InputFile;
 use lk_link::link::LinkInput;
 
 /// The limits, in the order in which they are looked at.
-const ALL_LIMITS: [Limited; 8] = [
+const ALL_LIMITS: [Limited; 14] = [
     Limited::Groups,
     Limited::Files,
     Limited::OutputSections,
     Limited::Parts,
     Limited::Segments,
+    Limited::Regions,
     Limited::Events,
+    Limited::Symbols,
     Limited::InputSections,
+    Limited::Candidates,
+    Limited::Relocations,
+    Limited::Relaxations,
     Limited::NameBytes,
+    Limited::MergeBytes,
 ];
 
 /// Refuses a link with a list that is too long, by the first such list.
@@ -71,9 +78,15 @@ fn limit_of(what: Limited) -> u64
         Limited::OutputSections => 65279,
         Limited::Parts => 1048576,
         Limited::Segments => 64,
+        Limited::Regions => 64,
         Limited::Events => 262144,
+        Limited::Symbols => 16777216,
         Limited::InputSections => 16777216,
+        Limited::Candidates => 16777216,
+        Limited::Relocations => 16777216,
+        Limited::Relaxations => 16777216,
         Limited::NameBytes => 2147483647,
+        Limited::MergeBytes => 1099511627776,
     }
 }
 
@@ -88,9 +101,23 @@ fn count(link: &LinkInput, what: Limited) -> u64
         Limited::OutputSections => link.plan.sections.len() as u64,
         Limited::Parts => link.plan.sections.parts().len() as u64,
         Limited::Segments => link.plan.segments.len() as u64,
+        Limited::Regions => link.plan.regions.len() as u64,
         Limited::Events => link.plan.events.len() as u64,
-        Limited::InputSections => input_section_count(link),
+        Limited::Symbols => link.groups.symbol_count(),
+        Limited::InputSections => over_files(FileNumber::InputSections, link.groups.as_slice()),
+        Limited::Candidates => over_files(FileNumber::Candidates, link.groups.as_slice()),
+        Limited::Relocations => first_length_past(
+            limit_of(Limited::Relocations),
+            SectionList::Relocations,
+            link.groups.as_slice(),
+        ),
+        Limited::Relaxations => first_length_past(
+            limit_of(Limited::Relaxations),
+            SectionList::Relaxations,
+            link.groups.as_slice(),
+        ),
         Limited::NameBytes => name_bytes(link),
+        Limited::MergeBytes => over_files(FileNumber::MergeBytes, link.groups.as_slice()),
     }
 }
 
@@ -105,33 +132,11 @@ fn file_count(link: &LinkInput) -> u64
     count
 }
 
-/// How many input sections some files have.
-fn sections_of(files: &[InputFile]) -> u64
-    ensures { result ≡ min (sum_by (λ f. length f.sections) files.now) (2 ^ 64 - 1) }
-{
-    let mut count = 0u64;
-    for file in files {
-        count = count.saturating_add(file.sections.len() as u64);
-    }
-    count
-}
-
-/// How many input sections all files have.
-fn input_section_count(link: &LinkInput) -> u64
-    ensures { result ≡ min (input_section_count link.now) (2 ^ 64 - 1) }
-{
-    let mut count = 0u64;
-    for files in link.groups.as_slice() {
-        count = count.saturating_add(sections_of(files.as_slice()));
-    }
-    count
-}
-
 /// How many bytes all names have, one more for each.
 fn name_bytes(link: &LinkInput) -> u64
     ensures { result ≡ min (name_bytes link.now) (2 ^ 64 - 1) }
 {
-    let mut count = input_section_count(link);
+    let mut count = over_files(FileNumber::NameBytes, link.groups.as_slice());
     for section in link.plan.sections.as_slice() {
         count = count
             .saturating_add(section.name.len() as u64)

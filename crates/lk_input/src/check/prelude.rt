@@ -1,11 +1,12 @@
 //! The rule on the prelude.
 
-ghost use Rattle.std.specs.Prelude.{◌≡◌, ◌≤◌, length};
-ghost use Rattle.lk_link.specs.Files.{first_in_group, first_file};
+ghost use Rattle.std.specs.Prelude.{◌≡◌};
+ghost use Rattle.lk_link.specs.Files.{AreNumbered};
 ghost use Rattle.lk_link.specs.Rules.{is_prelude, begins_with_prelude, is_other_prelude, other_prelude, first_bad_prelude};
 ghost use Rattle.lk_link.specs.WellFormed.{prelude_fault};
-ghost use Rattle.lk_input.specs.Check.{check_of, AreNumbered};
+ghost use Rattle.lk_input.specs.Check.{check_of};
 
+use crate::check::walk::{AtFile, first_answer};
 use lk_link::fault::{LinkFault, Place, Rule};
 use lk_link::file::{FileKind, InputFile};
 use lk_link::ids::FileId;
@@ -34,7 +35,7 @@ fn first_bad_prelude(groups: &[List<InputFile>]) -> Option<FileId>
     ensures { result ≡ first_bad_prelude groups.now }
 {
     if begins_with_prelude(groups) {
-        first_other_prelude(groups)
+        first_answer(&OtherPrelude, groups)
     } else {
         Some(FileId { group: 0, file: 0 })
     }
@@ -44,10 +45,7 @@ fn first_bad_prelude(groups: &[List<InputFile>]) -> Option<FileId>
 fn is_prelude(file: &InputFile) -> bool
     ensures { result ≡ is_prelude file.now }
 {
-    match file.kind {
-        FileKind::Prelude => true,
-        FileKind::Object => false,
-    }
+    matches!(file.kind, FileKind::Prelude)
 }
 
 /// Whether the first file of the first group is the prelude.
@@ -63,36 +61,16 @@ fn begins_with_prelude(groups: &[List<InputFile>]) -> bool
     is_prelude(file)
 }
 
-/// The first prelude that isn't the first file of the first group.
-#[tactic(auto, using(crate::proofs::FirstAt::walks))]
-fn first_other_prelude(groups: &[List<InputFile>]) -> Option<FileId>
-    requires { AreNumbered groups.now }
-    ensures { result ≡ first_file other_prelude groups.now }
-{
-    for (group, files) in groups.iter().enumerate() {
-        if let Some(id) = other_prelude_of(group as u32, files.as_slice()) {
-            return Some(id);
-        }
-    }
-    None
-}
+/// Which file is a prelude, and isn't the first file of the first group.
+#[derive(Clone, Copy)]
+struct OtherPrelude;
 
-/// The same in one group.
-#[tactic(auto, using(crate::proofs::FirstAt::walks))]
-fn other_prelude_of(group: u32, files: &[InputFile]) -> Option<FileId>
-    requires { length files.now ≤ 16777216 }
-    ensures { result ≡ first_in_group other_prelude group files.now }
-{
-    for (file, input) in files.iter().enumerate() {
-        let id = FileId {
-            group,
-            file: file as u32,
-        };
-        if is_other_prelude(id, input) {
-            return Some(id);
-        }
+impl AtFile<FileId> for OtherPrelude {
+    ghost answer = { λ _. other_prelude };
+
+    fn at_file(&self, id: FileId, file: &InputFile) -> Option<FileId> {
+        is_other_prelude(id, file).then_some(id)
     }
-    None
 }
 
 /// Whether a file is a prelude, and not the first file of the first group.

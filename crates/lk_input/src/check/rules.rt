@@ -1,10 +1,12 @@
 //! The rules that a link keeps, in order.
 
 ghost use Rattle.std.specs.Prelude.{◌≡◌, ◌≤◌, length};
-ghost use Rattle.lk_link.specs.WellFormed.{first_broken, page_fault, plan_fault};
-ghost use Rattle.lk_input.specs.Check.{check_of, AreNumbered};
+ghost use Rattle.lk_link.specs.Files.{AreNumbered};
+ghost use Rattle.lk_link.specs.Symbols.{all_files, symbol_count};
+ghost use Rattle.lk_link.specs.WellFormed.{first_broken, file_fault, page_fault, placing_fault, plan_fault};
+ghost use Rattle.lk_input.specs.Check.{check_of};
 
-use crate::check::{events, inputs, prelude, sections};
+use crate::check::{events, inputs, options, prelude, sections, segments, symbols};
 use lk_link::alignment::is_valid;
 use lk_link::fault::{LinkFault, Place, Rule};
 use lk_link::link::LinkInput;
@@ -14,25 +16,47 @@ use lk_link::plan::Plan;
 #[tactic(auto, using(crate::proofs::Faults::checks), unfolding(lk_link::specs::WellFormed::first_broken))]
 pub fn check_rules(link: &LinkInput) -> Result<(), LinkFault>
     requires files { AreNumbered link.now.groups }
+    requires symbols { symbol_count (all_files link.now.groups) ≤ 16777216 }
     requires sections { length link.now.plan.sections ≤ 65279 }
     requires segments { length link.now.plan.segments ≤ 64 }
     ensures { result ≡ check_of (first_broken link.now) }
 {
-    check_plan(&link.plan)?;
-    prelude::check_prelude(link)?;
-    inputs::check_inputs(link)
+    check_plan(link)?;
+    check_placing(link)?;
+    check_files(link)
 }
 
-/// Refuses a plan that breaks a rule, by the first such rule at its first place.
+/// Refuses a link whose options or plan break a rule, by the first such rule at its first place.
 #[tactic(auto, using(crate::proofs::Faults::checks), unfolding(lk_link::specs::WellFormed::plan_fault))]
-fn check_plan(plan: &Plan) -> Result<(), LinkFault>
-    requires sections { length plan.now.sections ≤ 65279 }
-    requires segments { length plan.now.segments ≤ 64 }
-    ensures { result ≡ check_of (plan_fault plan.now) }
+fn check_plan(link: &LinkInput) -> Result<(), LinkFault>
+    ensures { result ≡ check_of (plan_fault link.now) }
 {
-    check_page(plan)?;
-    sections::check_sections(plan)?;
-    events::check_events(plan)
+    options::check_options(link)?;
+    check_page(&link.plan)?;
+    sections::check_sections(&link.plan)
+}
+
+/// Refuses a link whose segments or events break a rule, by the first such rule at its first place.
+#[tactic(auto, using(crate::proofs::Faults::checks), unfolding(lk_link::specs::WellFormed::placing_fault))]
+fn check_placing(link: &LinkInput) -> Result<(), LinkFault>
+    requires sections { length link.now.plan.sections ≤ 65279 }
+    requires segments { length link.now.plan.segments ≤ 64 }
+    ensures { result ≡ check_of (placing_fault link.now) }
+{
+    segments::check_segments(&link.plan)?;
+    events::check_events(link)
+}
+
+/// Refuses a link whose files break a rule, by the first such rule at its first place.
+#[tactic(auto, using(crate::proofs::Faults::checks), unfolding(lk_link::specs::WellFormed::file_fault))]
+fn check_files(link: &LinkInput) -> Result<(), LinkFault>
+    requires files { AreNumbered link.now.groups }
+    requires symbols { symbol_count (all_files link.now.groups) ≤ 16777216 }
+    ensures { result ≡ check_of (file_fault link.now) }
+{
+    prelude::check_prelude(link)?;
+    symbols::check_symbols(link)?;
+    inputs::check_inputs(link)
 }
 
 /// The page is a power of two up to 65,536.

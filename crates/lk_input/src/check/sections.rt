@@ -3,20 +3,21 @@
 ghost use Rattle.std.specs.Prelude.{◌≡◌};
 ghost use Rattle.std.specs.List.{list_all};
 ghost use Rattle.lk_link.specs.Alignments.{is_alignment};
-ghost use Rattle.lk_link.specs.Rules.{falls, first_bad_section, is_good_section};
+ghost use Rattle.lk_link.specs.Rules.{falls, first_bad_section, has_primary, is_good_section, is_primary};
 ghost use Rattle.lk_link.specs.WellFormed.{section_fault};
 ghost use Rattle.lk_input.specs.Check.{check_of};
 
 use lk_link::alignment::is_valid;
 use lk_link::fault::{LinkFault, Place, Rule};
-use lk_link::plan::{Plan, PlanPart, PlanSection};
+use lk_link::ids::OutputSectionId;
+use lk_link::plan::{Plan, PlanPart, PlanSection, PlanSections};
 
 /// Each section is good; else the place is the first that isn't.
 #[tactic(auto, unfolding(crate::specs::Check::check_of, lk_link::specs::WellFormed::section_fault))]
 pub fn check_sections(plan: &Plan) -> Result<(), LinkFault>
     ensures { result ≡ check_of (section_fault plan.now) }
 {
-    match first_bad_section(plan.sections.as_slice()) {
+    match first_bad_section(&plan.sections) {
         None => Ok(()),
         Some(section) => Err(LinkFault::BadLink {
             rule: Rule::Sections,
@@ -26,22 +27,26 @@ pub fn check_sections(plan: &Plan) -> Result<(), LinkFault>
 }
 
 /// The first section that isn't good.
-fn first_bad_section(sections: &[PlanSection]) -> Option<usize>
+fn first_bad_section(sections: &PlanSections) -> Option<usize>
     ensures { result ≡ first_bad_section sections.now }
 {
     sections
+        .as_slice()
         .iter()
-        .position(|section| !is_good_section(section))
+        .position(|section| !is_good_section(sections, section))
 }
 
-/// Whether a section has parts, whose alignments are powers of two up to 65,536 and fall, and attributes below 32.
-fn is_good_section(section: &PlanSection) -> bool
-    ensures { result ≡ is_good_section section.now }
+/// Whether a section has parts, whose alignments are powers of two up to 65,536 and fall, as its own is one, and
+/// attributes below 32, and is secondary only to a section that isn't.
+fn is_good_section(sections: &PlanSections, section: &PlanSection) -> bool
+    ensures { result ≡ is_good_section sections.now section.now }
 {
     !section.parts.is_empty()
+        && is_valid(section.align)
         && are_alignments(section.parts.as_slice())
         && falls(section.parts.as_slice())
         && section.attrs < 32
+        && has_primary(sections, section)
 }
 
 /// Whether all parts' alignments are powers of two up to 65,536.
@@ -62,4 +67,24 @@ fn falls(parts: &[PlanPart]) -> bool
         }
     }
     true
+}
+
+/// Whether a section that is secondary is so to one that isn't.
+fn has_primary(sections: &PlanSections, section: &PlanSection) -> bool
+    ensures { result ≡ has_primary sections.now section.now }
+{
+    match section.primary {
+        None => true,
+        Some(primary) => is_primary(sections, primary),
+    }
+}
+
+/// Whether there is such a section, and it isn't secondary.
+fn is_primary(sections: &PlanSections, section: OutputSectionId) -> bool
+    ensures { result ≡ is_primary sections.now section }
+{
+    match sections.get(section) {
+        None => false,
+        Some(section) => section.primary.is_none(),
+    }
 }

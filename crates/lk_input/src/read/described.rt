@@ -3,11 +3,11 @@
 ghost use Rattle.std.specs.Prelude.{◌≡◌, Result, option_map, List as Items, ℕ};
 ghost use Rattle.serde_json.specs.Data.{Data};
 ghost use Rattle.serde_json.specs.View.{view, items_view};
-ghost use Rattle.lk_input.specs.ReadingWords.{step_text};
-ghost use Rattle.lk_input.specs.ReadingSteps.{Gives, wanted, number_of, index_of, truth_of, text_of, unread, found_by, below, items_of, list_of, row_of, one_of};
+ghost use Rattle.lk_input.specs.ReadingSteps.{Gives, step_text, wanted, number_of, index_of, signed_of, truth_of, text_of, found_by, below, items_of, list_of, word_of, one_of};
 
 use crate::read::error::InputError;
-use crate::read::word::{Step, Word, text_of_word};
+use crate::read::word::{Step, Word};
+use lk_link::ids::{OutputSectionId, PartId, RegionId, SegmentId, SymbolId};
 use lk_link::list::List;
 use lk_link::text::Text;
 use serde_json::Value;
@@ -51,6 +51,55 @@ impl Described for u32 {
     }
 }
 
+/// A whole number with a sign, written without fraction and exponent.
+impl Described for i64 {
+    ghost described = { signed_of };
+
+    fn read(alloc: Global, value: &Value) -> Result<i64, InputError> {
+        wanted(alloc, value.as_i64())
+    }
+}
+
+impl Described for PartId {
+    ghost described = { index_of };
+
+    fn read(alloc: Global, value: &Value) -> Result<PartId, InputError> {
+        Ok(PartId::from_u32(u32::read(alloc, value)?))
+    }
+}
+
+impl Described for OutputSectionId {
+    ghost described = { index_of };
+
+    fn read(alloc: Global, value: &Value) -> Result<OutputSectionId, InputError> {
+        Ok(OutputSectionId::from_u32(u32::read(alloc, value)?))
+    }
+}
+
+impl Described for SegmentId {
+    ghost described = { index_of };
+
+    fn read(alloc: Global, value: &Value) -> Result<SegmentId, InputError> {
+        Ok(SegmentId::from_u32(u32::read(alloc, value)?))
+    }
+}
+
+impl Described for RegionId {
+    ghost described = { index_of };
+
+    fn read(alloc: Global, value: &Value) -> Result<RegionId, InputError> {
+        Ok(RegionId::from_u32(u32::read(alloc, value)?))
+    }
+}
+
+impl Described for SymbolId {
+    ghost described = { index_of };
+
+    fn read(alloc: Global, value: &Value) -> Result<SymbolId, InputError> {
+        Ok(SymbolId::from_u32(u32::read(alloc, value)?))
+    }
+}
+
 impl Described for bool {
     ghost described = { truth_of };
 
@@ -65,15 +114,6 @@ impl Described for Text {
     fn read(alloc: Global, value: &Value) -> Result<Text, InputError> {
         let string = wanted(alloc, value.as_str())?;
         Ok(Text::from_string(String::from_str(alloc, string)?))
-    }
-}
-
-/// A value that isn't read.
-impl Described for () {
-    ghost described = { unread };
-
-    fn read(alloc: Global, _value: &Value) -> Result<(), InputError> {
-        Err(InputError::misfit(alloc))
     }
 }
 
@@ -120,25 +160,16 @@ fn read_found<T: Described>(alloc: Global, found: Option<&Value>) -> Result<T, I
     T::read(alloc, wanted(alloc, found)?)
 }
 
-/// One of the listed texts, which stands for what is beside it.
-pub(crate) fn one_of<T: Copy + Drop>(
-    alloc: Global,
-    value: &Value,
-    rows: &[(Word, T)],
-) -> Result<T, InputError>
-    ensures { Gives result (one_of rows.now (view value.now)) }
+/// One of these words.
+pub(crate) fn one_of<W: Word>(alloc: Global, value: &Value, words: &[W]) -> Result<W, InputError>
+    ensures { Gives result (one_of W.spelling words.now (view value.now)) }
 {
     let text = wanted(alloc, value.as_str())?;
-    wanted(alloc, row_of(text, rows))
+    wanted(alloc, word_of(text, words))
 }
 
-fn row_of<T: Copy>(text: &str, rows: &[(Word, T)]) -> Option<T>
-    ensures { result ≡ row_of rows.now text.now }
+fn word_of<W: Word>(text: &str, words: &[W]) -> Option<W>
+    ensures { result ≡ word_of W.spelling words.now text.now }
 {
-    for (word, meaning) in rows {
-        if text == text_of_word(*word) {
-            return Some(*meaning);
-        }
-    }
-    None
+    words.iter().copied().find(|word| text == word.text())
 }

@@ -60,8 +60,7 @@ impl From<serde_json::Error> for InputError {
 }
 
 impl InputError {
-    ghost use Rattle.lk_input.specs.ReadingSteps.{IsBelow};
-    ghost use Rattle.lk_input.specs.ReadingWords.{step_text};
+    ghost use Rattle.lk_input.specs.ReadingSteps.{IsBelow, step_text};
 
     /// The fault of a value of a wrong shape, before its path is known.
     pub(crate) fn misfit(alloc: Global) -> InputError

@@ -2,12 +2,12 @@
 
 ghost use Rattle.std.specs.Prelude.{◌≡◌};
 ghost use Rattle.serde_json.specs.View.{view};
-ghost use Rattle.lk_input.specs.ReadingSteps.{Gives, object, required, defaulted, none_of, fixed_list, element, at_most};
+ghost use Rattle.lk_input.specs.ReadingSteps.{Gives, object, required, defaulted, optional, object_or_empty, fixed_list, element, at_most, alone, single, double};
 
 use crate::read::described::{Described, read_at};
 use crate::read::error::InputError;
-use crate::read::word::{Key, Step, text_of_key};
-use serde_json::Value;
+use crate::read::word::{Step, Word};
+use serde_json::{Map, Value};
 use std::alloc::Global;
 
 /// The value is an object.
@@ -22,40 +22,60 @@ pub(crate) fn object(alloc: Global, value: &Value) -> Result<(), InputError>
 }
 
 /// The member with this key.
-pub(crate) fn required<T: Described>(
+pub(crate) fn required<T: Described, K: Word>(
     alloc: Global,
     value: &Value,
-    key: Key,
+    key: K,
 ) -> Result<T, InputError>
-    ensures { Gives result (required T.described key (view value.now)) }
+    ensures { Gives result (required T.described (K.spelling key) (view value.now)) }
 {
-    read_at(alloc, value.get(text_of_key(key)), Step::Member(key))
+    let key = key.text();
+    read_at(alloc, value.get(key), Step::Member(key))
 }
 
 /// The member with this key, or the default.
-pub(crate) fn defaulted<T: Described>(
+pub(crate) fn defaulted<T: Described, K: Word>(
     alloc: Global,
     value: &Value,
-    key: Key,
+    key: K,
     other: T,
 ) -> Result<T, InputError>
-    ensures { Gives result (defaulted other T.described key (view value.now)) }
+    ensures { Gives result (defaulted other T.described (K.spelling key) (view value.now)) }
 {
-    match value.get(text_of_key(key)) {
+    let key = key.text();
+    match value.get(key) {
         Some(member) => read_at(alloc, Some(member), Step::Member(key)),
         None => Ok(other),
     }
 }
 
-/// None of these members is there: fields of the format that aren't read yet.
-#[tactic(auto, unfolding(crate::specs::ReadingSteps::none_of))]
-pub(crate) fn none_of(alloc: Global, value: &Value, keys: &[Key]) -> Result<(), InputError>
-    ensures { Gives result (none_of keys.now (view value.now)) }
+/// The member with this key, if there is one.
+pub(crate) fn optional<T: Described, K: Word>(
+    alloc: Global,
+    value: &Value,
+    key: K,
+) -> Result<Option<T>, InputError>
+    ensures { Gives result (optional T.described (K.spelling key) (view value.now)) }
 {
-    for key in keys {
-        defaulted(alloc, value, *key, ())?;
+    let key = key.text();
+    match value.get(key) {
+        Some(member) => Ok(Some(read_at(alloc, Some(member), Step::Member(key))?)),
+        None => Ok(None),
     }
-    Ok(())
+}
+
+/// The object with this key; a missing one has no members.
+pub(crate) fn object_or_empty<T: Described, K: Word>(
+    alloc: Global,
+    value: &Value,
+    key: K,
+) -> Result<T, InputError>
+    ensures { Gives result (object_or_empty T.described (K.spelling key) (view value.now)) }
+{
+    let key = key.text();
+    let empty = Value::Object(Map::new(alloc));
+    let object = value.get(key).unwrap_or(&empty);
+    read_at(alloc, Some(object), Step::Member(key))
 }
 
 /// The value is a fixed list.
@@ -89,4 +109,37 @@ pub(crate) fn at_most(alloc: Global, value: &Value, count: usize) -> Result<(), 
     } else {
         Ok(())
     }
+}
+
+/// Nothing stands behind what the list begins with, which is `form`.
+#[tactic(auto, unfolding(crate::specs::ReadingSteps::alone))]
+pub(crate) fn alone<T: Drop>(alloc: Global, value: &Value, form: T) -> Result<T, InputError>
+    ensures { Gives result (alone form (view value.now)) }
+{
+    at_most(alloc, value, 1)?;
+    Ok(form)
+}
+
+/// The one item behind what the list begins with.
+#[tactic(auto, unfolding(crate::specs::ReadingSteps::single))]
+pub(crate) fn single<T: Described>(alloc: Global, value: &Value) -> Result<T, InputError>
+    ensures { Gives result (single T.described (view value.now)) }
+{
+    let item = element(alloc, value, 1)?;
+    at_most(alloc, value, 2)?;
+    Ok(item)
+}
+
+/// The two items behind it.
+#[tactic(auto, unfolding(crate::specs::ReadingSteps::double))]
+pub(crate) fn double<T: Described, U: Described>(
+    alloc: Global,
+    value: &Value,
+) -> Result<(T, U), InputError>
+    ensures { Gives result (double T.described U.described (view value.now)) }
+{
+    let first = element(alloc, value, 1)?;
+    let second = element(alloc, value, 2)?;
+    at_most(alloc, value, 3)?;
+    Ok((first, second))
 }

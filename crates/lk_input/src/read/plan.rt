@@ -1,170 +1,114 @@
 //! The plan from JSON.
 
-ghost use Rattle.lk_input.specs.ReadingPlan.{expression_of, order_event_of, plan_part_of, plan_section_of, plan_segment_of, plan_of, segment_kinds, expression_forms, event_forms};
-ghost use Rattle.lk_input.specs.ReadingSteps.{one_of};
+ghost use Rattle.lk_input.specs.ReadingPlan.{plan_key_text, named_parts_of, plan_of};
 
-use crate::read::described::{Described, one_of};
+use crate::read::described::Described;
 use crate::read::error::InputError;
-use crate::read::member::{at_most, defaulted, element, fixed_list, none_of, object, required};
-use crate::read::word::{Key, Word};
+use crate::read::member::{defaulted, object, optional, required};
+use crate::read::word::Word;
 use lk_link::expression::Expression;
-use lk_link::ids::{OutputSectionId, SegmentId};
 use lk_link::list::List;
-use lk_link::plan::{
-    OrderEvent, Plan, PlanPart, PlanSection, PlanSections, PlanSegment, SegmentKind,
-};
-use lk_link::text::Text;
+use lk_link::plan::{NamedParts, Plan, PlanSections};
 use serde_json::Value;
 use std::alloc::Global;
 
-/// What an expression begins with.
+/// A key of the plan.
 #[derive(Clone, Copy, Debug, PartialEq, Eq)]
-pub enum ExpressionForm {
-    Number,
+pub(crate) enum PlanKey {
+    Page,
+    Base,
+    CustomBase,
+    CustomPhdrs,
+    PhdrsHeaders,
+    Sections,
+    Segments,
+    Regions,
+    Events,
+    Got,
+    Plt,
+    SymtabLocal,
+    SymtabGlobal,
+    Strtab,
+    Dynsym,
+    Dynstr,
+    FileHeader,
+    ProgramHeaders,
+    SectionHeaders,
+    Shstrtab,
+    Comment,
+    Primary,
+    Singletons,
 }
 
-impl Described for ExpressionForm {
-    ghost described = { one_of expression_forms };
+#[tactic(auto, unfolding(crate::specs::ReadingPlan::plan_key_text))]
+impl Word for PlanKey {
+    ghost spelling = { plan_key_text };
 
-    fn read(alloc: Global, value: &Value) -> Result<ExpressionForm, InputError> {
-        one_of(alloc, value, &[(Word::Num, ExpressionForm::Number)])
-    }
-}
-
-#[tactic(auto, unfolding(crate::specs::ReadingPlan::expression_of))]
-impl Described for Expression {
-    ghost described = { expression_of };
-
-    fn read(alloc: Global, value: &Value) -> Result<Expression, InputError> {
-        fixed_list(alloc, value)?;
-        let form = element(alloc, value, 0)?;
-        match form {
-            ExpressionForm::Number => {
-                let number = element(alloc, value, 1)?;
-                at_most(alloc, value, 2)?;
-                Ok(Expression::Number(number))
-            }
+    fn text(self) -> &'static str {
+        match self {
+            PlanKey::Page => "page",
+            PlanKey::Base => "base",
+            PlanKey::CustomBase => "custom_base",
+            PlanKey::CustomPhdrs => "custom_phdrs",
+            PlanKey::PhdrsHeaders => "phdrs_headers",
+            PlanKey::Sections => "sections",
+            PlanKey::Segments => "segments",
+            PlanKey::Regions => "regions",
+            PlanKey::Events => "events",
+            PlanKey::Got => "got",
+            PlanKey::Plt => "plt",
+            PlanKey::SymtabLocal => "symtab_local",
+            PlanKey::SymtabGlobal => "symtab_global",
+            PlanKey::Strtab => "strtab",
+            PlanKey::Dynsym => "dynsym",
+            PlanKey::Dynstr => "dynstr",
+            PlanKey::FileHeader => "file_header",
+            PlanKey::ProgramHeaders => "program_headers",
+            PlanKey::SectionHeaders => "section_headers",
+            PlanKey::Shstrtab => "shstrtab",
+            PlanKey::Comment => "comment",
+            PlanKey::Primary => "primary",
+            PlanKey::Singletons => "singletons",
         }
     }
 }
 
-/// What an event begins with.
-#[derive(Clone, Copy, Debug, PartialEq, Eq)]
-pub enum EventForm {
-    SegmentStart,
-    SegmentEnd,
-    Section,
-}
+/// The named parts are members of the plan itself.
+#[tactic(auto, unfolding(crate::specs::ReadingPlan::named_parts_of))]
+impl Described for NamedParts {
+    ghost described = { named_parts_of };
 
-impl Described for EventForm {
-    ghost described = { one_of event_forms };
-
-    fn read(alloc: Global, value: &Value) -> Result<EventForm, InputError> {
-        one_of(
-            alloc,
-            value,
-            &[
-                (Word::Seg, EventForm::SegmentStart),
-                (Word::Endseg, EventForm::SegmentEnd),
-                (Word::Sec, EventForm::Section),
-            ],
-        )
-    }
-}
-
-#[tactic(auto, unfolding(crate::specs::ReadingPlan::order_event_of))]
-impl Described for OrderEvent {
-    ghost described = { order_event_of };
-
-    fn read(alloc: Global, value: &Value) -> Result<OrderEvent, InputError> {
-        fixed_list(alloc, value)?;
-        let form = element(alloc, value, 0)?;
-        let index = element(alloc, value, 1)?;
-        at_most(alloc, value, 2)?;
-        Ok(match form {
-            EventForm::SegmentStart => OrderEvent::SegmentStart(SegmentId::from_u32(index)),
-            EventForm::SegmentEnd => OrderEvent::SegmentEnd(SegmentId::from_u32(index)),
-            EventForm::Section => OrderEvent::Section(OutputSectionId::from_u32(index)),
+    fn read(alloc: Global, value: &Value) -> Result<NamedParts, InputError> {
+        let got = optional(alloc, value, PlanKey::Got)?;
+        let plt = optional(alloc, value, PlanKey::Plt)?;
+        let symtab_local = optional(alloc, value, PlanKey::SymtabLocal)?;
+        let symtab_global = optional(alloc, value, PlanKey::SymtabGlobal)?;
+        let strtab = optional(alloc, value, PlanKey::Strtab)?;
+        let dynsym = optional(alloc, value, PlanKey::Dynsym)?;
+        let dynstr = optional(alloc, value, PlanKey::Dynstr)?;
+        let file_header = optional(alloc, value, PlanKey::FileHeader)?;
+        let program_headers = optional(alloc, value, PlanKey::ProgramHeaders)?;
+        let section_headers = optional(alloc, value, PlanKey::SectionHeaders)?;
+        let shstrtab = optional(alloc, value, PlanKey::Shstrtab)?;
+        let comment = optional(alloc, value, PlanKey::Comment)?;
+        let primary = optional(alloc, value, PlanKey::Primary)?;
+        Ok(NamedParts {
+            got,
+            plt,
+            symtab_local,
+            symtab_global,
+            strtab,
+            dynsym,
+            dynstr,
+            file_header,
+            program_headers,
+            section_headers,
+            shstrtab,
+            comment,
+            primary,
         })
     }
 }
-
-#[tactic(auto, unfolding(crate::specs::ReadingPlan::plan_part_of))]
-impl Described for PlanPart {
-    ghost described = { plan_part_of };
-
-    fn read(alloc: Global, value: &Value) -> Result<PlanPart, InputError> {
-        fixed_list(alloc, value)?;
-        let alignment = element(alloc, value, 0)?;
-        let packed = element(alloc, value, 1)?;
-        at_most(alloc, value, 2)?;
-        Ok(PlanPart { alignment, packed })
-    }
-}
-
-#[tactic(auto, unfolding(crate::specs::ReadingPlan::plan_section_of))]
-impl Described for PlanSection {
-    ghost described = { plan_section_of };
-
-    fn read(alloc: Global, value: &Value) -> Result<PlanSection, InputError> {
-        object(alloc, value)?;
-        let name = defaulted(alloc, value, Key::Name, Text::new(alloc))?;
-        let attrs = defaulted(alloc, value, Key::Attrs, 0)?;
-        none_of(alloc, value, &[Key::Align])?;
-        let parts = defaulted(alloc, value, Key::Parts, List::new(alloc))?;
-        none_of(
-            alloc,
-            value,
-            &[
-                Key::Primary,
-                Key::Emit,
-                Key::Region,
-                Key::At,
-                Key::Top,
-                Key::Counters,
-            ],
-        )?;
-        Ok(PlanSection { name, attrs, parts })
-    }
-}
-
-impl Described for SegmentKind {
-    ghost described = { one_of segment_kinds };
-
-    fn read(alloc: Global, value: &Value) -> Result<SegmentKind, InputError> {
-        one_of(alloc, value, &[(Word::Load, SegmentKind::Load)])
-    }
-}
-
-#[tactic(auto, unfolding(crate::specs::ReadingPlan::plan_segment_of))]
-impl Described for PlanSegment {
-    ghost described = { plan_segment_of };
-
-    fn read(alloc: Global, value: &Value) -> Result<PlanSegment, InputError> {
-        object(alloc, value)?;
-        let kind = required(alloc, value, Key::Kind)?;
-        none_of(alloc, value, &[Key::Always])?;
-        Ok(PlanSegment { kind })
-    }
-}
-
-/// The parts that the plan names, and the section of singletons.
-const PLAN_NUMBERS: [Key; 14] = [
-    Key::Got,
-    Key::Plt,
-    Key::SymtabLocal,
-    Key::SymtabGlobal,
-    Key::Strtab,
-    Key::Dynsym,
-    Key::Dynstr,
-    Key::FileHeader,
-    Key::ProgramHeaders,
-    Key::SectionHeaders,
-    Key::Shstrtab,
-    Key::Comment,
-    Key::Primary,
-    Key::Singletons,
-];
 
 #[tactic(auto, unfolding(crate::specs::ReadingPlan::plan_of))]
 impl Described for Plan {
@@ -172,24 +116,30 @@ impl Described for Plan {
 
     fn read(alloc: Global, value: &Value) -> Result<Plan, InputError> {
         object(alloc, value)?;
-        let page = required(alloc, value, Key::Page)?;
-        let base = defaulted(alloc, value, Key::Base, Expression::Number(0))?;
-        none_of(
-            alloc,
-            value,
-            &[Key::CustomBase, Key::CustomPhdrs, Key::PhdrsHeaders],
-        )?;
-        let sections = defaulted(alloc, value, Key::Sections, List::new(alloc))?;
-        let segments = defaulted(alloc, value, Key::Segments, List::new(alloc))?;
-        none_of(alloc, value, &[Key::Regions])?;
-        let events = defaulted(alloc, value, Key::Events, List::new(alloc))?;
-        none_of(alloc, value, &PLAN_NUMBERS)?;
+        let page = required(alloc, value, PlanKey::Page)?;
+        let zero = Expression::number(alloc, 0)?;
+        let base = defaulted(alloc, value, PlanKey::Base, zero)?;
+        let custom_base = defaulted(alloc, value, PlanKey::CustomBase, false)?;
+        let custom_phdrs = defaulted(alloc, value, PlanKey::CustomPhdrs, false)?;
+        let phdrs_headers = defaulted(alloc, value, PlanKey::PhdrsHeaders, false)?;
+        let sections = defaulted(alloc, value, PlanKey::Sections, List::new(alloc))?;
+        let segments = defaulted(alloc, value, PlanKey::Segments, List::new(alloc))?;
+        let regions = defaulted(alloc, value, PlanKey::Regions, List::new(alloc))?;
+        let events = defaulted(alloc, value, PlanKey::Events, List::new(alloc))?;
+        let named = NamedParts::read(alloc, value)?;
+        let singletons = optional(alloc, value, PlanKey::Singletons)?;
         Ok(Plan {
             page,
             base,
+            custom_base,
+            custom_phdrs,
+            phdrs_headers,
             sections: PlanSections::new(alloc, sections)?,
             segments,
+            regions,
             events,
+            named,
+            singletons,
         })
     }
 }

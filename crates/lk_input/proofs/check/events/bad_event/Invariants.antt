@@ -6,5 +6,5 @@ use Rattle.lk_input.proofs.check.events.bad_event.Given as goal
 abbrev pub invariant-loop-place : goal.invariant-loop-place
 invariant-loop-place l = record {
   marks : AreMarks l.plan (take l.place l.plan.events) l.placed l.opened l.closed;
-  good : bad_event_from l.plan (take l.place l.plan.events) (drop l.place l.plan.events) ≡ bad_event_from l.plan [] l.plan.events;
+  good : bad_event_from l.script l.plan (take l.place l.plan.events) (drop l.place l.plan.events) ≡ bad_event_from l.script l.plan [] l.plan.events;
 }

@@ -1,0 +1,46 @@
+//! The rule on thread-local segments.
+
+ghost use Rattle.std.specs.Prelude.{◌≡◌, position};
+ghost use Rattle.lk_link.specs.Rules.{is_tls, second_tls};
+ghost use Rattle.lk_link.specs.WellFormed.{tls_fault};
+ghost use Rattle.lk_input.specs.Check.{check_of};
+
+use lk_link::fault::{LinkFault, Place, Rule};
+use lk_link::plan::{Plan, PlanSegment, SegmentKind};
+
+/// At most one segment is for thread-local data; else the place is the second that is.
+#[tactic(auto, unfolding(crate::specs::Check::check_of, lk_link::specs::WellFormed::tls_fault))]
+pub fn check_segments(plan: &Plan) -> Result<(), LinkFault>
+    ensures { result ≡ check_of (tls_fault plan.now) }
+{
+    match second_tls(plan.segments.as_slice()) {
+        None => Ok(()),
+        Some(segment) => Err(LinkFault::BadLink {
+            rule: Rule::TlsSegment,
+            place: Place::Segment(segment),
+        }),
+    }
+}
+
+/// The second segment that is for thread-local data.
+fn second_tls(segments: &[PlanSegment]) -> Option<usize>
+    ensures { result ≡ second_tls segments.now }
+{
+    let first = first_tls(segments)?;
+    let behind = first_tls(&segments[first + 1..])?;
+    Some(first + 1 + behind)
+}
+
+/// The first one.
+fn first_tls(segments: &[PlanSegment]) -> Option<usize>
+    ensures { result ≡ position is_tls segments.now }
+{
+    segments.iter().position(is_tls)
+}
+
+/// Whether a segment is for thread-local data.
+fn is_tls(segment: &PlanSegment) -> bool
+    ensures { result ≡ is_tls segment.now }
+{
+    matches!(segment.kind, SegmentKind::Tls)
+}

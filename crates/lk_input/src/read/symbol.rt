@@ -1,0 +1,261 @@
+//! The symbols of input files from JSON.
+
+ghost use Rattle.std.specs.Prelude.{◌≡◌};
+ghost use Rattle.serde_json.specs.View.{view};
+ghost use Rattle.lk_input.specs.ReadingSymbols.{symbol_key_text, loc_text, all_locs, loc_in, symbol_loc_of, placement_text, all_placements, redirect_of, placement_in, symbol_placement_of, input_symbol_of};
+ghost use Rattle.lk_input.specs.ReadingSteps.{Gives, one_of};
+
+use crate::read::described::{Described, one_of};
+use crate::read::error::InputError;
+use crate::read::member::{
+    alone, at_most, defaulted, double, element, fixed_list, object, optional, required, single,
+};
+use crate::read::word::Word;
+use lk_link::flags::ValueFlags;
+use lk_link::symbol::{InputSymbol, SymbolLoc, SymbolPlacement};
+use lk_link::text::Text;
+use serde_json::Value;
+use std::alloc::Global;
+
+/// What the place of the location counter begins with.
+#[derive(Clone, Copy, Debug, PartialEq, Eq)]
+pub(crate) enum LocForm {
+    None,
+    Start,
+    End,
+    Counter,
+}
+
+#[tactic(auto, unfolding(crate::specs::ReadingSymbols::loc_text))]
+impl Word for LocForm {
+    ghost spelling = { loc_text };
+
+    fn text(self) -> &'static str {
+        match self {
+            LocForm::None => "none",
+            LocForm::Start => "start",
+            LocForm::End => "end",
+            LocForm::Counter => "counter",
+        }
+    }
+}
+
+impl Described for LocForm {
+    ghost described = { one_of loc_text all_locs };
+
+    fn read(alloc: Global, value: &Value) -> Result<LocForm, InputError> {
+        one_of(
+            alloc,
+            value,
+            &[
+                LocForm::None,
+                LocForm::Start,
+                LocForm::End,
+                LocForm::Counter,
+            ],
+        )
+    }
+}
+
+/// The place that begins so.
+#[tactic(auto, unfolding(crate::specs::ReadingSymbols::loc_in))]
+fn loc_in(alloc: Global, value: &Value, form: LocForm) -> Result<SymbolLoc, InputError>
+    ensures { Gives result (loc_in form (view value.now)) }
+{
+    Ok(match form {
+        LocForm::None => alone(alloc, value, SymbolLoc::None)?,
+        LocForm::Start => SymbolLoc::SectionStart(single(alloc, value)?),
+        LocForm::End => SymbolLoc::SectionEnd(single(alloc, value)?),
+        LocForm::Counter => SymbolLoc::Counter(single(alloc, value)?),
+    })
+}
+
+#[tactic(auto, unfolding(crate::specs::ReadingSymbols::symbol_loc_of))]
+impl Described for SymbolLoc {
+    ghost described = { symbol_loc_of };
+
+    fn read(alloc: Global, value: &Value) -> Result<SymbolLoc, InputError> {
+        fixed_list(alloc, value)?;
+        let form = element(alloc, value, 0)?;
+        loc_in(alloc, value, form)
+    }
+}
+
+/// What a placement begins with.
+#[derive(Clone, Copy, Debug, PartialEq, Eq)]
+pub(crate) enum PlacementForm {
+    Section,
+    Common,
+    Absolute,
+    Undef,
+    Dynamic,
+    Undefined,
+    ForceUndefined,
+    SectionStart,
+    SectionEnd,
+    SectionGroupEnd,
+    TlsEnd,
+    LoadBaseAddress,
+    Redirect,
+}
+
+#[tactic(auto, unfolding(crate::specs::ReadingSymbols::placement_text))]
+impl Word for PlacementForm {
+    ghost spelling = { placement_text };
+
+    fn text(self) -> &'static str {
+        match self {
+            PlacementForm::Section => "sec",
+            PlacementForm::Common => "common",
+            PlacementForm::Absolute => "abs",
+            PlacementForm::Undef => "undef",
+            PlacementForm::Dynamic => "dyn",
+            PlacementForm::Undefined => "undefined",
+            PlacementForm::ForceUndefined => "force",
+            PlacementForm::SectionStart => "start",
+            PlacementForm::SectionEnd => "end",
+            PlacementForm::SectionGroupEnd => "groupend",
+            PlacementForm::TlsEnd => "tlsend",
+            PlacementForm::LoadBaseAddress => "loadbase",
+            PlacementForm::Redirect => "redirect",
+        }
+    }
+}
+
+/// The placements of all kinds of files; which are a file's own is no matter of reading.
+const PLACEMENTS: [PlacementForm; 13] = [
+    PlacementForm::Section,
+    PlacementForm::Common,
+    PlacementForm::Absolute,
+    PlacementForm::Undef,
+    PlacementForm::Dynamic,
+    PlacementForm::Undefined,
+    PlacementForm::ForceUndefined,
+    PlacementForm::SectionStart,
+    PlacementForm::SectionEnd,
+    PlacementForm::SectionGroupEnd,
+    PlacementForm::TlsEnd,
+    PlacementForm::LoadBaseAddress,
+    PlacementForm::Redirect,
+];
+
+impl Described for PlacementForm {
+    ghost described = { one_of placement_text all_placements };
+
+    fn read(alloc: Global, value: &Value) -> Result<PlacementForm, InputError> {
+        one_of(alloc, value, &PLACEMENTS)
+    }
+}
+
+/// What an expression gives.
+#[tactic(auto, unfolding(crate::specs::ReadingSymbols::redirect_of))]
+fn redirect_of(alloc: Global, value: &Value) -> Result<SymbolPlacement, InputError>
+    ensures { Gives result (redirect_of (view value.now)) }
+{
+    let expression = element(alloc, value, 1)?;
+    let loc = element(alloc, value, 2)?;
+    let provide = element(alloc, value, 3)?;
+    at_most(alloc, value, 4)?;
+    Ok(SymbolPlacement::Redirect {
+        expression,
+        loc,
+        provide,
+    })
+}
+
+/// The placement that begins so.
+#[tactic(auto, unfolding(crate::specs::ReadingSymbols::placement_in))]
+fn placement_in(
+    alloc: Global,
+    value: &Value,
+    form: PlacementForm,
+) -> Result<SymbolPlacement, InputError>
+    ensures { Gives result (placement_in form (view value.now)) }
+{
+    Ok(match form {
+        PlacementForm::Section => {
+            let (index, offset) = double(alloc, value)?;
+            SymbolPlacement::Section { index, offset }
+        }
+        PlacementForm::Common => {
+            let (part, size) = double(alloc, value)?;
+            SymbolPlacement::Common { part, size }
+        }
+        PlacementForm::Absolute => SymbolPlacement::Absolute(single(alloc, value)?),
+        PlacementForm::Undef => alone(alloc, value, SymbolPlacement::Undef)?,
+        PlacementForm::Dynamic => alone(alloc, value, SymbolPlacement::Dynamic)?,
+        PlacementForm::Undefined => alone(alloc, value, SymbolPlacement::Undefined)?,
+        PlacementForm::ForceUndefined => alone(alloc, value, SymbolPlacement::ForceUndefined)?,
+        PlacementForm::SectionStart => SymbolPlacement::SectionStart(single(alloc, value)?),
+        PlacementForm::SectionEnd => SymbolPlacement::SectionEnd(single(alloc, value)?),
+        PlacementForm::SectionGroupEnd => SymbolPlacement::SectionGroupEnd(single(alloc, value)?),
+        PlacementForm::TlsEnd => alone(alloc, value, SymbolPlacement::TlsEnd)?,
+        PlacementForm::LoadBaseAddress => alone(alloc, value, SymbolPlacement::LoadBaseAddress)?,
+        PlacementForm::Redirect => redirect_of(alloc, value)?,
+    })
+}
+
+#[tactic(auto, unfolding(crate::specs::ReadingSymbols::symbol_placement_of))]
+impl Described for SymbolPlacement {
+    ghost described = { symbol_placement_of };
+
+    fn read(alloc: Global, value: &Value) -> Result<SymbolPlacement, InputError> {
+        fixed_list(alloc, value)?;
+        let form = element(alloc, value, 0)?;
+        placement_in(alloc, value, form)
+    }
+}
+
+/// A key of a symbol.
+#[derive(Clone, Copy, Debug, PartialEq, Eq)]
+pub(crate) enum SymbolKey {
+    Name,
+    At,
+    Def,
+    Flags,
+    Local,
+    Weak,
+    Hidden,
+}
+
+#[tactic(auto, unfolding(crate::specs::ReadingSymbols::symbol_key_text))]
+impl Word for SymbolKey {
+    ghost spelling = { symbol_key_text };
+
+    fn text(self) -> &'static str {
+        match self {
+            SymbolKey::Name => "name",
+            SymbolKey::At => "at",
+            SymbolKey::Def => "def",
+            SymbolKey::Flags => "flags",
+            SymbolKey::Local => "local",
+            SymbolKey::Weak => "weak",
+            SymbolKey::Hidden => "hidden",
+        }
+    }
+}
+
+#[tactic(auto, unfolding(crate::specs::ReadingSymbols::input_symbol_of))]
+impl Described for InputSymbol {
+    ghost described = { input_symbol_of };
+
+    fn read(alloc: Global, value: &Value) -> Result<InputSymbol, InputError> {
+        object(alloc, value)?;
+        let name = defaulted(alloc, value, SymbolKey::Name, Text::new(alloc))?;
+        let at = required(alloc, value, SymbolKey::At)?;
+        let def = optional(alloc, value, SymbolKey::Def)?;
+        let flags = defaulted(alloc, value, SymbolKey::Flags, 0)?;
+        let local = defaulted(alloc, value, SymbolKey::Local, false)?;
+        let weak = defaulted(alloc, value, SymbolKey::Weak, false)?;
+        let hidden = defaulted(alloc, value, SymbolKey::Hidden, false)?;
+        Ok(InputSymbol {
+            name,
+            at,
+            def,
+            flags: ValueFlags(flags),
+            local,
+            weak,
+            hidden,
+        })
+    }
+}
