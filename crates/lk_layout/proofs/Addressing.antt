@@ -4,19 +4,21 @@ use Rattle.std.specs.List.{flat_map, list_all, slice_index}
 use Rattle.std.proofs.lemmas.List.{map-append, append-nil, append_assoc, length-take-le, take-append-drop, get_or-set_same, get_or-set_other}
 use Rattle.std.proofs.lemmas.Bool.{ltb-true}
 use Rattle.std.proofs.lemmas.Bool.Decides.{eqb_tells}
+use Rattle.lk_link.specs.InputRules.{goes_to_part}
 use Rattle.lk_link.specs.Limits.{counted, limit_of}
-use Rattle.lk_link.specs.Rules.{is_good_input}
+use Rattle.lk_link.specs.Sizes.{capacity}
 use Rattle.lk_link.specs.WellFormed.{IsWellFormed}
 use Rattle.lk_link.specs.declared.fault.Limited.TheVariants.{Groups, Files}
 use Rattle.lk_link.specs.declared.link.LinkInput.{LinkInput}
 use Rattle.lk_link.specs.declared.file.InputFile.{InputFile}
-use Rattle.lk_link.specs.declared.file.InputSection.{InputSection}
+use Rattle.lk_link.specs.declared.section.InputSection.{InputSection}
 use Rattle.lk_link.specs.declared.ids.FileId.{FileId}
 use Rattle.lk_link.specs.declared.plan.PlanPart.{PlanPart}
 use Rattle.lk_layout.specs.declared.live.LiveSection.{LiveSection}
 use Rattle.lk_layout.specs.Addresses.{EndsFit, HaveRoom, IsPlaced}
+use Rattle.lk_layout.specs.Carried.{IsCarried}
 use Rattle.lk_layout.specs.LiveSections.{part_at, live_section, live_sections_after, live_sections}
-use Rattle.lk_layout.specs.Owners.{owners_of, bytes_of, capacity, part_sizes}
+use Rattle.lk_layout.specs.Owners.{owners_of, bytes_of, part_sizes}
 use Rattle.lk_layout.specs.Reach.{AreLive}
 use Rattle.lk_layout.specs.Totals.{GoTo, bytes_into, sections_of_groups}
 use Rattle.lk_layout.specs.Units.{Input, inputs_from, file_inputs, group_inputs, all_inputs}
@@ -45,7 +47,7 @@ addresses-append starts parts before (x ∷ xs) ys =
 moved_on : (parts : List PlanPart) (old new : List ℕ) (xs : List Input) → ((p : ℕ) → p < length parts → slice_index new p ≡ slice_index old p + bytes_of (owners_of xs p (part_at parts p))) → (before ys : List Input) → GoTo parts (map section_of ys) → live_sections_after old parts (xs ++ before) ys ≡ live_sections_after new parts before ys
 moved_on parts old new xs h before [] g = refl
 moved_on parts old new xs h before (y ∷ ys) g =
-    let go = and_parts (is_good_input (length parts) y.section) (list_all (is_good_input (length parts)) (map section_of ys)) g in
+    let go = and_parts (goes_to_part (length parts) y.section) (list_all (goes_to_part (length parts)) (map section_of ys)) g in
     let p = y.section.part in
     let within : p < length parts = ltb-true p (length parts) go.0 in
     let same : slice_index old p + bytes_of (owners_of (xs ++ before) p (part_at parts p)) ≡ slice_index new p + bytes_of (owners_of before p (part_at parts p)) =
@@ -155,14 +157,14 @@ room_left parts done old next before found front piece rest all room h e whole p
 -- ---- all live sections
 
 -- where the parts end below 2^64, there is room for all sections
-pub room_for_all : (link : LinkInput) (live : List Input) (parts : List PlanPart) (starts : List ℕ) → AreLive link live → length starts ≡ length parts → EndsFit starts (part_sizes live parts) → HaveRoom parts starts (sections_of_groups link.groups)
-room_for_all link live parts starts l e fit p h =
-    omega (arith, fit p (omega arith), part_sizes-at live parts p h, owned live p (part_at parts p), ap (bytes_into p (part_at parts p)) (live_ones link live l))
+pub room_for_all : (link : LinkInput) (live : List Input) (parts : List PlanPart) (starts : List ℕ) → IsCarried link → AreLive link live → length starts ≡ length parts → EndsFit starts (part_sizes live parts) → HaveRoom parts starts (sections_of_groups link.groups)
+room_for_all link live parts starts carried l e fit p h =
+    omega (arith, fit p (omega arith), part_sizes-at live parts p h, owned live p (part_at parts p), ap (bytes_into p (part_at parts p)) (live_ones link live carried l))
 
 -- what the walk over all files finds are the live sections
-pub found_all : (link : LinkInput) (live : List Input) (parts : List PlanPart) (starts next : List ℕ) (found : List LiveSection) → AreLive link live → IsPlaced parts (group_inputs 0 link.groups) starts next [] found → found ≡ live_sections starts parts live
-found_all link live parts starts next found l h =
-    h.found ∙ ap (live_sections starts parts) (live_sections_are_one link (all_inputs link) live (live_sections_exist link) l)
+pub found_all : (link : LinkInput) (live : List Input) (parts : List PlanPart) (starts next : List ℕ) (found : List LiveSection) → IsCarried link → AreLive link live → IsPlaced parts (group_inputs 0 link.groups) starts next [] found → found ≡ live_sections starts parts live
+found_all link live parts starts next found carried l h =
+    h.found ∙ ap (live_sections starts parts) (live_sections_are_one link (all_inputs link) live (live_sections_exist link carried) l)
 
 -- ---- the limits of a well-formed link
 

@@ -8,16 +8,16 @@ use Rattle.std.proofs.lemmas.Option.{slice_get_within, slice_get-get_or}
 use Rattle.lk_link.specs.declared.plan.Plan.{Plan}
 use Rattle.lk_link.specs.declared.plan.PlanSection.{PlanSection}
 use Rattle.lk_link.specs.declared.plan.OrderEvent.{OrderEvent}
-use Rattle.lk_link.specs.declared.plan.OrderEvent.TheVariants.{SegmentStart, SegmentEnd, Section}
+use Rattle.lk_link.specs.declared.plan.OrderEvent.TheVariants.{SegmentStart, SegmentEnd, Section, SetLocation, SetLocationRelative, SetSectionAddress}
 use Rattle.lk_link.specs.Alignments.{IsLeastMultiple}
 use Rattle.lk_link.specs.WellFormed.{IsEventOrder}
 use Rattle.lk_layout.specs.declared.cursors.Cursors.{Cursors}
 use Rattle.lk_layout.specs.declared.sections.SizedPart.{SizedPart}
 use Rattle.lk_layout.specs.Attributes.{is_allocated, is_backed}
 use Rattle.lk_layout.specs.Laws.{IsInFile, part_record, FileRangesAreDisjoint}
-use Rattle.lk_layout.specs.Placement.{IsPlacedAt, FollowOn, ArePlaced, PlacesSection, Steps, IsPlaced, behind, resting, first_walked, section_at, at_start}
+use Rattle.lk_layout.specs.Placement.{IsPlacedAt, FollowOn, ArePlaced, PlacesSection, Steps, IsPlaced, behind, resting, first_walked, at_start}
 use Rattle.lk_layout.specs.Records.{Record, file_end, nowhere}
-use Rattle.lk_layout.specs.Sections.{has_bytes, section_parts, greatest_alignment}
+use Rattle.lk_layout.specs.Sections.{has_bytes, section_at, section_parts, section_alignment}
 
 -- ---- ranges that follow one another
 
@@ -101,13 +101,13 @@ rest_follows : (first : Record) (low high : ℕ) (ps : List SizedPart) (rs : Lis
 rest_follows first low high [] rs h = h
 rest_follows first low high (p ∷ ps) rs h = inl (refl, rest_follows first low high ps rs h)
 
-are_placed_follow : (backed : Bool) (ps : List SizedPart) (from to : Cursors) (rs : List Record) → ArePlaced backed ps from rs to → Follow from.file rs to.file
-are_placed_follow backed ps from to rs h =
+are_placed_follow : (backed : Bool) (greatest : ℕ) (ps : List SizedPart) (from to : Cursors) (rs : List Record) → ArePlaced backed greatest ps from rs to → Follow from.file rs to.file
+are_placed_follow backed greatest ps from to rs h =
     let first = h.first in
     let later : Follow (file_end first) h.later to.file
-    = follow_on_follows backed (greatest_alignment ps) first (behind first) to (drop (first_walked ps + 1) ps) h.later h.follow in
+    = follow_on_follows backed greatest first (behind first) to (drop (first_walked ps + 1) ps) h.later h.follow in
     let begun : Follow from.file (first ∷ h.later) to.file
-    = inr (starts-after backed (greatest_alignment ps) from.file first.file_offset h.starts.in_file, later) in
+    = inr (starts-after backed greatest from.file first.file_offset h.starts.in_file, later) in
     subst (λ xs. Follow from.file xs to.file) (sym h.all)
     (rest_follows first from.file to.file (take (first_walked ps) ps) (first ∷ h.later) begun)
 
@@ -116,7 +116,7 @@ section_follows : (sections : List PlanSection) (sized : List SizedPart) (s : �
 section_follows sections sized s from to rs h =
     let inner : Cursors = record { file = from.file; memory = if is_allocated (section_at sections s) then from.memory else 0 } in
     subst (λ n. Follow from.file rs n) (sym h.file)
-    (are_placed_follow (is_backed (section_at sections s)) (section_parts sections sized s) inner h.end rs h.parts)
+    (are_placed_follow (is_backed (section_at sections s)) (section_alignment sections sized s) (section_parts sections sized s) inner h.end rs h.parts)
 
 -- ---- the cursor of the file never falls
 
@@ -124,6 +124,9 @@ step_rises : (start : ℕ → ℕ → ℕ → ℕ) (plan : Plan) (sized : List S
     → Steps start plan sized placed e from to → from.file ≤ to.file
 step_rises start plan sized placed (SegmentStart i) from to h = omega (arith, h.0)
 step_rises start plan sized placed (SegmentEnd i) from to h = omega (arith, ap (λ (c : Cursors). c.file) h)
+step_rises start plan sized placed (SetLocation x) from to h = omega (arith, ap (λ (c : Cursors). c.file) h)
+step_rises start plan sized placed (SetLocationRelative x t) from to h = omega (arith, ap (λ (c : Cursors). c.file) h)
+step_rises start plan sized placed (SetSectionAddress x) from to h = omega (arith, ap (λ (c : Cursors). c.file) h)
 step_rises start plan sized placed (Section s) from to h =
     follow-le from.file to.file (slice_index_or placed s []) (section_follows plan.sections sized s from to (slice_index_or placed s []) h)
 

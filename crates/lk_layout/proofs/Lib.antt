@@ -1,5 +1,7 @@
 pub mod Adding
 pub mod Addressing
+pub mod AnswerLaws
+pub mod Carrying
 pub mod Checked
 pub mod ComputeLaws
 pub mod DefinedLaws
@@ -16,4 +18,3 @@ pub mod SectionParts
 pub mod Sizing
 pub mod Tiling
 pub mod WalkLaws
-pub mod AnswerLaws

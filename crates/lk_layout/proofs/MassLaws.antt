@@ -1,7 +1,7 @@
 -- The records of a placement take the parts' bytes in memory.
 use Rattle.std.proofs.Common.{◌≡◌, ℕ, zero, suc, ◌+◌, ◌-◌, ◌<◌, List, [], ◌∷◌, ◌++◌, length, take, drop, get_or, map, arith, Bool, true, false, MatchBool, Some, None, sym, ap, ◌∙◌, refl, min, length-append}
 use Rattle.std.specs.Prelude.{slice_index}
-use Rattle.std.specs.List.{list_all, slice_index_or, flat_map, enumerate_from, position}
+use Rattle.std.specs.List.{slice_index_or, flat_map, enumerate_from, position}
 use Rattle.std.specs.Option.{unwrap_or}
 use Rattle.std.proofs.lemmas.Bool.Decides.{nat_tests}
 use Rattle.std.proofs.lemmas.List.{map-append, take-append-drop, drop-drop, drop_more, length-take, length-drop, length-map, nil_from_length}
@@ -14,19 +14,19 @@ use Rattle.lk_link.specs.declared.plan.PlanPart.{PlanPart}
 use Rattle.lk_link.specs.declared.plan.PlanSection.{PlanSection}
 use Rattle.lk_link.specs.declared.plan.OrderEvent.TheVariants.{Section}
 use Rattle.lk_link.specs.Parts.{all_parts, first_part}
-use Rattle.lk_link.specs.Rules.{is_good_section}
 use Rattle.lk_link.specs.WellFormed.{IsEventOrder, IsWellFormed}
 use Rattle.lk_layout.specs.declared.cursors.Cursors.{Cursors}
 use Rattle.lk_layout.specs.declared.sections.SizedPart.{SizedPart}
 use Rattle.lk_layout.specs.Attributes.{is_backed}
 use Rattle.lk_layout.specs.Defined.{sized_of, sizes_of}
 use Rattle.lk_layout.specs.Mass.{PartsTakeTheirSizes}
-use Rattle.lk_layout.specs.Placement.{IsPlacedAt, FollowOn, ArePlaced, PlacesSection, IsPlaced, behind, resting, first_walked, section_at, at_start}
+use Rattle.lk_layout.specs.Placement.{IsPlacedAt, FollowOn, ArePlaced, PlacesSection, IsPlaced, behind, resting, first_walked, at_start}
 use Rattle.lk_layout.specs.Records.{Record}
-use Rattle.lk_layout.specs.Sections.{has_bytes, sized_part, sized_parts, section_parts, greatest_alignment}
+use Rattle.lk_layout.specs.Sections.{HaveParts, has_bytes, sized_part, sized_parts, section_at, section_parts, section_alignment}
 use Rattle.lk_layout.specs.Units.{Input}
+use Rattle.lk_layout.proofs.Checked.{have_parts_of}
 use Rattle.lk_layout.proofs.Numbers.{made_of_or}
-use Rattle.lk_layout.proofs.SectionParts.{first_part-suc, first_part-le, good-parts}
+use Rattle.lk_layout.proofs.SectionParts.{first_part-suc, first_part-le, have_parts}
 
 abbrev takes : List Record → List ℕ
 takes rs = map (λ r. r.mem_size) rs
@@ -75,8 +75,8 @@ walked ps some =
     ]) refl
 
 -- the records of a section's parts take the parts' bytes
-pub are_placed_takes : (backed : Bool) (ps : List SizedPart) (from : Cursors) (rs : List Record) (to : Cursors) → 0 < length ps → ArePlaced backed ps from rs to → map (λ r. r.mem_size) rs ≡ map (λ p. p.size) ps
-are_placed_takes backed ps from rs to some placed =
+pub are_placed_takes : (backed : Bool) (greatest : ℕ) (ps : List SizedPart) (from : Cursors) (rs : List Record) (to : Cursors) → 0 < length ps → ArePlaced backed greatest ps from rs to → map (λ r. r.mem_size) rs ≡ map (λ p. p.size) ps
+are_placed_takes backed greatest ps from rs to some placed =
     let n : ℕ = first_walked ps in
     let none : SizedPart = record { alignment = 1; size = 0 } in
     let facts : (n < length ps) × ((k : ℕ) (d : SizedPart) → k < n → has_bytes (get_or ps k d) ≡ false) = walked ps some in
@@ -84,7 +84,7 @@ are_placed_takes backed ps from rs to some placed =
     let rest : List SizedPart = get_or ps n none ∷ drop (n + 1) ps in
     let front : takes (map (resting placed.first) (take n ps)) ≡ bytes (take n ps) = resting_takes placed.first n ps (λ k d a b. facts.1 k d a) in
     let back : takes later ≡ bytes rest = cons_same placed.first.mem_size (get_or ps n none).size (takes placed.later) (bytes (drop (n + 1) ps)) placed.starts.takes
-    (following_takes backed (greatest_alignment ps) placed.first (behind placed.first) (drop (n + 1) ps) placed.later to placed.follow) in
+    (following_takes backed greatest placed.first (behind placed.first) (drop (n + 1) ps) placed.later to placed.follow) in
     ap takes placed.all
     ∙ map-append (λ (r : Record). r.mem_size) (map (resting placed.first) (take n ps)) later
     ∙ ap (λ (xs : List ℕ). xs ++ takes later) front
@@ -96,7 +96,7 @@ are_placed_takes backed ps from rs to some placed =
 -- ---- all sections
 
 -- a section has parts with bytes or without
-some_parts : (sections : List PlanSection) (sized : List SizedPart) (s : ℕ) → list_all is_good_section sections ≡ true → length sized ≡ length (all_parts sections) → s < length sections → 0 < length (section_parts sections sized s)
+some_parts : (sections : List PlanSection) (sized : List SizedPart) (s : ℕ) → HaveParts sections → length sized ≡ length (all_parts sections) → s < length sections → 0 < length (section_parts sections sized s)
 some_parts sections sized s good each within =
     omega (
       arith,
@@ -104,17 +104,17 @@ some_parts sections sized s good each within =
       length-drop (first_part sections s) sized,
       first_part-suc sections s within,
       first_part-le sections (s + 1),
-      good-parts sections s good within,
+      have_parts sections s good within,
     )
 
 -- the records of each section's parts take the parts' bytes
-pub row_takes : (start : ℕ → ℕ → ℕ → ℕ) (plan : Plan) (sized : List SizedPart) (states : List Cursors) (placed : List (List Record)) → IsPlaced start plan sized states placed → IsEventOrder plan → list_all is_good_section plan.sections ≡ true → length sized ≡ length (all_parts plan.sections)
+pub row_takes : (start : ℕ → ℕ → ℕ → ℕ) (plan : Plan) (sized : List SizedPart) (states : List Cursors) (placed : List (List Record)) → IsPlaced start plan sized states placed → IsEventOrder plan → HaveParts plan.sections → length sized ≡ length (all_parts plan.sections)
     → (s : ℕ) → s < length plan.sections → map (λ r. r.mem_size) (slice_index_or placed s []) ≡ map (λ p. p.size) (section_parts plan.sections sized s)
 row_takes start plan sized states placed is order good each s within =
     let k : ℕ = (order.placed s within).0 in
     let from : Cursors = slice_index_or states k at_start in
     let step : PlacesSection plan.sections sized s from (slice_index_or placed s []) (slice_index_or states (k + 1) at_start) = is.steps k (Section s) (order.placed s within).1 in
-    are_placed_takes (is_backed (section_at plan.sections s)) (section_parts plan.sections sized s) _ (slice_index_or placed s []) step.end
+    are_placed_takes (is_backed (section_at plan.sections s)) (section_alignment plan.sections sized s) (section_parts plan.sections sized s) _ (slice_index_or placed s []) step.end
     (some_parts plan.sections sized s good each within) step.parts
 
 -- the parts behind the first section
@@ -156,7 +156,7 @@ parts_take_their_sizes start plan sized states placed is order good each =
     rows_take plan.sections sized placed each is.sections (row_takes start plan sized states placed is order good each)
 
 -- there is one record for each part
-pub records_count : (start : ℕ → ℕ → ℕ → ℕ) (plan : Plan) (sized : List SizedPart) (states : List Cursors) (placed : List (List Record)) → IsPlaced start plan sized states placed → IsEventOrder plan → list_all is_good_section plan.sections ≡ true → length sized ≡ length (all_parts plan.sections)
+pub records_count : (start : ℕ → ℕ → ℕ → ℕ) (plan : Plan) (sized : List SizedPart) (states : List Cursors) (placed : List (List Record)) → IsPlaced start plan sized states placed → IsEventOrder plan → HaveParts plan.sections → length sized ≡ length (all_parts plan.sections)
     → length (flat_map (λ row. row) placed) ≡ length (all_parts plan.sections)
 records_count start plan sized states placed is order good each =
     sym (length-map (flat_map (λ row. row) placed) (λ (r : Record). r.mem_size))
@@ -178,5 +178,5 @@ records_take start link live states placed good is =
     let parts : List PlanPart = all_parts link.plan.sections in
     let sizes : List ℕ = sizes_of link live in
     let count : length (sized_of link live) ≡ length parts = length-map (enumerate_from 0 parts) (sized_part sizes) ∙ length-enumerate_from 0 parts in
-    parts_take_their_sizes start link.plan (sized_of link live) states placed is good.events good.sections count
+    parts_take_their_sizes start link.plan (sized_of link live) states placed is good.events (have_parts_of link good) count
     ∙ sized_parts-sizes parts sizes (length-map (enumerate_from 0 parts) _ ∙ length-enumerate_from 0 parts)

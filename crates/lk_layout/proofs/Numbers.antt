@@ -45,3 +45,8 @@ made_at {X} {Y} f d (x ∷ xs) o (suc i) below = made_at f d xs (o + 1) i (omega
 pub length-made : {X Y : Type 0} (f : ℕ → Y) (xs : List X) (o : ℕ) → length (map (λ q. f q.0) (enumerate_from o xs)) ≡ length xs
 length-made f [] o = refl
 length-made f (x ∷ xs) o = ap suc (length-made f xs (o + 1))
+
+-- the same, read with an option
+pub made_get : {X Y : Type 0} (f : ℕ → Y) (xs : List X) (i : ℕ) → i < length xs → slice_get (map (λ q. f q.0) (enumerate_from 0 xs)) i ≡ Some (f i)
+made_get {X} {Y} f xs i below =
+    slice_get-get_or (map (λ (q : ℕ × X). f q.0) (enumerate_from 0 xs)) i (f i) (omega (arith, length-made f xs 0)) ∙ ap (λ (y : Y). Some y) (made_at f (f i) xs 0 i below ∙ ap f (zero-add i))

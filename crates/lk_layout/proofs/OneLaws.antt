@@ -11,15 +11,15 @@ use Rattle.std.proofs.lemmas.Option.{slice_get_within, slice_get-get_or, get_or_
 use Rattle.lk_link.specs.declared.plan.Plan.{Plan}
 use Rattle.lk_link.specs.declared.plan.PlanSection.{PlanSection}
 use Rattle.lk_link.specs.declared.plan.OrderEvent.{OrderEvent}
-use Rattle.lk_link.specs.declared.plan.OrderEvent.TheVariants.{SegmentStart, SegmentEnd, Section}
+use Rattle.lk_link.specs.declared.plan.OrderEvent.TheVariants.{SegmentStart, SegmentEnd, Section, SetLocation, SetLocationRelative, SetSectionAddress}
 use Rattle.lk_link.specs.Alignments.{IsLeastMultiple}
 use Rattle.lk_layout.specs.declared.cursors.Cursors.{Cursors}
 use Rattle.lk_layout.specs.declared.sections.SizedPart.{SizedPart}
 use Rattle.lk_layout.specs.Attributes.{is_allocated, is_backed}
 use Rattle.lk_layout.specs.Laws.{PlacementIsOne}
-use Rattle.lk_layout.specs.Placement.{IsPlacedAt, FollowOn, ArePlaced, PlacesSection, Steps, IsPlaced, behind, resting, first_walked, size_at, section_at, at_start, base_of}
+use Rattle.lk_layout.specs.Placement.{IsPlacedAt, FollowOn, ArePlaced, PlacesSection, Steps, IsPlaced, behind, resting, first_walked, size_at, at_start, base_of}
 use Rattle.lk_layout.specs.Records.{Record}
-use Rattle.lk_layout.specs.Sections.{has_bytes, section_parts, greatest_alignment}
+use Rattle.lk_layout.specs.Sections.{has_bytes, section_at, section_parts, section_alignment}
 
 -- no least multiple is above another
 least-not-above : (a n m k : ℕ) → IsLeastMultiple a n m → IsLeastMultiple a n k → m < k → ⊥
@@ -83,10 +83,9 @@ follow_on_one backed greatest first from (p ∷ ps) (r ∷ rs) (q ∷ qs) to end
     ] h g
 
 -- there is one way to place the parts of a section
-are_placed_one : (backed : Bool) (ps : List SizedPart) (from : Cursors) (rs qs : List Record) (to end : Cursors)
-    → ArePlaced backed ps from rs to → ArePlaced backed ps from qs end → (rs ≡ qs) × (to ≡ end)
-are_placed_one backed ps from rs qs to end h g =
-    let greatest = greatest_alignment ps in
+are_placed_one : (backed : Bool) (greatest : ℕ) (ps : List SizedPart) (from : Cursors) (rs qs : List Record) (to end : Cursors)
+    → ArePlaced backed greatest ps from rs to → ArePlaced backed greatest ps from qs end → (rs ≡ qs) × (to ≡ end)
+are_placed_one backed greatest ps from rs qs to end h g =
     let behind_first = drop (first_walked ps + 1) ps in
     let before_first = take (first_walked ps) ps in
     let one : h.first ≡ g.first = placed_at_one backed greatest (size_at ps (first_walked ps)) from h.first g.first h.starts g.starts in
@@ -100,7 +99,7 @@ places_section_one : (sections : List PlanSection) (sized : List SizedPart) (s :
 places_section_one sections sized s from rs qs to end h g =
     let allocated = is_allocated (section_at sections s) in
     let inner : Cursors = record { file = from.file; memory = if allocated then from.memory else 0 } in
-    let parts = are_placed_one (is_backed (section_at sections s)) (section_parts sections sized s) inner rs qs h.end g.end h.parts g.parts in
+    let parts = are_placed_one (is_backed (section_at sections s)) (section_alignment sections sized s) (section_parts sections sized s) inner rs qs h.end g.end h.parts g.parts in
     let file : to.file ≡ end.file = h.file ∙ ap (λ (c : Cursors). c.file) parts.1 ∙ sym g.file in
     let memory : to.memory ≡ end.memory = h.memory ∙ ap (λ (c : Cursors). if allocated then c.memory else from.memory) parts.1 ∙ sym g.memory in
     (parts.0, cursors_one to end file memory)
@@ -110,6 +109,9 @@ steps_one : (start : ℕ → ℕ → ℕ → ℕ) (plan : Plan) (sized : List Si
     → Steps start plan sized placed e from to → Steps start plan sized others e from end → to ≡ end
 steps_one start plan sized placed others (SegmentStart i) from to end h g = cursors_one to end (h.0 ∙ sym g.0) (h.1 ∙ sym g.1)
 steps_one start plan sized placed others (SegmentEnd i) from to end h g = h ∙ sym g
+steps_one start plan sized placed others (SetLocation x) from to end h g = h ∙ sym g
+steps_one start plan sized placed others (SetLocationRelative x t) from to end h g = h ∙ sym g
+steps_one start plan sized placed others (SetSectionAddress x) from to end h g = h ∙ sym g
 steps_one start plan sized placed others (Section s) from to end h g =
     (places_section_one plan.sections sized s from (slice_index_or placed s []) (slice_index_or others s []) to end h g).1
 

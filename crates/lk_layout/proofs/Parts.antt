@@ -1,9 +1,10 @@
 -- Facts on the parts of a section.
-use Rattle.std.proofs.Common.{◌≤◌, max, List, [], ◌∷◌, arith, true, false, cond}
+use Rattle.std.proofs.Common.{ℕ, ◌≤◌, max, List, [], ◌∷◌, arith, true, false, cond}
 use Rattle.lk_layout.specs.declared.sections.SizedPart.{SizedPart}
 use Rattle.lk_layout.specs.Sections.{greatest_alignment, has_bytes}
 
--- the greatest alignment is at least 1
-pub greatest_pos : (ps : List SizedPart) → 1 ≤ greatest_alignment ps
-greatest_pos [] = omega arith
-greatest_pos (p ∷ ps) = elim (has_bytes p) as (λ b. 1 ≤ cond b (max p.alignment (greatest_alignment ps)) (greatest_alignment ps)) [ true ↦ omega (arith, greatest_pos ps) | false ↦ greatest_pos ps ]
+-- the greatest alignment is at least the one that it is to be at least
+pub greatest_reaches : (least : ℕ) (ps : List SizedPart) → least ≤ greatest_alignment least ps
+greatest_reaches least [] = omega arith
+greatest_reaches least (p ∷ ps) =
+    elim (has_bytes p) as (λ b. least ≤ cond b (max p.alignment (greatest_alignment least ps)) (greatest_alignment least ps)) [ true ↦ omega (arith, greatest_reaches least ps) | false ↦ greatest_reaches least ps ]

@@ -1,11 +1,9 @@
 -- Facts on the parts of the sections, by number.
-use Rattle.std.proofs.Common.{◌≡◌, ℕ, zero, suc, ◌+◌, ◌≤◌, ◌<◌, List, [], ◌∷◌, length, take, arith, true, ap, ◌∙◌, add-one, length-append}
-use Rattle.std.specs.List.{list_all}
+use Rattle.std.proofs.Common.{◌≡◌, ℕ, zero, suc, ◌+◌, ◌≤◌, ◌<◌, List, [], ◌∷◌, length, take, arith, ap, ◌∙◌, add-one, length-append}
 use Rattle.std.proofs.lemmas.Bool.Decides.{nat_tests}
 use Rattle.lk_link.specs.declared.plan.PlanSection.{PlanSection}
 use Rattle.lk_link.specs.Parts.{all_parts, first_part}
-use Rattle.lk_link.specs.Rules.{is_good_section}
-use Rattle.lk_layout.specs.Placement.{section_at}
+use Rattle.lk_layout.specs.Sections.{HaveParts, section_at}
 
 -- one section more at the front
 first_part-cons : (x : PlanSection) (xs : List PlanSection) (s : ℕ) → first_part (x ∷ xs) (suc s) ≡ length x.parts + first_part xs s
@@ -26,10 +24,10 @@ first_part-le [] (suc s) = omega arith
 first_part-le (x ∷ xs) zero = omega arith
 first_part-le (x ∷ xs) (suc s) = omega (arith, first_part-cons x xs s, first_part-le xs s, length-append x.parts (all_parts xs))
 
--- a good section has a part
-pub good-parts : (sections : List PlanSection) (s : ℕ) → list_all is_good_section sections ≡ true → s < length sections → 0 < length (section_at sections s).parts
-good-parts [] s good h = absurd (omega arith)
-good-parts (x ∷ xs) zero good h = grind (arith, nat_tests)
-good-parts (x ∷ xs) (suc s) good h = good-parts xs s (grind arith) (omega arith)
+-- each section has a part
+pub have_parts : (sections : List PlanSection) (s : ℕ) → HaveParts sections → s < length sections → 0 < length (section_at sections s).parts
+have_parts [] s good h = absurd (omega arith)
+have_parts (x ∷ xs) zero good h = grind (arith, nat_tests)
+have_parts (x ∷ xs) (suc s) good h = have_parts xs s (grind arith) (omega arith)
 
-pub ruleset section_parts_facts = (first_part-suc, first_part-le, good-parts)
+pub ruleset section_parts_facts = (first_part-suc, first_part-le, have_parts)

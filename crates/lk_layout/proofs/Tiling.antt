@@ -7,9 +7,10 @@ use Rattle.std.proofs.lemmas.Bool.{cases_lt}
 use Rattle.std.proofs.lemmas.Nat.Gcd.{dvd-zero}
 use Rattle.std.proofs.Math.Nat.{dvd-add}
 use Rattle.lk_link.specs.Powers.{alignment-pos}
+use Rattle.lk_link.specs.Sizes.{capacity}
 use Rattle.lk_link.specs.Starts.{next_multiple_is_least}
 use Rattle.lk_link.specs.declared.plan.PlanPart.{PlanPart}
-use Rattle.lk_layout.specs.Owners.{Owner, owner, owners_of, owner_address, bytes_of, capacity}
+use Rattle.lk_layout.specs.Owners.{Owner, owner, owners_of, owner_address, bytes_of}
 use Rattle.lk_layout.specs.Tiles.{HasByte, OwnersTileTheirPart, OwnersAreAligned}
 use Rattle.lk_layout.specs.Units.{Input}
 

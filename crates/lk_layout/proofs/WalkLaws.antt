@@ -7,7 +7,7 @@ use Rattle.std.specs.List.{enumerate_from, list_all, slice_index_or}
 use Rattle.lk_link.specs.declared.plan.Plan.{Plan}
 use Rattle.lk_link.specs.declared.plan.PlanSection.{PlanSection}
 use Rattle.lk_link.specs.declared.plan.OrderEvent.{OrderEvent}
-use Rattle.lk_link.specs.declared.plan.OrderEvent.TheVariants.{SegmentStart, SegmentEnd, Section}
+use Rattle.lk_link.specs.declared.plan.OrderEvent.TheVariants.{SegmentStart, SegmentEnd, Section, SetLocation, SetLocationRelative, SetSectionAddress}
 use Rattle.lk_link.specs.Files.{first_at, first_some}
 use Rattle.lk_link.specs.Parts.{first_part}
 use Rattle.lk_link.specs.Rules.{is_section}
@@ -16,12 +16,12 @@ use Rattle.lk_link.specs.WellFormed.{IsEventOrder}
 use Rattle.lk_layout.specs.declared.cursors.Cursors.{Cursors}
 use Rattle.lk_layout.specs.declared.sections.SizedPart.{SizedPart}
 use Rattle.lk_layout.specs.Attributes.{is_backed}
-use Rattle.lk_layout.specs.Placement.{IsPlacedAt, FollowOn, ArePlaced, PlacesSection, Steps, IsPlaced, behind, resting, first_walked, size_at, section_at, at_start, is_fit, step_fits, overflowing_event}
+use Rattle.lk_layout.specs.Placement.{IsPlacedAt, FollowOn, ArePlaced, PlacesSection, Steps, IsPlaced, behind, resting, first_walked, size_at, at_start, is_fit, step_fits, overflowing_event}
 use Rattle.lk_layout.specs.Records.{Record}
-use Rattle.lk_layout.specs.Sections.{AllAligned, has_bytes, section_parts, greatest_alignment}
+use Rattle.lk_layout.specs.Sections.{AllAligned, has_bytes, section_at, section_parts, section_alignment}
 use Rattle.lk_layout.specs.Walk.{placed_at, next_record, next_cursors, following, followed, first_record, part_records, part_end, section_start, section_records, section_end, stepped, states_from, records_after, event_fits, overflow_from, walk_start}
 use Rattle.lk_layout.proofs.Numbers.{made_at, length-made}
-use Rattle.lk_layout.proofs.Parts.{greatest_pos}
+use Rattle.lk_layout.proofs.Parts.{greatest_reaches}
 
 -- ---- one section
 
@@ -48,26 +48,30 @@ following_is backed g first from (p ∷ ps) h aligned =
 drop_aligned : (n : ℕ) (ps : List SizedPart) → AllAligned ps → AllAligned (drop n ps)
 drop_aligned n ps aligned = λ k d b. subst (λ (p : SizedPart). 0 < p.alignment) (sym (get_or-drop n ps k d)) (aligned (n + k) d (omega (arith, length-drop n ps)))
 
-parts_are : (backed : Bool) (ps : List SizedPart) (from : Cursors) → AllAligned ps → ArePlaced backed ps from (part_records backed ps from) (part_end backed ps from)
+parts_are : (backed : Bool) (greatest : ℕ) (ps : List SizedPart) (from : Cursors) → 0 < greatest → AllAligned ps → ArePlaced backed greatest ps from (part_records backed greatest ps from) (part_end backed greatest ps from)
 unfolding part_records part_end
-parts_are backed ps from aligned =
-    let greatest : 0 < greatest_alignment ps = omega (arith, greatest_pos ps) in
-    let first : Record = first_record backed ps from in
+parts_are backed greatest ps from positive aligned =
+    let first : Record = first_record backed greatest ps from in
     record {
       first = first;
-      later = following backed (greatest_alignment ps) first (behind first) (drop (first_walked ps + 1) ps);
-      starts = placed_at_is backed (greatest_alignment ps) (size_at ps (first_walked ps)) from greatest;
-      follow = following_is backed (greatest_alignment ps) first (behind first) (drop (first_walked ps + 1) ps) greatest (drop_aligned (first_walked ps + 1) ps aligned);
+      later = following backed greatest first (behind first) (drop (first_walked ps + 1) ps);
+      starts = placed_at_is backed greatest (size_at ps (first_walked ps)) from positive;
+      follow = following_is backed greatest first (behind first) (drop (first_walked ps + 1) ps) positive (drop_aligned (first_walked ps + 1) ps aligned);
       all = refl;
     }
 
-section_is : (sections : List PlanSection) (sized : List SizedPart) (s : ℕ) (from : Cursors) → AllAligned (section_parts sections sized s) → PlacesSection sections sized s from (section_records sections sized s from) (section_end sections sized s from)
+-- the alignments of a section and of its parts are above 0
+pub record IsAligned (sections : List PlanSection) (sized : List SizedPart) (s : ℕ) : Type 0 where
+  pub greatest : 0 < section_alignment sections sized s
+  pub parts : AllAligned (section_parts sections sized s)
+
+section_is : (sections : List PlanSection) (sized : List SizedPart) (s : ℕ) (from : Cursors) → IsAligned sections sized s → PlacesSection sections sized s from (section_records sections sized s from) (section_end sections sized s from)
 section_is sections sized s from aligned =
     let start : Cursors = section_start (section_at sections s) from in
     let backed : Bool = is_backed (section_at sections s) in
     record {
-      end = part_end backed (section_parts sections sized s) start;
-      parts = parts_are backed (section_parts sections sized s) start aligned;
+      end = part_end backed (section_alignment sections sized s) (section_parts sections sized s) start;
+      parts = parts_are backed (section_alignment sections sized s) (section_parts sections sized s) start aligned.greatest aligned.parts;
       file = refl;
       memory = refl;
     }
@@ -112,6 +116,9 @@ is_section-true : (s : ℕ) (e : OrderEvent) → is_section s e ≡ true → e �
 is_section-true s (SegmentStart i) h = absurd (cc)
 is_section-true s (SegmentEnd i) h = absurd (cc)
 is_section-true s (Section t) h = ap (λ (n : ℕ). Section n) (eqb-true t s h)
+is_section-true s (SetLocation x) h = absurd (cc)
+is_section-true s (SetLocationRelative x t) h = absurd (cc)
+is_section-true s (SetSectionAddress x) h = absurd (cc)
 
 records_absent : (start : ℕ → ℕ → ℕ → ℕ) (plan : Plan) (sized : List SizedPart) (es : List OrderEvent) (c : Cursors) (s : ℕ) (before : List Record) → Absent s es → records_after start plan sized es c s before ≡ before
 unfolding records_after
@@ -140,17 +147,20 @@ records_at start plan sized (e ∷ es) c d s before (suc k) h once =
 -- ---- the placement
 
 -- one event of the walk
-event_is : (start : ℕ → ℕ → ℕ → ℕ) (plan : Plan) (sized : List SizedPart) (placed : List (List Record)) (e : OrderEvent) (from to : Cursors) → ((s : ℕ) → AllAligned (section_parts plan.sections sized s)) → to ≡ stepped start plan sized e from
+event_is : (start : ℕ → ℕ → ℕ → ℕ) (plan : Plan) (sized : List SizedPart) (placed : List (List Record)) (e : OrderEvent) (from to : Cursors) → ((s : ℕ) → IsAligned plan.sections sized s) → to ≡ stepped start plan sized e from
     → ((s : ℕ) → e ≡ Section s → slice_index_or placed s [] ≡ section_records plan.sections sized s from) → Steps start plan sized placed e from to
 unfolding stepped
 event_is start plan sized placed (SegmentStart i) from to aligned is rows = (ap (λ (c : Cursors). c.file) is, ap (λ (c : Cursors). c.memory) is)
 event_is start plan sized placed (SegmentEnd i) from to aligned is rows = is
+event_is start plan sized placed (SetLocation x) from to aligned is rows = is
+event_is start plan sized placed (SetLocationRelative x t) from to aligned is rows = is
+event_is start plan sized placed (SetSectionAddress x) from to aligned is rows = is
 event_is start plan sized placed (Section s) from to aligned is rows =
     subst (λ (rs : List Record). PlacesSection plan.sections sized s from rs to) (sym (rows s refl))
     (subst (λ (c : Cursors). PlacesSection plan.sections sized s from (section_records plan.sections sized s from) c) (sym is)
     (section_is plan.sections sized s from (aligned s)))
 
-walk_steps : (start : ℕ → ℕ → ℕ → ℕ) (plan : Plan) (sized : List SizedPart) (placed : List (List Record)) → ((s : ℕ) → AllAligned (section_parts plan.sections sized s)) → IsEventOrder plan
+walk_steps : (start : ℕ → ℕ → ℕ → ℕ) (plan : Plan) (sized : List SizedPart) (placed : List (List Record)) → ((s : ℕ) → IsAligned plan.sections sized s) → IsEventOrder plan
     → ((s : ℕ) → slice_index_or placed s [] ≡ records_after start plan sized plan.events (walk_start plan) s [])
     → (k : ℕ) (e : OrderEvent) → slice_get plan.events k ≡ Some e
     → Steps start plan sized placed e (slice_index_or (states_from start plan sized plan.events (walk_start plan)) k at_start) (slice_index_or (states_from start plan sized plan.events (walk_start plan)) (k + 1) at_start)
@@ -160,10 +170,10 @@ walk_steps start plan sized placed aligned order records k e h =
     (ap (λ (n : ℕ). slice_index_or states n at_start) (add-one k) ∙ state_steps start plan sized plan.events (walk_start plan) at_start k e h)
     (λ s is.
     let here : slice_get plan.events k ≡ Some (Section s) = h ∙ ap (λ (x : OrderEvent). Some x) is in
-    records s ∙ records_at start plan sized plan.events (walk_start plan) at_start s [] k here (λ j g. order.once j k (Section s) g here))
+    records s ∙ records_at start plan sized plan.events (walk_start plan) at_start s [] k here (λ j g. order.once j k (Section s) tt g here))
 
 -- the sections that the events name are there, with parts that are aligned
-pub walk_is_placed : (start : ℕ → ℕ → ℕ → ℕ) (plan : Plan) (sized : List SizedPart) (placed : List (List Record)) → ((s : ℕ) → AllAligned (section_parts plan.sections sized s)) → IsEventOrder plan → length placed ≡ length plan.sections
+pub walk_is_placed : (start : ℕ → ℕ → ℕ → ℕ) (plan : Plan) (sized : List SizedPart) (placed : List (List Record)) → ((s : ℕ) → IsAligned plan.sections sized s) → IsEventOrder plan → length placed ≡ length plan.sections
     → ((s : ℕ) → slice_index_or placed s [] ≡ records_after start plan sized plan.events (walk_start plan) s [])
     → IsPlaced start plan sized (states_from start plan sized plan.events (walk_start plan)) placed
 walk_is_placed start plan sized placed aligned order rows records = record {
@@ -180,6 +190,9 @@ fits_same : (start : ℕ → ℕ → ℕ → ℕ) (plan : Plan) (sized : List Si
 unfolding stepped event_fits
 fits_same start plan sized placed (SegmentStart i) from to is rows = sym (ap (λ (c : Cursors). nat_lt c.memory (2 ^ 64)) is)
 fits_same start plan sized placed (SegmentEnd i) from to is rows = refl
+fits_same start plan sized placed (SetLocation x) from to is rows = refl
+fits_same start plan sized placed (SetLocationRelative x t) from to is rows = refl
+fits_same start plan sized placed (SetSectionAddress x) from to is rows = refl
 fits_same start plan sized placed (Section s) from to is rows = sym (ap (list_all is_fit) (rows s refl))
 
 overflow_same : (start : ℕ → ℕ → ℕ → ℕ) (plan : Plan) (sized : List SizedPart) (placed : List (List Record)) (states : List Cursors) (es : List OrderEvent) (c : Cursors) (i : ℕ)
@@ -208,7 +221,7 @@ pub overflow_is : (start : ℕ → ℕ → ℕ → ℕ) (plan : Plan) (sized : L
 overflow_is start plan sized placed order records =
     overflow_same start plan sized placed (states_from start plan sized plan.events (walk_start plan)) plan.events (walk_start plan) 0
     (λ j. ap (λ (n : ℕ). slice_index_or (states_from start plan sized plan.events (walk_start plan)) n at_start) (zero-add j))
-    (λ k s h. records s ∙ records_at start plan sized plan.events (walk_start plan) at_start s [] k h (λ j g. order.once j k (Section s) g h))
+    (λ k s h. records s ∙ records_at start plan sized plan.events (walk_start plan) at_start s [] k h (λ j g. order.once j k (Section s) tt g h))
 
 -- ---- aligned parts
 
@@ -217,10 +230,12 @@ take_aligned n ps aligned = λ k d below.
     let inside : k < n = omega (arith, length-take n ps) in
     subst (λ (p : SizedPart). 0 < p.alignment) (sym (get_or-take n ps k d inside)) (aligned k d (omega (arith, length-take n ps)))
 
--- the parts of a section are aligned where all are
-pub section_aligned : (sections : List PlanSection) (sized : List SizedPart) → AllAligned sized → (s : ℕ) → AllAligned (section_parts sections sized s)
-section_aligned sections sized aligned s =
-    take_aligned (first_part sections (s + 1) - first_part sections s) (drop (first_part sections s) sized) (drop_aligned (first_part sections s) sized aligned)
+-- a section and its parts are aligned where all are
+pub section_aligned : (sections : List PlanSection) (sized : List SizedPart) → ((s : ℕ) → 0 < (section_at sections s).align) → AllAligned sized → (s : ℕ) → IsAligned sections sized s
+section_aligned sections sized positive aligned s = record {
+  greatest = omega (arith, positive s, greatest_reaches (section_at sections s).align (section_parts sections sized s));
+  parts = take_aligned (first_part sections (s + 1) - first_part sections s) (drop (first_part sections s) sized) (drop_aligned (first_part sections s) sized aligned);
+}
 
 -- ---- the rows as a list
 

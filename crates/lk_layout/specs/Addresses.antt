@@ -1,6 +1,6 @@
 -- How live sections get their addresses, part by part.
 use Rattle.std.specs.Prelude.{◌≡◌, ℕ, ◌+◌, ◌^◌, ◌<◌, List, ◌++◌, length, slice_index}
-use Rattle.lk_link.specs.declared.file.InputSection.{InputSection}
+use Rattle.lk_link.specs.declared.section.InputSection.{InputSection}
 use Rattle.lk_link.specs.declared.plan.PlanPart.{PlanPart}
 use Rattle.lk_layout.specs.declared.live.LiveSection.{LiveSection}
 use Rattle.lk_layout.specs.LiveSections.{part_at, live_sections}

@@ -1,5 +1,6 @@
 pub mod Addresses
 pub mod Attributes
+pub mod Carried
 pub mod Defined
 pub mod Errors
 pub mod Laws

@@ -1,15 +1,11 @@
 -- Who takes the bytes of a part, and where each stands.
 use Rattle.std.specs.Prelude.{ℕ, zero, suc, ◌+◌, ◌-◌, ◌^◌, ◌==◌, ◌&&◌, Bool, if◌then◌else◌, List, length, take, map, filter, sum, sum_by, Option, Some, None, nat_lt}
-use Rattle.std.specs.Int.{next_multiple_of}
 use Rattle.std.specs.List.{enumerate_from, list_any}
 use Rattle.lk_link.specs.declared.ids.FileId.{FileId}
 use Rattle.lk_link.specs.declared.plan.PlanPart.{PlanPart}
 use Rattle.lk_link.specs.Files.{first_some}
+use Rattle.lk_link.specs.Sizes.{capacity}
 use Rattle.lk_layout.specs.Units.{Input}
-
--- the bytes that a size takes in a part (libwild: `Section::capacity`)
-abbrev pub capacity : PlanPart → ℕ → ℕ
-capacity part size = if part.packed then size else next_multiple_of size part.alignment
 
 -- one that takes bytes of a part
 pub record Owner : Type 0 where

@@ -2,18 +2,20 @@
 use Rattle.std.specs.Prelude.{◌≡◌, ℕ, ◌+◌, ◌^◌, ◌&&◌, Bool, true, MatchBool, if◌then◌else◌, List, [], ◌∷◌, ◌++◌, length, take, drop, map, min, nat_lt, slice_get, Option, Some, None, unwrap_or, position}
 use Rattle.std.specs.List.{list_all, slice_index_or}
 use Rattle.lk_link.specs.declared.expression.Expression.{Expression}
-use Rattle.lk_link.specs.declared.expression.Expression.TheVariants.{Number}
 use Rattle.lk_link.specs.declared.plan.Plan.{Plan}
 use Rattle.lk_link.specs.declared.plan.PlanSection.{PlanSection}
+use Rattle.lk_link.specs.declared.plan.PlanSegment.{PlanSegment}
 use Rattle.lk_link.specs.declared.plan.OrderEvent.{OrderEvent}
-use Rattle.lk_link.specs.declared.plan.OrderEvent.TheVariants.{SegmentStart, SegmentEnd, Section}
+use Rattle.lk_link.specs.declared.plan.OrderEvent.TheVariants.{SegmentStart, Section}
 use Rattle.lk_link.specs.Alignments.{IsLeastMultiple}
+use Rattle.lk_link.specs.Expressions.{as_number}
 use Rattle.lk_link.specs.Files.{first_at}
 use Rattle.lk_layout.specs.declared.cursors.Cursors.{Cursors}
+use Rattle.lk_layout.specs.declared.sections.Alignments.{Alignments}
 use Rattle.lk_layout.specs.declared.sections.SizedPart.{SizedPart}
 use Rattle.lk_layout.specs.Records.{Record, file_end, mem_end}
 use Rattle.lk_layout.specs.Attributes.{is_allocated, is_backed}
-use Rattle.lk_layout.specs.Sections.{has_bytes, section_parts, greatest_alignment, greatest_of, sections_inside, segment_insides}
+use Rattle.lk_layout.specs.Sections.{has_bytes, section_at, section_parts, section_alignment, section_alignments, greatest_of, sections_inside, segment_at, segment_insides, is_load}
 
 -- ---- one section
 
@@ -55,43 +57,53 @@ size_at ps k = (slice_index_or ps k (record { alignment = 1; size = 0 })).size
 
 -- the parts of a section stand one behind the other: the first walked one at the section's greatest alignment, and the
 -- parts before it, which have no bytes, where it starts
-pub record ArePlaced (backed : Bool) (ps : List SizedPart) (from : Cursors) (rs : List Record) (to : Cursors) : Type 0 where
+pub record ArePlaced (backed : Bool) (greatest : ℕ) (ps : List SizedPart) (from : Cursors) (rs : List Record) (to : Cursors) : Type 0 where
   pub first : Record
   pub later : List Record
-  pub starts : IsPlacedAt backed (greatest_alignment ps) (size_at ps (first_walked ps)) from first
-  pub follow : FollowOn backed (greatest_alignment ps) first (behind first) (drop (first_walked ps + 1) ps) later to
+  pub starts : IsPlacedAt backed greatest (size_at ps (first_walked ps)) from first
+  pub follow : FollowOn backed greatest first (behind first) (drop (first_walked ps + 1) ps) later to
   pub all : rs ≡ map (resting first) (take (first_walked ps) ps) ++ first ∷ later
 
 -- ---- the walk
 
--- where memory starts
+-- where memory starts: at the number that is given (another base isn't carried)
 abbrev pub base_of : Expression → ℕ
-base_of (Number n) = n
-
--- the section with this number
-abbrev pub section_at : List PlanSection → ℕ → PlanSection
-section_at sections s = slice_index_or sections s (record { name = []; attrs = 0; parts = [] })
+base_of e = unwrap_or (as_number e) 0
 
 -- a section's parts are placed from the cursors on, in memory if it is allocated, else by a counter of its own from 0
 pub record PlacesSection (sections : List PlanSection) (sized : List SizedPart) (s : ℕ) (from : Cursors) (rs : List Record) (to : Cursors) : Type 0 where
   pub end : Cursors
-  pub parts : ArePlaced (is_backed (section_at sections s)) (section_parts sections sized s) (record { file = from.file; memory = if is_allocated (section_at sections s) then from.memory else 0 }) rs end
+  pub parts : ArePlaced (is_backed (section_at sections s)) (section_alignment sections sized s) (section_parts sections sized s) (record { file = from.file; memory = if is_allocated (section_at sections s) then from.memory else 0 }) rs end
   pub file : to.file ≡ end.file
   pub memory : to.memory ≡ (if is_allocated (section_at sections s) then end.memory else from.memory)
 
--- a load segment is placed at the greatest of the page and the alignments inside
+-- a load segment is placed at the greatest of the page and the alignments of the sections inside
 abbrev pub place_alignment : Plan → List SizedPart → ℕ → ℕ
-place_alignment plan sized i = greatest_of plan.page (section_parts plan.sections sized) (sections_inside plan.events i)
+place_alignment plan sized i = greatest_of plan.page (section_alignments plan.sections sized) (sections_inside plan.events i)
 
 -- those of all segments, by number
 abbrev pub place_alignments : Plan → List SizedPart → List ℕ
-place_alignments plan sized = map (greatest_of plan.page (section_parts plan.sections sized)) (segment_insides plan)
+place_alignments plan sized = map (greatest_of plan.page (section_alignments plan.sections sized)) (segment_insides plan)
 
--- what an event makes of the cursors, by the platform's rule for the start of a load segment
+-- the alignments of all sections and all segments
+abbrev pub alignments_of : Plan → List SizedPart → Alignments
+alignments_of plan sized = record { sections = section_alignments plan.sections sized; segments = place_alignments plan sized }
+
+-- where memory stands when a segment opens: a load segment begins where the platform lets it, by this alignment, and
+-- another moves nothing
+abbrev pub memory_at : (ℕ → ℕ → ℕ → ℕ) → ℕ → PlanSegment → Cursors → ℕ
+memory_at start place segment from = if is_load segment.kind then start place from.file from.memory else from.memory
+
+-- that of the segment with this number, at its place alignment
+abbrev pub opened_at : (ℕ → ℕ → ℕ → ℕ) → Plan → List SizedPart → ℕ → Cursors → ℕ
+opened_at start plan sized i from = memory_at start (place_alignment plan sized i) (segment_at plan.segments i) from
+
+-- what an event makes of the cursors, by the platform's rule for the start of a load segment; one that moves the location
+-- leaves them as they are
 abbrev pub Steps : (ℕ → ℕ → ℕ → ℕ) → Plan → List SizedPart → List (List Record) → OrderEvent → Cursors → Cursors → Type 0
-Steps start plan sized placed (SegmentStart i) from to = (to.file ≡ from.file) × (to.memory ≡ start (place_alignment plan sized i) from.file from.memory)
-Steps start plan sized placed (SegmentEnd i) from to = to ≡ from
+Steps start plan sized placed (SegmentStart i) from to = (to.file ≡ from.file) × (to.memory ≡ opened_at start plan sized i from)
 Steps start plan sized placed (Section s) from to = PlacesSection plan.sections sized s from (slice_index_or placed s []) to
+Steps start plan sized placed _ from to = to ≡ from
 
 abbrev pub at_start : Cursors
 at_start = record { file = 0; memory = 0 }
@@ -109,11 +121,11 @@ pub record IsPlaced (start : ℕ → ℕ → ℕ → ℕ) (plan : Plan) (sized :
 abbrev pub is_fit : Record → Bool
 is_fit r = nat_lt (file_end r) (2 ^ 64) && nat_lt (mem_end r) (2 ^ 64)
 
--- whether the numbers of an event are below 2^64: the ends of the parts that it places, and where memory begins
+-- whether the numbers of an event are below 2^64: the ends of the parts that it places, and where memory stands
 abbrev pub step_fits : List (List Record) → Cursors → OrderEvent → Bool
 step_fits placed to (SegmentStart i) = nat_lt to.memory (2 ^ 64)
-step_fits placed to (SegmentEnd i) = true
 step_fits placed to (Section s) = list_all is_fit (slice_index_or placed s [])
+step_fits placed to _ = true
 
 -- the first event with a number past 2^64 - 1
 abbrev pub overflowing_event : List OrderEvent → List Cursors → List (List Record) → Option ℕ

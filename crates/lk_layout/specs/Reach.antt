@@ -1,6 +1,7 @@
 -- What is reached, and so kept.
 use Rattle.std.specs.Prelude.{◌≡◌, ◌⊎◌, List, [], ◌∷◌, Contains, true}
 use Rattle.lk_link.specs.declared.link.LinkInput.{LinkInput}
+use Rattle.lk_layout.specs.Carried.{IsCarried}
 use Rattle.lk_layout.specs.Units.{Input, LinkUnit, Sec, ForUnit, roots, follows, all_inputs, is_must}
 
 -- each unit asks for the next, from the first on to the last
@@ -29,10 +30,10 @@ AreThose {X} P (x ∷ xs) ys = (P x × (zs : List X) × (ys ≡ x ∷ zs) × Are
 abbrev pub AreLive : LinkInput → List Input → Type 0
 AreLive link live = AreThose (IsLive link) (all_inputs link) live
 
--- each link has live sections: all of them, since the slot of each keeps it
+-- a link of which all is carried has live sections: all of them, since the slot of each keeps it
 abbrev pub LiveSectionsExist : Type 0
-LiveSectionsExist = (link : LinkInput) → AreLive link (all_inputs link)
+LiveSectionsExist = (link : LinkInput) → IsCarried link → AreLive link (all_inputs link)
 
--- and no other list
+-- a link has no two lists of live sections
 abbrev pub LiveSectionsAreOne : Type 0
 LiveSectionsAreOne = (link : LinkInput) (a b : List Input) → AreLive link a → AreLive link b → a ≡ b

@@ -4,15 +4,19 @@ use Rattle.lk_link.specs.declared.plan.PlanPart.{PlanPart}
 use Rattle.lk_layout.specs.declared.owners.Sizes.{Sizes}
 use Rattle.lk_layout.specs.declared.owners.SizeError.{SizeError}
 use Rattle.lk_layout.specs.declared.owners.SizeError.TheVariants.{Overflow, NoMemory}
+use Rattle.lk_layout.specs.Attributes.{part_attributes}
 use Rattle.lk_layout.specs.Owners.{part_sizes, overflowing_part, has_empty}
 use Rattle.lk_layout.specs.Units.{Input}
 
--- the sizes of parts, which stay below 2^64 together, and which parts have a live section without bytes
+-- the sizes of parts, which stay below 2^64 together, which parts have a live section without bytes, and the attributes of
+-- their live sections
 pub record AreSizes (live : List Input) (parts : List PlanPart) (sizes : Sizes) : Type 0 where
   pub bytes : sizes.bytes ≡ part_sizes live parts
   pub fit : overflowing_part (part_sizes live parts) ≡ None
   pub count : length sizes.has_empty ≡ length parts
   pub empty : (p : ℕ) → p < length parts → slice_get sizes.has_empty p ≡ Some (has_empty live p)
+  pub attrs_count : length sizes.attrs ≡ length parts
+  pub attrs : (p : ℕ) → p < length parts → slice_get sizes.attrs p ≡ Some (part_attributes live p)
 
 -- what sizing answers: the sizes, or the first part that passes 2^64 - 1; nothing for want of memory
 abbrev pub GivesSizes : Result Sizes SizeError → List Input → List PlanPart → Type 0

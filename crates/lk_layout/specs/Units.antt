@@ -1,11 +1,11 @@
 -- What can be kept, and what asks for it.
-use Rattle.std.specs.Prelude.{ℕ, ◌+◌, List, [], ◌∷◌, ◌++◌, map, filter, Bool, true}
+use Rattle.std.specs.Prelude.{ℕ, ◌+◌, List, [], ◌∷◌, ◌++◌, map, filter, Bool, true, false}
 use Rattle.lk_link.specs.declared.ids.FileId.{FileId}
 use Rattle.lk_link.specs.declared.file.InputFile.{InputFile}
-use Rattle.lk_link.specs.declared.file.InputSection.{InputSection}
-use Rattle.lk_link.specs.declared.file.SectionSlot.{SectionSlot}
-use Rattle.lk_link.specs.declared.file.SectionSlot.TheVariants.{MustLoad}
 use Rattle.lk_link.specs.declared.link.LinkInput.{LinkInput}
+use Rattle.lk_link.specs.declared.section.InputSection.{InputSection}
+use Rattle.lk_link.specs.declared.section.InputSlot.{InputSlot}
+use Rattle.lk_link.specs.declared.section.InputSlot.TheVariants.{MustLoad}
 
 -- an input section, with its file and its index there
 pub record Input : Type 0 where
@@ -44,8 +44,9 @@ abbrev pub ask_for : Input → Ask
 ask_for x = ForUnit (Sec x.file x.index)
 
 -- whether a section is kept without being asked for
-abbrev pub is_must : SectionSlot → Bool
+abbrev pub is_must : InputSlot → Bool
 is_must MustLoad = true
+is_must _ = false
 
 -- what is asked for by the files themselves, in order (libwild: `activate`)
 abbrev pub roots : LinkInput → List Ask

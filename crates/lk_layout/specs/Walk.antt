@@ -6,15 +6,15 @@ use Rattle.std.specs.List.{list_all}
 use Rattle.lk_link.specs.declared.plan.Plan.{Plan}
 use Rattle.lk_link.specs.declared.plan.PlanSection.{PlanSection}
 use Rattle.lk_link.specs.declared.plan.OrderEvent.{OrderEvent}
-use Rattle.lk_link.specs.declared.plan.OrderEvent.TheVariants.{SegmentStart, SegmentEnd, Section}
+use Rattle.lk_link.specs.declared.plan.OrderEvent.TheVariants.{SegmentStart, Section}
 use Rattle.lk_link.specs.Rules.{is_section}
 use Rattle.std.specs.Prelude.{Option, Some, None, nat_lt, ◌^◌, true}
 use Rattle.lk_layout.specs.declared.cursors.Cursors.{Cursors}
 use Rattle.lk_layout.specs.declared.sections.SizedPart.{SizedPart}
-use Rattle.lk_layout.specs.Placement.{behind, resting, first_walked, size_at, section_at, place_alignment, is_fit, base_of}
+use Rattle.lk_layout.specs.Placement.{behind, resting, first_walked, size_at, opened_at, is_fit, base_of}
 use Rattle.lk_layout.specs.Records.{Record}
 use Rattle.lk_layout.specs.Attributes.{is_allocated, is_backed}
-use Rattle.lk_layout.specs.Sections.{has_bytes, section_parts, greatest_alignment}
+use Rattle.lk_layout.specs.Sections.{has_bytes, section_at, section_parts, section_alignment}
 
 -- the record of a part that is placed from the cursors on
 unfoldable pub placed_at : Bool → ℕ → ℕ → Cursors → Record
@@ -46,37 +46,43 @@ followed backed greatest from [] = from
 followed backed greatest from (p ∷ ps) = followed backed greatest (next_cursors backed greatest from p) ps
 
 -- the record of a section's first walked part
-abbrev pub first_record : Bool → List SizedPart → Cursors → Record
-first_record backed ps from = placed_at backed (greatest_alignment ps) (size_at ps (first_walked ps)) from
+abbrev pub first_record : Bool → ℕ → List SizedPart → Cursors → Record
+first_record backed greatest ps from = placed_at backed greatest (size_at ps (first_walked ps)) from
 
 -- the records of a section's parts
-unfoldable pub part_records : Bool → List SizedPart → Cursors → List Record
-part_records backed ps from =
-    map (resting (first_record backed ps from)) (take (first_walked ps) ps)
-    ++ first_record backed ps from ∷ following backed (greatest_alignment ps) (first_record backed ps from) (behind (first_record backed ps from)) (drop (first_walked ps + 1) ps)
+unfoldable pub part_records : Bool → ℕ → List SizedPart → Cursors → List Record
+part_records backed greatest ps from =
+    map (resting (first_record backed greatest ps from)) (take (first_walked ps) ps)
+    ++ first_record backed greatest ps from ∷ following backed greatest (first_record backed greatest ps from) (behind (first_record backed greatest ps from)) (drop (first_walked ps + 1) ps)
 
 -- the cursors behind them
-unfoldable pub part_end : Bool → List SizedPart → Cursors → Cursors
-part_end backed ps from = followed backed (greatest_alignment ps) (behind (first_record backed ps from)) (drop (first_walked ps + 1) ps)
+unfoldable pub part_end : Bool → ℕ → List SizedPart → Cursors → Cursors
+part_end backed greatest ps from = followed backed greatest (behind (first_record backed greatest ps from)) (drop (first_walked ps + 1) ps)
 
 -- where a section's parts begin: an unallocated one counts from 0
 abbrev pub section_start : PlanSection → Cursors → Cursors
 section_start s from = record { file = from.file; memory = if is_allocated s then from.memory else 0 }
 
+-- the records of its parts
 abbrev pub section_records : List PlanSection → List SizedPart → ℕ → Cursors → List Record
-section_records sections sized s from = part_records (is_backed (section_at sections s)) (section_parts sections sized s) (section_start (section_at sections s) from)
+section_records sections sized s from = part_records (is_backed (section_at sections s)) (section_alignment sections sized s) (section_parts sections sized s) (section_start (section_at sections s) from)
 
+-- the cursors behind its parts
+abbrev pub parts_end : List PlanSection → List SizedPart → ℕ → Cursors → Cursors
+parts_end sections sized s from = part_end (is_backed (section_at sections s)) (section_alignment sections sized s) (section_parts sections sized s) (section_start (section_at sections s) from)
+
+-- the cursors behind it: an unallocated one leaves memory where it is
 abbrev pub section_end : List PlanSection → List SizedPart → ℕ → Cursors → Cursors
 section_end sections sized s from = record {
-  file = (part_end (is_backed (section_at sections s)) (section_parts sections sized s) (section_start (section_at sections s) from)).file;
-  memory = if is_allocated (section_at sections s) then (part_end (is_backed (section_at sections s)) (section_parts sections sized s) (section_start (section_at sections s) from)).memory else from.memory;
+  file = (parts_end sections sized s from).file;
+  memory = if is_allocated (section_at sections s) then (parts_end sections sized s from).memory else from.memory;
 }
 
 -- what an event makes of the cursors
 unfoldable pub stepped : (ℕ → ℕ → ℕ → ℕ) → Plan → List SizedPart → OrderEvent → Cursors → Cursors
-stepped start plan sized (SegmentStart i) from = record { file = from.file; memory = start (place_alignment plan sized i) from.file from.memory }
-stepped start plan sized (SegmentEnd i) from = from
+stepped start plan sized (SegmentStart i) from = record { file = from.file; memory = opened_at start plan sized i from }
 stepped start plan sized (Section s) from = section_end plan.sections sized s from
+stepped start plan sized _ from = from
 
 -- the cursors before each event and behind the last
 unfoldable pub states_from : (ℕ → ℕ → ℕ → ℕ) → Plan → List SizedPart → List OrderEvent → Cursors → List Cursors
@@ -90,9 +96,9 @@ records_after start plan sized (e ∷ es) from s before = records_after start pl
 
 -- whether an event's numbers are below 2^64
 unfoldable pub event_fits : (ℕ → ℕ → ℕ → ℕ) → Plan → List SizedPart → OrderEvent → Cursors → Bool
-event_fits start plan sized (SegmentStart i) from = nat_lt (start (place_alignment plan sized i) from.file from.memory) (2 ^ 64)
-event_fits start plan sized (SegmentEnd i) from = true
+event_fits start plan sized (SegmentStart i) from = nat_lt (opened_at start plan sized i from) (2 ^ 64)
 event_fits start plan sized (Section s) from = list_all is_fit (section_records plan.sections sized s from)
+event_fits start plan sized _ from = true
 
 -- the number of the first event with a number past that, counted from k
 unfoldable pub overflow_from : (ℕ → ℕ → ℕ → ℕ) → Plan → List SizedPart → List OrderEvent → Cursors → ℕ → Option ℕ

@@ -6,26 +6,42 @@ ghost use Rattle.std.specs.List.{list_any, slice_index_or};
 ghost use Rattle.lk_link.specs.Files.{first_some};
 ghost use Rattle.lk_link.specs.WellFormed.{IsInRange};
 ghost use Rattle.lk_layout.specs.Sections.{has_bytes};
-ghost use Rattle.lk_layout.specs.Segments.{is_emitted, emitted_marks, output_index};
+ghost use Rattle.lk_layout.specs.Segments.{counted_marks, emits, emitted_marks, is_kept, output_index};
 
 use crate::sections::{SizedPart, parts_of};
-use lk_link::plan::{OrderEvent, Plan, PlanSections};
+use lk_link::list::List;
+use lk_link::plan::{Emit, OrderEvent, Plan, PlanSections};
 use std::alloc::{AllocError, Global};
 
-/// Whether a section is emitted: one of its parts has bytes, or a live section without bytes.
-fn is_section_emitted(
-    sections: &PlanSections,
-    sized: &[SizedPart],
-    empties: &[bool],
-    section: usize,
-) -> bool
+/// Which output sections are told, and which count for the segments, by number.
+#[derive(Drop)]
+pub struct Marks {
+    /// Whether the section is emitted.
+    pub emitted: List<bool>,
+    /// Whether the section is emitted or has bytes; others are skipped.
+    pub counted: List<bool>,
+}
+
+/// Whether something is kept in a section: one of its parts has bytes, or a live section without bytes.
+fn is_kept(sections: &PlanSections, sized: &[SizedPart], empties: &[bool], section: usize) -> bool
     requires each { length sized.now ≡ length (all_parts sections.now) }
     requires marks { length empties.now ≡ length (all_parts sections.now) }
     requires in_range { section < length sections.now }
-    ensures { result ≡ is_emitted sections.now sized.now empties.now section }
+    ensures { result ≡ is_kept sections.now sized.now empties.now section }
 {
     any_has_bytes(parts_of(sections, sized, section))
         || any_is_set(marks_of(sections, empties, section))
+}
+
+/// Whether a section is emitted, by whether something is kept in it.
+fn emits(emit: Emit, kept: bool) -> bool
+    ensures { result ≡ emits emit kept }
+{
+    match emit {
+        Emit::Auto => kept,
+        Emit::Always => true,
+        Emit::Never => false,
+    }
 }
 
 /// Whether a part has bytes.
@@ -65,10 +81,29 @@ pub(crate) fn mark_emitted(
     ensures { IfOk result (λ emitted. emitted.items ≡ emitted_marks sections.now sized.now empties.now) }
 {
     let mut emitted = Vec::with_capacity(alloc, sections.len())?;
-    for (number, _) in sections.as_slice().iter().enumerate() {
-        emitted.push(is_section_emitted(sections, sized, empties, number))?;
+    for (number, section) in sections.as_slice().iter().enumerate() {
+        let kept = is_kept(sections, sized, empties, number);
+        emitted.push(emits(section.emit, kept))?;
     }
     Ok(emitted)
+}
+
+/// For each section, whether it counts for the segments: it is emitted or has bytes.
+pub(crate) fn mark_counted(
+    alloc: Global,
+    sections: &PlanSections,
+    sized: &[SizedPart],
+    emitted: &[bool],
+) -> Result<Vec<bool>, AllocError>
+    requires each { length sized.now ≡ length (all_parts sections.now) }
+    requires marks { length emitted.now ≡ length sections.now }
+    ensures { IfOk result (λ counted. counted.items ≡ counted_marks sections.now sized.now emitted.now) }
+{
+    let mut counted = Vec::with_capacity(alloc, sections.len())?;
+    for (number, is_emitted) in emitted.iter().enumerate() {
+        counted.push(*is_emitted || any_has_bytes(parts_of(sections, sized, number)))?;
+    }
+    Ok(counted)
 }
 
 /// Gives an emitted section its index, if it has none yet.

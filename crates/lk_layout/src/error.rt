@@ -6,11 +6,36 @@ use lk_link::fault::{Limited, LinkFault, Place, Rule};
 use lk_link::ids::OutputSectionId;
 use std::alloc::{AllocError, AllocFailed};
 
-/// What a description may have that isn't laid out yet.
+/// What a description may have that isn't laid out yet, in the order in which it is looked for.
 #[derive(Clone, Copy, Debug, PartialEq, Eq)]
 pub enum Uncarried {
-    /// A section with thread-local data.
+    /// A section of strings or constants that are merged.
+    Merge,
+    /// A section of debug data, or one in a section group.
+    Slot,
+    /// A common symbol.
+    Common,
+    /// A file that is neither the prelude nor an object.
+    File,
+    /// Output that a dynamic linker loads.
+    Output,
+    /// A table part, the comment part, or a relocation that wants an entry of a table.
+    Table,
+    /// A base that is asked for or isn't a number, headers in segments, regions, moves of the location, thread-local
+    /// data, and sections that are secondary, in a region or loaded from elsewhere.
     Plan,
+    /// Partial output, or a section for singletons.
+    Partial,
+    /// A section that is put in order by its name.
+    Sorted,
+    /// A part of code that thunks are made for.
+    Primary,
+    /// Code that is shortened where its targets are near.
+    Relax,
+    /// A symbol of the prelude, of a synthetic file or of a script.
+    Symbol,
+    /// A symbol of an object, or a section that isn't kept in any case.
+    Reach,
 }
 
 /// Why a link isn't laid out: the first refusal, in the order in which they are looked for, or want of memory
@@ -35,7 +60,7 @@ pub enum LayoutError {
     AddressOverflow {
         place: Place,
     },
-    /// A section with memory that is emitted stands in no segment; the first in the order of events.
+    /// A section with memory, which is emitted or has bytes, stands in no segment; the first in the order of events.
     SectionOutsideSegments {
         section: OutputSectionId,
     },

@@ -1,17 +1,13 @@
 //! Which sections stand inside each segment.
 
-ghost use Rattle.std.specs.Prelude.{◌≡◌, ◌<◌, ◌≤◌, ℕ, Some, true, All, length, IfOk, slice_get};
-ghost use Rattle.lk_link.specs.Parts.{all_parts};
-ghost use Rattle.lk_link.specs.Rules.{is_good_section, is_start, is_end};
-ghost use Rattle.lk_layout.specs.Placement.{place_alignments};
-ghost use Rattle.lk_layout.specs.Sections.{sections_inside, segment_insides, section_parts, greatest_of};
+ghost use Rattle.std.specs.Prelude.{◌≡◌, ◌<◌, ◌≤◌, All, length, map, IfOk};
+ghost use Rattle.lk_link.specs.Rules.{is_start, is_end};
+ghost use Rattle.lk_layout.specs.Sections.{sections_inside, segment_insides, greatest_of};
 
-use crate::placement::greatest_of_parts;
-use crate::sections::{SizedPart, parts_of};
 use lk_link::alignment::Alignment;
 use lk_link::ids::{OutputSectionId, SegmentId};
 use lk_link::list::List;
-use lk_link::plan::{OrderEvent, Plan, PlanSections};
+use lk_link::plan::{OrderEvent, Plan};
 use std::alloc::{AllocError, Global};
 
 /// Whether an event opens the segment.
@@ -73,42 +69,35 @@ pub(crate) fn sections_of_segments(
     Ok(insides)
 }
 
-/// The greatest of the page and of the greatest alignments of sections.
+/// The greatest of the page and of the alignments of some sections.
 fn greatest_inside(
     page: Alignment,
-    sections: &PlanSections,
-    sized: &[SizedPart],
+    alignments: &[Alignment],
     inside: &[OutputSectionId],
 ) -> Alignment
-    requires each { length sized.now ≡ length (all_parts sections.now) }
-    requires in_range { All (λ s. s < length sections.now) inside.now }
-    ensures { result ≡ greatest_of page (section_parts sections.now sized.now) inside.now }
+    requires { All (λ s. s < length alignments.now) inside.now }
+    ensures { result ≡ greatest_of page alignments.now inside.now }
 {
     let mut greatest = page;
     for section in inside {
-        let parts = parts_of(sections, sized, section.as_usize());
-        greatest = greatest.greater(greatest_of_parts(parts));
+        greatest = greatest.greater(alignments[section.as_usize()]);
     }
     greatest
 }
 
-/// The place alignment of each segment.
+/// For each segment, the greatest of the page and of the alignments of the sections inside.
 pub(crate) fn place_alignments(
     alloc: Global,
     page: Alignment,
-    plan: &Plan,
-    sized: &[SizedPart],
+    alignments: &[Alignment],
     insides: &[List<OutputSectionId>],
 ) -> Result<Vec<Alignment>, AllocError>
-    requires page { page ≡ plan.now.page }
-    requires each { length sized.now ≡ length (all_parts plan.now.sections) }
-    requires all { insides.now ≡ segment_insides plan.now }
-    requires in_range { All (λ inside. All (λ s. s < length plan.now.sections) inside) insides.now }
-    ensures { IfOk result (λ alignments. alignments.items ≡ place_alignments plan.now sized.now) }
+    requires { All (λ inside. All (λ s. s < length alignments.now) inside) insides.now }
+    ensures { IfOk result (λ all. all.items ≡ map (greatest_of page alignments.now) insides.now) }
 {
-    let mut alignments = Vec::with_capacity(alloc, insides.len())?;
+    let mut all = Vec::with_capacity(alloc, insides.len())?;
     for inside in insides {
-        alignments.push(greatest_inside(page, &plan.sections, sized, inside.as_slice()))?;
+        all.push(greatest_inside(page, alignments, inside.as_slice()))?;
     }
-    Ok(alignments)
+    Ok(all)
 }

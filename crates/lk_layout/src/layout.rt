@@ -12,6 +12,9 @@ pub struct Layout {
     pub section_layouts: List<OutputRecordLayout>,
     /// Of each part, numbered over all sections.
     pub section_part_layouts: List<OutputRecordLayout>,
+    /// Of each output section its attributes: the plan's, with those of its live input sections
+    /// (libwild: `propagate_section_attributes`).
+    pub section_attributes: List<u32>,
     /// For each output section its index in the output; none where it isn't emitted.
     pub output_section_indexes: List<Option<u32>>,
     /// Of each active segment, by number.

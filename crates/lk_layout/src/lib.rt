@@ -3,6 +3,8 @@
 
 pub mod arch;
 mod assemble;
+pub mod attributes;
+pub mod carried;
 pub mod compute;
 pub mod cursors;
 pub mod emitted;
@@ -20,7 +22,6 @@ pub mod reach;
 pub mod record;
 pub mod sections;
 pub mod segments;
-#[cfg(test)]
-mod size_tests;
 pub mod spans;
+mod steps;
 pub mod walk;

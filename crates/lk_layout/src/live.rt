@@ -2,20 +2,23 @@
 
 ghost use Rattle.std.specs.Prelude.{◌≡◌, ◌+◌, ◌-◌, ◌^◌, ◌<◌, ◌≤◌, [], ◌∷◌, IfOk, OnOk, List as Items, length, min, slice_index, slice_set, sum_by};
 ghost use Rattle.lk_link.specs.Parts.{all_parts};
+ghost use Rattle.lk_link.specs.Sizes.{capacity};
 ghost use Rattle.lk_link.specs.WellFormed.{IsWellFormed};
 ghost use Rattle.lk_layout.specs.Addresses.{EndsFit, HaveRoom, IsPlaced};
+ghost use Rattle.lk_layout.specs.Carried.{IsCarried};
 ghost use Rattle.lk_layout.specs.LiveSections.{live_sections as live_sections_of, part_at};
-ghost use Rattle.lk_layout.specs.Owners.{capacity as capacity_of, part_sizes as part_sizes_of};
+ghost use Rattle.lk_layout.specs.Owners.{part_sizes as part_sizes_of};
 ghost use Rattle.lk_layout.specs.Reach.{AreLive};
 ghost use Rattle.lk_layout.specs.Totals.{AreAligned, GoTo, sections_of, sections_of_groups};
 ghost use Rattle.lk_layout.specs.Units.{Input, inputs_from, file_inputs, group_inputs};
 
 use crate::owners::exact_capacity;
-use lk_link::file::{InputFile, InputSection};
+use lk_link::file::InputFile;
 use lk_link::ids::FileId;
 use lk_link::link::LinkInput;
 use lk_link::list::List;
 use lk_link::plan::PlanPart;
+use lk_link::section::InputSection;
 use std::alloc::{AllocError, Global};
 
 /// A live section, with the address that it gets.
@@ -38,6 +41,7 @@ pub fn live_sections(
     starts: &[u64],
 ) -> Result<List<LiveSection>, AllocError>
     requires well_formed { IsWellFormed link.now }
+    requires carried { IsCarried link.now }
     requires starts { length starts.now ≡ length (all_parts link.now.plan.sections) }
     requires fit { (live : Items Input) → AreLive link.now live → EndsFit starts.now (part_sizes_of live (all_parts link.now.plan.sections)) }
     ensures { (live : Items Input) → AreLive link.now live → IfOk result (λ found. found ≡ live_sections_of starts.now (all_parts link.now.plan.sections) live) }
@@ -145,9 +149,9 @@ fn take_address(next: &mut [u64], parts: &[PlanPart], section: &InputSection) ->
     requires starts { length next.old ≡ length parts.now }
     requires aligned { AreAligned parts.now }
     requires input { section.now.part < length parts.now }
-    requires room { slice_index next.old section.now.part + capacity_of (part_at parts.now section.now.part) section.now.size < 2 ^ 64 }
+    requires room { slice_index next.old section.now.part + capacity (part_at parts.now section.now.part) section.now.size < 2 ^ 64 }
     ensures address { result ≡ slice_index next.old section.now.part }
-    ensures moved { next.new ≡ slice_set next.old section.now.part (result + capacity_of (part_at parts.now section.now.part) section.now.size) }
+    ensures moved { next.new ≡ slice_set next.old section.now.part (result + capacity (part_at parts.now section.now.part) section.now.size) }
 {
     let part = section.part.as_usize();
     let address = next[part];

@@ -38,24 +38,24 @@ fn mark_standing(
     Ok(marks)
 }
 
-/// The first section, in the order of events, that is emitted and allocated and stands in no segment.
+/// The first section, in the order of events, that counts and is allocated and stands in no segment.
 pub(crate) fn outside_segments(
     alloc: Global,
     plan: &Plan,
-    emitted: &[bool],
+    counted: &[bool],
     insides: &[List<OutputSectionId>],
 ) -> Result<Option<OutputSectionId>, AllocError>
-    requires each { length emitted.now ≡ length plan.now.sections }
+    requires each { length counted.now ≡ length plan.now.sections }
     requires in_range { All (λ inside. All (λ s. s < length plan.now.sections) inside) insides.now }
     requires events { All (IsInRange plan.now) plan.now.events }
-    ensures { IfOk result (λ found. found ≡ first_outside plan.now emitted.now insides.now) }
+    ensures { IfOk result (λ found. found ≡ first_outside plan.now counted.now insides.now) }
 {
     let standing = mark_standing(alloc, plan.sections.len(), insides)?;
     for event in plan.events.as_slice() {
         if let OrderEvent::Section(section) = *event {
             let number = section.as_usize();
             let allocated = allocates(&plan.sections.as_slice()[number]);
-            if emitted[number] && allocated && !standing[number] {
+            if counted[number] && allocated && !standing[number] {
                 return Ok(Some(section));
             }
         }

@@ -3,7 +3,7 @@
 ghost use Rattle.std.specs.Prelude.{◌≡◌, ◌<◌, ◌++◌, ◌∷◌, [], OnOk, Err, map, position, true, false, length, IfOk, IfErr, SomeIff, OnErr};
 ghost use Rattle.std.specs.List.{list_all};
 ghost use Rattle.lk_layout.specs.Placement.{behind, resting, first_walked, is_fit};
-ghost use Rattle.lk_layout.specs.Sections.{greatest_alignment, has_bytes};
+ghost use Rattle.lk_layout.specs.Sections.{has_bytes};
 ghost use Rattle.lk_layout.specs.Walk.{placed_at, next_record, next_cursors, following, followed, part_records, part_end};
 ghost use Rattle.lk_layout.specs.declared.placement.StepError.TheVariants.{Overflow, NoMemory};
 
@@ -99,20 +99,6 @@ fn first_with_bytes(parts: &[SizedPart]) -> Option<usize>
     parts.iter().position(|part| part.size > 0)
 }
 
-/// The greatest alignment of the parts with bytes, and at least 1.
-#[tactic(auto, using(crate::proofs::Parts::greatest_pos))]
-pub(crate) fn greatest_of_parts(parts: &[SizedPart]) -> Alignment
-    ensures { result ≡ greatest_alignment parts.now }
-{
-    let mut greatest = Alignment::one();
-    for part in parts {
-        if part.size > 0 {
-            greatest = greatest.greater(part.alignment);
-        }
-    }
-    greatest
-}
-
 /// The number of the first walked part: the first with bytes, else the first.
 fn first_walked_of(parts: &[SizedPart]) -> usize
     requires { 0 < length parts.now }
@@ -169,21 +155,21 @@ fn place_following(
     Ok(cursors)
 }
 
-/// The records of a section's parts, placed from the cursors on, and the cursors behind them.
+/// The records of a section's parts, placed from the cursors on by its greatest alignment, and the cursors behind them.
 #[tactic(auto, unfolding(crate::specs::Walk::part_records, crate::specs::Walk::part_end))]
 pub(crate) fn place_parts(
     alloc: Global,
     backed: bool,
+    greatest: Alignment,
     parts: &[SizedPart],
     from: Cursors,
 ) -> Result<(List<OutputRecordLayout>, Cursors), StepError>
     requires { 0 < length parts.now }
-    ensures records { IfOk result (λ placed. placed.0 ≡ part_records backed parts.now from) }
-    ensures ends { IfOk result (λ placed. placed.1 ≡ part_end backed parts.now from) }
-    ensures fits { OnOk result (list_all is_fit (part_records backed parts.now from) ≡ true) }
-    ensures overflow { result ≡ Err Overflow → list_all is_fit (part_records backed parts.now from) ≡ false }
+    ensures records { IfOk result (λ placed. placed.0 ≡ part_records backed greatest parts.now from) }
+    ensures ends { IfOk result (λ placed. placed.1 ≡ part_end backed greatest parts.now from) }
+    ensures fits { OnOk result (list_all is_fit (part_records backed greatest parts.now from) ≡ true) }
+    ensures overflow { result ≡ Err Overflow → list_all is_fit (part_records backed greatest parts.now from) ≡ false }
 {
-    let greatest = greatest_of_parts(parts);
     let number = first_walked_of(parts);
     let first = place_part(backed, greatest, parts[number].size, from).ok_or(StepError::Overflow)?;
     let mut records = Vec::with_capacity(alloc, parts.len())?;

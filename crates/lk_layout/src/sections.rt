@@ -1,13 +1,13 @@
 //! Output sections with the bytes of their parts.
 
-ghost use Rattle.std.specs.Prelude.{◌≡◌, ◌≤◌, ◌<◌, ◌+◌, ℕ, true, length, All, IfOk};
+ghost use Rattle.std.specs.Prelude.{◌≡◌, ◌<◌, true, length, All, IfOk};
 ghost use Rattle.lk_link.specs.Alignments.{is_alignment};
 ghost use Rattle.lk_link.specs.Parts.{all_parts};
-ghost use Rattle.lk_layout.specs.Attributes.{is_allocated, is_backed, is_tls};
-ghost use Rattle.lk_layout.specs.Placement.{section_at};
-ghost use Rattle.lk_layout.specs.Sections.{sized_parts, section_parts};
+ghost use Rattle.lk_layout.specs.Attributes.{is_allocated, is_backed, has_tls};
+ghost use Rattle.lk_layout.specs.Sections.{greatest_alignment, section_alignment, section_alignments, section_at, section_parts, sized_parts};
 
 use lk_link::alignment::Alignment;
+use lk_link::list::List;
 use lk_link::plan::{PlanPart, PlanSection, PlanSections, attributes};
 use std::alloc::{AllocError, Global};
 
@@ -17,6 +17,15 @@ pub struct SizedPart {
     pub alignment: Alignment,
     /// The bytes of its owners.
     pub size: u64,
+}
+
+/// The alignments at which a plan is placed.
+#[derive(Drop)]
+pub struct Alignments {
+    /// Of each output section the greatest of its parts with bytes, and at least its own.
+    pub sections: List<Alignment>,
+    /// Of each segment the greatest of the page and of the sections inside.
+    pub segments: List<Alignment>,
 }
 
 /// Whether a section has memory when the program runs.
@@ -35,7 +44,7 @@ pub fn is_file_backed(section: &PlanSection) -> bool
 
 /// Whether a section has thread-local data.
 pub fn is_thread_local(section: &PlanSection) -> bool
-    ensures { result ≡ is_tls section.now }
+    ensures { result ≡ has_tls section.now }
 {
     section.attrs & attributes::TLS != 0
 }
@@ -75,4 +84,36 @@ pub(crate) fn parts_of<'a>(
 {
     let (first, behind) = sections.part_range(section);
     &sized[first..behind]
+}
+
+/// The greatest alignment of the parts with bytes, and at least this one.
+#[tactic(auto, using(crate::proofs::Parts::greatest_reaches))]
+fn greatest_of_parts(least: Alignment, parts: &[SizedPart]) -> Alignment
+    ensures { result ≡ greatest_alignment least parts.now }
+{
+    let mut greatest = least;
+    for part in parts {
+        if part.size > 0 {
+            greatest = greatest.greater(part.alignment);
+        }
+    }
+    greatest
+}
+
+/// The greatest alignment of each section: that of its parts with bytes, and at least its own.
+pub(crate) fn section_alignments(
+    alloc: Global,
+    sections: &PlanSections,
+    sized: &[SizedPart],
+) -> Result<Vec<Alignment>, AllocError>
+    requires aligned { All (λ s. is_alignment s.align ≡ true) sections.now }
+    requires each { length sized.now ≡ length (all_parts sections.now) }
+    ensures { IfOk result (λ alignments. alignments.items ≡ section_alignments sections.now sized.now) }
+{
+    let mut alignments = Vec::with_capacity(alloc, sections.len())?;
+    for (number, section) in sections.as_slice().iter().enumerate() {
+        let least = Alignment::new(section.align).unwrap();
+        alignments.push(greatest_of_parts(least, parts_of(sections, sized, number)))?;
+    }
+    Ok(alignments)
 }

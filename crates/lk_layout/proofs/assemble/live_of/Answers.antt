@@ -13,10 +13,10 @@ live_sections-requires-clause-starts c =
 pub live_sections-requires-clause-fit : goal.live_sections-requires-clause-fit
 live_sections-requires-clause-fit c =
     rw c.deref.ensures.value
-    (ends_fit c.args.link.now c.args.parts.now c.in_ok-starts.starts.items c.requires.takes
+    (ends_fit c.args.link.now c.args.parts.now c.in_ok-starts.starts.items c.requires.carried c.requires.takes
     (ap length c.in_ok-starts.ensures.value ∙ length-map c.args.parts.now (λ (r : Record). r.mem_offset)) c.in_ok-starts.ensures.fit)
 
 pub returns : goal.returns
 returns c =
     rw (← c.in_ok-starts.ensures.value, ← c.deref.ensures.value)
-    (c.live_sections.ensures (all_inputs c.args.link.now) (live_sections_exist c.args.link.now))
+    (c.live_sections.ensures (all_inputs c.args.link.now) (live_sections_exist c.args.link.now c.requires.carried))

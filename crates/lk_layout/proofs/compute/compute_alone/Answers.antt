@@ -12,13 +12,13 @@ returns-in_err-check_link g c =
     let link = c.args.link.now in
     let fault = c.in_err-check_link.field-0.0 in
     err_exit (Gives start link) _ c.from_residual.result c.from_residual.ensures.1
-    (λ e is. faulty start link fault e (fault_some (first_fault link) fault (sym c.in_err-check_link.ensures.exact)) is)
+    (λ e is. faulty start link fault e (fault_some (first_fault link) fault c.in_err-check_link.ensures.exact) is)
 
 pub returns-in_err-check_carried : goal.returns-in_err-check_carried
 returns-in_err-check_carried g c =
     let start = g.P.Platform.segment_start c.args.platform.now in
     let link = c.args.link.now in
-    let good = fault_none (first_fault link) (sym c.in_ok-check_link.ensures.exact) in
+    let good = fault_none (first_fault link) c.in_ok-check_link.ensures.exact in
     err_exit (Gives start link) _ c.from_residual-in_err-check_carried.result c.from_residual-in_err-check_carried.ensures.1
     (λ e is. uncarried start link e good (c.in_err-check_carried.ensures ∙ ap (λ (x : LayoutError). Some x) (sym is)))
 
@@ -26,5 +26,5 @@ pub returns : goal.returns
 returns g c =
     let start = g.P.Platform.segment_start c.args.platform.now in
     let link = c.args.link.now in
-    let good = fault_none (first_fault link) (sym c.in_ok-check_link.ensures.exact) in
+    let good = fault_none (first_fault link) c.in_ok-check_link.ensures.exact in
     carried start link c.lay_out.result good c.in_ok-check_carried.ensures c.lay_out.ensures

@@ -6,5 +6,5 @@ use Rattle.lk_layout.proofs.emitted.mark_emitted.Goals as goal
 
 pub loop-number-preserved : goal.loop-number-preserved
 loop-number-preserved c =
-    let below : c.loop-number.number < length c.args.sections.now = rw (← c.as_slice-items.ensures) c.loop-number-test.true in
+    let below : c.loop-number.number < length c.args.sections.now = rw (← c.as_slice-section-items.ensures) c.loop-number-test.true in
     grind (arith, common_steps, map_enumerate_drop (is_emitted c.args.sections.now c.args.sized.now c.args.empties.now) c.args.sections.now c.loop-number.number c.loop-number.number below)

@@ -1,5 +1,5 @@
 use Rattle.std.proofs.Common.{◌+◌, length, take, drop}
-use Rattle.lk_link.specs.Rules.{is_good_input}
+use Rattle.lk_link.specs.InputRules.{goes_to_part}
 use Rattle.lk_link.specs.declared.ids.FileId.{FileId}
 use Rattle.lk_layout.specs.Totals.{sections_of}
 use Rattle.lk_layout.specs.Units.{file_inputs}
@@ -11,7 +11,7 @@ use Rattle.lk_layout.proofs.live.place_files.Goals as goal
 pub place_sections-requires-clause-inputs : goal.place_sections-requires-clause-inputs
 place_sections-requires-clause-inputs c =
     rw c.as_slice.ensures
-    (all_of_part (is_good_input (length c.args.parts.now)) (λ f. f.sections) c.args.files.now c.loop-index.index c.index-files-index.result c.loop-index-test.true c.index-files-index.is c.requires.inputs)
+    (all_of_part (goes_to_part (length c.args.parts.now)) (λ f. f.sections) c.args.files.now c.loop-index.index c.index-files-index.result c.loop-index-test.true c.index-files-index.is c.requires.inputs)
 
 pub place_sections-requires-clause-room : goal.place_sections-requires-clause-room
 place_sections-requires-clause-room c =
@@ -27,6 +27,6 @@ loop-index-preserved c =
     let x = c.index-files-index.result in
     let id : FileId = record { group = c.args.group; file = i } in
     let more = files_more c.args.group c.args.files.now i x c.loop-index-test.true c.index-files-index.is in
-    let good = all_of_part (is_good_input (length c.args.parts.now)) (λ f. f.sections) c.args.files.now i x c.loop-index-test.true c.index-files-index.is c.requires.inputs in
+    let good = all_of_part (goes_to_part (length c.args.parts.now)) (λ f. f.sections) c.args.files.now i x c.loop-index-test.true c.index-files-index.is c.requires.inputs in
     let placed = rw c.as_slice.ensures at c.in_ok-place_sections.ensures in
     rw more (more_placed _ _ _ _ _ _ _ _ _ (rw (from_file id 0 x.sections) good) c.loop-index.invariant placed)

@@ -1,5 +1,5 @@
 use Rattle.std.proofs.Common.{◌+◌, length, take, drop}
-use Rattle.lk_link.specs.Rules.{is_good_input}
+use Rattle.lk_link.specs.InputRules.{goes_to_part}
 use Rattle.lk_layout.specs.Totals.{sections_of, sections_of_groups}
 use Rattle.lk_layout.specs.Units.{group_inputs}
 use Rattle.lk_layout.proofs.Adding.{all_of_part}
@@ -10,7 +10,7 @@ use Rattle.lk_layout.proofs.live.place_groups.Goals as goal
 pub place_files-requires-clause-inputs : goal.place_files-requires-clause-inputs
 place_files-requires-clause-inputs c =
     rw c.as_slice.ensures
-    (all_of_part (is_good_input (length c.args.parts.now)) sections_of c.args.groups.now c.loop-group.group c.index-groups-group.result c.loop-group-test.true c.index-groups-group.is c.requires.inputs)
+    (all_of_part (goes_to_part (length c.args.parts.now)) sections_of c.args.groups.now c.loop-group.group c.index-groups-group.result c.loop-group-test.true c.index-groups-group.is c.requires.inputs)
 
 pub place_files-requires-clause-room : goal.place_files-requires-clause-room
 place_files-requires-clause-room c =
@@ -25,6 +25,6 @@ loop-group-preserved c =
     let i = c.loop-group.group in
     let x = c.index-groups-group.result in
     let more = groups_more c.args.groups.now i x c.loop-group-test.true c.index-groups-group.is in
-    let good = all_of_part (is_good_input (length c.args.parts.now)) sections_of c.args.groups.now i x c.loop-group-test.true c.index-groups-group.is c.requires.inputs in
+    let good = all_of_part (goes_to_part (length c.args.parts.now)) sections_of c.args.groups.now i x c.loop-group-test.true c.index-groups-group.is c.requires.inputs in
     let placed = rw c.as_slice.ensures at c.in_ok-place_files.ensures in
     rw more (more_placed _ _ _ _ _ _ _ _ _ (rw (from_files i 0 x) good) c.loop-group.invariant placed)

@@ -1,0 +1,263 @@
+//! What a description may have that isn't laid out yet.
+
+ghost use Rattle.std.specs.Prelude.{◌≡◌, ◌||◌, is_some};
+ghost use Rattle.std.specs.List.{list_any};
+ghost use Rattle.lk_link.specs.InputSlots.{is_merge};
+ghost use Rattle.lk_link.specs.Rules.{is_tls};
+ghost use Rattle.lk_layout.specs.Carried.{all_uncarried, any_file, file_has, first_uncarried, has, is_common, is_debug, is_internal, is_loaded_dynamically, is_not_kept, is_special_plan, is_special_section, moves_location, names_table, wants_entry};
+
+use crate::error::Uncarried;
+use crate::sections::is_thread_local;
+use lk_link::file::{FileKind, InputFile};
+use lk_link::link::LinkInput;
+use lk_link::options::OutputKind;
+use lk_link::plan::{NamedParts, OrderEvent, Plan, PlanSection, PlanSegment, SegmentKind};
+use lk_link::relocation::{RelocationKind, resolution_flags};
+use lk_link::section::{InputSection, InputSlot};
+use lk_link::symbol::SymbolPlacement;
+
+/// What is looked for, in this order.
+const ALL_UNCARRIED: [Uncarried; 13] = [
+    Uncarried::Merge,
+    Uncarried::Slot,
+    Uncarried::Common,
+    Uncarried::File,
+    Uncarried::Output,
+    Uncarried::Table,
+    Uncarried::Plan,
+    Uncarried::Partial,
+    Uncarried::Sorted,
+    Uncarried::Primary,
+    Uncarried::Relax,
+    Uncarried::Symbol,
+    Uncarried::Reach,
+];
+
+/// The flags of symbols that want an entry of a table: PLT, GOT and the three kinds of GOT_TLS.
+const TABLE_ENTRIES: u32 = 3968;
+
+/// The first thing that the description has and that isn't laid out yet; none where all is.
+#[tactic(auto, unfolding(crate::specs::Carried::first_uncarried))]
+pub fn first_uncarried(link: &LinkInput) -> Option<Uncarried>
+    ensures { result ≡ first_uncarried link.now }
+{
+    ALL_UNCARRIED.iter().copied().find(|what| has(link, *what))
+}
+
+/// Whether the description has it.
+#[tactic(auto, unfolding(crate::specs::Carried::has))]
+fn has(link: &LinkInput, what: Uncarried) -> bool
+    ensures { result ≡ has link.now what }
+{
+    match what {
+        Uncarried::Output => is_loaded_dynamically(link.options.output),
+        Uncarried::Table => names_table(&link.plan.named) || any_file(link, what),
+        Uncarried::Plan => is_special_plan(&link.plan),
+        Uncarried::Partial => {
+            matches!(link.options.output, OutputKind::Partial) || link.plan.singletons.is_some()
+        }
+        Uncarried::Primary => link.plan.named.primary.is_some(),
+        Uncarried::Relax => link.options.relax,
+        _ => any_file(link, what),
+    }
+}
+
+/// Whether a dynamic linker loads the output.
+fn is_loaded_dynamically(output: OutputKind) -> bool
+    ensures { result ≡ is_loaded_dynamically output }
+{
+    matches!(
+        output,
+        OutputKind::DynamicExecutable | OutputKind::SharedObject
+    )
+}
+
+/// Whether the plan gives a table part or the comment part.
+fn names_table(named: &NamedParts) -> bool
+    ensures { result ≡ names_table named.now }
+{
+    named.got.is_some()
+        || named.plt.is_some()
+        || named.symtab_local.is_some()
+        || named.symtab_global.is_some()
+        || named.strtab.is_some()
+        || named.dynsym.is_some()
+        || named.dynstr.is_some()
+        || named.file_header.is_some()
+        || named.program_headers.is_some()
+        || named.section_headers.is_some()
+        || named.shstrtab.is_some()
+        || named.comment.is_some()
+}
+
+/// Whether the plan places something otherwise than from a given number on, section by section.
+fn is_special_plan(plan: &Plan) -> bool
+    ensures { result ≡ is_special_plan plan.now }
+{
+    plan.custom_base
+        || plan.custom_phdrs
+        || plan.phdrs_headers
+        || !plan.regions.is_empty()
+        || plan.base.as_number().is_none()
+        || has_location(plan.events.as_slice())
+        || has_special_section(plan.sections.as_slice())
+        || has_tls_segment(plan.segments.as_slice())
+}
+
+/// Whether an event moves the location.
+fn has_location(events: &[OrderEvent]) -> bool
+    ensures { result ≡ list_any moves_location events.now }
+{
+    events.iter().any(|event| {
+        matches!(
+            event,
+            OrderEvent::SetLocation(_)
+                | OrderEvent::SetLocationRelative(_, _)
+                | OrderEvent::SetSectionAddress(_)
+        )
+    })
+}
+
+/// Whether a section is thread-local, secondary to another section, in a region, or loaded from elsewhere.
+fn has_special_section(sections: &[PlanSection]) -> bool
+    ensures { result ≡ list_any is_special_section sections.now }
+{
+    sections.iter().any(|section| {
+        is_thread_local(section)
+            || section.primary.is_some()
+            || section.region.is_some()
+            || section.at.is_some()
+    })
+}
+
+/// Whether a segment is one for thread-local data.
+fn has_tls_segment(segments: &[PlanSegment]) -> bool
+    ensures { result ≡ list_any is_tls segments.now }
+{
+    segments
+        .iter()
+        .any(|segment| matches!(segment.kind, SegmentKind::Tls))
+}
+
+/// Whether a file of the description has it.
+fn any_file(link: &LinkInput, what: Uncarried) -> bool
+    ensures { result ≡ any_file (file_has what) link.now }
+{
+    link.groups
+        .as_slice()
+        .iter()
+        .any(|files| any_of_group(files.as_slice(), what))
+}
+
+/// Whether a file of a group has it.
+fn any_of_group(files: &[InputFile], what: Uncarried) -> bool
+    ensures { result ≡ list_any (file_has what) files.now }
+{
+    files.iter().any(|file| file_has(file, what))
+}
+
+/// Whether a file has it.
+fn file_has(file: &InputFile, what: Uncarried) -> bool
+    ensures { result ≡ file_has what file.now }
+{
+    match what {
+        Uncarried::Merge => has_merged(file),
+        Uncarried::Slot => has_debug_or_group(file),
+        Uncarried::Common => has_common(file),
+        Uncarried::File => !matches!(file.kind, FileKind::Prelude | FileKind::Object),
+        Uncarried::Table => has_entry(file),
+        Uncarried::Sorted => has_sorted(file),
+        Uncarried::Symbol => is_internal(file.kind) && !file.symbols.is_empty(),
+        Uncarried::Reach => {
+            (matches!(file.kind, FileKind::Object) && !file.symbols.is_empty())
+                || has_not_kept(file)
+        }
+        _ => false,
+    }
+}
+
+/// Whether the linker itself places the symbols of such a file.
+fn is_internal(kind: FileKind) -> bool
+    ensures { result ≡ is_internal kind }
+{
+    matches!(
+        kind,
+        FileKind::Prelude | FileKind::SyntheticSymbols | FileKind::LinkerScript
+    )
+}
+
+/// Whether a section holds strings or constants that are merged.
+fn has_merged(file: &InputFile) -> bool
+    ensures { result ≡ list_any (λ s. is_merge s.slot) file.now.sections }
+{
+    file.sections
+        .as_slice()
+        .iter()
+        .any(|section| matches!(section.slot, InputSlot::Merge))
+}
+
+/// Whether a section has debug data, or is in a section group.
+fn has_debug_or_group(file: &InputFile) -> bool
+    ensures { result ≡ list_any (λ s. is_debug s.slot || is_some s.group) file.now.sections }
+{
+    file.sections.as_slice().iter().any(|section| is_debug(section.slot) || section.group.is_some())
+}
+
+/// Whether the slot is one for debug data.
+fn is_debug(slot: InputSlot) -> bool
+    ensures { result ≡ is_debug slot }
+{
+    matches!(slot, InputSlot::DebugInfo | InputSlot::MustLoadDebugInfo)
+}
+
+/// Whether a symbol is common.
+fn has_common(file: &InputFile) -> bool
+    ensures { result ≡ list_any (λ x. is_common x.at) file.now.symbols }
+{
+    file.symbols.as_slice().iter().any(|symbol| matches!(symbol.at, SymbolPlacement::Common { .. }))
+}
+
+/// Whether a relocation wants an entry of a table.
+fn has_entry(file: &InputFile) -> bool
+    ensures { result ≡ list_any (λ s. list_any (λ r. wants_entry r.kind) s.relocs) file.now.sections }
+{
+    file.sections.as_slice().iter().any(wants_entries)
+}
+
+/// Whether a relocation of a section wants an entry of a table.
+fn wants_entries(section: &InputSection) -> bool
+    ensures { result ≡ list_any (λ r. wants_entry r.kind) section.now.relocs }
+{
+    section
+        .relocs
+        .as_slice()
+        .iter()
+        .any(|reloc| wants_entry(reloc.kind))
+}
+
+/// Whether a kind of relocation wants an entry of a table.
+fn wants_entry(kind: RelocationKind) -> bool
+    ensures { result ≡ wants_entry kind }
+{
+    resolution_flags(kind).0 & TABLE_ENTRIES != 0
+}
+
+/// Whether a section is put in order by its name.
+fn has_sorted(file: &InputFile) -> bool
+    ensures { result ≡ list_any (λ s. s.sorted) file.now.sections }
+{
+    file.sections
+        .as_slice()
+        .iter()
+        .any(|section| section.sorted)
+}
+
+/// Whether a section is kept only if something refers to it, or not at all.
+fn has_not_kept(file: &InputFile) -> bool
+    ensures { result ≡ list_any (λ s. is_not_kept s.slot) file.now.sections }
+{
+    file.sections.as_slice().iter().any(|section| matches!(
+        section.slot,
+        InputSlot::Unloaded | InputSlot::Discard
+    ))
+}
