@@ -10,8 +10,20 @@ use Rattle.lk_layout.specs.declared.error.Uncarried.{Uncarried}
 use Rattle.lk_layout.specs.declared.error.Uncarried.TheVariants as uncarried
 
 -- what isn't laid out yet
-abbrev pub uncarried_text : Uncarried → List ℕ
+unfoldable pub uncarried_text : Uncarried → List ℕ
+uncarried_text uncarried.Merge = codes "merge"
+uncarried_text uncarried.Slot = codes "slot"
+uncarried_text uncarried.Common = codes "common"
+uncarried_text uncarried.File = codes "file"
+uncarried_text uncarried.Output = codes "output"
+uncarried_text uncarried.Table = codes "table"
 uncarried_text uncarried.Plan = codes "plan"
+uncarried_text uncarried.Partial = codes "partial"
+uncarried_text uncarried.Sorted = codes "sorted"
+uncarried_text uncarried.Primary = codes "primary"
+uncarried_text uncarried.Relax = codes "relax"
+uncarried_text uncarried.Symbol = codes "symbol"
+uncarried_text uncarried.Reach = codes "reach"
 
 -- why a link isn't laid out; want of memory has no text
 abbrev pub fault_text_of : LayoutError → List ℕ

@@ -37,21 +37,23 @@ each text n (x ∷ xs) = text n x ++ each text (suc n) xs
 -- ---- sections
 
 -- the line of an output section
-unfoldable pub section_line : ℕ → PlanSection → Record → Option ℕ → List ℕ
-section_line s section r index = joined (
+unfoldable pub section_line : ℕ → Record → Option ℕ → ℕ → List ℕ
+section_line s r index attrs = joined (
     codes "section " ∷ decimal s ∷ codes " index " ∷ index_text index ∷ codes " " ∷ range_text r ∷
-    codes " lma 0x" ∷ hexadecimal r.lma_offset ∷ codes " attrs " ∷ decimal section.attrs ∷ codes "\n" ∷ [])
+    codes " lma 0x" ∷ hexadecimal r.lma_offset ∷ codes " attrs " ∷ decimal attrs ∷ codes "\n" ∷ [])
 
--- the same, where the section has a record and an index; else nothing
-unfoldable pub section_text : ℕ → PlanSection → Option Record → Option (Option ℕ) → List ℕ
-section_text s section None index = []
-section_text s section (Some r) None = []
-section_text s section (Some r) (Some index) = section_line s section r index
+-- the same, where the section has a record, an index and attributes; else nothing
+unfoldable pub section_text : ℕ → Option Record → Option (Option ℕ) → Option ℕ → List ℕ
+section_text s (Some r) (Some index) (Some attrs) = section_line s r index attrs
+section_text s _ _ _ = []
+
+-- that of the section with this number in a layout
+abbrev pub laid_out_text : Layout → ℕ → List ℕ
+laid_out_text layout s = section_text s (slice_get layout.section_layouts s) (slice_get layout.output_section_indexes s) (slice_get layout.section_attributes s)
 
 -- the lines of all output sections
 abbrev pub section_lines : List PlanSection → Layout → List ℕ
-section_lines sections layout =
-    each (λ s section. section_text s section (slice_get layout.section_layouts s) (slice_get layout.output_section_indexes s)) 0 sections
+section_lines sections layout = each (λ s _. laid_out_text layout s) 0 sections
 
 -- ---- parts
 

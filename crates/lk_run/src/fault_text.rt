@@ -36,11 +36,24 @@ pub fn fault_text(alloc: Global, fault: &LayoutError) -> Result<String, AllocErr
 }
 
 /// What isn't laid out yet, in a word.
+#[tactic(auto, unfolding(crate::specs::FaultText::uncarried_text))]
 fn uncarried_text(what: Uncarried) -> &'static str
     ensures { result.now ≡ uncarried_text what }
 {
     match what {
+        Uncarried::Merge => "merge",
+        Uncarried::Slot => "slot",
+        Uncarried::Common => "common",
+        Uncarried::File => "file",
+        Uncarried::Output => "output",
+        Uncarried::Table => "table",
         Uncarried::Plan => "plan",
+        Uncarried::Partial => "partial",
+        Uncarried::Sorted => "sorted",
+        Uncarried::Primary => "primary",
+        Uncarried::Relax => "relax",
+        Uncarried::Symbol => "symbol",
+        Uncarried::Reach => "reach",
     }
 }
 

@@ -2,8 +2,12 @@
 #![tactic(auto)]
 
 pub mod answer;
+#[cfg(test)]
+mod carried_tests;
 pub mod fault_text;
 pub mod faults;
+#[cfg(test)]
+mod layout_tests;
 pub mod memory;
 pub mod report;
 #[cfg(test)]
@@ -12,6 +16,8 @@ pub mod run;
 #[cfg(test)]
 mod run_tests;
 pub mod sink;
+#[cfg(test)]
+mod size_tests;
 pub mod source;
 pub mod standard;
 pub mod status;

@@ -2,7 +2,7 @@
 
 ghost use Rattle.std.specs.Prelude.{◌≡◌, ◌+◌, ◌^◌, ◌<◌, ◌++◌, string_bytes, slice_range, length, Option, slice_get, IfOk};
 ghost use Rattle.std.specs.List.{list_any};
-ghost use Rattle.lk_run.specs.Report.{report, range_text, index_text, has_bytes, part_text, section_line, section_text, section_lines, part_line, told_lines, section_part_lines, part_lines, segment_line, segment_lines, live_line, live_lines};
+ghost use Rattle.lk_run.specs.Report.{report, range_text, index_text, has_bytes, part_text, section_line, section_text, laid_out_text, section_lines, part_line, told_lines, section_part_lines, part_lines, segment_line, segment_lines, live_line, live_lines};
 
 use lk_layout::layout::Layout;
 use lk_layout::live::LiveSection;
@@ -105,26 +105,24 @@ fn write_sections(
 ) -> Result<(), AllocError>
     ensures { IfOk result (λ _. string_bytes text.new ≡ string_bytes text.old ++ section_lines sections.now layout.now) }
 {
-    for (number, section) in sections.iter().enumerate() {
-        write_section(text, number, section, layout)?;
+    for (number, _) in sections.iter().enumerate() {
+        write_section(text, number, layout)?;
     }
     Ok(())
 }
 
 /// The line of an output section that the layout has a record of.
 #[tactic(auto, unfolding(crate::specs::Report::section_text))]
-fn write_section(
-    text: &mut String,
-    number: usize,
-    section: &PlanSection,
-    layout: &Layout,
-) -> Result<(), AllocError>
-    ensures { IfOk result (λ _. string_bytes text.new ≡ string_bytes text.old ++ section_text number section.now (slice_get layout.now.section_layouts number) (slice_get layout.now.output_section_indexes number)) }
+fn write_section(text: &mut String, number: usize, layout: &Layout) -> Result<(), AllocError>
+    ensures { IfOk result (λ _. string_bytes text.new ≡ string_bytes text.old ++ laid_out_text layout.now number) }
 {
     let range = layout.section_layouts.get(number);
     let index = layout.output_section_indexes.get(number);
-    match (range, index) {
-        (Some(range), Some(index)) => write_section_line(text, number, section, range, *index),
+    let attrs = layout.section_attributes.get(number);
+    match (range, index, attrs) {
+        (Some(range), Some(index), Some(attrs)) => {
+            write_section_line(text, number, range, *index, *attrs)
+        }
         _ => Ok(()),
     }
 }
@@ -134,16 +132,15 @@ fn write_section(
 fn write_section_line(
     text: &mut String,
     number: usize,
-    section: &PlanSection,
     range: &OutputRecordLayout,
     index: Option<u32>,
+    attrs: u32,
 ) -> Result<(), AllocError>
-    ensures { IfOk result (λ _. string_bytes text.new ≡ string_bytes text.old ++ section_line number section.now range.now index) }
+    ensures { IfOk result (λ _. string_bytes text.new ≡ string_bytes text.old ++ section_line number range.now index attrs) }
 {
     let index = IndexText { index };
     let place = RangeText { range: *range };
     let loaded = range.lma_offset;
-    let attrs = section.attrs;
     write!(
         text,
         "section {number} index {index} {place} lma 0x{loaded:x} attrs {attrs}\n"

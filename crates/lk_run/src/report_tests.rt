@@ -1,52 +1,28 @@
 //! Reports of small layouts, and the texts of faults.
 
-ghost use Rattle.std.specs.Prelude.{◌≡◌};
-
 use crate::fault_text::{fault_text, input_fault_text, too_long_text};
 use crate::report::report_text;
-use lk_input::InputError;
+use lk_input::{InputError, read_link};
 use lk_layout::error::{LayoutError, Uncarried};
 use lk_layout::layout::Layout;
 use lk_layout::live::LiveSection;
 use lk_layout::record::OutputRecordLayout;
 use lk_layout::segments::SegmentLayout;
 use lk_link::alignment::Alignment;
-use lk_link::expression::Expression;
 use lk_link::fault::{Limited, Place, Rule};
 use lk_link::ids::{FileId, OutputSectionId, SegmentId};
-use lk_link::link::LinkInput;
 use lk_link::list::List;
-use lk_link::plan::{Plan, PlanPart, PlanSection, PlanSections};
 use lk_link::text::Text;
 use std::alloc::{AllocError, Global};
 use std::test::Fail;
 
-/// A link with sections of these attributes and numbers of parts.
-fn link_of(alloc: Global, rows: &[(u32, usize)]) -> Result<LinkInput, AllocError> {
-    let part = PlanPart {
-        alignment: 1,
-        packed: false,
-    };
-    let mut sections = Vec::new(alloc);
-    for (attrs, count) in rows {
-        sections.push(PlanSection {
-            name: Text::new(alloc),
-            attrs: *attrs,
-            parts: List::from_vec(vec![in alloc; part; *count]?),
-        })?;
-    }
-    let plan = Plan {
-        page: 16,
-        base: Expression::Number(4096),
-        sections: PlanSections::new(alloc, List::from_vec(sections))?,
-        segments: List::new(alloc),
-        events: List::new(alloc),
-    };
-    Ok(LinkInput {
-        plan,
-        groups: List::new(alloc),
-    })
-}
+/// Three sections of one part each.
+const THREE: &str =
+    r#"{"plan":{"page":16,"sections":[{"parts":[[8,false]]},{"parts":[[1,false]]},{"parts":[[16,false]]}]},"groups":[]}"#;
+
+/// Sections of two, three, no and two parts.
+const MANY: &str =
+    r#"{"plan":{"page":16,"sections":[{"parts":[[2,false],[1,false]]},{"parts":[[4,false],[2,false],[1,false]]},{},{"parts":[[2,false],[1,false]]}]},"groups":[]}"#;
 
 /// The record of an alignment, an address with its bytes, and an offset with its bytes.
 fn record_of(
@@ -64,16 +40,18 @@ fn record_of(
     }
 }
 
-/// A layout with these records and indexes, without segments and live sections.
+/// A layout with these records, attributes and indexes, without segments and live sections.
 fn layout_of(
     alloc: Global,
     sections: &[OutputRecordLayout],
     parts: &[OutputRecordLayout],
+    attrs: &[u32],
     indexes: &[Option<u32>],
 ) -> Result<Layout, AllocError> {
     Ok(Layout {
         section_layouts: List::from_vec(Vec::from_slice(alloc, sections)?),
         section_part_layouts: List::from_vec(Vec::from_slice(alloc, parts)?),
+        section_attributes: List::from_vec(Vec::from_slice(alloc, attrs)?),
         output_section_indexes: List::from_vec(Vec::from_slice(alloc, indexes)?),
         segment_layouts: List::new(alloc),
         live_sections: List::new(alloc),
@@ -100,9 +78,9 @@ fn three_sections_in_a_segment(rt: HostRuntime) -> Result<(), Fail> {
         record_of(Alignment::one(), (4104, 7), (8, 7)),
         record_of(sixteen, (4112, 16), (15, 0)),
     ];
-    let link = link_of(rt.alloc(), &[(1, 1), (1, 1), (17, 1)])?;
+    let link = read_link(rt.alloc(), THREE.as_bytes())?;
     let indexes = [Some(0), Some(1), Some(2)];
-    let mut layout = layout_of(rt.alloc(), &records, &records, &indexes)?;
+    let mut layout = layout_of(rt.alloc(), &records, &records, &[1, 1, 17], &indexes)?;
     let segment = SegmentLayout {
         id: SegmentId::from_u32(0),
         sizes: record_of(sixteen, (4096, 32), (0, 15)),
@@ -137,10 +115,11 @@ fn parts_without_bytes_and_missing_records(rt: HostRuntime) -> Result<(), Fail> 
     let one = Alignment::one();
     let none = record_of(one, (0, 0), (0, 0));
     let some = record_of(one, (43981, 3), (10, 3));
-    let link = link_of(rt.alloc(), &[(1, 2), (3, 3), (0, 0), (1, 2)])?;
-    let sections = [none, some];
+    let link = read_link(rt.alloc(), MANY.as_bytes())?;
+    let sections = [none, some, none];
     let parts = [none, none, none, some, none];
-    let layout = layout_of(rt.alloc(), &sections, &parts, &[None, Some(0), None])?;
+    let indexes = [None, Some(0), None];
+    let layout = layout_of(rt.alloc(), &sections, &parts, &[1, 3], &indexes)?;
     let text = report_text(rt.alloc(), &link, &layout)?;
     let want = "layout\n\
         section 0 index - mem 0x0 0 file 0x0 0 align 1 lma 0x0 attrs 1\n\
@@ -193,8 +172,8 @@ fn faults_have_their_texts(rt: HostRuntime) -> Result<(), Fail> {
             "section 0 is in no segment\n",
         ),
         (
-            LayoutError::NotCarried(Uncarried::Plan),
-            "not carried: plan\n",
+            LayoutError::NotCarried(Uncarried::Merge),
+            "not carried: merge\n",
         ),
     ];
     for (fault, want) in table {

@@ -39,7 +39,14 @@ const UNALLOCATED: &str =
 const UNALLOCATED_REPORT: &str =
     "layout\nsection 0 index 0 mem 0x1000 4 file 0x0 4 align 1 lma 0x1000 attrs 1\nsection 1 index 1 mem 0x0 4 file 0x4 4 align 1 lma 0x0 attrs 0\npart 0 mem 0x1000 4 file 0x0 4 align 1\npart 1 mem 0x0 4 file 0x4 4 align 1\nsegment 0 mem 0x0 4100 file 0x0 8 align 1\nlive 1 0 0 0x1000 4\nlive 1 0 1 0x0 4\nentry -\nend\n";
 
-/// A section of so many bytes, from a base on.
+/// The three sections again, with much that changes nothing yet.
+const THREE_SECTIONS_AND_MORE: &str =
+    r#"{"options":{"gc":false,"error_objects":false,"error_dynamics":false,"export_all":true,"export_list":["a"],"restrictive":true,"strip_all":true,"discard":"all","strip_names":["b"],"identity":"c","stack":9,"branch_range":4194304,"bucket_limit":1,"merge_group":1},"plan":{"page":4096,"base":["num",4096],"sections":[{"name":"A","attrs":1,"parts":[[8,false]],"top":true},{"name":"B","attrs":1,"parts":[[1,true]],"counters":true},{"name":"C","attrs":17,"parts":[[16,false]],"emit":"auto"}],"segments":[{"kind":"load","always":true}],"events":[["seg",0],["sec",0],["sec",1],["sec",2],["endseg",0]]},"groups":[[{"kind":"prelude","candidates":[]}],[{"kind":"object","name":"a.o","archive":true,"export":true,"check":true,"sections":[{"name":"x","slot":"must","part":0,"size":8},{"slot":"must","part":1,"size":7,"relax":[]},{"slot":"must","part":2,"size":16,"strings":true}]}]]}"#;
+
+/// An input section as long as memory, but for a byte.
+const WHOLE: &str = r#"{"slot":"must","size":18446744073709551615}"#;
+
+/// Input sections behind one another, from a base on.
 fn huge(alloc: Global, base: u64, sections: &str) -> Result<String, AllocError> {
     format!(in alloc;
         "{{\"plan\":{{\"page\":1,\"base\":[\"num\",{base}],\"sections\":[{{\"attrs\":1,\"parts\":[[1,false]]}}],\"segments\":[{{\"kind\":\"load\"}}],\"events\":[[\"seg\",0],[\"sec\",0],[\"endseg\",0]]}},\"groups\":[[{{\"kind\":\"prelude\"}}],[{{\"kind\":\"object\",\"sections\":[{sections}]}}]]}}"
@@ -55,7 +62,7 @@ fn words_of(alloc: Global, line: &str) -> Result<Vec<String>, AllocError> {
 }
 
 /// Runs the words over the input, and wants this status and this text.
-fn expect(
+pub(crate) fn expect(
     rt: &impl Abort,
     alloc: Global,
     line: &str,
@@ -80,6 +87,7 @@ fn layouts_are_reported(rt: HostRuntime) -> Result<(), Fail> {
             "layout\nentry -\nend\n",
         ),
         (THREE_SECTIONS, THREE_SECTIONS_REPORT),
+        (THREE_SECTIONS_AND_MORE, THREE_SECTIONS_REPORT),
         (TWO_SEGMENTS, TWO_SEGMENTS_REPORT),
         (EMPTY_SECTION, EMPTY_SECTION_REPORT),
         (UNALLOCATED, UNALLOCATED_REPORT),
@@ -104,11 +112,12 @@ fn every_number_of_workers_lays_out(rt: HostRuntime) -> Result<(), Fail> {
 
 #[test]
 fn refusals_are_told(rt: HostRuntime) -> Result<(), Fail> {
-    let whole = "{\"slot\":\"must\",\"size\":18446744073709551615}";
     let alloc = rt.alloc();
-    let two = format!(in alloc; "{whole},{whole}")?;
+    let two = format!(in alloc; "{WHOLE},{WHOLE}")?;
     let both = huge(alloc, 0, two.as_str())?;
-    let above = huge(alloc, 1, whole)?;
+    let above = huge(alloc, 1, WHOLE)?;
+    let behind_brace = THREE_SECTIONS.strip_prefix("{").unwrap_or("");
+    let relaxed = format!(in alloc; "{{\"options\":{{\"relax\":true}},{behind_brace}")?;
     let table = [
         (
             "{\"plan\":{\"page\":1,\"sections\":[{\"attrs\":1,\"parts\":[[1,false]]}],\"events\":[[\"sec\",0]]},\"groups\":[[{\"kind\":\"prelude\"}],[{\"kind\":\"object\",\"sections\":[{\"slot\":\"must\",\"size\":1}]}]]}",
@@ -116,23 +125,26 @@ fn refusals_are_told(rt: HostRuntime) -> Result<(), Fail> {
         ),
         (both.as_str(), "address overflow: part 0\n"),
         (above.as_str(), "address overflow: event 1\n"),
+        (relaxed.as_str(), "not carried: relax\n"),
         (
-            "{\"plan\":{\"page\":3},\"groups\":[[{\"kind\":\"prelude\"}]]}",
+            r#"{"options":{"relax":true},"plan":{"page":3},"groups":[[{"kind":"prelude"}]]}"#,
             "bad link: rule 2, plan\n",
         ),
         (
             "{\"plan\":{\"page\":1},\"groups\":[[],[{\"kind\":\"prelude\"}]]}",
             "bad link: rule 9, file 0 0\n",
         ),
-        (
-            "{\"plan\":{\"page\":1,\"sections\":[{\"attrs\":8,\"parts\":[[1,false]]}],\"events\":[[\"sec\",0]]},\"groups\":[[{\"kind\":\"prelude\"}]]}",
-            "not carried: plan\n",
-        ),
     ];
     for (input, text) in table {
         expect(&rt, alloc, "layout 0", input, Status::Refused, text)?;
     }
-    let accepted = huge(alloc, 0, whole)?;
+    Ok(())
+}
+
+#[test]
+fn all_of_memory_but_a_byte_is_laid_out(rt: HostRuntime) -> Result<(), Fail> {
+    let alloc = rt.alloc();
+    let accepted = huge(alloc, 0, WHOLE)?;
     let report =
         "layout\nsection 0 index 0 mem 0x0 18446744073709551615 file 0x0 18446744073709551615 align 1 lma 0x0 attrs 1\npart 0 mem 0x0 18446744073709551615 file 0x0 18446744073709551615 align 1\nsegment 0 mem 0x0 18446744073709551615 file 0x0 18446744073709551615 align 1\nlive 1 0 0 0x0 18446744073709551615\nentry -\nend\n";
     expect(
