@@ -10,18 +10,23 @@ file of it is held at a time. SHAPE says what the bytes go to:
     plan      as many output sections as fit, up to the limit, then objects
     files     objects without sections
     single    one object with all input sections
+    whole     objects with symbols, relocations, names, section groups and merge data
+
+The last shape isn't laid out yet, but read and checked; the others are laid out.
 """
 
 import math
 import random
 import sys
 
+from whole import put_whole_link
+
 PAGE = 4096
 BASE = 4194304
 MOST_BYTES = 500_000_000
 MOST_OUTPUT_SECTIONS = 65_000
 MOST_SEGMENTS = 8
-SHAPES = ("objects", "plan", "files", "single")
+SHAPES = ("objects", "plan", "files", "single", "whole")
 
 ALLOCATED, WRITABLE, EXECUTABLE, ZERO_FILL = 1, 2, 4, 16
 
@@ -135,9 +140,14 @@ def put_single(writer, rng, parts, total):
     writer.put("]}]")
 
 
+def files_of_group(total, shape):
+    """Eight, or as many as keep the number of groups within its limit."""
+    return max(8, total // (4_000_000 if shape == "files" else 50_000_000))
+
+
 def put_objects(writer, rng, parts, total, shape):
     """Groups of objects until the description is long enough."""
-    group_files = max(8, total // (4_000_000 if shape == "files" else 50_000_000))
+    group_files = files_of_group(total, shape)
     number = 0
     while number == 0 or writer.written < total - 500:
         writer.put(",\n[")
@@ -156,6 +166,9 @@ def generate(stream, total, seed, shape):
     """The whole description."""
     rng = random.Random(seed)
     writer = Writer(stream)
+    if shape == "whole":
+        put_whole_link(writer, rng, total, files_of_group(total, shape), PAGE, BASE)
+        return
     parts = put_plan(writer, rng, output_section_count(total, shape))
     writer.put('"groups":[\n[{"kind":"prelude"}]')
     if shape == "single":

@@ -4,9 +4,11 @@
 usage: run.py [PROGRAM [MEGABYTES..]]
 
 PROGRAM is crates/lk_program/out/lk_program unless given, the sizes are 1, 10 and 100 MB. Each
-description is laid out several times; the run fails where a status isn't 0 or two runs give
-different bytes. Seconds are processor seconds, the least of the runs. None of them is judged: each
-is set against `wc -l` over the same bytes in the same run, and against the size before it.
+description is given to the program in three forms, several times: with a value of a wrong shape where
+the first field is looked for, so that it is parsed and no more; with one that is the last to be read;
+and as it is. The run fails where an answer isn't of the kind that is wanted or two runs over the same
+bytes differ. Seconds are processor seconds, the least of the runs. None of them is judged: each is set
+against others of the same run.
 """
 
 import hashlib
@@ -21,63 +23,112 @@ DEFAULT_PROGRAM = os.path.join(HERE, "..", "crates", "lk_program", "out", "lk_pr
 DEFAULT_MEGABYTES = (1, 10, 100)
 SHAPE_MEGABYTES = (1, 4)
 SHAPES = ("plan", "files", "single")
-RUNS = 3
+RUNS, MOST_RUNS, SMALL_BYTES = 3, 7, 5_000_000
 BLOCK = 1 << 20
-ROW = "%-16s %8s %8s %9s %9s %9s %9s %8s"
-HEADINGS = ("description", "seconds", "ms/MB", "exponent", "x wc -l", "parsing", "peak", "output")
+ENDING = b"\n]}\n"
+LONGEST_START = 100
+
+# The end of each form, in place of the ending of the description, and what the answer begins with.
+FORMS = {
+    "parsed": (b'\n],"options":7}\n', b"not a link description: /options\n"),
+    "read": (b',[{"kind":"prelude","candidates":7}]\n]}\n', b"not a link description: /groups/"),
+    "whole": (ENDING, (b"layout\n", b"not carried: ")),
+}
+
+FIRST_COLUMN = ("description", -16)
+LAID_OUT_COLUMNS = (
+    *(("seconds", 8), ("ms/MB", 7), ("growth", 7), ("x wc -l", 8), ("parse", 6), ("read", 6)),
+    *(("the rest", 9), ("peak", 8), ("output", 7)),
+)
+LAID_OUT_LEGEND = """\
+growth: the power of the size by which the seconds grow, 1 is linear; parse, read, the rest: parts of
+the seconds; peak and output: multiples of the size
+"""
+CHECKED_COLUMNS = (
+    *(("ms/MB", 7), ("x wc -l", 8), ("read", 6), ("check", 6), ("check/read", 11), ("growth", 17)),
+    *(("peak", 8), ("parsed", 8)),
+)
+CHECKED_LEGEND = """\
+ms/MB and x wc -l: of all; read, check: as parts of parsing; growth: the powers of the size by which
+parsing, reading and checking grow; peak, parsed: the peak memory of all, and of parsing alone, as
+multiples of the size. Aims: read below 1, and check a small part of read.
+"""
 
 
 class Measured:
     """One run of a command: its status, processor seconds, peak memory, and output."""
 
-    def __init__(self, status, usage, digest, written):
-        self.status, self.digest, self.written = status, digest, written
+    def __init__(self, status, usage, output):
+        self.status = status
         self.seconds = usage.ru_utime + usage.ru_stime
         self.peak = usage.ru_maxrss * 1024
-
-
-def generate(path, total, shape, prefix=b""):
-    """Writes a description to a file, with some bytes put behind its first brace."""
-    command = [sys.executable, os.path.join(HERE, "generate.py"), str(total), "0", shape]
-    with open(path, "wb") as file, subprocess.Popen(command, stdout=subprocess.PIPE) as maker:
-        file.write(maker.stdout.read(1) + prefix)
-        while block := maker.stdout.read(BLOCK):
-            file.write(block)
-    if maker.returncode != 0:
-        sys.exit("generate.py failed")
+        digest = hashlib.sha256()
+        with open(output, "rb") as file:
+            self.start = file.read(LONGEST_START)
+            digest.update(self.start)
+            while block := file.read(BLOCK):
+                digest.update(block)
+        self.digest, self.written = digest.digest(), os.path.getsize(output)
 
 
 def measure(command, path, output):
-    """Runs a command over a file; its output goes to another file, which is hashed afterwards."""
+    """Runs a command over a file; its output goes to another file."""
     with open(path, "rb") as source, open(output, "wb") as sink:
         child = subprocess.Popen(command, stdin=source, stdout=sink)
         _, status, usage = os.wait4(child.pid, 0)
         child.returncode = os.waitstatus_to_exitcode(status)
-    digest = hashlib.sha256()
-    with open(output, "rb") as file:
-        while block := file.read(BLOCK):
-            digest.update(block)
-    return Measured(child.returncode, usage, digest.digest(), os.path.getsize(output))
+    return Measured(child.returncode, usage, output)
 
 
 def best(command, path, output, wanted):
-    """The fastest of several runs, which must all have this status and give the same bytes."""
-    runs = [measure(command, path, output) for _ in range(RUNS)]
-    if any(run.status != wanted for run in runs):
-        sys.exit("%s: status %s, wanted %d" % (command, [run.status for run in runs], wanted))
-    if len({run.digest for run in runs}) != 1:
+    """The fastest of several runs, which must give the same bytes, with this beginning."""
+    count = MOST_RUNS if os.path.getsize(path) < SMALL_BYTES else RUNS
+    runs = [measure(command, path, output) for _ in range(count)]
+    for run in runs:
+        if not run.start.startswith(wanted):
+            sys.exit("%s: status %d, %r" % (command, run.status, run.start))
+    if len({(run.status, run.digest) for run in runs}) != 1:
         sys.exit("%s: two runs over the same bytes gave different ones" % command)
     return min(runs, key=lambda run: run.seconds)
 
 
-def exponent(later, earlier, later_size, earlier_size):
-    """The power of the size by which the seconds grow; 1 is linear."""
-    return math.log(later / earlier) / math.log(later_size / earlier_size)
+def generate(path, total, shape):
+    command = [sys.executable, os.path.join(HERE, "generate.py"), str(total), "0", shape]
+    with open(path, "wb") as file:
+        subprocess.run(command, stdout=file, check=True)
 
 
-def peak_text(peak, size, floor):
-    """The peak as a multiple of the size, or a bound where the measuring itself took as much."""
-    return "%s%.2f" % ("<" if peak <= 1.05 * floor else "", peak / size)
+def set_ending(path, size, ending):
+    """Puts an ending in place of that of a description of this size."""
+    with open(path, "r+b") as file:
+        file.truncate(size - len(ENDING))
+        file.seek(0, os.SEEK_END)
+        file.write(ending)
+
+
+def power(later, earlier):
+    """The power of the size by which something grows; each of the two is an amount and a size."""
+    if later[0] <= 0 or earlier[0] <= 0:
+        return "-"
+    return "%.2f" % (math.log(later[0] / earlier[0]) / math.log(later[1] / earlier[1]))
+
+
+class Stages:
+    """The processor seconds of what the program does with one description, one stage after the other."""
+
+    def __init__(self, series, megabytes):
+        program, path, output = series.program, series.path, series.output
+        generate(path, megabytes * 1_000_000, series.shape)
+        self.size = os.path.getsize(path)
+        self.lines = best(["wc", "-l"], path, output, b"")
+        forms = {}
+        for name, (ending, wanted) in FORMS.items():
+            set_ending(path, self.size, ending)
+            forms[name] = best([program, "layout", "0"], path, output, wanted)
+        self.whole, self.parsed = forms["whole"], forms["parsed"]
+        self.parsing = self.parsed.seconds
+        self.reading = forms["read"].seconds - self.parsing
+        self.rest = self.whole.seconds - forms["read"].seconds
 
 
 class Series:
@@ -90,41 +141,80 @@ class Series:
         self.floor = measure(["true"], os.devnull, self.output).peak
         self.before = None
 
-    def row(self, megabytes):
-        words = [self.program, "layout", "0"]
-        # A value of a wrong shape where the first field is looked for: all is parsed, no more.
-        generate(self.path, megabytes * 1_000_000, self.shape, b'"options":0,')
-        parsed = best(words, self.path, self.output, 3)
-        generate(self.path, megabytes * 1_000_000, self.shape)
-        counted = best(["wc", "-l"], self.path, self.output, 0)
-        whole = best(words, self.path, self.output, 0)
-        size = os.path.getsize(self.path)
-        growth = "-"
-        if self.before:
-            growth = "%.2f" % exponent(whole.seconds, self.before[0], size, self.before[1])
-        self.before = whole.seconds, size
+    def peak_text(self, peak, size):
+        """A multiple of the size, or a bound where the measuring itself took as much."""
+        return "%s%.2f" % ("<" if peak <= 1.05 * self.floor else "", peak / size)
+
+    def growth(self, stages, *names):
+        """The powers by which these grew since the size before."""
+        if self.before is None:
+            return "-"
+        earlier = self.before
+        amounts = [((get(stages), stages.size), (get(earlier), earlier.size)) for get in names]
+        return " ".join(power(*pair) for pair in amounts)
+
+    def laid_out_row(self, stages):
+        seconds = stages.whole.seconds
+        parts = (stages.parsing, stages.reading, stages.rest)
         return (
-            "%s %d MB" % (self.shape, megabytes),
-            "%.3f" % whole.seconds,
-            "%.1f" % (whole.seconds * 1000 * 1_000_000 / size),
-            growth,
-            "%.0f" % (whole.seconds / counted.seconds),
-            "%.0f%%" % (100 * parsed.seconds / whole.seconds),
-            peak_text(whole.peak, size, self.floor),
-            "%.2f" % (whole.written / size),
+            "%.3f" % seconds,
+            "%.1f" % (seconds * 1e9 / stages.size),
+            self.growth(stages, lambda of: of.whole.seconds),
+            "%.0f" % (seconds / stages.lines.seconds),
+            *("%.0f%%" % (100 * part / seconds) for part in parts),
+            self.peak_text(stages.whole.peak, stages.size),
+            "%.2f" % (stages.whole.written / stages.size),
         )
+
+    def checked_row(self, stages):
+        seconds = stages.whole.seconds
+        part = stages.rest / stages.reading if stages.reading > 0 else math.nan
+        return (
+            "%.1f" % (seconds * 1e9 / stages.size),
+            "%.0f" % (seconds / stages.lines.seconds),
+            "%.2f" % (stages.reading / stages.parsing),
+            "%.2f" % (stages.rest / stages.parsing),
+            "%.2f" % part,
+            self.growth(stages, lambda of: of.parsing, lambda of: of.reading, lambda of: of.rest),
+            self.peak_text(stages.whole.peak, stages.size),
+            self.peak_text(stages.parsed.peak, stages.size),
+        )
+
+    def stages(self, sizes):
+        """What was measured at each size; the one before stands in `before` meanwhile."""
+        for megabytes in sizes:
+            stages = Stages(self, megabytes)
+            yield stages
+            self.before = stages
+
+
+def print_line(columns, words):
+    widths = [width for _, width in (FIRST_COLUMN, *columns)]
+    print(" ".join("%*s" % pair for pair in zip(widths, words)), flush=True)
+
+
+def print_table(columns, legend, series, sizes_of, row):
+    """A line for each size of each series."""
+    print_line(columns, [heading for heading, _ in (FIRST_COLUMN, *columns)])
+    for one in series:
+        for stages in one.stages(sizes_of(one.shape)):
+            name = "%s %d MB" % (one.shape, round(stages.size / 1e6))
+            print_line(columns, (name, *row(one, stages)))
+    print(legend)
 
 
 def main(words):
     program = os.path.abspath(words[0] if words else DEFAULT_PROGRAM)
     sizes = sorted(map(int, words[1:])) or DEFAULT_MEGABYTES
-    print(ROW % HEADINGS)
+
+    def sizes_of(shape):
+        return SHAPE_MEGABYTES if shape in SHAPES else sizes
+
     with tempfile.TemporaryDirectory() as folder:
-        for shape in ("objects", *SHAPES):
-            series = Series(program, folder, shape)
-            for megabytes in sizes if shape == "objects" else SHAPE_MEGABYTES:
-                print(ROW % series.row(megabytes), flush=True)
-    print("parsing: the part of the seconds for the JSON; peak and output: multiples of the size")
+        laid_out = [Series(program, folder, shape) for shape in ("objects", *SHAPES)]
+        print_table(LAID_OUT_COLUMNS, LAID_OUT_LEGEND, laid_out, sizes_of, Series.laid_out_row)
+        checked = [Series(program, folder, "whole")]
+        print_table(CHECKED_COLUMNS, CHECKED_LEGEND, checked, sizes_of, Series.checked_row)
 
 
 if __name__ == "__main__":

@@ -1,0 +1,49 @@
+"""Link descriptions to try a program on: random small ones, and fixed ones at the limits."""
+
+import random
+
+from .faults import break_rules
+from .fixed import fixed_cases
+from .good import good_description, move_to_the_edge
+from .richer import make_richer
+from .shapes import break_shape, random_shapes
+from .texts import break_text, json_text
+
+__all__ = ["case", "fixed_cases"]
+
+# Kinds of random descriptions, with their weights.
+MIX = {
+    "to be laid out": 46,
+    "close to the greatest address": 8,
+    "with what isn't laid out yet": 9,
+    "with a broken rule": 21,
+    "with a wrong shape": 8,
+    "of random shapes": 8,
+}
+RICHER_SHARE = 0.6
+BROKEN_TEXTS = 0.05
+
+
+def random_description(rng):
+    """A description that is laid out, or has one of the reasons to be refused."""
+    (kind,) = rng.choices(tuple(MIX), tuple(MIX.values()))
+    if kind == "of random shapes":
+        return random_shapes(rng)
+    description = good_description(rng)
+    if kind == "close to the greatest address":
+        move_to_the_edge(rng, description)
+    elif kind == "with what isn't laid out yet":
+        make_richer(rng, description)
+    elif kind != "to be laid out":
+        if rng.random() < RICHER_SHARE:
+            make_richer(rng, description)
+        fault = break_rules if kind == "with a broken rule" else break_shape
+        fault(rng, description)
+    return description
+
+
+def case(seed, number):
+    """The bytes of the random case of that number."""
+    rng = random.Random("%d:%d" % (seed, number))
+    text = json_text(rng, random_description(rng)).encode("utf-8", "surrogatepass")
+    return break_text(rng, text) if rng.random() < BROKEN_TEXTS else text

@@ -1,0 +1,1 @@
+"""The rules of link descriptions, each written from its text: reading, checking and laying out."""

@@ -1,0 +1,40 @@
+"""What a run ends with in place of a layout."""
+
+LAID_OUT, REFUSED, USAGE, UNREADABLE = 0, 1, 2, 3
+
+
+class Refusal(Exception):
+    """A status with the line that explains it."""
+
+    def __init__(self, status, line):
+        super().__init__(line)
+        self.status = status
+        self.line = line
+
+
+def not_json():
+    return Refusal(UNREADABLE, "not JSON")
+
+
+def wrong_shape(path):
+    return Refusal(UNREADABLE, "not a link description: " + path)
+
+
+def too_many(what, count, limit):
+    return Refusal(REFUSED, "too many %s: %d, limit %d" % (what, count, limit))
+
+
+def bad_link(rule, place):
+    return Refusal(REFUSED, "bad link: rule %d, %s" % (rule, place))
+
+
+def not_carried(what):
+    return Refusal(REFUSED, "not carried: " + what)
+
+
+def address_overflow(place):
+    return Refusal(REFUSED, "address overflow: " + place)
+
+
+def in_no_segment(section):
+    return Refusal(REFUSED, "section %d is in no segment" % section)

@@ -1,0 +1,376 @@
+"""The groups and the plan of a whole link: symbols, relocations, names, section groups, merge data.
+
+Per object some 25 sections, with about 3 symbols and 8 relocations for each, and names of some 30
+bytes. The link keeps every rule. What an object refers to stands in it or in a file before it.
+"""
+
+ALLOCATED, WRITABLE, EXECUTABLE, THREAD_LOCAL, ZERO_FILL = 1, 2, 4, 8, 16
+
+# The output sections: name, attributes, alignments of the parts, and the fields that name those parts.
+OUTPUTS = (
+    (".headers", ALLOCATED, (8, 4), ("file_header", "program_headers")),
+    (".dynsym", ALLOCATED, (8,), ("dynsym",)),
+    (".dynstr", ALLOCATED, (1,), ("dynstr",)),
+    (".rodata", ALLOCATED, (32, 16, 8, 4, 1), ()),
+    (".rodata.str", ALLOCATED, (1,), ()),
+    (".eh_frame", ALLOCATED, (8,), ()),
+    (".init", ALLOCATED | EXECUTABLE, (4,), ()),
+    (".plt", ALLOCATED | EXECUTABLE, (16,), ("plt",)),
+    (".text", ALLOCATED | EXECUTABLE, (64, 32, 16, 8, 4, 2, 1), ()),
+    (".tdata", ALLOCATED | WRITABLE | THREAD_LOCAL, (8,), ()),
+    (".tbss", ALLOCATED | WRITABLE | THREAD_LOCAL | ZERO_FILL, (8,), ()),
+    (".init_array", ALLOCATED | WRITABLE, (8,), ()),
+    (".data.rel.ro", ALLOCATED | WRITABLE, (32, 8), ()),
+    (".got", ALLOCATED | WRITABLE, (8,), ("got",)),
+    (".data", ALLOCATED | WRITABLE, (32, 16, 8, 4, 1), ()),
+    (".bss", ALLOCATED | WRITABLE | ZERO_FILL, (64, 32, 8, 1), ()),
+    (".comment", 0, (1,), ("comment",)),
+    (".debug_info", 0, (1,), ()),
+    (".debug_line", 0, (1,), ()),
+    (".debug_str", 0, (1,), ()),
+    (".symtab", 0, (8, 4), ("symtab_local", "symtab_global")),
+    (".strtab", 0, (1,), ("strtab",)),
+    (".shstrtab", 0, (1,), ("shstrtab",)),
+    (".section_headers", 0, (8,), ("section_headers",)),
+)
+NUMBERS = {name: number for number, (name, _, _, _) in enumerate(OUTPUTS)}
+FIRST_PARTS = {
+    name: sum(len(alignments) for _, _, alignments, _ in OUTPUTS[:number])
+    for name, number in NUMBERS.items()
+}
+PART_COUNTS = {name: len(alignments) for name, _, alignments, _ in OUTPUTS}
+
+# Segments: the kind, and the first and the last output section inside.
+SEGMENTS = (
+    ("load", ".headers", ".eh_frame"),
+    ("load", ".init", ".text"),
+    ("load", ".tdata", ".bss"),
+    ("other", ".tdata", ".got"),
+    ("tls", ".tdata", ".tbss"),
+    ("stack", None, None),
+)
+
+# Input sections: weight, slot, output section, attributes, greatest size, relocations on average.
+INPUTS = (
+    (42, "unloaded", ".text", EXECUTABLE, 700, 10),
+    (11, "unloaded", ".rodata", 0, 300, 3),
+    (7, "unloaded", ".data.rel.ro", WRITABLE, 200, 8),
+    (4, "unloaded", ".data", WRITABLE, 200, 3),
+    (4, "unloaded", ".bss", WRITABLE, 4000, 0),
+    (1, "unloaded", ".tdata", WRITABLE, 32, 0),
+    (2, "must", ".init_array", WRITABLE, 8, 1),
+    (7, "must", ".eh_frame", 0, 900, 12),
+    (5, "debug", ".debug_info", 0, 4000, 24),
+    (4, "debug", ".debug_line", 0, 2000, 12),
+    (6, "merge", ".rodata.str", 0, 160, 0),
+    (3, "merge", ".debug_str", 0, 300, 0),
+    (1, "merge", ".comment", 0, 40, 0),
+    (3, "discard", ".text", EXECUTABLE, 100, 4),
+)
+WEIGHTED_INPUTS = [line[1:] for line in INPUTS for _ in range(line[0])]
+KINDS = (
+    *("Relative",) * 24,
+    *("PltRelative",) * 16,
+    *("Absolute",) * 12,
+    *("GotRelative",) * 6,
+    *("AbsoluteAddition", "AbsoluteSubtraction", "GotTpOff", "TlsGd", "DtpOff", "None"),
+)
+ADDENDS = (-4, -4, -4, 0, 0, 0, 8, 16)
+WORDS = (
+    *("alloc", "borrow", "buffer", "cursor", "decode", "encode", "filter", "format", "header"),
+    *("insert", "layout", "memory", "number", "output", "parse", "query", "record", "report"),
+    *("section", "shared", "signal", "source", "stream", "string", "symbol", "table", "value"),
+)
+OPTIONS = (
+    '{"output":"dynamic","gc":true,"export_list":["plugin_init","plugin_exit"],"discard":"default",'
+    '"strip_names":["__unused_start","__unused_end"],"identity":"measured","stack":8388608,"entry":%d}'
+)
+DYNAMIC_FILES, DYNAMIC_SYMBOLS = 2, 60
+UNDEFINED_SHARE, LOCAL_SHARE, GROUP_SHARE, RELAX_SHARE = 0.4, 0.25, 0.15, 0.03
+MOST_KNOWN = 4096
+MOST_CANDIDATES = 1000
+LAST_BYTES = 20_000
+
+
+def joined(texts):
+    return ",".join(texts)
+
+
+def chance(rng, share):
+    return rng.random() < share
+
+
+def truth(value):
+    return "true" if value else "false"
+
+
+def name_text(rng, start=""):
+    """A name of some 30 bytes."""
+    first, second = rng.choice(WORDS), rng.choice(WORDS)
+    return "%s_ZN%d%s%d%s8h%07xE" % (start, len(first), first, len(second), second, rng.getrandbits(28))
+
+
+# The plan, and the files before the objects
+
+
+def events():
+    """Each output section, and round its own sections each segment."""
+    for segment, (_, first, _) in enumerate(SEGMENTS):
+        if first is None:
+            yield from ('["seg",%d]' % segment, '["endseg",%d]' % segment)
+    for number, (name, _, _, _) in enumerate(OUTPUTS):
+        for segment, (_, first, _) in enumerate(SEGMENTS):
+            if first == name:
+                yield '["seg",%d]' % segment
+        yield '["sec",%d]' % number
+        for segment, (_, _, last) in enumerate(SEGMENTS):
+            if last == name:
+                yield '["endseg",%d]' % segment
+
+
+def plan_text(page, base):
+    sections = joined(
+        '\n{"name":"%s","attrs":%d,"parts":[%s]}'
+        % (name, attributes, joined("[%d,false]" % alignment for alignment in alignments))
+        for name, attributes, alignments, _ in OUTPUTS
+    )
+    named = joined(
+        '"%s":%d' % (field, part)
+        for name, _, _, fields in OUTPUTS
+        for part, field in enumerate(fields, FIRST_PARTS[name])
+    )
+    return '{"page":%d,"base":["num",%d],"sections":[%s],\n"segments":[%s],\n"events":[%s],\n%s}' % (
+        page,
+        base,
+        sections,
+        joined('{"kind":"%s"}' % kind for kind, _, _ in SEGMENTS),
+        joined(events()),
+        named,
+    )
+
+
+PRELUDE_SYMBOLS = (
+    ("__executable_start", '["loadbase"]'),
+    ("__ehdr_start", '["start",%d]' % NUMBERS[".headers"]),
+    ("__bss_start", '["start",%d]' % NUMBERS[".bss"]),
+    ("_edata", '["end",%d]' % NUMBERS[".data"]),
+    ("_end", '["groupend",%d]' % NUMBERS[".bss"]),
+    ("__tls_end", '["tlsend"]'),
+    ("_etext", '["end",%d]' % NUMBERS[".text"]),
+    ("__heap_start", '["redirect",["align",["dot"],["num",4096]],["end",%d],true]' % NUMBERS[".bss"]),
+)
+
+
+class Link:
+    """What is kept of a link while it is written."""
+
+    def __init__(self, writer, rng):
+        self.writer, self.rng = writer, rng
+        self.symbols = 0  # symbols so far, over all files
+        self.files = 0  # objects so far
+        self.known = []  # some symbols of files so far that stand for themselves
+        self.candidates = []
+
+    def keep(self, items, item, most):
+        """Keeps an item, in place of another one where there are as many as may be."""
+        if len(items) < most:
+            items.append(item)
+        else:
+            items[self.rng.randrange(most)] = item
+
+    def put_first_files(self):
+        """The prelude; a script and the dynamic files."""
+        prelude = joined('{"name":"%s","at":%s}' % symbol for symbol in PRELUDE_SYMBOLS)
+        script = '{"name":"heap_size","at":["redirect",["num",65536],["none"],true]}'
+        self.writer.put('[{"kind":"prelude","symbols":[%s]}],\n' % prelude)
+        self.writer.put('[{"kind":"script","name":"link.ld","symbols":[%s]}' % script)
+        self.symbols = len(PRELUDE_SYMBOLS) + 1
+        for number in range(DYNAMIC_FILES):
+            names = [name_text(self.rng) for _ in range(DYNAMIC_SYMBOLS)]
+            symbols = joined('{"name":"%s","at":["dyn"],"flags":2}' % name for name in names)
+            self.writer.put(',\n{"kind":"dynamic","name":"lib%d.so","symbols":[%s]}' % (number, symbols))
+            self.known += range(self.symbols, self.symbols + DYNAMIC_SYMBOLS)
+            self.symbols += DYNAMIC_SYMBOLS
+        self.writer.put("]")
+
+    def put_last_file(self):
+        """A synthetic file, with sections that its symbols keep."""
+        number = NUMBERS[".init_array"]
+        symbols = '{"name":"__start_array","at":["start",%d]},{"name":"__stop_array","at":["end",%d]}'
+        candidates = joined("[%d,%d,%d,%d]" % ((number, *place)) for place in self.candidates)
+        self.writer.put(
+            ',\n[{"kind":"synthetic","name":"generated","symbols":[%s],"candidates":[%s]}]'
+            % (symbols % (number, number), candidates)
+        )
+
+
+FIRST_OBJECT_SYMBOL = len(PRELUDE_SYMBOLS) + 1 + DYNAMIC_FILES * DYNAMIC_SYMBOLS
+
+
+# Objects
+
+
+class Section:
+    """An input section: its number in the object, what kind it is, its bytes."""
+
+    def __init__(self, rng, index):
+        # The first one of an object is code, so that the link has an entry.
+        line = WEIGHTED_INPUTS[0] if index == 0 else rng.choice(WEIGHTED_INPUTS)
+        self.index = index
+        self.slot, self.output, self.attributes, largest, relocations = line
+        self.data = self.merge_data(rng, largest) if self.slot == "merge" else None
+        self.size = len(self.data) // 2 if self.data else 8 * rng.randrange(1, largest // 8 + 1)
+        self.relocations = min(self.size, int(relocations * 2 * rng.random() + 0.5))
+        self.group = None
+
+    @staticmethod
+    def merge_data(rng, largest):
+        """Strings, each with its zero byte, in hexadecimal digits."""
+        count = rng.randrange(1, largest // 10 + 1)
+        strings = ["%s_%d\0" % (rng.choice(WORDS), rng.getrandbits(8)) for _ in range(count)]
+        return "".join(strings).encode().hex()
+
+
+class Object:
+    """The sections and symbols of an object, and their text."""
+
+    def __init__(self, link, sections):
+        self.link, self.rng = link, link.rng
+        self.sections = [Section(self.rng, index) for index in range(sections)]
+        self.symbol_texts = []
+        self.targets = []  # symbols to refer to, each with its greatest addend, if any
+        self.choose_groups()
+        self.make_symbols()
+
+    def choose_groups(self):
+        """Some pairs of neighbours, the second with what the first needs."""
+        for first, second in zip(self.sections, self.sections[1:]):
+            grouped = first.slot == "unloaded" and second.slot in ("unloaded", "debug")
+            if grouped and first.group is None and chance(self.rng, GROUP_SHARE):
+                first.group = second.group = first.index
+
+    def add_symbol(self, text, target=True, most=None):
+        if target:
+            self.targets.append((len(self.symbol_texts), most))
+        self.symbol_texts.append(text)
+        self.link.symbols += 1
+
+    def make_symbols(self):
+        """About three for each section: of the section, others of it, and ones of other files."""
+        for section in self.sections:
+            self.name_section(section)
+            for _ in range(self.rng.randrange(1, 4)):
+                if chance(self.rng, UNDEFINED_SHARE):
+                    self.refer_outside()
+                else:
+                    self.name_place(section)
+
+    def name_section(self, section):
+        """A symbol of the section itself: unnamed and local, or a name that others may refer to."""
+        live = section.slot != "discard"
+        if section.slot in ("merge", "debug", "discard"):
+            most = section.size - 1 if section.slot == "merge" else None
+            self.add_symbol('{"at":["sec",%d,0],"local":true}' % section.index, live, most)
+            return
+        number = self.link.symbols
+        grouped = ',"weak":true,"flags":16' if section.group == section.index else ""
+        name = name_text(self.rng)
+        self.add_symbol('{"name":"%s","at":["sec",%d,0]%s}' % (name, section.index, grouped))
+        self.link.keep(self.link.known, number, MOST_KNOWN)
+
+    def name_place(self, section):
+        """A local or hidden place in the section."""
+        offset = self.rng.randrange(section.size)
+        start = ".L" if chance(self.rng, LOCAL_SHARE) else ""
+        mark = "local" if start or chance(self.rng, 0.5) else "hidden"
+        text = '{"name":"%s","at":["sec",%d,%d],"%s":true}'
+        place = (name_text(self.rng, start), section.index, offset, mark)
+        self.add_symbol(text % place, section.slot not in ("discard", "merge"))
+
+    def refer_outside(self):
+        text = '{"name":"%s","at":["undef"],"def":%d%s}'
+        weak = ',"weak":true' if chance(self.rng, 0.05) else ""
+        self.add_symbol(text % (name_text(self.rng), self.rng.choice(self.link.known), weak))
+
+    # Texts
+
+    def relocation_texts(self, section):
+        """Relocations at rising offsets."""
+        for number in range(section.relocations):
+            bits = self.rng.getrandbits(32)
+            symbol, most = self.targets[(bits >> 9) % len(self.targets)]
+            kind = KINDS[bits % len(KINDS)]
+            addend = ADDENDS[bits >> 6 & 7] if most is None else (bits >> 9) % (most + 1)
+            yield '[%d,"%s",%d,%d,%s]' % (
+                number * section.size // section.relocations,
+                kind,
+                symbol,
+                addend,
+                truth(kind == "PltRelative"),
+            )
+
+    def relaxation_texts(self, section):
+        for start in range(0, min(section.size, 48), 16):
+            yield "[%d,%d,%d,4]" % (start, self.rng.choice(self.targets)[0], 1 << 20)
+
+    def section_fields(self, section):
+        yield '{"name":"%s","slot":"%s"' % (name_text(self.rng, section.output + "."), section.slot)
+        part = FIRST_PARTS[section.output] + self.rng.randrange(PART_COUNTS[section.output])
+        yield ',"part":%d' % part
+        if section.slot == "merge":
+            yield ',"data":"%s","strings":true' % section.data
+        else:
+            yield ',"size":%d' % section.size
+        if section.output == ".init_array" and chance(self.rng, 0.5):
+            yield ',"sorted":true'
+        if section.attributes:
+            yield ',"attrs":%d' % section.attributes
+        if section.group is not None:
+            yield ',"group":%d' % section.group
+        if section.relocations:
+            yield ',"relocs":[%s]' % joined(self.relocation_texts(section))
+        if section.output == ".text" and chance(self.rng, RELAX_SHARE):
+            yield ',"relax":[%s]' % joined(self.relaxation_texts(section))
+        yield "}"
+
+    def text(self):
+        number = self.link.files
+        start = '{"kind":"object","name":"lib/unit_%04d/source_%07d.o"' % (number // 64 % 10000, number)
+        archive = ',"archive":true' if number % 4 == 3 else ""
+        sections = joined("".join(self.section_fields(section)) for section in self.sections)
+        return '%s,"symbols":[%s],\n"sections":[%s]%s}\n' % (
+            start,
+            joined(self.symbol_texts),
+            sections,
+            archive,
+        )
+
+
+def put_objects(link, total, group_files, first_group):
+    """Groups of objects until the description is long enough."""
+    writer, rng = link.writer, link.rng
+    group = first_group
+    while link.files == 0 or writer.written < total - LAST_BYTES:
+        writer.put(",\n[")
+        for place in range(group_files):
+            if place > 0 and writer.written >= total - LAST_BYTES:
+                break
+            made = Object(link, 1 + int(49 * rng.random()))
+            for section in made.sections:
+                if section.output == ".init_array":
+                    link.keep(link.candidates, (group, place, section.index), MOST_CANDIDATES)
+            writer.put(("," if place > 0 else "") + made.text())
+            link.files += 1
+        writer.put("]")
+        group += 1
+
+
+def put_whole_link(writer, rng, total, group_files, page, base):
+    """The whole description."""
+    link = Link(writer, rng)
+    writer.put('{"options":%s,\n"plan":%s,\n' % (OPTIONS % FIRST_OBJECT_SYMBOL, plan_text(page, base)))
+    writer.put('"groups":[\n')
+    link.put_first_files()
+    put_objects(link, total, group_files, 2)
+    link.put_last_file()
+    writer.put("\n]}\n")
