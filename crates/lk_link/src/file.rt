@@ -3,7 +3,7 @@
 pub use crate::candidates::Candidates;
 use crate::ids::{FileId, OutputSectionId};
 use crate::list::List;
-pub use crate::sections::InputSections;
+pub use crate::sections::{InputSections, group_members_rise};
 use crate::symbol::InputSymbol;
 use crate::text::Text;
 
