@@ -137,12 +137,8 @@ impl Described for Options {
 
     fn read(alloc: Global, value: &Value) -> Result<Options, InputError> {
         object(alloc, value)?;
-        let output = defaulted(
-            alloc,
-            value,
-            OptionKey::Output,
-            OutputKind::StaticExecutable,
-        )?;
+        let executable = OutputKind::StaticExecutable;
+        let output = defaulted(alloc, value, OptionKey::Output, executable)?;
         let gc = defaulted(alloc, value, OptionKey::Gc, true)?;
         let error_objects = defaulted(alloc, value, OptionKey::ErrorObjects, true)?;
         let error_dynamics = defaulted(alloc, value, OptionKey::ErrorDynamics, true)?;

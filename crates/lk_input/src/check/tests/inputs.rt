@@ -1,234 +1,133 @@
 //! The rule on input sections.
 
-use crate::check::check_link;
-use crate::check::tests::bad;
-use crate::check::tests::build::{
-    Input, MUST, NO_PARTS, Step, file, input_section, link, one_part, part, plan, section, symbol,
-};
-use lk_link::fault::{LinkFault, Place, Rule};
-use lk_link::file::FileKind;
-use lk_link::ids::{FileId, OutputSectionId, PartId};
-use lk_link::options::OutputKind;
-use lk_link::plan::{NamedParts, Plan, PlanPart};
-use lk_link::section::InputSlot;
-use lk_link::symbol::SymbolPlacement;
-use std::alloc::{AllocError, Global};
+use super::expect;
+use std::alloc::Global;
+use std::process::Abort;
 use std::test::Fail;
 
-/// Sections of parts 0 and 1, of alignments 8 and 1; of part 2, which is packed; of part 3, whose input sections stay
-/// sections of their own; and of part 4, which is a table.
-fn tried_plan(alloc: Global) -> Result<Plan, AllocError> {
-    let packed = PlanPart {
-        alignment: 1,
-        packed: true,
-    };
-    let mut sections = Vec::new(alloc);
-    sections.push(section(alloc, &[part(8), part(1)])?)?;
-    sections.push(section(alloc, &[packed])?)?;
-    sections.push(one_part(alloc)?)?;
-    sections.push(one_part(alloc)?)?;
-    let steps = [
-        Step::Section(0),
-        Step::Section(1),
-        Step::Section(2),
-        Step::Section(3),
-    ];
-    let mut plan = plan(alloc, sections, &[], &steps)?;
-    plan.named = NamedParts {
-        shstrtab: Some(PartId::from_u32(4)),
-        ..NO_PARTS
-    };
-    plan.singletons = Some(OutputSectionId::from_u32(2));
-    Ok(plan)
-}
-
-/// What the check answers for this section, the second of an object with two symbols.
-fn answer(alloc: Global, tried: Input<'_>) -> Result<Result<(), LinkFault>, AllocError> {
-    let mut symbols = Vec::new(alloc);
-    symbols.push(symbol(alloc, SymbolPlacement::Undef))?;
-    symbols.push(symbol(alloc, SymbolPlacement::Undef))?;
-    let mut sections = Vec::new(alloc);
-    sections.push(input_section(alloc, MUST)?)?;
-    sections.push(input_section(alloc, tried)?)?;
-    let mut files = Vec::new(alloc);
-    files.push(file(alloc, FileKind::Object, symbols, sections)?)?;
-    let mut link = link(alloc, tried_plan(alloc)?, files)?;
-    link.options.output = OutputKind::Partial;
-    Ok(check_link(&link))
-}
-
-/// What is wanted of it.
-fn wanted(is_good: bool) -> Result<(), LinkFault> {
-    if is_good {
-        Ok(())
-    } else {
-        bad(
-            Rule::InputSections,
-            Place::Input(FileId { group: 1, file: 0 }, 1),
-        )
-    }
+/// Wants the answers for the second section of an object with two symbols. The plan has parts 0 and 1, of alignments 8
+/// and 1; part 2, which is packed; part 3, whose input sections stay sections of their own; and part 4, a table.
+fn expect_section(rt: &impl Abort, alloc: Global, rows: &'static str) -> Result<(), Fail> {
+    let plan =
+        r#""page":1,"sections":[{"parts":[[8,false],[1,false]]},{"parts":[[1,true]]},{"parts":[[1,false]]},{"parts":[[1,false]]}],"events":[["sec",0],["sec",1],["sec",2],["sec",3]],"shstrtab":4,"singletons":2"#;
+    let frame = format!(in alloc;
+        r#"{{"options":{{"output":"partial"}},"plan":{{{plan}}},"groups":[[{{"kind":"prelude"}}],[{{"kind":"object","symbols":[{{"at":["undef"]}},{{"at":["undef"]}}],"sections":[{{"slot":"must","size":8}},{{...}}]}}]]}}"#
+    )?;
+    expect(rt, alloc, frame.as_str(), rows)
 }
 
 #[test]
 fn a_section_fits_its_part(rt: HostRuntime) -> Result<(), Fail> {
-    use InputSlot::{Discard, Merge, MustLoad};
-    let alloc = rt.alloc();
-    let cases = [
-        (MustLoad, 0u32, true),
-        (MustLoad, 1, true),
-        (MustLoad, 2, true),
-        (MustLoad, 3, true),
-        (MustLoad, 4, false),
-        (MustLoad, 5, false),
-        (MustLoad, 4294967295, false),
-        (Merge, 0, false),
-        (Merge, 1, true),
-        (Merge, 2, true),
-        (Merge, 4, false),
-        (Discard, 4, true),
-        (Discard, 4294967295, true),
-    ];
-    for (slot, part, is_good) in cases {
-        let tried = Input { slot, part, ..MUST };
-        assert_eq!(rt; answer(alloc, tried)?, wanted(is_good), "{tried:?}");
-    }
-    Ok(())
-}
-
-#[test]
-fn some_slots_are_sorted_or_stay_of_their_own(rt: HostRuntime) -> Result<(), Fail> {
-    use InputSlot::{DebugInfo, Discard, Merge, MustLoad, MustLoadDebugInfo, Unloaded};
-    let alloc = rt.alloc();
-    let cases = [
-        (Unloaded, 0u32, true, true),
-        (MustLoad, 1, true, true),
-        (MustLoad, 2, true, false),
-        (DebugInfo, 0, true, false),
-        (MustLoadDebugInfo, 0, true, false),
-        (Merge, 1, true, false),
-        (Discard, 2, true, true),
-        (Unloaded, 3, false, true),
-        (MustLoad, 3, false, true),
-        (MustLoad, 3, true, false),
-        (DebugInfo, 3, false, false),
-        (MustLoadDebugInfo, 3, false, false),
-        (Merge, 3, false, false),
-        (DebugInfo, 0, false, true),
-    ];
-    for (slot, part, sorted, is_good) in cases {
-        let tried = Input {
-            slot,
-            part,
-            sorted,
-            ..MUST
-        };
-        assert_eq!(rt; answer(alloc, tried)?, wanted(is_good), "{tried:?}");
-    }
-    Ok(())
+    expect_section(
+        &rt,
+        rt.alloc(),
+        r#"
+"slot":"must","part":0 => well formed
+"slot":"must","part":1 => well formed
+"slot":"must","part":2 => well formed
+"slot":"must","part":3 => well formed
+"slot":"must","part":4 => rule 11, input 1 0 1
+"slot":"must","part":5 => rule 11, input 1 0 1
+"slot":"must","part":4294967295 => rule 11, input 1 0 1
+"slot":"merge","part":0 => rule 11, input 1 0 1
+"slot":"merge","part":1 => well formed
+"slot":"merge","part":2 => well formed
+"slot":"merge","part":4 => rule 11, input 1 0 1
+"slot":"discard","part":4 => well formed
+"slot":"discard","part":4294967295 => well formed
+# Some slots are sorted.
+"slot":"unloaded","part":0,"sorted":true => well formed
+"slot":"must","part":1,"sorted":true => well formed
+"slot":"must","part":2,"sorted":true => rule 11, input 1 0 1
+"slot":"debug","part":0,"sorted":true => rule 11, input 1 0 1
+"slot":"mustdebug","part":0,"sorted":true => rule 11, input 1 0 1
+"slot":"merge","part":1,"sorted":true => rule 11, input 1 0 1
+"slot":"discard","part":2,"sorted":true => well formed
+# Some stay sections of their own.
+"slot":"unloaded","part":3 => well formed
+"slot":"must","part":3,"sorted":true => rule 11, input 1 0 1
+"slot":"debug","part":3 => rule 11, input 1 0 1
+"slot":"mustdebug","part":3 => rule 11, input 1 0 1
+"slot":"merge","part":3 => rule 11, input 1 0 1
+"slot":"debug","part":0 => well formed
+"#,
+    )
 }
 
 #[test]
 fn attributes_are_for_writing_and_code(rt: HostRuntime) -> Result<(), Fail> {
-    let alloc = rt.alloc();
-    let cases = [
-        (0u32, true),
-        (2, true),
-        (4, true),
-        (6, true),
-        (1, false),
-        (3, false),
-        (7, false),
-        (8, false),
-        (22, false),
-        (4294967295, false),
-    ];
-    for (attrs, is_good) in cases {
-        let tried = Input { attrs, ..MUST };
-        assert_eq!(rt; answer(alloc, tried)?, wanted(is_good), "{tried:?}");
-    }
-    Ok(())
+    expect_section(
+        &rt,
+        rt.alloc(),
+        r#"
+"slot":"must","attrs":0 => well formed
+"slot":"must","attrs":2 => well formed
+"slot":"must","attrs":4 => well formed
+"slot":"must","attrs":6 => well formed
+"slot":"must","attrs":1 => rule 11, input 1 0 1
+"slot":"must","attrs":3 => rule 11, input 1 0 1
+"slot":"must","attrs":7 => rule 11, input 1 0 1
+"slot":"must","attrs":8 => rule 11, input 1 0 1
+"slot":"must","attrs":22 => rule 11, input 1 0 1
+"slot":"must","attrs":4294967295 => rule 11, input 1 0 1
+"#,
+    )
 }
 
 #[test]
 fn relocations_stand_inside(rt: HostRuntime) -> Result<(), Fail> {
-    let alloc = rt.alloc();
-    let must = InputSlot::MustLoad;
-    let cases: [(InputSlot, &[(u64, u32)], bool); 7] = [
-        (must, &[(0, 1), (7, 0), (7, 0), (3, 1)], true),
-        (must, &[(8, 0)], false),
-        (must, &[(0, 0), (18446744073709551615, 0)], false),
-        (must, &[(0, 2)], false),
-        (must, &[(0, 1), (0, 4294967295)], false),
-        (InputSlot::DebugInfo, &[(8, 0)], false),
-        (InputSlot::Discard, &[(8, 2)], true),
-    ];
-    for (slot, relocs, is_good) in cases {
-        let tried = Input {
-            slot,
-            relocs,
-            ..MUST
-        };
-        assert_eq!(rt; answer(alloc, tried)?, wanted(is_good), "{tried:?}");
-    }
-    Ok(())
+    expect_section(
+        &rt,
+        rt.alloc(),
+        r#"
+"slot":"must","size":8,"relocs":[[0,"Absolute",1,0,false],[7,"Absolute",0,0,false],[7,"Absolute",0,0,false],[3,"Absolute",1,0,false]] => well formed
+"slot":"must","size":8,"relocs":[[8,"Absolute",0,0,false]] => rule 11, input 1 0 1
+"slot":"must","size":8,"relocs":[[0,"Absolute",0,0,false],[18446744073709551615,"Absolute",0,0,false]] => rule 11, input 1 0 1
+"slot":"must","size":8,"relocs":[[0,"Absolute",2,0,false]] => rule 11, input 1 0 1
+"slot":"must","size":8,"relocs":[[0,"Absolute",1,0,false],[0,"Absolute",4294967295,0,false]] => rule 11, input 1 0 1
+"slot":"debug","size":8,"relocs":[[8,"Absolute",0,0,false]] => rule 11, input 1 0 1
+"slot":"discard","size":8,"relocs":[[8,"Absolute",2,0,false]] => well formed
+"#,
+    )
 }
 
 #[test]
 fn relaxations_rise_and_stand_inside(rt: HostRuntime) -> Result<(), Fail> {
-    let alloc = rt.alloc();
-    let must = InputSlot::MustLoad;
-    let most = 18446744073709551615;
-    let cases: [(InputSlot, &[(u64, u64, u32)], bool); 11] = [
-        (must, &[(0, 1, 0), (1, 2, 1), (4, 4, 0)], true),
-        (must, &[(0, 8, 1)], true),
-        (must, &[(0, 0, 0)], false),
-        (must, &[(8, 0, 0)], false),
-        (must, &[(0, 2, 0), (1, 1, 0)], false),
-        (must, &[(4, 1, 0), (0, 1, 0)], false),
-        (must, &[(0, 1, 0), (4, 5, 0)], false),
-        (must, &[(most, most, 0)], false),
-        (must, &[(0, most, 0), (most, 1, 0)], false),
-        (must, &[(0, 1, 0), (1, 1, 2)], false),
-        (InputSlot::Discard, &[(4, 9, 2), (0, 0, 2)], true),
-    ];
-    for (slot, relax, is_good) in cases {
-        let tried = Input {
-            slot,
-            relax,
-            ..MUST
-        };
-        assert_eq!(rt; answer(alloc, tried)?, wanted(is_good), "{tried:?}");
-    }
-    Ok(())
+    expect_section(
+        &rt,
+        rt.alloc(),
+        r#"
+# Where one begins, its symbol, its limit, how much it takes.
+"slot":"must","size":8,"relax":[[0,0,0,1],[1,1,0,2],[4,0,0,4]] => well formed
+"slot":"must","size":8,"relax":[[0,1,0,8]] => well formed
+"slot":"must","size":8,"relax":[[0,0,0,0]] => rule 11, input 1 0 1
+"slot":"must","size":8,"relax":[[8,0,0,0]] => rule 11, input 1 0 1
+"slot":"must","size":8,"relax":[[0,0,0,2],[1,0,0,1]] => rule 11, input 1 0 1
+"slot":"must","size":8,"relax":[[4,0,0,1],[0,0,0,1]] => rule 11, input 1 0 1
+"slot":"must","size":8,"relax":[[0,0,0,1],[4,0,0,5]] => rule 11, input 1 0 1
+"slot":"must","size":8,"relax":[[18446744073709551615,0,0,18446744073709551615]] => rule 11, input 1 0 1
+"slot":"must","size":8,"relax":[[0,0,0,18446744073709551615],[18446744073709551615,0,0,1]] => rule 11, input 1 0 1
+"slot":"must","size":8,"relax":[[0,0,0,1],[1,2,0,1]] => rule 11, input 1 0 1
+"slot":"discard","size":8,"relax":[[4,2,0,9],[0,2,0,0]] => well formed
+"#,
+    )
 }
+
+/// Two objects.
+const OBJECTS: &str =
+    r#"{"plan":{"page":1,"sections":[{"parts":[[1,false]]}],"events":[["sec",0]],"got":0},"groups":[[{"kind":"prelude"}],[{"kind":"object","sections":[...]}]]}"#;
 
 #[test]
 fn sections_of_all_files_are_looked_at(rt: HostRuntime) -> Result<(), Fail> {
-    let alloc = rt.alloc();
-    let first = bad(
-        Rule::InputSections,
-        Place::Input(FileId { group: 1, file: 0 }, 1),
-    );
-    let second = bad(
-        Rule::InputSections,
-        Place::Input(FileId { group: 2, file: 0 }, 0),
-    );
-    let cases = [
-        ([0u32, 4], [4u32, 0], first),
-        ([0, 0], [4, 4], second),
-        ([0, 0], [0, 0], Ok(())),
-    ];
-    for (in_first, in_second, want) in cases {
-        let mut files = Vec::new(alloc);
-        for parts in [in_first, in_second] {
-            let mut sections = Vec::new(alloc);
-            for part in parts {
-                sections.push(input_section(alloc, Input { part, ..MUST })?)?;
-            }
-            files.push(file(alloc, FileKind::Dynamic, Vec::new(alloc), sections)?)?;
-        }
-        let link = link(alloc, tried_plan(alloc)?, files)?;
-        assert_eq!(rt; check_link(&link), want, "{in_first:?} {in_second:?}");
-    }
-    Ok(())
+    expect(
+        &rt,
+        rt.alloc(),
+        OBJECTS,
+        r#"
+{"slot":"discard"},{"slot":"must"}]}],[{"kind":"object","sections":[{"slot":"must"},{"slot":"discard"} => rule 11, input 1 0 1
+{"slot":"discard"},{"slot":"discard"}]}],[{"kind":"object","sections":[{"slot":"must"},{"slot":"must"} => rule 11, input 2 0 0
+{"slot":"discard"},{"slot":"discard"}]},{"kind":"object"},{"kind":"object","sections":[{"slot":"must"} => rule 11, input 1 2 0
+{"slot":"discard"},{"slot":"discard"}]}],[{"kind":"object","sections":[{"slot":"discard"} => well formed
+"#,
+    )
 }

@@ -1,96 +1,103 @@
 //! The limits that few items show.
 
-use crate::check::check_link;
-use crate::check::tests::bad;
-use crate::check::tests::build::{Step, groups, one_part, options, part, plan, section};
-use lk_link::expression::Expression;
-use lk_link::fault::{Limited, LinkFault, Place, Rule};
-use lk_link::groups::InputGroups;
+use super::{answer, answer_of};
+use crate::read_link;
+use lk_link::ids::OutputSectionId;
 use lk_link::link::LinkInput;
 use lk_link::list::List;
-use lk_link::plan::{Region, SegmentKind};
+use lk_link::plan::{Emit, OrderEvent, PlanPart, PlanSection, PlanSections};
 use lk_link::text::Text;
 use std::alloc::{AllocError, Global};
 use std::test::Fail;
 
-fn too_many(what: Limited, count: u64, limit: u64) -> Result<(), LinkFault> {
-    Err(LinkFault::TooMany { what, count, limit })
+/// So many of an item, in a list.
+fn listed(alloc: Global, item: &str, count: usize) -> Result<String, AllocError> {
+    let mut text = String::new(alloc);
+    text.push('[')?;
+    for number in 0..count {
+        if number > 0 {
+            text.push(',')?;
+        }
+        text.push_str(item)?;
+    }
+    text.push(']')?;
+    Ok(text)
 }
 
-/// A link with so many groups, segments and regions, and no events.
-fn sized_link(
+/// The answer for so many groups without files, segments and regions.
+fn answer_for(
     alloc: Global,
-    group_count: usize,
+    groups: usize,
     segments: usize,
     regions: usize,
-) -> Result<LinkInput, AllocError> {
-    let mut all = groups(alloc, Vec::new(alloc))?;
-    for _ in 1..group_count {
-        all.push(List::new(alloc))?;
-    }
-    let kinds = vec![in alloc; SegmentKind::Load; segments]?;
-    let mut plan = plan(alloc, Vec::new(alloc), kinds.as_slice(), &[])?;
-    let mut regions_of_plan = Vec::new(alloc);
-    for _ in 0..regions {
-        regions_of_plan.push(Region {
-            name: Text::new(alloc),
-            origin: Expression::number(alloc, 0)?,
-            length: Expression::number(alloc, 0)?,
-        })?;
-    }
-    plan.regions = List::from_vec(regions_of_plan);
-    Ok(LinkInput {
-        options: options(alloc),
-        plan,
-        groups: InputGroups::new(alloc, List::from_vec(all))?,
-    })
+) -> Result<String, AllocError> {
+    let groups = listed(alloc, "[]", groups)?;
+    let segments = listed(alloc, r#"{"kind":"load"}"#, segments)?;
+    let regions = listed(alloc, r#"{"origin":["dot"],"length":["dot"]}"#, regions)?;
+    let text = format!(in alloc;
+        r#"{{"plan":{{"page":1,"segments":{segments},"regions":{regions}}},"groups":{groups}}}"#
+    )?;
+    answer(alloc, text.as_str())
 }
 
 #[test]
-fn lists_have_limits(rt: HostRuntime) -> Result<(), Fail> {
+fn groups_segments_and_regions_have_limits(rt: HostRuntime) -> Result<(), Fail> {
     let alloc = rt.alloc();
-    let missing = bad(Rule::Events, Place::Event(0));
-    let cases = [
-        (1usize, 64usize, 64usize, missing),
-        (1, 65, 65, too_many(Limited::Segments, 65, 64)),
-        (1, 64, 66, too_many(Limited::Regions, 66, 64)),
-        (65535, 65, 0, too_many(Limited::Segments, 65, 64)),
-        (65536, 65, 65, too_many(Limited::Groups, 65536, 65535)),
+    let table = [
+        (65535, 64, 64, "rule 7, event 0"),
+        (1, 65, 65, "65 segments, at most 64"),
+        (1, 64, 66, "66 regions, at most 64"),
+        (65535, 65, 0, "65 segments, at most 64"),
+        (65536, 65, 65, "65536 groups, at most 65535"),
     ];
-    for (groups, segments, regions, want) in cases {
-        let link = sized_link(alloc, groups, segments, regions)?;
-        assert_eq!(rt; check_link(&link), want, "{groups} {segments} {regions}");
+    for (groups, segments, regions, want) in table {
+        let found = answer_for(alloc, groups, segments, regions)?;
+        assert_eq!(rt; found.as_str(), want);
     }
     Ok(())
+}
+
+/// A link with so many parts in its one section, and so many events.
+fn crowded_link(alloc: Global, parts: usize, events: usize) -> Result<LinkInput, Fail> {
+    let mut link = read_link(alloc, br#"{"plan":{"page":1}}"#)?;
+    let part = PlanPart {
+        alignment: 1,
+        packed: false,
+    };
+    let section = PlanSection {
+        name: Text::new(alloc),
+        attrs: 0,
+        align: 1,
+        parts: List::from_vec(vec![in alloc; part; parts]?),
+        primary: None,
+        emit: Emit::Auto,
+        region: None,
+        at: None,
+        top: false,
+        counters: false,
+    };
+    let mut sections = Vec::new(alloc);
+    sections.push(section)?;
+    link.plan.sections = PlanSections::new(alloc, List::from_vec(sections))?;
+    let mut all = Vec::new(alloc);
+    for _ in 0..events {
+        all.push(OrderEvent::Section(OutputSectionId::from_u32(0)))?;
+    }
+    link.plan.events = List::from_vec(all);
+    Ok(link)
 }
 
 #[test]
 fn parts_and_events_have_limits(rt: HostRuntime) -> Result<(), Fail> {
     let alloc = rt.alloc();
-    let part_fault = too_many(Limited::Parts, 1048577, 1048576);
-    let event_fault = too_many(Limited::Events, 262145, 262144);
-    let cases = [
-        (
-            1048576usize,
-            262144usize,
-            bad(Rule::Sections, Place::Section(1)),
-        ),
-        (1048576, 262145, event_fault),
-        (1048577, 262145, part_fault),
+    let table = [
+        (1048576, 262144, "rule 3, section 0"),
+        (1048576, 262145, "262145 events, at most 262144"),
+        (1048577, 262145, "1048577 parts, at most 1048576"),
     ];
-    for (parts, events, want) in cases {
-        let many = vec![in alloc; part(1); parts.saturating_sub(1)]?;
-        let mut sections = Vec::new(alloc);
-        sections.push(one_part(alloc)?)?;
-        sections.push(section(alloc, many.as_slice())?)?;
-        let steps = vec![in alloc; Step::Section(0); events]?;
-        let plan = plan(alloc, sections, &[], steps.as_slice())?;
-        let link = LinkInput {
-            options: options(alloc),
-            plan,
-            groups: InputGroups::new(alloc, List::from_vec(groups(alloc, Vec::new(alloc))?))?,
-        };
-        assert_eq!(rt; check_link(&link), want, "{parts} {events}");
+    for (parts, events, want) in table {
+        let link = crowded_link(alloc, parts, events)?;
+        assert_eq!(rt; answer_of(alloc, &link)?.as_str(), want);
     }
     Ok(())
 }
