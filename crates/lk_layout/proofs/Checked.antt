@@ -45,7 +45,7 @@ sections_aligned link good = λ k d below.
     (section_of link k s good (slice_get-get_or link.plan.sections k d below)).aligned_self
 
 -- the sections inside a segment are there
-inside_in_range : (plan : Plan) (i : ℕ) (before es : List OrderEvent) → AllByRecursion (IsInRange plan) es → AllByRecursion (λ s. s < length plan.sections) (inside_after i before es)
+pub inside_in_range : (plan : Plan) (i : ℕ) (before es : List OrderEvent) → AllByRecursion (IsInRange plan) es → AllByRecursion (λ s. s < length plan.sections) (inside_after i before es)
 inside_in_range plan i before [] h = tt
 inside_in_range plan i before (SegmentStart j ∷ es) h = inside_in_range plan i (before ++ SegmentStart j ∷ []) es h.1
 inside_in_range plan i before (SegmentEnd j ∷ es) h = inside_in_range plan i (before ++ SegmentEnd j ∷ []) es h.1

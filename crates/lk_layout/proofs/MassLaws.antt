@@ -67,7 +67,7 @@ following_takes backed g first from (p ∷ ps) (r ∷ rs) to h =
     ]) refl h
 
 -- the first walked part is there, and those before it have no bytes
-walked : (ps : List SizedPart) → 0 < length ps → (first_walked ps < length ps) × ((k : ℕ) (d : SizedPart) → k < first_walked ps → has_bytes (get_or ps k d) ≡ false)
+pub walked : (ps : List SizedPart) → 0 < length ps → (first_walked ps < length ps) × ((k : ℕ) (d : SizedPart) → k < first_walked ps → has_bytes (get_or ps k d) ≡ false)
 walked ps some =
     (elim (position has_bytes ps) as (λ o. position has_bytes ps ≡ o → (unwrap_or o 0 < length ps) × ((k : ℕ) (d : SizedPart) → k < unwrap_or o 0 → has_bytes (get_or ps k d) ≡ false)) [
       | None ↦ λ is. (some, λ k d b. absurd (omega arith))
@@ -96,7 +96,7 @@ are_placed_takes backed greatest ps from rs to some placed =
 -- ---- all sections
 
 -- a section has parts with bytes or without
-some_parts : (sections : List PlanSection) (sized : List SizedPart) (s : ℕ) → HaveParts sections → length sized ≡ length (all_parts sections) → s < length sections → 0 < length (section_parts sections sized s)
+pub some_parts : (sections : List PlanSection) (sized : List SizedPart) (s : ℕ) → HaveParts sections → length sized ≡ length (all_parts sections) → s < length sections → 0 < length (section_parts sections sized s)
 some_parts sections sized s good each within =
     omega (
       arith,

@@ -8,11 +8,14 @@ pub mod LiveSections
 pub mod Mass
 pub mod Owners
 pub mod Placement
+pub mod Plain
 pub mod Reach
 pub mod Records
 pub mod Sections
 pub mod Segments
 pub mod Sizes
+pub mod Sound
+pub mod SoundLaws
 pub mod Steps
 pub mod Tiles
 pub mod Totals
