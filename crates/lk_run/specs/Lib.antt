@@ -4,5 +4,6 @@ pub mod Memory
 pub mod ReadAll
 pub mod Report
 pub mod Run
+pub mod SoundRun
 pub mod Status
 pub mod Words

@@ -3,6 +3,7 @@
 ghost use Rattle.std.specs.Prelude.{◌≡◌, ◌≢◌, ℕ, map, string_bytes, vec_len, IfOk, IfSome, IsSome};
 ghost use Rattle.lk_input.specs.Reading.{reading_of};
 ghost use Rattle.lk_run.specs.Run.{IsAnswerToReading, IsAnswerTo, Longer, GivesAnswer, IsToldBy, IsCommandRun, IsUsageRun, IsRun};
+ghost use Rattle.lk_run.specs.SoundRun.{IsSoundRun};
 
 use crate::answer::Answer;
 use crate::fault_text::{fault_text, input_fault_text, too_long_text};
@@ -17,6 +18,7 @@ use lk_layout::arch::Small64Arch;
 use lk_layout::compute::compute_alone;
 use lk_layout::error::LayoutError;
 use lk_layout::gate::Gate;
+use lk_layout::laws::defined_layouts_are_sound;
 use lk_link::link::LinkInput;
 use lk_link::platform::Small64;
 use lk_link::text::Text;
@@ -135,6 +137,24 @@ fn run_words<S: Source, K: Sink>(
     }
 }
 
+/// The same, with what it tells of a layout: the law that defined layouts are sound is called to be at hand, and does
+/// nothing.
+fn run_soundly<S: Source, K: Sink>(
+    alloc: Global,
+    words: &[String],
+    source: &mut S,
+    sink: &mut K,
+) -> Status
+    ensures run_theorem { IsRun (map string_bytes words.now)
+        (record { left = S.left source.old; faults = S.faults source.old }) (record { left = S.left source.new; faults = S.faults source.new })
+        (record { taken = K.taken sink.old; faults = K.faults sink.old }) (record { taken = K.taken sink.new; faults = K.faults sink.new }) result }
+    ensures sound { IsSoundRun (record { left = S.left source.old; faults = S.faults source.old })
+        (record { taken = K.taken sink.old; faults = K.faults sink.old }) (record { taken = K.taken sink.new; faults = K.faults sink.new }) result }
+{
+    defined_layouts_are_sound();
+    run_words(alloc, words, source, sink)
+}
+
 /// Runs the program: does what the words ask for with what the source holds, and writes one text into the sink.
 /// It starts no thread today: `layout 0` is the only command.
 pub fn run<R: Threads + Wait + Sync, S: Source, K: Sink, G: Gate + Sync>(
@@ -148,8 +168,10 @@ pub fn run<R: Threads + Wait + Sync, S: Source, K: Sink, G: Gate + Sync>(
     ensures run_theorem { IsRun (map string_bytes words.now)
         (record { left = S.left source.old; faults = S.faults source.old }) (record { left = S.left source.new; faults = S.faults source.new })
         (record { taken = K.taken sink.old; faults = K.faults sink.old }) (record { taken = K.taken sink.new; faults = K.faults sink.new }) result }
+    ensures sound { IsSoundRun (record { left = S.left source.old; faults = S.faults source.old })
+        (record { taken = K.taken sink.old; faults = K.faults sink.old }) (record { taken = K.taken sink.new; faults = K.faults sink.new }) result }
 {
-    run_words(alloc, words, source, sink)
+    run_soundly(alloc, words, source, sink)
 }
 
 /// The same on the caller's own thread. It waits for nobody, and always returns. None would tell a command for
@@ -164,6 +186,8 @@ pub fn run_alone<S: Source, K: Sink>(
     ensures run_theorem { IfSome result (IsRun (map string_bytes words.now)
         (record { left = S.left source.old; faults = S.faults source.old }) (record { left = S.left source.new; faults = S.faults source.new })
         (record { taken = K.taken sink.old; faults = K.faults sink.old }) (record { taken = K.taken sink.new; faults = K.faults sink.new })) }
+    ensures sound { IfSome result (IsSoundRun (record { left = S.left source.old; faults = S.faults source.old })
+        (record { taken = K.taken sink.old; faults = K.faults sink.old }) (record { taken = K.taken sink.new; faults = K.faults sink.new })) }
 {
-    Some(run_words(alloc, words, source, sink))
+    Some(run_soundly(alloc, words, source, sink))
 }
