@@ -1,6 +1,7 @@
 //! Whole runs over devices in memory.
 
 use crate::memory::{MemorySink, MemorySource};
+use crate::report::report_text;
 use crate::run::{run, run_alone};
 use crate::status::Status;
 use lk_input::read_link;
@@ -104,8 +105,8 @@ fn every_number_of_workers_lays_out(rt: HostRuntime) -> Result<(), Fail> {
     let link = read_link(alloc, THREE_SECTIONS.as_bytes())?;
     for workers in [0, 1, 8] {
         let layout = compute(&rt, alloc, &link, &Small64, &Small64Arch, workers, &NoGate)?;
-        assert_eq!(rt; layout.section_layouts.len(), 3);
-        assert_eq!(rt; layout.live_sections.len(), 3);
+        let text = report_text(alloc, &link, &layout)?;
+        assert_eq!(rt; text.as_str(), THREE_SECTIONS_REPORT);
     }
     Ok(())
 }

@@ -10,7 +10,6 @@ use lk_layout::carried::first_uncarried;
 use lk_layout::error::Uncarried;
 use lk_layout::live::{LiveSection, live_sections};
 use lk_layout::owners::part_sizes;
-use lk_link::ids::FileId;
 use lk_link::link::LinkInput;
 use lk_link::list::List;
 use std::alloc::{AllocError, Global};
@@ -37,17 +36,34 @@ fn carried_link(alloc: Global, text: &str) -> Option<LinkInput>
     Some(link)
 }
 
+/// The sizes, marks and attributes of the parts; none where the sizes are refused.
+fn told_sizes(alloc: Global, link: &LinkInput) -> Result<Option<String>, AllocError>
+    requires good { IsWellFormed link.now }
+    requires carried { IsCarried link.now }
+{
+    let Ok(sizes) = part_sizes(alloc, link) else {
+        return Ok(None);
+    };
+    let (bytes, empty) = (sizes.bytes.as_slice(), sizes.has_empty.as_slice());
+    let attrs = sizes.attrs.as_slice();
+    Ok(Some(format!(in alloc; "{bytes:?} {empty:?} {attrs:?}")?))
+}
+
 #[test]
 fn parts_have_sizes_marks_and_attributes(rt: HostRuntime) -> Result<(), Fail> {
     let Some(link) = carried_link(rt.alloc(), SMALL) else {
         panic!(rt; "no link");
     };
-    let Ok(sizes) = part_sizes(rt.alloc(), &link) else {
+    let Some(told) = told_sizes(rt.alloc(), &link)? else {
         panic!(rt; "no sizes");
     };
-    assert_eq!(rt; sizes.bytes.as_slice(), [16].as_slice());
-    assert_eq!(rt; sizes.has_empty.as_slice(), [true].as_slice());
-    assert_eq!(rt; sizes.attrs.as_slice(), [6].as_slice());
+    assert_eq!(rt; told.as_str(), "[16] [true] [6]");
+    Ok(())
+}
+
+#[test]
+fn sections_have_the_attributes_of_their_parts(rt: HostRuntime) -> Result<(), Fail> {
+    let link = read_link(rt.alloc(), SMALL.as_bytes())?;
     assert_eq!(rt; link.plan.sections.parts().len(), 1);
     let attrs = propagate_section_attributes(rt.alloc(), &link.plan.sections, &[6])?;
     assert_eq!(rt; attrs.as_slice(), [7].as_slice());
@@ -71,6 +87,20 @@ fn from_4096(alloc: Global, link: &LinkInput) -> Result<Option<List<LiveSection>
     Ok(Some(live_sections(alloc, link, &[4096])?))
 }
 
+/// File, index, address and size of each.
+fn told_live(alloc: Global, live: &[LiveSection]) -> Result<String, AllocError> {
+    let mut text = String::new(alloc);
+    for section in live {
+        let (index, address, size) = (section.index, section.address, section.size);
+        write!(
+            text,
+            "{file}: {index} {address} {size}\n",
+            file = section.file
+        )?;
+    }
+    Ok(text)
+}
+
 #[test]
 fn live_sections_stand_behind_one_another(rt: HostRuntime) -> Result<(), Fail> {
     let Some(link) = carried_link(rt.alloc(), SMALL) else {
@@ -79,17 +109,11 @@ fn live_sections_stand_behind_one_another(rt: HostRuntime) -> Result<(), Fail> {
     let Some(found) = from_4096(rt.alloc(), &link)? else {
         panic!(rt; "no live sections");
     };
-    let file = FileId { group: 0, file: 1 };
-    for (index, (address, size)) in [(4096, 7), (4104, 0), (4104, 8)].into_iter().enumerate() {
-        let want = LiveSection {
-            file,
-            index,
-            address,
-            size,
-        };
-        assert_eq!(rt; found.get(index), Some(&want), "at {index}");
-    }
-    assert_eq!(rt; found.len(), 3);
+    let told = told_live(rt.alloc(), found.as_slice())?;
+    assert_eq!(rt;
+        told.as_str(),
+        "0.1: 0 4096 7\n0.1: 1 4104 0\n0.1: 2 4104 8\n"
+    );
     Ok(())
 }
 
