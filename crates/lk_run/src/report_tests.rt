@@ -5,10 +5,12 @@ use crate::report::report_text;
 use lk_input::{InputError, read_link};
 use lk_layout::error::{LayoutError, Uncarried};
 use lk_layout::layout::Layout;
+use lk_layout::live::LiveSection;
 use lk_layout::record::OutputRecordLayout;
+use lk_layout::segments::SegmentLayout;
 use lk_link::alignment::Alignment;
 use lk_link::fault::{Limited, Place, Rule};
-use lk_link::ids::{FileId, OutputSectionId};
+use lk_link::ids::{FileId, OutputSectionId, SegmentId};
 use lk_link::list::List;
 use lk_link::text::Text;
 use std::alloc::{AllocError, Global};
@@ -40,15 +42,33 @@ fn records_of(alloc: Global, signs: &str) -> Result<List<OutputRecordLayout>, Al
     Ok(List::from_vec(records))
 }
 
-/// A layout of three sections and five parts, without segments and live sections, and with attributes of two sections.
+/// A segment over the record with bytes.
+fn segment() -> SegmentLayout {
+    SegmentLayout {
+        id: SegmentId::from_u32(7),
+        sizes: record_of(true),
+    }
+}
+
+/// A live section of 16 bytes.
+fn live_section() -> LiveSection {
+    LiveSection {
+        file: FileId { group: 1, file: 0 },
+        index: 2,
+        address: 4112,
+        size: 16,
+    }
+}
+
+/// A layout of three sections and five parts, with attributes of two sections, a segment, and a live section.
 fn short_layout(alloc: Global) -> Result<Layout, AllocError> {
     Ok(Layout {
         section_layouts: records_of(alloc, "-+-")?,
         section_part_layouts: records_of(alloc, "---+-")?,
         section_attributes: List::from_vec(Vec::from_slice(alloc, &[1, 3])?),
         output_section_indexes: List::from_vec(Vec::from_slice(alloc, &[None, Some(0), None])?),
-        segment_layouts: List::new(alloc),
-        live_sections: List::new(alloc),
+        segment_layouts: List::from_vec(vec![in alloc; segment(); 1]?),
+        live_sections: List::from_vec(vec![in alloc; live_section(); 1]?),
     })
 }
 
@@ -67,6 +87,8 @@ fn parts_without_bytes_and_missing_records(rt: HostRuntime) -> Result<(), Fail> 
         section 1 index 0 mem 0xabcd 3 file 0xa 3 align 1 lma 0xabcd attrs 3\n\
         part 0 mem 0x0 0 file 0x0 0 align 1\n\
         part 3 mem 0xabcd 3 file 0xa 3 align 1\n\
+        segment 7 mem 0xabcd 3 file 0xa 3 align 1\n\
+        live 1 0 2 0x1010 16\n\
         entry -\n\
         end\n";
     assert_eq!(rt; text.as_str(), want);
@@ -84,6 +106,7 @@ fn text_of(alloc: Global, fault: &LayoutError) -> Result<Option<String>, AllocEr
 #[test]
 fn faults_have_their_texts(rt: HostRuntime) -> Result<(), Fail> {
     let file = FileId { group: 1, file: 0 };
+    let place = Place::Part(3);
     let table = [
         (
             LayoutError::TooMany {
@@ -101,9 +124,7 @@ fn faults_have_their_texts(rt: HostRuntime) -> Result<(), Fail> {
             "bad link: rule 11, input 1 0 2\n",
         ),
         (
-            LayoutError::AddressOverflow {
-                place: Place::Part(3),
-            },
+            LayoutError::AddressOverflow { place },
             "address overflow: part 3\n",
         ),
         (
