@@ -19,6 +19,7 @@ import math
 import random
 import sys
 
+from attributes import ALLOCATED, EXECUTABLE, WRITABLE, ZERO_FILL
 from whole import put_whole_link
 
 PAGE = 4096
@@ -27,8 +28,6 @@ MOST_BYTES = 500_000_000
 MOST_OUTPUT_SECTIONS = 65_000
 MOST_SEGMENTS = 8
 SHAPES = ("objects", "plan", "files", "single", "whole")
-
-ALLOCATED, WRITABLE, EXECUTABLE, ZERO_FILL = 1, 2, 4, 16
 
 # Share of the output sections, attributes, name, and alignments to choose from. The order is the
 # order in memory: within a segment nothing with file bytes follows a zero-filled section.

@@ -2,6 +2,7 @@
 """Measure the program on generated descriptions, and print ratios.
 
 usage: run.py [PROGRAM [MEGABYTES..]]
+       run.py --long [PROGRAM]
 
 PROGRAM is crates/lk_program/out/lk_program unless given, the sizes are 1, 10 and 100 MB. Each
 description is given to the program in three forms, several times: with a value of a wrong shape where
@@ -9,14 +10,20 @@ the first field is looked for, so that it is parsed and no more; with one that i
 and as it is. The run fails where an answer isn't of the kind that is wanted or two runs over the same
 bytes differ. Seconds are processor seconds, the least of the runs. None of them is judged: each is set
 against others of the same run.
+
+With --long, each description has one list that is as long as it may be, or millions long. The run fails
+where the program crashes, runs out of its stack of 8 MB or answers something else.
 """
 
 import hashlib
 import math
 import os
+import resource
 import subprocess
 import sys
 import tempfile
+
+import long_lists
 
 HERE = os.path.dirname(os.path.abspath(__file__))
 DEFAULT_PROGRAM = os.path.join(HERE, "..", "crates", "lk_program", "out", "lk_program")
@@ -27,6 +34,7 @@ RUNS, MOST_RUNS, SMALL_BYTES = 3, 7, 5_000_000
 BLOCK = 1 << 20
 ENDING = b"\n]}\n"
 LONGEST_START = 100
+STACK_BYTES = 8 << 20
 
 # The end of each form, in place of the ending of the description, and what the answer begins with.
 FORMS = {
@@ -55,6 +63,9 @@ multiples of the size. Aims: read below 1, and check a small part of read.
 """
 
 
+LONG_COLUMNS = (("items", 9), ("MB", 6), ("seconds", 8), ("ms/MB", 7), ("peak MB", 8), ("peak", 6))
+
+
 class Measured:
     """One run of a command: its status, processor seconds, peak memory, and output."""
 
@@ -71,10 +82,16 @@ class Measured:
         self.digest, self.written = digest.digest(), os.path.getsize(output)
 
 
+def limit_stack():
+    """The stack that programs have on most systems, whatever this one gives."""
+    _, most = resource.getrlimit(resource.RLIMIT_STACK)
+    resource.setrlimit(resource.RLIMIT_STACK, (STACK_BYTES, most))
+
+
 def measure(command, path, output):
     """Runs a command over a file; its output goes to another file."""
     with open(path, "rb") as source, open(output, "wb") as sink:
-        child = subprocess.Popen(command, stdin=source, stdout=sink)
+        child = subprocess.Popen(command, stdin=source, stdout=sink, preexec_fn=limit_stack)
         _, status, usage = os.wait4(child.pid, 0)
         child.returncode = os.waitstatus_to_exitcode(status)
     return Measured(child.returncode, usage, output)
@@ -203,7 +220,36 @@ def print_table(columns, legend, series, sizes_of, row):
     print(legend)
 
 
+def long_row(program, path, output, long_list):
+    """One run over a description with a long list; ends with 1 where the answer isn't the wanted one."""
+    with open(path, "wb") as stream:
+        long_lists.put(stream, long_list)
+    size = os.path.getsize(path)
+    run = measure([program, "layout", "0"], path, output)
+    if not run.start.startswith(long_list.wanted.encode()):
+        sys.exit("%s: status %d, %r" % (long_list.name, run.status, run.start))
+    return (
+        long_list.count,
+        "%.1f" % (size / 1e6),
+        "%.2f" % run.seconds,
+        "%.1f" % (run.seconds * 1e9 / size),
+        "%.0f" % (run.peak / 1e6),
+        "%.1f" % (run.peak / size),
+    )
+
+
+def measure_long_lists(program, folder):
+    path, output = os.path.join(folder, "description"), os.path.join(folder, "output")
+    print_line(LONG_COLUMNS, [heading for heading, _ in (FIRST_COLUMN, *LONG_COLUMNS)])
+    for long_list in long_lists.LONG_LISTS:
+        print_line(LONG_COLUMNS, (long_list.name, *long_row(program, path, output, long_list)))
+
+
 def main(words):
+    if words[:1] == ["--long"]:
+        with tempfile.TemporaryDirectory() as folder:
+            measure_long_lists(os.path.abspath((words + [DEFAULT_PROGRAM])[1]), folder)
+        return
     program = os.path.abspath(words[0] if words else DEFAULT_PROGRAM)
     sizes = sorted(map(int, words[1:])) or DEFAULT_MEGABYTES
 

@@ -4,7 +4,7 @@ Per object some 25 sections, with about 3 symbols and 8 relocations for each, an
 bytes. The link keeps every rule. What an object refers to stands in it or in a file before it.
 """
 
-ALLOCATED, WRITABLE, EXECUTABLE, THREAD_LOCAL, ZERO_FILL = 1, 2, 4, 8, 16
+from attributes import ALLOCATED, EXECUTABLE, THREAD_LOCAL, WRITABLE, ZERO_FILL
 
 # The output sections: name, attributes, alignments of the parts, and the fields that name those parts.
 OUTPUTS = (

@@ -1,11 +1,3 @@
-pub mod Bounds
 pub mod Expressions
-pub mod Falling
-pub mod Faults
-pub mod FirstAt
-pub mod LongLists
-pub mod Marks
-pub mod Rising
 pub mod Steps
-pub mod SymbolWalk
 pub mod Texts

@@ -1,8 +1,3 @@
-pub mod Check
-pub mod CheckCounts
-pub mod CheckLengths
-pub mod CheckMarks
-pub mod CheckSymbols
 pub mod Reading
 pub mod ReadingEvents
 pub mod ReadingExpressions
@@ -15,3 +10,4 @@ pub mod ReadingSections
 pub mod ReadingSegments
 pub mod ReadingSteps
 pub mod ReadingSymbols
+pub mod Texts

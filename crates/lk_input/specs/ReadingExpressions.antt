@@ -1,20 +1,22 @@
--- What is read of an expression: its operands and operators in postfix order.
-use Rattle.std.specs.Prelude.{ℕ, List, [], ◌∷◌, ◌++◌, Result, Ok, Err, codes, slice_get}
+-- What is read of an expression.
+use Rattle.std.specs.Prelude.{◌≡◌, ℕ, List, [], ◌∷◌, ◌++◌, Result, Ok, Err, ⊤, codes, slice_get}
 use Rattle.std.specs.Fmt.{decimal}
 use Rattle.serde_json.specs.Data.{Data, array, Items, no_items, item}
-use Rattle.lk_link.specs.declared.expression.Expression.{Expression}
+use Rattle.lk_link.specs.declared.expression.Operand.{Operand}
+use Rattle.lk_link.specs.declared.expression.Operand.TheVariants as is
+use Rattle.lk_link.specs.declared.expression.Operator.{Operator}
+use Rattle.lk_link.specs.declared.expression.Operator.TheVariants as operator
 use Rattle.lk_link.specs.declared.expression.Token.{Token}
-use Rattle.lk_link.specs.declared.expression.Token.TheVariants as token
-use Rattle.lk_input.specs.declared.read.expression.Operand.{Operand}
-use Rattle.lk_input.specs.declared.read.expression.Operand.TheVariants as operand
-use Rattle.lk_input.specs.declared.read.expression.Operator.{Operator}
-use Rattle.lk_input.specs.declared.read.expression.Operator.TheVariants as operator
+use Rattle.lk_link.specs.Expressions.{Term, Leaf, Node, postfix}
+use Rattle.lk_input.specs.declared.read.error.InputError.{InputError}
+use Rattle.lk_input.specs.declared.read.expression.OperandForm.{OperandForm}
+use Rattle.lk_input.specs.declared.read.expression.OperandForm.TheVariants as operand
 use Rattle.lk_input.specs.declared.read.expression.ExpressionForm.{ExpressionForm}
 use Rattle.lk_input.specs.declared.read.expression.ExpressionForm.TheVariants as form
-use Rattle.lk_input.specs.ReadingSteps.{Path, ◌>>=◌, below, wanted, number_of, index_of, one_of, element, at_most, alone, single}
+use Rattle.lk_input.specs.ReadingSteps.{Path, ◌>>=◌, Fails, below, wanted, number_of, index_of, one_of, element, at_most, alone, single}
 
 -- how an operand is written
-unfoldable pub operand_text : Operand → List ℕ
+unfoldable pub operand_text : OperandForm → List ℕ
 operand_text operand.Number = codes "num"
 operand_text operand.Symbol = codes "sym"
 operand_text operand.Dot = codes "dot"
@@ -34,16 +36,6 @@ operator_text operator.Align = codes "align"
 operator_text operator.Max = codes "max"
 operator_text operator.Min = codes "min"
 
--- the token of an operator
-abbrev pub operator_token : Operator → Token
-operator_token operator.Add = token.Add
-operator_token operator.Subtract = token.Subtract
-operator_token operator.Multiply = token.Multiply
-operator_token operator.Divide = token.Divide
-operator_token operator.Align = token.Align
-operator_token operator.Max = token.Max
-operator_token operator.Min = token.Min
-
 -- how it is written what an expression begins with
 abbrev pub form_text : ExpressionForm → List ℕ
 form_text (form.Operand o) = operand_text o
@@ -58,41 +50,44 @@ all_forms =
     form.Operator operator.Min ∷ form.Operand operand.Address ∷ form.Operand operand.SizeOf ∷
     form.Operand operand.Origin ∷ form.Operand operand.Length ∷ form.Operand operand.Headers ∷ []
 
--- the token of an expression that begins with this operand
-unfoldable pub operand_of : Operand → Data → Result Token Path
-operand_of operand.Number d = single number_of d >>= λ n. Ok (token.Number n)
-operand_of operand.Symbol d = single index_of d >>= λ i. Ok (token.Symbol i)
-operand_of operand.Dot d = alone token.Dot d
-operand_of operand.Address d = single index_of d >>= λ i. Ok (token.Address i)
-operand_of operand.SizeOf d = single index_of d >>= λ i. Ok (token.SizeOf i)
-operand_of operand.Origin d = single index_of d >>= λ i. Ok (token.Origin i)
-operand_of operand.Length d = single index_of d >>= λ i. Ok (token.Length i)
-operand_of operand.Headers d = alone token.SizeOfHeaders d
+-- the operand that an expression of this form is
+unfoldable pub operand_of : OperandForm → Data → Result Operand Path
+operand_of operand.Number d = single number_of d >>= λ n. Ok (is.Number n)
+operand_of operand.Symbol d = single index_of d >>= λ i. Ok (is.Symbol i)
+operand_of operand.Dot d = alone is.Dot d
+operand_of operand.Address d = single index_of d >>= λ i. Ok (is.Address i)
+operand_of operand.SizeOf d = single index_of d >>= λ i. Ok (is.SizeOf i)
+operand_of operand.Origin d = single index_of d >>= λ i. Ok (is.Origin i)
+operand_of operand.Length d = single index_of d >>= λ i. Ok (is.Length i)
+operand_of operand.Headers d = alone is.SizeOfHeaders d
 
 -- what the item at an index is as an expression, of all items as expressions
-abbrev pub part_at : ℕ → List (Result (List Token) Path) → Result (List Token) Path
+abbrev pub part_at : ℕ → List (Result Term Path) → Result Term Path
 part_at i parts = below (decimal i) (wanted (slice_get parts i) >>= λ part. part)
 
--- an expression of this form: an operand, or a left expression, a right one and their operator
-abbrev pub tokens_from : ExpressionForm → Data → List (Result (List Token) Path) → Result (List Token) Path
-tokens_from (form.Operand o) d parts = operand_of o d >>= λ t. Ok (t ∷ [])
-tokens_from (form.Operator o) d parts = do
-  a ← part_at 1 parts
-  b ← part_at 2 parts
+-- an expression of this form: an operand, or an operator with a left expression and a right one
+abbrev pub expression_from : ExpressionForm → Data → List (Result Term Path) → Result Term Path
+expression_from (form.Operand o) d parts = operand_of o d >>= λ x. Ok (Leaf x)
+expression_from (form.Operator o) d parts = do
+  left ← part_at 1 parts
+  right ← part_at 2 parts
   _ ← at_most 3 d
-  Ok (a ++ b ++ operator_token o ∷ [])
+  Ok (Node o left right)
 
 unfoldable mutual
-  -- the tokens of an expression, in postfix order
-  pub tokens_of : Data → Result (List Token) Path
-  tokens_of (array ds) = element (one_of form_text all_forms) 0 (array ds) >>= λ f. tokens_from f (array ds) (all_tokens_of ds)
-  tokens_of _ = Err []
+  -- an expression
+  pub expression_of : Data → Result Term Path
+  expression_of (array ds) = element (one_of form_text all_forms) 0 (array ds) >>= λ f. expression_from f (array ds) (expressions_of ds)
+  expression_of _ = Err []
 
-  -- those of each item as an expression
-  pub all_tokens_of : Items → List (Result (List Token) Path)
-  all_tokens_of no_items = []
-  all_tokens_of (item d ds) = tokens_of d ∷ all_tokens_of ds
+  -- each item as an expression
+  pub expressions_of : Items → List (Result Term Path)
+  expressions_of no_items = []
+  expressions_of (item d ds) = expression_of d ∷ expressions_of ds
 
--- an expression
-abbrev pub expression_of : Data → Result Expression Path
-expression_of d = tokens_of d >>= λ ts. Ok (record { tokens = ts })
+-- ---- what the code keeps
+
+-- the tokens of the expression that was read stand behind what was there, unless memory ran out
+abbrev pub AddsTokens : List Token → List Token → Result ⊤ InputError → Result Term Path → Type 0
+AddsTokens old new (Ok _) read = (t : Term) × (read ≡ Ok t) × (new ≡ old ++ postfix t)
+AddsTokens old new (Err e) read = Fails e read

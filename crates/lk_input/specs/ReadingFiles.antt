@@ -68,7 +68,16 @@ input_file_of d = do
   export ← defaulted false truth_of (file_key_text key.Export) d
   check ← defaulted false truth_of (file_key_text key.Check) d
   candidates ← defaulted [] candidates_of (file_key_text key.Candidates) d
-  Ok (record { kind = kind; name = name; symbols = symbols; sections = sections; archive = archive; export = export; check = check; candidates = candidates })
+  Ok (record {
+    kind = kind;
+    name = name;
+    symbols = symbols;
+    sections = sections;
+    archive = archive;
+    export = export;
+    check = check;
+    candidates = candidates;
+  })
 
 -- the groups of files
 abbrev pub groups_of : Data → Result (List (List InputFile)) Path

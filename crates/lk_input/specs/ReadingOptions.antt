@@ -6,6 +6,7 @@ use Rattle.lk_link.specs.declared.options.OutputKind.{OutputKind}
 use Rattle.lk_link.specs.declared.options.OutputKind.TheVariants.{StaticExecutable, DynamicExecutable, SharedObject, Partial}
 use Rattle.lk_link.specs.declared.options.DiscardLocals.{DiscardLocals}
 use Rattle.lk_link.specs.declared.options.DiscardLocals.TheVariants as discarded
+use Rattle.lk_input.specs.declared.read.options.TheConstants.{BUCKET_LIMIT, MERGE_GROUP}
 use Rattle.lk_input.specs.declared.read.options.OptionKey.{OptionKey}
 use Rattle.lk_input.specs.declared.read.options.OptionKey.TheVariants as key
 use Rattle.lk_input.specs.ReadingSteps.{Path, ◌>>=◌, number_of, index_of, truth_of, text_of, one_of, object, defaulted, optional, list_of}
@@ -74,6 +75,24 @@ options_of d = do
   entry ← optional index_of (option_key_text key.Entry) d
   relax ← defaulted false truth_of (option_key_text key.Relax) d
   branch_range ← defaulted 0 number_of (option_key_text key.BranchRange) d
-  bucket_limit ← defaulted 268435456 number_of (option_key_text key.BucketLimit) d
-  merge_group ← defaulted 140000 number_of (option_key_text key.MergeGroup) d
-  Ok (record { output = output; gc = gc; error_objects = error_objects; error_dynamics = error_dynamics; export_all = export_all; export_list = export_list; restrictive = restrictive; strip_all = strip_all; discard = discard; strip_names = strip_names; identity = identity; stack = stack; entry = entry; relax = relax; branch_range = branch_range; bucket_limit = bucket_limit; merge_group = merge_group })
+  bucket_limit ← defaulted BUCKET_LIMIT number_of (option_key_text key.BucketLimit) d
+  merge_group ← defaulted MERGE_GROUP number_of (option_key_text key.MergeGroup) d
+  Ok (record {
+    output = output;
+    gc = gc;
+    error_objects = error_objects;
+    error_dynamics = error_dynamics;
+    export_all = export_all;
+    export_list = export_list;
+    restrictive = restrictive;
+    strip_all = strip_all;
+    discard = discard;
+    strip_names = strip_names;
+    identity = identity;
+    stack = stack;
+    entry = entry;
+    relax = relax;
+    branch_range = branch_range;
+    bucket_limit = bucket_limit;
+    merge_group = merge_group;
+  })

@@ -56,4 +56,15 @@ plan_section_of d = do
   at ← optional expression_of (output_section_key_text key.At) d
   top ← defaulted false truth_of (output_section_key_text key.Top) d
   counters ← defaulted false truth_of (output_section_key_text key.Counters) d
-  Ok (record { name = name; attrs = attrs; align = align; parts = parts; primary = primary; emit = emit; region = region; at = at; top = top; counters = counters })
+  Ok (record {
+    name = name;
+    attrs = attrs;
+    align = align;
+    parts = parts;
+    primary = primary;
+    emit = emit;
+    region = region;
+    at = at;
+    top = top;
+    counters = counters;
+  })

@@ -58,7 +58,21 @@ named_parts_of d = do
   shstrtab ← part_at key.Shstrtab d
   comment ← part_at key.Comment d
   primary ← part_at key.Primary d
-  Ok (record { got = got; plt = plt; symtab_local = symtab_local; symtab_global = symtab_global; strtab = strtab; dynsym = dynsym; dynstr = dynstr; file_header = file_header; program_headers = program_headers; section_headers = section_headers; shstrtab = shstrtab; comment = comment; primary = primary })
+  Ok (record {
+    got = got;
+    plt = plt;
+    symtab_local = symtab_local;
+    symtab_global = symtab_global;
+    strtab = strtab;
+    dynsym = dynsym;
+    dynstr = dynstr;
+    file_header = file_header;
+    program_headers = program_headers;
+    section_headers = section_headers;
+    shstrtab = shstrtab;
+    comment = comment;
+    primary = primary;
+  })
 
 -- the plan: its page must be given
 unfoldable pub plan_of : Data → Result Plan Path
@@ -75,4 +89,16 @@ plan_of d = do
   events ← defaulted [] (list_of order_event_of) (plan_key_text key.Events) d
   named ← named_parts_of d
   singletons ← optional index_of (plan_key_text key.Singletons) d
-  Ok (record { page = page; base = base; custom_base = custom_base; custom_phdrs = custom_phdrs; phdrs_headers = phdrs_headers; sections = sections; segments = segments; regions = regions; events = events; named = named; singletons = singletons })
+  Ok (record {
+    page = page;
+    base = base;
+    custom_base = custom_base;
+    custom_phdrs = custom_phdrs;
+    phdrs_headers = phdrs_headers;
+    sections = sections;
+    segments = segments;
+    regions = regions;
+    events = events;
+    named = named;
+    singletons = singletons;
+  })

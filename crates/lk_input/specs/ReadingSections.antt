@@ -67,7 +67,19 @@ input_section_of d = do
   group ← optional index_of (input_section_key_text key.Group) d
   relocs ← defaulted [] (list_of relocation_of) (input_section_key_text key.Relocs) d
   relax ← defaulted [] (list_of relax_candidate_of) (input_section_key_text key.Relax) d
-  Ok (record { name = name; slot = slot; part = part; size = size_in slot size bytes; bytes = bytes; strings = strings; sorted = sorted; attrs = attrs; group = group; relocs = relocs; relax = relax })
+  Ok (record {
+    name = name;
+    slot = slot;
+    part = part;
+    size = size_in slot size bytes;
+    bytes = bytes;
+    strings = strings;
+    sorted = sorted;
+    attrs = attrs;
+    group = group;
+    relocs = relocs;
+    relax = relax;
+  })
 
 -- the sections of an object
 abbrev pub input_sections_of : Data → Result (List InputSection) Path

@@ -37,11 +37,6 @@ abbrev pub Gives : {A : Type 0} → Result A InputError → Result A Path → Ty
 Gives (Ok x) read = read ≡ Ok x
 Gives (Err e) read = Fails e read
 
--- what was read stands behind what was there, unless memory ran out
-abbrev pub Adds : {A : Type 0} → List A → List A → Result ⊤ InputError → Result (List A) Path → Type 0
-Adds {A} old new (Ok _) read = (xs : List A) × (read ≡ Ok xs) × (new ≡ old ++ xs)
-Adds old new (Err e) read = Fails e read
-
 -- an error that tells of this path, or of want of memory
 abbrev pub IsFaultAt : Path → InputError → Type 0
 IsFaultAt path NotJson = ⊥

@@ -1,4 +1,10 @@
-//! A link description from JSON: the first value of a wrong shape, in the order of the format, refuses it.
+//! A link description from JSON.
+//!
+//! Bytes are first read as a JSON value, and that is then read type by type: each type says which members or items it
+//! has, in the order of the format, and reads them by a few common steps (a member that must be there, one with a
+//! default, an item of a fixed list, a list, one of these texts). The first value of a wrong shape, in that order, refuses
+//! the description. Its path is put together on the way out, one step at each level, so that a good description pays
+//! nothing for it.
 
 ghost use Rattle.std.specs.Prelude.{◌≡◌};
 ghost use Rattle.serde_json.specs.View.{view};
@@ -84,6 +90,3 @@ pub fn read_link(alloc: Global, bytes: &[u8]) -> Result<LinkInput, InputError>
     let value = json_of(alloc, bytes)?;
     LinkInput::read(alloc, &value)
 }
-
-#[cfg(test)]
-mod tests;

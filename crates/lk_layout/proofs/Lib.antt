@@ -1,30 +1,7 @@
-pub mod Adding
-pub mod Addressing
-pub mod AlignedLaws
-pub mod AnswerLaws
-pub mod ApartLaws
-pub mod Carrying
-pub mod Checked
-pub mod ComputeLaws
-pub mod CongruenceLaws
-pub mod Congruent
-pub mod DefinedLaws
-pub mod DisjointLaws
-pub mod LayoutLaws
-pub mod MassLaws
-pub mod MemoryLaws
-pub mod Numbers
-pub mod OneLaws
-pub mod Overflowing
-pub mod PartRecords
-pub mod Parts
-pub mod PlaceAlignments
-pub mod PlainLaws
-pub mod Ranges
-pub mod Reaching
-pub mod Rounding
-pub mod SectionParts
-pub mod Sizing
-pub mod SoundLaws
-pub mod Tiling
-pub mod WalkLaws
+mod Answering
+mod CarriedPlans
+mod LaidOut
+mod OneAnswer
+mod PartStarts
+mod Settings
+mod Soundness

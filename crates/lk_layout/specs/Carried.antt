@@ -1,8 +1,6 @@
 -- What a description may have that isn't laid out yet.
-use Rattle.std.specs.Prelude.{◌≡◌, ◌==◌, ◌&&◌, ◌||◌, not, Bool, true, false, List, [], ◌∷◌, Option, None, is_some, find, length, bit_and}
+use Rattle.std.specs.Prelude.{◌≡◌, ◌==◌, ◌&&◌, ◌||◌, not, Bool, true, false, List, [], ◌∷◌, Option, None, is_some, find, length}
 use Rattle.std.specs.List.{list_any}
-use Rattle.lk_link.specs.declared.file.FileKind.{FileKind}
-use Rattle.lk_link.specs.declared.file.FileKind.TheVariants as kind
 use Rattle.lk_link.specs.declared.file.InputFile.{InputFile}
 use Rattle.lk_link.specs.declared.link.LinkInput.{LinkInput}
 use Rattle.lk_link.specs.declared.options.OutputKind.{OutputKind}
@@ -12,65 +10,38 @@ use Rattle.lk_link.specs.declared.plan.OrderEvent.{OrderEvent}
 use Rattle.lk_link.specs.declared.plan.OrderEvent.TheVariants.{SegmentStart, SegmentEnd, Section}
 use Rattle.lk_link.specs.declared.plan.Plan.{Plan}
 use Rattle.lk_link.specs.declared.plan.PlanSection.{PlanSection}
+use Rattle.lk_link.specs.declared.plan.attributes.TheConstants.{TLS}
 use Rattle.lk_link.specs.declared.relocation.RelocationKind.{RelocationKind}
-use Rattle.lk_link.specs.declared.section.InputSlot.{InputSlot}
-use Rattle.lk_link.specs.declared.section.InputSlot.TheVariants as slot
 use Rattle.lk_link.specs.declared.symbol.SymbolPlacement.{SymbolPlacement}
 use Rattle.lk_link.specs.declared.symbol.SymbolPlacement.TheVariants as symbol
 use Rattle.lk_link.specs.Expressions.{as_number}
-use Rattle.lk_link.specs.InputSlots.{is_merge}
+use Rattle.lk_link.specs.FileKinds.{is_internal, is_object, is_prelude}
+use Rattle.lk_link.specs.Flags.{wants_table_entry}
+use Rattle.lk_link.specs.InputSlots.{is_debug, is_merge, is_must}
+use Rattle.lk_link.specs.OutputKinds.{is_partial}
+use Rattle.lk_link.specs.PlanSections.{is_set}
 use Rattle.lk_link.specs.Relocations.{resolution_flags}
-use Rattle.lk_link.specs.Rules.{is_tls}
+use Rattle.lk_link.specs.SegmentKinds.{is_tls}
 use Rattle.lk_layout.specs.declared.error.Uncarried.{Uncarried}
 use Rattle.lk_layout.specs.declared.error.Uncarried.TheVariants as uncarried
-use Rattle.lk_layout.specs.Attributes.{has_tls}
 
 -- ---- files and what they have
 
--- whether some file passes
+-- some file passes
 abbrev pub any_file : (InputFile → Bool) → LinkInput → Bool
 any_file p link = list_any (λ files. list_any p files) link.groups
-
--- debug data
-abbrev pub is_debug : InputSlot → Bool
-is_debug slot.DebugInfo = true
-is_debug slot.MustLoadDebugInfo = true
-is_debug _ = false
-
--- kept only where something refers to it, or not at all
-abbrev pub is_not_kept : InputSlot → Bool
-is_not_kept slot.Unloaded = true
-is_not_kept slot.Discard = true
-is_not_kept _ = false
 
 -- bytes that all objects share
 abbrev pub is_common : SymbolPlacement → Bool
 is_common (symbol.Common p size) = true
 is_common _ = false
 
-abbrev pub is_object : FileKind → Bool
-is_object kind.Object = true
-is_object _ = false
-
--- neither the prelude nor an object
-abbrev pub is_other_kind : FileKind → Bool
-is_other_kind kind.Prelude = false
-is_other_kind kind.Object = false
-is_other_kind _ = true
-
--- a file whose symbols the linker itself places
-abbrev pub is_internal : FileKind → Bool
-is_internal kind.Prelude = true
-is_internal kind.SyntheticSymbols = true
-is_internal kind.LinkerScript = true
-is_internal _ = false
-
 abbrev pub has_symbols : InputFile → Bool
 has_symbols f = not (length f.symbols == 0)
 
--- whether a relocation wants an entry of a table: one of the flags of plt, got and the three kinds of got_tls
+-- a relocation of this kind wants an entry of a table
 abbrev pub wants_entry : RelocationKind → Bool
-wants_entry k = not (bit_and (resolution_flags k) 3968 == 0)
+wants_entry k = wants_table_entry (resolution_flags k)
 
 -- ---- the plan
 
@@ -83,19 +54,20 @@ moves_location _ = true
 
 -- thread-local, secondary to another section, in a region, or loaded from elsewhere
 abbrev pub is_special_section : PlanSection → Bool
-is_special_section s = has_tls s || is_some s.primary || is_some s.region || is_some s.at
+is_special_section s = is_set TLS s.attrs || is_some s.primary || is_some s.region || is_some s.at
 
--- whether the plan gives a table part or the comment part
+-- the plan gives a table part or the comment part
 abbrev pub names_table : NamedParts → Bool
 names_table n =
-    is_some n.got || is_some n.plt || is_some n.symtab_local || is_some n.symtab_global || is_some n.strtab || is_some n.dynsym || is_some n.dynstr
-    || is_some n.file_header || is_some n.program_headers || is_some n.section_headers || is_some n.shstrtab || is_some n.comment
+    is_some n.got || is_some n.plt || is_some n.symtab_local || is_some n.symtab_global || is_some n.strtab || is_some n.dynsym
+    || is_some n.dynstr || is_some n.file_header || is_some n.program_headers || is_some n.section_headers
+    || is_some n.shstrtab || is_some n.comment
 
 -- a base that is asked for or no number, headers in segments, regions, moves of the location, or a special section or segment
 abbrev pub is_special_plan : Plan → Bool
 is_special_plan plan =
     plan.custom_base || plan.custom_phdrs || plan.phdrs_headers || not (length plan.regions == 0) || not (is_some (as_number plan.base))
-    || list_any moves_location plan.events || list_any is_special_section plan.sections || list_any is_tls plan.segments
+    || list_any moves_location plan.events || list_any is_special_section plan.sections || list_any (λ s. is_tls s.kind) plan.segments
 
 -- loaded by a dynamic linker
 abbrev pub is_loaded_dynamically : OutputKind → Bool
@@ -103,25 +75,21 @@ is_loaded_dynamically output.DynamicExecutable = true
 is_loaded_dynamically output.SharedObject = true
 is_loaded_dynamically _ = false
 
-abbrev pub is_partial : OutputKind → Bool
-is_partial output.Partial = true
-is_partial _ = false
-
 -- ---- what isn't carried
 
--- whether a file of the description has it
+-- a file of the description has it
 abbrev pub file_has : Uncarried → InputFile → Bool
 file_has uncarried.Merge f = list_any (λ s. is_merge s.slot) f.sections
 file_has uncarried.Slot f = list_any (λ s. is_debug s.slot || is_some s.group) f.sections
 file_has uncarried.Common f = list_any (λ x. is_common x.at) f.symbols
-file_has uncarried.File f = is_other_kind f.kind
+file_has uncarried.File f = not (is_prelude f.kind || is_object f.kind)
 file_has uncarried.Table f = list_any (λ s. list_any (λ r. wants_entry r.kind) s.relocs) f.sections
 file_has uncarried.Sorted f = list_any (λ s. s.sorted) f.sections
 file_has uncarried.Symbol f = is_internal f.kind && has_symbols f
-file_has uncarried.Reach f = (is_object f.kind && has_symbols f) || list_any (λ s. is_not_kept s.slot) f.sections
+file_has uncarried.Reach f = (is_object f.kind && has_symbols f) || list_any (λ s. not (is_must s.slot)) f.sections
 file_has _ f = false
 
--- whether the description has it
+-- the description has it
 unfoldable pub has : LinkInput → Uncarried → Bool
 has link uncarried.Output = is_loaded_dynamically link.options.output
 has link uncarried.Table = names_table link.plan.named || any_file (file_has uncarried.Table) link

@@ -1,25 +1,31 @@
--- The errors of a layout.
+-- What a layout answers for the errors of its steps.
+use Rattle.lk_gc.specs.declared.error.GcError.{GcError}
+use Rattle.lk_gc.specs.declared.error.GcError.TheVariants as gc
 use Rattle.lk_link.specs.declared.fault.LinkFault.{LinkFault}
 use Rattle.lk_link.specs.declared.fault.LinkFault.TheVariants as fault
+use Rattle.lk_place.specs.declared.error.PlaceError.{PlaceError}
+use Rattle.lk_place.specs.declared.error.PlaceError.TheVariants as place
+use Rattle.lk_sizes.specs.declared.error.SizeError.{SizeError}
+use Rattle.lk_sizes.specs.declared.error.SizeError.TheVariants as size
 use Rattle.lk_layout.specs.declared.error.LayoutError.{LayoutError}
-use Rattle.lk_layout.specs.declared.error.LayoutError.TheVariants.{NoMemory, TooMany, BadLink, AddressOverflow}
-use Rattle.lk_link.specs.declared.fault.Place.TheVariants as place
-use Rattle.lk_layout.specs.declared.owners.SizeError.{SizeError}
-use Rattle.lk_layout.specs.declared.owners.SizeError.TheVariants as size
-use Rattle.lk_layout.specs.declared.walk.WalkError.{WalkError}
-use Rattle.lk_layout.specs.declared.walk.WalkError.TheVariants as walk
+use Rattle.lk_layout.specs.declared.error.LayoutError.TheVariants.{NoMemory, TooMany, BadLink, AddressOverflow, SectionOutsideSegments}
 
--- the error that tells of sizes past 64 bits
-abbrev pub size_error_of : SizeError → LayoutError
-size_error_of (size.Overflow p) = AddressOverflow (place.Part p)
-size_error_of size.NoMemory = NoMemory
+-- for a fault of the link
+abbrev pub fault_error : LinkFault → LayoutError
+fault_error (fault.TooMany what count limit) = TooMany what count limit
+fault_error (fault.BadLink rule place) = BadLink rule place
 
--- the error that tells of addresses past 64 bits
-abbrev pub walk_error_of : WalkError → LayoutError
-walk_error_of (walk.Overflow k) = AddressOverflow (place.Event k)
-walk_error_of walk.NoMemory = NoMemory
+-- for what the traversal refuses
+abbrev pub gc_error : GcError → LayoutError
+gc_error gc.NoMemory = NoMemory
 
--- the error that tells of a link's fault
-abbrev pub error_of : LinkFault → LayoutError
-error_of (fault.TooMany what count limit) = TooMany what count limit
-error_of (fault.BadLink rule place) = BadLink rule place
+-- for sizes past 64 bits
+abbrev pub size_error : SizeError → LayoutError
+size_error (size.AddressOverflow place) = AddressOverflow place
+size_error size.NoMemory = NoMemory
+
+-- for what can't be placed
+abbrev pub place_error : PlaceError → LayoutError
+place_error (place.AddressOverflow at) = AddressOverflow at
+place_error (place.SectionOutsideSegments section) = SectionOutsideSegments section
+place_error place.NoMemory = NoMemory

@@ -1,58 +1,52 @@
--- Laws of the definitions: what they determine, and what they keep apart.
-use Rattle.std.specs.Prelude.{◌≡◌, ◌≢◌, ℕ, ◌<◌, ◌≤◌, List, [], Result, Ok}
-use Rattle.std.specs.List.{slice_index_or}
+-- Laws: every link has one defined answer, and a defined layout is sound.
+use Rattle.std.specs.Prelude.{◌≡◌, ◌≢◌, ℕ, ◌<◌, ◌||◌, true, false, Result, Ok, slice_get, take}
 use Rattle.lk_link.specs.declared.link.LinkInput.{LinkInput}
-use Rattle.lk_link.specs.declared.plan.Plan.{Plan}
-use Rattle.lk_link.specs.WellFormed.{IsEventOrder}
-use Rattle.lk_layout.specs.declared.cursors.Cursors.{Cursors}
+use Rattle.lk_link.specs.Inside.{is_open}
+use Rattle.lk_link.specs.PlanSections.{is_allocated, is_file_backed}
+use Rattle.lk_link.specs.Target.{IsLawful, Target}
+use Rattle.lk_link.specs.WellFormed.{IsWellFormed}
+use Rattle.lk_gc.specs.declared.live.Live.{Live}
+use Rattle.lk_place.specs.Plain.{IsLoadSegment, IsPlain, OpensLoad, PlacesInLoad}
+use Rattle.lk_place.specs.Ranges.{MemoryIsDisjoint}
 use Rattle.lk_layout.specs.declared.error.LayoutError.{LayoutError}
 use Rattle.lk_layout.specs.declared.layout.Layout.{Layout}
-use Rattle.lk_layout.specs.declared.sections.SizedPart.{SizedPart}
+use Rattle.lk_layout.specs.Carried.{IsCarried}
 use Rattle.lk_layout.specs.Defined.{IsDefined}
-use Rattle.lk_layout.specs.Placement.{IsPlaced}
-use Rattle.lk_layout.specs.Records.{Record, file_end, nowhere}
+use Rattle.lk_layout.specs.Sound.{IsSound, LiveSectionsAreApart}
 
--- there is one placement: the same states and the same records
-abbrev pub PlacementIsOne : Type 0
-PlacementIsOne = (start : ℕ → ℕ → ℕ → ℕ) (plan : Plan) (sized : List SizedPart)
-    → (states states' : List Cursors) (placed placed' : List (List Record))
-    → IsEventOrder plan
-    → IsPlaced start plan sized states placed
-    → IsPlaced start plan sized states' placed'
-    → (states ≡ states') × (placed ≡ placed')
+-- every link has a defined answer; so has every well-formed link
+abbrev pub DefinedAnswerExists : Type 0
+DefinedAnswerExists = (target : Target) (link : LinkInput) → (answer : Result Layout LayoutError) × IsDefined target link answer
 
--- the defined answer of a link is one
+-- it is one
 abbrev pub DefinedAnswerIsOne : Type 0
-DefinedAnswerIsOne = (start : ℕ → ℕ → ℕ → ℕ) (link : LinkInput) (a b : Result Layout LayoutError)
-    → IsDefined start link a
-    → IsDefined start link b
-    → a ≡ b
+DefinedAnswerIsOne = (target : Target) (link : LinkInput) (a b : Result Layout LayoutError)
+    → IsDefined target link a → IsDefined target link b → a ≡ b
 
--- an offset lies in the range of the file that a record takes
-pub record IsInFile (offset : ℕ) (r : Record) : Type 0 where
-  pub begins : r.file_offset ≤ offset
-  pub ends : offset < file_end r
+-- a defined layout is sound
+abbrev pub DefinedLayoutsAreSound : Type 0
+DefinedLayoutsAreSound = (target : Target) (link : LinkInput) (layout : Layout)
+    → IsLawful target → IsDefined target link (Ok layout) → (live : Live) × IsSound link live layout
 
--- two ranges of the file share no offset
-abbrev pub AreDisjoint : Record → Record → Type 0
-AreDisjoint a b = (offset : ℕ) → IsInFile offset a → IsInFile offset b → ⊥
+-- as long as no plan is laid out that has regions or gives addresses, its memory is disjoint under every plan
+abbrev pub LaidOutMemoryIsDisjoint : Type 0
+LaidOutMemoryIsDisjoint = (target : Target) (link : LinkInput) (layout : Layout)
+    → IsCarried link → IsLawful target → IsDefined target link (Ok layout) → MemoryIsDisjoint link.plan layout.section_part_layouts
 
--- the record of a section's part with this number in the section
-abbrev pub part_record : List (List Record) → ℕ → ℕ → Record
-part_record placed s j = slice_index_or (slice_index_or placed s []) j nowhere
+-- and so are its live sections
+abbrev pub LaidOutSectionsAreApart : Type 0
+LaidOutSectionsAreApart = (target : Target) (link : LinkInput) (layout : Layout)
+    → IsCarried link → IsLawful target → IsDefined target link (Ok layout)
+    → (live : Live) × IsSound link live layout × LiveSectionsAreApart link live layout
 
--- no two parts share a byte of the file, whatever the plan does with memory
-abbrev pub FileRangesAreDisjoint : Type 0
-FileRangesAreDisjoint = (start : ℕ → ℕ → ℕ → ℕ) (plan : Plan) (sized : List SizedPart)
-    → (states : List Cursors) (placed : List (List Record))
-    → IsEventOrder plan
-    → IsPlaced start plan sized states placed
-    → (s j t k : ℕ) → (s ≡ t → j ≢ k)
-    → AreDisjoint (part_record placed s j) (part_record placed t k)
+-- what makes the plan of a link plain of which all is laid out: no load segment opens while another is open, and inside each all
+-- is allocated, and what takes bytes of the file comes before what takes none
+pub record IsOrdinary (link : LinkInput) : Type 0 where
+  pub apart : (i j k : ℕ) → IsLoadSegment link.plan i → OpensLoad link.plan j k → is_open i (take k link.plan.events) ≡ false
+  pub allocated : (i s k : ℕ) → PlacesInLoad link.plan i s k → is_allocated link.plan s ≡ true
+  pub backed_first : (i s t m n : ℕ) → m < n → PlacesInLoad link.plan i s m → PlacesInLoad link.plan i t n
+      → is_file_backed link.plan t ≡ true → is_file_backed link.plan s ≡ true
 
--- no two parts of a defined layout, numbered over all sections, share a byte of the file
-abbrev pub LayoutRangesAreDisjoint : Type 0
-LayoutRangesAreDisjoint = (start : ℕ → ℕ → ℕ → ℕ) (link : LinkInput) (layout : Layout)
-    → IsDefined start link (Ok layout)
-    → (p q : ℕ) → p ≢ q
-    → AreDisjoint (slice_index_or layout.section_part_layouts p nowhere) (slice_index_or layout.section_part_layouts q nowhere)
+-- the other conditions of a plain plan hold of what is laid out
+abbrev pub CarriedPlansArePlain : Type 0
+CarriedPlansArePlain = (link : LinkInput) → IsCarried link → IsOrdinary link → IsPlain link.plan link.options.output

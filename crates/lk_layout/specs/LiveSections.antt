@@ -1,29 +1,26 @@
 -- The live sections with their addresses.
-use Rattle.std.specs.Prelude.{ℕ, ◌+◌, List, [], ◌∷◌, ◌++◌, slice_index, false}
-use Rattle.std.specs.List.{slice_index_or}
-use Rattle.lk_link.specs.declared.plan.PlanPart.{PlanPart}
+use Rattle.std.specs.Prelude.{ℕ, List, map}
+use Rattle.lk_link.specs.declared.link.LinkInput.{LinkInput}
+use Rattle.lk_link.specs.Inputs.{Input}
+use Rattle.lk_gc.specs.declared.live.Live.{Live}
+use Rattle.lk_gc.specs.Reach.{live_inputs}
+use Rattle.lk_place.specs.Records.{Record}
+use Rattle.lk_sizes.specs.Owners.{live_address}
 use Rattle.lk_layout.specs.declared.live.LiveSection.{LiveSection}
-use Rattle.lk_layout.specs.Owners.{owners_of, bytes_of}
-use Rattle.lk_layout.specs.Units.{Input}
 
--- the part with this number
-abbrev pub part_at : List PlanPart → ℕ → PlanPart
-part_at parts p = slice_index_or parts p (record { alignment = 1; packed = false })
+-- where the parts with these records start in memory
+abbrev pub starts_of : List Record → List ℕ
+starts_of records = map (λ r. r.mem_offset) records
 
--- a live section stands behind the owners of its part that come before it
-abbrev pub live_section : List ℕ → List PlanPart → List Input → Input → LiveSection
-live_section starts parts before x = record {
+-- a live section, with the address that it has among the owners of its part
+abbrev pub live_section : LinkInput → Live → List Record → Input → LiveSection
+live_section link live records x = record {
   file = x.file;
   index = x.index;
-  address = slice_index starts x.section.part + bytes_of (owners_of before x.section.part (part_at parts x.section.part));
+  address = live_address link live (starts_of records) x;
   size = x.section.size;
 }
 
--- the live sections behind those before them
-abbrev pub live_sections_after : List ℕ → List PlanPart → List Input → List Input → List LiveSection
-live_sections_after starts parts before [] = []
-live_sections_after starts parts before (x ∷ xs) = live_section starts parts before x ∷ live_sections_after starts parts (before ++ x ∷ []) xs
-
--- all live sections, by the starts of the parts in memory
-abbrev pub live_sections : List ℕ → List PlanPart → List Input → List LiveSection
-live_sections starts parts live = live_sections_after starts parts [] live
+-- all live sections, by file and index
+abbrev pub live_sections : LinkInput → Live → List Record → List LiveSection
+live_sections link live records = map (live_section link live records) (live_inputs link live)

@@ -1,19 +1,21 @@
 //! What a description may have that isn't laid out yet.
+//!
+//! Each thing is looked for by itself, in a fixed order, so that a description with several of them is always told by the
+//! same one. What comes later takes a line away here.
 
-ghost use Rattle.std.specs.Prelude.{◌≡◌, ◌||◌, is_some};
+ghost use Rattle.std.specs.Prelude.{◌≡◌, ◌||◌, not, is_some};
 ghost use Rattle.std.specs.List.{list_any};
-ghost use Rattle.lk_link.specs.InputSlots.{is_merge};
-ghost use Rattle.lk_link.specs.Rules.{is_tls};
-ghost use Rattle.lk_layout.specs.Carried.{all_uncarried, any_file, file_has, first_uncarried, has, is_common, is_debug, is_internal, is_loaded_dynamically, is_not_kept, is_special_plan, is_special_section, moves_location, names_table, wants_entry};
+ghost use Rattle.lk_link.specs.InputSlots.{is_debug, is_merge, is_must};
+ghost use Rattle.lk_link.specs.SegmentKinds.{is_tls};
+ghost use Rattle.lk_layout.specs.Carried.{any_file, file_has, first_uncarried, has, is_common, is_loaded_dynamically, is_special_plan, is_special_section, moves_location, names_table, wants_entry};
 
 use crate::error::Uncarried;
-use crate::sections::is_thread_local;
-use lk_link::file::{FileKind, InputFile};
+use lk_link::file::InputFile;
 use lk_link::link::LinkInput;
 use lk_link::options::OutputKind;
-use lk_link::plan::{NamedParts, OrderEvent, Plan, PlanSection, PlanSegment, SegmentKind};
+use lk_link::plan::{NamedParts, OrderEvent, Plan, PlanSection, PlanSegment, attributes};
 use lk_link::relocation::{RelocationKind, resolution_flags};
-use lk_link::section::{InputSection, InputSlot};
+use lk_link::section::InputSection;
 use lk_link::symbol::SymbolPlacement;
 
 /// What is looked for, in this order.
@@ -33,9 +35,6 @@ const ALL_UNCARRIED: [Uncarried; 13] = [
     Uncarried::Reach,
 ];
 
-/// The flags of symbols that want an entry of a table: PLT, GOT and the three kinds of GOT_TLS.
-const TABLE_ENTRIES: u32 = 3968;
-
 /// The first thing that the description has and that isn't laid out yet; none where all is.
 #[tactic(auto, unfolding(crate::specs::Carried::first_uncarried))]
 pub fn first_uncarried(link: &LinkInput) -> Option<Uncarried>
@@ -53,9 +52,7 @@ fn has(link: &LinkInput, what: Uncarried) -> bool
         Uncarried::Output => is_loaded_dynamically(link.options.output),
         Uncarried::Table => names_table(&link.plan.named) || any_file(link, what),
         Uncarried::Plan => is_special_plan(&link.plan),
-        Uncarried::Partial => {
-            matches!(link.options.output, OutputKind::Partial) || link.plan.singletons.is_some()
-        }
+        Uncarried::Partial => { link.options.output.is_partial() || link.plan.singletons.is_some() }
         Uncarried::Primary => link.plan.named.primary.is_some(),
         Uncarried::Relax => link.options.relax,
         _ => any_file(link, what),
@@ -99,13 +96,13 @@ fn is_special_plan(plan: &Plan) -> bool
         || plan.phdrs_headers
         || !plan.regions.is_empty()
         || plan.base.as_number().is_none()
-        || has_location(plan.events.as_slice())
+        || moves_location(plan.events.as_slice())
         || has_special_section(plan.sections.as_slice())
         || has_tls_segment(plan.segments.as_slice())
 }
 
 /// Whether an event moves the location.
-fn has_location(events: &[OrderEvent]) -> bool
+fn moves_location(events: &[OrderEvent]) -> bool
     ensures { result ≡ list_any moves_location events.now }
 {
     events.iter().any(|event| {
@@ -123,7 +120,7 @@ fn has_special_section(sections: &[PlanSection]) -> bool
     ensures { result ≡ list_any is_special_section sections.now }
 {
     sections.iter().any(|section| {
-        is_thread_local(section)
+        section.attrs & attributes::TLS != 0
             || section.primary.is_some()
             || section.region.is_some()
             || section.at.is_some()
@@ -132,11 +129,9 @@ fn has_special_section(sections: &[PlanSection]) -> bool
 
 /// Whether a segment is one for thread-local data.
 fn has_tls_segment(segments: &[PlanSegment]) -> bool
-    ensures { result ≡ list_any is_tls segments.now }
+    ensures { result ≡ list_any (λ s. is_tls s.kind) segments.now }
 {
-    segments
-        .iter()
-        .any(|segment| matches!(segment.kind, SegmentKind::Tls))
+    segments.iter().any(|segment| segment.kind.is_tls())
 }
 
 /// Whether a file of the description has it.
@@ -164,26 +159,15 @@ fn file_has(file: &InputFile, what: Uncarried) -> bool
         Uncarried::Merge => has_merged(file),
         Uncarried::Slot => has_debug_or_group(file),
         Uncarried::Common => has_common(file),
-        Uncarried::File => !matches!(file.kind, FileKind::Prelude | FileKind::Object),
+        Uncarried::File => !(file.kind.is_prelude() || file.kind.is_object()),
         Uncarried::Table => has_entry(file),
         Uncarried::Sorted => has_sorted(file),
-        Uncarried::Symbol => is_internal(file.kind) && !file.symbols.is_empty(),
+        Uncarried::Symbol => file.kind.is_internal() && !file.symbols.is_empty(),
         Uncarried::Reach => {
-            (matches!(file.kind, FileKind::Object) && !file.symbols.is_empty())
-                || has_not_kept(file)
+            (file.kind.is_object() && !file.symbols.is_empty()) || has_not_kept(file)
         }
         _ => false,
     }
-}
-
-/// Whether the linker itself places the symbols of such a file.
-fn is_internal(kind: FileKind) -> bool
-    ensures { result ≡ is_internal kind }
-{
-    matches!(
-        kind,
-        FileKind::Prelude | FileKind::SyntheticSymbols | FileKind::LinkerScript
-    )
 }
 
 /// Whether a section holds strings or constants that are merged.
@@ -193,21 +177,15 @@ fn has_merged(file: &InputFile) -> bool
     file.sections
         .as_slice()
         .iter()
-        .any(|section| matches!(section.slot, InputSlot::Merge))
+        .any(|section| section.slot.is_merge())
 }
 
 /// Whether a section has debug data, or is in a section group.
 fn has_debug_or_group(file: &InputFile) -> bool
     ensures { result ≡ list_any (λ s. is_debug s.slot || is_some s.group) file.now.sections }
 {
-    file.sections.as_slice().iter().any(|section| is_debug(section.slot) || section.group.is_some())
-}
-
-/// Whether the slot is one for debug data.
-fn is_debug(slot: InputSlot) -> bool
-    ensures { result ≡ is_debug slot }
-{
-    matches!(slot, InputSlot::DebugInfo | InputSlot::MustLoadDebugInfo)
+    file.sections.as_slice().iter().any(|section| section.slot.is_debug()
+        || section.group.is_some())
 }
 
 /// Whether a symbol is common.
@@ -239,7 +217,7 @@ fn wants_entries(section: &InputSection) -> bool
 fn wants_entry(kind: RelocationKind) -> bool
     ensures { result ≡ wants_entry kind }
 {
-    resolution_flags(kind).0 & TABLE_ENTRIES != 0
+    resolution_flags(kind).wants_table_entry()
 }
 
 /// Whether a section is put in order by its name.
@@ -252,12 +230,12 @@ fn has_sorted(file: &InputFile) -> bool
         .any(|section| section.sorted)
 }
 
-/// Whether a section is kept only if something refers to it, or not at all.
+/// Whether a section isn't kept in any case.
 fn has_not_kept(file: &InputFile) -> bool
-    ensures { result ≡ list_any (λ s. is_not_kept s.slot) file.now.sections }
+    ensures { result ≡ list_any (λ s. not (is_must s.slot)) file.now.sections }
 {
-    file.sections.as_slice().iter().any(|section| matches!(
-        section.slot,
-        InputSlot::Unloaded | InputSlot::Discard
-    ))
+    file.sections
+        .as_slice()
+        .iter()
+        .any(|section| !section.slot.is_must())
 }

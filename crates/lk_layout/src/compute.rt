@@ -1,30 +1,40 @@
 //! The layout of a whole link.
+//!
+//! Each step looks at what the ones before it made, and none goes back: what is live, what the live sections bring to each
+//! part, where the parts stand, which sections and segments are told, what those span, and at last the address of each live
+//! section. A step that refuses ends the computation, so that the answer is the first refusal in this order, or the layout.
 
-ghost use Rattle.lk_layout.specs.Defined.{Gives};
-ghost use Rattle.lk_layout.specs.Steps.{GivesCarried};
+ghost use Rattle.std.specs.Prelude.{◌≡◌, ◌<◌, ◌≤◌, ℕ, length};
+ghost use Rattle.lk_gc.specs.Reach.{AreLive};
+ghost use Rattle.lk_link.specs.Parts.{all_parts};
+ghost use Rattle.lk_link.specs.WellFormed.{IsWellFormed};
+ghost use Rattle.lk_place.specs.Records.{record_at};
+ghost use Rattle.lk_place.specs.Segments.{section_records};
+ghost use Rattle.lk_place.specs.Setting.{target_of};
+ghost use Rattle.lk_sizes.specs.Contents.{part_contents as contents_of};
+ghost use Rattle.lk_sizes.specs.Owners.{part_size};
+ghost use Rattle.lk_layout.specs.Carried.{IsCarried};
+ghost use Rattle.lk_layout.specs.Defined.{Gives, IsCarriedAnswer, IsPlacedAnswer, WithMemory};
 
 use crate::arch::Arch;
 use crate::carried::first_uncarried;
 use crate::error::LayoutError;
-use crate::gate::Gate;
 use crate::layout::Layout;
-use crate::steps::lay_out;
-use lk_input::check_link;
+use crate::live::live_sections;
+use lk_check::check_link;
+use lk_gc::{Live, traverse_alone};
+use lk_link::gate::Gate;
 use lk_link::link::LinkInput;
+use lk_link::list::List;
 use lk_link::platform::Platform;
+use lk_place::laws::parts_take_their_bytes;
+use lk_place::{Placed, compute_layout_sections, compute_segment_layout};
+use lk_sizes::{
+    PartContents, determine_header_sizes, part_contents, part_sizes, propagate_section_attributes,
+};
 use std::alloc::Global;
 use std::sync::Wait;
 use std::thread::Threads;
-
-/// Refuses what isn't laid out yet.
-fn check_carried(link: &LinkInput) -> Result<(), LayoutError>
-    ensures { GivesCarried result link.now }
-{
-    match first_uncarried(link) {
-        Some(what) => Err(LayoutError::NotCarried(what)),
-        None => Ok(()),
-    }
-}
 
 /// The layout of a link, on the caller's own thread: the defined answer, unless memory runs out. It waits for
 /// nobody, and always returns.
@@ -34,15 +44,71 @@ pub fn compute_alone<P: Platform, A: Arch>(
     platform: &P,
     _arch: &A,
 ) -> Result<Layout, LayoutError>
-    ensures { Gives (P.segment_start platform.now) link.now result }
+    ensures { Gives (target_of (P.segment_start platform.now)) link.now result }
 {
     check_link(link)?;
-    check_carried(link)?;
-    lay_out(alloc, link, platform)
+    match first_uncarried(link) {
+        Some(what) => Err(LayoutError::NotCarried(what)),
+        None => lay_out(alloc, link, platform),
+    }
 }
 
-/// The layout of a link: the defined answer, unless memory runs out (libwild: `layout::compute`). Every number of
-/// workers runs on the caller today, and the gate isn't told of anything.
+/// The layout of a link of which all is laid out: what is live, with its sizes, placed.
+fn lay_out<P: Platform>(
+    alloc: Global,
+    link: &LinkInput,
+    platform: &P,
+) -> Result<Layout, LayoutError>
+    requires good { IsWellFormed link.now }
+    requires carried { IsCarried link.now }
+    ensures { WithMemory (IsCarriedAnswer (target_of (P.segment_start platform.now)) link.now) result }
+{
+    let live = traverse_alone(alloc, link)?;
+    let contents = part_contents(alloc, link, &live)?;
+    let sizes = part_sizes(alloc, contents.as_slice())?;
+    let placed = compute_layout_sections(alloc, link, &sizes, platform)?;
+    parts_take_their_bytes();
+    tell(alloc, link, &live, contents.as_slice(), placed)
+}
+
+/// What is told of a link that is placed: headers, segments, attributes and the addresses of live sections.
+fn tell(
+    alloc: Global,
+    link: &LinkInput,
+    live: &Live,
+    contents: &[PartContents],
+    placed: Placed,
+) -> Result<Layout, LayoutError>
+    requires good { IsWellFormed link.now }
+    requires live { AreLive link.now live.now }
+    requires contents { contents.now ≡ contents_of link.now live.now }
+    requires sections { placed.sections ≡ section_records link.now.plan.sections placed.parts }
+    requires each { length placed.parts ≡ length (all_parts link.now.plan.sections) }
+    requires takes { (p : ℕ) → p < length placed.parts → (record_at placed.parts p).mem_size ≡ part_size link.now live.now p }
+    ensures { WithMemory (IsPlacedAnswer link.now live.now placed.parts) result }
+{
+    let headers = determine_header_sizes(alloc, link, contents)?;
+    let segments = compute_segment_layout(
+        alloc,
+        link,
+        placed.sections.as_slice(),
+        headers.emitted.as_slice(),
+        headers.active_segment_ids.as_slice(),
+    )?;
+    let attributes = propagate_section_attributes(alloc, link, contents)?;
+    let live = live_sections(alloc, link, live, placed.parts.as_slice())?;
+    Ok(Layout {
+        section_layouts: placed.sections,
+        section_part_layouts: placed.parts,
+        section_attributes: List::from_vec(attributes),
+        output_section_indexes: headers.output_section_indexes,
+        segment_layouts: List::from_vec(segments),
+        live_sections: List::from_vec(live),
+    })
+}
+
+/// The layout of a link: the defined answer, unless memory runs out (libwild: `layout::compute`). With 0 or 1 workers it
+/// never calls the gate: it then asks for no leave to enter it. Every number of workers runs on the caller today.
 pub fn compute<R: Threads + Wait + Sync, P: Platform + Sync, A: Arch + Sync, G: Gate + Sync>(
     _rt: &R,
     alloc: Global,
@@ -52,7 +118,8 @@ pub fn compute<R: Threads + Wait + Sync, P: Platform + Sync, A: Arch + Sync, G: 
     _workers: u32,
     _gate: &G,
 ) -> Result<Layout, LayoutError>
-    ensures { Gives (P.segment_start platform.now) link.now result }
+    requires gate { 2 ≤ _workers → G.may_enter _gate.now }
+    ensures { Gives (target_of (P.segment_start platform.now)) link.now result }
 {
     compute_alone(alloc, link, platform, arch)
 }

@@ -1,10 +1,15 @@
 //! Why a link isn't laid out.
 
-use crate::owners::SizeError;
-use crate::walk::WalkError;
+ghost use Rattle.std.specs.Prelude.{◌≡◌};
+ghost use Rattle.lk_layout.specs.Texts.{uncarried_text};
+
+use lk_gc::GcError;
 use lk_link::fault::{Limited, LinkFault, Place, Rule};
 use lk_link::ids::OutputSectionId;
+use lk_place::PlaceError;
+use lk_sizes::SizeError;
 use std::alloc::{AllocError, AllocFailed};
+use std::fmt;
 
 /// What a description may have that isn't laid out yet, in the order in which it is looked for.
 #[derive(Clone, Copy, Debug, PartialEq, Eq)]
@@ -66,6 +71,71 @@ pub enum LayoutError {
     },
 }
 
+impl Uncarried {
+    /// The word under which it is told.
+    #[tactic(auto, unfolding(crate::specs::Texts::uncarried_text))]
+    fn word(self) -> &'static str
+        ensures { result.now ≡ uncarried_text self }
+    {
+        match self {
+            Uncarried::Merge => "merge",
+            Uncarried::Slot => "slot",
+            Uncarried::Common => "common",
+            Uncarried::File => "file",
+            Uncarried::Output => "output",
+            Uncarried::Table => "table",
+            Uncarried::Plan => "plan",
+            Uncarried::Partial => "partial",
+            Uncarried::Sorted => "sorted",
+            Uncarried::Primary => "primary",
+            Uncarried::Relax => "relax",
+            Uncarried::Symbol => "symbol",
+            Uncarried::Reach => "reach",
+        }
+    }
+}
+
+/// In a word, as `merge`.
+impl fmt::Display for Uncarried {
+    ghost use Rattle.std.specs.Prelude.{Some};
+    ghost use Rattle.lk_layout.specs.Texts.{uncarried_text};
+
+    ghost output = { λ what. Some (uncarried_text what) };
+
+    fn fmt<W: fmt::Write>(&self, f: &mut fmt::Formatter<W>) -> fmt::Result {
+        let word = self.word();
+        write!(f, "{word}")
+    }
+}
+
+/// As `section 3 is in no segment`; nothing for want of memory.
+impl fmt::Display for LayoutError {
+    ghost use Rattle.std.specs.Prelude.{Some};
+    ghost use Rattle.lk_layout.specs.Texts.{error_text};
+
+    ghost output = { λ error. Some (error_text error) };
+
+    fn fmt<W: fmt::Write>(&self, f: &mut fmt::Formatter<W>) -> fmt::Result {
+        match *self {
+            LayoutError::NoMemory => Ok(()),
+            LayoutError::TooMany { what, count, limit } => {
+                let fault = LinkFault::TooMany { what, count, limit };
+                write!(f, "{fault}")
+            }
+            LayoutError::BadLink { rule, place } => {
+                let fault = LinkFault::BadLink { rule, place };
+                write!(f, "{fault}")
+            }
+            LayoutError::NotCarried(what) => write!(f, "not carried: {what}"),
+            LayoutError::AddressOverflow { place } => write!(f, "address overflow: {place}"),
+            LayoutError::SectionOutsideSegments { section } => {
+                let section = section.as_u32();
+                write!(f, "section {section} is in no segment")
+            }
+        }
+    }
+}
+
 impl From<AllocError> for LayoutError {
     ghost use Rattle.std.specs.Prelude.{◌≡◌};
     ghost use Rattle.lk_layout.specs.declared.error.LayoutError.TheVariants.{NoMemory};
@@ -90,9 +160,9 @@ impl<T: Drop> From<AllocFailed<T>> for LayoutError {
 
 impl From<LinkFault> for LayoutError {
     ghost use Rattle.std.specs.Prelude.{◌≡◌};
-    ghost use Rattle.lk_layout.specs.Errors.{error_of};
+    ghost use Rattle.lk_layout.specs.Errors.{fault_error};
 
-    ghost from_gives = { λ fault e. e ≡ error_of fault };
+    ghost from_gives = { λ fault e. e ≡ fault_error fault };
 
     fn from(fault: LinkFault) -> LayoutError {
         match fault {
@@ -106,34 +176,46 @@ impl From<LinkFault> for LayoutError {
     }
 }
 
+impl From<GcError> for LayoutError {
+    ghost use Rattle.std.specs.Prelude.{◌≡◌};
+    ghost use Rattle.lk_layout.specs.Errors.{gc_error};
+
+    ghost from_gives = { λ error e. e ≡ gc_error error };
+
+    fn from(error: GcError) -> LayoutError {
+        match error {
+            GcError::NoMemory => LayoutError::NoMemory,
+        }
+    }
+}
+
 impl From<SizeError> for LayoutError {
     ghost use Rattle.std.specs.Prelude.{◌≡◌};
-    ghost use Rattle.lk_layout.specs.Errors.{size_error_of};
+    ghost use Rattle.lk_layout.specs.Errors.{size_error};
 
-    ghost from_gives = { λ error e. e ≡ size_error_of error };
+    ghost from_gives = { λ error e. e ≡ size_error error };
 
     fn from(error: SizeError) -> LayoutError {
         match error {
-            SizeError::Overflow(part) => LayoutError::AddressOverflow {
-                place: Place::Part(part),
-            },
+            SizeError::AddressOverflow { place } => LayoutError::AddressOverflow { place },
             SizeError::NoMemory => LayoutError::NoMemory,
         }
     }
 }
 
-impl From<WalkError> for LayoutError {
+impl From<PlaceError> for LayoutError {
     ghost use Rattle.std.specs.Prelude.{◌≡◌};
-    ghost use Rattle.lk_layout.specs.Errors.{walk_error_of};
+    ghost use Rattle.lk_layout.specs.Errors.{place_error};
 
-    ghost from_gives = { λ error e. e ≡ walk_error_of error };
+    ghost from_gives = { λ error e. e ≡ place_error error };
 
-    fn from(error: WalkError) -> LayoutError {
+    fn from(error: PlaceError) -> LayoutError {
         match error {
-            WalkError::Overflow(event) => LayoutError::AddressOverflow {
-                place: Place::Event(event),
-            },
-            WalkError::NoMemory => LayoutError::NoMemory,
+            PlaceError::AddressOverflow { place } => LayoutError::AddressOverflow { place },
+            PlaceError::SectionOutsideSegments { section } => {
+                LayoutError::SectionOutsideSegments { section }
+            }
+            PlaceError::NoMemory => LayoutError::NoMemory,
         }
     }
 }

@@ -1,50 +1,74 @@
-//! Laws of the definitions, each proved as the contract of a function that does nothing.
+//! Laws on the answer, each proved as the contract of a function that does nothing.
 
-ghost use Rattle.lk_layout.specs.Laws.{PlacementIsOne, DefinedAnswerIsOne, FileRangesAreDisjoint, LayoutRangesAreDisjoint};
-ghost use Rattle.lk_layout.specs.SoundLaws.{LayoutMemoryIsDisjoint, LayoutMemoryIsCongruent, DefinedLayoutsAreSound, OrdinaryPlansArePlain};
+ghost use Rattle.lk_layout.specs.Laws.{CarriedPlansArePlain, DefinedAnswerExists, DefinedAnswerIsOne, DefinedLayoutsAreSound, LaidOutMemoryIsDisjoint, LaidOutSectionsAreApart};
 
-/// A law: where the events are in order there is one placement, with the same cursors round each event and the same
-/// record of each part.
-pub fn placement_is_one()
-    ensures { PlacementIsOne }
-{}
+use lk_check::well_formed_exactly_unfaulted;
+use lk_gc::{live_exists, live_is_one};
+use lk_place::laws::{
+    file_ranges_are_disjoint, memory_ranges_are_disjoint, parts_take_their_bytes, placement_exists,
+    placement_is_one, plain_memory_is_congruent, plain_memory_is_disjoint, records_keep_alignments,
+};
+use lk_sizes::laws::{live_sections_are_owners, owners_are_aligned, owners_tile_their_part};
 
-/// A law: the defined answer of a link is one, by any rule for the start of a load segment.
+/// A law: every link has a defined answer, and so has every well-formed link, on any machine.
+pub fn defined_answer_exists()
+    ensures { DefinedAnswerExists }
+{
+    well_formed_exactly_unfaulted();
+    live_exists();
+    placement_exists();
+}
+
+/// A law: the defined answer of a link is one.
 pub fn defined_answer_is_one()
     ensures { DefinedAnswerIsOne }
-{}
+{
+    well_formed_exactly_unfaulted();
+    live_is_one();
+    placement_is_one();
+}
 
-/// A law: no two parts that are placed share a byte of the file, also where a plan's memory overlaps.
-pub fn file_ranges_are_disjoint()
-    ensures { FileRangesAreDisjoint }
-{}
-
-/// A law: no two parts of a defined layout, numbered over all sections, share a byte of the file.
-pub fn layout_ranges_are_disjoint()
-    ensures { LayoutRangesAreDisjoint }
-{}
-
-/// A law: no two parts of a defined layout share a byte of memory, if their sections have memory at all. The rule for
-/// the start of a load segment must never go back.
-pub fn layout_memory_is_disjoint()
-    ensures { LayoutMemoryIsDisjoint }
-{}
-
-/// A law: under a plain plan, a part with bytes in the file that stands inside a load segment starts at the same place in
-/// memory and in the file, modulo the segment's place alignment. The rule for the start of a load segment must keep them
-/// congruent.
-pub fn layout_memory_is_congruent()
-    ensures { LayoutMemoryIsCongruent }
-{}
-
-/// A law: a defined layout is sound. All of this holds of it; its live sections are those that are reached, in ranges of
-/// their own and aligned; and each byte of a part has one owner.
+/// A law: a defined layout is sound, on a lawful machine.
 pub fn defined_layouts_are_sound()
     ensures { DefinedLayoutsAreSound }
-{}
+{
+    well_formed_exactly_unfaulted();
+    owners_tile_their_part();
+    owners_are_aligned();
+    live_sections_are_owners();
+    parts_take_their_bytes();
+    file_ranges_are_disjoint();
+    plain_memory_is_disjoint();
+    plain_memory_is_congruent();
+    records_keep_alignments();
+}
 
-/// A law: a plan with one load segment is plain, if its events are in order, and its sections have memory and take bytes of
-/// the file.
-pub fn ordinary_plans_are_plain()
-    ensures { OrdinaryPlansArePlain }
+/// A law: under every plan that is laid out today, no two parts of sections that take addresses share one.
+pub fn laid_out_memory_is_disjoint()
+    ensures { LaidOutMemoryIsDisjoint }
+{
+    well_formed_exactly_unfaulted();
+    memory_ranges_are_disjoint();
+}
+
+/// A law: nor do two live sections.
+pub fn laid_out_sections_are_apart()
+    ensures { LaidOutSectionsAreApart }
+{
+    well_formed_exactly_unfaulted();
+    owners_tile_their_part();
+    owners_are_aligned();
+    live_sections_are_owners();
+    parts_take_their_bytes();
+    file_ranges_are_disjoint();
+    memory_ranges_are_disjoint();
+    plain_memory_is_disjoint();
+    plain_memory_is_congruent();
+    records_keep_alignments();
+}
+
+/// A law: where all is laid out, a plan is plain if no load segment opens while another is open, and inside each all is
+/// allocated, and what takes bytes of the file comes before what takes none.
+pub fn carried_plans_are_plain()
+    ensures { CarriedPlansArePlain }
 {}

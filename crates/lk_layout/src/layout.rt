@@ -1,9 +1,8 @@
 //! The layout of a link.
 
 use crate::live::LiveSection;
-use crate::record::OutputRecordLayout;
-use crate::segments::SegmentLayout;
 use lk_link::list::List;
+use lk_place::{OutputRecordLayout, SegmentLayout};
 
 /// Where everything stands (libwild: `Layout`).
 #[derive(Drop)]

@@ -2,26 +2,15 @@
 #![tactic(auto)]
 
 pub mod arch;
-mod assemble;
-pub mod attributes;
 pub mod carried;
 pub mod compute;
-pub mod cursors;
-pub mod emitted;
 pub mod error;
-pub mod gate;
-pub mod inside;
 pub mod laws;
 pub mod layout;
 pub mod live;
-pub mod mass;
-pub mod outside;
-pub mod owners;
-pub mod placement;
-pub mod reach;
-pub mod record;
-pub mod sections;
-pub mod segments;
-pub mod spans;
-mod steps;
-pub mod walk;
+
+pub use crate::arch::{Arch, Small64Arch};
+pub use crate::carried::first_uncarried;
+pub use crate::error::{LayoutError, Uncarried};
+pub use crate::layout::Layout;
+pub use crate::live::LiveSection;

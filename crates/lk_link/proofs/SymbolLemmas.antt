@@ -1,31 +1,29 @@
 -- Files and symbols by their numbers.
 use Rattle.std.specs.List.{slice_get}
 use Rattle.std.specs.Option.{IsSome}
-use Rattle.std.proofs.Common.{◌≡◌, ℕ, zero, suc, ◌+◌, ◌-◌, ◌^◌, ◌<◌, ◌≤◌, List, [], ◌∷◌, Option, Some, None, length, take, sum_by, refl, sym, ap, ◌∙◌, ⊎_elim, option_and_then, subst, arith}
-use Rattle.std.proofs.lemmas.Bool.{cases_order, false≢true}
+use Rattle.std.proofs.Common.{◌≡◌, ℕ, zero, suc, ◌+◌, ◌-◌, ◌^◌, ◌<◌, ◌≤◌, List, [], ◌∷◌, Some, length, take, sum_by, refl, sym, ap, ◌∙◌, ⊎_elim, option_and_then, subst, arith}
+use Rattle.std.proofs.lemmas.Bool.{cases_order}
 use Rattle.std.proofs.lemmas.List.{take-take}
 use Rattle.std.proofs.lemmas.List.Sums.{sum_by_more, sum_by_more_le, sum_by-take-le}
-use Rattle.std.proofs.lemmas.Option.{get_or_from_slice_get, option_and_then_some, slice_get_within}
+use Rattle.std.proofs.lemmas.Option.{get_or_from_slice_get, slice_get_within}
 use Rattle.lk_link.specs.declared.file.InputFile.{InputFile}
 use Rattle.lk_link.specs.declared.ids.FileId.{FileId}
 use Rattle.lk_link.specs.Ends.{AreEnds, IsPlaceOf, start_of}
 use Rattle.lk_link.specs.Files.{file_in}
-use Rattle.lk_link.specs.SymbolIndex.{IsSymbolIndex}
-use Rattle.lk_link.specs.Symbols.{all_files, symbols_of, symbol_at, symbol_count, symbols_before, file_number, first_symbol, IsSymbolIn, IsSymbolOf, FilesHaveNumbers, SymbolsFollow, SymbolsHaveFiles}
+use Rattle.lk_link.specs.FileIndex.{IsFileIndex}
+use Rattle.lk_link.specs.Symbols.{all_files, symbols_in, symbol_at, symbol_count, symbols_before, file_number, first_symbol, IsSymbolIn, IsSymbolOf, FilesHaveNumbers, SymbolsFollow, SymbolsHaveFiles}
 use Rattle.lk_link.proofs.EndsLemmas.{begins, item_of}
+use Rattle.lk_link.proofs.Places.{file_place, value_of}
 
 -- ---- files
 
--- the group that a file is in
-file_parts : (groups : List (List InputFile)) (id : FileId) (file : InputFile) → file_in groups id ≡ Some file → (files : List InputFile) × (slice_get groups id.group ≡ Some files) × (slice_get files id.file ≡ Some file)
-file_parts groups id file h = option_and_then_some (λ files. slice_get files id.file) (slice_get groups id.group) file h (λ files at_g at_f. (files, at_g, at_f))
-
+-- a file from its place
 file_from : (groups : List (List InputFile)) (id : FileId) (files : List InputFile) (file : InputFile) → slice_get groups id.group ≡ Some files → slice_get files id.file ≡ Some file → file_in groups id ≡ Some file
 file_from groups id files file at_g at_f = ap (λ o. option_and_then (λ fs. slice_get fs id.file) o) at_g ∙ at_f
 
 pub files_have_numbers : FilesHaveNumbers
 files_have_numbers groups id file h =
-    let parts = file_parts groups id file h in
+    let parts = file_place groups id file h in
     item_of (λ files. files) groups id.group id.file parts.0 parts.1 (slice_get_within parts.0 id.file file parts.2) ∙ parts.2
 
 -- how many files there are up to the end of a group
@@ -36,7 +34,7 @@ after_group groups g files at_g = sum_by_more length groups g files (slice_get_w
 
 -- how many symbols there are up to the end of a file
 after_file : (files : List InputFile) (k : ℕ) (file : InputFile) → slice_get files k ≡ Some file → symbols_before (k + 1) files ≡ symbols_before k files + length file.symbols
-after_file files k file at_k = sum_by_more symbols_of files k file (slice_get_within files k file at_k) ∙ ap (λ f. symbols_before k files + symbols_of f) (get_or_from_slice_get files k file file at_k)
+after_file files k file at_k = sum_by_more symbols_in files k file (slice_get_within files k file at_k) ∙ ap (λ f. symbols_before k files + symbols_in f) (get_or_from_slice_get files k file file at_k)
 
 pub symbols_follow : SymbolsFollow
 symbols_follow groups id file i h lt = item_of (λ f. f.symbols) (all_files groups) (file_number groups id) i file (files_have_numbers groups id file h) lt
@@ -45,8 +43,8 @@ symbols_follow groups id file i h lt = item_of (λ f. f.symbols) (all_files grou
 pub symbols_within : (groups : List (List InputFile)) (id : FileId) (file : InputFile) → file_in groups id ≡ Some file → first_symbol groups id + length file.symbols ≤ symbol_count (all_files groups)
 symbols_within groups id file h =
     let at_k = files_have_numbers groups id file h in
-    let sum = sum_by_more_le symbols_of (all_files groups) (file_number groups id) file (slice_get_within (all_files groups) (file_number groups id) file at_k) in
-    let same = ap symbols_of (get_or_from_slice_get (all_files groups) (file_number groups id) file file at_k) in
+    let sum = sum_by_more_le symbols_in (all_files groups) (file_number groups id) file (slice_get_within (all_files groups) (file_number groups id) file at_k) in
+    let same = ap symbols_in (get_or_from_slice_get (all_files groups) (file_number groups id) file file at_k) in
     omega (arith, sum, same)
 
 -- ---- one place only
@@ -65,8 +63,8 @@ one_list size xs k l n from_k below_k from_l below_l =
 
 same_file : (groups : List (List InputFile)) (a b : FileId) (file other : InputFile) → file_in groups a ≡ Some file → file_in groups b ≡ Some other → file_number groups a ≡ file_number groups b → a ≡ b
 same_file groups a b file other at_a at_b e =
-    let in_a = file_parts groups a file at_a in
-    let in_b = file_parts groups b other at_b in
+    let in_a = file_place groups a file at_a in
+    let in_b = file_place groups b other at_b in
     let lt_a = slice_get_within in_a.0 a.file file in_a.2 in
     let lt_b = slice_get_within in_b.0 b.file other in_b.2 in
     let to_a = after_group groups a.group in_a.0 in_a.1 in
@@ -87,7 +85,7 @@ symbols_have_files = record {
       let place : first_symbol groups id + (s - first_symbol groups id) ≡ s = omega arith in
       (from, lt, ap (symbol_at groups) (sym place) ∙ symbols_follow groups id h.file (s - first_symbol groups id) h.there lt);
   once = λ groups a b s h k.
-      same_file groups a b h.file k.file h.there k.there (one_list symbols_of (all_files groups) (file_number groups a) (file_number groups b) s h.symbol.from h.symbol.below k.symbol.from k.symbol.below);
+      same_file groups a b h.file k.file h.there k.there (one_list symbols_in (all_files groups) (file_number groups a) (file_number groups b) s h.symbol.from h.symbol.below k.symbol.from k.symbol.below);
 }
 
 -- ---- the index
@@ -98,7 +96,7 @@ some_at (x ∷ xs) zero lt = (x, refl)
 some_at (x ∷ xs) (suc k) lt = some_at xs k (omega arith)
 
 -- the places of a symbol among files, and of its file among groups
-pub file_at_places : (groups : List (List InputFile)) (file_ends symbol_ends : List ℕ) (s k i g f : ℕ) → AreEnds (λ files. length files) file_ends groups → AreEnds symbols_of symbol_ends (all_files groups) → IsPlaceOf symbol_ends s k i → IsPlaceOf file_ends k g f → IsSymbolIn groups (record { group = g; file = f }) s
+pub file_at_places : (groups : List (List InputFile)) (file_ends symbol_ends : List ℕ) (s k i g f : ℕ) → AreEnds (λ files. length files) file_ends groups → AreEnds symbols_in symbol_ends (all_files groups) → IsPlaceOf symbol_ends s k i → IsPlaceOf file_ends k g f → IsSymbolIn groups (record { group = g; file = f }) s
 file_at_places groups file_ends symbol_ends s k i g f by_group by_file at_k at_g =
     let there_g = at_g.there in
     let offset_g = at_g.offset in
@@ -114,7 +112,7 @@ file_at_places groups file_ends symbol_ends s k i g f by_group by_file at_k at_g
     let offset_k = at_k.offset in
     let below_k = at_k.below in
     let inside : k < length (all_files groups) = omega (arith, by_file.count) in
-    let start_k = begins symbols_of symbol_ends (all_files groups) k by_file (omega arith) in
+    let start_k = begins symbols_in symbol_ends (all_files groups) k by_file (omega arith) in
     let end_k = by_file.each k inside in
     let symbol : IsSymbolOf (all_files groups) k s = record { there = inside; from = omega arith; below = omega arith } in
     record { file = file.0; there = there; symbol = subst (λ n. IsSymbolOf (all_files groups) n s) (sym number) symbol }
@@ -129,20 +127,15 @@ place_below groups file_ends k g f h at_g =
     let all = sum_by-take-le (λ (files : List InputFile). length files) groups (g + 1) in
     omega arith
 
--- the value of a `Some`
-pub value_of : {X : Type 0} (o : Option X) → IsSome o → (x : X) × (o ≡ Some x)
-value_of None h = absurd (false≢true h)
-value_of (Some x) h = (x, refl)
-
 -- the number of a file is that of its place
 pub record HasNumber (groups : List (List InputFile)) (file_ends : List ℕ) (id : FileId) : Type 0 where
   pub number : start_of file_ends id.group + id.file ≡ file_number groups id
   pub within : file_number groups id < length (all_files groups)
 
-pub number_at : (groups : List (List InputFile)) (file_ends symbol_ends : List ℕ) (id : FileId) → IsSymbolIndex groups file_ends symbol_ends → length symbol_ends < 2 ^ 63 → IsSome (file_in groups id) → HasNumber groups file_ends id
-number_at groups file_ends symbol_ends id h few there =
+pub number_at : (groups : List (List InputFile)) (file_ends symbol_ends section_ends : List ℕ) (id : FileId) → IsFileIndex groups file_ends symbol_ends section_ends → length symbol_ends < 2 ^ 63 → IsSome (file_in groups id) → HasNumber groups file_ends id
+number_at groups file_ends symbol_ends section_ends id h few there =
     let file = value_of (file_in groups id) there in
-    let parts = file_parts groups id file.0 file.1 in
+    let parts = file_place groups id file.0 file.1 in
     let inside = slice_get_within groups id.group parts.0 parts.1 in
     let start = begins (λ files. length files) file_ends groups id.group h.by_group (omega arith) in
     let count = h.by_file.count in
@@ -150,9 +143,9 @@ number_at groups file_ends symbol_ends id h few there =
     record { number = omega arith; within = number }
 
 -- the range of a file's symbols
-pub range_at : (groups : List (List InputFile)) (file_ends symbol_ends : List ℕ) (id : FileId) (file : InputFile) → IsSymbolIndex groups file_ends symbol_ends → symbol_count (all_files groups) < 2 ^ 32 → file_in groups id ≡ Some file → (start_of symbol_ends (file_number groups id) ≡ first_symbol groups id) × (first_symbol groups id + length file.symbols ≤ symbol_count (all_files groups))
-range_at groups file_ends symbol_ends id file h few at =
+pub range_at : (groups : List (List InputFile)) (file_ends symbol_ends section_ends : List ℕ) (id : FileId) (file : InputFile) → IsFileIndex groups file_ends symbol_ends section_ends → symbol_count (all_files groups) < 2 ^ 32 → file_in groups id ≡ Some file → (start_of symbol_ends (file_number groups id) ≡ first_symbol groups id) × (first_symbol groups id + length file.symbols ≤ symbol_count (all_files groups))
+range_at groups file_ends symbol_ends section_ends id file h few at =
     let inside = slice_get_within (all_files groups) (file_number groups id) file (files_have_numbers groups id file at) in
-    let start = begins symbols_of symbol_ends (all_files groups) (file_number groups id) h.by_file (omega arith) in
+    let start = begins symbols_in symbol_ends (all_files groups) (file_number groups id) h.by_file (omega arith) in
     let within = symbols_within groups id file at in
     (omega arith, within)

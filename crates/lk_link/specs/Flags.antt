@@ -1,71 +1,39 @@
 -- The flags of symbols, as bits.
-use Rattle.std.specs.Prelude.{ℕ, List, [], ◌∷◌, ◌==◌, ◌&&◌, not, Bool, bit_and, codes}
-
-abbrev pub absolute : ℕ
-absolute = 1
-
-abbrev pub dynamic : ℕ
-dynamic = 2
-
-abbrev pub ifunc : ℕ
-ifunc = 4
-
-abbrev pub downgrade_local : ℕ
-downgrade_local = 8
-
-abbrev pub group_signature : ℕ
-group_signature = 16
-
-abbrev pub interposable : ℕ
-interposable = 32
-
-abbrev pub direct : ℕ
-direct = 64
-
-abbrev pub got : ℕ
-got = 128
-
-abbrev pub plt : ℕ
-plt = 256
-
-abbrev pub got_tls_offset : ℕ
-got_tls_offset = 512
-
-abbrev pub got_tls_module : ℕ
-got_tls_module = 1024
-
-abbrev pub got_tls_descriptor : ℕ
-got_tls_descriptor = 2048
-
-abbrev pub symbol_size : ℕ
-symbol_size = 4096
-
-abbrev pub export_dynamic : ℕ
-export_dynamic = 8192
-
-abbrev pub has_range_limited_rel : ℕ
-has_range_limited_rel = 16384
+use Rattle.std.specs.Prelude.{ℕ, ◌+◌, List, [], ◌∷◌, ◌==◌, ◌&&◌, not, Bool, bit_and, codes}
+use Rattle.lk_link.specs.declared.flags.TheConstants.ValueFlags as flag
 
 -- the flags and their names
 abbrev pub flag_names : List (List ℕ × ℕ)
-flag_names = (codes "ABSOLUTE", absolute) ∷ (codes "DYNAMIC", dynamic) ∷ (codes "IFUNC", ifunc)
-    ∷ (codes "DOWNGRADE_LOCAL", downgrade_local) ∷ (codes "GROUP_SIGNATURE", group_signature) ∷ (codes "INTERPOSABLE", interposable)
-    ∷ (codes "DIRECT", direct) ∷ (codes "GOT", got) ∷ (codes "PLT", plt) ∷ (codes "GOT_TLS_OFFSET", got_tls_offset)
-    ∷ (codes "GOT_TLS_MODULE", got_tls_module) ∷ (codes "GOT_TLS_DESCRIPTOR", got_tls_descriptor) ∷ (codes "SYMBOL_SIZE", symbol_size)
-    ∷ (codes "EXPORT_DYNAMIC", export_dynamic) ∷ (codes "HAS_RANGE_LIMITED_REL", has_range_limited_rel) ∷ []
+flag_names = (codes "ABSOLUTE", flag.ABSOLUTE.0) ∷ (codes "DYNAMIC", flag.DYNAMIC.0) ∷ (codes "IFUNC", flag.IFUNC.0)
+    ∷ (codes "DOWNGRADE_LOCAL", flag.DOWNGRADE_LOCAL.0) ∷ (codes "GROUP_SIGNATURE", flag.GROUP_SIGNATURE.0)
+    ∷ (codes "INTERPOSABLE", flag.INTERPOSABLE.0)
+    ∷ (codes "DIRECT", flag.DIRECT.0) ∷ (codes "GOT", flag.GOT.0) ∷ (codes "PLT", flag.PLT.0)
+    ∷ (codes "GOT_TLS_OFFSET", flag.GOT_TLS_OFFSET.0)
+    ∷ (codes "GOT_TLS_MODULE", flag.GOT_TLS_MODULE.0) ∷ (codes "GOT_TLS_DESCRIPTOR", flag.GOT_TLS_DESCRIPTOR.0)
+    ∷ (codes "SYMBOL_SIZE", flag.SYMBOL_SIZE.0)
+    ∷ (codes "EXPORT_DYNAMIC", flag.EXPORT_DYNAMIC.0) ∷ (codes "HAS_RANGE_LIMITED_REL", flag.HAS_RANGE_LIMITED_REL.0) ∷ []
 
 -- whether a flag is set
 abbrev pub has_flag : ℕ → ℕ → Bool
-has_flag flag flags = bit_and flags flag == flag
+has_flag one flags = bit_and flags one == one
 
--- those that give a symbol a resolution, together: from direct to export_dynamic
+-- the flags for which a symbol gets a resolution, together
 abbrev pub resolution : ℕ
-resolution = 16320
+resolution = flag.DIRECT.0 + flag.GOT.0 + flag.PLT.0 + flag.GOT_TLS_OFFSET.0 + flag.GOT_TLS_MODULE.0 + flag.GOT_TLS_DESCRIPTOR.0
+    + flag.SYMBOL_SIZE.0 + flag.EXPORT_DYNAMIC.0
 
 -- whether one of them is set
 abbrev pub has_resolution : ℕ → Bool
 has_resolution flags = not (bit_and flags resolution == 0)
 
+-- the flags for which a symbol gets an entry of a table, together: of plt, of got, and the three kinds of thread-local ones of got
+abbrev pub table_entries : ℕ
+table_entries = flag.GOT.0 + flag.PLT.0 + flag.GOT_TLS_OFFSET.0 + flag.GOT_TLS_MODULE.0 + flag.GOT_TLS_DESCRIPTOR.0
+
+-- whether one of them is set
+abbrev pub wants_table_entry : ℕ → Bool
+wants_table_entry flags = not (bit_and flags table_entries == 0)
+
 -- neither absolute nor dynamic
 abbrev pub has_link_time_address : ℕ → Bool
-has_link_time_address flags = not (has_flag absolute flags) && not (has_flag dynamic flags)
+has_link_time_address flags = not (has_flag flag.ABSOLUTE.0 flags) && not (has_flag flag.DYNAMIC.0 flags)

@@ -1,18 +1,16 @@
 -- The rule on input sections.
-use Rattle.std.specs.Prelude.{ℕ, ◌+◌, ◌==◌, ◌&&◌, ◌||◌, not, Bool, true, false, List, [], ◌∷◌, Option, option_map, length, nat_le, nat_lt, position, slice_get}
+use Rattle.std.specs.Prelude.{◌≡◌, ℕ, ◌+◌, ◌<◌, ◌≤◌, ◌==◌, ◌&&◌, ◌||◌, not, Bool, true, false, List, [], ◌∷◌, Some, length, nat_le, nat_lt, slice_get}
 use Rattle.std.specs.List.{list_all, list_any}
 use Rattle.std.specs.Option.{option_map_or}
 use Rattle.lk_link.specs.declared.file.InputFile.{InputFile}
-use Rattle.lk_link.specs.declared.ids.FileId.{FileId}
-use Rattle.lk_link.specs.declared.link.LinkInput.{LinkInput}
 use Rattle.lk_link.specs.declared.plan.Plan.{Plan}
 use Rattle.lk_link.specs.declared.plan.PlanPart.{PlanPart}
+use Rattle.lk_link.specs.declared.plan.attributes.TheConstants.{WRITE, EXEC}
 use Rattle.lk_link.specs.declared.relocation.Relocation.{Relocation}
 use Rattle.lk_link.specs.declared.relocation.RelaxCandidate.{RelaxCandidate}
 use Rattle.lk_link.specs.declared.section.InputSection.{InputSection}
-use Rattle.lk_link.specs.Files.{first_file}
 use Rattle.lk_link.specs.InputSlots.{is_discarded, is_merge, is_plain}
-use Rattle.lk_link.specs.PartRules.{is_free_part, is_singleton_part}
+use Rattle.lk_link.specs.PartRules.{is_free_part, is_singleton_part, is_table_part}
 use Rattle.lk_link.specs.Parts.{all_parts}
 
 -- ---- the part
@@ -38,7 +36,7 @@ has_good_part plan s = is_free_part plan s.part && option_map_or (fits_part s) (
 
 -- none, WRITE, EXEC, or both
 abbrev pub are_input_attrs : ℕ → Bool
-are_input_attrs attrs = list_any (λ a. attrs == a) (0 ∷ 2 ∷ 4 ∷ 6 ∷ [])
+are_input_attrs attrs = list_any (λ a. attrs == a) (0 ∷ WRITE ∷ EXEC ∷ (WRITE + EXEC) ∷ [])
 
 -- a relocation stands inside, and names one of the file's symbols
 abbrev pub is_good_reloc : ℕ → ℕ → Relocation → Bool
@@ -69,10 +67,15 @@ is_good_input plan symbols s = is_discarded s.slot || (has_good_part plan s && h
 abbrev pub has_good_inputs : Plan → InputFile → Bool
 has_good_inputs plan f = list_all (is_good_input plan (length f.symbols)) f.sections
 
--- the first section of a file that isn't good
-abbrev pub bad_input : Plan → FileId → InputFile → Option (FileId × ℕ)
-bad_input plan id f = option_map (λ i. (id, i)) (position (λ s. not (is_good_input plan (length f.symbols) s)) f.sections)
-
--- where the rule on input sections is broken first
-abbrev pub first_bad_input : LinkInput → Option (FileId × ℕ)
-first_bad_input link = first_file (bad_input link.plan) link.groups
+-- a good section, taken apart: one that isn't discarded, in a file of so many symbols
+pub record IsGoodInput (plan : Plan) (symbols : ℕ) (s : InputSection) : Type 0 where
+  pub to_part : s.part < length (all_parts plan.sections)
+  pub to_no_table : is_table_part plan.named s.part ≡ false
+  pub merged : (p : PlanPart) → slice_get (all_parts plan.sections) s.part ≡ Some p → is_merge s.slot ≡ true → p.alignment ≡ 1
+  pub sorts : (p : PlanPart) → slice_get (all_parts plan.sections) s.part ≡ Some p → s.sorted ≡ true → (is_plain s.slot ≡ true)
+      × (p.packed ≡ false)
+  pub singles : is_singleton_part plan s.part ≡ true → (is_plain s.slot ≡ true) × (s.sorted ≡ false)
+  pub few_attrs : are_input_attrs s.attrs ≡ true
+  pub in_relocs : (k : ℕ) (r : Relocation) → slice_get s.relocs k ≡ Some r → (r.offset < s.size) × (r.symbol < symbols)
+  pub in_relax : (k : ℕ) (r : RelaxCandidate) → slice_get s.relax k ≡ Some r → (1 ≤ r.del) × (r.at + r.del ≤ s.size) × (r.symbol < symbols)
+  pub apart : (j k : ℕ) (q r : RelaxCandidate) → j < k → slice_get s.relax j ≡ Some q → slice_get s.relax k ≡ Some r → q.at + q.del ≤ r.at

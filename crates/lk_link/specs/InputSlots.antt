@@ -18,3 +18,20 @@ abbrev pub is_plain : InputSlot → Bool
 is_plain slot.Unloaded = true
 is_plain slot.MustLoad = true
 is_plain _ = false
+
+-- loaded for what it holds without being asked for
+abbrev pub is_must : InputSlot → Bool
+is_must slot.MustLoad = true
+is_must _ = false
+
+-- debug data
+abbrev pub is_debug : InputSlot → Bool
+is_debug slot.DebugInfo = true
+is_debug slot.MustLoadDebugInfo = true
+is_debug _ = false
+
+-- can be kept as a whole: neither left out nor merged
+abbrev pub can_be_kept : InputSlot → Bool
+can_be_kept slot.Discard = false
+can_be_kept slot.Merge = false
+can_be_kept _ = true

@@ -2,49 +2,49 @@
 use Rattle.std.specs.Prelude.{ℕ, ◌+◌, Bool, true, false}
 use Rattle.lk_link.specs.declared.relocation.RelocationKind.{RelocationKind}
 use Rattle.lk_link.specs.declared.relocation.RelocationKind.TheVariants as kind
-use Rattle.lk_link.specs.Flags.{direct, got, plt, got_tls_offset, got_tls_module, got_tls_descriptor, symbol_size}
+use Rattle.lk_link.specs.declared.flags.TheConstants.ValueFlags as flag
 
 -- the flags that it asks for
 abbrev pub resolution_flags : RelocationKind → ℕ
-resolution_flags kind.PltRelative = plt + got
-resolution_flags kind.PltRelGotBase = plt + got
-resolution_flags kind.Got = got
-resolution_flags kind.GotRelGotBase = got
-resolution_flags kind.GotRelative = got
-resolution_flags kind.GotRelativeLoongArch64 = got
-resolution_flags kind.GotTpOff = got_tls_offset
-resolution_flags kind.GotTpOffLoongArch64 = got_tls_offset
-resolution_flags kind.GotTpOffGot = got_tls_offset
-resolution_flags kind.GotTpOffGotBase = got_tls_offset
-resolution_flags kind.TlsGd = got_tls_module
-resolution_flags kind.TlsGdGot = got_tls_module
-resolution_flags kind.TlsGdGotBase = got_tls_module
-resolution_flags kind.TlsDesc = got_tls_descriptor
-resolution_flags kind.TlsDescLoongArch64 = got_tls_descriptor
-resolution_flags kind.TlsDescGot = got_tls_descriptor
-resolution_flags kind.TlsDescGotBase = got_tls_descriptor
-resolution_flags kind.TlsDescCall = got_tls_descriptor
+resolution_flags kind.PltRelative = flag.PLT.0 + flag.GOT.0
+resolution_flags kind.PltRelGotBase = flag.PLT.0 + flag.GOT.0
+resolution_flags kind.Got = flag.GOT.0
+resolution_flags kind.GotRelGotBase = flag.GOT.0
+resolution_flags kind.GotRelative = flag.GOT.0
+resolution_flags kind.GotRelativeLoongArch64 = flag.GOT.0
+resolution_flags kind.GotTpOff = flag.GOT_TLS_OFFSET.0
+resolution_flags kind.GotTpOffLoongArch64 = flag.GOT_TLS_OFFSET.0
+resolution_flags kind.GotTpOffGot = flag.GOT_TLS_OFFSET.0
+resolution_flags kind.GotTpOffGotBase = flag.GOT_TLS_OFFSET.0
+resolution_flags kind.TlsGd = flag.GOT_TLS_MODULE.0
+resolution_flags kind.TlsGdGot = flag.GOT_TLS_MODULE.0
+resolution_flags kind.TlsGdGotBase = flag.GOT_TLS_MODULE.0
+resolution_flags kind.TlsDesc = flag.GOT_TLS_DESCRIPTOR.0
+resolution_flags kind.TlsDescLoongArch64 = flag.GOT_TLS_DESCRIPTOR.0
+resolution_flags kind.TlsDescGot = flag.GOT_TLS_DESCRIPTOR.0
+resolution_flags kind.TlsDescGotBase = flag.GOT_TLS_DESCRIPTOR.0
+resolution_flags kind.TlsDescCall = flag.GOT_TLS_DESCRIPTOR.0
 resolution_flags kind.TlsLd = 0
 resolution_flags kind.TlsLdGot = 0
 resolution_flags kind.TlsLdGotBase = 0
-resolution_flags kind.Absolute = direct
-resolution_flags kind.AbsoluteSet = direct
-resolution_flags kind.AbsoluteSetWord6 = direct
-resolution_flags kind.AbsoluteAddition = direct
-resolution_flags kind.AbsoluteAdditionWord6 = direct
-resolution_flags kind.AbsoluteSubtraction = direct
-resolution_flags kind.AbsoluteSubtractionWord6 = direct
-resolution_flags kind.AbsoluteLowPart = direct
-resolution_flags kind.Relative = direct
-resolution_flags kind.RelativeRiscVLow12 = direct
-resolution_flags kind.RelativeLoongArchHigh = direct
-resolution_flags kind.DtpOff = direct
-resolution_flags kind.TpOff = direct
-resolution_flags kind.SymRelGotBase = direct
-resolution_flags kind.PairSubtractionULEB128RiscV = direct
-resolution_flags kind.PairSubtractionULEB128LoongArch = direct
-resolution_flags kind.MachoSubtraction = direct
-resolution_flags kind.SymbolSize = symbol_size
+resolution_flags kind.Absolute = flag.DIRECT.0
+resolution_flags kind.AbsoluteSet = flag.DIRECT.0
+resolution_flags kind.AbsoluteSetWord6 = flag.DIRECT.0
+resolution_flags kind.AbsoluteAddition = flag.DIRECT.0
+resolution_flags kind.AbsoluteAdditionWord6 = flag.DIRECT.0
+resolution_flags kind.AbsoluteSubtraction = flag.DIRECT.0
+resolution_flags kind.AbsoluteSubtractionWord6 = flag.DIRECT.0
+resolution_flags kind.AbsoluteLowPart = flag.DIRECT.0
+resolution_flags kind.Relative = flag.DIRECT.0
+resolution_flags kind.RelativeRiscVLow12 = flag.DIRECT.0
+resolution_flags kind.RelativeLoongArchHigh = flag.DIRECT.0
+resolution_flags kind.DtpOff = flag.DIRECT.0
+resolution_flags kind.TpOff = flag.DIRECT.0
+resolution_flags kind.SymRelGotBase = flag.DIRECT.0
+resolution_flags kind.PairSubtractionULEB128RiscV = flag.DIRECT.0
+resolution_flags kind.PairSubtractionULEB128LoongArch = flag.DIRECT.0
+resolution_flags kind.MachoSubtraction = flag.DIRECT.0
+resolution_flags kind.SymbolSize = flag.SYMBOL_SIZE.0
 resolution_flags kind.None = 0
 resolution_flags kind.Alignment = 0
 resolution_flags kind.MachoAddition = 0

@@ -26,4 +26,6 @@ pub record IsMember (sections : List InputSection) (group i : ℕ) : Type 0 wher
 
 -- the members of a group are the sections with its number, in rising order
 abbrev pub GroupMembersRise : Type 0
-GroupMembersRise = (sections : List InputSection) (group : ℕ) → ((i : ℕ) → Contains (group_members sections group) i ↔ IsMember sections group i) × IsStrictlyIncreasing (group_members sections group)
+GroupMembersRise = (sections : List InputSection) (group : ℕ)
+    → ((i : ℕ) → Contains (group_members sections group) i ↔ IsMember sections group i)
+    × IsStrictlyIncreasing (group_members sections group)

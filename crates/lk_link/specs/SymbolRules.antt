@@ -1,7 +1,7 @@
 -- The rule on symbols.
-use Rattle.std.specs.Prelude.{ℕ, ◌==◌, ◌&&◌, ◌||◌, not, Bool, true, false, List, Option, count_by, length, map, nat_le, nat_lt, position, slice_get}
+use Rattle.std.specs.Prelude.{◌≡◌, ℕ, ◌<◌, ◌≤◌, ◌==◌, ◌&&◌, ◌||◌, Bool, true, false, List, Option, Some, count_by, length, map, nat_le, nat_lt, slice_get}
 use Rattle.std.specs.List.{flat_map}
-use Rattle.std.specs.Option.{option_map_or}
+use Rattle.std.specs.Option.{ForSome, option_map_or}
 use Rattle.lk_link.specs.declared.file.FileKind.{FileKind}
 use Rattle.lk_link.specs.declared.file.FileKind.TheVariants as kind
 use Rattle.lk_link.specs.declared.file.InputFile.{InputFile}
@@ -14,9 +14,10 @@ use Rattle.lk_link.specs.declared.symbol.SymbolLoc.TheVariants as loc
 use Rattle.lk_link.specs.declared.symbol.SymbolPlacement.{SymbolPlacement}
 use Rattle.lk_link.specs.declared.symbol.SymbolPlacement.TheVariants as at
 use Rattle.lk_link.specs.InputSlots.{is_merge}
-use Rattle.lk_link.specs.PartRules.{is_free_part}
+use Rattle.lk_link.specs.PartRules.{is_free_part, is_table_part}
+use Rattle.lk_link.specs.Parts.{all_parts}
 use Rattle.lk_link.specs.Rules.{is_location}
-use Rattle.lk_link.specs.Symbols.{all_files, definition_of}
+use Rattle.lk_link.specs.Symbols.{definition_of}
 
 -- ---- what stands for a symbol
 
@@ -100,6 +101,33 @@ is_good_symbol link f s = has_definition link.groups s.def && nat_lt s.flags.0 6
 abbrev pub file_symbols : List InputFile → List (InputFile × InputSymbol)
 file_symbols files = flat_map (λ f. map (λ s. (f, s)) f.symbols) files
 
--- where the rule on symbols is broken first, by number over all files
-abbrev pub first_bad_symbol : LinkInput → Option ℕ
-first_bad_symbol link = position (λ p. not (is_good_symbol link p.0 p.1)) (file_symbols (all_files link.groups))
+-- ---- a good symbol, taken apart
+
+abbrev pub IsLocThere : Plan → SymbolLoc → Type 0
+IsLocThere plan loc.None = Unit {0}
+IsLocThere plan (loc.SectionStart s) = s < length plan.sections
+IsLocThere plan (loc.SectionEnd s) = s < length plan.sections
+IsLocThere plan (loc.Counter n) = n ≤ location_count plan
+
+-- what a placement names is there, in a file with these sections
+abbrev pub IsPlacementThere : Plan → List InputSection → SymbolPlacement → Type 0
+IsPlacementThere plan sections (at.Section i offset) = (s : InputSection) × (slice_get sections i ≡ Some s)
+    × (is_merge s.slot ≡ false → offset ≤ s.size)
+IsPlacementThere plan sections (at.Common p n) = (p < length (all_parts plan.sections)) × (is_table_part plan.named p ≡ false)
+IsPlacementThere plan sections (at.SectionStart s) = s < length plan.sections
+IsPlacementThere plan sections (at.SectionEnd s) = s < length plan.sections
+IsPlacementThere plan sections (at.SectionGroupEnd s) = s < length plan.sections
+IsPlacementThere plan sections (at.Redirect e l provide) = IsLocThere plan l
+IsPlacementThere plan sections (at.Absolute n) = Unit {0}
+IsPlacementThere plan sections at.Undef = Unit {0}
+IsPlacementThere plan sections at.Dynamic = Unit {0}
+IsPlacementThere plan sections at.Undefined = Unit {0}
+IsPlacementThere plan sections at.ForceUndefined = Unit {0}
+IsPlacementThere plan sections at.TlsEnd = Unit {0}
+IsPlacementThere plan sections at.LoadBaseAddress = Unit {0}
+
+pub record IsGoodSymbol (link : LinkInput) (f : InputFile) (s : InputSymbol) : Type 0 where
+  pub defined : ForSome s.def (λ d. definition_of link.groups d ≡ Some d)
+  pub few_flags : s.flags.0 < 64
+  pub of_kind : is_placement_in f.kind s.at ≡ true
+  pub there : IsPlacementThere link.plan f.sections s.at

@@ -24,8 +24,8 @@ abbrev pub definition_of : List (List InputFile) → ℕ → Option ℕ
 definition_of groups s = option_map (λ x. unwrap_or x.def s) (symbol_at groups s)
 
 -- how many symbols a file has
-abbrev pub symbols_of : InputFile → ℕ
-symbols_of file = length file.symbols
+abbrev pub symbols_in : InputFile → ℕ
+symbols_in file = length file.symbols
 
 -- how many symbols files have
 abbrev pub symbol_count : List InputFile → ℕ
@@ -65,13 +65,17 @@ pub record AreSymbolsOf (groups : List (List InputFile)) (id : FileId) (range : 
 
 -- a file stands under its number among all files
 abbrev pub FilesHaveNumbers : Type 0
-FilesHaveNumbers = (groups : List (List InputFile)) (id : FileId) (file : InputFile) → file_in groups id ≡ Some file → slice_get (all_files groups) (file_number groups id) ≡ Some file
+FilesHaveNumbers = (groups : List (List InputFile)) (id : FileId) (file : InputFile) → file_in groups id ≡ Some file
+    → slice_get (all_files groups) (file_number groups id) ≡ Some file
 
 -- the symbols of a file stand among all symbols, from its first one on
 abbrev pub SymbolsFollow : Type 0
-SymbolsFollow = (groups : List (List InputFile)) (id : FileId) (file : InputFile) (i : ℕ) → file_in groups id ≡ Some file → i < length file.symbols → symbol_at groups (first_symbol groups id + i) ≡ slice_get file.symbols i
+SymbolsFollow = (groups : List (List InputFile)) (id : FileId) (file : InputFile) (i : ℕ) → file_in groups id ≡ Some file
+    → i < length file.symbols → symbol_at groups (first_symbol groups id + i) ≡ slice_get file.symbols i
 
 -- the symbol of a file is the file's symbol behind its first one, and no other file's
 pub record SymbolsHaveFiles : Type 0 where
-  pub at : (groups : List (List InputFile)) (id : FileId) (s : ℕ) (h : IsSymbolIn groups id s) → (first_symbol groups id ≤ s) × (s - first_symbol groups id < length h.file.symbols) × (symbol_at groups s ≡ slice_get h.file.symbols (s - first_symbol groups id))
+  pub at : (groups : List (List InputFile)) (id : FileId) (s : ℕ) (h : IsSymbolIn groups id s) → (first_symbol groups id ≤ s)
+      × (s - first_symbol groups id < length h.file.symbols)
+      × (symbol_at groups s ≡ slice_get h.file.symbols (s - first_symbol groups id))
   pub once : (groups : List (List InputFile)) (a b : FileId) (s : ℕ) → IsSymbolIn groups a s → IsSymbolIn groups b s → a ≡ b

@@ -1,8 +1,10 @@
--- How limits, rules and places are written.
+-- How limits, rules, places and faults are written.
 use Rattle.std.specs.Prelude.{ℕ, List, [], ◌∷◌, ◌++◌, codes}
 use Rattle.std.specs.Fmt.{decimal}
 use Rattle.lk_link.specs.declared.fault.Limited.{Limited}
 use Rattle.lk_link.specs.declared.fault.Limited.TheVariants as limited
+use Rattle.lk_link.specs.declared.fault.LinkFault.{LinkFault}
+use Rattle.lk_link.specs.declared.fault.LinkFault.TheVariants.{TooMany, BadLink}
 use Rattle.lk_link.specs.declared.fault.Rule.{Rule}
 use Rattle.lk_link.specs.declared.fault.Rule.TheVariants as rule
 use Rattle.lk_link.specs.declared.fault.Place.{Place}
@@ -56,3 +58,9 @@ place_text (place.Event i) = joined (codes "event " ∷ decimal i ∷ [])
 place_text (place.Symbol s) = joined (codes "symbol " ∷ decimal s ∷ [])
 place_text (place.File id) = joined (codes "file " ∷ decimal id.group ∷ codes " " ∷ decimal id.file ∷ [])
 place_text (place.Input id i) = joined (codes "input " ∷ decimal id.group ∷ codes " " ∷ decimal id.file ∷ codes " " ∷ decimal i ∷ [])
+
+-- a fault
+abbrev pub link_fault_text : LinkFault → List ℕ
+link_fault_text (TooMany what count limit) =
+    joined (codes "too many " ∷ limited_text what ∷ codes ": " ∷ decimal count ∷ codes ", limit " ∷ decimal limit ∷ [])
+link_fault_text (BadLink r p) = joined (codes "bad link: rule " ∷ decimal (rule_number r) ∷ codes ", " ∷ place_text p ∷ [])

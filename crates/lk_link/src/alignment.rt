@@ -74,7 +74,7 @@ impl Alignment {
     }
 
     /// Its value.
-    #[tactic(auto, using(crate::specs::Powers::alignments_small))]
+    #[tactic(auto, using(crate::proofs::Powers::alignments_small))]
     pub fn value(self) -> u64
         ensures value { result ≡ self }
         ensures alignment { IsTrue (is_alignment self) }
@@ -85,7 +85,7 @@ impl Alignment {
     }
 
     /// The least multiple at or above `value`; none where it passes 2^64 - 1 (libwild: `align_up`).
-    #[tactic(auto, using(crate::specs::Starts::rounding))]
+    #[tactic(auto, using(crate::proofs::Starts::rounding))]
     pub fn align_up(self, value: u64) -> Option<u64>
         ensures exact { SomeIff result (next_multiple_of value self < 2 ^ 64) (next_multiple_of value self) }
         ensures least { IfSome result (IsLeastMultiple self value) }
@@ -94,7 +94,7 @@ impl Alignment {
     }
 
     /// The greatest multiple at or below `value` (libwild: `align_down`).
-    #[tactic(auto, using(crate::specs::Starts::rounding))]
+    #[tactic(auto, using(crate::proofs::Starts::rounding))]
     pub fn align_down(self, value: u64) -> u64
         ensures { IsGreatestMultiple self value result }
     {
@@ -103,7 +103,7 @@ impl Alignment {
 
     /// The least number at or above `value` with the remainder that `reference` has; none where it passes
     /// 2^64 - 1 (libwild: `align_modulo`).
-    #[tactic(auto, using(crate::specs::Starts::rounding))]
+    #[tactic(auto, using(crate::proofs::Starts::rounding))]
     pub fn align_modulo(self, reference: u64, value: u64) -> Option<u64>
         ensures exact { SomeIff result (next_congruent self reference value < 2 ^ 64) (next_congruent self reference value) }
         ensures least { IfSome result (IsLeastCongruent self reference value) }

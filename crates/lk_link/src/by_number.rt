@@ -1,4 +1,5 @@
-//! Items that are found by a number.
+//! Items that are found by a number. A stable sort puts those of one number side by side in the order in which they came,
+//! and two halvings find where they begin and end.
 
 ghost use Rattle.std.specs.Prelude.{◌≡◌, ℕ, [], IfOk, map};
 ghost use Rattle.std.specs.List.Sorted.{IsNonDecreasing, IsNonDecreasingBy};

@@ -1,4 +1,4 @@
-//! The candidates of a file.
+//! The candidates of a file, kept a second time by output section, so that those of one are found at once.
 
 ghost use Rattle.std.specs.Prelude.{◌≡◌, ◌==◌, [], IfOk, length, map};
 ghost use Rattle.lk_link.specs.CandidateIndex.{candidates_of, with_output};

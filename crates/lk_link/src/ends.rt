@@ -1,4 +1,6 @@
-//! Lists that follow each other, and the look-up of the list that an item stands in.
+//! Lists that follow each other, and the look-up of the list that an item stands in. Only the running ends of the lists
+//! are kept, so that an index of millions of items has a number for each list alone; the list of an item is found by
+//! halving. A sum past 64 bits stays at the greatest number, which no item's number reaches, so no index is refused.
 
 ghost use Rattle.std.specs.Prelude.{◌≡◌, ◌+◌, ◌-◌, ◌^◌, ◌<◌, ◌≤◌, ◌++◌, ◌∷◌, [], OnOk, MatchOption, length, min, vec_len};
 ghost use Rattle.lk_link.specs.Ends.{start_of, IsPlaceOf};

@@ -1,29 +1,22 @@
-//! Expressions of the plan and of symbols.
+//! Expressions of the plan and of symbols: trees of operands and operators. The code keeps a tree as one list of small
+//! tokens in postfix order, so that it is made, read and dropped by loops, and no stack of calls grows with it.
 
-ghost use Rattle.std.specs.Prelude.{◌≡◌, [], ◌∷◌, IfOk};
-ghost use Rattle.lk_link.specs.declared.expression.Token.TheVariants.{Number};
+ghost use Rattle.std.specs.Prelude.{◌≡◌, IfOk};
 
 use crate::ids::{OutputSectionId, RegionId, SymbolId};
 use crate::list::List;
 use std::alloc::{AllocError, Global};
+use std::marker::Model;
 
-/// An operand or an operator of an expression.
+/// What an expression is made of.
 #[derive(Clone, Copy, Debug, PartialEq, Eq)]
-pub enum Token {
+pub enum Operand {
     /// The number itself.
     Number(u64),
     /// A symbol's value.
     Symbol(SymbolId),
     /// The location counter.
     Dot,
-    Add,
-    Subtract,
-    Multiply,
-    Divide,
-    /// The least multiple of the right operand at or above the left one.
-    Align,
-    Max,
-    Min,
     /// Where an output section starts in memory.
     Address(OutputSectionId),
     /// The bytes that an output section takes in memory.
@@ -36,21 +29,71 @@ pub enum Token {
     SizeOfHeaders,
 }
 
-/// An expression, as its operands and operators in postfix order: a left operand, a right operand, their operator
-/// (libwild: `Expression`). What reading makes of an expression is always a whole one.
+/// What joins two expressions.
+#[derive(Clone, Copy, Debug, PartialEq, Eq)]
+pub enum Operator {
+    Add,
+    Subtract,
+    Multiply,
+    Divide,
+    /// The least multiple of the right expression at or above the left one.
+    Align,
+    Max,
+    Min,
+}
+
+/// A piece of an expression in postfix order.
+#[derive(Clone, Copy, Debug, PartialEq, Eq)]
+pub enum Token {
+    Operand(Operand),
+    Operator(Operator),
+}
+
+/// An expression (libwild: `Expression`). Contracts see a tree; its tokens stand in postfix order: those of the left
+/// expression, those of the right one, their operator.
 #[derive(Drop)]
 pub struct Expression {
-    pub tokens: List<Token>,
+    tokens: List<Token>,
+}
+
+impl Model for Expression {
+    ghost use Rattle.lk_link.specs.Expressions.{Term};
+    ghost use Rattle.lk_link.specs.StoredExpressions.{term_code};
+
+    ghost Value = { Term };
+
+    ghost coded = { term_code };
+
+    ghost use Rattle.lk_link.specs.Expressions.{term_of, IsPostfix};
+
+    ghost view = { λ a. term_of a.tokens };
+
+    ghost invariant = { λ a. IsPostfix a.tokens };
 }
 
 impl Expression {
-    ghost use Rattle.lk_link.specs.Expressions.{number, as_number};
+    ghost use Rattle.lk_link.specs.Expressions.{Term, number, as_number, postfix};
+
+    /// The expression of which these are the tokens, in postfix order.
+    pub fn from_tokens(tokens: List<Token>) -> Expression
+        requires { (t : Term) × (tokens ≡ postfix t) }
+        ensures { (t : Term) → tokens ≡ postfix t → result ≡ t }
+    {
+        Expression { tokens }
+    }
+
+    /// Its tokens in postfix order, lent.
+    pub fn tokens(&self) -> &[Token]
+        ensures { result.now ≡ postfix self.now }
+    {
+        self.tokens.as_slice()
+    }
 
     /// The expression of a number.
     pub fn number(alloc: Global, value: u64) -> Result<Expression, AllocError>
         ensures { IfOk result (λ e. e ≡ number value) }
     {
-        let tokens = Vec::from_slice(alloc, &[Token::Number(value)])?;
+        let tokens = Vec::from_slice(alloc, &[Token::Operand(Operand::Number(value))])?;
         Ok(Expression {
             tokens: List::from_vec(tokens),
         })
@@ -61,7 +104,7 @@ impl Expression {
         ensures { result ≡ as_number self.now }
     {
         match self.tokens.as_slice() {
-            [Token::Number(value)] => Some(*value),
+            [Token::Operand(Operand::Number(value))] => Some(*value),
             _ => None,
         }
     }

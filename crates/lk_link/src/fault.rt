@@ -173,3 +173,23 @@ impl fmt::Display for Place {
         }
     }
 }
+
+/// As `too many parts: 1048577, limit 1048576` or `bad link: rule 3, section 1`.
+impl fmt::Display for LinkFault {
+    ghost use Rattle.std.specs.Prelude.{Some};
+    ghost use Rattle.lk_link.specs.Texts.{link_fault_text};
+
+    ghost output = { λ fault. Some (link_fault_text fault) };
+
+    fn fmt<W: fmt::Write>(&self, f: &mut fmt::Formatter<W>) -> fmt::Result {
+        match *self {
+            LinkFault::TooMany { what, count, limit } => {
+                write!(f, "too many {what}: {count}, limit {limit}")
+            }
+            LinkFault::BadLink { rule, place } => {
+                let number = rule.number();
+                write!(f, "bad link: rule {number}, {place}")
+            }
+        }
+    }
+}

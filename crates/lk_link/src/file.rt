@@ -1,9 +1,11 @@
 //! Input files.
 
+ghost use Rattle.std.specs.Prelude.{◌≡◌};
+
 pub use crate::candidates::Candidates;
 use crate::ids::{FileId, OutputSectionId};
+pub use crate::input_sections::{InputSections, group_members_rise};
 use crate::list::List;
-pub use crate::sections::{InputSections, group_members_rise};
 use crate::symbol::InputSymbol;
 use crate::text::Text;
 
@@ -22,6 +24,62 @@ pub enum FileKind {
     SyntheticSymbols,
     /// A linker script.
     LinkerScript,
+}
+
+impl FileKind {
+    ghost use Rattle.lk_link.specs.FileKinds.{is_prelude, is_object, is_dynamic, is_not_loaded, is_synthetic, is_script, is_internal};
+
+    /// Whether it is the linker's own file.
+    pub fn is_prelude(self) -> bool
+        ensures { result ≡ is_prelude self }
+    {
+        matches!(self, FileKind::Prelude)
+    }
+
+    /// Whether it is an object file.
+    pub fn is_object(self) -> bool
+        ensures { result ≡ is_object self }
+    {
+        matches!(self, FileKind::Object)
+    }
+
+    /// Whether it is a shared object that the output refers to.
+    pub fn is_dynamic(self) -> bool
+        ensures { result ≡ is_dynamic self }
+    {
+        matches!(self, FileKind::Dynamic)
+    }
+
+    /// Whether nothing made the linker load it.
+    pub fn is_not_loaded(self) -> bool
+        ensures { result ≡ is_not_loaded self }
+    {
+        matches!(self, FileKind::NotLoaded)
+    }
+
+    /// Whether it holds symbols that the linker makes.
+    pub fn is_synthetic(self) -> bool
+        ensures { result ≡ is_synthetic self }
+    {
+        matches!(self, FileKind::SyntheticSymbols)
+    }
+
+    /// Whether it is a linker script.
+    pub fn is_script(self) -> bool
+        ensures { result ≡ is_script self }
+    {
+        matches!(self, FileKind::LinkerScript)
+    }
+
+    /// Whether the linker itself places its symbols: it is the prelude, made symbols or a script.
+    pub fn is_internal(self) -> bool
+        ensures { result ≡ is_internal self }
+    {
+        matches!(
+            self,
+            FileKind::Prelude | FileKind::SyntheticSymbols | FileKind::LinkerScript
+        )
+    }
 }
 
 /// A section that a symbol at the start or the end of an output section keeps.

@@ -64,18 +64,28 @@ impl Flags for ValueFlags {
     }
 }
 
-/// The flags that give a symbol a resolution.
-const RESOLUTION: ValueFlags = ValueFlags(16320);
+/// The flags that give a symbol a resolution, together: from `DIRECT` to `EXPORT_DYNAMIC`.
+pub const RESOLUTION: u32 = 16320;
+
+/// The flags that give a symbol an entry of a table, together: from `GOT` to `GOT_TLS_DESCRIPTOR`.
+pub const TABLE_ENTRIES: u32 = 3968;
 
 impl ValueFlags {
-    ghost use Rattle.lk_link.specs.Flags.{has_flag, has_resolution, has_link_time_address, absolute, dynamic, downgrade_local, interposable, export_dynamic};
+    ghost use Rattle.lk_link.specs.Flags.{has_flag, has_resolution, has_link_time_address, wants_table_entry};
 
     /// Whether something wants the symbol's value, an entry or its size, so that it gets a resolution
     /// (libwild: `has_resolution`).
     pub fn has_resolution(self) -> bool
         ensures { result ≡ has_resolution self.0 }
     {
-        self.intersects(RESOLUTION)
+        self.intersects(ValueFlags(RESOLUTION))
+    }
+
+    /// Whether something wants an entry of the symbol in a table: of the PLT, of the GOT, or a thread-local one of the GOT.
+    pub fn wants_table_entry(self) -> bool
+        ensures { result ≡ wants_table_entry self.0 }
+    {
+        self.intersects(ValueFlags(TABLE_ENTRIES))
     }
 
     /// Whether the value is an address that is known when the link ends: neither absolute nor dynamic.
@@ -87,35 +97,35 @@ impl ValueFlags {
 
     /// Whether the value is a number and no address.
     pub fn is_absolute(self) -> bool
-        ensures { result ≡ has_flag absolute self.0 }
+        ensures { result ≡ has_flag Self.ABSOLUTE.0 self.0 }
     {
         self.contains(ValueFlags::ABSOLUTE)
     }
 
     /// Whether the dynamic linker gives the value.
     pub fn is_dynamic(self) -> bool
-        ensures { result ≡ has_flag dynamic self.0 }
+        ensures { result ≡ has_flag Self.DYNAMIC.0 self.0 }
     {
         self.contains(ValueFlags::DYNAMIC)
     }
 
     /// Whether another definition may take its place when the program runs.
     pub fn is_interposable(self) -> bool
-        ensures { result ≡ has_flag interposable self.0 }
+        ensures { result ≡ has_flag Self.INTERPOSABLE.0 self.0 }
     {
         self.contains(ValueFlags::INTERPOSABLE)
     }
 
     /// Whether it is seen from this output alone, although it was global.
     pub fn is_downgraded_to_local(self) -> bool
-        ensures { result ≡ has_flag downgrade_local self.0 }
+        ensures { result ≡ has_flag Self.DOWNGRADE_LOCAL.0 self.0 }
     {
         self.contains(ValueFlags::DOWNGRADE_LOCAL)
     }
 
     /// Whether it is told to the dynamic linker.
     pub fn needs_export_dynamic(self) -> bool
-        ensures { result ≡ has_flag export_dynamic self.0 }
+        ensures { result ≡ has_flag Self.EXPORT_DYNAMIC.0 self.0 }
     {
         self.contains(ValueFlags::EXPORT_DYNAMIC)
     }

@@ -1,9 +1,13 @@
-//! The input files, by groups.
+//! The input files, by groups. Symbols and input sections are numbered over all files, so the running ends of the files of
+//! each group and of the symbols and sections of each file are kept beside the files: a file's first number is read off,
+//! and the file of a number is found by halving.
 
 ghost use Rattle.std.specs.Prelude.{◌≡◌, ◌==◌, ◌<◌, ◌≤◌, ◌^◌, ◌-◌, ◌++◌, List, [], IfOk, OnOk, IsSome, SomeIff, MatchOption, length, slice_get, sum_by, min};
 ghost use Rattle.std.specs.Option.{option_copied};
 ghost use Rattle.lk_link.specs.Ends.{AreEnds};
-ghost use Rattle.lk_link.specs.Symbols.{all_files, symbols_of, FilesHaveNumbers, SymbolsFollow, SymbolsHaveFiles};
+ghost use Rattle.lk_link.specs.FileIndex.{AreFileEnds};
+ghost use Rattle.lk_link.specs.Inputs.{InputsFollow};
+ghost use Rattle.lk_link.specs.Symbols.{all_files, FilesHaveNumbers, SymbolsFollow, SymbolsHaveFiles};
 ghost use Rattle.lk_link.specs.declared.file.InputFile.{InputFile};
 
 use crate::ends::{last_end, place_of, push_end, start_at};
@@ -11,10 +15,11 @@ use crate::file::InputFile;
 use crate::ids::{FileId, SymbolId, SymbolIdRange};
 use crate::list::List;
 use crate::symbol::InputSymbol;
+use crate::walks::{Files, Inputs};
 use std::alloc::{AllocError, Global};
 use std::marker::Model;
 
-/// The groups of input files, with an index of their symbols. Contracts see the lists of files alone.
+/// The groups of input files, with an index of their symbols and sections. Contracts see the lists of files alone.
 #[derive(Drop)]
 pub struct InputGroups {
     groups: List<List<InputFile>>,
@@ -22,23 +27,37 @@ pub struct InputGroups {
     file_ends: Vec<usize>,
     /// Where the symbols of each file end, numbered over all files.
     symbol_ends: Vec<usize>,
+    /// Where the sections of each file end, numbered over all files.
+    section_ends: Vec<usize>,
 }
 
 impl Model for InputGroups {
     ghost use Rattle.std.specs.Prelude.{List};
     ghost use Rattle.lk_link.specs.declared.file.InputFile.{InputFile};
+    ghost use Rattle.std.specs.Coded.{codes};
+    ghost use Rattle.lk_link.specs.contracts.expression.Expression as expression;
 
     ghost Value = { List (List InputFile) };
 
-    ghost use Rattle.lk_link.specs.SymbolIndex.{IsSymbolIndex};
+    ghost coded = { Prim.hlevel (codes, expression.the_row.coded) };
+
+    ghost use Rattle.lk_link.specs.FileIndex.{IsFileIndex};
 
     ghost view = { λ a. a.groups };
 
-    ghost invariant = { λ a. IsSymbolIndex a.groups a.file_ends.items a.symbol_ends.items };
+    ghost invariant = { λ a. IsFileIndex a.groups a.file_ends.items a.symbol_ends.items a.section_ends.items };
+}
+
+/// Where the symbols and the sections of each file end, numbered over all files.
+#[derive(Drop)]
+struct FileEnds {
+    symbols: Vec<usize>,
+    sections: Vec<usize>,
 }
 
 impl InputGroups {
     ghost use Rattle.lk_link.specs.Files.{file_in, AreNumbered};
+    ghost use Rattle.lk_link.specs.Inputs.{numbered_files, all_inputs, input_count, first_input};
     ghost use Rattle.lk_link.specs.Symbols.{symbol_count, symbol_at, definition_of, file_number, IsSymbolIn, AreSymbolsOf};
 
     /// No groups; takes no memory.
@@ -49,6 +68,7 @@ impl InputGroups {
             groups: List::new(alloc),
             file_ends: Vec::new(alloc),
             symbol_ends: Vec::new(alloc),
+            section_ends: Vec::new(alloc),
         }
     }
 
@@ -58,11 +78,12 @@ impl InputGroups {
     {
         let file_ends = ends_of_groups(alloc, groups.as_slice())?;
         let file_count = last_end(file_ends.as_slice());
-        let symbol_ends = ends_of_files(alloc, groups.as_slice(), file_count)?;
+        let ends = ends_of_files(alloc, groups.as_slice(), file_count)?;
         Ok(InputGroups {
             groups,
             file_ends,
-            symbol_ends,
+            symbol_ends: ends.symbols,
+            section_ends: ends.sections,
         })
     }
 
@@ -134,6 +155,39 @@ impl InputGroups {
         Some(self.number_of(id))
     }
 
+    /// How many input sections all files have; a count past 2^64 - 1 is given as that. Takes constant time.
+    pub fn input_count(&self) -> u64
+        ensures { result ≡ min (input_count self.now) (2 ^ 64 - 1) }
+    {
+        last_end(self.section_ends.as_slice()) as u64
+    }
+
+    /// The number of a file's first section over all files, if there is such a file; where it has no sections, the number
+    /// that the first one would have. Takes constant time.
+    pub fn input_start(&self, id: FileId) -> Option<usize>
+        requires { input_count self.now < 2 ^ 64 }
+        ensures { SomeIff result (IsSome (file_in self.now id)) (first_input self.now id) }
+    {
+        self.file(id)?;
+        Some(start_at(self.section_ends.as_slice(), self.number_of(id)))
+    }
+
+    /// All files, by group and index. Each step takes constant time, but for groups without files.
+    pub fn files(&self) -> Files<'_>
+        requires { AreNumbered self.now }
+        ensures { result ≡ numbered_files self.now }
+    {
+        Files::new(self.groups.as_slice())
+    }
+
+    /// All input sections, by group, file and index. Each step takes constant time, but for files without sections.
+    pub fn inputs(&self) -> Inputs<'_>
+        requires { AreNumbered self.now }
+        ensures { result ≡ all_inputs self.now }
+    {
+        Inputs::new(self.files())
+    }
+
     /// The file that a symbol is in, if there is such a symbol. Takes logarithmic time.
     pub fn file_of_symbol(&self, id: SymbolId) -> Option<FileId>
         requires { AreNumbered self.now }
@@ -191,6 +245,12 @@ pub fn symbols_have_files()
     ensures { SymbolsHaveFiles }
 {}
 
+/// A law: a section of a file stands among all input sections behind the file's first one, and there are as many as the
+/// files have together.
+pub fn inputs_follow()
+    ensures { InputsFollow }
+{}
+
 /// Where the files of each group end, numbered over all groups.
 fn ends_of_groups(alloc: Global, groups: &[List<InputFile>]) -> Result<Vec<usize>, AllocError>
     ensures { IfOk result (λ ends. AreEnds (λ (files : List InputFile). length files) ends.items groups.now) }
@@ -202,28 +262,33 @@ fn ends_of_groups(alloc: Global, groups: &[List<InputFile>]) -> Result<Vec<usize
     Ok(ends)
 }
 
-/// Where the symbols of each file end, numbered over all files. There are `count` files.
+/// Where the symbols and the sections of each file end, numbered over all files. There are `count` files.
 fn ends_of_files(
     alloc: Global,
     groups: &[List<InputFile>],
     count: usize,
-) -> Result<Vec<usize>, AllocError>
-    ensures { IfOk result (λ ends. AreEnds symbols_of ends.items (all_files groups.now)) }
+) -> Result<FileEnds, AllocError>
+    ensures { IfOk result (λ ends. AreFileEnds (all_files groups.now) ends.symbols.items ends.sections.items) }
 {
-    let mut ends = Vec::with_capacity(alloc, count)?;
+    let mut ends = FileEnds {
+        symbols: Vec::with_capacity(alloc, count)?,
+        sections: Vec::with_capacity(alloc, count)?,
+    };
     for files in groups {
         push_ends(&mut ends, files.as_slice())?;
     }
     Ok(ends)
 }
 
-/// Adds where the symbols of these files end.
-fn push_ends(ends: &mut Vec<usize>, files: &[InputFile]) -> Result<(), AllocError>
+/// Adds where the symbols and the sections of these files end.
+fn push_ends(ends: &mut FileEnds, files: &[InputFile]) -> Result<(), AllocError>
     ensures { OnOk result
-        ((before : List InputFile) → AreEnds symbols_of ends.old.items before → AreEnds symbols_of ends.new.items (before ++ files.now)) }
+        ((before : List InputFile) → AreFileEnds before ends.old.symbols.items ends.old.sections.items
+        → AreFileEnds (before ++ files.now) ends.new.symbols.items ends.new.sections.items) }
 {
     for file in files {
-        push_end(ends, file.symbols.len())?;
+        push_end(&mut ends.symbols, file.symbols.len())?;
+        push_end(&mut ends.sections, file.sections.len())?;
     }
     Ok(())
 }

@@ -1,13 +1,56 @@
-//! Laws on well-formed links.
+//! Laws on numbers, and on well-formed links.
 
+ghost use Rattle.std.specs.Prelude.{◌≡◌};
+ghost use Rattle.std.specs.Ordering.{nat_cmp};
+ghost use Rattle.lk_link.specs.Files.{file_cmp};
 ghost use Rattle.lk_link.specs.InputLaws.{InputsAreGood, InputsGoToParts, InputListsAreFew};
-ghost use Rattle.lk_link.specs.Laws.{UnfaultedIsWellFormed, OptionsAreGood, PartsAreAligned, SectionsAreGood, PrimariesAreOthers, EventsStandOnce, ListsAreFew};
+ghost use Rattle.lk_link.specs.Laws.{OptionsAreGood, PartsAreAligned, SectionsAreGood, PrimariesAreOthers, EventsStandOnce, ListsAreFew};
 ghost use Rattle.lk_link.specs.SymbolLaws.{SymbolsAreGood, NumberedSymbolsAreGood, DefinitionsStandForThemselves};
 
-/// A law: a link without a fault is well formed.
-pub fn unfaulted_is_well_formed()
-    ensures { UnfaultedIsWellFormed }
-{}
+use crate::ids::{FileId, OutputSectionId, PartId, RegionId, SegmentId, SymbolId};
+use std::cmp::Ordering;
+
+/// A law: files compare by group, then by their numbers there.
+pub fn files_compare_by_group(a: FileId, b: FileId) -> Ordering
+    ensures { result ≡ file_cmp a b }
+{
+    a.cmp(&b)
+}
+
+/// A law: parts compare as their numbers.
+pub fn parts_compare_as_numbers(a: PartId, b: PartId) -> Ordering
+    ensures { result ≡ nat_cmp a b }
+{
+    a.cmp(&b)
+}
+
+/// A law: output sections compare as their numbers.
+pub fn sections_compare_as_numbers(a: OutputSectionId, b: OutputSectionId) -> Ordering
+    ensures { result ≡ nat_cmp a b }
+{
+    a.cmp(&b)
+}
+
+/// A law: segments compare as their numbers.
+pub fn segments_compare_as_numbers(a: SegmentId, b: SegmentId) -> Ordering
+    ensures { result ≡ nat_cmp a b }
+{
+    a.cmp(&b)
+}
+
+/// A law: regions compare as their numbers.
+pub fn regions_compare_as_numbers(a: RegionId, b: RegionId) -> Ordering
+    ensures { result ≡ nat_cmp a b }
+{
+    a.cmp(&b)
+}
+
+/// A law: symbols compare as their numbers.
+pub fn symbols_compare_as_numbers(a: SymbolId, b: SymbolId) -> Ordering
+    ensures { result ≡ nat_cmp a b }
+{
+    a.cmp(&b)
+}
 
 /// A law: the options of a well-formed link are in their ranges, and the entry is one of its symbols.
 pub fn options_are_good()

@@ -1,4 +1,5 @@
-//! Lists of names.
+//! Lists of names, in which a name is found by halving: beside the names stand their places in the order of their bytes, so
+//! the names themselves stay in the order of the description.
 
 ghost use Rattle.std.specs.Prelude.{◌≡◌, [], IfOk};
 ghost use Rattle.std.specs.List.{range_with_len};

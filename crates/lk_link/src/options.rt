@@ -1,5 +1,7 @@
 //! What the link is asked for.
 
+ghost use Rattle.std.specs.Prelude.{◌≡◌};
+
 use crate::ids::SymbolId;
 use crate::names::Names;
 use crate::text::Text;
@@ -15,6 +17,17 @@ pub enum OutputKind {
     SharedObject,
     /// An object file again.
     Partial,
+}
+
+impl OutputKind {
+    ghost use Rattle.lk_link.specs.OutputKinds.{is_partial};
+
+    /// Whether it is an object file again.
+    pub fn is_partial(self) -> bool
+        ensures { result ≡ is_partial self }
+    {
+        matches!(self, OutputKind::Partial)
+    }
 }
 
 /// Which local symbols are left out of the symbol table.

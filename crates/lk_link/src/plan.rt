@@ -78,6 +78,31 @@ pub enum SegmentKind {
     Other,
 }
 
+impl SegmentKind {
+    ghost use Rattle.lk_link.specs.SegmentKinds.{is_load, is_stack, is_tls};
+
+    /// Whether it is loaded into memory.
+    pub fn is_load(self) -> bool
+        ensures { result ≡ is_load self }
+    {
+        matches!(self, SegmentKind::Load)
+    }
+
+    /// Whether it holds thread-local data.
+    pub fn is_tls(self) -> bool
+        ensures { result ≡ is_tls self }
+    {
+        matches!(self, SegmentKind::Tls)
+    }
+
+    /// Whether it is the stack.
+    pub fn is_stack(self) -> bool
+        ensures { result ≡ is_stack self }
+    {
+        matches!(self, SegmentKind::Stack)
+    }
+}
+
 /// A segment.
 #[derive(Clone, Copy, Debug, PartialEq, Eq)]
 pub struct PlanSegment {
@@ -155,6 +180,66 @@ pub struct Plan {
     pub singletons: Option<OutputSectionId>,
 }
 
+impl Plan {
+    ghost use Rattle.lk_link.specs.PlanSections.{is_singletons, own_attributes, is_allocated, is_file_backed, is_thread_local, is_zero_fill_thread_local, has_memory};
+
+    /// Whether the input sections of a section stay output sections of their own.
+    fn is_singletons(&self, section: OutputSectionId) -> bool
+        ensures { result ≡ is_singletons self.now section }
+    {
+        match self.singletons {
+            Some(singletons) => singletons.as_u32() == section.as_u32(),
+            None => false,
+        }
+    }
+
+    /// The attributes of a section without its primary: none for that of the singletons, which is placed as a section
+    /// without attributes. Takes constant time, as the tests below.
+    pub fn own_attributes(&self, section: OutputSectionId) -> u32
+        ensures { result ≡ own_attributes self.now section }
+    {
+        if self.is_singletons(section) {
+            return 0;
+        }
+        self.sections.attributes(section)
+    }
+
+    /// Whether memory is set aside for a section when the program runs, as for its primary.
+    pub fn is_allocated(&self, section: OutputSectionId) -> bool
+        ensures { result ≡ is_allocated self.now section }
+    {
+        self.own_attributes(self.sections.primary_of(section)) & attributes::ALLOC != 0
+    }
+
+    /// Whether a section takes bytes of the file, as its primary does.
+    pub fn is_file_backed(&self, section: OutputSectionId) -> bool
+        ensures { result ≡ is_file_backed self.now section }
+    {
+        self.own_attributes(self.sections.primary_of(section)) & attributes::NOBITS == 0
+    }
+
+    /// Whether a section holds thread-local data.
+    pub fn is_thread_local(&self, section: OutputSectionId) -> bool
+        ensures { result ≡ is_thread_local self.now section }
+    {
+        self.own_attributes(section) & attributes::TLS != 0
+    }
+
+    /// Whether a section holds thread-local data that is all zero and takes no bytes of the file.
+    pub fn is_zero_fill_thread_local(&self, section: OutputSectionId) -> bool
+        ensures { result ≡ is_zero_fill_thread_local self.now section }
+    {
+        self.is_thread_local(section) && self.own_attributes(section) & attributes::NOBITS != 0
+    }
+
+    /// Whether a section takes addresses: it is allocated, and not zero-fill thread-local.
+    pub fn has_memory(&self, section: OutputSectionId) -> bool
+        ensures { result ≡ has_memory self.now section }
+    {
+        self.is_allocated(section) && !self.is_zero_fill_thread_local(section)
+    }
+}
+
 /// The output sections, with an index of their parts. Contracts see the list of sections alone.
 #[derive(Drop)]
 pub struct PlanSections {
@@ -166,8 +251,12 @@ pub struct PlanSections {
 impl Model for PlanSections {
     ghost use Rattle.std.specs.Prelude.{List};
     ghost use Rattle.lk_link.specs.declared.plan.PlanSection.{PlanSection};
+    ghost use Rattle.std.specs.Coded.{codes};
+    ghost use Rattle.lk_link.specs.contracts.expression.Expression as expression;
 
     ghost Value = { List PlanSection };
+
+    ghost coded = { Prim.hlevel (codes, expression.the_row.coded) };
 
     ghost use Rattle.lk_link.specs.Parts.{IsIndexed};
 
@@ -178,6 +267,7 @@ impl Model for PlanSections {
 
 impl PlanSections {
     ghost use Rattle.lk_link.specs.Parts.{all_parts, first_part};
+    ghost use Rattle.lk_link.specs.PlanSections.{section_at, primary_of};
 
     /// Makes the index of the sections.
     pub fn new(alloc: Global, sections: List<PlanSection>) -> Result<PlanSections, AllocError>
@@ -224,6 +314,26 @@ impl PlanSections {
         ensures { option_copied result ≡ slice_get self.now section }
     {
         self.sections.as_slice().get(section.as_usize())
+    }
+
+    /// The section that this one is secondary to, else itself.
+    pub fn primary_of(&self, section: OutputSectionId) -> OutputSectionId
+        ensures { result ≡ primary_of self.now section }
+    {
+        match self.get(section) {
+            Some(found) => found.primary.unwrap_or(section),
+            None => section,
+        }
+    }
+
+    /// The attributes of a section; none where there is no such section.
+    fn attributes(&self, section: OutputSectionId) -> u32
+        ensures { result ≡ (section_at self.now section).attrs }
+    {
+        match self.get(section) {
+            Some(found) => found.attrs,
+            None => 0,
+        }
     }
 
     /// The parts of all sections, in order, lent.

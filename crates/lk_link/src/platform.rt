@@ -1,7 +1,6 @@
 //! What depends on the machine that a link is for.
 
 ghost use Rattle.std.specs.Prelude.{◌≡◌, ◌+◌, ◌%◌, ◌^◌, ◌<◌, ◌≤◌, ℕ, IsTrue, SomeIff};
-ghost use Rattle.std.specs.Int.{next_multiple_of};
 ghost use Rattle.lk_link.specs.Alignments.{is_alignment};
 
 use crate::alignment::Alignment;
@@ -29,13 +28,13 @@ pub trait Platform {
 pub struct Small64;
 
 impl Platform for Small64 {
-    ghost use Rattle.lk_link.specs.Starts.{start_after, start_congruent};
+    ghost use Rattle.lk_link.specs.Target.{small64, small64_is_lawful};
 
-    ghost segment_start = { λ _ a f m. next_multiple_of m a + f % a };
+    ghost segment_start = { λ _. small64.segment_start };
 
-    ghost starts_after = { λ _. start_after };
+    ghost starts_after = { λ _. small64_is_lawful.after };
 
-    ghost starts_congruent = { λ _. start_congruent };
+    ghost starts_congruent = { λ _. small64_is_lawful.congruent };
 
     fn align_load_segment_start(
         &self,

@@ -57,7 +57,9 @@ pub fn resolution_flags(kind: RelocationKind) -> ValueFlags
     ensures { result.0 ≡ resolution_flags kind }
 {
     match kind {
-        RelocationKind::PltRelative | RelocationKind::PltRelGotBase => ValueFlags(384),
+        RelocationKind::PltRelative | RelocationKind::PltRelGotBase => ValueFlags::PLT.merge(
+            ValueFlags::GOT,
+        ),
         RelocationKind::Got
         | RelocationKind::GotRelGotBase
         | RelocationKind::GotRelative

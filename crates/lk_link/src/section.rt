@@ -1,4 +1,4 @@
-//! Sections of object files.
+//! Sections of object files: what the description says of them, and the bytes that they take.
 
 ghost use Rattle.std.specs.Prelude.{◌≡◌, ◌-◌, ◌^◌, ◌≤◌, ◌<◌, IsTrue, SomeIff};
 ghost use Rattle.lk_link.specs.Alignments.{is_alignment};
@@ -25,6 +25,52 @@ pub enum InputSlot {
     MustLoadDebugInfo,
     /// Strings or constants, of which equal ones are kept once.
     Merge,
+}
+
+impl InputSlot {
+    ghost use Rattle.lk_link.specs.InputSlots.{is_discarded, is_merge, is_plain, is_must, is_debug, can_be_kept};
+
+    /// Whether it is left out, whatever refers to it.
+    pub fn is_discarded(self) -> bool
+        ensures { result ≡ is_discarded self }
+    {
+        matches!(self, InputSlot::Discard)
+    }
+
+    /// Whether its equal strings or constants are kept once.
+    pub fn is_merge(self) -> bool
+        ensures { result ≡ is_merge self }
+    {
+        matches!(self, InputSlot::Merge)
+    }
+
+    /// Whether it is loaded for what it holds, and neither debug data nor merged.
+    pub fn is_plain(self) -> bool
+        ensures { result ≡ is_plain self }
+    {
+        matches!(self, InputSlot::Unloaded | InputSlot::MustLoad)
+    }
+
+    /// Whether it is loaded for what it holds without being asked for.
+    pub fn is_must(self) -> bool
+        ensures { result ≡ is_must self }
+    {
+        matches!(self, InputSlot::MustLoad)
+    }
+
+    /// Whether it is debug data.
+    pub fn is_debug(self) -> bool
+        ensures { result ≡ is_debug self }
+    {
+        matches!(self, InputSlot::DebugInfo | InputSlot::MustLoadDebugInfo)
+    }
+
+    /// Whether it can be kept as a whole: it is neither left out nor merged.
+    pub fn can_be_kept(self) -> bool
+        ensures { result ≡ can_be_kept self }
+    {
+        !matches!(self, InputSlot::Discard | InputSlot::Merge)
+    }
 }
 
 /// A section of an object file.
@@ -62,7 +108,7 @@ impl Section {
 
     /// The bytes that it takes in a part: its size where the part is packed, and otherwise the size rounded up to the
     /// alignment; none where that passes 2^64 - 1 (libwild: `Section::capacity`).
-    #[tactic(auto, using(crate::specs::Powers::alignments_small))]
+    #[tactic(auto, using(crate::proofs::Powers::alignments_small))]
     pub fn capacity(self, part: &PlanPart) -> Option<u64>
         requires { IsTrue (is_alignment part.now.alignment) }
         ensures { SomeIff result (capacity part.now self.size < 2 ^ 64) (capacity part.now self.size) }
@@ -72,6 +118,21 @@ impl Section {
         } else {
             self.size.checked_next_multiple_of(part.alignment)
         }
+    }
+
+    /// The bytes that it takes in a part, also past 2^64 - 1.
+    #[tactic(auto, using(crate::proofs::Rounding::rounding))]
+    pub fn exact_capacity(self, part: &PlanPart) -> u128
+        requires { IsTrue (is_alignment part.now.alignment) }
+        ensures { result ≡ capacity part.now self.size }
+    {
+        let rest = self.size % part.alignment;
+        let padding = if part.packed || rest == 0 {
+            0
+        } else {
+            part.alignment - rest
+        };
+        u128::from(self.size) + u128::from(padding)
     }
 
     /// Its size without the padding inside, in bytes (libwild: `Section::content_size`).
@@ -108,7 +169,7 @@ pub enum SectionSlot {
 }
 
 impl SectionSlot {
-    ghost use Rattle.lk_link.specs.Slots.{is_loaded};
+    ghost use Rattle.lk_link.specs.SectionSlots.{is_loaded};
 
     /// Whether its bytes stand in the output (libwild: `SectionSlot::is_loaded`).
     pub fn is_loaded(self) -> bool

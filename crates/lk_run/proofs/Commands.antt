@@ -18,7 +18,7 @@ both false is_workers n read = absurd (cc)
 pub reads_command : (words : List (List ℕ)) (command : Command) → IsCommand words command → command_of words ≡ Some command
 unfolding command_of digits
 reads_command words (Layout workers) is =
-    let none : workers ≡ 0 = omega arith in rw (is.1, none) refl
+    let none : workers ≡ 0 = omega arith in rw (is.1, none) (refl {a = Some (Layout 0)})
 
 -- what is read as a command are its words
 pub command_is_read : (words : List (List ℕ)) (command : Command) → command_of words ≡ Some command → IsCommand words command

@@ -1,6 +1,5 @@
 -- The steps of a run make the run that is promised.
-use Rattle.std.proofs.Common.{◌≡◌, ◌⊎◌, inl, inr, ℕ, List, Option, Some, None, Result, Ok, Err, sym, subst, ap, ◌∙◌, refl}
-use Rattle.std.proofs.lemmas.Bool.{false≢true}
+use Rattle.std.proofs.Common.{◌≡◌, ◌⊎◌, inl, inr, ℕ, List, Some, None, Result, Ok, Err, sym, subst, ap, ◌∙◌, refl}
 use Rattle.std.specs.Prelude.{IsSome, MatchOption}
 use Rattle.lk_input.specs.declared.read.error.InputError.{InputError}
 use Rattle.lk_input.specs.Reading.{reading_of}
@@ -11,14 +10,17 @@ use Rattle.lk_run.specs.declared.answer.Answer.{Answer}
 use Rattle.lk_run.specs.declared.status.Status.{Status}
 use Rattle.lk_run.specs.declared.status.Status.TheVariants.{LaidOut, Refused, Usage, Unreadable, ReadFault, WriteFault, NoMemory}
 use Rattle.lk_run.specs.declared.words.Command.{Command}
-use Rattle.lk_run.specs.Run.{Held, Whole, Longer, SourceState, SinkState, IsKept, IsAnswerTo, IsAnswerToReading, IsDefinedFor, Commanded, Uncommanded, IsRun, IsCommandRun, IsUsageRun, IsFailure, GivesAnswer, told_of}
+use Rattle.lk_run.specs.declared.words.Command.TheVariants as commands
+use Rattle.lk_run.specs.Device.{SourceState, SinkState}
+use Rattle.lk_run.specs.Run.{Held, Whole, Longer, IsKept, IsAnswerTo, IsAnswerToReading, IsDefinedFor, Commanded, Uncommanded, IsRun, told_of}
+use Rattle.lk_run.specs.Steps.{IsCommandRun, IsUsageRun, IsFailure}
 use Rattle.lk_run.specs.Words.{command_of, usage}
 
 -- what an answer's status may be
-abbrev IsTold : Status → Type 0
+abbrev pub IsTold : Status → Type 0
 IsTold status = (status ≡ LaidOut) ⊎ ((status ≡ Refused) ⊎ (status ≡ Unreadable))
 
-told_link : (link : LinkInput) (layout : Result Layout LayoutError) → IsTold (told_of link layout).status
+told_link : (link : LinkInput) (result : Result Layout LayoutError) → IsTold (told_of link result).status
 told_link link (Ok layout) = inl refl
 told_link link (Err e) = inr (inl refl)
 
@@ -26,24 +28,23 @@ told_reading : (reading : Result LinkInput InputError) (answer : Answer) → IsA
 told_reading (Ok link) answer is = subst (λ (a : Answer). IsTold a.status) (sym is.2) (told_link link is.0)
 told_reading (Err e) answer is = inr (inr (ap (λ (a : Answer). a.status) is))
 
-told_held : (held : Held) (answer : Answer) → IsAnswerTo held answer → IsTold answer.status
-told_held (Whole bytes) answer is = told_reading (reading_of bytes) answer is
-told_held Longer answer is = inr (inr (ap (λ (a : Answer). a.status) is))
+pub told_held : (command : Command) (held : Held) (answer : Answer) → IsAnswerTo command held answer → IsTold answer.status
+told_held (commands.Layout workers) (Whole bytes) answer is = told_reading (reading_of bytes) answer is
+told_held (commands.Layout workers) Longer answer is = inr (inr (ap (λ (a : Answer). a.status) is))
 
-chosen_some : (o : Option Command) (P Q : Type 0) → IsSome o → Q → MatchOption o P (λ command. Q)
-chosen_some None P Q h q = absurd (false≢true h)
-chosen_some (Some command) P Q h q = q
+-- every command answers what was read
+pub answers_whole : (command : Command) (bytes : List ℕ) (answer : Answer) → IsAnswerToReading (reading_of bytes) answer → IsAnswerTo command (Whole bytes) answer
+answers_whole (commands.Layout workers) bytes answer is = is
 
-chosen_none : (o : Option Command) (P Q : Type 0) → o ≡ None → P → MatchOption o P (λ command. Q)
-chosen_none None P Q h p = p
-chosen_none (Some command) P Q h p = absurd (cc)
+defined : (words : List (List ℕ)) (command : Command) (from to : SourceState) (answer : Answer) → command_of words ≡ Some command → Commanded command from to answer
+    → IsDefinedFor words from to answer
+defined words command from to answer is given = subst (λ o. MatchOption o (Uncommanded from to answer) (λ c. Commanded c from to answer)) (sym is) given
 
-defined : (words : List (List ℕ)) (from to : SourceState) (answer : Answer) → IsSome (command_of words) → GivesAnswer (Ok answer) from to → IsDefinedFor words from to answer
-defined words from to answer command gives =
-    chosen_some (command_of words) (Uncommanded words from to answer) (Commanded words from to answer) command
-    (record { command = command; held = gives.0; holds = gives.1; answers = gives.2; read = gives.3; faultless = gives.4 })
+is_command : (words : List (List ℕ)) (command : Command) → command_of words ≡ Some command → IsSome (command_of words)
+is_command words command is = subst IsSome (sym is) refl
 
-failed_run : (words : List (List ℕ)) (from to : SourceState) (before after : SinkState) (status : Status) → IsSome (command_of words) → IsFailure status from to → IsKept before after → IsRun words from to before after status
+failed_run : (words : List (List ℕ)) (from to : SourceState) (before after : SinkState) (status : Status) → IsSome (command_of words) → IsFailure status from to
+    → IsKept before after → IsRun words from to before after status
 failed_run words from to before after ReadFault command why kept = record { command = command; faulty = why; kept = kept }
 failed_run words from to before after NoMemory command why kept = record { command = command; faultless = why; kept = kept }
 failed_run words from to before after LaidOut command why kept = absurd why
@@ -53,15 +54,16 @@ failed_run words from to before after Unreadable command why kept = absurd why
 failed_run words from to before after WriteFault command why kept = absurd why
 
 -- a command that was run
-pub command_run : (words : List (List ℕ)) (from to : SourceState) (before after : SinkState) (status : Status) → IsSome (command_of words) → IsCommandRun from to before after status → IsRun words from to before after status
-command_run words from to before after status command (inr failed) = failed_run words from to before after status command failed.0 failed.1
-command_run words from to before after status command (inl told) =
+pub command_run : (words : List (List ℕ)) (command : Command) (from to : SourceState) (before after : SinkState) (status : Status) → command_of words ≡ Some command
+    → IsCommandRun command from to before after status → IsRun words from to before after status
+command_run words command from to before after status is (inr failed) = failed_run words from to before after status (is_command words command is) failed.0 failed.1
+command_run words command from to before after status is (inl told) =
     let answer : Answer = told.0 in
-    let is_defined : IsDefinedFor words from to answer = defined words from to answer command told.1 in
+    let is_defined : IsDefinedFor words from to answer = defined words command from to answer is told.1 in
     let run : Status → Type 0 = λ s. IsRun words from to before after s in
     elim told.2 [
       | inr cut ↦ subst run (sym cut.0) (record { answer = answer; defined = is_defined; written = cut.1 })
-      | inl whole ↦ elim (told_held told.1.0 answer told.1.2) [
+      | inl whole ↦ elim (told_held command told.1.held answer told.1.answers) [
         | inl laid ↦ subst run (sym (whole.0 ∙ laid)) (record { answer = answer; defined = is_defined; same = sym laid; written = whole.1 })
         | inr other ↦ elim other [
           | inl refused ↦ subst run (sym (whole.0 ∙ refused)) (record { answer = answer; defined = is_defined; same = sym refused; written = whole.1 })
@@ -71,11 +73,12 @@ command_run words from to before after status command (inl told) =
     ]
 
 -- words that are no command
-pub usage_run : (words : List (List ℕ)) (from : SourceState) (before after : SinkState) (status : Status) → command_of words ≡ None → IsUsageRun before after status → IsRun words from from before after status
+pub usage_run : (words : List (List ℕ)) (from : SourceState) (before after : SinkState) (status : Status) → command_of words ≡ None → IsUsageRun before after status
+    → IsRun words from from before after status
 usage_run words from before after status none told =
     let answer : Answer = record { status = Usage; text = usage } in
-    let is_defined : IsDefinedFor words from from answer =
-    chosen_none (command_of words) (Uncommanded words from from answer) (Commanded words from from answer) none (record { no_command = none; untouched = refl; answers = refl }) in
+    let given : Uncommanded from from answer = record { untouched = refl; answers = refl } in
+    let is_defined : IsDefinedFor words from from answer = subst (λ o. MatchOption o (Uncommanded from from answer) (λ c. Commanded c from from answer)) (sym none) given in
     let run : Status → Type 0 = λ s. IsRun words from from before after s in
     elim told [
       | inl whole ↦ subst run (sym whole.0) (record { answer = answer; defined = is_defined; same = refl; written = whole.1 })

@@ -4,25 +4,27 @@ use Rattle.std.specs.Prelude.{MatchOption}
 use Rattle.lk_input.specs.declared.read.error.InputError.{InputError}
 use Rattle.lk_input.specs.Reading.{reading_of}
 use Rattle.lk_link.specs.declared.link.LinkInput.{LinkInput}
-use Rattle.lk_link.specs.Starts.{start_after, start_congruent}
+use Rattle.lk_link.specs.Target.{small64, small64_is_lawful}
 use Rattle.lk_layout.specs.declared.error.LayoutError.{LayoutError}
 use Rattle.lk_layout.specs.declared.layout.Layout.{Layout}
 use Rattle.lk_layout.specs.Defined.{IsDefined}
-use Rattle.lk_layout.specs.SoundLaws.{DefinedLayoutsAreSound}
+use Rattle.lk_layout.specs.Laws.{DefinedLayoutsAreSound}
 use Rattle.lk_run.specs.declared.answer.Answer.{Answer}
 use Rattle.lk_run.specs.declared.status.Status.{Status}
 use Rattle.lk_run.specs.declared.status.Status.TheVariants.{LaidOut, Refused, Usage, Unreadable}
 use Rattle.lk_run.specs.declared.words.Command.{Command}
-use Rattle.lk_run.specs.Run.{Held, Whole, Longer, Holds, SourceState, SinkState, Takes, IsAnswerTo, IsAnswerToReading, Commanded, Uncommanded, IsRun, small_start, told_of}
+use Rattle.lk_run.specs.declared.words.Command.TheVariants as commands
+use Rattle.lk_run.specs.Device.{SourceState, SinkState}
+use Rattle.lk_run.specs.Run.{Held, Whole, Longer, Holds, Takes, IsAnswerTo, IsAnswerToReading, Commanded, Uncommanded, IsRun, told_of}
 use Rattle.lk_run.specs.SoundRun.{TellsSoundLayout, IsSoundRun}
 use Rattle.lk_run.specs.Words.{command_of}
 
 -- an answer with the status of a layout is its report
 told_layout : DefinedLayoutsAreSound → (from : SourceState) (before after : SinkState) (bytes : List ℕ) (link : LinkInput) (result : Result Layout LayoutError) (answer : Answer)
-    → Holds from.left (Whole bytes) → reading_of bytes ≡ Ok link → IsDefined small_start link result → answer ≡ told_of link result → LaidOut ≡ answer.status → Takes before after answer.text
+    → Holds from.left (Whole bytes) → reading_of bytes ≡ Ok link → IsDefined small64 link result → answer ≡ told_of link result → LaidOut ≡ answer.status → Takes before after answer.text
     → TellsSoundLayout from before after
 told_layout law from before after bytes link (Ok layout) answer holds described defined is status written =
-    let sound = law small_start link layout start_after start_congruent defined in
+    let sound = law small64 link layout small64_is_lawful defined in
     record {
       bytes = bytes;
       holds = holds;
@@ -46,21 +48,23 @@ told_reading law from before after bytes (Err e) answer holds described is statu
     let unreadable : LaidOut ≡ Unreadable = status ∙ ap (λ (a : Answer). a.status) is in
     absurd (cc)
 
-told_held : DefinedLayoutsAreSound → (from : SourceState) (before after : SinkState) (held : Held) (answer : Answer)
-    → Holds from.left held → IsAnswerTo held answer → LaidOut ≡ answer.status → Takes before after answer.text → TellsSoundLayout from before after
-told_held law from before after (Whole bytes) answer holds is status written = told_reading law from before after bytes (reading_of bytes) answer holds refl is status written
-told_held law from before after Longer answer holds is status written =
+told_held : DefinedLayoutsAreSound → (from : SourceState) (before after : SinkState) (command : Command) (held : Held) (answer : Answer)
+    → Holds from.left held → IsAnswerTo command held answer → LaidOut ≡ answer.status → Takes before after answer.text → TellsSoundLayout from before after
+told_held law from before after (commands.Layout workers) (Whole bytes) answer holds is status written =
+    told_reading law from before after bytes (reading_of bytes) answer holds refl is status written
+told_held law from before after (commands.Layout workers) Longer answer holds is status written =
     let unreadable : LaidOut ≡ Unreadable = status ∙ ap (λ (a : Answer). a.status) is in
     absurd (cc)
 
-told_words : DefinedLayoutsAreSound → (words : List (List ℕ)) (from to : SourceState) (before after : SinkState) (answer : Answer) (command : Option Command)
-    → MatchOption command (Uncommanded words from to answer) (λ c. Commanded words from to answer) → LaidOut ≡ answer.status → Takes before after answer.text → TellsSoundLayout from before after
-told_words law words from to before after answer None is status written =
+told_words : DefinedLayoutsAreSound → (from to : SourceState) (before after : SinkState) (answer : Answer) (command : Option Command)
+    → MatchOption command (Uncommanded from to answer) (λ c. Commanded c from to answer) → LaidOut ≡ answer.status → Takes before after answer.text → TellsSoundLayout from before after
+told_words law from to before after answer None is status written =
     let usage : LaidOut ≡ Usage = status ∙ ap (λ (a : Answer). a.status) is.answers in
     absurd (cc)
-told_words law words from to before after answer (Some c) is status written = told_held law from before after is.held answer is.holds is.answers status written
+told_words law from to before after answer (Some c) is status written = told_held law from before after c is.held answer is.holds is.answers status written
 
-pub sound_run : DefinedLayoutsAreSound → (words : List (List ℕ)) (from to : SourceState) (before after : SinkState) (status : Status) → IsRun words from to before after status → IsSoundRun from before after status
-sound_run law words from to before after status run = λ laid.
+pub sound_run : DefinedLayoutsAreSound → (words : List (List ℕ)) (from to : SourceState) (before after : SinkState) (status : Status) → IsRun words from to before after status
+    → IsSoundRun words from before after status
+sound_run law words from to before after status run = λ workers asked laid.
     let finished = subst (IsRun words from to before after) laid run in
-    told_words law words from to before after finished.answer (command_of words) finished.defined finished.same finished.written
+    told_words law from to before after finished.answer (command_of words) finished.defined finished.same finished.written

@@ -1,15 +1,25 @@
--- What devices do to the bytes that they have left or took, where they tell them, and to their counts of faults.
+-- What devices tell of themselves, and what a call of them does to that.
 use Rattle.std.specs.Prelude.{◌≡◌, ℕ, ◌<◌, ◌≤◌, List, [], ◌++◌, length, take, drop, Option, Some, Result, MatchResult, IfSome}
+
+-- a source: the bytes that reads will give from here on, where it tells them, and how often a call has failed
+pub record SourceState : Type 0 where
+  pub left : Option (List ℕ)
+  pub faults : ℕ
+
+-- a sink: all bytes that it took, where it tells them, and how often a call has failed or took nothing of some bytes
+pub record SinkState : Type 0 where
+  pub taken : Option (List ℕ)
+  pub faults : ℕ
 
 -- a call that failed raised the count of faults, and one that did not fail kept it
 abbrev pub HasCause : {A E : Type 0} → Result A E → ℕ → ℕ → Type 0
 HasCause result before after = MatchResult result (λ _. after ≡ before) (λ _. before < after)
 
--- a read of n bytes: the buffer begins with the first n of the bytes left, and the others are left.
+-- a read of n bytes: the first n of the buffer are the next n of the bytes left, and the others are left.
 -- Nothing comes into some room only at the end
-pub record ReadsFrom (left : List ℕ) (left_after : Option (List ℕ)) (buffer buffer_after : List ℕ) (n : ℕ) : Type 0 where
+pub record ReadsFrom (left : List ℕ) (left_after : Option (List ℕ)) (buffer : List ℕ) (n : ℕ) : Type 0 where
   pub held : n ≤ length left
-  pub given : buffer_after ≡ take n left ++ drop n buffer
+  pub given : take n buffer ≡ take n left
   pub rest : left_after ≡ Some (drop n left)
   pub at_end : n ≡ 0 → 0 < length buffer → left ≡ []
 

@@ -1,9 +1,14 @@
+pub mod Complete
 pub mod Device
 pub mod FaultText
 pub mod Memory
+pub mod Program
 pub mod ReadAll
 pub mod Report
 pub mod Run
+pub mod RunAlone
 pub mod SoundRun
+pub mod Standard
 pub mod Status
+pub mod Steps
 pub mod Words

@@ -1,5 +1,6 @@
 -- The report: the lines that tell where everything of a link stands.
-use Rattle.std.specs.Prelude.{ℕ, suc, ◌+◌, ◌==◌, ◌&&◌, ◌||◌, not, nat_lt, Bool, false, if◌then◌else◌, List, [], ◌∷◌, ◌++◌, Option, Some, None, codes, slice_get, slice_range}
+use Rattle.std.specs.Prelude.{ℕ, suc, ◌+◌, ◌==◌, ◌&&◌, ◌||◌, not, nat_lt, Bool, false, if◌then◌else◌, List, [], ◌∷◌, ◌++◌, Option, Some}
+use Rattle.std.specs.Prelude.{None, codes, slice_get, slice_range}
 use Rattle.std.specs.List.{list_any}
 use Rattle.std.specs.Fmt.{decimal, digits}
 use Rattle.lk_link.specs.declared.link.LinkInput.{LinkInput}
@@ -8,8 +9,8 @@ use Rattle.lk_link.specs.Parts.{first_part}
 use Rattle.lk_link.specs.Texts.{joined}
 use Rattle.lk_layout.specs.declared.layout.Layout.{Layout}
 use Rattle.lk_layout.specs.declared.live.LiveSection.{LiveSection}
-use Rattle.lk_layout.specs.declared.segments.SegmentLayout.{SegmentLayout}
-use Rattle.lk_layout.specs.Records.{Record}
+use Rattle.lk_place.specs.declared.segments.SegmentLayout.{SegmentLayout}
+use Rattle.lk_place.specs.Records.{Record}
 
 -- ---- pieces of a line
 
@@ -49,7 +50,8 @@ section_text s _ _ _ = []
 
 -- that of the section with this number in a layout
 abbrev pub laid_out_text : Layout → ℕ → List ℕ
-laid_out_text layout s = section_text s (slice_get layout.section_layouts s) (slice_get layout.output_section_indexes s) (slice_get layout.section_attributes s)
+laid_out_text layout s =
+    section_text s (slice_get layout.section_layouts s) (slice_get layout.output_section_indexes s) (slice_get layout.section_attributes s)
 
 -- the lines of all output sections
 abbrev pub section_lines : List PlanSection → Layout → List ℕ
@@ -57,9 +59,9 @@ section_lines sections layout = each (λ s _. laid_out_text layout s) 0 sections
 
 -- ---- parts
 
--- whether a part has bytes
-abbrev pub has_bytes : Record → Bool
-has_bytes r = nat_lt 0 r.mem_size
+-- whether a part takes memory
+abbrev pub takes_memory : Record → Bool
+takes_memory r = nat_lt 0 r.mem_size
 
 -- the line of a part
 unfoldable pub part_line : ℕ → Record → List ℕ
@@ -67,11 +69,11 @@ part_line p r = joined (codes "part " ∷ decimal p ∷ codes " " ∷ range_text
 
 -- the same, where the part is told: one with bytes, and the first part of a section without bytes
 unfoldable pub part_text : Bool → ℕ → ℕ → Record → List ℕ
-part_text is_empty first p r = if has_bytes r || (is_empty && p == first) then part_line p r else []
+part_text is_empty first p r = if takes_memory r || (is_empty && p == first) then part_line p r else []
 
 -- the lines of a section's parts that are told; the first part has the number first
 abbrev pub told_lines : ℕ → List Record → List ℕ
-told_lines first parts = each (part_text (not (list_any has_bytes parts)) first) first parts
+told_lines first parts = each (part_text (not (list_any takes_memory parts)) first) first parts
 
 -- the lines of a section's parts
 abbrev pub section_part_lines : List PlanSection → List Record → ℕ → List ℕ

@@ -1,15 +1,19 @@
 -- What a run that laid out a link has told: the report of a sound layout of the link that its source held.
 use Rattle.std.specs.Prelude.{◌≡◌, ℕ, List, Ok}
+use Rattle.lk_gc.specs.declared.live.Live.{Live}
 use Rattle.lk_input.specs.Reading.{reading_of}
 use Rattle.lk_link.specs.declared.link.LinkInput.{LinkInput}
+use Rattle.lk_link.specs.Target.{small64}
 use Rattle.lk_layout.specs.declared.layout.Layout.{Layout}
 use Rattle.lk_layout.specs.Defined.{IsDefined}
 use Rattle.lk_layout.specs.Sound.{IsSound}
-use Rattle.lk_layout.specs.Units.{Input}
 use Rattle.lk_run.specs.declared.status.Status.{Status}
 use Rattle.lk_run.specs.declared.status.Status.TheVariants.{LaidOut}
+use Rattle.lk_run.specs.declared.words.Command.TheVariants as commands
+use Rattle.lk_run.specs.Device.{SourceState, SinkState}
 use Rattle.lk_run.specs.Report.{report}
-use Rattle.lk_run.specs.Run.{Whole, Holds, SourceState, SinkState, Takes, small_start}
+use Rattle.lk_run.specs.Run.{Whole, Holds, Takes}
+use Rattle.lk_run.specs.Words.{IsCommand}
 
 -- the source held bytes that describe a link; the link's defined layout is sound; and the sink took its report
 pub record TellsSoundLayout (from : SourceState) (before after : SinkState) : Type 0 where
@@ -18,11 +22,12 @@ pub record TellsSoundLayout (from : SourceState) (before after : SinkState) : Ty
   pub link : LinkInput
   pub described : reading_of bytes ≡ Ok link
   pub layout : Layout
-  pub defined : IsDefined small_start link (Ok layout)
-  pub live : List Input
+  pub defined : IsDefined small64 link (Ok layout)
+  pub live : Live
   pub sound : IsSound link live layout
   pub written : Takes before after (report link layout)
 
--- a run that ends with the status of a layout has told a sound one
-abbrev pub IsSoundRun : SourceState → SinkState → SinkState → Status → Type 0
-IsSoundRun from before after status = status ≡ LaidOut → TellsSoundLayout from before after
+-- a run of the words `layout N` that ends with the status of a layout has told a sound one
+abbrev pub IsSoundRun : List (List ℕ) → SourceState → SinkState → SinkState → Status → Type 0
+IsSoundRun words from before after status =
+    (workers : ℕ) → IsCommand words (commands.Layout workers) → status ≡ LaidOut → TellsSoundLayout from before after

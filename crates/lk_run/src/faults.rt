@@ -2,25 +2,25 @@
 
 ghost use Rattle.std.specs.Prelude.{◌≡◌, ◌+◌, ◌-◌, ◌^◌, min};
 
-use crate::tally::Tally;
+use crate::transcript::Transcript;
 use std::marker::Model;
 
-/// The count of a device's faults. Contracts see the number itself, which has no bound; what the program can
-/// look at stands still at 2^64 - 1, so that it never wraps.
+/// The count of a device's faults: one byte is noted for each. Contracts see the number itself, which has no bound; what
+/// the program can look at stands still at 2^64 - 1, so that it never wraps.
 #[derive(Drop)]
 pub struct FaultCount {
     seen: u64,
-    tally: Tally,
+    noted: Transcript,
 }
 
 impl Model for FaultCount {
-    ghost use Rattle.std.specs.Prelude.{◌≡◌, ℕ, ◌-◌, ◌^◌, min};
+    ghost use Rattle.std.specs.Prelude.{◌≡◌, ℕ, ◌-◌, ◌^◌, length, min};
 
     ghost Value = { ℕ };
 
-    ghost view = { λ count. count.tally.total };
+    ghost view = { λ count. length count.noted.bytes };
 
-    ghost invariant = { λ count. count.seen ≡ min count.tally.total (2 ^ 64 - 1) };
+    ghost invariant = { λ count. count.seen ≡ min (length count.noted.bytes) (2 ^ 64 - 1) };
 }
 
 impl FaultCount {
@@ -30,7 +30,7 @@ impl FaultCount {
     {
         FaultCount {
             seen: 0,
-            tally: Tally::new(),
+            noted: Transcript::new(),
         }
     }
 
@@ -39,7 +39,7 @@ impl FaultCount {
         ensures { self.new ≡ self.old + 1 }
     {
         self.seen = self.seen.saturating_add(1);
-        self.tally = self.tally.next();
+        self.noted = self.noted.with(&[1]);
     }
 
     /// The faults so far, or 2^64 - 1 where there were more.

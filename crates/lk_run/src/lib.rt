@@ -2,29 +2,30 @@
 #![tactic(auto)]
 
 pub mod answer;
-#[cfg(test)]
-mod carried_tests;
 pub mod fault_text;
 pub mod faults;
-#[cfg(test)]
-mod layout_tests;
+pub mod laws;
+pub mod limit;
 pub mod memory;
+pub mod program;
 pub mod report;
-#[cfg(test)]
-mod report_tests;
 pub mod run;
-#[cfg(test)]
-mod run_tests;
 pub mod sink;
-#[cfg(test)]
-mod size_tests;
 pub mod source;
 pub mod standard;
 pub mod status;
 pub mod sure;
-mod tally;
-#[cfg(test)]
-mod tests;
 mod transcript;
 pub mod transfer;
 pub mod words;
+
+pub use answer::Answer;
+pub use faults::FaultCount;
+pub use memory::{MemorySink, MemorySource};
+pub use sink::Sink;
+pub use source::{Failed, Source};
+pub use standard::{StandardInput, StandardOutput};
+pub use status::Status;
+pub use sure::{SureSink, SureSource};
+pub use transfer::ReadAllError;
+pub use words::Command;

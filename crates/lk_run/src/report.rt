@@ -2,14 +2,14 @@
 
 ghost use Rattle.std.specs.Prelude.{◌≡◌, ◌+◌, ◌^◌, ◌<◌, ◌++◌, string_bytes, slice_range, length, Option, slice_get, IfOk};
 ghost use Rattle.std.specs.List.{list_any};
-ghost use Rattle.lk_run.specs.Report.{report, range_text, index_text, has_bytes, part_text, section_line, section_text, laid_out_text, section_lines, part_line, told_lines, section_part_lines, part_lines, segment_line, segment_lines, live_line, live_lines};
+ghost use Rattle.lk_run.specs.Report.{report, range_text, index_text, section_line, section_text, laid_out_text, section_lines};
+ghost use Rattle.lk_run.specs.Report.{takes_memory, part_line, part_text, told_lines, section_part_lines, part_lines};
+ghost use Rattle.lk_run.specs.Report.{segment_line, segment_lines, live_line, live_lines};
 
-use lk_layout::layout::Layout;
-use lk_layout::live::LiveSection;
-use lk_layout::record::OutputRecordLayout;
-use lk_layout::segments::SegmentLayout;
+use lk_layout::{Layout, LiveSection};
 use lk_link::link::LinkInput;
 use lk_link::plan::{PlanSection, PlanSections};
+use lk_place::{OutputRecordLayout, SegmentLayout};
 use std::alloc::{AllocError, Global};
 use std::fmt;
 
@@ -194,16 +194,16 @@ fn write_told(
     requires { first + length parts.now < 2 ^ 64 }
     ensures { IfOk result (λ _. string_bytes text.new ≡ string_bytes text.old ++ told_lines first parts.now) }
 {
-    let is_empty = !any_has_bytes(parts);
+    let is_empty = !any_takes_memory(parts);
     for (offset, range) in parts.iter().enumerate() {
         write_part(text, is_empty, first, first + offset, range)?;
     }
     Ok(())
 }
 
-/// Whether a part has bytes.
-fn any_has_bytes(parts: &[OutputRecordLayout]) -> bool
-    ensures { result ≡ list_any has_bytes parts.now }
+/// Whether a part takes memory.
+fn any_takes_memory(parts: &[OutputRecordLayout]) -> bool
+    ensures { result ≡ list_any takes_memory parts.now }
 {
     parts.iter().any(|range| range.mem_size > 0)
 }

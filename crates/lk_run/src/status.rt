@@ -1,7 +1,10 @@
 //! How a run ends.
 
 ghost use Rattle.std.specs.Prelude.{◌≡◌};
+ghost use Rattle.std.specs.Process.{exit_status};
 ghost use Rattle.lk_run.specs.Status.{code_of};
+
+use std::process::ExitCode;
 
 /// How a run ended, and what it wrote.
 #[derive(Clone, Copy, Debug, PartialEq, Eq)]
@@ -28,5 +31,12 @@ impl Status {
         ensures { result ≡ code_of self }
     {
         self as u8
+    }
+
+    /// That number, as `main` gives it on.
+    pub fn exit_code(self) -> ExitCode
+        ensures { exit_status result ≡ code_of self }
+    {
+        ExitCode::from(self.code())
     }
 }

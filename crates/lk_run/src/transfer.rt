@@ -50,13 +50,13 @@ pub fn read_all<S: Source>(
     source: &mut S,
     limit: u64,
 ) -> Result<Vec<u8>, ReadAllError>
-    ensures whole { IfOk result (λ bytes. HoldsExactly (S.left source.old) bytes.items) }
-    ensures to_its_end { OnOk result (IfSome (S.left source.old) (λ _. S.left source.new ≡ Some [])) }
+    ensures whole { IfOk result (λ bytes. HoldsExactly (S.state source.old).left bytes.items) }
+    ensures to_its_end { OnOk result (IfSome (S.state source.old).left (λ _. (S.state source.new).left ≡ Some [])) }
     ensures within { IfOk result (λ bytes. vec_len bytes ≤ limit) }
-    ensures too_long { IsErrOf result ReadAllError.TooLong → HoldsMore (S.left source.old) limit }
+    ensures too_long { IsErrOf result ReadAllError.TooLong → HoldsMore (S.state source.old).left limit }
     ensures rest_unread { IsErrOf result ReadAllError.TooLong →
-        IfSome (S.left source.old) (λ held. S.left source.new ≡ Some (drop (limit + 1) held)) }
-    ensures cause { ReadAllHasCause result (S.faults source.old) (S.faults source.new) }
+        IfSome (S.state source.old).left (λ held. (S.state source.new).left ≡ Some (drop (limit + 1) held)) }
+    ensures cause { ReadAllHasCause result (S.state source.old).faults (S.state source.new).faults }
 {
     let mut chunk = new_chunk(alloc)?;
     let mut bytes = Vec::new(alloc);
@@ -86,9 +86,9 @@ fn new_chunk(alloc: Global) -> Result<Vec<u8>, AllocError>
 fn read_turn<S: Source>(source: &mut S, chunk: &mut [u8], room: u64) -> Result<usize, Failed>
     requires { 0 < length chunk.old }
     ensures within { IfOk result (λ n. (n ≤ length chunk.new) × (n ≤ room + 1)) }
-    ensures cause { HasCause result (S.faults source.old) (S.faults source.new) }
-    ensures bytes { IfOk result (λ n. Consumes (S.left source.old) (S.left source.new) (take n chunk.new)) }
-    ensures end { IfOk result (λ n. n ≡ 0 → IsAtEnd (S.left source.old)) }
+    ensures cause { HasCause result (S.state source.old).faults (S.state source.new).faults }
+    ensures bytes { IfOk result (λ n. Consumes (S.state source.old).left (S.state source.new).left (take n chunk.new)) }
+    ensures end { IfOk result (λ n. n ≡ 0 → IsAtEnd (S.state source.old).left) }
 {
     let most = chunk.len().min(room.saturating_add(1) as usize);
     source.read(&mut chunk[..most])
@@ -98,9 +98,9 @@ fn read_turn<S: Source>(source: &mut S, chunk: &mut [u8], room: u64) -> Result<u
 /// Takes no memory.
 #[tactic(auto, using(crate::proofs::Written::goes_on))]
 pub fn write_all<K: Sink>(sink: &mut K, text: &[u8]) -> Result<(), Failed>
-    ensures whole { OnOk result (Appends (K.taken sink.old) (K.taken sink.new) text.now) }
-    ensures prefix { OnErr result (AppendsPrefix (K.taken sink.old) (K.taken sink.new) text.now) }
-    ensures cause { HasCause result (K.faults sink.old) (K.faults sink.new) }
+    ensures whole { OnOk result (Appends (K.state sink.old).taken (K.state sink.new).taken text.now) }
+    ensures prefix { OnErr result (AppendsPrefix (K.state sink.old).taken (K.state sink.new).taken text.now) }
+    ensures cause { HasCause result (K.state sink.old).faults (K.state sink.new).faults }
 {
     let mut at = 0;
     while at < text.len() {

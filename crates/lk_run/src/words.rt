@@ -1,14 +1,30 @@
 //! The words of the command line.
 
-ghost use Rattle.std.specs.Prelude.{◌≡◌, ℕ, ◌↔◌, List, map, string_bytes};
+ghost use Rattle.std.specs.Prelude.{◌≡◌, ℕ, ◌↔◌, List, drop, map, string_bytes, IfOk};
+ghost use Rattle.std.specs.Vec.Iter.{into_iter_items};
 ghost use Rattle.lk_run.specs.Words.{IsCommand, command_of, usage};
 ghost use Rattle.lk_run.specs.declared.words.Command.{Command};
+
+use std::alloc::{AllocError, Global};
+use std::env::Args;
 
 /// What the program is asked to do.
 #[derive(Clone, Copy, Debug, PartialEq, Eq)]
 pub enum Command {
     /// Lay out the link that the source holds, with so many workers.
     Layout(u8),
+}
+
+/// The words of a program that was started with these: all behind the first, which is the program's name.
+pub fn words_behind_name(alloc: Global, mut args: Args) -> Result<Vec<String>, AllocError>
+    ensures { IfOk result (λ words. words.items ≡ drop 1 (into_iter_items args)) }
+{
+    let _name = args.next();
+    let mut words = Vec::new(alloc);
+    for word in args {
+        words.push(word)?;
+    }
+    Ok(words)
 }
 
 /// The command that these words are; `None` where they are no command. `layout 0` is the only one.

@@ -1,4 +1,8 @@
 //! What can be read from a JSON value, and the plain values that are.
+//!
+//! A type that can be read says in its definition what it reads from a value, and its code does just that, unless memory
+//! runs out. So reading a type that is made of others needs no loop and no proof of its own; only lists have a loop, which
+//! reads the items one after the other into a list that has room for all of them.
 
 ghost use Rattle.std.specs.Prelude.{◌≡◌, Result, option_map, List as Items, ℕ};
 ghost use Rattle.serde_json.specs.Data.{Data};

@@ -6,6 +6,7 @@ ghost use Rattle.lk_input.specs.declared.read.error.InputError.TheVariants.{NotJ
 use crate::read::word::Step;
 use lk_link::text::Text;
 use std::alloc::{AllocError, AllocFailed, Global};
+use std::fmt;
 use std::str::Utf8Error;
 
 /// Why bytes give no link description.
@@ -18,6 +19,25 @@ pub enum InputError {
     Shape(Text),
     /// Memory ran out.
     NoMemory,
+}
+
+/// Why bytes give no description, as `not a link description: /plan/page`; nothing for want of memory.
+impl fmt::Display for InputError {
+    ghost use Rattle.std.specs.Prelude.{Some};
+    ghost use Rattle.lk_input.specs.Texts.{input_error_text};
+
+    ghost output = { λ error. Some (input_error_text error) };
+
+    fn fmt<W: fmt::Write>(&self, f: &mut fmt::Formatter<W>) -> fmt::Result {
+        match self {
+            InputError::NotJson => write!(f, "not JSON"),
+            InputError::Shape(path) => {
+                let path = path.as_str();
+                write!(f, "not a link description: {path}")
+            }
+            InputError::NoMemory => Ok(()),
+        }
+    }
 }
 
 impl From<AllocError> for InputError {

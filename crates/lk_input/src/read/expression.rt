@@ -1,22 +1,27 @@
 //! Expressions from JSON.
+//!
+//! A list says by its first item what an expression is: an operand, or an operator on the expressions that the next two
+//! items are. The code keeps an expression as one list of tokens in postfix order: the tokens of the left one, those of
+//! the right one, the operator. So reading puts the tokens of what stands inside behind those that are there, and then
+//! the operator.
 
 ghost use Rattle.std.specs.Prelude.{◌≡◌};
 ghost use Rattle.serde_json.specs.View.{view};
-ghost use Rattle.lk_input.specs.ReadingExpressions.{operand_text, operator_text, form_text, all_forms, operator_token, operand_of, tokens_of, expression_of};
-ghost use Rattle.lk_input.specs.ReadingSteps.{Adds, Gives, element, one_of};
+ghost use Rattle.lk_input.specs.ReadingExpressions.{operand_text, operator_text, form_text, all_forms, operand_of, expression_of, AddsTokens};
+ghost use Rattle.lk_input.specs.ReadingSteps.{Gives, element, one_of};
 
 use crate::read::described::{Described, one_of};
 use crate::read::error::InputError;
 use crate::read::member::{alone, at_most, element, fixed_list, single};
 use crate::read::word::{Step, Word};
-use lk_link::expression::{Expression, Token};
+use lk_link::expression::{Expression, Operand, Operator, Token};
 use lk_link::list::List;
 use serde_json::Value;
 use std::alloc::Global;
 
 /// What an expression without expressions inside begins with.
 #[derive(Clone, Copy, Debug, PartialEq, Eq)]
-pub(crate) enum Operand {
+pub(crate) enum OperandForm {
     Number,
     Symbol,
     Dot,
@@ -28,33 +33,21 @@ pub(crate) enum Operand {
 }
 
 #[tactic(auto, unfolding(crate::specs::ReadingExpressions::operand_text))]
-impl Word for Operand {
+impl Word for OperandForm {
     ghost spelling = { operand_text };
 
     fn text(self) -> &'static str {
         match self {
-            Operand::Number => "num",
-            Operand::Symbol => "sym",
-            Operand::Dot => "dot",
-            Operand::Address => "addr",
-            Operand::SizeOf => "sizeof",
-            Operand::Origin => "origin",
-            Operand::Length => "length",
-            Operand::Headers => "headers",
+            OperandForm::Number => "num",
+            OperandForm::Symbol => "sym",
+            OperandForm::Dot => "dot",
+            OperandForm::Address => "addr",
+            OperandForm::SizeOf => "sizeof",
+            OperandForm::Origin => "origin",
+            OperandForm::Length => "length",
+            OperandForm::Headers => "headers",
         }
     }
-}
-
-/// What an expression of two others begins with.
-#[derive(Clone, Copy, Debug, PartialEq, Eq)]
-pub(crate) enum Operator {
-    Add,
-    Subtract,
-    Multiply,
-    Divide,
-    Align,
-    Max,
-    Min,
 }
 
 #[tactic(auto, unfolding(crate::specs::ReadingExpressions::operator_text))]
@@ -74,25 +67,10 @@ impl Word for Operator {
     }
 }
 
-/// The token of an operator.
-fn operator_token(operator: Operator) -> Token
-    ensures { result ≡ operator_token operator }
-{
-    match operator {
-        Operator::Add => Token::Add,
-        Operator::Subtract => Token::Subtract,
-        Operator::Multiply => Token::Multiply,
-        Operator::Divide => Token::Divide,
-        Operator::Align => Token::Align,
-        Operator::Max => Token::Max,
-        Operator::Min => Token::Min,
-    }
-}
-
 /// What an expression begins with.
 #[derive(Clone, Copy, Debug, PartialEq, Eq)]
 pub(crate) enum ExpressionForm {
-    Operand(Operand),
+    Operand(OperandForm),
     Operator(Operator),
 }
 
@@ -108,9 +86,9 @@ impl Word for ExpressionForm {
 }
 
 const FORMS: [ExpressionForm; 15] = [
-    ExpressionForm::Operand(Operand::Number),
-    ExpressionForm::Operand(Operand::Symbol),
-    ExpressionForm::Operand(Operand::Dot),
+    ExpressionForm::Operand(OperandForm::Number),
+    ExpressionForm::Operand(OperandForm::Symbol),
+    ExpressionForm::Operand(OperandForm::Dot),
     ExpressionForm::Operator(Operator::Add),
     ExpressionForm::Operator(Operator::Subtract),
     ExpressionForm::Operator(Operator::Multiply),
@@ -118,11 +96,11 @@ const FORMS: [ExpressionForm; 15] = [
     ExpressionForm::Operator(Operator::Align),
     ExpressionForm::Operator(Operator::Max),
     ExpressionForm::Operator(Operator::Min),
-    ExpressionForm::Operand(Operand::Address),
-    ExpressionForm::Operand(Operand::SizeOf),
-    ExpressionForm::Operand(Operand::Origin),
-    ExpressionForm::Operand(Operand::Length),
-    ExpressionForm::Operand(Operand::Headers),
+    ExpressionForm::Operand(OperandForm::Address),
+    ExpressionForm::Operand(OperandForm::SizeOf),
+    ExpressionForm::Operand(OperandForm::Origin),
+    ExpressionForm::Operand(OperandForm::Length),
+    ExpressionForm::Operand(OperandForm::Headers),
 ];
 
 impl Described for ExpressionForm {
@@ -133,20 +111,20 @@ impl Described for ExpressionForm {
     }
 }
 
-/// The token of an expression that begins with this operand.
+/// The operand that an expression of this form is.
 #[tactic(auto, unfolding(crate::specs::ReadingExpressions::operand_of))]
-fn read_operand(alloc: Global, value: &Value, operand: Operand) -> Result<Token, InputError>
-    ensures { Gives result (operand_of operand (view value.now)) }
+fn read_operand(alloc: Global, value: &Value, form: OperandForm) -> Result<Operand, InputError>
+    ensures { Gives result (operand_of form (view value.now)) }
 {
-    Ok(match operand {
-        Operand::Number => Token::Number(single(alloc, value)?),
-        Operand::Symbol => Token::Symbol(single(alloc, value)?),
-        Operand::Dot => alone(alloc, value, Token::Dot)?,
-        Operand::Address => Token::Address(single(alloc, value)?),
-        Operand::SizeOf => Token::SizeOf(single(alloc, value)?),
-        Operand::Origin => Token::Origin(single(alloc, value)?),
-        Operand::Length => Token::Length(single(alloc, value)?),
-        Operand::Headers => alone(alloc, value, Token::SizeOfHeaders)?,
+    Ok(match form {
+        OperandForm::Number => Operand::Number(single(alloc, value)?),
+        OperandForm::Symbol => Operand::Symbol(single(alloc, value)?),
+        OperandForm::Dot => alone(alloc, value, Operand::Dot)?,
+        OperandForm::Address => Operand::Address(single(alloc, value)?),
+        OperandForm::SizeOf => Operand::SizeOf(single(alloc, value)?),
+        OperandForm::Origin => Operand::Origin(single(alloc, value)?),
+        OperandForm::Length => Operand::Length(single(alloc, value)?),
+        OperandForm::Headers => alone(alloc, value, Operand::SizeOfHeaders)?,
     })
 }
 
@@ -155,20 +133,20 @@ fn read_operand(alloc: Global, value: &Value, operand: Operand) -> Result<Token,
 #[cycle(tokens)]
 #[tactic(auto, using(crate::proofs::Expressions::steps))]
 fn read_tokens(alloc: Global, value: &Value, tokens: &mut Vec<Token>) -> Result<(), InputError>
-    ensures { Adds tokens.old.items tokens.new.items result (tokens_of (view value.now)) }
+    ensures { AddsTokens tokens.old.items tokens.new.items result (expression_of (view value.now)) }
 {
     fixed_list(alloc, value)?;
     match element(alloc, value, 0)? {
-        ExpressionForm::Operand(operand) => {
-            let token = read_operand(alloc, value, operand)?;
-            tokens.push(token)?;
+        ExpressionForm::Operand(form) => {
+            let operand = read_operand(alloc, value, form)?;
+            tokens.push(Token::Operand(operand))?;
             Ok(())
         }
         ExpressionForm::Operator(operator) => {
             read_tokens_at(alloc, value, 1, tokens)?;
             read_tokens_at(alloc, value, 2, tokens)?;
             at_most(alloc, value, 3)?;
-            tokens.push(operator_token(operator))?;
+            tokens.push(Token::Operator(operator))?;
             Ok(())
         }
     }
@@ -183,8 +161,7 @@ fn read_tokens_at(
     index: usize,
     tokens: &mut Vec<Token>,
 ) -> Result<(), InputError>
-    ensures { Adds tokens.old.items tokens.new.items result
-        (element tokens_of index (view value.now)) }
+    ensures { AddsTokens tokens.old.items tokens.new.items result (element expression_of index (view value.now)) }
 {
     let read = match value.get(index) {
         Some(item) => read_tokens(alloc, item, tokens),
@@ -202,8 +179,6 @@ impl Described for Expression {
     fn read(alloc: Global, value: &Value) -> Result<Expression, InputError> {
         let mut tokens = Vec::new(alloc);
         read_tokens(alloc, value, &mut tokens)?;
-        Ok(Expression {
-            tokens: List::from_vec(tokens),
-        })
+        Ok(Expression::from_tokens(List::from_vec(tokens)))
     }
 }

@@ -13,6 +13,12 @@ use lk_link::options::{DiscardLocals, Options, OutputKind};
 use serde_json::Value;
 use std::alloc::Global;
 
+/// How many bytes a bucket of merged strings may take, where the description doesn't say.
+pub(crate) const BUCKET_LIMIT: u64 = 268_435_456;
+
+/// How many bytes a group of merged strings takes, where the description doesn't say.
+pub(crate) const MERGE_GROUP: u64 = 140_000;
+
 /// A key of the options.
 #[derive(Clone, Copy, Debug, PartialEq, Eq)]
 pub(crate) enum OptionKey {
@@ -153,8 +159,8 @@ impl Described for Options {
         let entry = optional(alloc, value, OptionKey::Entry)?;
         let relax = defaulted(alloc, value, OptionKey::Relax, false)?;
         let branch_range = defaulted(alloc, value, OptionKey::BranchRange, 0)?;
-        let bucket_limit = defaulted(alloc, value, OptionKey::BucketLimit, 268_435_456)?;
-        let merge_group = defaulted(alloc, value, OptionKey::MergeGroup, 140_000)?;
+        let bucket_limit = defaulted(alloc, value, OptionKey::BucketLimit, BUCKET_LIMIT)?;
+        let merge_group = defaulted(alloc, value, OptionKey::MergeGroup, MERGE_GROUP)?;
         Ok(Options {
             output,
             gc,

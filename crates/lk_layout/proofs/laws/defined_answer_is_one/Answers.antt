@@ -1,6 +1,5 @@
-use Rattle.lk_link.specs.Unfaulted.{unfaulted}
-use Rattle.lk_layout.proofs.DefinedLaws.{defined_one}
+use Rattle.lk_layout.proofs.OneAnswer.{answer_one}
 use Rattle.lk_layout.proofs.laws.defined_answer_is_one.Goals as goal
 
 pub returns : goal.returns
-returns c = λ start link a b. defined_one start link a b (λ sound. (unfaulted link sound).events)
+returns c = answer_one c.well_formed_exactly_unfaulted.ensures c.live_is_one.ensures c.placement_is_one.ensures

@@ -1,4 +1,4 @@
-use Rattle.lk_link.specs.InputLaws.{lists_of}
+use Rattle.lk_link.proofs.GoodInputs.{lists_of}
 use Rattle.lk_link.proofs.laws.input_lists_are_few.Goals as goal
 
 pub returns : goal.returns

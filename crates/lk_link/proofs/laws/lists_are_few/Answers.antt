@@ -1,4 +1,4 @@
-use Rattle.lk_link.specs.Laws.{few}
+use Rattle.lk_link.proofs.GoodLinks.{few}
 use Rattle.lk_link.proofs.laws.lists_are_few.Goals as goal
 
 pub returns : goal.returns

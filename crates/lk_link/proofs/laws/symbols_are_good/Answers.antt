@@ -1,4 +1,4 @@
-use Rattle.lk_link.specs.SymbolLaws.{symbol_of}
+use Rattle.lk_link.proofs.GoodSymbols.{symbol_of}
 use Rattle.lk_link.proofs.laws.symbols_are_good.Goals as goal
 
 pub returns : goal.returns

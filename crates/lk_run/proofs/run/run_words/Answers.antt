@@ -1,10 +1,14 @@
 use Rattle.std.proofs.Common.{sym, ◌∙◌, map}
 use Rattle.std.specs.String.{string_bytes}
-use Rattle.lk_run.proofs.RunLaws.{usage_run}
+use Rattle.lk_run.proofs.RunLaws.{command_run, usage_run}
 use Rattle.lk_run.proofs.run.run_words.Goals as goal
 
 pub returns-in-None : goal.returns-in-None
 returns-in-None g c =
-    usage_run (map string_bytes c.args.words.now) (record { left = g.S.Source.left c.args.source.now; faults = g.S.Source.faults c.args.source.now })
-    (record { taken = g.K.Sink.taken c.args.sink.now; faults = g.K.Sink.faults c.args.sink.now }) (record { taken = g.K.Sink.taken c.run_usage.new.sink; faults = g.K.Sink.faults c.run_usage.new.sink })
-    c.run_usage.result (sym c.read_words.ensures ∙ c.in-None.is) c.run_usage.ensures
+    usage_run (map string_bytes c.args.words.now) (g.S.Source.state c.args.source.now) (g.K.Sink.state c.args.sink.now)
+    (g.K.Sink.state c.run_usage.new.sink) c.run_usage.result (sym c.read_words.ensures ∙ c.in-None.is) c.run_usage.ensures
+
+pub returns-in-Some : goal.returns-in-Some
+returns-in-Some g c =
+    command_run (map string_bytes c.args.words.now) c.in-Some.command (g.S.Source.state c.args.source.now) (g.S.Source.state c.run_command.new.source)
+    (g.K.Sink.state c.args.sink.now) (g.K.Sink.state c.run_command.new.sink) c.run_command.result (sym c.read_words.ensures ∙ c.in-Some.is) c.run_command.ensures

@@ -4,8 +4,8 @@ use Rattle.lk_run.proofs.transfer.write_all.Given as goal
 
 abbrev pub invariant-loop-at : goal.invariant-loop-at
 invariant-loop-at g l =
-    (l.at ≤ length l.text) × (g.K.Sink.faults l.sink ≡ g.K.Sink.faults l.initial.sink)
-    × Appends (g.K.Sink.taken l.initial.sink) (g.K.Sink.taken l.sink) (take l.at l.text)
+    (l.at ≤ length l.text) × ((g.K.Sink.state l.sink).faults ≡ (g.K.Sink.state l.initial.sink).faults)
+    × Appends (g.K.Sink.state l.initial.sink).taken (g.K.Sink.state l.sink).taken (take l.at l.text)
 
 abbrev pub decreases-loop-at : goal.decreases-loop-at
 decreases-loop-at g l = length l.text - l.at

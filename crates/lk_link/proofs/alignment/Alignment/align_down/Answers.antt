@@ -1,4 +1,4 @@
-use Rattle.lk_link.specs.Starts.{rest_is_greatest}
+use Rattle.lk_link.proofs.Starts.{rest_is_greatest}
 use Rattle.lk_link.proofs.alignment.Alignment.align_down.Goals as goal
 
 pub returns : goal.returns

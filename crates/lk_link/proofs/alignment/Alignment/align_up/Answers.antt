@@ -2,7 +2,7 @@ use Rattle.std.proofs.Common.{ℕ, Option, Some, None, sym, subst}
 use Rattle.std.specs.Option.{SomeIff, IfSome}
 use Rattle.std.specs.Int.{next_multiple_of}
 use Rattle.lk_link.specs.Alignments.{IsLeastMultiple}
-use Rattle.lk_link.specs.Starts.{next_multiple_is_least}
+use Rattle.lk_link.proofs.Starts.{next_multiple_is_least}
 use Rattle.lk_link.proofs.alignment.Alignment.align_up.Goals as goal
 
 found : (P : Type 0) (Q : ℕ → Type 0) (o : Option ℕ) (v : ℕ) → SomeIff o P v → Q v → IfSome o Q

@@ -11,7 +11,7 @@ overflow_cast-count c =
 pub new-requires : goal.new-requires
 new-requires c =
     let index = rw c.self.view_is at c.self.invariant in
-    let range = range_at c.args.self.now c.self.inside.file_ends.items c.self.inside.symbol_ends.items c.args.id c.in_ok-file.field-0.now index c.requires (sym c.in_ok-file.ensures) in
+    let range = range_at c.args.self.now c.self.inside.file_ends.items c.self.inside.symbol_ends.items c.self.inside.section_ends.items c.args.id c.in_ok-file.field-0.now index c.requires (sym c.in_ok-file.ensures) in
     let start = rw c.as_slice.ensures.value at c.start_at-start.ensures in
     let number = ap (start_of c.self.inside.symbol_ends.items) c.number_of.ensures.number in
     omega (arith, range.0, range.1, start, number)
@@ -19,7 +19,7 @@ new-requires c =
 pub returns : goal.returns
 returns c =
     let index = rw c.self.view_is at c.self.invariant in
-    let range = range_at c.args.self.now c.self.inside.file_ends.items c.self.inside.symbol_ends.items c.args.id c.in_ok-file.field-0.now index c.requires (sym c.in_ok-file.ensures) in
+    let range = range_at c.args.self.now c.self.inside.file_ends.items c.self.inside.symbol_ends.items c.self.inside.section_ends.items c.args.id c.in_ok-file.field-0.now index c.requires (sym c.in_ok-file.ensures) in
     let start = rw c.as_slice.ensures.value at c.start_at-start.ensures in
     let number = ap (start_of c.self.inside.symbol_ends.items) c.number_of.ensures.number in
     record {

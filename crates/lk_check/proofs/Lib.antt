@@ -1,0 +1,10 @@
+pub mod Bounds
+pub mod Faults
+pub mod First
+pub mod LongLists
+pub mod MarkLemmas
+pub mod Neighbours
+pub mod NoAnswer
+pub mod NumberedFiles
+pub mod Unfaulted
+pub mod UnfaultedEvents

@@ -1,0 +1,200 @@
+//! The rule on events.
+
+ghost use Rattle.std.specs.Prelude.{◌≡◌, ℕ, ◌+◌, ◌≤◌, false, true, List, [], ◌∷◌, ◌++◌, count_by, length, replicate};
+ghost use Rattle.lk_link.specs.declared.plan.OrderEvent.{OrderEvent};
+ghost use Rattle.lk_link.specs.declared.plan.Plan.{Plan};
+ghost use Rattle.std.specs.List.{list_all, list_any};
+ghost use Rattle.lk_link.specs.FileKinds.{is_script};
+ghost use Rattle.lk_link.specs.Rules.{has_script, is_location};
+ghost use Rattle.lk_link.specs.SymbolRules.{location_count};
+ghost use Rattle.lk_check.specs.FirstBadEvent.{is_good_event, first_bad_event, is_complete};
+ghost use Rattle.lk_check.specs.FirstFault.{check_of, event_fault};
+ghost use Rattle.lk_check.specs.Marks.{has_mark, AreMarks, Marks};
+
+use lk_link::fault::{LinkFault, Place, Rule};
+use lk_link::file::InputFile;
+use lk_link::limits::{OUTPUT_SECTIONS, SEGMENTS};
+use lk_link::link::LinkInput;
+use lk_link::list::List;
+use lk_link::plan::{OrderEvent, Plan};
+
+/// The most output sections.
+const MOST_SECTIONS: usize = OUTPUT_SECTIONS as usize;
+
+/// The most segments.
+const MOST_SEGMENTS: usize = SEGMENTS as usize;
+
+/// Each section is placed once, and each segment opened once, and closed once after that; what an event names is there,
+/// and only where a script is does the location counter move. Else the place is the first event after which that can't
+/// be, the number of events for what is missing.
+#[tactic(auto, unfolding(crate::specs::FirstFault::check_of, crate::specs::FirstFault::event_fault))]
+pub fn check_events(link: &LinkInput) -> Result<(), LinkFault>
+    requires sections { length link.now.plan.sections ≤ OUTPUT_SECTIONS }
+    requires segments { length link.now.plan.segments ≤ SEGMENTS }
+    ensures { result ≡ check_of (event_fault link.now) }
+{
+    let script = has_script(link.groups.as_slice());
+    match first_bad_event::<MOST_SECTIONS, MOST_SEGMENTS>(&link.plan, script) {
+        None => Ok(()),
+        Some(event) => Err(LinkFault::BadLink {
+            rule: Rule::Events,
+            place: Place::Event(event),
+        }),
+    }
+}
+
+/// Whether a file is a script.
+fn has_script(groups: &[List<InputFile>]) -> bool
+    ensures { result ≡ has_script groups.now }
+{
+    groups.iter().any(|files| has_script_in(files.as_slice()))
+}
+
+/// Whether one of these files is.
+fn has_script_in(files: &[InputFile]) -> bool
+    ensures { result ≡ list_any (λ f. is_script f.kind) files.now }
+{
+    files.iter().any(|file| file.kind.is_script())
+}
+
+/// How many events move the location counter.
+pub fn location_count(plan: &Plan) -> usize
+    ensures { result ≡ location_count plan.now }
+{
+    count_locations(plan.events.as_slice())
+}
+
+/// How many of these events do.
+fn count_locations(events: &[OrderEvent]) -> usize
+    ensures { result ≡ count_by is_location events.now }
+{
+    let mut count = 0;
+    for event in events {
+        if is_location(event) {
+            count += 1;
+        }
+    }
+    count
+}
+
+/// Whether an event moves it.
+fn is_location(event: &OrderEvent) -> bool
+    ensures { result ≡ is_location event.now }
+{
+    matches!(
+        event,
+        OrderEvent::SetLocation(_) | OrderEvent::SetLocationRelative(_, _)
+    )
+}
+
+/// The first event that breaks the rule, in a plan of at most so many sections and segments.
+#[tactic(auto, using(crate::proofs::MarkLemmas::room))]
+fn first_bad_event<const SECTIONS: usize, const SEGMENTS: usize>(
+    plan: &Plan,
+    script: bool,
+) -> Option<usize>
+    requires sections { length plan.now.sections ≤ SECTIONS }
+    requires segments { length plan.now.segments ≤ SEGMENTS }
+    requires marks { SECTIONS + SEGMENTS ≤ 65536 }
+    ensures { result ≡ first_bad_event script plan.now }
+{
+    let mut placed = [false; SECTIONS];
+    let mut opened = [false; SEGMENTS];
+    let mut closed = [false; SEGMENTS];
+    let sections = plan.sections.len();
+    let segments = plan.segments.len();
+    bad_event(
+        plan,
+        script,
+        &mut placed[..sections],
+        &mut opened[..segments],
+        &mut closed[..segments],
+    )
+}
+
+/// The same, with room for a mark on each section, and on each segment that opened or closed.
+fn bad_event(
+    plan: &Plan,
+    script: bool,
+    placed: &mut [bool],
+    opened: &mut [bool],
+    closed: &mut [bool],
+) -> Option<usize>
+    requires placed { placed.old ≡ replicate (length plan.now.sections) false }
+    requires opened { opened.old ≡ replicate (length plan.now.segments) false }
+    requires closed { closed.old ≡ replicate (length plan.now.segments) false }
+    ensures { result ≡ first_bad_event script plan.now }
+{
+    for (place, event) in plan.events.as_slice().iter().enumerate() {
+        if !admits(event, script, placed, opened, closed) {
+            return Some(place);
+        }
+    }
+    if is_complete(placed, opened, closed) {
+        None
+    } else {
+        Some(plan.events.len())
+    }
+}
+
+/// Whether an event may stand behind those before it, which gave the marks; marks what it names.
+#[tactic(auto, using(crate::proofs::MarkLemmas::admission))]
+fn admits(
+    event: &OrderEvent,
+    script: bool,
+    placed: &mut [bool],
+    opened: &mut [bool],
+    closed: &mut [bool],
+) -> bool
+    ensures exact { (plan : Plan) (before : List OrderEvent) → AreMarks plan before placed.old opened.old closed.old
+        → result ≡ is_good_event script plan before event.now }
+    ensures marks { (plan : Plan) (before : List OrderEvent) → AreMarks plan before placed.old opened.old closed.old
+        → result ≡ true → AreMarks plan (before ++ event.now ∷ []) placed.new opened.new closed.new }
+{
+    match event {
+        OrderEvent::Section(section) => mark(placed, section.as_usize()),
+        OrderEvent::SegmentStart(segment) => mark(opened, segment.as_usize()),
+        OrderEvent::SegmentEnd(segment) => {
+            has_mark(opened, segment.as_usize()) && mark(closed, segment.as_usize())
+        }
+        OrderEvent::SetLocation(_) => script,
+        OrderEvent::SetLocationRelative(_, section) => {
+            script && section.as_usize() < placed.len()
+        }
+        OrderEvent::SetSectionAddress(_) => true,
+    }
+}
+
+/// Whether each section was placed, and each segment opened and closed, by the marks of all events.
+#[tactic(auto, using(crate::proofs::MarkLemmas::completion))]
+fn is_complete(placed: &[bool], opened: &[bool], closed: &[bool]) -> bool
+    ensures { (plan : Plan) → AreMarks plan plan.events placed.now opened.now closed.now → result ≡ is_complete plan }
+{
+    all_marked(placed) && all_marked(opened) && all_marked(closed)
+}
+
+/// Whether a number has a mark.
+fn has_mark(marks: &[bool], number: usize) -> bool
+    ensures { result ≡ has_mark marks.now number }
+{
+    number < marks.len() && marks[number]
+}
+
+/// Whether a number that has a place among the marks had none; marks it.
+fn mark(marks: &mut [bool], number: usize) -> bool
+    ensures { Marks number marks.old marks.new result }
+{
+    if number < marks.len() && !marks[number] {
+        marks[number] = true;
+        true
+    } else {
+        false
+    }
+}
+
+/// Whether all have marks.
+fn all_marked(marks: &[bool]) -> bool
+    ensures { result ≡ list_all (λ m. m) marks.now }
+{
+    marks.iter().all(|mark| *mark)
+}

@@ -1,0 +1,75 @@
+//! The rules that a link keeps, in order.
+
+ghost use Rattle.std.specs.Prelude.{◌≡◌, ◌≤◌, length};
+ghost use Rattle.lk_link.specs.Files.{AreNumbered};
+ghost use Rattle.lk_link.specs.Symbols.{all_files, symbol_count};
+ghost use Rattle.lk_check.specs.FirstFault.{check_of, first_broken, file_fault, page_fault, placing_fault, plan_fault};
+
+use crate::{events, first_bad_input, first_bad_symbol, options, prelude, sections, segments};
+use lk_link::alignment::is_valid;
+use lk_link::fault::{LinkFault, Place, Rule};
+use lk_link::limits::{OUTPUT_SECTIONS, SEGMENTS, SYMBOLS};
+use lk_link::link::LinkInput;
+use lk_link::plan::Plan;
+
+/// Refuses a link that breaks a rule, by the first such rule at its first place.
+#[tactic(auto, using(crate::proofs::Faults::checks), unfolding(crate::specs::FirstFault::first_broken))]
+pub fn check_rules(link: &LinkInput) -> Result<(), LinkFault>
+    requires files { AreNumbered link.now.groups }
+    requires symbols { symbol_count (all_files link.now.groups) ≤ SYMBOLS }
+    requires sections { length link.now.plan.sections ≤ OUTPUT_SECTIONS }
+    requires segments { length link.now.plan.segments ≤ SEGMENTS }
+    ensures { result ≡ check_of (first_broken link.now) }
+{
+    check_plan(link)?;
+    check_placing(link)?;
+    check_files(link)
+}
+
+/// Refuses a link whose options or plan break a rule, by the first such rule at its first place.
+#[tactic(auto, using(crate::proofs::Faults::checks), unfolding(crate::specs::FirstFault::plan_fault))]
+fn check_plan(link: &LinkInput) -> Result<(), LinkFault>
+    ensures { result ≡ check_of (plan_fault link.now) }
+{
+    options::check_options(link)?;
+    check_page(&link.plan)?;
+    sections::check_sections(&link.plan)
+}
+
+/// Refuses a link whose segments or events break a rule, by the first such rule at its first place.
+#[tactic(auto, using(crate::proofs::Faults::checks), unfolding(crate::specs::FirstFault::placing_fault))]
+fn check_placing(link: &LinkInput) -> Result<(), LinkFault>
+    requires sections { length link.now.plan.sections ≤ OUTPUT_SECTIONS }
+    requires segments { length link.now.plan.segments ≤ SEGMENTS }
+    ensures { result ≡ check_of (placing_fault link.now) }
+{
+    segments::check_segments(&link.plan)?;
+    events::check_events(link)
+}
+
+/// Refuses a link whose files break a rule, by the first such rule at its first place.
+#[tactic(auto, using(crate::proofs::Faults::checks), unfolding(crate::specs::FirstFault::file_fault))]
+fn check_files(link: &LinkInput) -> Result<(), LinkFault>
+    requires files { AreNumbered link.now.groups }
+    requires symbols { symbol_count (all_files link.now.groups) ≤ SYMBOLS }
+    ensures { result ≡ check_of (file_fault link.now) }
+{
+    prelude::check_prelude(link)?;
+    first_bad_symbol::check_symbols(link)?;
+    first_bad_input::check_inputs(link)
+}
+
+/// The page is a power of two up to 65,536.
+#[tactic(auto, unfolding(crate::specs::FirstFault::check_of, crate::specs::FirstFault::page_fault))]
+fn check_page(plan: &Plan) -> Result<(), LinkFault>
+    ensures { result ≡ check_of (page_fault plan.now) }
+{
+    if is_valid(plan.page) {
+        Ok(())
+    } else {
+        Err(LinkFault::BadLink {
+            rule: Rule::Page,
+            place: Place::Plan,
+        })
+    }
+}

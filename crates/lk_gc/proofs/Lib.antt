@@ -1,0 +1,5 @@
+pub mod Among
+pub mod LiveWalk
+pub mod Marks
+pub mod Numbered
+pub mod Reaching

@@ -1,0 +1,12 @@
+//! What is kept of a link: what is reached from its roots.
+#![tactic(auto)]
+
+pub mod error;
+pub mod live;
+pub mod traverse;
+pub mod units;
+
+pub use error::GcError;
+pub use live::{Live, LiveInputs, live_exists, live_is_one};
+pub use traverse::traverse_alone;
+pub use units::{Ask, Unit};

@@ -1,0 +1,62 @@
+-- What stands behind a defined layout.
+use Rattle.std.proofs.Common.{◌≡◌, List, Option, Some, None, Result, Ok, refl, ap}
+use Rattle.std.specs.Prelude.{option_map}
+use Rattle.lk_check.specs.FirstFault.{WellFormedExactlyUnfaulted}
+use Rattle.lk_gc.specs.declared.live.Live.{Live}
+use Rattle.lk_gc.specs.Reach.{AreLive}
+use Rattle.lk_link.specs.declared.link.LinkInput.{LinkInput}
+use Rattle.lk_link.specs.Target.{Target}
+use Rattle.lk_link.specs.WellFormed.{IsWellFormed}
+use Rattle.lk_place.specs.declared.cursors.Cursors.{Cursors}
+use Rattle.lk_place.specs.declared.error.PlaceError.{PlaceError}
+use Rattle.lk_place.specs.Placement.{IsPlaced, placement_refusal}
+use Rattle.lk_place.specs.Records.{Record}
+use Rattle.lk_layout.specs.declared.error.LayoutError.{LayoutError}
+use Rattle.lk_layout.specs.declared.error.Uncarried.{Uncarried}
+use Rattle.lk_layout.specs.declared.layout.Layout.{Layout}
+use Rattle.lk_layout.specs.Carried.{IsCarried, first_uncarried}
+use Rattle.lk_layout.specs.Defined.{IsDefined, IsPlacedAnswer, Unless, fault_refusal, layout_of, not_carried, segment_refusal, setting, sizes_refusal, uncarried_refusal, walk_refusal}
+use Rattle.lk_layout.specs.Errors.{place_error}
+use Rattle.lk_layout.proofs.OneAnswer.{unrefused}
+
+-- a link that is well formed, of which all is laid out, with what is live, a whole placement and the layout of these
+pub record IsLaidOut (target : Target) (link : LinkInput) (layout : Layout) : Type 0 where
+  pub good : IsWellFormed link
+  pub carried : IsCarried link
+  pub live : Live
+  pub are_live : AreLive link live
+  pub states : List Cursors
+  pub records : List Record
+  pub is : IsPlaced (setting target link live) states records
+  pub unrefused : placement_refusal (setting target link live) states ≡ None
+  pub same : layout ≡ layout_of link live records
+
+-- a layout is no refusal
+passed : (refusal : Option LayoutError) (layout : Layout) (P : Type 0) → Unless refusal (Ok layout) P → (refusal ≡ None) × P
+passed None layout P h = (refl, h)
+passed (Some e) layout P h = absurd (cc)
+
+none_of : {X : Type 0} (f : X → LayoutError) (o : Option X) → option_map f o ≡ None → o ≡ None
+none_of f None h = refl
+none_of f (Some x) h = absurd (cc)
+
+pub laid_out : WellFormedExactlyUnfaulted → (target : Target) (link : LinkInput) (layout : Layout) → IsDefined target link (Ok layout) → IsLaidOut target link layout
+laid_out exactly target link layout defined =
+    let fault = passed (fault_refusal link) layout _ defined in
+    let all = passed (uncarried_refusal link) layout _ fault.1 in
+    let sizes = passed (sizes_refusal link all.1.0) layout _ all.1.2 in
+    let placed = sizes.1 in
+    let walk = passed (walk_refusal target link all.1.0 placed.0) layout _ placed.3 in
+    let segments = passed (segment_refusal link all.1.0 placed.1) layout _ walk.1 in
+    let is : layout ≡ layout_of link all.1.0 placed.1 = let given : Ok layout ≡ Ok (layout_of link all.1.0 placed.1) = segments.1 in cc in
+    record {
+      good = unrefused exactly link fault.0;
+      carried = none_of not_carried (first_uncarried link) all.0;
+      live = all.1.0;
+      are_live = all.1.1;
+      states = placed.0;
+      records = placed.1;
+      is = placed.2;
+      unrefused = none_of place_error (placement_refusal (setting target link all.1.0) placed.0) walk.0;
+      same = is;
+    }

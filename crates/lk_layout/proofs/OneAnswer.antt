@@ -1,0 +1,92 @@
+-- Every link has a defined answer, and it is one.
+use Rattle.std.proofs.Common.{◌≡◌, List, Option, Some, None, Result, Ok, Err, refl, sym, ap, subst, ◌∙◌, inl, inr}
+use Rattle.std.specs.Prelude.{option_map}
+use Rattle.lk_check.specs.FirstFault.{first_fault, WellFormedExactlyUnfaulted}
+use Rattle.lk_gc.specs.declared.live.Live.{Live}
+use Rattle.lk_gc.specs.Reach.{LiveExists, LiveIsOne}
+use Rattle.lk_link.specs.declared.fault.LinkFault.{LinkFault}
+use Rattle.lk_link.specs.declared.link.LinkInput.{LinkInput}
+use Rattle.lk_link.specs.Target.{Target}
+use Rattle.lk_link.specs.WellFormed.{IsWellFormed}
+use Rattle.lk_place.specs.declared.cursors.Cursors.{Cursors}
+use Rattle.lk_place.specs.PlacementLaws.{PlacementExists, PlacementIsOne}
+use Rattle.lk_place.specs.Records.{Record}
+use Rattle.lk_layout.specs.declared.error.LayoutError.{LayoutError}
+use Rattle.lk_layout.specs.declared.layout.Layout.{Layout}
+use Rattle.lk_layout.specs.Defined.{IsCarriedAnswer, IsDefined, IsPlacedAnswer, IsSizedAnswer, Unless, fault_refusal, layout_of, segment_refusal, setting, sizes_refusal, uncarried_refusal, walk_refusal}
+use Rattle.lk_layout.specs.Errors.{fault_error}
+use Rattle.lk_layout.specs.Laws.{DefinedAnswerExists, DefinedAnswerIsOne}
+use Rattle.lk_layout.proofs.Settings.{ready}
+
+pub no_fault : (fault : Option LinkFault) → option_map fault_error fault ≡ None → fault ≡ None
+no_fault None h = refl
+no_fault (Some f) h = absurd (cc)
+
+-- a link that isn't refused for a fault is well formed
+pub unrefused : WellFormedExactlyUnfaulted → (link : LinkInput) → fault_refusal link ≡ None → IsWellFormed link
+unrefused exactly link h = (exactly link).1 (no_fault (first_fault link) h)
+
+-- ---- there is one
+
+-- what is refused has an answer, and so has all else, if what comes behind has one
+unless_exists : (refusal : Option LayoutError) (P : Result Layout LayoutError → Type 0) → (refusal ≡ None → (answer : Result Layout LayoutError) × P answer)
+    → (answer : Result Layout LayoutError) × Unless refusal answer (P answer)
+unless_exists None P rest = rest refl
+unless_exists (Some e) P rest = (Err e, refl)
+
+placed_exists : (link : LinkInput) (live : Live) (records : List Record) → (answer : Result Layout LayoutError) × IsPlacedAnswer link live records answer
+placed_exists link live records =
+    unless_exists (segment_refusal link live records) (λ a. a ≡ Ok (layout_of link live records)) (λ none. (Ok (layout_of link live records), refl))
+
+sized_exists : PlacementExists → (target : Target) (link : LinkInput) (live : Live) → IsWellFormed link → (answer : Result Layout LayoutError) × IsSizedAnswer target link live answer
+sized_exists placement target link live good =
+    let p = placement (setting target link live) (ready target link live good) in
+    let rest = unless_exists (walk_refusal target link live p.0) (IsPlacedAnswer link live p.1) (λ none. placed_exists link live p.1) in
+    (rest.0, (p.0, p.1, p.2, rest.1))
+
+carried_exists : LiveExists → PlacementExists → (target : Target) (link : LinkInput) → IsWellFormed link → (answer : Result Layout LayoutError) × IsCarriedAnswer target link answer
+carried_exists live placement target link good =
+    let l = live link in
+    let rest = unless_exists (sizes_refusal link l.0) (IsSizedAnswer target link l.0) (λ none. sized_exists placement target link l.0 good) in
+    (rest.0, (l.0, l.1, rest.1))
+
+pub answer_exists : WellFormedExactlyUnfaulted → LiveExists → PlacementExists → DefinedAnswerExists
+answer_exists exactly live placement target link =
+    unless_exists (fault_refusal link) (λ a. Unless (uncarried_refusal link) a (IsCarriedAnswer target link a)) (λ none.
+    unless_exists (uncarried_refusal link) (IsCarriedAnswer target link) (λ all.
+    carried_exists live placement target link (unrefused exactly link none)))
+
+-- ---- and no other
+
+-- two answers that a refusal comes before are one, if they are one where it doesn't come
+unless_one : (refusal : Option LayoutError) (a b : Result Layout LayoutError) (P Q : Type 0) → Unless refusal a P → Unless refusal b Q → (refusal ≡ None → P → Q → a ≡ b) → a ≡ b
+unless_one None a b P Q h g rest = rest refl h g
+unless_one (Some e) a b P Q h g rest = h ∙ sym g
+
+placed_one : (link : LinkInput) (live : Live) (records : List Record) (a b : Result Layout LayoutError) → IsPlacedAnswer link live records a → IsPlacedAnswer link live records b → a ≡ b
+placed_one link live records a b h g = unless_one (segment_refusal link live records) a b _ _ h g (λ none x y. x ∙ sym y)
+
+-- where the states and the records are the same, so is what comes behind
+abbrev Behind : Target → LinkInput → Live → Result Layout LayoutError → List Cursors → List Record → Type 0
+Behind target link live answer states records = Unless (walk_refusal target link live states) answer (IsPlacedAnswer link live records answer)
+
+sized_one : PlacementIsOne → (target : Target) (link : LinkInput) (live : Live) (a b : Result Layout LayoutError) → IsWellFormed link
+    → IsSizedAnswer target link live a → IsSizedAnswer target link live b → a ≡ b
+sized_one placement target link live a b good h g =
+    let one = placement (setting target link live) h.0 g.0 h.1 g.1 (ready target link live good) h.2 g.2 in
+    let moved : Behind target link live a g.0 h.1 = subst (λ states. Behind target link live a states h.1) one.0 h.3 in
+    let there : Behind target link live a g.0 g.1 = subst (λ records. Behind target link live a g.0 records) one.1 moved in
+    unless_one (walk_refusal target link live g.0) a b _ _ there g.3 (λ none x y. placed_one link live g.1 a b x y)
+
+carried_one : LiveIsOne → PlacementIsOne → (target : Target) (link : LinkInput) (a b : Result Layout LayoutError) → IsWellFormed link
+    → IsCarriedAnswer target link a → IsCarriedAnswer target link b → a ≡ b
+carried_one live placement target link a b good h g =
+    let one : h.0 ≡ g.0 = live link h.0 g.0 h.1 g.1 in
+    let there = subst (λ l. Unless (sizes_refusal link l) a (IsSizedAnswer target link l a)) one h.2 in
+    unless_one (sizes_refusal link g.0) a b _ _ there g.2 (λ none x y. sized_one placement target link g.0 a b good x y)
+
+pub answer_one : WellFormedExactlyUnfaulted → LiveIsOne → PlacementIsOne → DefinedAnswerIsOne
+answer_one exactly live placement target link a b h g =
+    unless_one (fault_refusal link) a b _ _ h g (λ none u v.
+    unless_one (uncarried_refusal link) a b _ _ u v (λ all x y.
+    carried_one live placement target link a b (unrefused exactly link none) x y))

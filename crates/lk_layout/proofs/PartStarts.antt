@@ -1,0 +1,147 @@
+-- A part with bytes starts at a multiple of its alignment.
+use Rattle.std.proofs.Common.{◌≡◌, ℕ, zero, suc, ◌+◌, ◌-◌, ◌*◌, ◌^◌, ◌<◌, ◌≤◌, ◌==◌, Bool, true, false, cond, List, [], ◌∷◌, length, map, filter, max, min, None, Some, refl, sym, ap, subst, ◌∙◌, inl, inr, arith, length-append}
+use Rattle.std.specs.Prelude.{◌||◌, slice_get}
+use Rattle.std.specs.Int.{◌∣◌}
+use Rattle.std.specs.List.{AllByRecursion, enumerate_from, list_all, slice_index_or}
+use Rattle.std.proofs.Math.Nat.{dvd-mul_right, dvd_trans, le-max_left, le-max_right}
+use Rattle.std.proofs.Math.Pow.{pow-lt}
+use Rattle.std.proofs.lemmas.Bool.{and_parts, cases_lt, lt-ltb}
+use Rattle.std.proofs.lemmas.List.Concat.{get_or-flat_map}
+use Rattle.std.proofs.lemmas.Nat.{pow-add}
+use Rattle.std.proofs.lemmas.Option.{slice_get-get_or, slice_get_within}
+use Rattle.lk_link.specs.declared.link.LinkInput.{LinkInput}
+use Rattle.lk_link.specs.declared.plan.OrderEvent.TheVariants.{Section}
+use Rattle.lk_link.specs.declared.plan.PlanPart.{PlanPart}
+use Rattle.lk_link.specs.declared.plan.PlanSection.{PlanSection}
+use Rattle.lk_link.specs.Alignments.{is_alignment}
+use Rattle.lk_link.specs.Parts.{all_parts, first_part}
+use Rattle.lk_link.specs.PlanSections.{no_section, section_at}
+use Rattle.lk_link.specs.Rules.{IsGoodSection}
+use Rattle.lk_link.specs.WellFormed.{IsWellFormed}
+use Rattle.lk_link.proofs.GoodLinks.{section_of}
+use Rattle.lk_link.proofs.Powers.{alignments_are_powers}
+use Rattle.lk_place.specs.declared.cursors.Cursors.{Cursors}
+use Rattle.lk_place.specs.Alignments.{greatest_of, section_alignment}
+use Rattle.lk_place.specs.Placement.{IsPlaced, first_walked, is_walked, placement_refusal, state_at}
+use Rattle.lk_place.specs.Records.{Record, record_at}
+use Rattle.lk_place.specs.Setting.{Setting, has_bytes, part_at, part_count, part_number, size_at}
+use Rattle.lk_sizes.proofs.Tiling.{part_is_aligned}
+
+-- ---- alignments
+
+-- a lesser alignment divides a greater one
+divides : (a b : ℕ) → is_alignment a ≡ true → is_alignment b ≡ true → a ≤ b → a ∣ b
+divides a b h g le =
+    let p = (alignments_are_powers a).0 h in
+    let q = (alignments_are_powers b).0 g in
+    elim (cases_lt q.0 p.0) [
+      | inl less ↦ absurd (omega (arith, pow-lt less, p.2, q.2))
+      | inr more ↦
+          let split : q.0 ≡ p.0 + (q.0 - p.0) = omega arith in
+          let product : b ≡ a * 2 ^ (q.0 - p.0) = q.2 ∙ ap (λ (k : ℕ). 2 ^ k) split ∙ pow-add 2 p.0 (q.0 - p.0) ∙ ap (λ (n : ℕ). n * 2 ^ (q.0 - p.0)) (sym p.2) in
+          subst (λ n. a ∣ n) (sym product) (dvd-mul_right a (2 ^ (q.0 - p.0)))
+    ]
+
+-- the greater of two alignments is one
+greater_aligned : (a b : ℕ) → is_alignment a ≡ true → is_alignment b ≡ true → is_alignment (max a b) ≡ true
+greater_aligned a b h g =
+    elim (cases_lt a b) [
+      | inl less ↦ let is : max a b ≡ b = omega arith in ap is_alignment is ∙ g
+      | inr more ↦ let is : max a b ≡ a = omega arith in ap is_alignment is ∙ h
+    ]
+
+-- so is the greatest of those of the parts with bytes
+greatest_aligned : (sizes : List ℕ) (least n : ℕ) (parts : List PlanPart) → is_alignment least ≡ true → list_all (λ (p : PlanPart). is_alignment p.alignment) parts ≡ true
+    → is_alignment (greatest_of least (map (λ q. q.1.alignment) (filter (λ q. has_bytes sizes q.0) (enumerate_from n parts)))) ≡ true
+greatest_aligned sizes least n [] h all = h
+greatest_aligned sizes least n (p ∷ parts) h all =
+    let both = and_parts (is_alignment p.alignment) (list_all (λ (q : PlanPart). is_alignment q.alignment) parts) all in
+    let rest : List (ℕ × PlanPart) = filter (λ q. has_bytes sizes q.0) (enumerate_from (n + 1) parts) in
+    elim (has_bytes sizes n) as (λ b. is_alignment (greatest_of least (map (λ q. q.1.alignment) (cond b ((n, p) ∷ rest) rest))) ≡ true) [
+      | true ↦ greatest_aligned sizes (max least p.alignment) (n + 1) parts (greater_aligned least p.alignment h both.0) both.1
+      | false ↦ greatest_aligned sizes least (n + 1) parts h both.1
+    ]
+
+from_least : (least : ℕ) (several : List ℕ) → least ≤ greatest_of least several
+from_least least [] = omega arith
+from_least least (x ∷ xs) = omega (arith, from_least (max least x) xs, le-max_left least x)
+
+-- it is at least that of each part with bytes
+reaches : (sizes : List ℕ) (least n : ℕ) (parts : List PlanPart) (j : ℕ) (d : PlanPart) → j < length parts → has_bytes sizes (n + j) ≡ true
+    → (slice_index_or parts j d).alignment ≤ greatest_of least (map (λ q. q.1.alignment) (filter (λ q. has_bytes sizes q.0) (enumerate_from n parts)))
+reaches sizes least n [] j d below full = absurd (omega arith)
+reaches sizes least n (p ∷ parts) zero d below full =
+    let rest : List (ℕ × PlanPart) = filter (λ q. has_bytes sizes q.0) (enumerate_from (n + 1) parts) in
+    let number : n ≡ n + 0 = omega arith in
+    let here : has_bytes sizes n ≡ true = ap (has_bytes sizes) number ∙ full in
+    subst (λ b. p.alignment ≤ greatest_of least (map (λ q. q.1.alignment) (cond b ((n, p) ∷ rest) rest))) (sym here)
+    (omega (arith, from_least (max least p.alignment) (map (λ (q : ℕ × PlanPart). q.1.alignment) rest), le-max_right least p.alignment))
+reaches sizes least n (p ∷ parts) (suc j) d below full =
+    let rest : List (ℕ × PlanPart) = filter (λ q. has_bytes sizes q.0) (enumerate_from (n + 1) parts) in
+    let number : n + 1 + j ≡ n + suc j = omega arith in
+    let there : has_bytes sizes (n + 1 + j) ≡ true = ap (has_bytes sizes) number ∙ full in
+    elim (has_bytes sizes n) as (λ b. (slice_index_or parts j d).alignment ≤ greatest_of least (map (λ q. q.1.alignment) (cond b ((n, p) ∷ rest) rest))) [
+      | true ↦ reaches sizes (max least p.alignment) (n + 1) parts j d (omega arith) there
+      | false ↦ reaches sizes least (n + 1) parts j d (omega arith) there
+    ]
+
+-- ---- the section of a part
+
+record IsInSection (sections : List PlanSection) (p : ℕ) : Type 0 where
+  section : ℕ
+  place : ℕ
+  there : section < length sections
+  within : place < part_count sections section
+  is : p ≡ part_number sections section place
+
+section_in : (sections : List PlanSection) (p : ℕ) → p < length (all_parts sections) → IsInSection sections p
+section_in [] p h = absurd (omega arith)
+section_in (x ∷ xs) p h =
+    elim (cases_lt p (length x.parts)) [
+      | inl here ↦ record { section = 0; place = p; there = omega arith; within = here; is = omega arith }
+      | inr later ↦
+          let r = section_in xs (p - length x.parts) (omega (arith, length-append x.parts (all_parts xs))) in
+          let first : first_part (x ∷ xs) (suc r.section) ≡ length x.parts + first_part xs r.section = length-append x.parts _ in
+          record { section = suc r.section; place = r.place; there = omega (arith, r.there); within = r.within; is = omega (arith, r.is, first, later) }
+    ]
+
+-- ---- the law
+
+pub part_starts : (s : Setting) (link : LinkInput) (states : List Cursors) (records : List Record) (p : ℕ) → IsWellFormed link → s.plan ≡ link.plan
+    → IsPlaced s states records → placement_refusal s states ≡ None → p < length (all_parts link.plan.sections) → 0 < size_at s.sizes p
+    → (part_at link.plan.sections p).alignment ∣ (record_at records p).mem_offset
+part_starts s link states records p good same is unrefused within some =
+    let sections : List PlanSection = link.plan.sections in
+    let plans : s.plan.sections ≡ sections = ap (λ plan. plan.sections) same in
+    let i : IsInSection sections p = section_in sections p within in
+    let t : ℕ = i.section in
+    let event = good.events.placed t i.there in
+    let at : slice_get s.plan.events event.0 ≡ Some (Section t) = ap (λ plan. slice_get plan.events event.0) same ∙ event.1 in
+    let early : event.0 + 1 < length states = omega (arith, is.ends unrefused, slice_get_within s.plan.events event.0 (Section t) at) in
+    let step = is.steps event.0 (Section t) early at in
+    let q : ℕ = part_number s.plan.sections t i.place in
+    let number : q ≡ p = ap (λ xs. part_number xs t i.place) plans ∙ sym i.is in
+    let bytes : has_bytes s.sizes q ≡ true = ap (has_bytes s.sizes) number ∙ lt-ltb 0 (size_at s.sizes p) some in
+    let walked : is_walked s t q ≡ true = ap (λ b. b || (q == first_walked s t)) bytes in
+    let inside : i.place < part_count s.plan.sections t = subst (λ xs. i.place < part_count xs t) (sym plans) i.within in
+    let placed = step.steps.places.walked i.place inside walked in
+    let own : ℕ = (part_at s.plan.sections q).alignment in
+    let greatest : ℕ = section_alignment s t in
+    let none : PlanPart = record { alignment = 1; packed = false } in
+    let of_section : IsGoodSection sections (section_at sections t) = section_of link t (section_at sections t) good (slice_get-get_or sections t no_section i.there) in
+    let fine : is_alignment greatest ≡ true
+    = subst (λ xs. is_alignment (greatest_of (section_at xs t).align (map (λ q. q.1.alignment) (filter (λ q. has_bytes s.sizes q.0) (enumerate_from (first_part xs t) (section_at xs t).parts)))) ≡ true) (sym plans)
+    (greatest_aligned s.sizes (section_at sections t).align (first_part sections t) (section_at sections t).parts of_section.aligned_self of_section.aligned) in
+    let mine : part_at s.plan.sections q ≡ slice_index_or (section_at s.plan.sections t).parts i.place none
+    = get_or-flat_map (λ (x : PlanSection). x.parts) s.plan.sections t i.place no_section none (subst (λ xs. t < length xs) (sym plans) i.there) inside in
+    let least : own ≤ greatest
+    = subst (λ (x : PlanPart). x.alignment ≤ greatest) (sym mine)
+    (reaches s.sizes (section_at s.plan.sections t).align (first_part s.plan.sections t) (section_at s.plan.sections t).parts i.place none inside bytes) in
+    let aligned : is_alignment own ≡ true
+    = ap (λ xs. is_alignment (part_at xs q).alignment) plans ∙ ap (λ n. is_alignment (part_at sections n).alignment) number ∙ part_is_aligned link p good in
+    let found : own ∣ (record_at records q).mem_offset
+    = elim (q == first_walked s t) as (λ b. (cond b greatest (min own greatest)) ∣ (record_at records q).mem_offset → own ∣ (record_at records q).mem_offset) [
+      | true ↦ λ h. dvd_trans own (divides own greatest aligned fine least) h
+      | false ↦ λ h. let one : min own greatest ≡ own = omega (arith, least) in subst (λ n. n ∣ (record_at records q).mem_offset) one h
+    ] placed.at.multiple in
+    subst (λ n. (part_at sections n).alignment ∣ (record_at records n).mem_offset) number (subst (λ xs. (part_at xs q).alignment ∣ (record_at records q).mem_offset) plans found)

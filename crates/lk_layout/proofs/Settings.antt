@@ -1,0 +1,73 @@
+-- What a well-formed link gives its placement.
+use Rattle.std.proofs.Common.{◌≡◌, ℕ, ◌+◌, ◌<◌, ◌≤◌, Bool, true, false, cond, List, [], ◌∷◌, None, length, filter, map, sym, ap, ◌∙◌, arith, zero-add}
+use Rattle.std.specs.Prelude.{All}
+use Rattle.std.specs.List.{AllByRecursion, enumerate_from, slice_index_or}
+use Rattle.std.proofs.lemmas.List.{get_or-map, length-map}
+use Rattle.std.proofs.lemmas.List.Elements.{All-from_recursion}
+use Rattle.std.proofs.lemmas.List.FromFn.{get_or-enumerate_from, length-enumerate_from}
+use Rattle.lk_gc.specs.declared.live.Live.{Live}
+use Rattle.lk_link.specs.declared.link.LinkInput.{LinkInput}
+use Rattle.lk_link.specs.declared.plan.PlanPart.{PlanPart}
+use Rattle.lk_link.specs.declared.plan.PlanSection.{PlanSection}
+use Rattle.lk_link.specs.declared.plan.PlanSegment.{PlanSegment}
+use Rattle.lk_link.specs.Parts.{all_parts}
+use Rattle.lk_link.specs.Target.{Target}
+use Rattle.lk_link.specs.WellFormed.{IsWellFormed}
+use Rattle.lk_place.specs.declared.cursors.Cursors.{Cursors}
+use Rattle.lk_place.specs.Placement.{IsPlaced, placement_refusal}
+use Rattle.lk_place.specs.PlacementLaws.{PartsTakeTheirBytes}
+use Rattle.lk_place.specs.Records.{Record, nowhere, record_at}
+use Rattle.lk_place.specs.Segments.{part_records, section_record, section_records}
+use Rattle.lk_place.specs.Setting.{IsReady}
+use Rattle.lk_sizes.specs.Emitted.{active_segments, is_active}
+use Rattle.lk_sizes.specs.Owners.{by_part, part_size, part_sizes}
+use Rattle.lk_layout.specs.Defined.{setting}
+
+-- what is made by part, there is for each part
+pub length-by_part : {X : Type 0} (f : ℕ → X) (link : LinkInput) → length (by_part f link) ≡ length (all_parts link.plan.sections)
+length-by_part f link =
+    length-map (enumerate_from 0 (all_parts link.plan.sections)) (λ (q : ℕ × PlanPart). f q.0) ∙ length-enumerate_from 0 (all_parts link.plan.sections)
+
+-- there is a record for each section
+pub length-section_records : (sections : List PlanSection) (parts : List Record) → length (section_records sections parts) ≡ length sections
+length-section_records sections parts =
+    length-map (enumerate_from 0 sections) (λ (q : ℕ × PlanSection). section_record q.1 (part_records sections parts q.0)) ∙ length-enumerate_from 0 sections
+
+-- its plan can be walked
+pub ready : (target : Target) (link : LinkInput) (live : Live) → IsWellFormed link → IsReady (setting target link live)
+ready target link live good = record { events = good.events; sections = good.sections; sizes = length-by_part (part_size link live) link }
+
+-- the size of a part, by its number
+pub size_of : (link : LinkInput) (live : Live) (p : ℕ) → p < length (all_parts link.plan.sections) → slice_index_or (part_sizes link live) p 0 ≡ part_size link live p
+size_of link live p within =
+    let parts : List PlanPart = all_parts link.plan.sections in
+    let none : PlanPart = record { alignment = 1; packed = false } in
+    let size : ℕ × PlanPart → ℕ = λ q. part_size link live q.0 in
+    get_or-map size (enumerate_from 0 parts) p (0, none) 0 (omega (arith, within, length-enumerate_from 0 parts))
+    ∙ ap size (get_or-enumerate_from 0 parts p (0, none) within)
+    ∙ ap (part_size link live) (zero-add p)
+
+-- each part that is placed takes the bytes of its owners
+pub takes : PartsTakeTheirBytes → (target : Target) (link : LinkInput) (live : Live) (states : List Cursors) (records : List Record) → IsWellFormed link
+    → IsPlaced (setting target link live) states records → placement_refusal (setting target link live) states ≡ None
+    → (p : ℕ) → p < length records → (record_at records p).mem_size ≡ part_size link live p
+takes law target link live states records good is unrefused p below =
+    let all : map (λ r. r.mem_size) records ≡ part_sizes link live = law (setting target link live) states records (ready target link live good) is unrefused in
+    sym (get_or-map (λ (r : Record). r.mem_size) records p nowhere 0 below)
+    ∙ ap (λ (sizes : List ℕ). slice_index_or sizes p 0) all
+    ∙ size_of link live p (omega (arith, is.each))
+
+-- ---- active segments
+
+below : (p : ℕ → Bool) (o n : ℕ) (xs : List PlanSegment) → o + length xs ≤ n → AllByRecursion (λ i. i < n) (filter p (map (λ (q : ℕ × PlanSegment). q.0) (enumerate_from o xs)))
+below p o n [] h = tt
+below p o n (x ∷ xs) h =
+    let rest : List ℕ = filter p (map (λ (q : ℕ × PlanSegment). q.0) (enumerate_from (o + 1) xs)) in
+    let later : AllByRecursion (λ i. i < n) rest = below p (o + 1) n xs (omega arith) in
+    elim (p o) as (λ b. AllByRecursion (λ i. i < n) (cond b (o ∷ rest) rest)) [ true ↦ (omega arith, later) | false ↦ later ]
+
+-- they are there
+pub active_there : (link : LinkInput) (live : Live) → All (λ i. i < length link.plan.segments) (active_segments link live)
+active_there link live =
+    All-from_recursion (λ i. i < length link.plan.segments) (active_segments link live)
+    (below (is_active link live) 0 (length link.plan.segments) link.plan.segments (omega arith))

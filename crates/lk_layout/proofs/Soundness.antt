@@ -1,0 +1,233 @@
+-- A defined layout is sound.
+use Rattle.std.proofs.Common.{◌≡◌, ℕ, zero, suc, ◌+◌, ◌%◌, ◌<◌, ◌≤◌, true, false, cond, List, [], ◌∷◌, length, map, None, Some, Ok, refl, sym, ap, subst, ◌∙◌, inl, inr, arith}
+use Rattle.std.specs.Prelude.{slice_get, slice_index}
+use Rattle.std.specs.Int.{◌∣◌, next_multiple_of}
+use Rattle.std.specs.List.{AllByRecursion, Contains, slice_index_or}
+use Rattle.std.proofs.Math.ListN as lists
+use Rattle.std.proofs.Math.Nat.{dvd-add}
+use Rattle.std.proofs.lemmas.Bool.{cases_lt}
+use Rattle.std.proofs.lemmas.Bool.Decides.{eqb_tells}
+use Rattle.lk_check.specs.FirstFault.{WellFormedExactlyUnfaulted}
+use Rattle.lk_gc.specs.declared.live.Live.{Live}
+use Rattle.lk_gc.specs.Reach.{live_inputs}
+use Rattle.lk_gc.proofs.Among.{contains_at, map_in}
+use Rattle.lk_link.specs.declared.link.LinkInput.{LinkInput}
+use Rattle.lk_link.specs.declared.plan.PlanPart.{PlanPart}
+use Rattle.lk_link.specs.Inputs.{Input}
+use Rattle.lk_link.specs.Parts.{all_parts}
+use Rattle.lk_link.specs.Sizes.{capacity}
+use Rattle.lk_link.specs.Target.{IsLawful, Target}
+use Rattle.lk_place.specs.Laws.{FileRangesAreDisjoint, IsSoundlySet, KeepAlignments, MemoryRangesAreDisjoint, PlainMemoryIsCongruent, PlainMemoryIsDisjoint, RecordsKeepAlignments}
+use Rattle.lk_place.specs.PlacementLaws.{PartsTakeTheirBytes}
+use Rattle.lk_place.specs.Plain.{IsPlain}
+use Rattle.lk_place.specs.Ranges.{FileIsDisjoint, MemoryIsDisjoint}
+use Rattle.lk_place.specs.Records.{Record, nowhere, record_at}
+use Rattle.lk_place.specs.Segments.{alignment_inside}
+use Rattle.lk_sizes.specs.Owners.{LiveSectionsAreOwners, Owner, SectionOwner, bytes_of, live_address, owner_address, owner_bytes, owner_number, owners_of, part_at, part_size}
+use Rattle.lk_sizes.specs.Tiles.{HasByte, IsTiled, OwnersAreAligned, OwnersTileTheirPart}
+use Rattle.lk_sizes.proofs.LiveOnes.{Differ, Pairwise, live_differ, live_goes}
+use Rattle.lk_layout.specs.declared.layout.Layout.{Layout}
+use Rattle.lk_layout.specs.declared.live.LiveSection.{LiveSection}
+use Rattle.lk_layout.specs.Defined.{IsDefined, layout_of, setting}
+use Rattle.lk_layout.specs.Laws.{DefinedLayoutsAreSound, LaidOutMemoryIsDisjoint, LaidOutSectionsAreApart}
+use Rattle.lk_layout.specs.LiveSections.{live_section, live_sections, starts_of}
+use Rattle.lk_layout.specs.Sound.{IsInSection, IsSharedOut, IsSound, IsTold, LiveSectionsAreAligned, LiveSectionsAreApart, MemoryIsCongruent, part_record}
+use Rattle.lk_layout.proofs.CarriedPlans.{no_zero_fill_in}
+use Rattle.lk_layout.proofs.LaidOut.{IsLaidOut, laid_out}
+use Rattle.lk_layout.proofs.PartStarts.{part_starts}
+use Rattle.lk_layout.proofs.Settings.{ready, size_of, takes}
+
+-- ---- the layout and its records
+
+parts_are : (target : Target) (link : LinkInput) (layout : Layout) (laid : IsLaidOut target link layout) → layout.section_part_layouts ≡ laid.records
+parts_are target link layout laid = ap (λ (l : Layout). l.section_part_layouts) laid.same
+
+shown : (target : Target) (link : LinkInput) (layout : Layout) (laid : IsLaidOut target link layout) → layout.live_sections ≡ live_sections link laid.live layout.section_part_layouts
+shown target link layout laid =
+    ap (λ (l : Layout). l.live_sections) laid.same ∙ ap (live_sections link laid.live) (sym (parts_are target link layout laid))
+
+-- the owners of each part share it out
+shared_out : OwnersTileTheirPart → PartsTakeTheirBytes → (target : Target) (link : LinkInput) (layout : Layout) (laid : IsLaidOut target link layout) (p : ℕ) → p < length (all_parts link.plan.sections)
+    → IsSharedOut link laid.live layout p
+shared_out tile mass target link layout laid p within = record {
+  whole = ap (λ rs. (record_at rs p).mem_size) (parts_are target link layout laid)
+      ∙ takes mass target link laid.live laid.states laid.records laid.good laid.is laid.unrefused p (omega (arith, within, laid.is.each));
+  tiled = tile link laid.live p (part_record layout p).mem_offset;
+}
+
+-- ---- one live section
+
+-- a live section that is told stands among the owners of its part
+record Stands (link : LinkInput) (live : Live) (layout : Layout) (x : Input) (l : LiveSection) : Type 0 where
+  address : l.address ≡ owner_address (part_record layout x.section.part).mem_offset (part_at link x.section.part) (owners_of link live x.section.part) (owner_number link live x)
+  size : l.size ≡ x.section.size
+  owner : slice_get (owners_of link live x.section.part) (owner_number link live x) ≡ Some (SectionOwner x)
+
+stands : LiveSectionsAreOwners → (link : LinkInput) (live : Live) (layout : Layout) (a : ℕ) (x : Input) (l : LiveSection)
+    → layout.live_sections ≡ live_sections link live layout.section_part_layouts → IsTold link live layout a x l → Stands link live layout x l
+stands owners link live layout a x l is told =
+    let records : List Record = layout.section_part_layouts in
+    let made : slice_get (live_sections link live records) a ≡ Some (live_section link live records x) = map_in (live_section link live records) (live_inputs link live) a x told.there in
+    let here : Some l ≡ Some (live_section link live records x) = sym told.told ∙ ap (λ (ls : List LiveSection). slice_get ls a) is ∙ made in
+    let same : l ≡ live_section link live records x = cc in
+    let start : slice_index (starts_of records) x.section.part ≡ (record_at records x.section.part).mem_offset = lists.get_or-map (λ (r : Record). r.mem_offset) records x.section.part nowhere in
+    record {
+      address = ap (λ (m : LiveSection). m.address) same
+          ∙ ap (λ (n : ℕ). owner_address n (part_at link x.section.part) (owners_of link live x.section.part) (owner_number link live x)) start;
+      size = ap (λ (m : LiveSection). m.size) same;
+      owner = owners link live x (contains_at (live_inputs link live) a x told.there);
+    }
+
+-- no size is above its capacity
+size-le : (part : PlanPart) (size : ℕ) → size ≤ capacity part size
+size-le part size =
+    elim part.packed as (λ b. size ≤ cond b size (next_multiple_of size part.alignment)) [
+      | true ↦ omega arith
+      | false ↦ omega arith
+    ]
+
+-- the bytes of a live section are its owner's
+has_byte : (link : LinkInput) (live : Live) (layout : Layout) (x : Input) (l : LiveSection) (address : ℕ) → Stands link live layout x l → IsInSection address l
+    → HasByte (part_record layout x.section.part).mem_offset (part_at link x.section.part) (owners_of link live x.section.part) (owner_number link live x) address
+has_byte link live layout x l address s here = record {
+  owner = SectionOwner x;
+  there = s.owner;
+  from = omega (arith, s.address, here.begins);
+  below = omega (arith, s.address, s.size, here.ends, size-le (part_at link x.section.part) x.section.size);
+}
+
+-- ---- live sections stand apart
+
+behind_differ : (x y : Input) (xs : List Input) (b : ℕ) → AllByRecursion (Differ x) xs → slice_get xs b ≡ Some y → Differ x y
+behind_differ x y [] b h at = absurd (cc)
+behind_differ x y (z ∷ xs) zero h at = let same : z ≡ y = cc in subst (Differ x) same h.0
+behind_differ x y (z ∷ xs) (suc b) h at = behind_differ x y xs b h.1 at
+
+differ_at : (xs : List Input) (a b : ℕ) (x y : Input) → Pairwise Differ xs → a < b → slice_get xs a ≡ Some x → slice_get xs b ≡ Some y → Differ x y
+differ_at [] a b x y h less at_a at_b = absurd (cc)
+differ_at (z ∷ xs) a zero x y h less at_a at_b = absurd (omega arith)
+differ_at (z ∷ xs) zero (suc b) x y h less at_a at_b = let same : z ≡ x = cc in behind_differ x y xs b (subst (λ w. AllByRecursion (Differ w) xs) same h.0) at_b
+differ_at (z ∷ xs) (suc a) (suc b) x y h less at_a at_b = differ_at xs a b x y h.1 (omega arith) at_a at_b
+
+-- two live sections of one part with one number there are the same, which stands once
+one_owner : (link : LinkInput) (live : Live) (a b : ℕ) (x y : Input) → (a ≡ b → ⊥) → slice_get (live_inputs link live) a ≡ Some x → slice_get (live_inputs link live) b ≡ Some y → x ≡ y → ⊥
+one_owner link live a b x y other at_a at_b same =
+    let xs : List Input = live_inputs link live in
+    elim (cases_lt a b) [
+      | inl less ↦ differ_at xs a b x y (live_differ link live) less at_a at_b (ap (λ (z : Input). z.file) same) (ap (λ (z : Input). z.index) same)
+      | inr more ↦ differ_at xs b a y x (live_differ link live) (omega (arith, other)) at_b at_a (ap (λ (z : Input). z.file) (sym same)) (ap (λ (z : Input). z.index) (sym same))
+    ]
+
+sections_apart : OwnersTileTheirPart → PartsTakeTheirBytes → LiveSectionsAreOwners → (target : Target) (link : LinkInput) (layout : Layout) (laid : IsLaidOut target link layout)
+    → MemoryIsDisjoint link.plan layout.section_part_layouts → LiveSectionsAreApart link laid.live layout
+sections_apart tile mass owners target link layout laid memory a b address x y l m other told_a told_b memory_a memory_b here there =
+    let live : Live = laid.live in
+    let p : ℕ = x.section.part in
+    let q : ℕ = y.section.part in
+    let first = has_byte link live layout x l address (stands owners link live layout a x l (shown target link layout laid) told_a) here in
+    let second = has_byte link live layout y m address (stands owners link live layout b y m (shown target link layout laid) told_b) there in
+    let of_p = shared_out tile mass target link layout laid p (live_goes link live a x laid.good laid.are_live told_a.there) in
+    let of_q = shared_out tile mass target link layout laid q (live_goes link live b y laid.good laid.are_live told_b.there) in
+    let in_p = of_p.tiled.inside (owner_number link live x) address first in
+    let in_q = of_q.tiled.inside (owner_number link live y) address second in
+    elim (eqb_tells p q) [
+      | inr miss ↦ memory p q address miss.1 memory_a memory_b
+          (record { begins = in_p.0; ends = omega (arith, in_p.1, of_p.whole) }) (record { begins = in_q.0; ends = omega (arith, in_q.1, of_q.whole) })
+      | inl hit ↦
+          let owned : ℕ → ℕ → Type 0 = λ r k. HasByte (part_record layout r).mem_offset (part_at link r) (owners_of link live r) k address in
+          let beside : owned p (owner_number link live y) = subst (λ r. owned r (owner_number link live y)) (sym hit.1) second in
+          let number : owner_number link live x ≡ owner_number link live y = of_p.tiled.apart (owner_number link live x) (owner_number link live y) address first beside in
+          let mine : slice_get (owners_of link live p) (owner_number link live x) ≡ Some (SectionOwner x) = (stands owners link live layout a x l (shown target link layout laid) told_a).owner in
+          let yours : slice_get (owners_of link live q) (owner_number link live y) ≡ Some (SectionOwner y) = (stands owners link live layout b y m (shown target link layout laid) told_b).owner in
+          let both : Some (SectionOwner x) ≡ Some (SectionOwner y)
+          = sym mine ∙ ap (λ (r : ℕ). slice_get (owners_of link live r) (owner_number link live x)) hit.1 ∙ ap (slice_get (owners_of link live q)) number ∙ yours in
+          let same : x ≡ y = cc in
+          one_owner link live a b x y other told_a.there told_b.there same
+    ]
+
+-- ---- and aligned
+
+-- a part with an owner that has bytes has bytes
+owner_within : (part : PlanPart) (start : ℕ) (owners : List Owner) (k address : ℕ) → IsTiled start part owners → HasByte start part owners k address → 0 < bytes_of part owners
+owner_within part start owners k address tiled h =
+    let inside = tiled.inside k address h in
+    omega (arith, inside.0, inside.1)
+
+sections_aligned : OwnersTileTheirPart → OwnersAreAligned → LiveSectionsAreOwners → (target : Target) (link : LinkInput) (layout : Layout) (laid : IsLaidOut target link layout)
+    → LiveSectionsAreAligned link laid.live layout
+sections_aligned tile aligned owners target link layout laid a x l told some unpacked =
+    let live : Live = laid.live in
+    let p : ℕ = x.section.part in
+    let s : Stands link live layout x l = stands owners link live layout a x l (shown target link layout laid) told in
+    let within : p < length (all_parts link.plan.sections) = live_goes link live a x laid.good laid.are_live told.there in
+    let byte = has_byte link live layout x l l.address s (record { begins = omega arith; ends = omega (arith, some) }) in
+    let bytes : 0 < part_size link live p = owner_within (part_at link p) (part_record layout p).mem_offset (owners_of link live p) (owner_number link live x) l.address (tile link live p (part_record layout p).mem_offset) byte in
+    let size : slice_index_or (setting target link live).sizes p 0 ≡ part_size link live p = size_of link live p within in
+    let begins : (part_at link p).alignment ∣ (record_at laid.records p).mem_offset
+    = part_starts (setting target link live) link laid.states laid.records p laid.good refl laid.is laid.unrefused within (omega (arith, bytes, size)) in
+    let record_is : (record_at laid.records p).mem_offset ≡ (part_record layout p).mem_offset = ap (λ rs. (record_at rs p).mem_offset) (sym (parts_are target link layout laid)) in
+    subst (λ n. (part_at link p).alignment ∣ n) (sym s.address)
+    (dvd-add (part_at link p).alignment (subst (λ n. (part_at link p).alignment ∣ n) record_is begins) (aligned link live p (owner_number link live x) laid.good unpacked))
+
+-- ---- the laws
+
+soundly_set : (target : Target) (link : LinkInput) (layout : Layout) (laid : IsLaidOut target link layout) → IsLawful target → IsSoundlySet (setting target link laid.live) laid.states laid.records
+soundly_set target link layout laid lawful = record { ready = ready target link laid.live laid.good; page = laid.good.page; lawful = lawful; placed = laid.is }
+
+-- a part of a layout starts at the same place in memory and in the file
+abbrev IsCongruentAt : LinkInput → Layout → ℕ → ℕ → Type 0
+IsCongruentAt link l i p =
+    (part_record l p).mem_offset % alignment_inside link.plan l.section_layouts i ≡ (part_record l p).file_offset % alignment_inside link.plan l.section_layouts i
+
+congruent : PlainMemoryIsCongruent → RecordsKeepAlignments → (target : Target) (link : LinkInput) (layout : Layout) (laid : IsLaidOut target link layout) → IsLawful target
+    → IsPlain link.plan link.options.output → MemoryIsCongruent link layout
+congruent in_step keep target link layout laid lawful plain i s k p places backed part =
+    let live : Live = laid.live in
+    let kept : KeepAlignments (setting target link live) laid.records
+    = keep (setting target link live) laid.states laid.records (ready target link live laid.good) laid.is (laid.is.ends laid.unrefused) in
+    let found = in_step (setting target link live) link.options.output laid.states laid.records (soundly_set target link layout laid lawful) plain (λ t. no_zero_fill_in link t laid.carried) i s k p places backed part in
+    let there = subst (λ (n : ℕ). (record_at laid.records p).mem_offset % n ≡ (record_at laid.records p).file_offset % n) (sym (kept.segment i)) found in
+    subst (λ (l : Layout). IsCongruentAt link l i p) (sym laid.same) there
+
+-- what is laid out is sound
+is_sound : OwnersTileTheirPart → OwnersAreAligned → LiveSectionsAreOwners → PartsTakeTheirBytes → FileRangesAreDisjoint → PlainMemoryIsDisjoint → PlainMemoryIsCongruent → RecordsKeepAlignments
+    → (target : Target) (link : LinkInput) (layout : Layout) (laid : IsLaidOut target link layout) → IsLawful target → IsSound link laid.live layout
+is_sound tile aligned owners mass file memory in_step keep target link layout laid lawful =
+    let records : List Record = layout.section_part_layouts in
+    record {
+      reached = laid.are_live;
+      shown = shown target link layout laid;
+      aligned = sections_aligned tile aligned owners target link layout laid;
+      shared = shared_out tile mass target link layout laid;
+      file = subst (λ rs. FileIsDisjoint rs) (sym (parts_are target link layout laid))
+          (file (setting target link laid.live) laid.states laid.records (ready target link laid.live laid.good) laid.is);
+      memory = λ plain.
+          let disjoint : MemoryIsDisjoint link.plan records = subst (MemoryIsDisjoint link.plan) (sym (parts_are target link layout laid))
+          (memory (setting target link laid.live) link.options.output laid.states laid.records (soundly_set target link layout laid lawful) plain) in
+          record {
+            disjoint = disjoint;
+            apart = sections_apart tile mass owners target link layout laid disjoint;
+            congruent = congruent in_step keep target link layout laid lawful plain;
+          };
+    }
+
+pub sound : WellFormedExactlyUnfaulted → OwnersTileTheirPart → OwnersAreAligned → LiveSectionsAreOwners → PartsTakeTheirBytes → FileRangesAreDisjoint → PlainMemoryIsDisjoint → PlainMemoryIsCongruent → RecordsKeepAlignments
+    → DefinedLayoutsAreSound
+sound exactly tile aligned owners mass file memory in_step keep target link layout lawful defined =
+    let laid = laid_out exactly target link layout defined in
+    (laid.live, is_sound tile aligned owners mass file memory in_step keep target link layout laid lawful)
+
+-- under every plan that is laid out today, the memory of a layout is disjoint
+pub memory_disjoint : WellFormedExactlyUnfaulted → MemoryRangesAreDisjoint → LaidOutMemoryIsDisjoint
+memory_disjoint exactly memory target link layout carried lawful defined =
+    let laid = laid_out exactly target link layout defined in
+    subst (MemoryIsDisjoint link.plan) (sym (parts_are target link layout laid))
+    (memory (setting target link laid.live) laid.states laid.records (soundly_set target link layout laid lawful))
+
+-- and so are its live sections
+pub laid_out_apart : WellFormedExactlyUnfaulted → OwnersTileTheirPart → OwnersAreAligned → LiveSectionsAreOwners → PartsTakeTheirBytes → FileRangesAreDisjoint → MemoryRangesAreDisjoint → PlainMemoryIsDisjoint
+    → PlainMemoryIsCongruent → RecordsKeepAlignments → LaidOutSectionsAreApart
+laid_out_apart exactly tile aligned owners mass file memory plain in_step keep target link layout carried lawful defined =
+    let laid = laid_out exactly target link layout defined in
+    let is : IsSound link laid.live layout = is_sound tile aligned owners mass file plain in_step keep target link layout laid lawful in
+    (laid.live, is, sections_apart tile mass owners target link layout laid (memory_disjoint exactly memory target link layout carried lawful defined))

@@ -1,0 +1,27 @@
+use Rattle.std.proofs.Common.{◌≡◌, List, length, sym, ap, ◌∙◌}
+use Rattle.lk_gc.specs.declared.live.Live.{Live}
+use Rattle.lk_place.specs.Answers.{ArePlaced}
+use Rattle.lk_place.specs.Setting.{setting_of, target_of}
+use Rattle.lk_sizes.specs.Contents.{part_contents}
+use Rattle.lk_sizes.specs.Owners.{part_size, part_sizes}
+use Rattle.lk_layout.specs.Defined.{IsCarriedAnswer, WithMemory, setting}
+use Rattle.lk_layout.proofs.Answering.{err_exit, out_of_memory, oversized, placed, unplaced, untraversed}
+use Rattle.lk_layout.proofs.Settings.{length-by_part, takes}
+use Rattle.lk_layout.proofs.compute.lay_out.Goals as goal
+
+pub compute_layout_sections-requires-clause-each : goal.compute_layout_sections-requires-clause-each
+compute_layout_sections-requires-clause-each g c =
+    let link = c.args.link.now in
+    let live : Live = c.in_ok-live.live in
+    let contents : c.as_slice.result.now ≡ part_contents link live = c.as_slice.ensures ∙ c.in_ok-contents.ensures.1 in
+    ap length (c.deref.ensures.value ∙ c.in_ok-sizes.ensures.sizes link live contents) ∙ length-by_part (part_size link live) link
+
+pub tell-requires-clause-takes : goal.tell-requires-clause-takes
+tell-requires-clause-takes g c =
+    let target = target_of (g.P.Platform.segment_start c.args.platform.now) in
+    let link = c.args.link.now in
+    let live : Live = c.in_ok-live.live in
+    let contents : c.as_slice.result.now ≡ part_contents link live = c.as_slice.ensures ∙ c.in_ok-contents.ensures.1 in
+    let sizes : c.deref.result.now ≡ part_sizes link live = c.deref.ensures.value ∙ c.in_ok-sizes.ensures.sizes link live contents in
+    let are : ArePlaced (setting target link live) c.in_ok-placed.placed = rw sizes at c.in_ok-placed.ensures in
+    takes c.parts_take_their_bytes.ensures target link live are.states c.in_ok-placed.placed.parts c.requires.good are.is are.unrefused

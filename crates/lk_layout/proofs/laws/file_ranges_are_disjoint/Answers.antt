@@ -1,5 +1,0 @@
-use Rattle.lk_layout.proofs.DisjointLaws.{file_ranges_are_disjoint}
-use Rattle.lk_layout.proofs.laws.file_ranges_are_disjoint.Goals as goal
-
-pub returns : goal.returns
-returns c = file_ranges_are_disjoint

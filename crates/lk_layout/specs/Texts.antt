@@ -1,0 +1,34 @@
+-- How it is told why a link isn't laid out.
+use Rattle.std.specs.Prelude.{ℕ, List, [], ◌∷◌, codes}
+use Rattle.std.specs.Fmt.{decimal}
+use Rattle.lk_link.specs.declared.fault.LinkFault.TheVariants as fault
+use Rattle.lk_link.specs.Texts.{joined, link_fault_text, place_text}
+use Rattle.lk_layout.specs.declared.error.LayoutError.{LayoutError}
+use Rattle.lk_layout.specs.declared.error.LayoutError.TheVariants as layout
+use Rattle.lk_layout.specs.declared.error.Uncarried.{Uncarried}
+use Rattle.lk_layout.specs.declared.error.Uncarried.TheVariants as uncarried
+
+-- what isn't laid out yet, in a word
+unfoldable pub uncarried_text : Uncarried → List ℕ
+uncarried_text uncarried.Merge = codes "merge"
+uncarried_text uncarried.Slot = codes "slot"
+uncarried_text uncarried.Common = codes "common"
+uncarried_text uncarried.File = codes "file"
+uncarried_text uncarried.Output = codes "output"
+uncarried_text uncarried.Table = codes "table"
+uncarried_text uncarried.Plan = codes "plan"
+uncarried_text uncarried.Partial = codes "partial"
+uncarried_text uncarried.Sorted = codes "sorted"
+uncarried_text uncarried.Primary = codes "primary"
+uncarried_text uncarried.Relax = codes "relax"
+uncarried_text uncarried.Symbol = codes "symbol"
+uncarried_text uncarried.Reach = codes "reach"
+
+-- why a link isn't laid out: a fault as lk_link tells it; want of memory has no text
+abbrev pub error_text : LayoutError → List ℕ
+error_text layout.NoMemory = []
+error_text (layout.TooMany what count limit) = link_fault_text (fault.TooMany what count limit)
+error_text (layout.BadLink rule place) = link_fault_text (fault.BadLink rule place)
+error_text (layout.NotCarried what) = joined (codes "not carried: " ∷ uncarried_text what ∷ [])
+error_text (layout.AddressOverflow place) = joined (codes "address overflow: " ∷ place_text place ∷ [])
+error_text (layout.SectionOutsideSegments section) = joined (codes "section " ∷ decimal section ∷ codes " is in no segment" ∷ [])

@@ -1,0 +1,144 @@
+-- Memory and the file stay in step along the parts of a section.
+use Rattle.std.proofs.Common.{◌≡◌, ℕ, zero, suc, ◌+◌, ◌-◌, ◌%◌, ◌<◌, ◌≤◌, min, Bool, true, false, List, length, refl, sym, ap, subst, ◌∙◌, inl, inr, arith}
+use Rattle.std.specs.Prelude.{◌==◌, if◌then◌else◌}
+use Rattle.std.specs.Int.{◌∣◌, next_multiple_of}
+use Rattle.std.proofs.Math.Nat.{mod-add-mod, mod-mod_of_dvd}
+use Rattle.std.proofs.lemmas.Bool.{cases_lt}
+use Rattle.std.proofs.lemmas.List.{get_or_past}
+use Rattle.lk_link.specs.declared.plan.PlanPart.{PlanPart}
+use Rattle.lk_link.specs.Alignments.{is_alignment, IsLeastMultiple}
+use Rattle.lk_link.specs.Parts.{all_parts}
+use Rattle.lk_link.specs.PlanSections.{is_allocated, is_file_backed}
+use Rattle.lk_link.proofs.Powers.{alignment-pos}
+use Rattle.lk_link.proofs.Starts.{next_multiple_is_least}
+use Rattle.lk_place.specs.declared.cursors.Cursors.{Cursors}
+use Rattle.lk_place.specs.Alignments.{section_alignment}
+use Rattle.lk_place.specs.Placement.{IsPlacedAt, PlacesSection, behind, first_walked, is_walked, reached, section_start, walk_alignment}
+use Rattle.lk_place.specs.Records.{Record, record_at}
+use Rattle.lk_place.specs.Setting.{IsReady, Setting, part_at, part_count, part_number, size_at}
+use Rattle.lk_place.proofs.AlignmentLaws.{alignment_divides, min_aligned, section_aligned}
+use Rattle.lk_place.proofs.Checked.{one_aligned}
+use Rattle.lk_place.proofs.Multiples.{least_one}
+use Rattle.lk_place.proofs.PlacedParts.{part_aligned}
+use Rattle.lk_place.proofs.Ranges.{passed}
+use Rattle.lk_place.proofs.SectionEnds.{first_is_walked, first_walked_place}
+
+-- memory and the file have the same remainder: of a record's starts, and of the cursors
+abbrev pub StartsAgree : ℕ → Record → Type 0
+StartsAgree place r = r.mem_offset % place ≡ r.file_offset % place
+
+abbrev pub CursorsAgree : ℕ → Cursors → Type 0
+CursorsAgree place c = c.memory % place ≡ c.file % place
+
+-- ---- numbers
+
+more_agrees : (place m f d : ℕ) → m % place ≡ f % place → (m + d) % place ≡ (f + d) % place
+more_agrees place m f d h = sym (mod-add-mod m place d) ∙ ap (λ n. (n + d) % place) h ∙ mod-add-mod f place d
+
+-- what is rounded up alike agrees still
+rounded_agrees : (place a m f m' f' : ℕ) → 0 < a → a ∣ place → m % place ≡ f % place → IsLeastMultiple a m m' → IsLeastMultiple a f f' → m' % place ≡ f' % place
+rounded_agrees place a m f m' f' positive divides h memory file =
+    let rest : m % a ≡ f % a = sym (mod-mod_of_dvd a m divides) ∙ ap (λ n. n % a) h ∙ mod-mod_of_dvd a f divides in
+    let up : m' ≡ m + (a - m % a) % a = least_one a m m' (next_multiple_of m a) memory (next_multiple_is_least a m positive) in
+    let along : f' ≡ f + (a - f % a) % a = least_one a f f' (next_multiple_of f a) file (next_multiple_is_least a f positive) in
+    let alike : f + (a - m % a) % a ≡ f + (a - f % a) % a = ap (λ r. f + (a - r) % a) rest in
+    ap (λ n. n % place) up ∙ more_agrees place m f ((a - m % a) % a) h ∙ ap (λ n. n % place) (alike ∙ sym along)
+
+-- ---- one part
+
+-- a walked part with bytes in the file keeps them in agreement, where its alignment divides the place's
+placed_agrees : (place a size : ℕ) (from : Cursors) (r : Record) → is_alignment a ≡ true → is_alignment place ≡ true → a ≤ place → CursorsAgree place from
+    → IsPlacedAt true a size from r → StartsAgree place r × CursorsAgree place (behind r)
+placed_agrees place a size from r aligned good le h is =
+    let starts : StartsAgree place r = rounded_agrees place a from.memory from.file r.mem_offset r.file_offset (alignment-pos a aligned) (alignment_divides a place aligned good le) h is.at is.in_file in
+    let same : r.mem_size ≡ r.file_size = is.takes ∙ sym is.takes_file in
+    (starts, ap (λ n. (r.mem_offset + n) % place) same ∙ more_agrees place r.mem_offset r.file_offset r.file_size starts)
+
+part_agrees : (place a size : ℕ) (walked : Bool) (from : Cursors) (r : Record) → is_alignment a ≡ true → is_alignment place ≡ true → a ≤ place → CursorsAgree place from
+    → (walked ≡ true → IsPlacedAt true a size from r) → CursorsAgree place (passed walked r from)
+part_agrees place a size true from r aligned good le h is = (placed_agrees place a size from r aligned good le h (is refl)).1
+part_agrees place a size false from r aligned good le h is = h
+
+-- ---- the alignments of walked parts
+
+-- a part that is there has an alignment
+own_of : (setting : Setting) (p : ℕ) → IsReady setting → is_alignment (part_at setting.plan.sections p).alignment ≡ true
+own_of setting p ready =
+    let none : PlanPart = record { alignment = 1; packed = false } in
+    elim (cases_lt p (length (all_parts setting.plan.sections))) [
+      | inl below ↦ part_aligned setting p none ready below
+      | inr past ↦ ap (λ (x : PlanPart). is_alignment x.alignment) (get_or_past (all_parts setting.plan.sections) p none past) ∙ one_aligned
+    ]
+
+lesser : (first : Bool) (own greatest : ℕ) → is_alignment own ≡ true → is_alignment greatest ≡ true
+    → (is_alignment (if first then greatest else min own greatest) ≡ true) × ((if first then greatest else min own greatest) ≤ greatest)
+lesser true own greatest h g = (g, omega arith)
+lesser false own greatest h g = (min_aligned own greatest h g, omega arith)
+
+-- a walked part's alignment is one, and at most its section's
+pub walk_aligned : (setting : Setting) (s p : ℕ) → IsReady setting → (is_alignment (walk_alignment setting s p) ≡ true) × (walk_alignment setting s p ≤ section_alignment setting s)
+walk_aligned setting s p ready =
+    lesser (p == first_walked setting s) (part_at setting.plan.sections p).alignment (section_alignment setting s) (own_of setting p ready) (section_aligned setting.plan setting.sizes s ready.sections)
+
+-- ---- the parts of a section
+
+-- a section inside a load segment that has memory and bytes in the file, from cursors that agree
+pub record KeepsAgreement (setting : Setting) (place s : ℕ) (from : Cursors) : Type 0 where
+  pub ready : IsReady setting
+  pub good : is_alignment place ≡ true
+  pub there : s < length setting.plan.sections
+  pub within : section_alignment setting s ≤ place
+  pub backed : is_file_backed setting.plan s ≡ true
+  pub allocated : is_allocated setting.plan s ≡ true
+  pub agrees : CursorsAgree place from
+
+-- a walked part is placed with its bytes in the file
+walked_at : (setting : Setting) (place s j : ℕ) (from to : Cursors) (records : List Record) → KeepsAgreement setting place s from → PlacesSection setting s from records to
+    → j < part_count setting.plan.sections s → is_walked setting s (part_number setting.plan.sections s j) ≡ true
+    → IsPlacedAt true (walk_alignment setting s (part_number setting.plan.sections s j)) (size_at setting.sizes (part_number setting.plan.sections s j))
+    (reached setting s records (section_start setting s from) j) (record_at records (part_number setting.plan.sections s j))
+walked_at setting place s j from to records k h below walked =
+    let p : ℕ = part_number setting.plan.sections s j in
+    subst (λ b. IsPlacedAt b (walk_alignment setting s p) (size_at setting.sizes p) (reached setting s records (section_start setting s from) j) (record_at records p)) k.backed (h.walked j below walked)
+
+-- the cursors behind each part agree
+reached_agrees : (setting : Setting) (place s j : ℕ) (from to : Cursors) (records : List Record) → KeepsAgreement setting place s from → PlacesSection setting s from records to
+    → j ≤ part_count setting.plan.sections s → CursorsAgree place (reached setting s records (section_start setting s from) j)
+reached_agrees setting place s zero from to records k h le = ap (λ b. (if b then from.memory else 0) % place) k.allocated ∙ k.agrees
+reached_agrees setting place s (suc j) from to records k h le =
+    let p : ℕ = part_number setting.plan.sections s j in
+    let aligned = walk_aligned setting s p k.ready in
+    part_agrees place (walk_alignment setting s p) (size_at setting.sizes p) (is_walked setting s p) (reached setting s records (section_start setting s from) j) (record_at records p)
+    aligned.0 k.good (omega (arith, aligned.1, k.within)) (reached_agrees setting place s j from to records k h (omega arith)) (walked_at setting place s j from to records k h (omega arith))
+
+-- and so do those behind the section
+pub section_leaves : (setting : Setting) (place s : ℕ) (from to : Cursors) (records : List Record) → KeepsAgreement setting place s from → PlacesSection setting s from records to → CursorsAgree place to
+section_leaves setting place s from to records k h =
+    let end : Cursors = reached setting s records (section_start setting s from) (part_count setting.plan.sections s) in
+    let memory : to.memory ≡ end.memory = ap (λ (c : Cursors). c.memory) h.leaves ∙ ap (λ b. if b then end.memory else from.memory) k.allocated in
+    let file : to.file ≡ end.file = ap (λ (c : Cursors). c.file) h.leaves in
+    ap (λ n. n % place) memory ∙ reached_agrees setting place s (part_count setting.plan.sections s) from to records k h (omega arith) ∙ ap (λ n. n % place) (sym file)
+
+-- a walked part's starts agree
+walked_agrees : (setting : Setting) (place s j : ℕ) (from to : Cursors) (records : List Record) → KeepsAgreement setting place s from → PlacesSection setting s from records to
+    → j < part_count setting.plan.sections s → is_walked setting s (part_number setting.plan.sections s j) ≡ true → StartsAgree place (record_at records (part_number setting.plan.sections s j))
+walked_agrees setting place s j from to records k h below walked =
+    let p : ℕ = part_number setting.plan.sections s j in
+    let aligned = walk_aligned setting s p k.ready in
+    (placed_agrees place (walk_alignment setting s p) (size_at setting.sizes p) (reached setting s records (section_start setting s from) j) (record_at records p)
+    aligned.0 k.good (omega (arith, aligned.1, k.within)) (reached_agrees setting place s j from to records k h (omega arith)) (walked_at setting place s j from to records k h below walked)).0
+
+-- and those of each part, as one that isn't walked rests where the first walked one starts
+pub part_starts : (setting : Setting) (place s j : ℕ) (from to : Cursors) (records : List Record) → KeepsAgreement setting place s from → PlacesSection setting s from records to
+    → j < part_count setting.plan.sections s → StartsAgree place (record_at records (part_number setting.plan.sections s j))
+part_starts setting place s j from to records k h below =
+    let p : ℕ = part_number setting.plan.sections s j in
+    elim (is_walked setting s p) as (λ b. is_walked setting s p ≡ b → StartsAgree place (record_at records p)) [
+      | true ↦ λ is. walked_agrees setting place s j from to records k h below is
+      | false ↦ λ is.
+          let first = first_walked_place setting s k.ready k.there in
+          let walked = ap (is_walked setting s) (sym first.1.is) ∙ first_is_walked setting s in
+          let begun : StartsAgree place (record_at records (part_number setting.plan.sections s first.0)) = walked_agrees setting place s first.0 from to records k h first.1.within walked in
+          let starts : StartsAgree place (record_at records (first_walked setting s)) = subst (λ n. StartsAgree place (record_at records n)) (sym first.1.is) begun in
+          subst (StartsAgree place) (sym (h.resting j below is)) starts
+    ] refl

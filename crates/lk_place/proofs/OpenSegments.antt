@@ -1,0 +1,138 @@
+-- Which segments are open behind an event.
+use Rattle.std.proofs.Common.{◌≡◌, ℕ, zero, suc, ◌≤◌, Bool, true, false, List, [], ◌∷◌, take, Some, refl, sym, ap, ◌∙◌, inl, inr, arith, eq-eqb}
+use Rattle.std.specs.Prelude.{◌&&◌, ◌||◌, not, slice_get}
+use Rattle.std.specs.List.{list_any}
+use Rattle.std.proofs.Math.Bool.{or-false, or-true}
+use Rattle.std.proofs.lemmas.Bool.Decides.{eqb_tells}
+use Rattle.lk_link.specs.declared.plan.OrderEvent.{OrderEvent}
+use Rattle.lk_link.specs.declared.plan.OrderEvent.TheVariants.{SegmentStart, SegmentEnd, Section, SetLocation, SetLocationRelative, SetSectionAddress}
+use Rattle.lk_link.specs.declared.plan.Plan.{Plan}
+use Rattle.lk_link.specs.Inside.{is_open, placed_section}
+use Rattle.lk_link.specs.Rules.{is_start, is_end}
+use Rattle.lk_link.specs.WellFormed.{IsEventOrder}
+use Rattle.lk_link.proofs.Places.{found}
+
+-- ---- events
+
+-- an event that opens the segment is its start
+pub is_its_start : (i : ℕ) (e : OrderEvent) → is_start i e ≡ true → e ≡ SegmentStart i
+is_its_start i (SegmentStart j) h =
+    elim (eqb_tells j i) [
+      | inl hit ↦ ap (λ n. SegmentStart n) hit.1
+      | inr miss ↦ absurd (cc)
+    ]
+is_its_start i (SegmentEnd j) h = absurd (cc)
+is_its_start i (Section u) h = absurd (cc)
+is_its_start i (SetLocation x) h = absurd (cc)
+is_its_start i (SetLocationRelative x u) h = absurd (cc)
+is_its_start i (SetSectionAddress x) h = absurd (cc)
+
+-- one that closes it is its end
+is_its_end : (i : ℕ) (e : OrderEvent) → is_end i e ≡ true → e ≡ SegmentEnd i
+is_its_end i (SegmentEnd j) h =
+    elim (eqb_tells j i) [
+      | inl hit ↦ ap (λ n. SegmentEnd n) hit.1
+      | inr miss ↦ absurd (cc)
+    ]
+is_its_end i (SegmentStart j) h = absurd (cc)
+is_its_end i (Section u) h = absurd (cc)
+is_its_end i (SetLocation x) h = absurd (cc)
+is_its_end i (SetLocationRelative x u) h = absurd (cc)
+is_its_end i (SetSectionAddress x) h = absurd (cc)
+
+-- an event that places a section is that of the section
+pub section_event : (e : OrderEvent) (u : ℕ) → placed_section e ≡ Some u → e ≡ Section u
+section_event (Section t) u h = let same : t ≡ u = cc in ap (λ n. Section n) same
+section_event (SegmentStart j) u h = absurd (cc)
+section_event (SegmentEnd j) u h = absurd (cc)
+section_event (SetLocation x) u h = absurd (cc)
+section_event (SetLocationRelative x t) u h = absurd (cc)
+section_event (SetSectionAddress x) u h = absurd (cc)
+
+-- ---- open segments
+
+-- a test of one event more
+any_more : (p : OrderEvent → Bool) (es : List OrderEvent) (n : ℕ) (e : OrderEvent) → slice_get es n ≡ Some e → list_any p (take (suc n) es) ≡ (list_any p (take n es) || p e)
+any_more p [] n e h = absurd (cc)
+any_more p (x ∷ xs) zero e h =
+    let same : x ≡ e = cc in
+    elim (p x) as (λ b. p x ≡ b → (p x || false) ≡ p e) [
+      | true ↦ λ is. ap (λ b. b || false) is ∙ sym is ∙ ap p same
+      | false ↦ λ is. ap (λ b. b || false) is ∙ sym is ∙ ap p same
+    ] refl
+any_more p (x ∷ xs) (suc n) e h =
+    let rest : list_any p (take (suc n) xs) ≡ (list_any p (take n xs) || p e) = any_more p xs n e h in
+    elim (p x) as (λ b. (b || list_any p (take (suc n) xs)) ≡ ((b || list_any p (take n xs)) || p e)) [
+      | true ↦ refl
+      | false ↦ rest
+    ]
+
+-- open behind an event that does not open it: open before the event
+was_open : (a b c d : Bool) → ((a || c) && not (b || d)) ≡ true → c ≡ false → (a && not b) ≡ true
+was_open true false c d h unopened = refl
+was_open true true c d h unopened = absurd (cc)
+was_open false b c d h unopened = absurd (cc)
+
+pub open_before : (i n : ℕ) (es : List OrderEvent) (e : OrderEvent) → slice_get es n ≡ Some e → is_start i e ≡ false → is_open i (take (suc n) es) ≡ true → is_open i (take n es) ≡ true
+open_before i n es e here unopened h =
+    was_open (list_any (is_start i) (take n es)) (list_any (is_end i) (take n es)) (is_start i e) (is_end i e)
+    (sym (ap (λ b. b && not (list_any (is_end i) (take (suc n) es))) (any_more (is_start i) es n e here) ∙ ap (λ b. (list_any (is_start i) (take n es) || is_start i e) && not b) (any_more (is_end i) es n e here)) ∙ h)
+    unopened
+
+any_same : (p : OrderEvent → Bool) (es : List OrderEvent) (k : ℕ) (e : OrderEvent) → slice_get es k ≡ Some e → p e ≡ false → list_any p (take (suc k) es) ≡ list_any p (take k es)
+any_same p es k e here unmet = any_more p es k e here ∙ ap (λ b. list_any p (take k es) || b) unmet ∙ or-false (list_any p (take k es))
+
+any_now : (p : OrderEvent → Bool) (es : List OrderEvent) (k : ℕ) (e : OrderEvent) → slice_get es k ≡ Some e → p e ≡ true → list_any p (take (suc k) es) ≡ true
+any_now p es k e here met = any_more p es k e here ∙ ap (λ b. list_any p (take k es) || b) met ∙ or-true (list_any p (take k es))
+
+-- an event that neither opens nor closes it leaves a segment as it is
+pub open_same : (i k : ℕ) (es : List OrderEvent) (e : OrderEvent) → slice_get es k ≡ Some e → is_start i e ≡ false → is_end i e ≡ false → is_open i (take (suc k) es) ≡ is_open i (take k es)
+open_same i k es e here unopened unclosed =
+    ap (λ b. b && not (list_any (is_end i) (take (suc k) es))) (any_same (is_start i) es k e here unopened)
+    ∙ ap (λ b. list_any (is_start i) (take k es) && not b) (any_same (is_end i) es k e here unclosed)
+
+and-false : (b : Bool) → (b && false) ≡ false
+and-false true = refl
+and-false false = refl
+
+-- behind its end a segment isn't open
+pub closed_now : (i k : ℕ) (es : List OrderEvent) (e : OrderEvent) → slice_get es k ≡ Some e → is_end i e ≡ true → is_open i (take (suc k) es) ≡ false
+closed_now i k es e here closes =
+    ap (λ b. list_any (is_start i) (take (suc k) es) && not b) (any_now (is_end i) es k e here closes) ∙ and-false (list_any (is_start i) (take (suc k) es))
+
+-- a segment isn't open before it opens
+pub unopened : (plan : Plan) → IsEventOrder plan → (i k m : ℕ) → slice_get plan.events k ≡ Some (SegmentStart i) → m ≤ k → is_open i (take m plan.events) ≡ false
+unopened plan order i k m here le =
+    let started : Bool = list_any (is_start i) (take m plan.events) in
+    elim started as (λ b. started ≡ b → (b && not (list_any (is_end i) (take m plan.events))) ≡ false) [
+      | true ↦ λ is.
+          let before = found (is_start i) plan.events m is in
+          let there : slice_get plan.events before.0 ≡ Some (SegmentStart i) = before.3 ∙ ap (λ (e : OrderEvent). Some e) (is_its_start i before.1 before.4) in
+          absurd (omega (arith, before.2, order.once before.0 k (SegmentStart i) tt there here))
+      | false ↦ λ is. refl
+    ] refl
+
+-- nor does it close before
+unclosed : (plan : Plan) → IsEventOrder plan → (i k : ℕ) → slice_get plan.events k ≡ Some (SegmentStart i) → list_any (is_end i) (take k plan.events) ≡ false
+unclosed plan order i k here =
+    let ended : Bool = list_any (is_end i) (take k plan.events) in
+    elim ended as (λ b. ended ≡ b → b ≡ false) [
+      | true ↦ λ is.
+          let before = found (is_end i) plan.events k is in
+          let there : slice_get plan.events before.0 ≡ Some (SegmentEnd i) = before.3 ∙ ap (λ (e : OrderEvent). Some e) (is_its_end i before.1 before.4) in
+          let round = order.opened i (order.in_range k (SegmentStart i) here) in
+          absurd (omega (
+            arith,
+            before.2,
+            round.2,
+            order.once round.0 k (SegmentStart i) tt round.3 here,
+            order.once before.0 round.1 (SegmentEnd i) tt there round.4,
+          ))
+      | false ↦ λ is. refl
+    ] refl
+
+-- behind its start it is open
+pub opened_now : (plan : Plan) → IsEventOrder plan → (i k : ℕ) → slice_get plan.events k ≡ Some (SegmentStart i) → is_open i (take (suc k) plan.events) ≡ true
+opened_now plan order i k here =
+    ap (λ b. b && not (list_any (is_end i) (take (suc k) plan.events))) (any_now (is_start i) plan.events k (SegmentStart i) here (eq-eqb i i refl))
+    ∙ ap (λ b. not b) (any_same (is_end i) plan.events k (SegmentStart i) here refl ∙ unclosed plan order i k here)

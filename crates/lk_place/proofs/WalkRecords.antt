@@ -1,0 +1,168 @@
+-- The records behind some events: those of the sections that they place, and nowhere for all others.
+use Rattle.std.proofs.Common.{◌≡◌, ℕ, zero, suc, ◌+◌, ◌-◌, ◌≤◌, ◌<◌, ◌⊎◌, Bool, true, false, cond, List, length, Option, Some, None, refl, sym, ap, subst, ◌∙◌, arith, inl, inr}
+use Rattle.std.specs.Prelude.{slice_get}
+use Rattle.std.proofs.lemmas.Bool.{cases_Bool, cases_lt}
+use Rattle.std.proofs.lemmas.Bool.Decides.{nat_tests}
+use Rattle.lk_link.specs.declared.plan.OrderEvent.{OrderEvent}
+use Rattle.lk_link.specs.declared.plan.OrderEvent.TheVariants.{SegmentStart, SegmentEnd, Section, SetLocation, SetLocationRelative, SetSectionAddress}
+use Rattle.lk_link.specs.declared.plan.PlanSection.{PlanSection}
+use Rattle.lk_link.specs.Parts.{first_part}
+use Rattle.lk_place.specs.declared.cursors.Cursors.{Cursors}
+use Rattle.lk_place.specs.Placement.{IsPlacedBefore, section_start}
+use Rattle.lk_place.specs.Ranges.{HasPart}
+use Rattle.lk_place.specs.Records.{Record, nowhere}
+use Rattle.lk_place.specs.Setting.{IsReady, Setting, part_count, part_number}
+use Rattle.lk_place.specs.Walk.{cursors_after, entered, is_among, record_after, record_by, recorded, written}
+use Rattle.lk_place.proofs.ApartLaws.{section_one}
+use Rattle.lk_place.proofs.Insides.{placed_in_range}
+use Rattle.lk_place.proofs.Parts.{first_part-suc}
+
+-- event k places section s
+abbrev pub PlacesAt : Setting → ℕ → ℕ → Type 0
+PlacesAt setting k s = slice_get setting.plan.events k ≡ Some (Section s)
+
+-- a section that an event places is there
+pub section_there : (setting : Setting) (k s : ℕ) → IsReady setting → PlacesAt setting k s → s < length setting.plan.sections
+section_there setting k s ready here = placed_in_range setting.plan (Section s) s (ready.events.in_range k (Section s) here) refl
+
+-- ---- whether a part is one of a section
+
+among_part : (first count j : ℕ) → j < count → is_among first count (first + j) ≡ true
+among_part first count j h = grind (arith, nat_tests)
+
+among_is : (first count p : ℕ) → is_among first count p ≡ true → (j : ℕ) × (j < count) × (p ≡ first + j)
+among_is first count p h =
+    let from : first ≤ p = grind (arith, nat_tests) in
+    let below : p < first + count = grind (arith, nat_tests) in
+    (p - first, omega arith, omega arith)
+
+-- a part of one section isn't one of another
+among_other : (setting : Setting) (s t j : ℕ) → s < length setting.plan.sections → t < length setting.plan.sections → (s ≡ t → ⊥) → j < part_count setting.plan.sections s
+    → is_among (first_part setting.plan.sections t) (part_count setting.plan.sections t) (part_number setting.plan.sections s j) ≡ false
+among_other setting s t j below there other less =
+    let sections : List PlanSection = setting.plan.sections in
+    let p : ℕ = part_number sections s j in
+    elim (cases_Bool (is_among (first_part sections t) (part_count sections t) p)) [
+      | inl hit ↦
+          let at = among_is (first_part sections t) (part_count sections t) p hit in
+          let one : HasPart setting.plan s p = record { from = omega arith; below = omega (arith, first_part-suc sections s below) } in
+          let two : HasPart setting.plan t p = record { from = omega (arith, at.2); below = omega (arith, at.1, at.2, first_part-suc sections t there) } in
+          absurd (other (section_one setting.plan s t p one two))
+      | inr miss ↦ miss
+    ]
+
+-- ---- one event
+
+-- an event that places section s makes the records of its parts
+recorded_here : (setting : Setting) (s j : ℕ) (c : Cursors) (old : Record) → j < part_count setting.plan.sections s
+    → recorded setting (Some (Section s)) c (part_number setting.plan.sections s j) old ≡ record_by setting s (section_start setting s (entered setting (Section s) c)) (part_number setting.plan.sections s j)
+unfolding written
+recorded_here setting s j c old less =
+    let p : ℕ = part_number setting.plan.sections s j in
+    ap (λ (b : Bool). cond b (record_by setting s (section_start setting s (entered setting (Section s) c)) p) old) (among_part (first_part setting.plan.sections s) (part_count setting.plan.sections s) j less)
+
+-- and leaves a part that isn't one of them
+recorded_miss : (setting : Setting) (t p : ℕ) (c : Cursors) (old : Record) → is_among (first_part setting.plan.sections t) (part_count setting.plan.sections t) p ≡ false
+    → recorded setting (Some (Section t)) c p old ≡ old
+unfolding written
+recorded_miss setting t p c old miss = ap (λ (b : Bool). cond b (record_by setting t (section_start setting t (entered setting (Section t) c)) p) old) miss
+
+-- an event leaves each part that isn't one of its section
+recorded_other : (setting : Setting) (o : Option OrderEvent) (p : ℕ) (c : Cursors) (old : Record)
+    → ((t : ℕ) → o ≡ Some (Section t) → is_among (first_part setting.plan.sections t) (part_count setting.plan.sections t) p ≡ false)
+    → recorded setting o c p old ≡ old
+unfolding written
+recorded_other setting None p c old miss = refl
+recorded_other setting (Some (SegmentStart i)) p c old miss = refl
+recorded_other setting (Some (SegmentEnd i)) p c old miss = refl
+recorded_other setting (Some (SetLocation x)) p c old miss = refl
+recorded_other setting (Some (SetLocationRelative x t)) p c old miss = refl
+recorded_other setting (Some (SetSectionAddress x)) p c old miss = refl
+recorded_other setting (Some (Section t)) p c old miss = recorded_miss setting t p c old (miss t refl)
+
+-- ---- some events
+
+-- the records of a section that one of them places are those that the walk computes for it
+pub record_placed : (setting : Setting) (k s j n : ℕ) → IsReady setting → PlacesAt setting k s → j < part_count setting.plan.sections s → k < n
+    → record_after setting n (part_number setting.plan.sections s j) ≡ record_by setting s (section_start setting s (entered setting (Section s) (cursors_after setting k))) (part_number setting.plan.sections s j)
+unfolding record_after
+record_placed setting k s j zero ready here less early = absurd (omega arith)
+record_placed setting k s j (suc m) ready here less early =
+    let p : ℕ = part_number setting.plan.sections s j in
+    let old : Record = record_after setting m p in
+    elim (cases_lt k m) [
+      | inl before ↦
+          let other : (t : ℕ) → slice_get setting.plan.events m ≡ Some (Section t) → is_among (first_part setting.plan.sections t) (part_count setting.plan.sections t) p ≡ false
+          = λ t there.
+          among_other setting s t j (section_there setting k s ready here) (section_there setting m t ready there)
+          (λ same. absurd (omega (arith, ready.events.once k m (Section t) tt (here ∙ ap (λ (n : ℕ). Some (Section n)) same) there))) less in
+          recorded_other setting (slice_get setting.plan.events m) p (cursors_after setting m) old other ∙ record_placed setting k s j m ready here less before
+      | inr at ↦
+          let same : m ≡ k = omega arith in
+          ap (λ (i : ℕ). recorded setting (slice_get setting.plan.events i) (cursors_after setting i) p old) same
+          ∙ ap (λ (o : Option OrderEvent). recorded setting o (cursors_after setting k) p old) here
+          ∙ recorded_here setting s j (cursors_after setting k) old less
+    ]
+
+-- a part that an earlier event places is placed before a later one
+pub placed_earlier : (setting : Setting) (m n p : ℕ) → m ≤ n → IsPlacedBefore setting m p → IsPlacedBefore setting n p
+placed_earlier setting m n p le h = record { k = h.k; s = h.s; j = h.j; early = omega (arith, h.early); places = h.places; within = h.within; is = h.is }
+
+-- what none of them places is nowhere
+pub record_absent : (setting : Setting) (n p : ℕ) → (IsPlacedBefore setting n p → ⊥) → record_after setting n p ≡ nowhere
+unfolding record_after
+record_absent setting zero p none = refl
+record_absent setting (suc m) p none =
+    let other : (t : ℕ) → slice_get setting.plan.events m ≡ Some (Section t) → is_among (first_part setting.plan.sections t) (part_count setting.plan.sections t) p ≡ false
+    = λ t there.
+    elim (cases_Bool (is_among (first_part setting.plan.sections t) (part_count setting.plan.sections t) p)) [
+      | inl hit ↦
+          let at = among_is (first_part setting.plan.sections t) (part_count setting.plan.sections t) p hit in
+          absurd (none (record { k = m; s = t; j = at.0; early = omega arith; places = there; within = at.1; is = at.2 }))
+      | inr miss ↦ miss
+    ] in
+    recorded_other setting (slice_get setting.plan.events m) p (cursors_after setting m) (record_after setting m p) other
+    ∙ record_absent setting m p (λ h. none (placed_earlier setting m (suc m) p (omega arith) h))
+
+-- ---- whether a part is placed
+
+-- an event places a section with this part, or doesn't
+here_or_not : (setting : Setting) (m p : ℕ) (o : Option OrderEvent) → slice_get setting.plan.events m ≡ o
+    → IsPlacedBefore setting (suc m) p ⊎ ((t j : ℕ) → o ≡ Some (Section t) → j < part_count setting.plan.sections t → p ≡ part_number setting.plan.sections t j → ⊥)
+here_or_not setting m p None at = inr (λ t j is less same. absurd (cc))
+here_or_not setting m p (Some (SegmentStart i)) at = inr (λ t j is less same. absurd (cc))
+here_or_not setting m p (Some (SegmentEnd i)) at = inr (λ t j is less same. absurd (cc))
+here_or_not setting m p (Some (SetLocation x)) at = inr (λ t j is less same. absurd (cc))
+here_or_not setting m p (Some (SetLocationRelative x i)) at = inr (λ t j is less same. absurd (cc))
+here_or_not setting m p (Some (SetSectionAddress x)) at = inr (λ t j is less same. absurd (cc))
+here_or_not setting m p (Some (Section s)) at =
+    elim (cases_Bool (is_among (first_part setting.plan.sections s) (part_count setting.plan.sections s) p)) [
+      | inl hit ↦
+          let there = among_is (first_part setting.plan.sections s) (part_count setting.plan.sections s) p hit in
+          inl (record { k = m; s = s; j = there.0; early = omega arith; places = at; within = there.1; is = there.2 })
+      | inr miss ↦ inr (λ t j is less same.
+          let one : s ≡ t = cc in
+          let part : p ≡ first_part setting.plan.sections s + j = same ∙ ap (λ (n : ℕ). part_number setting.plan.sections n j) (sym one) in
+          let hit : is_among (first_part setting.plan.sections s) (part_count setting.plan.sections s) p ≡ true =
+          ap (is_among (first_part setting.plan.sections s) (part_count setting.plan.sections s)) part
+          ∙ among_part (first_part setting.plan.sections s) (part_count setting.plan.sections s) j (subst (λ (n : ℕ). j < part_count setting.plan.sections n) (sym one) less) in
+          absurd (cc))
+    ]
+
+-- a part is placed by one of the first events, or by none
+pub placed_or_not : (setting : Setting) (n p : ℕ) → IsPlacedBefore setting n p ⊎ (IsPlacedBefore setting n p → ⊥)
+placed_or_not setting zero p = inr (λ h. absurd (omega (arith, h.early)))
+placed_or_not setting (suc m) p =
+    elim (placed_or_not setting m p) [
+      | inl before ↦ inl (placed_earlier setting m (suc m) p (omega arith) before)
+      | inr none ↦ elim (here_or_not setting m p (slice_get setting.plan.events m) refl) [
+        | inl here ↦ inl here
+        | inr miss ↦ inr (λ h.
+            elim (cases_lt h.k m) [
+              | inl less ↦ none (record { k = h.k; s = h.s; j = h.j; early = less; places = h.places; within = h.within; is = h.is })
+              | inr at ↦
+                  let same : h.k ≡ m = omega (arith, h.early, at) in
+                  miss h.s h.j (ap (slice_get setting.plan.events) (sym same) ∙ h.places) h.within h.is
+            ])
+      ]
+    ]

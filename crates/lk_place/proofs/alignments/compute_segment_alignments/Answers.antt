@@ -1,0 +1,17 @@
+use Rattle.std.proofs.Common.{arith}
+use Rattle.std.proofs.lemmas.Grind.{common_steps}
+use Rattle.lk_link.proofs.GoodLinks.{few}
+use Rattle.lk_place.proofs.Reaching.{insides_have, reach_insides}
+use Rattle.lk_place.proofs.alignments.compute_segment_alignments.Goals as goal
+
+pub sections_of_segments-requires : goal.sections_of_segments-requires
+sections_of_segments-requires c = (few c.args.link.now c.requires.well_formed).segments
+
+pub greatest_of_each-requires : goal.greatest_of_each-requires
+greatest_of_each-requires c =
+    insides_have c.args.link.now.plan c.args.sizes.now c.deref.result.now c.deref-2.result.now c.requires.well_formed.events (grind (arith, common_steps)) (grind (arith, common_steps))
+
+pub returns : goal.returns
+returns c =
+    let is = reach_insides c.args.link.now.plan c.args.sizes.now c.deref.result.now c.deref-2.result.now c.requires.well_formed.events (grind (arith, common_steps)) (grind (arith, common_steps)) in
+    grind (arith, common_steps, is)

@@ -1,0 +1,56 @@
+use Rattle.std.proofs.Common.{◌≡◌, ℕ, ◌∙◌, Some, ap, arith}
+use Rattle.std.specs.Prelude.{slice_get}
+use Rattle.lk_place.specs.declared.cursors.Cursors.{Cursors}
+use Rattle.lk_place.specs.Records.{record_at}
+use Rattle.lk_place.specs.Walk.{setting_in}
+use Rattle.lk_place.proofs.WalkSteps.{IsTried, cursors_first, goes_on, passes_on, read_there, record_first, records_on, stops, walk_refused}
+use Rattle.lk_place.proofs.setting.Walk.walk.Goals as goal
+
+pub loop-number-init : goal.loop-number-init
+loop-number-init g c =
+    let setting = setting_in g.P.Platform.segment_start c.args.self.now in
+    record {
+      ends = ap (λ (n : ℕ). let begin : Cursors = record { file = 0; memory = n } in begin) c.requires.starts ∙ cursors_first setting;
+      records = λ p. c.requires.nothing p ∙ record_first setting p;
+      pass = λ k below. absurd (omega arith);
+    }
+
+pub carry_out-end-requires-clause-in_range : goal.carry_out-end-requires-clause-in_range
+carry_out-end-requires-clause-in_range g c =
+    let here : slice_get c.args.self.now.plan.now.events c.loop-number.number ≡ Some c.event-item.result =
+    read_there c.args.self.now.plan.now.events c.as_slice-event-items.result.now c.loop-number.number c.event-item.result c.as_slice-event-items.ensures c.loop-number-test.true c.event-item.is in
+    c.requires.ready.events.in_range c.loop-number.number c.event-item.result here
+
+pub returns-in_err-cursors : goal.returns-in_err-cursors
+returns-in_err-cursors g c =
+    let setting = setting_in g.P.Platform.segment_start c.args.self.now in
+    let here : slice_get setting.plan.events c.loop-number.number ≡ Some c.event-item.result =
+    read_there c.args.self.now.plan.now.events c.as_slice-event-items.result.now c.loop-number.number c.event-item.result c.as_slice-event-items.ensures c.loop-number-test.true c.event-item.is in
+    let tried : IsTried setting c.loop-number.number c.event-item.result c.loop-number.cursors c.carry_out-end.result = record {
+      here = here;
+      so_far = c.loop-number.invariant.ends;
+      gave = c.carry_out-end.ensures.ends;
+      before = c.loop-number.invariant.pass;
+    } in
+    walk_refused setting c.from_residual.result c.in_err-cursors.field-0.0 c.carry_out-end.new.records c.from_residual.ensures.1
+    (stops setting c.loop-number.number c.event-item.result c.loop-number.cursors c.carry_out-end.result c.in_err-cursors.field-0.0 tried c.in_err-cursors.ensures)
+
+pub loop-number-preserved : goal.loop-number-preserved
+loop-number-preserved g c =
+    let setting = setting_in g.P.Platform.segment_start c.args.self.now in
+    let k : ℕ = c.loop-number.number in
+    let to : Cursors = c.in_ok-cursors.cursors in
+    let here : slice_get setting.plan.events k ≡ Some c.event-item.result =
+    read_there c.args.self.now.plan.now.events c.as_slice-event-items.result.now c.loop-number.number c.event-item.result c.as_slice-event-items.ensures c.loop-number-test.true c.event-item.is in
+    let tried : IsTried setting k c.event-item.result c.loop-number.cursors c.carry_out-end.result = record {
+      here = here;
+      so_far = c.loop-number.invariant.ends;
+      gave = c.carry_out-end.ensures.ends;
+      before = c.loop-number.invariant.pass;
+    } in
+    record {
+      ends = goes_on setting k c.event-item.result c.loop-number.cursors to c.carry_out-end.result tried c.in_ok-cursors.ensures;
+      records = records_on setting k c.event-item.result c.loop-number.cursors to c.carry_out-end.result (record_at c.loop-number.records) (record_at c.carry_out-end.new.records) tried c.in_ok-cursors.ensures
+          c.carry_out-end.ensures.records c.loop-number.invariant.records;
+      pass = passes_on setting k c.event-item.result c.loop-number.cursors to c.carry_out-end.result tried c.in_ok-cursors.ensures;
+    }

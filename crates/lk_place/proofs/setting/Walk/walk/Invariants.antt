@@ -1,0 +1,14 @@
+use Rattle.std.proofs.Common.{◌≡◌, ℕ}
+use Rattle.lk_place.specs.Records.{record_at}
+use Rattle.lk_place.specs.Walk.{AllPass, cursors_after, record_after, setting_in}
+use Rattle.lk_place.proofs.setting.Walk.walk.Given as goal
+
+-- the cursors and the records behind the events so far, of which none is refused
+abbrev pub invariant-loop-number : goal.invariant-loop-number
+invariant-loop-number g l =
+    let setting = setting_in g.P.Platform.segment_start l.self in
+    record {
+      ends : l.cursors ≡ cursors_after setting l.number;
+      records : (p : ℕ) → record_at l.records p ≡ record_after setting l.number p;
+      pass : AllPass setting l.number;
+    }

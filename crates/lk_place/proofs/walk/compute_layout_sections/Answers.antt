@@ -1,0 +1,28 @@
+use Rattle.std.proofs.Common.{◌≡◌, ◌∙◌, arith, List, length, sym, ap}
+use Rattle.lk_link.specs.Parts.{all_parts}
+use Rattle.lk_place.specs.Records.{Record, record_at}
+use Rattle.lk_place.specs.Segments.{section_records}
+use Rattle.lk_place.specs.Setting.{IsReady, Setting, setting_of, target_of}
+use Rattle.lk_place.proofs.Computing.{place_at, refused_answer, walked_placed, written_back}
+use Rattle.lk_place.proofs.walk.compute_layout_sections.Goals as goal
+
+pub walk-requires-clause-places : goal.walk-requires-clause-places
+walk-requires-clause-places g c = λ i below. place_at c.args.link.now.plan c.args.sizes.now c.deref.result.now i (c.deref.ensures.value ∙ c.in_ok-places.ensures) below
+
+pub returns-in_err-walk : goal.returns-in_err-walk
+returns-in_err-walk g c =
+    let setting : Setting = setting_of c.args.link.now.plan (target_of (g.P.Platform.segment_start c.args.platform.now)) c.args.sizes.now in
+    let ready : IsReady setting = record { events = c.requires.well_formed.events; sections = c.requires.well_formed.sections; sizes = c.requires.each } in
+    refused_answer setting c.from_residual-in_err-walk.result c.in_err-walk.field-0.0 ready c.from_residual-in_err-walk.ensures.1 c.in_err-walk.ensures
+
+pub returns : goal.returns
+returns g c =
+    let setting : Setting = setting_of c.args.link.now.plan (target_of (g.P.Platform.segment_start c.args.platform.now)) c.args.sizes.now in
+    let ready : IsReady setting = record { events = c.requires.well_formed.events; sections = c.requires.well_formed.sections; sizes = c.requires.each } in
+    let parts : List Record = c.walk.new.records in
+    let all : c.in_ok-parts.parts.len ≡ length parts = omega (arith, c.walk.auto.records, c.deref_mut.ensures.len) in
+    let made : c.from_vec.result ≡ parts = c.from_vec.ensures ∙ written_back c.in_ok-parts.parts.len parts c.in_ok-parts.parts.items all in
+    let spans : c.from_vec-2.result ≡ section_records c.args.link.now.plan.sections c.from_vec.result =
+    c.from_vec-2.ensures ∙ c.in_ok-sections.ensures ∙ ap (section_records c.args.link.now.plan.sections) (c.deref-2.ensures.value ∙ sym c.from_vec.ensures) in
+    let count : length c.from_vec.result ≡ length (all_parts c.args.link.now.plan.sections) = ap length made ∙ omega (arith, c.walk.auto.records, ap length c.deref_mut.ensures.value, c.in_ok-parts.ensures.count, c.requires.each) in
+    walked_placed setting c.from_vec.result c.from_vec-2.result ready count c.in_ok-walk.ensures.0 (λ p. ap (λ (rs : List Record). record_at rs p) made ∙ c.in_ok-walk.ensures.1 p) spans

@@ -1,0 +1,41 @@
+-- The greatest alignments: of an output section, and of a segment.
+use Rattle.std.specs.Prelude.{ℕ, List, filter, fold, map, max}
+use Rattle.std.specs.List.{enumerate_from}
+use Rattle.lk_link.specs.declared.plan.Plan.{Plan}
+use Rattle.lk_link.specs.declared.plan.PlanPart.{PlanPart}
+use Rattle.lk_link.specs.Parts.{first_part}
+use Rattle.lk_link.specs.Inside.{sections_inside}
+use Rattle.lk_link.specs.PlanSections.{section_at}
+use Rattle.lk_place.specs.Setting.{Setting, has_bytes}
+
+-- the greatest of several numbers, and at least this one
+abbrev pub greatest_of : ℕ → List ℕ → ℕ
+greatest_of least several = fold max least several
+
+-- the parts of a section, each with its number over all sections
+abbrev pub numbered_parts : Plan → ℕ → List (ℕ × PlanPart)
+numbered_parts plan s = enumerate_from (first_part plan.sections s) (section_at plan.sections s).parts
+
+-- the alignments of those of these parts that have bytes
+abbrev pub filled_alignments : List ℕ → List (ℕ × PlanPart) → List ℕ
+filled_alignments sizes parts = map (λ q. q.1.alignment) (filter (λ q. has_bytes sizes q.0) parts)
+
+-- the greatest alignment of a section's parts with bytes, and at least its own
+abbrev pub greatest_alignment : Plan → List ℕ → ℕ → ℕ
+greatest_alignment plan sizes s = greatest_of (section_at plan.sections s).align (filled_alignments sizes (numbered_parts plan s))
+
+-- the greatest alignment of the sections inside a segment, and at least the page (libwild: `compute_segment_alignments`)
+abbrev pub segment_alignment : Plan → List ℕ → ℕ → ℕ
+segment_alignment plan sizes i = greatest_of plan.page (map (greatest_alignment plan sizes) (sections_inside plan.events i))
+
+-- those of all segments, by number
+abbrev pub segment_alignments : Plan → List ℕ → List ℕ
+segment_alignments plan sizes = map (λ q. segment_alignment plan sizes q.0) (enumerate_from 0 plan.segments)
+
+-- a section is placed at its greatest alignment
+abbrev pub section_alignment : Setting → ℕ → ℕ
+section_alignment setting s = greatest_alignment setting.plan setting.sizes s
+
+-- and a load segment at its own
+abbrev pub place_alignment : Setting → ℕ → ℕ
+place_alignment setting i = segment_alignment setting.plan setting.sizes i

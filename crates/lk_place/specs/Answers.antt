@@ -1,0 +1,31 @@
+-- What a placement answers.
+use Rattle.std.specs.Prelude.{◌≡◌, List, Some, None, Result, Ok, Err}
+use Rattle.lk_place.specs.declared.cursors.Cursors.{Cursors}
+use Rattle.lk_place.specs.declared.error.PlaceError.{PlaceError}
+use Rattle.lk_place.specs.declared.error.PlaceError.TheVariants.{AddressOverflow, NoMemory, SectionOutsideSegments}
+use Rattle.lk_place.specs.declared.walk.Placed.{Placed}
+use Rattle.lk_place.specs.Placement.{IsPlaced, placement_refusal}
+use Rattle.lk_place.specs.Records.{Record}
+use Rattle.lk_place.specs.Segments.{section_records}
+use Rattle.lk_place.specs.Setting.{Setting}
+
+-- the records are those of the placement, in which nothing is refused
+pub record ArePlaced (setting : Setting) (placed : Placed) : Type 0 where
+  pub states : List Cursors
+  pub is : IsPlaced setting states placed.parts
+  pub unrefused : placement_refusal setting states ≡ None
+  pub sections : placed.sections ≡ section_records setting.plan.sections placed.parts
+
+-- this is the first refusal of the placement
+pub record IsRefused (setting : Setting) (e : PlaceError) : Type 0 where
+  pub states : List Cursors
+  pub records : List Record
+  pub is : IsPlaced setting states records
+  pub refused : placement_refusal setting states ≡ Some e
+
+-- the placement, or its first refusal, or want of memory
+abbrev pub GivesPlaced : Setting → Result Placed PlaceError → Type 0
+GivesPlaced setting (Ok placed) = ArePlaced setting placed
+GivesPlaced setting (Err NoMemory) = Unit {0}
+GivesPlaced setting (Err (AddressOverflow place)) = IsRefused setting (AddressOverflow place)
+GivesPlaced setting (Err (SectionOutsideSegments s)) = IsRefused setting (SectionOutsideSegments s)

@@ -1,0 +1,12 @@
+pub mod Alignments
+pub mod Answers
+pub mod Laws
+pub mod Placement
+pub mod PlacementLaws
+pub mod Plain
+pub mod PlainScan
+pub mod Ranges
+pub mod Records
+pub mod Segments
+pub mod Setting
+pub mod Walk

@@ -1,0 +1,123 @@
+-- What output sections and segments span.
+use Rattle.std.specs.Prelude.{◌≡◌, ℕ, ◌+◌, ◌-◌, ◌==◌, ◌&&◌, ◌||◌, not, Bool, false, if◌then◌else◌, List, Option, Some, None, find, filter, fold, map, max, min, nat_lt, slice_range, unwrap_or}
+use Rattle.std.specs.List.{enumerate_from, filter_map, list_any, slice_index_or}
+use Rattle.lk_link.specs.declared.link.LinkInput.{LinkInput}
+use Rattle.lk_link.specs.declared.plan.Plan.{Plan}
+use Rattle.lk_link.specs.declared.plan.PlanSection.{PlanSection}
+use Rattle.lk_link.specs.Inside.{placed_section, sections_inside, segment_insides}
+use Rattle.lk_link.specs.Parts.{first_part}
+use Rattle.lk_link.specs.OutputKinds.{is_partial}
+use Rattle.lk_link.specs.PlanSections.{primary_of, is_allocated, is_zero_fill_thread_local}
+use Rattle.lk_link.specs.SegmentKinds.{is_stack, is_tls, segment_at}
+use Rattle.lk_place.specs.declared.error.PlaceError.{PlaceError}
+use Rattle.lk_place.specs.declared.error.PlaceError.TheVariants.{NoMemory, SectionOutsideSegments}
+use Rattle.lk_place.specs.declared.segments.SegmentLayout.{SegmentLayout}
+use Rattle.lk_place.specs.Alignments.{greatest_of}
+use Rattle.lk_place.specs.Records.{Record, file_end, mem_end, nowhere, record_at}
+
+-- ---- hulls
+
+-- what reaches from the lesser start to the greater end
+abbrev pub spanned : Record → Record → Record
+spanned a b = record {
+  file_size = max (file_end a) (file_end b) - min a.file_offset b.file_offset;
+  mem_size = max (mem_end a) (mem_end b) - min a.mem_offset b.mem_offset;
+  alignment = max a.alignment b.alignment;
+  file_offset = min a.file_offset b.file_offset;
+  mem_offset = min a.mem_offset b.mem_offset;
+  lma_offset = min a.lma_offset b.lma_offset;
+}
+
+-- what reaches over one more
+abbrev pub joined : Option Record → Record → Option Record
+joined None r = Some r
+joined (Some h) r = Some (spanned h r)
+
+-- the hull of several: from the least start to the greatest end, in the file and in memory; of none, nowhere
+abbrev pub hull : List Record → Record
+hull rs = unwrap_or (fold joined None rs) nowhere
+
+-- ---- sections
+
+-- what stands there has bytes
+abbrev pub is_filled : Record → Bool
+is_filled r = nat_lt 0 r.mem_size
+
+-- a section spans its parts, at the greatest alignment of those with bytes, and at least at its own
+-- (libwild: `layout_section_from_part_layouts`)
+abbrev pub section_record : PlanSection → List Record → Record
+section_record section parts =
+    record (hull parts) { alignment = greatest_of section.align (map (λ r. r.alignment) (filter is_filled parts)) }
+
+-- the records of a section's parts, a range of those of all parts
+abbrev pub part_records : List PlanSection → List Record → ℕ → List Record
+part_records sections parts s = slice_range parts (first_part sections s) (first_part sections (s + 1))
+
+-- the records of all sections, by the records of all parts
+abbrev pub section_records : List PlanSection → List Record → List Record
+section_records sections parts = map (λ q. section_record q.1 (part_records sections parts q.0)) (enumerate_from 0 sections)
+
+-- ---- segments
+
+-- the mark of a section
+abbrev pub is_marked : List Bool → ℕ → Bool
+is_marked marks s = slice_index_or marks s false
+
+-- a section without bytes is skipped where its primary isn't emitted
+abbrev pub is_skipped : Plan → List Record → List Bool → ℕ → Bool
+is_skipped plan records emitted s = not (is_filled (record_at records s)) && not (is_marked emitted (primary_of plan.sections s))
+
+-- a section inside a segment counts there, unless it is skipped; zero-fill thread-local ones count in thread-local segments alone
+abbrev pub counts : Plan → List Record → List Bool → ℕ → ℕ → Bool
+counts plan records emitted i s =
+    not (is_skipped plan records emitted s) && (is_tls (segment_at plan.segments i).kind || not (is_zero_fill_thread_local plan s))
+
+-- the stack: so many bytes of memory from 0 on, and none of the file
+abbrev pub stack_record : ℕ → Record
+stack_record size = record { file_size = 0; mem_size = size; alignment = 1; file_offset = 0; mem_offset = 0; lma_offset = 0 }
+
+-- a segment spans the sections inside that count; only that of the stack is as long as the stack, and spans none
+abbrev pub segment_record : Plan → ℕ → List Record → List Bool → ℕ → Record
+segment_record plan stack records emitted i =
+    if is_stack (segment_at plan.segments i).kind then stack_record stack
+    else hull (map (record_at records) (filter (counts plan records emitted i) (sections_inside plan.events i)))
+
+-- the layouts of these segments (libwild: `compute_segment_layout`)
+abbrev pub segment_layouts : Plan → ℕ → List Record → List Bool → List ℕ → List SegmentLayout
+segment_layouts plan stack records emitted active = map (λ i. record { id = i; sizes = segment_record plan stack records emitted i }) active
+
+-- the greatest alignment of the sections inside a segment, by their records, and at least the page
+abbrev pub alignment_inside : Plan → List Record → ℕ → ℕ
+alignment_inside plan records i = greatest_of plan.page (map (λ s. (record_at records s).alignment) (sections_inside plan.events i))
+
+-- ---- sections outside the segments
+
+-- whether a section stands in a segment, by the sections inside each
+abbrev pub stands_in : List (List ℕ) → ℕ → Bool
+stands_in insides s = list_any (λ inside. list_any (λ t. t == s) inside) insides
+
+-- whether a section isn't skipped, is allocated, and stands in no segment
+abbrev pub is_outside : Plan → List Record → List Bool → ℕ → Bool
+is_outside plan records emitted s =
+    not (is_skipped plan records emitted s) && is_allocated plan s && not (stands_in (segment_insides plan) s)
+
+-- the first such section in the order of events
+abbrev pub found_outside : Plan → List Record → List Bool → Option ℕ
+found_outside plan records emitted = find (is_outside plan records emitted) (filter_map placed_section plan.events)
+
+-- sections may stand outside the segments where the program headers are asked for, and in partial output, which has no segments
+abbrev pub may_stand_outside : LinkInput → Bool
+may_stand_outside link = link.plan.custom_phdrs || is_partial link.options.output
+
+-- the first section that stands outside and may not
+abbrev pub first_outside : LinkInput → List Record → List Bool → Option ℕ
+first_outside link records emitted = if may_stand_outside link then None else found_outside link.plan records emitted
+
+-- the refusal of such a section
+abbrev pub outside_refusal : Option ℕ → Option PlaceError
+outside_refusal None = None
+outside_refusal (Some s) = Some (SectionOutsideSegments s)
+
+-- memory aside, a call refuses with this
+abbrev pub Refuses : PlaceError → Option PlaceError → Type 0
+Refuses e refusal = (e ≡ NoMemory → ⊥) → refusal ≡ Some e

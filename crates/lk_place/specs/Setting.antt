@@ -1,0 +1,51 @@
+-- What a placement depends on: the plan, the machine, and the bytes of the plan's parts.
+use Rattle.std.specs.Prelude.{◌≡◌, ℕ, ◌+◌, Bool, true, false, List, length, nat_lt, slice_index}
+use Rattle.std.specs.List.{list_all, slice_index_or}
+use Rattle.lk_link.specs.declared.plan.Plan.{Plan}
+use Rattle.lk_link.specs.declared.plan.PlanPart.{PlanPart}
+use Rattle.lk_link.specs.declared.plan.PlanSection.{PlanSection}
+use Rattle.lk_link.specs.Parts.{all_parts, first_part}
+use Rattle.lk_link.specs.PlanSections.{section_at}
+use Rattle.lk_link.specs.Rules.{is_good_section}
+use Rattle.lk_link.specs.Target.{Target}
+use Rattle.lk_link.specs.WellFormed.{IsEventOrder}
+
+-- what is placed, for which machine, and the bytes of each part, by its number over all sections
+pub record Setting : Type 0 where
+  pub plan : Plan
+  pub target : Target
+  pub sizes : List ℕ
+
+-- the machine at which load segments start so
+abbrev pub target_of : (ℕ → ℕ → ℕ → ℕ) → Target
+target_of segment_start = record { segment_start = segment_start }
+
+-- the setting of a plan, a machine and the parts' bytes
+abbrev pub setting_of : Plan → Target → List ℕ → Setting
+setting_of plan target sizes = record { plan = plan; target = target; sizes = sizes }
+
+-- the bytes of the part with this number
+abbrev pub size_at : List ℕ → ℕ → ℕ
+size_at sizes p = slice_index sizes p
+
+-- whether the part with this number has bytes
+abbrev pub has_bytes : List ℕ → ℕ → Bool
+has_bytes sizes p = nat_lt 0 (size_at sizes p)
+
+-- the part with this number over all sections
+abbrev pub part_at : List PlanSection → ℕ → PlanPart
+part_at sections p = slice_index_or (all_parts sections) p (record { alignment = 1; packed = false })
+
+-- how many parts a section has
+abbrev pub part_count : List PlanSection → ℕ → ℕ
+part_count sections s = length (section_at sections s).parts
+
+-- the number, over all sections, of the part with this place in its section
+abbrev pub part_number : List PlanSection → ℕ → ℕ → ℕ
+part_number sections s j = first_part sections s + j
+
+-- events in order, good sections, and a size for each part
+pub record IsReady (setting : Setting) : Type 0 where
+  pub events : IsEventOrder setting.plan
+  pub sections : list_all (is_good_section setting.plan.sections) setting.plan.sections ≡ true
+  pub sizes : length setting.sizes ≡ length (all_parts setting.plan.sections)

@@ -1,0 +1,152 @@
+-- The placement, computed from front to back. Contracts of private functions speak of it; that it is the placement that
+-- `Placement` defines is proved by lemmas.
+use Rattle.std.specs.Prelude.{◌≡◌, ℕ, zero, suc, ◌+◌, ◌-◌, ◌==◌, ◌&&◌, Bool, true, ◌<◌, if◌then◌else◌, List, length, nat_le, nat_lt, slice_get, Option, Some, None, Result, Ok, Err}
+use Rattle.std.specs.Int.{next_multiple_of}
+use Rattle.lk_link.specs.declared.plan.OrderEvent.{OrderEvent}
+use Rattle.lk_link.specs.Inside.{placed_section}
+use Rattle.lk_link.specs.Parts.{first_part}
+use Rattle.lk_link.specs.PlanSections.{is_file_backed}
+use Rattle.lk_place.specs.declared.cursors.Cursors.{Cursors}
+use Rattle.lk_place.specs.declared.error.PlaceError.{PlaceError}
+use Rattle.lk_place.specs.declared.error.Refusal.{Refusal}
+use Rattle.lk_place.specs.declared.placement.Placing.{Placing}
+use Rattle.lk_place.specs.declared.setting.Walk.{Walk}
+use Rattle.lk_place.specs.Alignments.{place_alignment, section_alignment}
+use Rattle.lk_place.specs.Placement.{end_behind, first_state, first_walked, is_below, is_walked, left_at, moved, numbered, overflow_at, refusal_of, resting, section_end, section_start, walk_alignment}
+use Rattle.lk_place.specs.Records.{Record, nowhere, record_at}
+use Rattle.lk_place.specs.Setting.{Setting, part_at, part_count, setting_of, size_at, target_of}
+
+-- the setting of a walk
+abbrev pub setting_in : {P : Type 0} → (P → ℕ → ℕ → ℕ → ℕ) → Walk P → Setting
+setting_in start walk = setting_of walk.plan.now (target_of (start walk.platform.now)) walk.sizes.now
+
+-- the refusal, if there is one, else what there is
+abbrev pub unless : {X E : Type 0} → Option E → X → Result X E
+unless None x = Ok x
+unless (Some e) x = Err e
+
+-- cursors, unless they are past 2^64 - 1
+abbrev pub fitting : Cursors → Result Cursors Refusal
+fitting c = unless (overflow_at c) c
+
+-- each record is made what f makes of it, by its number
+abbrev pub Rewrites : (ℕ → Record → Record) → List Record → List Record → Type 0
+Rewrites f old new = (p : ℕ) → record_at new p ≡ f p (record_at old p)
+
+-- these are the place alignments of the segments
+abbrev pub ArePlaces : Setting → List ℕ → Type 0
+ArePlaces setting places = (i : ℕ) → i < length setting.plan.segments → slice_get places i ≡ Some (place_alignment setting i)
+
+-- ---- one section
+
+-- the record of a part that is placed from the cursors on
+unfoldable pub placed_at : Bool → ℕ → ℕ → Cursors → Record
+placed_at backed alignment size from = record {
+  file_size = if backed then size else 0;
+  mem_size = size;
+  alignment = alignment;
+  file_offset = if backed then next_multiple_of from.file alignment else from.file;
+  mem_offset = next_multiple_of from.memory alignment;
+  lma_offset = next_multiple_of from.memory alignment;
+}
+
+-- the record of the first walked part of a section whose parts begin here
+abbrev pub first_record : Setting → ℕ → Cursors → Record
+first_record setting s begin =
+    placed_at (is_file_backed setting.plan s) (section_alignment setting s) (size_at setting.sizes (first_walked setting s)) begin
+
+-- what is told of a section that is placed is so
+pub record IsPlacing (setting : Setting) (placing : Placing) : Type 0 where
+  pub backed : placing.backed ≡ is_file_backed setting.plan placing.section
+  pub greatest : placing.greatest ≡ section_alignment setting placing.section
+  pub walked : placing.walked ≡ first_walked setting placing.section
+  pub first : placing.first ≡ first_record setting placing.section placing.begin
+  pub below : is_below placing.begin ≡ true
+
+-- the record of part p of a section whose parts begin here, behind the cursors
+abbrev pub next_record : Setting → ℕ → Cursors → ℕ → Cursors → Record
+next_record setting s begin p from =
+    if is_walked setting s p then placed_at (is_file_backed setting.plan s) (walk_alignment setting s p) (size_at setting.sizes p) from
+    else resting (first_record setting s begin) (part_at setting.plan.sections p).alignment
+
+-- the same, behind the parts before it
+abbrev pub record_by : Setting → ℕ → Cursors → ℕ → Record
+record_by setting s begin p = next_record setting s begin p (end_behind setting s begin (p - first_part setting.plan.sections s))
+
+-- the record that part q gets behind the cursors, and no other
+abbrev pub one_written : Setting → ℕ → Cursors → ℕ → Cursors → ℕ → Record → Record
+one_written setting s begin q from p old = if p == q then next_record setting s begin q from else old
+
+-- whether part p is one of n from the first on
+abbrev pub is_among : ℕ → ℕ → ℕ → Bool
+is_among first n p = nat_le first p && nat_lt p (first + n)
+
+-- what the parts of a section that begin here make of the record of part p
+abbrev pub all_written : Setting → ℕ → Cursors → ℕ → Record → Record
+all_written setting s begin p old =
+    if is_among (first_part setting.plan.sections s) (part_count setting.plan.sections s) p then record_by setting s begin p else old
+
+-- what a section makes of it
+unfoldable pub written : Setting → Option ℕ → Cursors → ℕ → Record → Record
+written setting None from p old = old
+written setting (Some s) from p old = all_written setting s (section_start setting s from) p old
+
+-- the cursors behind it
+unfoldable pub left_behind : Setting → Option ℕ → Cursors → Cursors
+left_behind setting None from = from
+left_behind setting (Some s) from = left_at setting s from (section_end setting s (section_start setting s from))
+
+-- ---- one event
+
+-- the cursors after a move, those before it where it is refused
+abbrev pub after_move : Cursors → Result Cursors Refusal → Cursors
+after_move from (Ok entered) = entered
+after_move from (Err refusal) = from
+
+-- the cursors behind what an event does before it places a section
+abbrev pub entered : Setting → OrderEvent → Cursors → Cursors
+entered setting e from = after_move from (moved setting e from)
+
+-- the cursors behind an event
+abbrev pub stepped : Setting → Option OrderEvent → Cursors → Cursors
+stepped setting None from = from
+stepped setting (Some e) from = left_behind setting (placed_section e) (entered setting e from)
+
+-- what an event makes of the record of part p
+abbrev pub recorded : Setting → Option OrderEvent → Cursors → ℕ → Record → Record
+recorded setting None from p old = old
+recorded setting (Some e) from p old = written setting (placed_section e) (entered setting e from) p old
+
+-- ---- all events
+
+-- the cursors behind the first k events
+unfoldable pub cursors_after : Setting → ℕ → Cursors
+cursors_after setting zero = first_state setting
+cursors_after setting (suc k) = stepped setting (slice_get setting.plan.events k) (cursors_after setting k)
+
+-- the record of part p behind the first k events
+unfoldable pub record_after : Setting → ℕ → ℕ → Record
+record_after setting zero p = nowhere
+record_after setting (suc k) p = recorded setting (slice_get setting.plan.events k) (cursors_after setting k) p (record_after setting k p)
+
+-- none of the first n events is refused
+abbrev pub AllPass : Setting → ℕ → Type 0
+AllPass setting n = (k : ℕ) → k < n → refusal_of setting k (slice_get setting.plan.events k) (cursors_after setting k) ≡ None
+
+-- an event is refused by this, and none before it
+pub record StopsBy (setting : Setting) (e : PlaceError) : Type 0 where
+  pub k : ℕ
+  pub before : AllPass setting k
+  pub here : refusal_of setting k (slice_get setting.plan.events k) (cursors_after setting k) ≡ Some e
+
+-- the records behind all events, or the first refusal
+abbrev pub GivesWalked : Setting → Result (Unit {0}) PlaceError → List Record → Type 0
+GivesWalked setting (Ok done) records =
+    let n = length setting.plan.events in
+    AllPass setting n × ((p : ℕ) → record_at records p ≡ record_after setting n p)
+GivesWalked setting (Err e) records = StopsBy setting e
+
+-- a refusal, told with the event's number
+abbrev pub told : Result Cursors Refusal → ℕ → Result Cursors PlaceError
+told (Ok to) k = Ok to
+told (Err refusal) k = Err (numbered k refusal)

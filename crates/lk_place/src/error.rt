@@ -1,0 +1,44 @@
+//! Why a link isn't placed.
+
+use lk_link::fault::Place;
+use lk_link::ids::OutputSectionId;
+use std::alloc::{AllocError, AllocFailed};
+
+/// Why an event isn't carried out, whichever event it is.
+#[derive(Clone, Copy, Debug, PartialEq, Eq)]
+pub enum Refusal {
+    /// A cursor or an end passes 2^64 - 1.
+    Overflow,
+}
+
+/// Why a link isn't placed: the first refusal, or want of memory.
+#[derive(Clone, Copy, Debug, PartialEq, Eq)]
+pub enum PlaceError {
+    NoMemory,
+    /// An address or an offset of the file passes 2^64 - 1, first at this event.
+    AddressOverflow { place: Place },
+    /// A section with memory, which is emitted or has bytes, stands in no segment; the first in the order of events.
+    SectionOutsideSegments { section: OutputSectionId },
+}
+
+impl From<AllocError> for PlaceError {
+    ghost use Rattle.std.specs.Prelude.{◌≡◌};
+    ghost use Rattle.lk_place.specs.declared.error.PlaceError.TheVariants.{NoMemory};
+
+    ghost from_gives = { λ _ e. e ≡ NoMemory };
+
+    fn from(_error: AllocError) -> PlaceError {
+        PlaceError::NoMemory
+    }
+}
+
+impl<T: Drop> From<AllocFailed<T>> for PlaceError {
+    ghost use Rattle.std.specs.Prelude.{◌≡◌};
+    ghost use Rattle.lk_place.specs.declared.error.PlaceError.TheVariants.{NoMemory};
+
+    ghost from_gives = { λ _ e. e ≡ NoMemory };
+
+    fn from(_error: AllocFailed<T>) -> PlaceError {
+        PlaceError::NoMemory
+    }
+}

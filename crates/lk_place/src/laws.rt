@@ -1,0 +1,57 @@
+//! Laws of placement, each proved as the contract of a function that does nothing.
+
+ghost use Rattle.lk_place.specs.Laws.{FileRangesAreDisjoint, MemoryRangesAreDisjoint, OrdinaryPlansArePlain, PlainMemoryIsCongruent, PlainMemoryIsDisjoint, RecordsKeepAlignments};
+ghost use Rattle.lk_place.specs.PlacementLaws.{PartsTakeTheirBytes, PlacementExists, PlacementIsOne, RefusedExactlyPast};
+
+/// A law: there is a placement of each plan with its events in order and good sections, up to the first refused event.
+pub fn placement_exists()
+    ensures { PlacementExists }
+{}
+
+/// A law: there is one placement alone.
+pub fn placement_is_one()
+    ensures { PlacementIsOne }
+{}
+
+/// A law: a section that is placed from some cursors on is refused there exactly where one of its parts ends past 2^64 - 1.
+pub fn refused_exactly_past()
+    ensures { RefusedExactlyPast }
+{}
+
+/// A law: where no event is refused, the record of each part takes exactly the part's bytes in memory.
+pub fn parts_take_their_bytes()
+    ensures { PartsTakeTheirBytes }
+{}
+
+/// A law: whatever the plan, no two parts share a byte of the file, also where an event is refused.
+pub fn file_ranges_are_disjoint()
+    ensures { FileRangesAreDisjoint }
+{}
+
+/// A law: whatever the plan, no two parts of sections that have memory share an address, also where an event is refused.
+pub fn memory_ranges_are_disjoint()
+    ensures { MemoryRangesAreDisjoint }
+{}
+
+/// A law: under a plain plan, no two parts of sections that have memory share an address.
+pub fn plain_memory_is_disjoint()
+    ensures { PlainMemoryIsDisjoint }
+{}
+
+/// A law: under a plain plan, a part with bytes in the file, inside a load segment, starts at the same place in memory and in
+/// the file, modulo the segment's place alignment.
+pub fn plain_memory_is_congruent()
+    ensures { PlainMemoryIsCongruent }
+{}
+
+/// A law: where no event is refused, a section's record has the greatest alignment of the section, and the records of the
+/// sections inside a segment give its place alignment.
+pub fn records_keep_alignments()
+    ensures { RecordsKeepAlignments }
+{}
+
+/// A law: a plan with one load segment is plain, if its events are in order and place sections alone, and its sections have
+/// memory and take bytes of the file.
+pub fn ordinary_plans_are_plain()
+    ensures { OrdinaryPlansArePlain }
+{}

@@ -1,0 +1,23 @@
+//! Where parts, output sections and segments stand in the file and in memory.
+#![tactic(auto)]
+
+pub mod alignments;
+pub mod cursors;
+pub mod error;
+pub mod hulls;
+pub mod laws;
+mod placement;
+pub mod plain;
+pub mod record;
+pub mod segments;
+mod setting;
+pub mod walk;
+
+pub use crate::alignments::compute_segment_alignments;
+pub use crate::cursors::Cursors;
+pub use crate::error::{PlaceError, Refusal};
+pub use crate::hulls::layout_section_from_part_layouts;
+pub use crate::plain::is_plain;
+pub use crate::record::OutputRecordLayout;
+pub use crate::segments::{SegmentLayout, compute_segment_layout};
+pub use crate::walk::{Placed, compute_layout_sections};

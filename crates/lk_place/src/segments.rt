@@ -1,0 +1,266 @@
+//! What the active segments span, and the refusal of a section that stands in none.
+//!
+//! A segment spans the sections inside it that count: those with bytes, and those without whose primary is emitted. Before
+//! that, each section with memory that isn't skipped must stand in some segment; marks, set once for each section inside a
+//! segment, say which do. Takes time for each event and each section inside each of the at most 64 segments.
+
+ghost use Rattle.std.specs.Prelude.{◌≡◌, ◌==◌, ◌||◌, ◌<◌, ◌≤◌, ℕ, false, None, All, IfErr, IfOk, OnOk, filter, length, map, vec_len};
+ghost use Rattle.std.specs.List.{list_any, slice_index_or};
+ghost use Rattle.lk_link.specs.Inside.{segment_insides};
+ghost use Rattle.lk_link.specs.WellFormed.{IsInRange, IsWellFormed};
+ghost use Rattle.lk_place.specs.Records.{record_at};
+ghost use Rattle.lk_place.specs.Segments.{Refuses, counts, first_outside, found_outside, hull, is_marked, is_skipped, may_stand_outside, outside_refusal, segment_layouts, segment_record, stack_record, stands_in};
+
+use crate::error::PlaceError;
+use crate::hulls::{join, nothing};
+use crate::record::OutputRecordLayout;
+use lk_link::alignment::Alignment;
+use lk_link::ids::{OutputSectionId, SegmentId};
+use lk_link::link::LinkInput;
+use lk_link::list::List;
+use lk_link::plan::{OrderEvent, Plan};
+use std::alloc::{AllocError, Global};
+
+/// An active segment, with what it spans (libwild: `SegmentLayout`).
+#[derive(Clone, Copy, Debug, PartialEq, Eq)]
+pub struct SegmentLayout {
+    pub id: SegmentId,
+    pub sizes: OutputRecordLayout,
+}
+
+/// The mark of a section; none where there is no such section.
+fn is_marked(marks: &[bool], section: OutputSectionId) -> bool
+    ensures { result ≡ is_marked marks.now section }
+{
+    match marks.get(section.as_usize()) {
+        Some(mark) => *mark,
+        None => false,
+    }
+}
+
+/// Whether a section is skipped: without bytes, and its primary isn't emitted.
+fn is_skipped(
+    plan: &Plan,
+    records: &[OutputRecordLayout],
+    emitted: &[bool],
+    section: OutputSectionId,
+) -> bool
+    requires { section < length records.now }
+    ensures { result ≡ is_skipped plan.now records.now emitted.now section }
+{
+    let placed = &records[section.as_usize()];
+    placed.mem_size == 0 && !is_marked(emitted, plan.sections.primary_of(section))
+}
+
+/// Whether a section inside a segment counts there.
+fn counts(
+    plan: &Plan,
+    records: &[OutputRecordLayout],
+    emitted: &[bool],
+    segment: SegmentId,
+    section: OutputSectionId,
+) -> bool
+    requires in_range { section < length records.now }
+    requires there { segment < length plan.now.segments }
+    ensures { result ≡ counts plan.now records.now emitted.now segment section }
+{
+    let kind = plan.segments.as_slice()[segment.as_usize()].kind;
+    !is_skipped(plan, records, emitted, section)
+        && (kind.is_tls() || !plan.is_zero_fill_thread_local(section))
+}
+
+/// What reaches over the sections inside a segment that count.
+fn span_inside(
+    plan: &Plan,
+    records: &[OutputRecordLayout],
+    emitted: &[bool],
+    segment: SegmentId,
+    inside: &[OutputSectionId],
+) -> OutputRecordLayout
+    requires in_range { All (λ s. s < length records.now) inside.now }
+    requires there { segment < length plan.now.segments }
+    ensures { result ≡ hull (map (record_at records.now) (filter (counts plan.now records.now emitted.now segment) inside.now)) }
+{
+    let mut all = None;
+    for section in inside {
+        if counts(plan, records, emitted, segment, *section) {
+            all = join(all, &records[section.as_usize()]);
+        }
+    }
+    all.unwrap_or(nothing())
+}
+
+/// The stack of this many bytes.
+fn stack_of(size: u64) -> OutputRecordLayout
+    ensures { result ≡ stack_record size }
+{
+    OutputRecordLayout {
+        file_size: 0,
+        mem_size: size,
+        alignment: Alignment::one(),
+        file_offset: 0,
+        mem_offset: 0,
+        lma_offset: 0,
+    }
+}
+
+/// What a segment spans: the stack of a stack segment, else the sections inside that count.
+fn span_segment(
+    link: &LinkInput,
+    records: &[OutputRecordLayout],
+    emitted: &[bool],
+    insides: &[List<OutputSectionId>],
+    segment: SegmentId,
+) -> OutputRecordLayout
+    requires in_range { All (λ inside. All (λ s. s < length records.now) inside) insides.now }
+    requires insides { insides.now ≡ segment_insides link.now.plan }
+    requires there { segment < length link.now.plan.segments }
+    ensures { result ≡ segment_record link.now.plan link.now.options.stack records.now emitted.now segment }
+{
+    let number = segment.as_usize();
+    if link.plan.segments.as_slice()[number].kind.is_stack() {
+        stack_of(link.options.stack)
+    } else {
+        span_inside(
+            &link.plan,
+            records,
+            emitted,
+            segment,
+            insides[number].as_slice(),
+        )
+    }
+}
+
+/// The layouts of these segments, with these sections inside each of all.
+fn span_segments(
+    alloc: Global,
+    link: &LinkInput,
+    records: &[OutputRecordLayout],
+    emitted: &[bool],
+    insides: &[List<OutputSectionId>],
+    active: &[SegmentId],
+) -> Result<Vec<SegmentLayout>, AllocError>
+    requires in_range { All (λ inside. All (λ s. s < length records.now) inside) insides.now }
+    requires insides { insides.now ≡ segment_insides link.now.plan }
+    requires there { All (λ i. i < length link.now.plan.segments) active.now }
+    ensures { IfOk result (λ all. all.items ≡ segment_layouts link.now.plan link.now.options.stack records.now emitted.now active.now) }
+{
+    let mut all = Vec::with_capacity(alloc, active.len())?;
+    for segment in active {
+        let sizes = span_segment(link, records, emitted, insides, *segment);
+        all.push(SegmentLayout {
+            id: *segment,
+            sizes,
+        })?;
+    }
+    Ok(all)
+}
+
+/// Sets the marks of some sections.
+fn mark_inside(marks: &mut [bool], inside: &[OutputSectionId])
+    requires { All (λ s. s < length marks.old) inside.now }
+    ensures { (s : ℕ) → s < length marks.old
+        → slice_index_or marks.new s false ≡ (slice_index_or marks.old s false || list_any (λ t. t == s) inside.now) }
+{
+    for section in inside {
+        marks[section.as_usize()] = true;
+    }
+}
+
+/// For each section, whether it stands in a segment.
+fn mark_standing(
+    alloc: Global,
+    sections: usize,
+    insides: &[List<OutputSectionId>],
+) -> Result<Vec<bool>, AllocError>
+    requires { All (λ inside. All (λ s. s < sections) inside) insides.now }
+    ensures count { IfOk result (λ marks. vec_len marks ≡ sections) }
+    ensures marks { IfOk result (λ marks. (s : ℕ) → s < sections → slice_index_or marks.items s false ≡ stands_in insides.now s) }
+{
+    let mut marks = vec![in alloc; false; sections]?;
+    for inside in insides {
+        mark_inside(marks.as_mut_slice(), inside.as_slice());
+    }
+    Ok(marks)
+}
+
+/// The first section, in the order of events, that isn't skipped, is allocated and stands in no segment.
+fn find_outside(
+    alloc: Global,
+    plan: &Plan,
+    records: &[OutputRecordLayout],
+    emitted: &[bool],
+    insides: &[List<OutputSectionId>],
+) -> Result<Option<OutputSectionId>, AllocError>
+    requires each { length records.now ≡ length plan.now.sections }
+    requires in_range { All (λ inside. All (λ s. s < length records.now) inside) insides.now }
+    requires insides { insides.now ≡ segment_insides plan.now }
+    requires events { All (IsInRange plan.now) plan.now.events }
+    ensures { IfOk result (λ found. found ≡ found_outside plan.now records.now emitted.now) }
+{
+    let standing = mark_standing(alloc, records.len(), insides)?;
+    for event in plan.events.as_slice() {
+        if let OrderEvent::Section(section) = *event {
+            if !is_skipped(plan, records, emitted, section)
+                && plan.is_allocated(section)
+                && !standing[section.as_usize()]
+            {
+                return Ok(Some(section));
+            }
+        }
+    }
+    Ok(None)
+}
+
+/// Whether sections may stand outside the segments: where the program headers are asked for, and in partial output, which
+/// has no segments.
+fn may_stand_outside(link: &LinkInput) -> bool
+    ensures { result ≡ may_stand_outside link.now }
+{
+    link.plan.custom_phdrs || link.options.output.is_partial()
+}
+
+/// The first section, in the order of events, that stands outside the segments and may not.
+fn outside(
+    alloc: Global,
+    link: &LinkInput,
+    records: &[OutputRecordLayout],
+    emitted: &[bool],
+    insides: &[List<OutputSectionId>],
+) -> Result<Option<OutputSectionId>, AllocError>
+    requires each { length records.now ≡ length link.now.plan.sections }
+    requires in_range { All (λ inside. All (λ s. s < length records.now) inside) insides.now }
+    requires insides { insides.now ≡ segment_insides link.now.plan }
+    requires events { All (IsInRange link.now.plan) link.now.plan.events }
+    ensures { IfOk result (λ found. found ≡ first_outside link.now records.now emitted.now) }
+{
+    if may_stand_outside(link) {
+        return Ok(None);
+    }
+    find_outside(alloc, &link.plan, records, emitted, insides)
+}
+
+/// What these segments span, by the records of all output sections and the marks of the emitted ones (libwild:
+/// `compute_segment_layout`). Refuses the first section, in the order of events, that isn't skipped, is allocated and
+/// stands in no segment, unless output is partial or the program headers were asked for.
+pub fn compute_segment_layout(
+    alloc: Global,
+    link: &LinkInput,
+    sections: &[OutputRecordLayout],
+    emitted: &[bool],
+    active: &[SegmentId],
+) -> Result<Vec<SegmentLayout>, PlaceError>
+    requires well_formed { IsWellFormed link.now }
+    requires each { length sections.now ≡ length link.now.plan.sections }
+    requires there { All (λ i. i < length link.now.plan.segments) active.now }
+    ensures layouts { IfOk result (λ all. all.items
+        ≡ segment_layouts link.now.plan link.now.options.stack sections.now emitted.now active.now) }
+    ensures inside { OnOk result (first_outside link.now sections.now emitted.now ≡ None) }
+    ensures refusal { IfErr result (λ e. Refuses e (outside_refusal (first_outside link.now sections.now emitted.now))) }
+{
+    let insides = link.plan.sections_of_segments(alloc)?;
+    match outside(alloc, link, sections, emitted, &insides)? {
+        Some(section) => Err(PlaceError::SectionOutsideSegments { section }),
+        None => Ok(span_segments(alloc, link, sections, emitted, &insides, active)?),
+    }
+}

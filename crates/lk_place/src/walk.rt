@@ -1,0 +1,224 @@
+//! The placement walk over the events of the plan.
+//!
+//! The walk goes through the events once, with a cursor in the file and one in memory. A load segment moves memory to where
+//! the platform lets it begin; a section places its parts from the cursors on and moves them behind the last; nothing else
+//! moves anything. The records go into one table by part number, which the walk is lent, so that it takes no memory. It
+//! ends at the first event with a number past 2^64 - 1.
+
+ghost use Rattle.std.specs.Prelude.{◌≡◌, ◌<◌, ℕ, Some, IfOk, OnOk, length};
+ghost use Rattle.lk_link.specs.Inside.{placed_section};
+ghost use Rattle.lk_link.specs.Parts.{all_parts};
+ghost use Rattle.lk_link.specs.WellFormed.{IsInRange, IsWellFormed};
+ghost use Rattle.lk_place.specs.Alignments.{place_alignment};
+ghost use Rattle.lk_place.specs.Answers.{GivesPlaced};
+ghost use Rattle.lk_place.specs.Placement.{base_of, event_refusal, memory_moved, moved, section_refusal};
+ghost use Rattle.lk_place.specs.Records.{nowhere, record_at};
+ghost use Rattle.lk_place.specs.Setting.{IsReady, setting_of, target_of};
+ghost use Rattle.lk_place.specs.Walk.{ArePlaces, GivesWalked, Rewrites, left_behind, recorded, setting_in, stepped};
+ghost use Rattle.lk_place.specs.Walk.{told, unless, written};
+
+use crate::alignments::compute_segment_alignments;
+use crate::cursors::Cursors;
+use crate::error::{PlaceError, Refusal};
+use crate::hulls::{nothing, span_sections};
+use crate::record::OutputRecordLayout;
+use crate::setting::Walk;
+use lk_link::alignment::Alignment;
+use lk_link::fault::Place;
+use lk_link::ids::SegmentId;
+use lk_link::link::LinkInput;
+use lk_link::list::List;
+use lk_link::plan::OrderEvent;
+use lk_link::platform::Platform;
+use std::alloc::{AllocError, Global};
+
+/// The records of a placed link, by number.
+#[derive(Drop)]
+pub struct Placed {
+    /// Of all parts, numbered over all sections.
+    pub parts: List<OutputRecordLayout>,
+    /// Of all output sections.
+    pub sections: List<OutputRecordLayout>,
+}
+
+impl<P: Platform> Walk<'_, P> {
+    /// The cursors where a load segment begins that is placed by this alignment.
+    #[tactic(auto, using(std::proofs::lemmas::Bool::Decides::nat_tests))]
+    fn begin_load(&self, place: Alignment, from: Cursors) -> Result<Cursors, Refusal>
+        ensures { result ≡ memory_moved from (P.segment_start self.now.platform.now place from.file from.memory) }
+    {
+        match self
+            .platform
+            .align_load_segment_start(place, from.file, from.memory)
+        {
+            Some(memory) => Ok(Cursors {
+                file: from.file,
+                memory,
+            }),
+            None => Err(Refusal::Overflow),
+        }
+    }
+
+    /// The cursors behind the opening of a segment: a load segment begins where the platform lets it, and another moves
+    /// nothing.
+    fn open_segment(
+        &self,
+        place: Alignment,
+        segment: SegmentId,
+        from: Cursors,
+    ) -> Result<Cursors, Refusal>
+        requires place { place ≡ place_alignment (setting_in P.segment_start self.now) segment }
+        requires in_range { segment < length self.now.plan.now.segments }
+        ensures { result ≡ moved (setting_in P.segment_start self.now) (OrderEvent.SegmentStart segment) from }
+    {
+        if self.plan.segments.as_slice()[segment.as_usize()]
+            .kind
+            .is_load()
+        {
+            self.begin_load(place, from)
+        } else {
+            Ok(from)
+        }
+    }
+
+    /// The cursors after what an event does before it places a section.
+    fn enter(
+        &self,
+        places: &[Alignment],
+        event: &OrderEvent,
+        from: Cursors,
+    ) -> Result<Cursors, Refusal>
+        requires places { ArePlaces (setting_in P.segment_start self.now) places.now }
+        requires in_range { IsInRange self.now.plan.now event.now }
+        ensures { result ≡ moved (setting_in P.segment_start self.now) event.now from }
+    {
+        match *event {
+            OrderEvent::SegmentStart(segment) => {
+                self.open_segment(places[segment.as_usize()], segment, from)
+            }
+            _ => Ok(from),
+        }
+    }
+
+    /// Places the section of an event, if it has one, and answers the cursors behind it.
+    #[tactic(auto, unfolding(crate::specs::Walk::written, crate::specs::Walk::left_behind))]
+    fn place(
+        &self,
+        event: &OrderEvent,
+        from: Cursors,
+        records: &mut [OutputRecordLayout],
+    ) -> Result<Cursors, Refusal>
+        requires ready { IsReady (setting_in P.segment_start self.now) }
+        requires in_range { IsInRange self.now.plan.now event.now }
+        requires each { length records.old ≡ length (all_parts self.now.plan.now.sections) }
+        ensures ends { let setting = setting_in P.segment_start self.now in let s = placed_section event.now
+            in result ≡ unless (section_refusal setting s from) (left_behind setting s from) }
+        ensures records { let setting = setting_in P.segment_start self.now
+            in OnOk result (Rewrites (written setting (placed_section event.now) from) records.old records.new) }
+    {
+        match *event {
+            OrderEvent::Section(section) => self.place_section(section, from, records),
+            _ => Ok(from),
+        }
+    }
+
+    /// Carries out an event: it moves the cursors, and then places its section, if it has one. Answers the cursors behind
+    /// it.
+    fn carry_out(
+        &self,
+        places: &[Alignment],
+        event: &OrderEvent,
+        from: Cursors,
+        records: &mut [OutputRecordLayout],
+    ) -> Result<Cursors, Refusal>
+        requires ready { IsReady (setting_in P.segment_start self.now) }
+        requires places { ArePlaces (setting_in P.segment_start self.now) places.now }
+        requires in_range { IsInRange self.now.plan.now event.now }
+        requires each { length records.old ≡ length (all_parts self.now.plan.now.sections) }
+        ensures ends { let setting = setting_in P.segment_start self.now
+            in result ≡ unless (event_refusal setting event.now from) (stepped setting (Some event.now) from) }
+        ensures records { let setting = setting_in P.segment_start self.now
+            in OnOk result (Rewrites (recorded setting (Some event.now) from) records.old records.new) }
+    {
+        let entered = self.enter(places, event, from)?;
+        self.place(event, entered, records)
+    }
+
+    /// Carries out all events in their order, up to the first that is refused. `records` has nothing yet.
+    fn walk(
+        &self,
+        places: &[Alignment],
+        base: u64,
+        records: &mut [OutputRecordLayout],
+    ) -> Result<(), PlaceError>
+        requires ready { IsReady (setting_in P.segment_start self.now) }
+        requires places { ArePlaces (setting_in P.segment_start self.now) places.now }
+        requires starts { base ≡ base_of self.now.plan.now }
+        requires each { length records.old ≡ length (all_parts self.now.plan.now.sections) }
+        requires nothing { (p : ℕ) → record_at records.old p ≡ nowhere }
+        ensures { GivesWalked (setting_in P.segment_start self.now) result records.new }
+    {
+        let mut cursors = Cursors {
+            file: 0,
+            memory: base,
+        };
+        for (number, event) in self.plan.events.as_slice().iter().enumerate() {
+            let end = self.carry_out(places, event, cursors, records);
+            cursors = numbered(end, number)?;
+        }
+        Ok(())
+    }
+}
+
+/// Tells at which event the walk was refused.
+fn numbered(end: Result<Cursors, Refusal>, event: usize) -> Result<Cursors, PlaceError>
+    ensures { result ≡ told end event }
+{
+    match end {
+        Ok(cursors) => Ok(cursors),
+        Err(Refusal::Overflow) => Err(PlaceError::AddressOverflow {
+            place: Place::Event(event),
+        }),
+    }
+}
+
+/// A record of nothing for each part.
+fn unplaced(alloc: Global, parts: usize) -> Result<Vec<OutputRecordLayout>, AllocError>
+    ensures count { IfOk result (λ records. length records.items ≡ parts) }
+    ensures nothing { IfOk result (λ records. (p : ℕ) → record_at records.items p ≡ nowhere) }
+{
+    let mut records = Vec::with_capacity(alloc, parts)?;
+    for _ in 0..parts {
+        records.push(nothing())?;
+    }
+    Ok(records)
+}
+
+/// Where all parts and output sections stand, by the bytes of each part; or the first event with a number past 2^64 - 1.
+/// Offsets and addresses are in bytes (libwild: `compute_layout_sections`).
+pub fn compute_layout_sections<P: Platform>(
+    alloc: Global,
+    link: &LinkInput,
+    sizes: &[u64],
+    platform: &P,
+) -> Result<Placed, PlaceError>
+    requires well_formed { IsWellFormed link.now }
+    requires each { length sizes.now ≡ length (all_parts link.now.plan.sections) }
+    ensures { GivesPlaced (setting_of link.now.plan (target_of (P.segment_start platform.now)) sizes.now) result }
+{
+    let plan = &link.plan;
+    let places = compute_segment_alignments(alloc, link, sizes)?;
+    let mut parts = unplaced(alloc, sizes.len())?;
+    let base = plan.base.as_number().unwrap_or(0);
+    let walk = Walk {
+        plan,
+        sizes,
+        platform,
+    };
+    walk.walk(&places, base, &mut parts)?;
+    let sections = span_sections(alloc, &plan.sections, &parts)?;
+    Ok(Placed {
+        parts: List::from_vec(parts),
+        sections: List::from_vec(sections),
+    })
+}

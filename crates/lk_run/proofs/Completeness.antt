@@ -1,0 +1,139 @@
+-- What the words and the input define is what a run tells.
+use Rattle.std.proofs.Common.{◌≡◌, ◌⊎◌, inl, inr, ℕ, List, length, Option, Some, None, Result, Ok, Err, sym, subst, ap, ◌∙◌, refl, arith}
+use Rattle.std.proofs.lemmas.Bool.{cases_lt}
+use Rattle.std.specs.Prelude.{MatchOption}
+use Rattle.lk_input.specs.declared.read.error.InputError.{InputError}
+use Rattle.lk_input.specs.Reading.{reading_of}
+use Rattle.lk_link.specs.declared.link.LinkInput.{LinkInput}
+use Rattle.lk_link.specs.Target.{small64}
+use Rattle.lk_layout.specs.declared.error.LayoutError.{LayoutError}
+use Rattle.lk_layout.specs.declared.layout.Layout.{Layout}
+use Rattle.lk_layout.specs.Defined.{IsDefined}
+use Rattle.lk_layout.specs.Laws.{DefinedAnswerExists, DefinedAnswerIsOne}
+use Rattle.lk_run.specs.declared.answer.Answer.{Answer}
+use Rattle.lk_run.specs.declared.limit.TheConstants.{LONGEST_INPUT}
+use Rattle.lk_run.specs.declared.status.Status.{Status}
+use Rattle.lk_run.specs.declared.status.Status.TheVariants.{LaidOut, Refused, Usage, Unreadable, ReadFault, WriteFault, NoMemory}
+use Rattle.lk_run.specs.declared.words.Command.{Command}
+use Rattle.lk_run.specs.declared.words.Command.TheVariants as commands
+use Rattle.lk_run.specs.Complete.{IsFaultless, Tells, DescribesLayout}
+use Rattle.lk_run.specs.Device.{SourceState, SinkState}
+use Rattle.lk_run.specs.FaultText.{input_fault_text_of, too_long_text}
+use Rattle.lk_run.specs.Run.{Held, Whole, Longer, Holds, Takes, IsAnswerTo, IsAnswerToReading, Commanded, Uncommanded, Finished, IsRun, told_of}
+use Rattle.lk_run.specs.Words.{IsCommand, command_of, usage}
+use Rattle.lk_run.proofs.Commands.{reads_command}
+
+-- ---- there is an answer
+
+reading_answer : DefinedAnswerExists → (reading : Result LinkInput InputError) → (answer : Answer) × IsAnswerToReading reading answer
+reading_answer law (Ok link) = let found = law small64 link in (told_of link found.0, (found.0, found.1, refl))
+reading_answer law (Err e) = (record { status = Unreadable; text = input_fault_text_of e }, refl)
+
+held_answer : DefinedAnswerExists → (command : Command) (held : Held) → (answer : Answer) × IsAnswerTo command held answer
+held_answer law (commands.Layout workers) (Whole bytes) = reading_answer law (reading_of bytes)
+held_answer law (commands.Layout workers) Longer = (record { status = Unreadable; text = too_long_text }, refl)
+
+-- what bytes are held as
+held_of : (bytes : List ℕ) → (held : Held) × Holds (Some bytes) held
+held_of bytes = elim (cases_lt LONGEST_INPUT (length bytes)) [
+  | inl longer ↦ (Longer, longer)
+  | inr fits ↦ (Whole bytes, (fits, refl))
+]
+
+-- ---- and it is one
+
+one_of_reading : DefinedAnswerIsOne → (reading : Result LinkInput InputError) (a b : Answer) → IsAnswerToReading reading a → IsAnswerToReading reading b → a ≡ b
+one_of_reading law (Ok link) a b p q = p.2 ∙ ap (told_of link) (law small64 link p.0 q.0 p.1 q.1) ∙ sym q.2
+one_of_reading law (Err e) a b p q = p ∙ sym q
+
+one_of_held : DefinedAnswerIsOne → (command : Command) (held : Held) (a b : Answer) → IsAnswerTo command held a → IsAnswerTo command held b → a ≡ b
+one_of_held law (commands.Layout workers) (Whole bytes) a b p q = one_of_reading law (reading_of bytes) a b p q
+one_of_held law (commands.Layout workers) Longer a b p q = p ∙ sym q
+
+one_held : (bytes : List ℕ) (h k : Held) → Holds (Some bytes) h → Holds (Some bytes) k → h ≡ k
+one_held bytes (Whole b) (Whole c) p q = ap Whole (sym p.1 ∙ q.1)
+one_held bytes (Whole b) Longer p q = let same : length bytes ≡ length b = ap length p.1 in absurd (omega (arith, same, p.0, q))
+one_held bytes Longer (Whole c) p q = let same : length bytes ≡ length c = ap length q.1 in absurd (omega (arith, same, q.0, p))
+one_held bytes Longer Longer p q = refl
+
+-- the answer that each run of these words over these bytes tells
+abbrev IsTheAnswer : SourceState → Option Command → Answer → Type 0
+IsTheAnswer from command answer = (to : SourceState) (told : Answer) → MatchOption command (Uncommanded from to told) (λ c. Commanded c from to told) → told ≡ answer
+
+the_answer : DefinedAnswerExists → DefinedAnswerIsOne → (from : SourceState) (bytes : List ℕ) → from.left ≡ Some bytes → (command : Option Command)
+    → (answer : Answer) × IsTheAnswer from command answer
+the_answer every one from bytes left None = (record { status = Usage; text = usage }, λ to told is. is.answers)
+the_answer every one from bytes left (Some command) =
+    let held = held_of bytes in
+    let found = held_answer every command held.0 in (
+      found.0,
+      λ to told is.
+          let holds : Holds (Some bytes) is.held = subst (λ o. Holds o is.held) left is.holds in
+          let same : is.held ≡ held.0 = one_held bytes is.held held.0 holds held.1 in
+          one_of_held one command held.0 told found.0 (subst (λ h. IsAnswerTo command h told) same is.answers) found.1,
+    )
+
+-- a run whose devices didn't fail told it
+finished_tells : (words : List (List ℕ)) (from to : SourceState) (before after : SinkState) (status : Status) (answer : Answer) → IsTheAnswer from (command_of words) answer
+    → Finished words from to before after status → Tells before after status answer
+finished_tells words from to before after status answer is run =
+    let same : run.answer ≡ answer = is to run.answer run.defined in
+    record {
+      same = run.same ∙ ap (λ (a : Answer). a.status) same;
+      written = subst (λ (a : Answer). Takes before after a.text) same run.written;
+    }
+
+tells : (words : List (List ℕ)) (from to : SourceState) (before after : SinkState) (status : Status) (answer : Answer) → IsTheAnswer from (command_of words) answer
+    → IsRun words from to before after status → IsFaultless from to before after → Tells before after status answer ⊎ (status ≡ NoMemory)
+tells words from to before after LaidOut answer is run faultless = inl (finished_tells words from to before after LaidOut answer is run)
+tells words from to before after Refused answer is run faultless = inl (finished_tells words from to before after Refused answer is run)
+tells words from to before after Usage answer is run faultless = inl (finished_tells words from to before after Usage answer is run)
+tells words from to before after Unreadable answer is run faultless = inl (finished_tells words from to before after Unreadable answer is run)
+tells words from to before after ReadFault answer is run faultless = absurd (omega (arith, run.faulty, faultless.source))
+tells words from to before after WriteFault answer is run faultless = absurd (omega (arith, run.written.faulty, faultless.sink))
+tells words from to before after NoMemory answer is run faultless = inr refl
+
+pub runs_tell : DefinedAnswerExists → DefinedAnswerIsOne → (words : List (List ℕ)) (from : SourceState) (bytes : List ℕ) → from.left ≡ Some bytes
+    → (answer : Answer) × ((to : SourceState) (before after : SinkState) (status : Status) → IsRun words from to before after status
+    → IsFaultless from to before after → Tells before after status answer ⊎ (status ≡ NoMemory))
+runs_tell every one words from bytes left =
+    let found = the_answer every one from bytes left (command_of words) in
+    (found.0, λ to before after status run faultless. tells words from to before after status found.0 found.1 run faultless)
+
+-- ---- a description that meets no refusal
+
+told_result : (link : LinkInput) (result : Result Layout LayoutError) (answer : Answer) → ((e : LayoutError) → IsDefined small64 link (Err e) → ⊥)
+    → IsDefined small64 link result → answer ≡ told_of link result → answer.status ≡ LaidOut
+told_result link (Ok layout) answer unrefused defined is = ap (λ (a : Answer). a.status) is
+told_result link (Err e) answer unrefused defined is = absurd (unrefused e defined)
+
+told_laid_out : (command : Command) (bytes : List ℕ) (held : Held) (answer : Answer) → DescribesLayout bytes → Holds (Some bytes) held → IsAnswerTo command held answer
+    → answer.status ≡ LaidOut
+told_laid_out (commands.Layout workers) bytes (Whole b) answer good holds is =
+    let described : reading_of b ≡ Ok good.link = ap reading_of (sym holds.1) ∙ good.described in
+    let answers : IsAnswerToReading (Ok good.link) answer = subst (λ r. IsAnswerToReading r answer) described is in
+    told_result good.link answers.0 answer good.unrefused answers.1 answers.2
+told_laid_out (commands.Layout workers) bytes Longer answer good holds is = absurd (omega (arith, good.fits, holds))
+
+finished_laid_out : (words : List (List ℕ)) (workers : ℕ) (from to : SourceState) (before after : SinkState) (status : Status) (bytes : List ℕ)
+    → IsCommand words (commands.Layout workers) → from.left ≡ Some bytes → DescribesLayout bytes → Finished words from to before after status → status ≡ LaidOut
+finished_laid_out words workers from to before after status bytes asked left good run =
+    let command = reads_command words (commands.Layout workers) asked in
+    let given : Commanded (commands.Layout workers) from to run.answer =
+    subst (λ o. MatchOption o (Uncommanded from to run.answer) (λ c. Commanded c from to run.answer)) command run.defined in
+    let holds : Holds (Some bytes) given.held = subst (λ o. Holds o given.held) left given.holds in
+    run.same ∙ told_laid_out (commands.Layout workers) bytes given.held run.answer good holds given.answers
+
+pub complete : (words : List (List ℕ)) (workers : ℕ) (bytes : List ℕ) (from to : SourceState) (before after : SinkState) (status : Status)
+    → IsCommand words (commands.Layout workers) → from.left ≡ Some bytes → DescribesLayout bytes
+    → IsRun words from to before after status → IsFaultless from to before after → (status ≡ LaidOut) ⊎ (status ≡ NoMemory)
+complete words workers bytes from to before after LaidOut asked left good run faultless = inl refl
+complete words workers bytes from to before after NoMemory asked left good run faultless = inr refl
+complete words workers bytes from to before after Refused asked left good run faultless =
+    inl (finished_laid_out words workers from to before after Refused bytes asked left good run)
+complete words workers bytes from to before after Usage asked left good run faultless =
+    inl (finished_laid_out words workers from to before after Usage bytes asked left good run)
+complete words workers bytes from to before after Unreadable asked left good run faultless =
+    inl (finished_laid_out words workers from to before after Unreadable bytes asked left good run)
+complete words workers bytes from to before after ReadFault asked left good run faultless = absurd (omega (arith, run.faulty, faultless.source))
+complete words workers bytes from to before after WriteFault asked left good run faultless = absurd (omega (arith, run.written.faulty, faultless.sink))

@@ -1,0 +1,18 @@
+//! Laws of the definitions, each proved as the contract of a function that does nothing.
+
+ghost use Rattle.lk_run.specs.Complete.{RunsAreComplete, RunsTellOneAnswer};
+
+use lk_layout::laws::{defined_answer_exists, defined_answer_is_one};
+
+/// A law: every words and bytes have one answer, which each run tells in which no device failed, unless memory ran out.
+pub fn runs_tell_one_answer()
+    ensures { RunsTellOneAnswer }
+{
+    defined_answer_exists();
+    defined_answer_is_one();
+}
+
+/// A law: a description that meets no refusal is laid out by each run in which no device failed, unless memory ran out.
+pub fn runs_are_complete()
+    ensures { RunsAreComplete }
+{}

@@ -1,0 +1,137 @@
+-- What live sections bring to a part, one after the other.
+use Rattle.std.proofs.Common.{◌≡◌, ℕ, ◌+◌, ◌-◌, ◌<◌, ◌==◌, ◌||◌, ◌^◌, Bool, false, cond, min, List, [], ◌∷◌, ◌++◌, length, map, fold, replicate, set, Some, refl, sym, ap, ◌∙◌, subst, arith, inl, inr}
+use Rattle.std.specs.Prelude.{bit_or}
+use Rattle.std.specs.List.{list_any, slice_get, slice_index_or}
+use Rattle.std.proofs.Math.Bool.{or-false}
+use Rattle.std.proofs.lemmas.Bool.Decides.{eqb_tells}
+use Rattle.std.proofs.lemmas.List.{append-nil, map-append, length-replicate, length-set, get_or-replicate, get_or-set_same, get_or-set_other}
+use Rattle.std.proofs.lemmas.List.Elements.{filter-append}
+use Rattle.std.proofs.lemmas.List.Folds.{list_any-append}
+use Rattle.std.proofs.lemmas.List.Sums.{fold-append, sum_by-append}
+use Rattle.std.proofs.lemmas.Option.{get_or_from_slice_get, slice_get_within}
+use Rattle.lk_link.specs.declared.link.LinkInput.{LinkInput}
+use Rattle.lk_link.specs.declared.plan.PlanPart.{PlanPart}
+use Rattle.lk_link.specs.Inputs.{Input}
+use Rattle.lk_link.specs.Parts.{all_parts}
+use Rattle.lk_link.specs.Sizes.{capacity}
+use Rattle.lk_sizes.specs.declared.owners.Total.{Total}
+use Rattle.lk_sizes.specs.Contents.{keeps_empty}
+use Rattle.lk_sizes.specs.Owners.{SectionOwner, bytes_of, into, owner_bytes, part_at}
+
+pub into-append : (p : ℕ) (xs ys : List Input) → into p (xs ++ ys) ≡ into p xs ++ into p ys
+into-append p xs ys = filter-append (λ x. x.section.part == p) xs ys
+
+pub into_here : (p : ℕ) (x : Input) (xs : List Input) → x.section.part ≡ p → into p (x ∷ xs) ≡ x ∷ into p xs
+into_here p x xs h =
+    elim (eqb_tells x.section.part p) [
+      | inl hit ↦ ap (λ b. cond b (x ∷ into p xs) (into p xs)) hit.0
+      | inr miss ↦ absurd (miss.1 h)
+    ]
+
+pub into_other : (p : ℕ) (x : Input) (xs : List Input) → (x.section.part ≡ p → ⊥) → into p (x ∷ xs) ≡ into p xs
+into_other p x xs h =
+    elim (eqb_tells x.section.part p) [
+      | inl hit ↦ absurd (h hit.1)
+      | inr miss ↦ ap (λ b. cond b (x ∷ into p xs) (into p xs)) miss.0
+    ]
+
+-- the bytes that sections take in a part
+abbrev pub bytes_into : PlanPart → ℕ → List Input → ℕ
+bytes_into part p xs = bytes_of part (map SectionOwner (into p xs))
+
+-- whether one of those that go to it keeps its section without bytes
+abbrev pub empty_into : ℕ → List Input → Bool
+empty_into p xs = list_any keeps_empty (into p xs)
+
+-- the attributes of those that go to it
+abbrev pub attrs_into : ℕ → List Input → List ℕ
+attrs_into p xs = map (λ x. x.section.attrs) (into p xs)
+
+pub bytes_into-append : (part : PlanPart) (p : ℕ) (xs ys : List Input) → bytes_into part p (xs ++ ys) ≡ bytes_into part p xs + bytes_into part p ys
+bytes_into-append part p xs ys =
+    ap (λ (zs : List Input). bytes_of part (map SectionOwner zs)) (into-append p xs ys)
+    ∙ ap (bytes_of part) (map-append SectionOwner (into p xs) (into p ys))
+    ∙ sum_by-append (owner_bytes part) (map SectionOwner (into p xs)) (map SectionOwner (into p ys))
+
+pub bytes_into_here : (part : PlanPart) (p : ℕ) (x : Input) → x.section.part ≡ p → bytes_into part p (x ∷ []) ≡ capacity part x.section.size
+bytes_into_here part p x h = ap (λ (zs : List Input). bytes_of part (map SectionOwner zs)) (into_here p x [] h) ∙ omega arith
+
+pub bytes_into_other : (part : PlanPart) (p : ℕ) (x : Input) → (x.section.part ≡ p → ⊥) → bytes_into part p (x ∷ []) ≡ 0
+bytes_into_other part p x h = ap (λ (zs : List Input). bytes_of part (map SectionOwner zs)) (into_other p x [] h)
+
+-- ---- totals
+
+-- what these sections bring to a part; sums are told apart below 2^64
+pub record IsTotal (part : PlanPart) (p : ℕ) (done : List Input) (total : Total) : Type 0 where
+  pub bytes : min total.bytes (2 ^ 64) ≡ min (bytes_into part p done) (2 ^ 64)
+  pub empty : total.has_empty ≡ empty_into p done
+  pub attrs : total.attrs ≡ fold bit_or 0 (attrs_into p done)
+
+-- what they bring to each part
+pub record AreTotals (link : LinkInput) (done : List Input) (totals : List Total) : Type 0 where
+  pub count : length totals ≡ length (all_parts link.plan.sections)
+  pub each : (p : ℕ) (d : Total) → p < length (all_parts link.plan.sections) → IsTotal (part_at link p) p done (slice_index_or totals p d)
+
+pub no_totals : (link : LinkInput) (none : Total) → none ≡ record { bytes = 0; has_empty = false; attrs = 0 }
+    → AreTotals link [] (replicate (length (all_parts link.plan.sections)) none)
+no_totals link none is = record {
+  count = length-replicate (length (all_parts link.plan.sections)) none;
+  each = λ p d below. subst (λ (t : Total). IsTotal (part_at link p) p [] t)
+      (sym (get_or-replicate (length (all_parts link.plan.sections)) p none d below ∙ is))
+      (record { bytes = refl; empty = refl; attrs = refl });
+}
+
+-- with one more section
+one_more : (part : PlanPart) (p : ℕ) (done : List Input) (x : Input) (old new : Total) → x.section.part ≡ p → IsTotal part p done old
+    → new.bytes ≡ min (old.bytes + capacity part x.section.size) (2 ^ 128 - 1) → new.has_empty ≡ (old.has_empty || keeps_empty x) → new.attrs ≡ bit_or old.attrs x.section.attrs
+    → IsTotal part p (done ++ x ∷ []) new
+one_more part p done x old new here h bytes empty attrs =
+    let joined : into p (done ++ x ∷ []) ≡ into p done ++ x ∷ [] = into-append p done (x ∷ []) ∙ ap (λ zs. into p done ++ zs) (into_here p x [] here) in
+    record {
+      bytes = omega (arith, h.bytes, bytes, bytes_into-append part p done (x ∷ []), bytes_into_here part p x here);
+      empty =
+          empty
+          ∙ ap (λ b. b || keeps_empty x) h.empty
+          ∙ sym (ap (list_any keeps_empty) joined ∙ list_any-append keeps_empty (into p done) (x ∷ []) ∙ ap (λ b. empty_into p done || b) (or-false (keeps_empty x)));
+      attrs =
+          attrs
+          ∙ ap (λ (a : ℕ). bit_or a x.section.attrs) h.attrs
+          ∙ sym (ap (λ (zs : List Input). fold bit_or 0 (map (λ (y : Input). y.section.attrs) zs)) joined
+          ∙ ap (fold bit_or 0) (map-append (λ (y : Input). y.section.attrs) (into p done) (x ∷ []))
+          ∙ fold-append bit_or 0 (attrs_into p done) (x.section.attrs ∷ []));
+    }
+
+-- a section that goes elsewhere changes nothing
+one_elsewhere : (part : PlanPart) (p : ℕ) (done : List Input) (x : Input) (total : Total) → (x.section.part ≡ p → ⊥) → IsTotal part p done total → IsTotal part p (done ++ x ∷ []) total
+one_elsewhere part p done x total other h =
+    let same : into p (done ++ x ∷ []) ≡ into p done = into-append p done (x ∷ []) ∙ ap (λ zs. into p done ++ zs) (into_other p x [] other) ∙ append-nil (into p done) in
+    record {
+      bytes = h.bytes ∙ ap (λ (zs : List Input). min (bytes_of part (map SectionOwner zs)) (2 ^ 64)) (sym same);
+      empty = h.empty ∙ ap (list_any keeps_empty) (sym same);
+      attrs = h.attrs ∙ ap (λ (zs : List Input). fold bit_or 0 (map (λ (y : Input). y.section.attrs) zs)) (sym same);
+    }
+
+pub add_one : (link : LinkInput) (done : List Input) (x : Input) (totals : List Total) (at : ℕ) (read d : Total) (part : PlanPart) (new : Total)
+    → AreTotals link done totals → at ≡ x.section.part → at < length (all_parts link.plan.sections) → read ≡ slice_index_or totals at d → part ≡ part_at link at
+    → new.bytes ≡ min (read.bytes + capacity part x.section.size) (2 ^ 128 - 1) → new.has_empty ≡ (read.has_empty || keeps_empty x) → new.attrs ≡ bit_or read.attrs x.section.attrs
+    → AreTotals link (done ++ x ∷ []) (set totals at new)
+add_one link done x totals at read d part new h here within is of bytes empty attrs = record {
+  count = length-set totals at new ∙ h.count;
+  each = λ p e below. elim (eqb_tells at p) [
+    | inl hit ↦ subst (λ (q : ℕ). IsTotal (part_at link q) q (done ++ x ∷ []) (slice_index_or (set totals at new) q e)) hit.1
+        (subst (λ (t : Total). IsTotal (part_at link at) at (done ++ x ∷ []) t) (sym (get_or-set_same totals at new e (omega (arith, h.count))))
+        (one_more (part_at link at) at done x read new (sym here)
+        (subst (λ (t : Total). IsTotal (part_at link at) at done t) (sym is) (h.each at d within))
+        (bytes ∙ ap (λ (q : PlanPart). min (read.bytes + capacity q x.section.size) (2 ^ 128 - 1)) of) empty attrs))
+    | inr miss ↦
+        let other : p ≡ at → ⊥ = λ same. miss.1 (sym same) in
+        subst (λ (t : Total). IsTotal (part_at link p) p (done ++ x ∷ []) t) (sym (get_or-set_other totals at p new e other))
+        (one_elsewhere (part_at link p) p done x (slice_index_or totals p e) (λ goes. miss.1 (here ∙ goes)) (h.each p e below))
+  ];
+}
+
+pub total_at : (link : LinkInput) (done : List Input) (totals : List Total) (p : ℕ) (total : Total) → AreTotals link done totals → slice_get totals p ≡ Some total
+    → IsTotal (part_at link p) p done total
+total_at link done totals p total h there =
+    subst (λ (t : Total). IsTotal (part_at link p) p done t) (get_or_from_slice_get totals p total total there)
+    (h.each p total (omega (arith, h.count, slice_get_within totals p total there)))

@@ -1,0 +1,196 @@
+-- Which sections are emitted, from what the live sections bring to their parts.
+use Rattle.std.proofs.Common.{◌≡◌, ℕ, ◌+◌, ◌<◌, ◌≤◌, ◌==◌, ◌&&◌, ◌||◌, Bool, false, cond, List, [], ◌∷◌, ◌++◌, get_or, length, map, take, Some, None, Option, unwrap_or, refl, sym, ap, ◌∙◌, arith, inl, inr}
+use Rattle.std.specs.Prelude.{bit_or, fold, if◌then◌else◌, nat_lt, not}
+use Rattle.std.specs.List.{enumerate_from, filter, list_any, position_from, range_with_len, slice_get, slice_index_or, slice_range}
+use Rattle.std.proofs.lemmas.Bool.{cases_lt, eqb-true, false_from_ne_true}
+use Rattle.std.proofs.lemmas.Iterator.Adapters.{position_from-zero}
+use Rattle.std.proofs.lemmas.List.{get_or_past, take_more, take_all}
+use Rattle.std.proofs.lemmas.List.Folds.{list_any-append}
+use Rattle.std.proofs.lemmas.List.FromFn.{filter_of_map_range_with_len_more, get_or-enumerate_from, length-enumerate_from}
+use Rattle.std.proofs.lemmas.Option.{slice_get-get_or, slice_get_within}
+use Rattle.std.proofs.Math.Bool.{or-false}
+use Rattle.lk_link.specs.declared.link.LinkInput.{LinkInput}
+use Rattle.lk_link.specs.declared.plan.Plan.{Plan}
+use Rattle.lk_link.specs.declared.plan.PlanSection.{PlanSection}
+use Rattle.lk_link.specs.Inside.{sections_inside}
+use Rattle.lk_link.proofs.GoodLinks.{primary_is_other}
+use Rattle.lk_link.specs.Parts.{all_parts, first_part}
+use Rattle.lk_link.specs.PlanSections.{is_singletons, own_attributes, primary_of, section_at}
+use Rattle.lk_link.specs.SegmentKinds.{is_stack, segment_at}
+use Rattle.lk_link.specs.WellFormed.{IsWellFormed}
+use Rattle.lk_link.proofs.Numbers.{length-made, made_at, made_of_or}
+use Rattle.lk_gc.specs.declared.live.Live.{Live}
+use Rattle.lk_sizes.specs.declared.header.HeaderInfo.{HeaderInfo}
+use Rattle.lk_sizes.specs.declared.owners.PartContents.{PartContents}
+use Rattle.lk_sizes.specs.Attributes.{all_section_attributes, by_section, part_attributes, parts_of, section_attributes}
+use Rattle.lk_sizes.specs.Contents.{contents_of, has_empty, part_contents}
+use Rattle.lk_sizes.specs.Emitted.{active_by, active_segments, can_be_emitted, event_sections, is_active, is_always, is_emitted, is_kept, is_marked, is_partial, keeps_section, output_index, part_keeps}
+use Rattle.lk_sizes.proofs.Fitting.{first_is_size}
+use Rattle.lk_sizes.proofs.Made.{any_map, any_same, filter_alike, made_range, made_same_below, made_whole, map_id, map_map}
+use Rattle.lk_sizes.proofs.SectionParts.{first_part-le, part_range-le}
+
+-- ---- by the contents of the parts
+
+-- the contents of a section's parts
+abbrev pub contents_in : Plan → List PartContents → ℕ → List PartContents
+contents_in plan contents s = slice_range contents (first_part plan.sections s) (first_part plan.sections (s + 1))
+
+abbrev pub attributes_by : Plan → List PartContents → ℕ → ℕ
+attributes_by plan contents s = if is_singletons plan s then 0 else fold bit_or (own_attributes plan s) (map (λ c. c.attrs) (contents_in plan contents s))
+
+abbrev pub kept_by : Plan → List PartContents → ℕ → Bool
+kept_by plan contents s = is_always (section_at plan.sections s).emit || list_any part_keeps (contents_in plan contents s)
+
+abbrev pub left_by : Plan → List Bool → ℕ → Bool
+left_by plan marks s = is_marked marks s && can_be_emitted plan s
+
+contents_are : (link : LinkInput) (live : Live) (s : ℕ) → s < length link.plan.sections
+    → contents_in link.plan (part_contents link live) s ≡ map (contents_of link live) (parts_of link.plan.sections s)
+contents_are link live s below =
+    made_range (contents_of link live) (all_parts link.plan.sections) (first_part link.plan.sections s) (first_part link.plan.sections (s + 1))
+    (part_range-le link.plan.sections s below) (first_part-le link.plan.sections (s + 1))
+
+attributes_are : (link : LinkInput) (live : Live) (s : ℕ) → s < length link.plan.sections → attributes_by link.plan (part_contents link live) s ≡ section_attributes link live s
+attributes_are link live s below =
+    let all : map (λ c. c.attrs) (contents_in link.plan (part_contents link live) s) ≡ map (part_attributes link live) (parts_of link.plan.sections s) =
+    ap (map (λ (c : PartContents). c.attrs)) (contents_are link live s below) ∙ map_map (λ (c : PartContents). c.attrs) (contents_of link live) (parts_of link.plan.sections s) in
+    ap (λ (attrs : List ℕ). cond (is_singletons link.plan s) 0 (fold bit_or (own_attributes link.plan s) attrs)) all
+
+kept_are : (link : LinkInput) (live : Live) (s : ℕ) → s < length link.plan.sections → kept_by link.plan (part_contents link live) s ≡ is_kept link live s
+kept_are link live s below =
+    let parts : List ℕ = parts_of link.plan.sections s in
+    let all : list_any part_keeps (contents_in link.plan (part_contents link live) s) ≡ list_any (keeps_section link live) parts =
+    ap (list_any part_keeps) (contents_are link live s below)
+    ∙ any_map part_keeps (contents_of link live) parts
+    ∙ any_same (λ p. part_keeps (contents_of link live p)) (keeps_section link live) parts (λ p. ap (λ (n : ℕ). nat_lt 0 n || has_empty link live p) (sym (first_is_size link live p))) in
+    ap (λ b. is_always (section_at link.plan.sections s).emit || b) all
+
+-- what a pass over all sections makes, by number
+pub whole : {X Y : Type 0} (f : ℕ → Y) (xs : List X) (n : ℕ) → n ≡ length xs → map f (range_with_len 0 n) ≡ map (λ q. f q.0) (enumerate_from 0 xs)
+whole f xs n h = ap (λ k. map f (range_with_len 0 k)) h ∙ made_whole f xs 0
+
+pub all_attributes : (link : LinkInput) (live : Live) (n : ℕ) → n ≡ length link.plan.sections
+    → map (attributes_by link.plan (part_contents link live)) (range_with_len 0 n) ≡ all_section_attributes link live
+all_attributes link live n h =
+    whole (attributes_by link.plan (part_contents link live)) link.plan.sections n h
+    ∙ made_same_below (attributes_by link.plan (part_contents link live)) (section_attributes link live) link.plan.sections 0 (λ p below. attributes_are link live p (omega (arith, below)))
+
+pub all_kept : (link : LinkInput) (live : Live) (n : ℕ) → n ≡ length link.plan.sections
+    → map (kept_by link.plan (part_contents link live)) (range_with_len 0 n) ≡ by_section (is_kept link live) link
+all_kept link live n h =
+    whole (kept_by link.plan (part_contents link live)) link.plan.sections n h
+    ∙ made_same_below (kept_by link.plan (part_contents link live)) (is_kept link live) link.plan.sections 0 (λ p below. kept_are link live p (omega (arith, below)))
+
+-- ---- primaries
+
+-- the marks that the first sections set, each that of its primary
+abbrev pub ArePrimaries : List PlanSection → List Bool → ℕ → List Bool → Type 0
+ArePrimaries sections kept n marks = (s : ℕ) → s < length sections
+    → is_marked marks s ≡ list_any (λ q. primary_of sections q.0 == s && is_marked kept q.0) (take n (enumerate_from 0 sections))
+
+pub one_primary : (sections : List PlanSection) (kept old new : List Bool) (n at : ℕ) (set : Bool) → ArePrimaries sections kept n old → n < length sections → at ≡ primary_of sections n → set ≡ is_marked kept n
+    → length old ≡ length sections → ((s : ℕ) → s < length old → is_marked new s ≡ (is_marked old s || (at == s && set))) → ArePrimaries sections kept (n + 1) new
+one_primary sections kept old new n at set h within here is count step s below =
+    let test : ℕ × PlanSection → Bool = λ q. primary_of sections q.0 == s && is_marked kept q.0 in
+    let all : List (ℕ × PlanSection) = enumerate_from 0 sections in
+    let none : ℕ × PlanSection = (0, section_at [] 0) in
+    let more = take_more all n none (omega (arith, length-enumerate_from 0 sections)) in
+    let number : (get_or all n none).0 ≡ n = ap (λ (q : ℕ × PlanSection). q.0) (get_or-enumerate_from 0 sections n none within) ∙ omega arith in
+    let last : test (get_or all n none) ≡ (at == s && set) =
+    ap (λ (k : ℕ). primary_of sections k == s && is_marked kept k) number ∙ ap (λ (p : ℕ). p == s && is_marked kept n) (sym here) ∙ ap (λ b. at == s && b) (sym is) in
+    step s (omega (arith, count))
+    ∙ ap (λ b. b || (at == s && set)) (h s below)
+    ∙ sym (ap (list_any test) more ∙ list_any-append test (take n all) (get_or all n none ∷ []) ∙ ap (λ b. list_any test (take n all) || b) (or-false (test (get_or all n none)) ∙ last))
+
+pub primaries_end : (sections : List PlanSection) (kept : List Bool) (n : ℕ) (marks : List Bool) → ArePrimaries sections kept n marks → length sections ≤ n
+    → (s : ℕ) → s < length sections → is_marked marks s ≡ list_any (λ q. primary_of sections q.0 == s && is_marked kept q.0) (enumerate_from 0 sections)
+primaries_end sections kept n marks h past s below =
+    h s below
+    ∙ ap (list_any (λ (q : ℕ × PlanSection). primary_of sections q.0 == s && is_marked kept q.0)) (take_all n (enumerate_from 0 sections) (omega (arith, length-enumerate_from 0 sections)))
+
+-- ---- emitted sections
+
+any_numbered : {X : Type 0} (p q : ℕ → Bool) (xs : List X) (o : ℕ) → ((k : ℕ) → k < o + length xs → p k ≡ q k)
+    → list_any (λ x. p x.0) (enumerate_from o xs) ≡ list_any (λ x. q x.0) (enumerate_from o xs)
+any_numbered p q [] o h = refl
+any_numbered p q (x ∷ xs) o h =
+    ap (λ b. b || list_any (λ y. p y.0) (enumerate_from (o + 1) xs)) (h o (omega arith))
+    ∙ ap (λ b. q o || b) (any_numbered p q xs (o + 1) (λ k below. h k (omega arith)))
+
+pub emitted_are : (link : LinkInput) (live : Live) (kept marks : List Bool) → kept ≡ by_section (is_kept link live) link
+    → ((s : ℕ) → s < length link.plan.sections → is_marked marks s ≡ list_any (λ q. primary_of link.plan.sections q.0 == s && is_marked kept q.0) (enumerate_from 0 link.plan.sections))
+    → map (λ q. left_by link.plan marks q.0) (enumerate_from 0 link.plan.sections) ≡ by_section (is_emitted link live) link
+emitted_are link live kept marks is h =
+    made_same_below (left_by link.plan marks) (is_emitted link live) link.plan.sections 0 (λ s below.
+    let within : s < length link.plan.sections = omega (arith, below) in
+    ap (λ b. b && can_be_emitted link.plan s) (
+    h s within
+    ∙ any_numbered (λ k. primary_of link.plan.sections k == s && is_marked kept k) (λ k. primary_of link.plan.sections k == s && is_kept link live k) link.plan.sections 0
+    (λ k less.
+    let mark : is_marked kept k ≡ is_kept link live k =
+    ap (λ (ms : List Bool). is_marked ms k) is ∙ made_at (is_kept link live) false link.plan.sections 0 k (omega (arith, less)) ∙ ap (is_kept link live) (omega arith) in
+    ap (λ b. primary_of link.plan.sections k == s && b) mark)))
+
+-- a primary is one of the sections
+primary_below : (link : LinkInput) (k : ℕ) → IsWellFormed link → k < length link.plan.sections → primary_of link.plan.sections k < length link.plan.sections
+primary_below link k good below =
+    let sections : List PlanSection = link.plan.sections in
+    let section : PlanSection = section_at sections k in
+    let there : slice_get sections k ≡ Some section = slice_get-get_or sections k (section_at [] 0) below in
+    (elim section.primary as (λ o. section.primary ≡ o → unwrap_or o k < length sections) [
+      | None ↦ λ is. below
+      | Some p ↦ λ is.
+          let primary = (primary_is_other link k p section good there is).1 in
+          slice_get_within sections p primary.0 primary.1
+    ]) refl
+
+none_numbered : {X : Type 0} (p : ℕ → Bool) (xs : List X) (o : ℕ) → ((k : ℕ) → k < o + length xs → p k ≡ false) → list_any (λ x. p x.0) (enumerate_from o xs) ≡ false
+none_numbered p [] o h = refl
+none_numbered p (x ∷ xs) o h = ap (λ b. b || list_any (λ y. p y.0) (enumerate_from (o + 1) xs)) (h o (omega arith)) ∙ none_numbered p xs (o + 1) (λ k below. h k (omega arith))
+
+-- the marks say which sections are emitted, and that others aren't
+pub emitted_at : (link : LinkInput) (live : Live) (emitted : List Bool) (s : ℕ) → IsWellFormed link → emitted ≡ by_section (is_emitted link live) link → is_marked emitted s ≡ is_emitted link live s
+emitted_at link live emitted s good is =
+    let sections : List PlanSection = link.plan.sections in
+    elim (cases_lt s (length sections)) [
+      | inl below ↦ ap (λ (ms : List Bool). is_marked ms s) is ∙ made_at (is_emitted link live) false sections 0 s below ∙ ap (is_emitted link live) (omega arith)
+      | inr past ↦
+          let count : length emitted ≡ length sections = ap length is ∙ length-made (is_emitted link live) sections 0 in
+          let none = none_numbered (λ k. primary_of sections k == s && is_kept link live k) sections 0 (λ k below.
+          let other : (primary_of sections k == s) ≡ false = false_from_ne_true (primary_of sections k == s) (λ same.
+          absurd (omega (arith, eqb-true (primary_of sections k) s same, primary_below link k good (omega (arith, below))))) in
+          ap (λ b. b && is_kept link live k) other) in
+          get_or_past emitted s false (omega (arith, count)) ∙ sym (ap (λ b. b && can_be_emitted link.plan s) none)
+    ]
+
+-- ---- indexes and active segments
+
+pub indexes_are : (link : LinkInput) (live : Live) (emitted : List Bool) (indexes : List (Option ℕ)) → IsWellFormed link → emitted ≡ by_section (is_emitted link live) link → length indexes ≡ length link.plan.sections
+    → ((s : ℕ) → s < length link.plan.sections → slice_index_or indexes s None ≡ position_from (λ t. t == s) 0 (filter (is_marked emitted) (event_sections link.plan.events)))
+    → indexes ≡ by_section (output_index link live) link
+indexes_are link live emitted indexes good is count h =
+    made_of_or (output_index link live) None indexes link.plan.sections count (λ s below.
+    let same : filter (is_marked emitted) (event_sections link.plan.events) ≡ filter (is_emitted link live) (event_sections link.plan.events) =
+    filter_alike (is_marked emitted) (is_emitted link live) (event_sections link.plan.events) (λ t. emitted_at link live emitted t good is) in
+    h s below ∙ ap (position_from (λ t. t == s) 0) same ∙ sym (position_from-zero (λ t. t == s) (filter (is_emitted link live) (event_sections link.plan.events))))
+
+pub active_are : (link : LinkInput) (live : Live) (emitted : List Bool) → IsWellFormed link → emitted ≡ by_section (is_emitted link live) link
+    → filter (active_by link emitted) (map (λ q. q.0) (enumerate_from 0 link.plan.segments)) ≡ active_segments link live
+active_are link live emitted good is =
+    filter_alike (active_by link emitted) (is_active link live) (map (λ q. q.0) (enumerate_from 0 link.plan.segments)) (λ i.
+    ap (λ b. not (is_partial link.options.output) && (link.plan.custom_phdrs || (segment_at link.plan.segments i).always || is_stack (segment_at link.plan.segments i).kind || b))
+    (any_same (is_marked emitted) (is_emitted link live) (sections_inside link.plan.events i) (λ s. emitted_at link live emitted s good is)))
+
+-- one more of the numbers that pass
+pub filter_more : (p : ℕ → Bool) (n : ℕ) → filter p (range_with_len 0 (n + 1)) ≡ filter p (range_with_len 0 n) ++ cond (p n) (n ∷ []) []
+filter_more p n =
+    ap (filter p) (sym (map_id (range_with_len 0 (n + 1))))
+    ∙ filter_of_map_range_with_len_more p (λ k. k) 0 n n (omega arith)
+    ∙ ap (λ zs. filter p zs ++ cond (p n) (n ∷ []) []) (map_id (range_with_len 0 n))
+
+pub all_active : {X : Type 0} (p : ℕ → Bool) (xs : List X) (n : ℕ) → n ≡ length xs → filter p (range_with_len 0 n) ≡ filter p (map (λ q. q.0) (enumerate_from 0 xs))
+all_active p xs n h = ap (filter p) (sym (map_id (range_with_len 0 n)) ∙ whole (λ k. k) xs n h)
+
+pub same_info : (a b : List Bool) (i j : List (Option ℕ)) (s t : List ℕ) → a ≡ b → i ≡ j → s ≡ t
+    → ◌≡◌ {A = HeaderInfo} (record { emitted = a; output_section_indexes = i; active_segment_ids = s }) (record { emitted = b; output_section_indexes = j; active_segment_ids = t })
+same_info a b i j s t e f g = cc

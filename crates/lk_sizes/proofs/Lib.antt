@@ -1,0 +1,12 @@
+pub mod Adding
+pub mod Addressing
+pub mod Emitting
+pub mod Fitting
+pub mod Limited
+pub mod LiveOnes
+pub mod LiveParts
+pub mod Made
+pub mod Overflowing
+pub mod SectionParts
+pub mod Tiling
+pub mod Walking

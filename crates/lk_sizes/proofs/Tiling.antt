@@ -1,0 +1,117 @@
+-- The owners of a part tile it.
+use Rattle.std.proofs.Common.{◌≡◌, ℕ, ◌+◌, ◌<◌, ◌≤◌, suc, zero, List, [], ◌∷◌, map, take, inl, inr, ap, sym, subst, refl, true, false, arith, cond, length}
+use Rattle.std.specs.Int.{◌∣◌, next_multiple_of}
+use Rattle.std.proofs.lemmas.List.{get_or_past}
+use Rattle.std.proofs.lemmas.List.Sums.{sum_by-cons}
+use Rattle.std.proofs.lemmas.Bool.{cases_lt}
+use Rattle.std.proofs.lemmas.Nat.Gcd.{dvd-zero}
+use Rattle.std.proofs.lemmas.Option.{slice_get-get_or}
+use Rattle.std.proofs.Math.Nat.{dvd-add}
+use Rattle.lk_link.specs.declared.link.LinkInput.{LinkInput}
+use Rattle.lk_link.specs.declared.plan.PlanPart.{PlanPart}
+use Rattle.lk_link.specs.Alignments.{is_alignment}
+use Rattle.lk_link.specs.Inputs.{Input}
+use Rattle.lk_link.proofs.GoodLinks.{part_aligned}
+use Rattle.lk_link.specs.Parts.{all_parts}
+use Rattle.lk_link.proofs.Powers.{alignment-pos}
+use Rattle.lk_link.specs.Sizes.{capacity}
+use Rattle.lk_link.proofs.Starts.{next_multiple_is_least}
+use Rattle.lk_link.specs.WellFormed.{IsWellFormed}
+use Rattle.lk_sizes.specs.Owners.{Owner, SectionOwner, live_into, owner_address, owner_bytes, owners_of, bytes_of, part_at}
+use Rattle.lk_sizes.specs.Tiles.{HasByte, IsTiled, OwnersTileTheirPart, OwnersAreAligned}
+
+-- an owner behind the first stands where it stands in the rest, counted from the end of the first
+behind : (start : ℕ) (part : PlanPart) (o : Owner) (os : List Owner) (k : ℕ) → owner_address start part (o ∷ os) (suc k) ≡ owner_address (start + owner_bytes part o) part os k
+behind start part o os k = omega (arith, sum_by-cons (owner_bytes part) o (take k os))
+
+pub whole : (part : PlanPart) (o : Owner) (os : List Owner) → bytes_of part (o ∷ os) ≡ owner_bytes part o + bytes_of part os
+whole part o os = sum_by-cons (owner_bytes part) o os
+
+first : (start : ℕ) (part : PlanPart) (o : Owner) (os : List Owner) (b : ℕ) → HasByte start part (o ∷ os) 0 b → (start ≤ b) × (b < start + owner_bytes part o)
+first start part o os b h =
+    let same : o ≡ h.owner = cc in
+    let bytes : owner_bytes part o ≡ owner_bytes part h.owner = ap (owner_bytes part) same in
+    (omega (arith, h.from), omega (arith, h.below))
+
+later : (start : ℕ) (part : PlanPart) (o : Owner) (os : List Owner) (k b : ℕ) → HasByte start part (o ∷ os) (suc k) b → HasByte (start + owner_bytes part o) part os k b
+later start part o os k b h =
+    let e = behind start part o os k in
+    record { owner = h.owner; there = h.there; from = omega (arith, h.from); below = omega (arith, h.below) }
+
+sooner : (start : ℕ) (part : PlanPart) (o : Owner) (os : List Owner) (k b : ℕ) → HasByte (start + owner_bytes part o) part os k b → HasByte start part (o ∷ os) (suc k) b
+sooner start part o os k b h =
+    let e = behind start part o os k in
+    record { owner = h.owner; there = h.there; from = omega (arith, h.from); below = omega (arith, h.below) }
+
+inside : (start : ℕ) (part : PlanPart) (owners : List Owner) (k b : ℕ) → HasByte start part owners k b → (start ≤ b) × (b < start + bytes_of part owners)
+inside start part [] k b h = let there = h.there in absurd (cc)
+inside start part (o ∷ os) zero b h =
+    let w = whole part o os in
+    let f = first start part o os b h in
+    (f.0, omega (arith, f.1))
+inside start part (o ∷ os) (suc k) b h =
+    let w = whole part o os in
+    let f = inside (start + owner_bytes part o) part os k b (later start part o os k b h) in
+    (omega (arith, f.0), omega (arith, f.1))
+
+covered : (start : ℕ) (part : PlanPart) (owners : List Owner) (b : ℕ) → start ≤ b → b < start + bytes_of part owners → (k : ℕ) × HasByte start part owners k b
+covered start part [] b h k = absurd (omega arith)
+covered start part (o ∷ os) b h k =
+    let w = whole part o os in
+    elim (cases_lt b (start + owner_bytes part o)) [
+      | inl l ↦ (0, record { owner = o; there = refl; from = omega arith; below = omega arith })
+      | inr r ↦
+          let f = covered (start + owner_bytes part o) part os b r (omega arith) in
+          (suc f.0, sooner start part o os f.0 b f.1)
+    ]
+
+apart : (start : ℕ) (part : PlanPart) (owners : List Owner) (j k b : ℕ) → HasByte start part owners j b → HasByte start part owners k b → j ≡ k
+apart start part [] j k b h i = let there = h.there in absurd (cc)
+apart start part (o ∷ os) zero zero b h i = refl
+apart start part (o ∷ os) zero (suc k) b h i =
+    let f = first start part o os b h in
+    let g = inside (start + owner_bytes part o) part os k b (later start part o os k b i) in
+    absurd (omega (arith, f.1, g.0))
+apart start part (o ∷ os) (suc j) zero b h i =
+    let f = first start part o os b i in
+    let g = inside (start + owner_bytes part o) part os j b (later start part o os j b h) in
+    absurd (omega (arith, f.1, g.0))
+apart start part (o ∷ os) (suc j) (suc k) b h i =
+    ap suc (apart (start + owner_bytes part o) part os j k b (later start part o os j b h) (later start part o os k b i))
+
+-- owners tile what they take together
+pub tiles : (start : ℕ) (part : PlanPart) (owners : List Owner) → IsTiled start part owners
+tiles start part owners = record { inside = inside start part owners; covered = covered start part owners; apart = apart start part owners }
+
+pub owners_tile : OwnersTileTheirPart
+owners_tile link live p start = tiles start (part_at link p) (owners_of link live p)
+
+-- ---- alignment
+
+-- each part has an alignment, and so has what stands where there is none
+pub part_is_aligned : (link : LinkInput) (p : ℕ) → IsWellFormed link → is_alignment (part_at link p).alignment ≡ true
+unfolding is_alignment
+part_is_aligned link p h =
+    let parts : List PlanPart = all_parts link.plan.sections in
+    let none : PlanPart = record { alignment = 1; packed = false } in
+    elim (cases_lt p (length parts)) [
+      | inl within ↦ part_aligned link p (part_at link p) h (slice_get-get_or parts p none within)
+      | inr past ↦ ap (λ (q : PlanPart). is_alignment q.alignment) (get_or_past parts p none past)
+    ]
+
+-- a rounded size is a multiple
+rounded : (part : PlanPart) (size : ℕ) → part.packed ≡ false → 0 < part.alignment → part.alignment ∣ capacity part size
+rounded part size h i =
+    let e : capacity part size ≡ next_multiple_of size part.alignment = ap (λ b. cond b size (next_multiple_of size part.alignment)) h in
+    subst (λ (n : ℕ). part.alignment ∣ n) (sym e) (next_multiple_is_least part.alignment size i).multiple
+
+aligned : (part : PlanPart) (xs : List Input) (k : ℕ) → part.packed ≡ false → 0 < part.alignment → part.alignment ∣ bytes_of part (take k (map SectionOwner xs))
+aligned part xs zero h i = dvd-zero part.alignment
+aligned part [] (suc k) h i = dvd-zero part.alignment
+aligned part (x ∷ xs) (suc k) h i =
+    subst (λ (n : ℕ). part.alignment ∣ n) (sym (whole part (SectionOwner x) (take k (map SectionOwner xs))))
+    (dvd-add part.alignment (rounded part x.section.size h i) (aligned part xs k h i))
+
+pub owners_are_aligned : OwnersAreAligned
+owners_are_aligned link live p k good unpacked =
+    aligned (part_at link p) (live_into link live p) k unpacked (alignment-pos (part_at link p).alignment (part_is_aligned link p good))

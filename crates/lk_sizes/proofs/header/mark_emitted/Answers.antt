@@ -1,0 +1,28 @@
+use Rattle.std.proofs.Common.{◌≡◌, map, length, ap, ◌∙◌, arith}
+use Rattle.std.specs.List.{enumerate_from}
+use Rattle.lk_link.proofs.Numbers.{length-made}
+use Rattle.lk_sizes.proofs.Emitting.{emitted_are, left_by}
+use Rattle.lk_sizes.proofs.Limited.{few_sections}
+use Rattle.lk_sizes.proofs.header.mark_emitted.Goals as goal
+
+pub mark_primaries-requires-clause-count : goal.mark_primaries-requires-clause-count
+mark_primaries-requires-clause-count c = ap length c.deref.ensures.value ∙ c.in_ok-kept.ensures.count
+
+pub mark_primaries-requires-clause-few : goal.mark_primaries-requires-clause-few
+mark_primaries-requires-clause-few c = let few = few_sections c.args.link.now c.requires.good in omega arith
+
+pub leave_out-requires-clause-few : goal.leave_out-requires-clause-few
+leave_out-requires-clause-few c = let few = few_sections c.args.link.now c.requires.good in omega arith
+
+pub returns : goal.returns
+returns c =
+    let plan = c.args.link.now.plan in
+    let left : c.in_ok-emitted.emitted.items ≡ map (λ q. left_by plan c.in_ok-marks.marks.items q.0) (enumerate_from 0 plan.sections) =
+    rw c.deref-2.ensures.value at c.in_ok-emitted.ensures in
+    record {
+      count = ap length left ∙ length-made (left_by plan c.in_ok-marks.marks.items) plan.sections 0;
+      emitted = λ live is.
+          left
+          ∙ emitted_are c.args.link.now live c.in_ok-kept.kept.items c.in_ok-marks.marks.items (c.in_ok-kept.ensures.kept live is)
+          (rw c.deref.ensures.value at c.in_ok-marks.ensures.marks);
+    }

@@ -1,0 +1,313 @@
+//! Which output sections are emitted, their indexes in the output, and which segments are active.
+//!
+//! Each step is a pass: which sections are kept, by what the live sections bring to their parts; the marks of secondary
+//! sections move to their primaries, and sections that the plan never emits lose theirs; the marked ones are numbered in
+//! the order in which events place them; a segment is active where the plan asks for it, for the stack, and where an
+//! emitted section stands inside.
+
+ghost use Rattle.std.specs.Prelude.{◌≡◌, ◌==◌, ◌&&◌, ◌||◌, ◌<◌, ◌≤◌, ◌^◌, ◌+◌, ◌++◌, ◌∷◌, [], ℕ, All, Some, None, IfOk, OnOk, filter, if◌then◌else◌, length, map, not, slice_range};
+ghost use Rattle.std.specs.List.{enumerate_from, list_any, position_from, slice_index_or};
+ghost use Rattle.lk_link.specs.Files.{first_some};
+ghost use Rattle.lk_link.specs.Inside.{segment_insides};
+ghost use Rattle.lk_link.specs.Parts.{all_parts, first_part};
+ghost use Rattle.lk_link.specs.PlanSections.{is_singletons, primary_of, section_at};
+ghost use Rattle.lk_link.specs.SegmentKinds.{is_stack};
+ghost use Rattle.lk_link.specs.WellFormed.{IsInRange, IsWellFormed};
+ghost use Rattle.lk_gc.specs.declared.live.Live.{Live};
+ghost use Rattle.lk_sizes.specs.Attributes.{by_section};
+ghost use Rattle.lk_sizes.specs.Contents.{part_contents};
+ghost use Rattle.lk_sizes.specs.Emitted.{active_by, can_be_emitted, event_sections, is_always, is_emitted, is_kept, is_marked, is_never, is_partial, part_keeps};
+ghost use Rattle.lk_sizes.specs.Header.{header_info};
+
+use crate::owners::PartContents;
+use lk_link::{
+    Emit, LinkInput, List, OrderEvent, OutputKind, OutputSectionId, Plan, PlanSections,
+    PlanSegment, SegmentId,
+};
+use std::alloc::{AllocError, Global};
+
+/// Which output sections and segments are told (libwild: `HeaderInfo`).
+#[derive(Drop)]
+pub struct HeaderInfo {
+    /// For each output section whether it is emitted.
+    pub emitted: List<bool>,
+    /// For each output section its index in the output; none where it isn't emitted.
+    pub output_section_indexes: List<Option<u32>>,
+    /// The active segments, in rising order.
+    pub active_segment_ids: List<SegmentId>,
+}
+
+/// What the headers tell, by what the live sections bring to the parts (libwild: `determine_header_sizes`). Looks at each
+/// section and its parts once, and at each event once for the sections and once for each segment.
+pub fn determine_header_sizes(
+    alloc: Global,
+    link: &LinkInput,
+    contents: &[PartContents],
+) -> Result<HeaderInfo, AllocError>
+    requires good { IsWellFormed link.now }
+    requires count { length contents.now ≡ length (all_parts link.now.plan.sections) }
+    ensures { (live : Live) → contents.now ≡ part_contents link.now live → IfOk result (λ header. header ≡ header_info link.now live) }
+{
+    let emitted = mark_emitted(alloc, link, contents)?;
+    let indexes = index_emitted(alloc, &link.plan, &emitted)?;
+    let insides = link.plan.sections_of_segments(alloc)?;
+    let active = find_active(alloc, link, &emitted, &insides)?;
+    Ok(HeaderInfo {
+        emitted: List::from_vec(emitted),
+        output_section_indexes: List::from_vec(indexes),
+        active_segment_ids: List::from_vec(active),
+    })
+}
+
+/// Whether the input sections of an output section stay output sections of their own.
+pub(crate) fn is_singletons(plan: &Plan, section: OutputSectionId) -> bool
+    ensures { result ≡ is_singletons plan.now section }
+{
+    match plan.singletons {
+        Some(singletons) => singletons.as_u32() == section.as_u32(),
+        None => false,
+    }
+}
+
+/// Whether one of these parts keeps its section: by bytes, or by a live section without bytes.
+fn keep_section(parts: &[PartContents]) -> bool
+    ensures { result ≡ list_any part_keeps parts.now }
+{
+    parts.iter().any(|part| part.bytes > 0 || part.has_empty)
+}
+
+/// For each output section, whether it is emitted.
+fn mark_emitted(
+    alloc: Global,
+    link: &LinkInput,
+    contents: &[PartContents],
+) -> Result<Vec<bool>, AllocError>
+    requires good { IsWellFormed link.now }
+    requires count { length contents.now ≡ length (all_parts link.now.plan.sections) }
+    ensures count { IfOk result (λ emitted. length emitted.items ≡ length link.now.plan.sections) }
+    ensures emitted { (live : Live) → contents.now ≡ part_contents link.now live
+        → IfOk result (λ emitted. emitted.items ≡ by_section (is_emitted link.now live) link.now) }
+{
+    let kept = mark_kept(alloc, link, contents)?;
+    let marks = mark_primaries(alloc, &link.plan.sections, &kept)?;
+    let emitted = leave_out(alloc, &link.plan, &marks)?;
+    Ok(emitted)
+}
+
+/// Whether an output section is kept: the plan always emits it, or one of its parts keeps it.
+#[tactic(auto, using(crate::proofs::SectionParts::section_parts_facts))]
+fn is_kept(plan: &Plan, section: usize, contents: &[PartContents]) -> bool
+    requires within { section < length plan.now.sections }
+    requires count { length contents.now ≡ length (all_parts plan.now.sections) }
+    ensures { result ≡ (is_always (section_at plan.now.sections section).emit || list_any part_keeps
+        (slice_range contents.now (first_part plan.now.sections section) (first_part plan.now.sections (section + 1)))) }
+{
+    let (first, behind) = plan.sections.part_range(section);
+    let always = matches!(plan.sections.as_slice()[section].emit, Emit::Always);
+    always || keep_section(&contents[first..behind])
+}
+
+/// For each output section, whether it is kept.
+fn mark_kept(
+    alloc: Global,
+    link: &LinkInput,
+    contents: &[PartContents],
+) -> Result<Vec<bool>, AllocError>
+    requires { length contents.now ≡ length (all_parts link.now.plan.sections) }
+    ensures count { IfOk result (λ kept. length kept.items ≡ length link.now.plan.sections) }
+    ensures kept { (live : Live) → contents.now ≡ part_contents link.now live
+        → IfOk result (λ kept. kept.items ≡ by_section (is_kept link.now live) link.now) }
+{
+    let plan = &link.plan;
+    let mut kept = Vec::with_capacity(alloc, plan.sections.len())?;
+    for number in 0..plan.sections.len() {
+        kept.push(is_kept(plan, number, contents))?;
+    }
+    Ok(kept)
+}
+
+/// For each output section, whether it or one that is secondary to it is kept. A secondary section has no mark of its own.
+fn mark_primaries(
+    alloc: Global,
+    sections: &PlanSections,
+    kept: &[bool],
+) -> Result<Vec<bool>, AllocError>
+    requires count { length kept.now ≡ length sections.now }
+    requires few { length sections.now < 2 ^ 32 }
+    ensures count { IfOk result (λ marks. length marks.items ≡ length sections.now) }
+    ensures marks { IfOk result (λ marks. (s : ℕ) → s < length sections.now
+        → is_marked marks.items s
+        ≡ list_any (λ q. primary_of sections.now q.0 == s && is_marked kept.now q.0) (enumerate_from 0 sections.now)) }
+{
+    let mut marks = vec![in alloc; false; sections.len()]?;
+    for (number, is_kept) in kept.iter().enumerate() {
+        let primary = sections.primary_of(OutputSectionId::from_u32(number as u32));
+        set_mark(&mut marks, primary.as_usize(), *is_kept);
+    }
+    Ok(marks)
+}
+
+/// Sets the mark at this place, if there is one, and if it is to be set.
+fn set_mark(marks: &mut [bool], place: usize, set: bool)
+    ensures { (s : ℕ) → s < length marks.old → is_marked marks.new s ≡ (is_marked marks.old s || (place == s && set)) }
+{
+    if set && place < marks.len() {
+        marks[place] = true;
+    }
+}
+
+/// The marks without those of sections that the plan never emits, and of that of singletons.
+fn leave_out(alloc: Global, plan: &Plan, marks: &[bool]) -> Result<Vec<bool>, AllocError>
+    requires count { length marks.now ≡ length plan.now.sections }
+    requires few { length plan.now.sections < 2 ^ 32 }
+    ensures { IfOk result (λ left. left.items
+        ≡ map (λ q. is_marked marks.now q.0 && can_be_emitted plan.now q.0) (enumerate_from 0 plan.now.sections)) }
+{
+    let mut left = Vec::with_capacity(alloc, marks.len())?;
+    for number in 0..marks.len() {
+        left.push(stays(plan, OutputSectionId::from_u32(number as u32), marks))?;
+    }
+    Ok(left)
+}
+
+/// Whether a section has a mark and can be emitted.
+fn stays(plan: &Plan, section: OutputSectionId, marks: &[bool]) -> bool
+    requires { section < length plan.now.sections }
+    ensures { result ≡ (is_marked marks.now section && can_be_emitted plan.now section) }
+{
+    is_marked(marks, section) && can_be_emitted(plan, section)
+}
+
+/// Whether a section can be emitted: the plan doesn't say never, and it isn't that of singletons.
+fn can_be_emitted(plan: &Plan, section: OutputSectionId) -> bool
+    requires { section < length plan.now.sections }
+    ensures { result ≡ can_be_emitted plan.now section }
+{
+    let emit = plan.sections.as_slice()[section.as_usize()].emit;
+    !is_never(emit) && !is_singletons(plan, section)
+}
+
+/// Whether a section is never emitted.
+fn is_never(emit: Emit) -> bool
+    ensures { result ≡ is_never emit }
+{
+    matches!(emit, Emit::Never)
+}
+
+/// Gives an emitted section its index, if it has none yet.
+#[tactic(auto, unfolding(lk_link::specs::Files::first_some))]
+fn give_index(indexes: &mut [Option<u32>], section: usize, index: u32)
+    requires { section < length indexes.old }
+    ensures { (s : ℕ) → s < length indexes.old → slice_index_or indexes.new s None
+        ≡ (if section == s then first_some (slice_index_or indexes.old s None) (Some index) else slice_index_or indexes.old s None) }
+{
+    if indexes[section].is_none() {
+        indexes[section] = Some(index);
+    }
+}
+
+/// The output indexes of all sections: emitted ones are numbered in the order of events.
+#[tactic(auto, unfolding(lk_link::specs::Files::first_some))]
+fn index_emitted(
+    alloc: Global,
+    plan: &Plan,
+    emitted: &[bool],
+) -> Result<Vec<Option<u32>>, AllocError>
+    requires each { length emitted.now ≡ length plan.now.sections }
+    requires few { length plan.now.events ≤ 262144 }
+    requires events { All (IsInRange plan.now) plan.now.events }
+    ensures count { IfOk result (λ indexes. length indexes.items ≡ length plan.now.sections) }
+    ensures indexes { IfOk result (λ indexes. (s : ℕ) → s < length plan.now.sections → slice_index_or indexes.items s None
+        ≡ position_from (λ t. t == s) 0 (filter (is_marked emitted.now) (event_sections plan.now.events))) }
+{
+    let mut indexes = vec![in alloc; None; emitted.len()]?;
+    let mut next = 0u32;
+    for event in plan.events.as_slice() {
+        if let OrderEvent::Section(section) = *event {
+            if emitted[section.as_usize()] {
+                give_index(&mut indexes, section.as_usize(), next);
+                next += 1;
+            }
+        }
+    }
+    Ok(indexes)
+}
+
+/// Whether a section has a mark.
+fn is_marked(marks: &[bool], section: OutputSectionId) -> bool
+    ensures { result ≡ is_marked marks.now section }
+{
+    match marks.get(section.as_usize()) {
+        Some(mark) => *mark,
+        None => false,
+    }
+}
+
+/// Whether one of these sections has a mark.
+fn any_marked(marks: &[bool], sections: &[OutputSectionId]) -> bool
+    ensures { result ≡ list_any (is_marked marks.now) sections.now }
+{
+    sections.iter().any(|section| is_marked(marks, *section))
+}
+
+/// Whether an object file is made again.
+fn is_partial(output: OutputKind) -> bool
+    ensures { result ≡ is_partial output }
+{
+    matches!(output, OutputKind::Partial)
+}
+
+/// Whether a segment with these sections inside is active.
+fn is_active(
+    link: &LinkInput,
+    segment: &PlanSegment,
+    emitted: &[bool],
+    inside: &[OutputSectionId],
+) -> bool
+    ensures { result ≡ (not (is_partial link.now.options.output)
+        && (link.now.plan.custom_phdrs || segment.now.always || is_stack segment.now.kind || list_any (is_marked emitted.now) inside.now)) }
+{
+    if is_partial(link.options.output) {
+        return false;
+    }
+    link.plan.custom_phdrs
+        || segment.always
+        || segment.kind.is_stack()
+        || any_marked(emitted, inside)
+}
+
+/// Adds a segment, if it is active.
+fn push_active(
+    active: &mut Vec<SegmentId>,
+    is_active: bool,
+    segment: SegmentId,
+) -> Result<(), AllocError>
+    ensures { OnOk result (active.new.items ≡ active.old.items ++ (if is_active then segment ∷ [] else [])) }
+{
+    if is_active {
+        active.push(segment)?;
+    }
+    Ok(())
+}
+
+/// The active segments, in rising order.
+fn find_active(
+    alloc: Global,
+    link: &LinkInput,
+    emitted: &[bool],
+    insides: &[List<OutputSectionId>],
+) -> Result<Vec<SegmentId>, AllocError>
+    requires few { length link.now.plan.segments ≤ 64 }
+    requires insides { insides.now ≡ segment_insides link.now.plan }
+    ensures { IfOk result (λ active. active.items
+        ≡ filter (active_by link.now emitted.now) (map (λ q. q.0) (enumerate_from 0 link.now.plan.segments))) }
+{
+    let segments = link.plan.segments.as_slice();
+    let mut active = Vec::with_capacity(alloc, segments.len())?;
+    for number in 0..segments.len() {
+        let inside = insides[number].as_slice();
+        let is_active = is_active(link, &segments[number], emitted, inside);
+        push_active(&mut active, is_active, SegmentId::from_u32(number as u32))?;
+    }
+    Ok(active)
+}

@@ -1,0 +1,24 @@
+//! Laws on owners and sizes.
+
+ghost use Rattle.lk_sizes.specs.Owners.{FirstSizesAreSizes, LiveSectionsAreOwners};
+ghost use Rattle.lk_sizes.specs.Tiles.{OwnersTileTheirPart, OwnersAreAligned};
+
+/// A law: the sizes that tell which sections are emitted are the sizes of the parts.
+pub fn first_sizes_are_sizes()
+    ensures { FirstSizesAreSizes }
+{}
+
+/// A law: the owners of a part tile it. Each byte of the part has one owner, and no owner reaches out of the part.
+pub fn owners_tile_their_part()
+    ensures { OwnersTileTheirPart }
+{}
+
+/// A law: where a part isn't packed, each owner stands at a multiple of the alignment from the part's start.
+pub fn owners_are_aligned()
+    ensures { OwnersAreAligned }
+{}
+
+/// A law: each live section stands among the owners of its part under its number there.
+pub fn live_sections_are_owners()
+    ensures { LiveSectionsAreOwners }
+{}

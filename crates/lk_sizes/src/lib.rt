@@ -1,0 +1,15 @@
+//! Who takes the bytes of each part, how many they are, and which output sections are emitted.
+#![tactic(auto)]
+
+pub mod addresses;
+pub mod attributes;
+pub mod error;
+pub mod header;
+pub mod laws;
+pub mod owners;
+
+pub use addresses::live_addresses;
+pub use attributes::propagate_section_attributes;
+pub use error::SizeError;
+pub use header::{HeaderInfo, determine_header_sizes};
+pub use owners::{PartContents, part_contents, part_sizes};

@@ -1,0 +1,390 @@
+//! Layouts: what is reported, refused, and not carried yet.
+
+ghost use Rattle.std.specs.Prelude.{◌<◌};
+
+use crate::rows::{Asked, expect_rows};
+use crate::runs::expect_reports;
+use lk_input::read_link;
+use lk_layout::compute::compute;
+use lk_layout::{LayoutError, Small64Arch};
+use lk_link::{Gate, LinkInput, NoGate, Small64};
+use lk_run::report::report_text;
+use std::alloc::Global;
+use std::sync::Wait;
+use std::test::Fail;
+use std::thread::Threads;
+
+/// Descriptions with their reports.
+const REPORTED: &str = r#"# The smallest.
+{"plan":{"page":4096},"groups":[[{"kind":"prelude"}]]}
+layout
+entry -
+end
+
+# Three sections in one segment.
+{"plan":{"page":4096,"base":["num",4096],"sections":[{"name":"A","attrs":1,"parts":[[8,false]]},{"name":"B","attrs":1,"parts":[[1,false]]},{"name":"C","attrs":17,"parts":[[16,false]]}],"segments":[{"kind":"load"}],"events":[["seg",0],["sec",0],["sec",1],["sec",2],["endseg",0]]},"groups":[[{"kind":"prelude"}],[{"kind":"object","name":"a.o","sections":[{"slot":"must","part":0,"size":8},{"slot":"must","part":1,"size":7},{"slot":"must","part":2,"size":16}]}]]}
+layout
+section 0 index 0 mem 0x1000 8 file 0x0 8 align 8 lma 0x1000 attrs 1
+section 1 index 1 mem 0x1008 7 file 0x8 7 align 1 lma 0x1008 attrs 1
+section 2 index 2 mem 0x1010 16 file 0xf 0 align 16 lma 0x1010 attrs 17
+part 0 mem 0x1000 8 file 0x0 8 align 8
+part 1 mem 0x1008 7 file 0x8 7 align 1
+part 2 mem 0x1010 16 file 0xf 0 align 16
+segment 0 mem 0x1000 32 file 0x0 15 align 16
+live 1 0 0 0x1000 8
+live 1 0 1 0x1008 7
+live 1 0 2 0x1010 16
+entry -
+end
+
+# The same with much that changes nothing yet.
+{"options":{"gc":false,"error_objects":false,"error_dynamics":false,"export_all":true,"export_list":["a"],"restrictive":true,"strip_all":true,"discard":"all","strip_names":["b"],"identity":"c","stack":9,"branch_range":4194304,"bucket_limit":1,"merge_group":1},"plan":{"page":4096,"base":["num",4096],"sections":[{"name":"A","attrs":1,"parts":[[8,false]],"top":true},{"name":"B","attrs":1,"parts":[[1,true]],"counters":true},{"name":"C","attrs":17,"parts":[[16,false]],"emit":"auto"}],"segments":[{"kind":"load","always":true}],"events":[["seg",0],["sec",0],["sec",1],["sec",2],["endseg",0]]},"groups":[[{"kind":"prelude","candidates":[]}],[{"kind":"object","name":"a.o","archive":true,"export":true,"check":true,"sections":[{"name":"x","slot":"must","part":0,"size":8},{"slot":"must","part":1,"size":7,"relax":[]},{"slot":"must","part":2,"size":16,"strings":true}]}]]}
+layout
+section 0 index 0 mem 0x1000 8 file 0x0 8 align 8 lma 0x1000 attrs 1
+section 1 index 1 mem 0x1008 7 file 0x8 7 align 1 lma 0x1008 attrs 1
+section 2 index 2 mem 0x1010 16 file 0xf 0 align 16 lma 0x1010 attrs 17
+part 0 mem 0x1000 8 file 0x0 8 align 8
+part 1 mem 0x1008 7 file 0x8 7 align 1
+part 2 mem 0x1010 16 file 0xf 0 align 16
+segment 0 mem 0x1000 32 file 0x0 15 align 16
+live 1 0 0 0x1000 8
+live 1 0 1 0x1008 7
+live 1 0 2 0x1010 16
+entry -
+end
+
+# A second load segment.
+{"plan":{"page":4096,"base":["num",4096],"sections":[{"name":"A","attrs":1,"parts":[[8,false]]},{"name":"B","attrs":1,"parts":[[1,false]]}],"segments":[{"kind":"load"},{"kind":"load"}],"events":[["seg",0],["sec",0],["endseg",0],["seg",1],["sec",1],["endseg",1]]},"groups":[[{"kind":"prelude"}],[{"kind":"object","name":"a.o","sections":[{"slot":"must","part":0,"size":8},{"slot":"must","part":1,"size":7}]}]]}
+layout
+section 0 index 0 mem 0x1000 8 file 0x0 8 align 8 lma 0x1000 attrs 1
+section 1 index 1 mem 0x2008 7 file 0x8 7 align 1 lma 0x2008 attrs 1
+part 0 mem 0x1000 8 file 0x0 8 align 8
+part 1 mem 0x2008 7 file 0x8 7 align 1
+segment 0 mem 0x1000 8 file 0x0 8 align 8
+segment 1 mem 0x2008 7 file 0x8 7 align 1
+live 1 0 0 0x1000 8
+live 1 0 1 0x2008 7
+entry -
+end
+
+# An empty section behind one of a byte: it is aligned at 1, and not at its part's alignment.
+{"plan":{"page":16,"sections":[{"attrs":1,"parts":[[1,false]]},{"attrs":1,"parts":[[64,false]]}],"segments":[{"kind":"load"}],"events":[["seg",0],["sec",0],["sec",1],["endseg",0]]},"groups":[[{"kind":"prelude"}],[{"kind":"object","sections":[{"slot":"must","part":0,"size":1}]}]]}
+layout
+section 0 index 0 mem 0x0 1 file 0x0 1 align 1 lma 0x0 attrs 1
+section 1 index - mem 0x1 0 file 0x1 0 align 1 lma 0x1 attrs 1
+part 0 mem 0x0 1 file 0x0 1 align 1
+part 1 mem 0x1 0 file 0x1 0 align 1
+segment 0 mem 0x0 1 file 0x0 1 align 1
+live 1 0 0 0x0 1
+entry -
+end
+
+# An unallocated section inside a segment: it counts from 0, and the segment's hull begins there.
+{"plan":{"page":16,"sections":[{"attrs":1,"parts":[[1,false]]},{"attrs":0,"parts":[[1,false]]}],"segments":[{"kind":"load"}],"events":[["seg",0],["sec",0],["sec",1],["endseg",0]],"base":["num",4096]},"groups":[[{"kind":"prelude"}],[{"kind":"object","sections":[{"slot":"must","part":0,"size":4},{"slot":"must","part":1,"size":4}]}]]}
+layout
+section 0 index 0 mem 0x1000 4 file 0x0 4 align 1 lma 0x1000 attrs 1
+section 1 index 1 mem 0x0 4 file 0x4 4 align 1 lma 0x0 attrs 0
+part 0 mem 0x1000 4 file 0x0 4 align 1
+part 1 mem 0x0 4 file 0x4 4 align 1
+segment 0 mem 0x0 4100 file 0x0 8 align 1
+live 1 0 0 0x1000 4
+live 1 0 1 0x0 4
+entry -
+end
+
+# An input section as long as memory, but for a byte.
+{"plan":{"page":1,"base":["num",0],"sections":[{"attrs":1,"parts":[[1,false]]}],"segments":[{"kind":"load"}],"events":[["seg",0],["sec",0],["endseg",0]]},"groups":[[{"kind":"prelude"}],[{"kind":"object","sections":[{"slot":"must","size":18446744073709551615}]}]]}
+layout
+section 0 index 0 mem 0x0 18446744073709551615 file 0x0 18446744073709551615 align 1 lma 0x0 attrs 1
+part 0 mem 0x0 18446744073709551615 file 0x0 18446744073709551615 align 1
+segment 0 mem 0x0 18446744073709551615 file 0x0 18446744073709551615 align 1
+live 1 0 0 0x0 18446744073709551615
+entry -
+end
+
+# Sections with an alignment of their own: with bytes
+{"options":{"stack":7},"plan":{"page":16,"sections":[{"attrs":1,"parts":[[1,false]]},{"attrs":1,"align":64,"parts":[[8,false],[1,false]]}],"segments":[{"kind":"load"}],"events":[["seg",0],["sec",0],["sec",1],["endseg",0]]},"groups":[[{"kind":"prelude"}],[{"kind":"object","sections":[{"slot":"must","size":1},{"slot":"must","part":1,"size":8},{"slot":"must","part":2,"size":3}]}]]}
+layout
+section 0 index 0 mem 0x0 1 file 0x0 1 align 1 lma 0x0 attrs 1
+section 1 index 1 mem 0x40 11 file 0x40 11 align 64 lma 0x40 attrs 1
+part 0 mem 0x0 1 file 0x0 1 align 1
+part 1 mem 0x40 8 file 0x40 8 align 64
+part 2 mem 0x48 3 file 0x48 3 align 1
+segment 0 mem 0x0 75 file 0x0 75 align 64
+live 1 0 0 0x0 1
+live 1 0 1 0x40 8
+live 1 0 2 0x48 3
+entry -
+end
+
+# and without.
+{"options":{"stack":7},"plan":{"page":16,"sections":[{"attrs":1,"parts":[[1,false]]},{"attrs":1,"align":64,"parts":[[1,false]]},{"attrs":1,"parts":[[1,false]]}],"segments":[{"kind":"load"}],"events":[["seg",0],["sec",0],["sec",1],["sec",2],["endseg",0]]},"groups":[[{"kind":"prelude"}],[{"kind":"object","sections":[{"slot":"must","size":1},{"slot":"must","part":2,"size":1}]}]]}
+layout
+section 0 index 0 mem 0x0 1 file 0x0 1 align 1 lma 0x0 attrs 1
+section 1 index - mem 0x40 0 file 0x40 0 align 64 lma 0x40 attrs 1
+section 2 index 1 mem 0x40 1 file 0x40 1 align 1 lma 0x40 attrs 1
+part 0 mem 0x0 1 file 0x0 1 align 1
+part 1 mem 0x40 0 file 0x40 0 align 64
+part 2 mem 0x40 1 file 0x40 1 align 1
+segment 0 mem 0x0 65 file 0x0 65 align 1
+live 1 0 0 0x0 1
+live 1 0 1 0x40 1
+entry -
+end
+
+# Input sections whose sizes are rounded up to the part's alignment,
+{"options":{"stack":7},"plan":{"page":16,"sections":[{"attrs":1,"parts":[[8,false]]}],"segments":[{"kind":"load"}],"events":[["seg",0],["sec",0],["endseg",0]]},"groups":[[{"kind":"prelude"}],[{"kind":"object","sections":[{"slot":"must","size":7},{"slot":"must"},{"slot":"must","size":8}]}]]}
+layout
+section 0 index 0 mem 0x0 16 file 0x0 16 align 8 lma 0x0 attrs 1
+part 0 mem 0x0 16 file 0x0 16 align 8
+segment 0 mem 0x0 16 file 0x0 16 align 8
+live 1 0 0 0x0 7
+live 1 0 1 0x8 0
+live 1 0 2 0x8 8
+entry -
+end
+
+# and such as are packed.
+{"options":{"stack":7},"plan":{"page":16,"sections":[{"attrs":1,"parts":[[8,true]]}],"segments":[{"kind":"load"}],"events":[["seg",0],["sec",0],["endseg",0]]},"groups":[[{"kind":"prelude"}],[{"kind":"object","sections":[{"slot":"must","size":7},{"slot":"must","size":8}]}]]}
+layout
+section 0 index 0 mem 0x0 15 file 0x0 15 align 8 lma 0x0 attrs 1
+part 0 mem 0x0 15 file 0x0 15 align 8
+segment 0 mem 0x0 15 file 0x0 15 align 8
+live 1 0 0 0x0 7
+live 1 0 1 0x7 8
+entry -
+end
+
+# A section that is never emitted, with bytes
+{"options":{"stack":7},"plan":{"page":16,"sections":[{"attrs":1,"parts":[[1,false]],"emit":"never"},{"attrs":1,"parts":[[1,false]]}],"segments":[{"kind":"load"}],"events":[["seg",0],["sec",0],["sec",1],["endseg",0]]},"groups":[[{"kind":"prelude"}],[{"kind":"object","sections":[{"slot":"must","size":3},{"slot":"must","part":1,"size":2}]}]]}
+layout
+section 0 index - mem 0x0 3 file 0x0 3 align 1 lma 0x0 attrs 1
+section 1 index 0 mem 0x3 2 file 0x3 2 align 1 lma 0x3 attrs 1
+part 0 mem 0x0 3 file 0x0 3 align 1
+part 1 mem 0x3 2 file 0x3 2 align 1
+segment 0 mem 0x0 5 file 0x0 5 align 1
+live 1 0 0 0x0 3
+live 1 0 1 0x3 2
+entry -
+end
+
+# and without.
+{"options":{"stack":7},"plan":{"page":16,"sections":[{"attrs":1,"parts":[[1,false]],"emit":"never"},{"attrs":1,"parts":[[1,false]]}],"segments":[{"kind":"load"}],"events":[["sec",0],["seg",0],["sec",1],["endseg",0]]},"groups":[[{"kind":"prelude"}],[{"kind":"object","sections":[{"slot":"must"},{"slot":"must","part":1,"size":2}]}]]}
+layout
+section 0 index - mem 0x0 0 file 0x0 0 align 1 lma 0x0 attrs 1
+section 1 index 0 mem 0x0 2 file 0x0 2 align 1 lma 0x0 attrs 1
+part 0 mem 0x0 0 file 0x0 0 align 1
+part 1 mem 0x0 2 file 0x0 2 align 1
+segment 0 mem 0x0 2 file 0x0 2 align 1
+live 1 0 0 0x0 0
+live 1 0 1 0x0 2
+entry -
+end
+
+# One that always is, without bytes.
+{"options":{"stack":7},"plan":{"page":16,"sections":[{"attrs":1,"parts":[[8,false]],"emit":"always"}],"segments":[{"kind":"load"}],"events":[["seg",0],["sec",0],["endseg",0]]},"groups":[[{"kind":"prelude"}],[{"kind":"object","sections":[]}]]}
+layout
+section 0 index 0 mem 0x0 0 file 0x0 0 align 1 lma 0x0 attrs 1
+part 0 mem 0x0 0 file 0x0 0 align 1
+segment 0 mem 0x0 0 file 0x0 0 align 1
+entry -
+end
+
+# One for an input section without bytes.
+{"options":{"stack":7},"plan":{"page":16,"sections":[{"attrs":1,"parts":[[8,false]]}],"segments":[{"kind":"load"}],"events":[["seg",0],["sec",0],["endseg",0]]},"groups":[[{"kind":"prelude"}],[{"kind":"object","sections":[{"slot":"must"}]}]]}
+layout
+section 0 index 0 mem 0x0 0 file 0x0 0 align 1 lma 0x0 attrs 1
+part 0 mem 0x0 0 file 0x0 0 align 1
+segment 0 mem 0x0 0 file 0x0 0 align 1
+live 1 0 0 0x0 0
+entry -
+end
+
+# A stack segment around a section, and one that always is active.
+{"options":{"stack":7},"plan":{"page":16,"sections":[{"attrs":1,"parts":[[64,false]]}],"segments":[{"kind":"stack"},{"kind":"other","always":true}],"events":[["seg",0],["sec",0],["endseg",0],["seg",1],["endseg",1]]},"groups":[[{"kind":"prelude"}],[{"kind":"object","sections":[{"slot":"must","size":3}]}]]}
+layout
+section 0 index 0 mem 0x0 64 file 0x0 64 align 64 lma 0x0 attrs 1
+part 0 mem 0x0 64 file 0x0 64 align 64
+segment 0 mem 0x0 7 file 0x0 0 align 1
+segment 1 mem 0x0 0 file 0x0 0 align 1
+live 1 0 0 0x0 3
+entry -
+end
+
+# One without an emitted section.
+{"options":{"stack":7},"plan":{"page":16,"sections":[{"attrs":1,"parts":[[1,false]],"emit":"never"}],"segments":[{"kind":"other"}],"events":[["seg",0],["sec",0],["endseg",0]]},"groups":[[{"kind":"prelude"}],[{"kind":"object","sections":[{"slot":"must","size":3}]}]]}
+layout
+section 0 index - mem 0x0 3 file 0x0 3 align 1 lma 0x0 attrs 1
+part 0 mem 0x0 3 file 0x0 3 align 1
+live 1 0 0 0x0 3
+entry -
+end
+
+# One that moves no memory.
+{"options":{"stack":7},"plan":{"page":16,"sections":[{"attrs":1,"parts":[[8,false]]},{"attrs":1,"parts":[[1,false]]}],"segments":[{"kind":"load"},{"kind":"other"}],"events":[["seg",0],["sec",0],["endseg",0],["seg",1],["sec",1],["endseg",1]]},"groups":[[{"kind":"prelude"}],[{"kind":"object","sections":[{"slot":"must","size":8},{"slot":"must","part":1,"size":7}]}]]}
+layout
+section 0 index 0 mem 0x0 8 file 0x0 8 align 8 lma 0x0 attrs 1
+section 1 index 1 mem 0x8 7 file 0x8 7 align 1 lma 0x8 attrs 1
+part 0 mem 0x0 8 file 0x0 8 align 8
+part 1 mem 0x8 7 file 0x8 7 align 1
+segment 0 mem 0x0 8 file 0x0 8 align 8
+segment 1 mem 0x8 7 file 0x8 7 align 1
+live 1 0 0 0x0 8
+live 1 0 1 0x8 7
+entry -
+end
+
+# Written data and code in one output section, and written data in another.
+{"options":{"stack":7},"plan":{"page":16,"sections":[{"attrs":1,"parts":[[8,false],[1,false]]},{"attrs":17,"parts":[[1,false]]}],"segments":[{"kind":"load"}],"events":[["seg",0],["sec",0],["sec",1],["endseg",0]]},"groups":[[{"kind":"prelude"}],[{"kind":"object","sections":[{"slot":"must","size":8,"attrs":2},{"slot":"must","part":1,"attrs":4},{"slot":"must","part":2,"size":2,"attrs":2}]}]]}
+layout
+section 0 index 0 mem 0x0 8 file 0x0 8 align 8 lma 0x0 attrs 7
+section 1 index 1 mem 0x8 2 file 0x8 0 align 1 lma 0x8 attrs 19
+part 0 mem 0x0 8 file 0x0 8 align 8
+part 2 mem 0x8 2 file 0x8 0 align 1
+segment 0 mem 0x0 10 file 0x0 8 align 8
+live 1 0 0 0x0 8
+live 1 0 1 0x0 0
+live 1 0 2 0x8 2
+entry -
+end"#;
+
+#[test]
+fn layouts_are_reported(rt: HostRuntime) -> Result<(), Fail> {
+    expect_reports(&rt, rt.alloc(), REPORTED)
+}
+
+/// Descriptions that aren't laid out, with the statuses and the texts of their runs.
+const REFUSED: &str = r#"
+# Sections outside all segments, sizes and addresses past the greatest.
+{"plan":{"page":1,"sections":[{"attrs":1,"parts":[[1,false]]}],"events":[["sec",0]]},"groups":[[{"kind":"prelude"}],[{"kind":"object","sections":[{"slot":"must","size":1}]}]]} => 1 section 0 is in no segment
+{"plan":{"page":1,"base":["num",0],"sections":[{"attrs":1,"parts":[[1,false]]}],"segments":[{"kind":"load"}],"events":[["seg",0],["sec",0],["endseg",0]]},"groups":[[{"kind":"prelude"}],[{"kind":"object","sections":[{"slot":"must","size":18446744073709551615},{"slot":"must","size":18446744073709551615}]}]]} => 1 address overflow: part 0
+{"plan":{"page":1,"base":["num",1],"sections":[{"attrs":1,"parts":[[1,false]]}],"segments":[{"kind":"load"}],"events":[["seg",0],["sec",0],["endseg",0]]},"groups":[[{"kind":"prelude"}],[{"kind":"object","sections":[{"slot":"must","size":18446744073709551615}]}]]} => 1 address overflow: event 1
+{"options":{"relax":true},"plan":{"page":4096,"base":["num",4096],"sections":[{"name":"A","attrs":1,"parts":[[8,false]]},{"name":"B","attrs":1,"parts":[[1,false]]},{"name":"C","attrs":17,"parts":[[16,false]]}],"segments":[{"kind":"load"}],"events":[["seg",0],["sec",0],["sec",1],["sec",2],["endseg",0]]},"groups":[[{"kind":"prelude"}],[{"kind":"object","name":"a.o","sections":[{"slot":"must","part":0,"size":8},{"slot":"must","part":1,"size":7},{"slot":"must","part":2,"size":16}]}]]} => 1 not carried: relax
+{"options":{"relax":true},"plan":{"page":3},"groups":[[{"kind":"prelude"}]]} => 1 bad link: rule 2, plan
+{"plan":{"page":1},"groups":[[],[{"kind":"prelude"}]]} => 1 bad link: rule 9, file 0 0
+{"options":{"stack":7},"plan":{"page":16,"sections":[{"attrs":1,"parts":[[1,false]],"emit":"never"},{"attrs":1,"parts":[[1,false]]}],"segments":[{"kind":"load"}],"events":[["sec",0],["seg",0],["sec",1],["endseg",0]]},"groups":[[{"kind":"prelude"}],[{"kind":"object","sections":[{"slot":"must","size":3},{"slot":"must","part":1,"size":2}]}]]} => 1 section 0 is in no segment
+{"options":{"stack":7},"plan":{"page":16,"sections":[{"attrs":1,"parts":[[8,false]],"emit":"always"}],"segments":[],"events":[["sec",0]]},"groups":[[{"kind":"prelude"}],[{"kind":"object","sections":[]}]]} => 1 section 0 is in no segment
+# What is not carried: from the options to the symbols of the prelude,
+@ {"plan":{"page":16,"sections":[{"parts":[[1,false]]}],"events":[["sec",0]]},"options":{...]}]]}
+"output":"dynamic"},"groups":[[{"kind":"prelude","symbols":[ => 1 not carried: output
+"output":"shared"},"groups":[[{"kind":"prelude","symbols":[ => 1 not carried: output
+"output":"partial"},"groups":[[{"kind":"prelude","symbols":[ => 1 not carried: partial
+"relax":true},"groups":[[{"kind":"prelude","symbols":[ => 1 not carried: relax
+},"groups":[[{"kind":"prelude","symbols":[{"name":"x","at":["undefined"]} => 1 not carried: symbol
+"relax":true},"groups":[[{"kind":"prelude","symbols":[{"name":"x","at":["undefined"]} => 1 not carried: relax
+"output":"partial","relax":true},"groups":[[{"kind":"prelude","symbols":[{"name":"x","at":["undefined"]} => 1 not carried: partial
+# in a plan, behind its sections and events,
+@ {"plan":{"page":16,"sections":[{"parts":[[1,false]]}],"events":[["sec",0]]...},"groups":[[{"kind":"prelude"}]]}
+,"got":0 => 1 not carried: table
+,"shstrtab":0 => 1 not carried: table
+,"comment":0 => 1 not carried: table
+,"custom_base":true => 1 not carried: plan
+,"custom_phdrs":true => 1 not carried: plan
+,"phdrs_headers":true => 1 not carried: plan
+,"base":["dot"] => 1 not carried: plan
+,"base":["add",["num",1],["num",2]] => 1 not carried: plan
+,"regions":[{"name":"r","origin":["num",0],"length":["num",1]}] => 1 not carried: plan
+,"events":[["addr",["num",1]],["sec",0]] => 1 not carried: plan
+,"segments":[{"kind":"tls"}],"events":[["seg",0],["sec",0],["endseg",0]] => 1 not carried: plan
+,"singletons":0 => 1 not carried: partial
+,"primary":0 => 1 not carried: primary
+,"primary":0,"strtab":0 => 1 not carried: table
+,"custom_base":true,"singletons":0 => 1 not carried: plan
+# in the first of two output sections,
+@ {"plan":{"page":16,"sections":[{"parts":[[1,false]],...},{"parts":[[1,false]]}],"events":[["sec",0],["sec",1]]},"groups":[[{"kind":"prelude"}]]}
+"attrs":9 => 1 not carried: plan
+"primary":1 => 1 not carried: plan
+"region":"r" => 1 not carried: plan
+"at":["num",1] => 1 not carried: plan
+# behind the prelude,
+@ {"plan":{"page":16,"sections":[{"parts":[[1,false]]}],"events":[["sec",0]]},"groups":[[{"kind":"prelude"},...]]}
+{"kind":"dynamic"} => 1 not carried: file
+{"kind":"notloaded"} => 1 not carried: file
+{"kind":"synthetic"} => 1 not carried: file
+{"kind":"script"} => 1 not carried: file
+{"kind":"object","symbols":[{"at":["common",0,4]}]} => 1 not carried: common
+{"kind":"script"},{"kind":"object","symbols":[{"at":["common",0,4]}]} => 1 not carried: common
+{"kind":"object","symbols":[{"at":["abs",1]}]} => 1 not carried: reach
+# and in an object with a symbol.
+@ {"plan":{"page":16,"sections":[{"parts":[[1,false]]}],"events":[["sec",0]]},"groups":[[{"kind":"prelude"},{"kind":"object","symbols":[{"at":["undef"]}],"sections":[...]}]]}
+{"slot":"merge","data":"00"} => 1 not carried: merge
+{"slot":"debug"} => 1 not carried: slot
+{"slot":"mustdebug"} => 1 not carried: slot
+{"slot":"must","group":7} => 1 not carried: slot
+{"slot":"discard","group":0} => 1 not carried: slot
+{"slot":"must","size":1,"relocs":[[0,"GotTpOff",0,0,false]]} => 1 not carried: table
+{"slot":"discard","relocs":[[9,"PltRelative",5,0,false]]} => 1 not carried: table
+{"slot":"must","size":1,"relocs":[[0,"TlsLd",0,0,false]]} => 1 not carried: reach
+{"slot":"must","sorted":true} => 1 not carried: sorted
+{"slot":"discard","sorted":true} => 1 not carried: sorted
+{"slot":"unloaded"} => 1 not carried: reach
+{"slot":"discard"} => 1 not carried: reach
+{"slot":"must","group":7},{"slot":"merge","data":"00"} => 1 not carried: merge
+"#;
+
+#[test]
+fn refusals_are_told(rt: HostRuntime) -> Result<(), Fail> {
+    expect_rows(&rt, rt.alloc(), Asked::Run, REFUSED)
+}
+
+/// Two sections in segments of their own.
+const TWO_SEGMENTS: &str =
+    r#"{"plan":{"page":4096,"base":["num",4096],"sections":[{"attrs":1,"parts":[[8,false]]},{"attrs":1,"parts":[[1,false]]}],"segments":[{"kind":"load"},{"kind":"load"}],"events":[["seg",0],["sec",0],["endseg",0],["seg",1],["sec",1],["endseg",1]]},"groups":[[{"kind":"prelude"}],[{"kind":"object","sections":[{"slot":"must","size":8},{"slot":"must","part":1,"size":7}]}]]}"#;
+
+const TWO_SEGMENTS_REPORT: &str = "layout\n\
+    section 0 index 0 mem 0x1000 8 file 0x0 8 align 8 lma 0x1000 attrs 1\n\
+    section 1 index 1 mem 0x2008 7 file 0x8 7 align 1 lma 0x2008 attrs 1\n\
+    part 0 mem 0x1000 8 file 0x0 8 align 8\n\
+    part 1 mem 0x2008 7 file 0x8 7 align 1\n\
+    segment 0 mem 0x1000 8 file 0x0 8 align 8\n\
+    segment 1 mem 0x2008 7 file 0x8 7 align 1\n\
+    live 1 0 0 0x1000 8\n\
+    live 1 0 1 0x2008 7\n\
+    entry -\n\
+    end\n";
+
+/// A gate that nobody may enter.
+#[derive(Drop)]
+struct Shut;
+
+impl Gate for Shut {
+    ghost may_enter = { λ _. ⊥ };
+
+    fn enter(&self, _group: u32) {}
+}
+
+/// The report of the layout that at most one worker makes.
+fn told_alone(
+    rt: &(impl Threads + Wait + Sync),
+    alloc: Global,
+    link: &LinkInput,
+    workers: u32,
+) -> Result<String, LayoutError>
+    requires { workers < 2 }
+{
+    let layout = compute(rt, alloc, link, &Small64, &Small64Arch, workers, &Shut)?;
+    Ok(report_text(alloc, link, &layout)?)
+}
+
+/// The report of the layout that so many workers make.
+fn told_layout(
+    rt: &(impl Threads + Wait + Sync),
+    alloc: Global,
+    link: &LinkInput,
+    workers: u32,
+) -> Result<String, LayoutError> {
+    let layout = compute(rt, alloc, link, &Small64, &Small64Arch, workers, &NoGate)?;
+    Ok(report_text(alloc, link, &layout)?)
+}
+
+#[test]
+fn every_number_of_workers_lays_out(rt: HostRuntime) -> Result<(), Fail> {
+    let link = read_link(rt.alloc(), TWO_SEGMENTS.as_bytes())?;
+    for workers in [0, 1, 8] {
+        let report = told_layout(&rt, rt.alloc(), &link, workers)?;
+        assert_eq!(rt; report.as_str(), TWO_SEGMENTS_REPORT);
+    }
+    let alone = told_alone(&rt, rt.alloc(), &link, 1)?;
+    assert_eq!(rt; alone.as_str(), TWO_SEGMENTS_REPORT);
+    Ok(())
+}

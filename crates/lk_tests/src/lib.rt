@@ -1,0 +1,27 @@
+//! The tests of all crates that go by public calls, by topic. There is nothing else here.
+#![tactic(auto)]
+
+#[cfg(test)]
+mod checking;
+#[cfg(test)]
+mod devices;
+#[cfg(test)]
+mod layout;
+#[cfg(test)]
+mod look_ups;
+#[cfg(test)]
+mod plans;
+#[cfg(test)]
+mod reading;
+#[cfg(test)]
+mod report;
+#[cfg(test)]
+mod rows;
+#[cfg(test)]
+mod runs;
+#[cfg(test)]
+mod sizes;
+#[cfg(test)]
+mod texts;
+#[cfg(test)]
+mod words;

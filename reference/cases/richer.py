@@ -1,0 +1,327 @@
+"""What isn't laid out yet, added to well-formed descriptions so that they stay well formed."""
+
+from rules import listed
+
+from .good import optional, random_marks, random_parts
+from .values import NAMES, TRUTHS, all_files, all_parts, all_symbols, free_parts, objects
+
+ADDENDS = (0, 0, -4, 1, 2**63 - 1, -(2**63))
+
+
+def random_expression(rng, section_count, depth=0):
+    """An expression that names no symbol or region, and sections in range where there are any."""
+    choice = rng.random()
+    if choice < 0.3 and depth < 5:
+        operator = rng.choice(listed.OPERATORS)
+        operands = [random_expression(rng, section_count, depth + 1) for _ in range(2)]
+        return [operator, *operands]
+    if choice < 0.4 and section_count:
+        return [rng.choice(("addr", "sizeof")), rng.randrange(section_count)]
+    if choice < 0.5:
+        return [rng.choice(("dot", "headers"))]
+    return ["num", rng.choice((0, 1, 16, 4096, 2**64 - 1))]
+
+
+def expression_for(rng, description):
+    return random_expression(rng, len(description["plan"]["sections"]))
+
+
+# Places to put something
+
+
+def an_object(rng, description):
+    """One of the objects, or a new one."""
+    if not objects(description):
+        description["groups"].append([{"kind": "object"}])
+    return rng.choice(objects(description))
+
+
+def a_section(rng, description):
+    """One of the output sections, or a new one, with its number."""
+    sections = description["plan"]["sections"]
+    if not sections or rng.random() < 0.1:
+        add_section(description, random_parts(rng))
+    number = rng.randrange(len(sections))
+    return number, sections[number]
+
+
+def add_section(description, parts):
+    """An unallocated output section, placed last; answers the number of its first part."""
+    first = len(all_parts(description))
+    plan = description["plan"]
+    plan["events"].append(["sec", len(plan["sections"])])
+    plan["sections"].append({"parts": parts})
+    return first
+
+
+def add_input(rng, description, **fields):
+    """An input section of that slot, in a part that it may go to."""
+    parts = all_parts(description)
+    fitting = [
+        part
+        for part in free_parts(description)
+        if (fields["slot"] != "merge" or parts[part][0] == 1)
+        and not (fields.get("sorted") and parts[part][1])
+    ]
+    if not fitting:
+        fitting = [add_section(description, [[1, False]])]
+    entry = {"part": rng.choice(fitting), **fields}
+    if fields["slot"] == "merge":
+        optional(rng, entry, "data", 0.9, ("", "00", "6100", "0aFF", "00" * 300))
+        optional(rng, entry, "strings", 0.5, TRUTHS)
+        optional(rng, entry, "size", 0.2, (0, 1, 2**64 - 1))
+    else:
+        entry["size"] = rng.choice((0, 1, 4, 8, 100))
+    optional(rng, entry, "attrs", 0.2, (2, 4, 6))
+    optional(rng, entry, "name", 0.3, NAMES)
+    listed = an_object(rng, description).setdefault("sections", [])
+    listed.insert(rng.randrange(len(listed) + 1), entry)
+    return entry
+
+
+def length_of(entry):
+    """The bytes of an input section."""
+    return len(entry.get("data", "")) // 2 if entry["slot"] == "merge" else entry.get("size", 0)
+
+
+# Symbols
+
+
+def object_placement(rng, file):
+    held = file.get("sections", [])
+    if held and rng.random() < 0.6:
+        index = rng.randrange(len(held))
+        length = length_of(held[index])
+        if held[index]["slot"] == "merge":
+            return ["sec", index, rng.choice((0, length, 1000, 2**64 - 1))]
+        return ["sec", index, rng.choice((0, length // 2, length))]
+    return rng.choice((["abs", 0], ["abs", 2**64 - 1], ["undef"]))
+
+
+def internal_placement(rng, description):
+    sections = len(description["plan"]["sections"])
+    if sections and rng.random() < 0.4:
+        return [rng.choice(("start", "end", "groupend")), rng.randrange(sections)]
+    if rng.random() < 0.5:
+        return [rng.choice(("undefined", "force", "tlsend", "loadbase"))]
+    counters = sum(event[0] in listed.LOCATION_EVENTS for event in description["plan"]["events"])
+    places = [["none"], ["counter", rng.randrange(counters + 1)]]
+    if sections:
+        places.append([rng.choice(("start", "end")), rng.randrange(sections)])
+    return ["redirect", expression_for(rng, description), rng.choice(places), rng.random() < 0.5]
+
+
+def add_symbols(rng, description, file):
+    """Symbols of the file's kind."""
+    for _ in range(rng.choice((1, 1, 2, 4))):
+        if file["kind"] == "object":
+            placement = object_placement(rng, file)
+        elif file["kind"] in listed.OUTSIDE_FILES:
+            placement = [rng.choice(("dyn", "undef"))]
+        else:
+            placement = internal_placement(rng, description)
+        symbol = {"at": placement}
+        optional(rng, symbol, "name", 0.6, NAMES)
+        optional(rng, symbol, "flags", 0.3, (0, 1, 2, 8, 63))
+        for mark in ("local", "weak", "hidden"):
+            optional(rng, symbol, mark, 0.2, TRUTHS)
+        file.setdefault("symbols", []).append(symbol)
+
+
+def connect(rng, description):
+    """Definitions, an entry, relocations and relaxations between what is there."""
+    symbols = all_symbols(description)
+    if not symbols:
+        return
+    standing = [number for number in range(len(symbols)) if rng.random() < 0.6] or [0]
+    for number, symbol in enumerate(symbols):
+        if number not in standing:
+            symbol["def"] = rng.choice(standing)
+        elif rng.random() < 0.2:
+            symbol["def"] = number
+    if rng.random() < 0.3:
+        description.setdefault("options", {})["entry"] = rng.randrange(len(symbols))
+    for file in objects(description):
+        for entry in file.get("sections", []):
+            if file.get("symbols") and length_of(entry) > 0 and rng.random() < 0.4:
+                add_references(rng, entry, len(file["symbols"]), listed.PLAIN_RELOCATIONS)
+
+
+def add_references(rng, entry, symbol_count, kinds):
+    length = length_of(entry)
+    entry["relocs"] = [
+        [
+            rng.choice((0, length // 2, length - 1)),
+            rng.choice(kinds),
+            rng.randrange(symbol_count),
+            rng.choice(ADDENDS),
+            rng.random() < 0.3,
+        ]
+        for _ in range(rng.choice((1, 2, 5)))
+    ]
+    if length >= 4 and rng.random() < 0.5:
+        starts = sorted(rng.sample(range(min(length, 50)), rng.choice((1, 2, 3))))
+        ends = [*starts[1:], length]
+        entry["relax"] = [
+            [start, rng.randrange(symbol_count), rng.choice((0, 100, 2**64 - 1)), end - start]
+            for start, end in zip(starts, ends)
+        ]
+
+
+# What isn't laid out yet
+
+
+def add_merge(rng, description):
+    add_input(rng, description, slot="merge")
+
+
+def add_debug(rng, description):
+    add_input(rng, description, slot=rng.choice(("debug", "mustdebug")))
+
+
+def add_group(rng, description):
+    slot = rng.choice(("must", "unloaded", "discard"))
+    add_input(rng, description, slot=slot)["group"] = rng.choice((0, 1, 2**32 - 1))
+
+
+def add_common(rng, description):
+    parts = free_parts(description) or [add_section(description, [[8, False]])]
+    placement = ["common", rng.choice(parts), rng.choice((0, 1, 64, 2**64 - 1))]
+    an_object(rng, description).setdefault("symbols", []).append({"at": placement})
+
+
+def add_file(rng, description):
+    file = {"kind": rng.choice(listed.FILE_KINDS[2:])}
+    optional(rng, file, "name", 0.5, NAMES)
+    optional(rng, file, "sections", 0.1, (7, [], [{}]))
+    random_marks(rng, file)
+    if rng.random() < 0.6:
+        add_symbols(rng, description, file)
+    group = rng.choice(description["groups"])
+    group.insert(rng.randrange(1, len(group) + 1) if group else 0, file)
+
+
+def add_location(rng, description):
+    """A script, and a location that only it may have."""
+    number, _ = a_section(rng, description)
+    expression = expression_for(rng, description)
+    event = rng.choice((["loc", expression], ["locrel", expression, number]))
+    add_event(rng, description, event)
+    script = {"kind": "script"}
+    if rng.random() < 0.5:
+        add_symbols(rng, description, script)
+    description["groups"].append([script])
+
+
+def add_event(rng, description, event):
+    events = description["plan"]["events"]
+    events.insert(rng.randrange(len(events) + 1), event)
+
+
+def set_output(rng, description):
+    description.setdefault("options", {})["output"] = rng.choice(("dynamic", "shared"))
+
+
+def add_table(rng, description):
+    first = add_section(description, [[8, False], [4, True], [1, False]])
+    for part, name in enumerate(rng.sample(listed.TABLE_PARTS, rng.choice((1, 1, 2, 3))), first):
+        description["plan"][name] = part
+
+
+def add_comment(rng, description):
+    description["plan"]["comment"] = rng.choice((0, 1, 2**32 - 1))
+
+
+def add_table_relocation(rng, description):
+    slot = rng.choice(("must", "discard", "unloaded"))
+    entry = add_input(rng, description, slot=slot)
+    entry["size"] = rng.choice((1, 8))
+    for file in objects(description):
+        if any(entry is other for other in file.get("sections", [])):
+            add_symbols(rng, description, file)
+            add_references(rng, entry, len(file["symbols"]), listed.TABLE_RELOCATIONS)
+
+
+def set_plan(rng, description):
+    """One of the fields that ask for more than sections one behind the other."""
+    plan = description["plan"]
+    number, section = a_section(rng, description)
+    expression = expression_for(rng, description)
+    choice = rng.randrange(8)
+    if choice == 0:
+        plan[rng.choice(listed.PLAN_TRUTHS)] = True
+    elif choice == 1:
+        plan["regions"] = [{"name": "r", "origin": expression, "length": ["num", 8]}]
+    elif choice == 2:
+        section["attrs"] = section.get("attrs", 0) | 8
+    elif choice == 3:
+        section["region"] = rng.choice(NAMES)
+    elif choice == 4:
+        section["at"] = expression
+    elif choice == 5:
+        add_event(rng, description, ["addr", expression])
+    elif choice == 6:
+        plan["base"] = ["add", expression, ["num", 1]]
+    else:
+        add_section(description, random_parts(rng))
+        plan["sections"][-1]["primary"] = number
+
+
+def add_thread_local_segment(rng, description):
+    segments = description["plan"]["segments"]
+    events = description["plan"]["events"]
+    first, last = sorted(rng.randrange(len(events) + 1) for _ in range(2))
+    events.insert(last, ["endseg", len(segments)])
+    events.insert(first, ["seg", len(segments)])
+    segments.append({"kind": "tls"})
+
+
+def set_partial(rng, description):
+    if rng.random() < 0.5:
+        description.setdefault("options", {})["output"] = "partial"
+    if rng.random() < 0.7:
+        description["plan"]["singletons"] = rng.choice((0, 1, 2**32 - 1))
+
+
+def add_sorted(rng, description):
+    add_input(rng, description, slot=rng.choice(("must", "unloaded", "discard")), sorted=True)
+
+
+def set_primary(rng, description):
+    description["plan"]["primary"] = rng.choice((0, 1, 2**32 - 1))
+
+
+def set_relax(rng, description):
+    description.setdefault("options", {})["relax"] = True
+
+
+def add_prelude_symbol(rng, description):
+    add_symbols(rng, description, all_files(description)[0])
+
+
+def add_object_symbol(rng, description):
+    add_symbols(rng, description, an_object(rng, description))
+
+
+def add_unkept(rng, description):
+    entry = add_input(rng, description, slot=rng.choice(("unloaded", "discard")))
+    if entry["slot"] == "discard":
+        entry["part"] = rng.choice((entry["part"], 2**32 - 1))
+        optional(rng, entry, "attrs", 0.3, (1, 2**32 - 1))
+        optional(rng, entry, "relax", 0.3, ([[9, 9, 9, 0], [0, 0, 0, 99]],))
+        optional(rng, entry, "relocs", 0.3, ([[2**64 - 1, "None", 77, 0, True]],))
+
+
+ADDITIONS = (
+    *(add_merge, add_debug, add_group, add_common, add_file, add_location, set_output),
+    *(add_table, add_comment, add_table_relocation, set_plan, set_plan, set_plan),
+    *(add_thread_local_segment, set_partial, add_sorted, set_primary, set_relax),
+    *(add_prelude_symbol, add_object_symbol, add_object_symbol, add_unkept, add_unkept),
+)
+
+
+def make_richer(rng, description):
+    """Adds one to four things that aren't laid out yet, and connects them."""
+    for _ in range(rng.choice((1, 1, 1, 2, 4))):
+        rng.choice(ADDITIONS)(rng, description)
+    connect(rng, description)

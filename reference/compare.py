@@ -1,0 +1,78 @@
+#!/usr/bin/env python3
+"""Compare the program with the reference on random small descriptions.
+
+usage: compare.py PROGRAM COUNT [SEED [FIRST]]
+
+Runs PROGRAM on the random descriptions of the numbers FIRST to FIRST + COUNT - 1, and where FIRST is
+0 on the fixed ones too, and shows each one on which status or bytes differ from the reference's. Ends
+with 1 if there was one. The same SEED and number give the same description.
+"""
+
+import collections
+import re
+import sys
+
+import cases
+import reference
+from program import program_answer
+from rules.refusal import LAID_OUT
+
+WORDS = ["layout", "0"]
+MOST_SHOWN = 2000
+
+
+def shown(text):
+    return text.decode("utf-8", "replace")[:MOST_SHOWN]
+
+
+def kind_of(status, text):
+    """A short name of an answer, for the counts at the end."""
+    if status == LAID_OUT:
+        return "laid out"
+    line = re.sub("description:.*", "description", shown(text).strip())
+    line = re.sub("(link: rule [0-9]+|overflow: [a-z]+|too many [a-z ]+).*", r"\1", line)
+    return re.sub("section [0-9]+", "section", line)
+
+
+class Comparison:
+    def __init__(self, program):
+        self.program = program
+        self.kinds = collections.Counter()
+        self.mismatches = 0
+
+    def compare(self, name, data):
+        wanted = reference.answer(WORDS, data)
+        try:
+            got = program_answer(self.program, WORDS, data)
+        except BrokenPipeError:
+            got = None, b"(input not read)"
+        self.kinds[kind_of(*wanted)] += 1
+        if got != wanted:
+            self.mismatches += 1
+            print("MISMATCH %s, input of %d bytes:" % (name, len(data)))
+            print(shown(data))
+            print("wanted status %s:\n%s" % (wanted[0], shown(wanted[1])))
+            print("got status %s:\n%s" % (got[0], shown(got[1])))
+
+    def summary(self):
+        for kind, count in self.kinds.most_common():
+            print("%7d  %s" % (count, kind))
+        print("%d cases, %d mismatches" % (sum(self.kinds.values()), self.mismatches))
+
+
+def main(words):
+    if not 2 <= len(words) <= 4 or not all(word.isdigit() for word in words[1:]):
+        sys.exit("usage: compare.py PROGRAM COUNT [SEED [FIRST]]")
+    count, seed, first = (list(map(int, words[1:])) + [0, 0])[:3]
+    comparison = Comparison(words[0])
+    if first == 0:
+        for name, data in cases.fixed_cases().items():
+            comparison.compare("fixed, " + name, data)
+    for number in range(first, first + count):
+        comparison.compare("random %d:%d" % (seed, number), cases.case(seed, number))
+    comparison.summary()
+    sys.exit(1 if comparison.mismatches else 0)
+
+
+if __name__ == "__main__":
+    main(sys.argv[1:])

@@ -1,0 +1,118 @@
+"""Examples that are written down: an input and, below it, the bytes that it is to give.
+
+In known/*.txt a line with a # is a remark. `words [..]` and `status N` say which words the program
+gets, and which status it is to end with, from there to the end of the file; without the first the
+words are `layout 0`. Each other block of lines, up to the next empty one, is an example: the line of
+its input, and the lines of its text. In an input, "«65 of X»" stands for 65 times X with commas
+between, and `quoted` before a JSON text says that the input is what the text says.
+
+In documents an example is an indented line that is a JSON list or object, followed by the indented
+lines of its text; a "·" is a space at the end of a line, and what follows it a remark. In examples/
+the description and the text are files of the same name.
+"""
+
+import collections
+import json
+import os
+import re
+
+from rules.refusal import LAID_OUT, REFUSED, UNREADABLE
+
+HERE = os.path.dirname(os.path.abspath(__file__))
+TOP = os.path.dirname(HERE)
+DOCUMENTS = ("FORMAT.md", "DECISIONS.md")
+LAYOUT_WORDS = ["layout", "0"]
+INDENT = " " * 4
+UNREADABLE_STARTS = ("not JSON", "not a link description:", "input is longer")
+
+Example = collections.namedtuple("Example", "place words data status text")
+
+
+def lines_of(path):
+    """The lines of a file, without their ends, each with its number."""
+    with open(path, encoding="utf-8") as file:
+        yield from enumerate(file.read().split("\n"), 1)
+
+
+def joined(lines):
+    return "".join(line + "\n" for line in lines)
+
+
+# Known answers
+
+
+def input_of(line):
+    """The input that a line stands for."""
+    kind, _, text = line.partition(" ")
+    if kind == "quoted":
+        return json.loads(text)
+    return re.sub("«([0-9]+) of ([^»]*)»", lambda found: ",".join([found[2]] * int(found[1])), line)
+
+
+def known_examples(path):
+    """The examples of a file of known answers."""
+    words, status, block, first = LAYOUT_WORDS, None, [], 0
+    for number, line in lines_of(path):
+        if line == "" and block:
+            place = "%s:%d" % (os.path.relpath(path, TOP), first)
+            yield Example(place, words, input_of(block[0]), status, joined(block[1:]))
+            block = []
+        elif block:
+            block.append(line)
+        elif line.startswith("words "):
+            words = json.loads(line[len("words ") :])
+        elif line.startswith("status "):
+            status = int(line[len("status ") :])
+        elif line != "" and not line.startswith("#"):
+            block, first = [line], number
+
+
+# Examples in documents and beside them
+
+
+def status_of(text):
+    """The status that goes with a text."""
+    if text.startswith("layout\n"):
+        return LAID_OUT
+    return UNREADABLE if text.startswith(UNREADABLE_STARTS) else REFUSED
+
+
+def document_examples(path):
+    """The examples of a document."""
+    data, first, text = None, 0, []
+    for number, line in lines_of(path):
+        indented = line[len(INDENT) :] if line.startswith(INDENT) else ""
+        begins = indented.startswith(("{", "["))
+        if text and (begins or indented == ""):
+            place = "%s:%d" % (os.path.relpath(path, TOP), first)
+            yield Example(place, LAYOUT_WORDS, data, status_of(joined(text)), joined(text))
+        if begins:
+            data, first, text = indented, number, []
+        elif indented == "":
+            data, text = None, []
+        elif data is not None:
+            line_text, space, _ = indented.partition("·")
+            text.append(line_text + " " if space else line_text)
+
+
+def file_examples(folder):
+    """The descriptions of a folder that have a report of the same name."""
+    for name in sorted(os.listdir(folder)):
+        start, ending = os.path.splitext(name)
+        if ending == ".json":
+            with open(os.path.join(folder, name), encoding="utf-8") as file:
+                data = file.read()
+            with open(os.path.join(folder, start + ".report"), encoding="utf-8") as file:
+                text = file.read()
+            place = os.path.relpath(os.path.join(folder, name), TOP)
+            yield Example(place, LAYOUT_WORDS, data, status_of(text), text)
+
+
+def all_examples():
+    """Known answers, and the examples of the documents and beside them."""
+    known = os.path.join(HERE, "known")
+    for name in sorted(os.listdir(known)):
+        yield from known_examples(os.path.join(known, name))
+    for name in DOCUMENTS:
+        yield from document_examples(os.path.join(TOP, "docs", name))
+    yield from file_examples(os.path.join(TOP, "examples"))
