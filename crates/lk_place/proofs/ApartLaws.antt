@@ -8,9 +8,9 @@ use Rattle.lk_link.specs.declared.plan.OrderEvent.TheVariants.{Section}
 use Rattle.lk_link.specs.Parts.{first_part}
 use Rattle.lk_link.specs.PlanSections.{has_memory}
 use Rattle.lk_place.specs.declared.cursors.Cursors.{Cursors}
-use Rattle.lk_place.specs.Laws.{FileRangesAreDisjoint, MemoryRangesAreDisjoint, PlainMemoryIsDisjoint}
+use Rattle.lk_place.specs.Laws.{FileRangesAreDisjoint, IsSoundlySet, MemoryRangesAreDisjoint, PlainMemoryIsDisjoint}
 use Rattle.lk_place.specs.Placement.{IsPlaced, IsPlacedBefore, state_at}
-use Rattle.lk_place.specs.Ranges.{HasPart, TakesMemory}
+use Rattle.lk_place.specs.Ranges.{MemoryIsDisjoint, HasPart, TakesMemory}
 use Rattle.lk_place.specs.Records.{Record, file_end, mem_end, nowhere, record_at}
 use Rattle.lk_place.specs.Setting.{IsReady, Setting, part_count}
 use Rattle.lk_place.proofs.Insides.{placed_in_range}
@@ -109,8 +109,8 @@ file_ranges_are_disjoint setting states records ready is p q o other here there 
     (record { none = omega arith; rises = file_rises setting states records is; follows = λ k s less event has. file_follows setting states records is k s less event })
     p q o other (λ a. tt) (λ b. tt) (here.begins, here.ends) (there.begins, there.ends)
 
-pub memory_ranges_are_disjoint : MemoryRangesAreDisjoint
-memory_ranges_are_disjoint setting states records set p q o other one two here there =
+memory_is_disjoint : (setting : Setting) (states : List Cursors) (records : List Record) → IsSoundlySet setting states records → MemoryIsDisjoint setting.plan records
+memory_is_disjoint setting states records set p q o other one two here there =
     let n : ℕ = length states - 1 in
     let has : (m : ℕ) → TakesMemory setting.plan m → (a : IsPlacedBefore setting n m) → has_memory setting.plan a.s ≡ true
     = λ m h a. ap (has_memory setting.plan) (section_one setting.plan a.s h.section m (placed_of setting n m set.ready a) h.part) ∙ h.memory in
@@ -118,5 +118,8 @@ memory_ranges_are_disjoint setting states records set p q o other one two here t
     (record { none = omega arith; rises = memory_rises setting states records set; follows = memory_follows setting states records set })
     p q o other (has p one) (has q two) (here.begins, here.ends) (there.begins, there.ends)
 
+pub memory_ranges_are_disjoint : MemoryRangesAreDisjoint
+memory_ranges_are_disjoint setting output states records set may = memory_is_disjoint setting states records set
+
 pub plain_memory_is_disjoint : PlainMemoryIsDisjoint
-plain_memory_is_disjoint setting output states records set plain = memory_ranges_are_disjoint setting states records set
+plain_memory_is_disjoint setting output states records set plain = memory_is_disjoint setting states records set

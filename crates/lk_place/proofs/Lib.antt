@@ -16,7 +16,7 @@ mod PlacedSections
 mod PlainLaws
 mod PlainScanLaws
 mod Ranges
-mod Reaching
+mod SegmentAlignments
 mod RefusalLaws
 mod SectionEnds
 mod Steps

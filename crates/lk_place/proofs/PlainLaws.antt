@@ -1,4 +1,4 @@
--- Ordinary plans are plain.
+-- A plan with one load segment is plain.
 use Rattle.std.proofs.Common.{◌≡◌, ℕ, ◌<◌, ◌≤◌, Bool, true, false, length, take, refl, ap, ◌∙◌, inl, inr, arith}
 use Rattle.std.specs.Prelude.{◌&&◌, ◌||◌, if◌then◌else◌, not}
 use Rattle.std.proofs.lemmas.Bool.{and_parts, cases_lt}
@@ -10,7 +10,7 @@ use Rattle.lk_link.specs.declared.plan.attributes.TheConstants.{NOBITS, TLS}
 use Rattle.lk_link.specs.Inside.{is_open}
 use Rattle.lk_link.specs.PlanSections.{has_memory, is_allocated, is_file_backed, is_set, is_singletons, is_zero_fill_thread_local, no_section, own_attributes, section_at}
 use Rattle.lk_link.specs.WellFormed.{IsEventOrder}
-use Rattle.lk_place.specs.Laws.{OrdinaryPlansArePlain}
+use Rattle.lk_place.specs.Laws.{OneLoadSegmentIsPlain}
 use Rattle.lk_place.specs.Plain.{PlacesInLoad}
 use Rattle.lk_place.proofs.Insides.{placed_in_range}
 use Rattle.lk_place.proofs.OpenSegments.{unopened}
@@ -46,8 +46,8 @@ zero_fill_of plan s all =
 there : (plan : Plan) (i s k : ℕ) → IsEventOrder plan → PlacesInLoad plan i s k → s < length plan.sections
 there plan i s k order h = placed_in_range plan (Section s) s (order.in_range k (Section s) h.places.here) refl
 
-pub ordinary_plans_are_plain : OrdinaryPlansArePlain
-ordinary_plans_are_plain plan output order whole regions unmoved one all =
+pub one_load_segment_is_plain : OneLoadSegmentIsPlain
+one_load_segment_is_plain plan output order whole regions unmoved one all =
     record {
       whole = whole;
       regions = regions;

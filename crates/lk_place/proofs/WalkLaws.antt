@@ -4,7 +4,8 @@ use Rattle.std.specs.Prelude.{slice_get, option_map, Result, Ok, Err}
 use Rattle.std.specs.List.{enumerate_from, slice_index_or}
 use Rattle.std.proofs.lemmas.Bool.{cases_lt}
 use Rattle.std.proofs.lemmas.List.{ext_get_or, get_or_past}
-use Rattle.std.proofs.lemmas.Option.{slice_get_within, slice_get-get_or, get_or_from_slice_get}
+use Rattle.std.proofs.lemmas.Option.{slice_get-get_or}
+use Rattle.lk_link.specs.declared.options.OutputKind.{OutputKind}
 use Rattle.lk_link.specs.declared.plan.OrderEvent.{OrderEvent}
 use Rattle.lk_link.specs.declared.plan.OrderEvent.TheVariants.{SegmentStart, SegmentEnd, Section, SetLocation, SetLocationRelative, SetSectionAddress}
 use Rattle.lk_link.specs.Inside.{placed_section}
@@ -13,15 +14,16 @@ use Rattle.lk_link.proofs.Numbers.{length-made, made_at}
 use Rattle.lk_place.specs.declared.cursors.Cursors.{Cursors}
 use Rattle.lk_place.specs.declared.error.PlaceError.{PlaceError}
 use Rattle.lk_place.specs.declared.error.Refusal.{Refusal}
-use Rattle.lk_place.specs.Placement.{IsPlaced, IsPlacedBefore, Passes, Places, Steps, event_refusal, first_state, moved, numbered, placement_refusal, refusal_behind_move, refusal_of, section_start, state_at, step_refusal}
+use Rattle.lk_place.specs.Placement.{IsFirst, IsPlaced, IsPlacedBefore, Passes, Places, Steps, event_refusal, moved, numbered, placement_refusal, refusal_behind_move, refusal_of, section_start, state_at, step_refusal}
 use Rattle.lk_place.specs.PlacementLaws.{PlacementExists, PlacementIsOne}
+use Rattle.lk_place.specs.Plans.{IsPlaceable}
 use Rattle.lk_place.specs.Records.{Record, nowhere, record_at}
 use Rattle.lk_place.specs.Setting.{IsReady, Setting, part_number}
 use Rattle.lk_place.specs.Walk.{AllPass, after_move, cursors_after, entered, left_behind, record_after, record_by, stepped}
 use Rattle.lk_place.proofs.Parts.{parts_end-le}
 use Rattle.lk_place.proofs.PlacedSections.{AreMade, MakesSection, made_places, places_makes}
 use Rattle.lk_place.proofs.WalkRecords.{PlacesAt, placed_or_not, record_absent, record_placed, section_there}
-use Rattle.lk_place.proofs.WalkSteps.{cursors_first, cursors_next}
+use Rattle.lk_place.proofs.WalkSteps.{cursors_first, cursors_next, first_from, first_is}
 
 -- ---- the states
 
@@ -33,10 +35,6 @@ states_from setting k (suc n) = cursors_after setting k ∷ states_from setting 
 states_count : (setting : Setting) (k n : ℕ) → length (states_from setting k n) ≡ n + 1
 states_count setting k zero = omega arith
 states_count setting k (suc n) = omega (arith, states_count setting (k + 1) n)
-
-states_first : (setting : Setting) (k n : ℕ) → slice_get (states_from setting k n) 0 ≡ Some (cursors_after setting k)
-states_first setting k zero = refl
-states_first setting k (suc n) = refl
 
 states_at : (setting : Setting) (k n j : ℕ) → j ≤ n → state_at (states_from setting k n) j ≡ cursors_after setting (k + j)
 states_at setting k zero zero h = ap (cursors_after setting) (sym (add-zero k))
@@ -87,9 +85,9 @@ pub record IsWalk (setting : Setting) (n : ℕ) (records : List Record) : Type 0
   pub each : length records ≡ length (all_parts setting.plan.sections)
   pub at : (p : ℕ) → p < length (all_parts setting.plan.sections) → record_at records p ≡ record_after setting n p
 
-walk_passes : (setting : Setting) (n : ℕ) (records : List Record) → IsWalk setting n records
+walk_passes : (setting : Setting) (output : OutputKind) (n : ℕ) (records : List Record) → IsPlaceable setting.plan output → IsWalk setting n records
     → (k : ℕ) (e : OrderEvent) → k < n → slice_get setting.plan.events k ≡ Some e → Passes setting (states_to setting n) records k e
-walk_passes setting n records walk k e less here =
+walk_passes setting output n records may walk k e less here =
     let from : Cursors = cursors_after setting k in
     let at : state_at (states_to setting n) k ≡ from = state_is setting n k (omega arith) in
     let next : state_at (states_to setting n) (k + 1) ≡ left_behind setting (placed_section e) (entered setting e from) =
@@ -107,6 +105,7 @@ walk_passes setting n records walk k e less here =
     record {
       unrefused = ap (step_refusal setting k e) at ∙ unrefused;
       steps = record {
+        carried = may.events k e here;
         entered = entered setting e from;
         moves = ap (moved setting e) at ∙ gives;
         places = places;
@@ -120,13 +119,15 @@ walk_refusal setting n =
     ap (λ (m : ℕ). refusal_of setting m (slice_get setting.plan.events m) (state_at (states_to setting n) m)) last
     ∙ ap (refusal_of setting n (slice_get setting.plan.events n)) (state_is setting n n (omega arith))
 
-pub walk_is_placed : (setting : Setting) (n : ℕ) (records : List Record) → IsWalk setting n records → IsPlaced setting (states_to setting n) records
-walk_is_placed setting n records walk =
+pub walk_is_placed : (setting : Setting) (output : OutputKind) (n : ℕ) (records : List Record) → IsPlaceable setting.plan output → IsWalk setting n records
+    → IsPlaced setting (states_to setting n) records
+walk_is_placed setting output n records may walk =
     let count : length (states_to setting n) ≡ n + 1 = states_count setting 0 n in
     record {
-      begins = states_first setting 0 n ∙ ap (λ (c : Cursors). Some c) (sym (cursors_first setting));
+      some = omega (arith, count);
+      begins = subst (IsFirst setting.plan) (cursors_first setting ∙ sym (state_is setting n 0 (omega arith))) (first_from setting may.base);
       within = omega (arith, count, walk.within);
-      steps = λ k e more here. walk_passes setting n records walk k e (omega (arith, count)) here;
+      steps = λ k e more here. walk_passes setting output n records may walk k e (omega (arith, count)) here;
       ends = λ none. omega (arith, count, walk.stops (sym (walk_refusal setting n) ∙ none));
       each = walk.each;
       others = λ p none.
@@ -172,13 +173,13 @@ made_walk setting n ready within pass stops = record {
 }
 
 pub placement_exists : PlacementExists
-placement_exists setting ready =
+placement_exists setting output ready may =
     let all : ℕ = length setting.plan.events in
     elim (stops_or_passes setting all) [
-      | inl pass ↦ (states_to setting all, records_to setting all, walk_is_placed setting all (records_to setting all) (made_walk setting all ready (omega arith) pass (λ none. refl)))
+      | inl pass ↦ (states_to setting all, records_to setting all, walk_is_placed setting output all (records_to setting all) may (made_walk setting all ready (omega arith) pass (λ none. refl)))
       | inr stop ↦
           let n : ℕ = stop.0 in
-          (states_to setting n, records_to setting n, walk_is_placed setting n (records_to setting n) (made_walk setting n ready (omega (arith, stop.1)) stop.2 (λ none. absurd (cc (stop.3.1)))))
+          (states_to setting n, records_to setting n, walk_is_placed setting output n (records_to setting n) may (made_walk setting n ready (omega (arith, stop.1)) stop.2 (λ none. absurd (cc (stop.3.1)))))
     ]
 
 -- ---- it is one
@@ -200,7 +201,7 @@ entered_is setting e from c o h = ap (after_move from) h
 -- the states are the cursors that the walk computes
 placed_states : (setting : Setting) (states : List Cursors) (records : List Record) → IsReady setting → IsPlaced setting states records
     → (k : ℕ) → k < length states → state_at states k ≡ cursors_after setting k
-placed_states setting states records ready is zero less = get_or_from_slice_get states 0 (first_state setting) _ is.begins ∙ cursors_first setting
+placed_states setting states records ready is zero less = first_is setting (state_at states 0) is.begins ∙ cursors_first setting
 placed_states setting states records ready is (suc k) less =
     let e : OrderEvent = slice_index_or setting.plan.events k (SegmentEnd 0) in
     let here : slice_get setting.plan.events k ≡ Some e = slice_get-get_or setting.plan.events k (SegmentEnd 0) (omega (arith, is.within)) in
@@ -219,7 +220,6 @@ placed_states setting states records ready is (suc k) less =
 pub placed_is_walk : (setting : Setting) (states : List Cursors) (records : List Record) → IsReady setting → IsPlaced setting states records → IsWalk setting (length states - 1) records
 placed_is_walk setting states records ready is =
     let n : ℕ = length states - 1 in
-    let some : 0 < length states = slice_get_within states 0 (first_state setting) is.begins in
     let state : (k : ℕ) → k < length states → state_at states k ≡ cursors_after setting k = placed_states setting states records ready is in
     record {
       ready = ready;
@@ -231,7 +231,7 @@ placed_is_walk setting states records ready is =
           ∙ ap (step_refusal setting k e) (sym (state k (omega arith)))
           ∙ (is.steps k e (omega arith) here).unrefused;
       stops = λ none.
-          let same : placement_refusal setting states ≡ None = ap (refusal_of setting n (slice_get setting.plan.events n)) (state n (omega (arith, some))) ∙ none in
+          let same : placement_refusal setting states ≡ None = ap (refusal_of setting n (slice_get setting.plan.events n)) (state n (omega (arith, is.some))) ∙ none in
           omega (arith, is.ends same);
       each = is.each;
       at = λ p below.
@@ -263,8 +263,6 @@ placement_is_one setting states states' records records' ready h g =
     let n' : ℕ = length states' - 1 in
     let one : IsWalk setting n records = placed_is_walk setting states records ready h in
     let two : IsWalk setting n' records' = placed_is_walk setting states' records' ready g in
-    let some : 0 < length states = slice_get_within states 0 (first_state setting) h.begins in
-    let some' : 0 < length states' = slice_get_within states' 0 (first_state setting) g.begins in
     let same : n ≡ n' =
     elim (cases_lt n n') [
       | inl less ↦ absurd (not_longer setting n n' records records' one two less)
@@ -273,7 +271,7 @@ placement_is_one setting states states' records records' ready h g =
         | inr both ↦ omega arith
       ]
     ] in
-    let count : length states ≡ length states' = omega (arith, some, some', same) in (
+    let count : length states ≡ length states' = omega (arith, h.some, g.some, same) in (
       ext_get_or (record { file = 0; memory = 0 }) states states' count
           (λ k below. placed_states setting states records ready h k below ∙ sym (placed_states setting states' records' ready g k (omega (arith, count)))),
       ext_get_or nowhere records records' (h.each ∙ sym g.each)

@@ -1,16 +1,30 @@
 -- One event more of the walk.
-use Rattle.std.proofs.Common.{◌≡◌, ℕ, ◌+◌, ◌<◌, List, length, Option, Some, None, refl, sym, ap, subst, ◌∙◌, add-one, below_more}
-use Rattle.std.specs.Prelude.{slice_get, option_map, Result, Ok, Err, OnOk, IsErrAnd}
+use Rattle.std.proofs.Common.{◌≡◌, ℕ, ◌+◌, ◌<◌, List, length, true, Option, Some, None, refl, sym, ap, subst, ◌∙◌, add-one, below_more}
+use Rattle.std.specs.Prelude.{slice_get, option_map, Result, Ok, Err, OnOk, IsErrAnd, is_some, unwrap_or}
 use Rattle.std.specs.List.{slice_index_or}
 use Rattle.std.proofs.lemmas.Option.{slice_get-get_or}
 use Rattle.lk_link.specs.declared.plan.OrderEvent.{OrderEvent}
+use Rattle.lk_link.specs.Expressions.{as_number}
 use Rattle.lk_place.specs.declared.cursors.Cursors.{Cursors}
 use Rattle.lk_place.specs.declared.error.PlaceError.{PlaceError}
 use Rattle.lk_place.specs.declared.error.Refusal.{Refusal}
-use Rattle.lk_place.specs.Placement.{event_refusal, first_state, numbered, refusal_of}
+use Rattle.lk_place.specs.Placement.{IsFirst, event_refusal, numbered, refusal_of}
 use Rattle.lk_place.specs.Records.{Record, nowhere}
 use Rattle.lk_place.specs.Setting.{Setting}
-use Rattle.lk_place.specs.Walk.{AllPass, GivesWalked, StopsBy, cursors_after, record_after, recorded, stepped, told, unless}
+use Rattle.lk_place.specs.Walk.{AllPass, GivesWalked, StopsBy, at_event, cursors_after, first_state, record_after, recorded, stepped, unless}
+
+-- the walk begins where the placement does
+pub first_is : (setting : Setting) (c : Cursors) → IsFirst setting.plan c → c ≡ first_state setting
+first_is setting c h =
+    ap (λ (n : ℕ). let at : Cursors = record { file = n; memory = c.memory } in at) h.file
+    ∙ ap (λ (o : Option ℕ). let at : Cursors = record { file = 0; memory = unwrap_or o 0 } in at) (sym h.memory)
+
+unwrapped : (o : Option ℕ) → is_some o ≡ true → o ≡ Some (unwrap_or o 0)
+unwrapped None h = absurd (cc)
+unwrapped (Some n) h = refl
+
+pub first_from : (setting : Setting) → is_some (as_number setting.plan.base) ≡ true → IsFirst setting.plan (first_state setting)
+first_from setting h = record { file = refl; memory = unwrapped (as_number setting.plan.base) h }
 
 -- before all events the cursors are at the start
 pub cursors_first : (setting : Setting) → first_state setting ≡ cursors_after setting 0
@@ -41,18 +55,18 @@ pub record IsTried (setting : Setting) (k : ℕ) (e : OrderEvent) (from : Cursor
   pub gave : end ≡ unless (event_refusal setting e from) (stepped setting (Some e) from)
   pub before : AllPass setting k
 
-told_refused : (setting : Setting) (k : ℕ) (x : Cursors) (o : Option Refusal) (err : PlaceError) → Err err ≡ told (unless o x) k → option_map (numbered k) o ≡ Some err
+told_refused : (setting : Setting) (k : ℕ) (x : Cursors) (o : Option Refusal) (err : PlaceError) → Err err ≡ at_event (unless o x) k → option_map (numbered k) o ≡ Some err
 told_refused setting k x None err h = absurd (cc)
 told_refused setting k x (Some r) err h = cc
 
-told_passed : (k : ℕ) (x to : Cursors) (o : Option Refusal) → Ok to ≡ told (unless o x) k → (o ≡ None) × (to ≡ x)
+told_passed : (k : ℕ) (x to : Cursors) (o : Option Refusal) → Ok to ≡ at_event (unless o x) k → (o ≡ None) × (to ≡ x)
 told_passed k x to None h = (refl, cc)
 told_passed k x to (Some r) h = absurd (cc)
 
 -- its refusal is the first
-pub stops : (setting : Setting) (k : ℕ) (e : OrderEvent) (from : Cursors) (end : Result Cursors Refusal) (err : PlaceError) → IsTried setting k e from end → Err err ≡ told end k → StopsBy setting err
+pub stops : (setting : Setting) (k : ℕ) (e : OrderEvent) (from : Cursors) (end : Result Cursors Refusal) (err : PlaceError) → IsTried setting k e from end → Err err ≡ at_event end k → StopsBy setting err
 stops setting k e from end err tried h =
-    let there : Err err ≡ told (unless (event_refusal setting e from) (stepped setting (Some e) from)) k = h ∙ ap (λ (r : Result Cursors Refusal). told r k) tried.gave in
+    let there : Err err ≡ at_event (unless (event_refusal setting e from) (stepped setting (Some e) from)) k = h ∙ ap (λ (r : Result Cursors Refusal). at_event r k) tried.gave in
     let refused : refusal_of setting k (Some e) from ≡ Some err = told_refused setting k (stepped setting (Some e) from) (event_refusal setting e from) err there in
     record {
       k = k;
@@ -60,13 +74,13 @@ stops setting k e from end err tried h =
       here = ap (λ (o : Option OrderEvent). refusal_of setting k o (cursors_after setting k)) tried.here ∙ ap (refusal_of setting k (Some e)) (sym tried.so_far) ∙ refused;
     }
 
-passed : (setting : Setting) (k : ℕ) (e : OrderEvent) (from to : Cursors) (end : Result Cursors Refusal) → IsTried setting k e from end → Ok to ≡ told end k
+passed : (setting : Setting) (k : ℕ) (e : OrderEvent) (from to : Cursors) (end : Result Cursors Refusal) → IsTried setting k e from end → Ok to ≡ at_event end k
     → (event_refusal setting e from ≡ None) × (to ≡ stepped setting (Some e) from)
 passed setting k e from to end tried h =
-    told_passed k (stepped setting (Some e) from) to (event_refusal setting e from) (h ∙ ap (λ (r : Result Cursors Refusal). told r k) tried.gave)
+    told_passed k (stepped setting (Some e) from) to (event_refusal setting e from) (h ∙ ap (λ (r : Result Cursors Refusal). at_event r k) tried.gave)
 
 -- the cursors behind it
-pub goes_on : (setting : Setting) (k : ℕ) (e : OrderEvent) (from to : Cursors) (end : Result Cursors Refusal) → IsTried setting k e from end → Ok to ≡ told end k → to ≡ cursors_after setting (k + 1)
+pub goes_on : (setting : Setting) (k : ℕ) (e : OrderEvent) (from to : Cursors) (end : Result Cursors Refusal) → IsTried setting k e from end → Ok to ≡ at_event end k → to ≡ cursors_after setting (k + 1)
 goes_on setting k e from to end tried h =
     (passed setting k e from to end tried h).1
     ∙ ap (stepped setting (Some e)) tried.so_far
@@ -74,7 +88,7 @@ goes_on setting k e from to end tried h =
     ∙ sym (cursors_next setting k)
 
 -- none up to it is refused
-pub passes_on : (setting : Setting) (k : ℕ) (e : OrderEvent) (from to : Cursors) (end : Result Cursors Refusal) → IsTried setting k e from end → Ok to ≡ told end k → AllPass setting (k + 1)
+pub passes_on : (setting : Setting) (k : ℕ) (e : OrderEvent) (from to : Cursors) (end : Result Cursors Refusal) → IsTried setting k e from end → Ok to ≡ at_event end k → AllPass setting (k + 1)
 passes_on setting k e from to end tried h =
     let here : refusal_of setting k (slice_get setting.plan.events k) (cursors_after setting k) ≡ None =
     ap (λ (o : Option OrderEvent). refusal_of setting k o (cursors_after setting k)) tried.here
@@ -83,7 +97,7 @@ passes_on setting k e from to end tried h =
     below_more (λ (j : ℕ). refusal_of setting j (slice_get setting.plan.events j) (cursors_after setting j) ≡ None) k tried.before here
 
 -- the records behind it
-pub records_on : (setting : Setting) (k : ℕ) (e : OrderEvent) (from to : Cursors) (end : Result Cursors Refusal) (old new : ℕ → Record) → IsTried setting k e from end → Ok to ≡ told end k
+pub records_on : (setting : Setting) (k : ℕ) (e : OrderEvent) (from to : Cursors) (end : Result Cursors Refusal) (old new : ℕ → Record) → IsTried setting k e from end → Ok to ≡ at_event end k
     → OnOk end ((p : ℕ) → new p ≡ recorded setting (Some e) from p (old p)) → ((p : ℕ) → old p ≡ record_after setting k p)
     → (p : ℕ) → new p ≡ record_after setting (k + 1) p
 records_on setting k e from to (Err r) old new tried h writes so_far p = absurd (cc)

@@ -12,6 +12,7 @@ use Rattle.lk_place.specs.declared.cursors.Cursors.{Cursors}
 use Rattle.lk_place.specs.Alignments.{place_alignment, section_alignment}
 use Rattle.lk_place.specs.Placement.{IsPlaced}
 use Rattle.lk_place.specs.Plain.{IsLoadSegment, IsPlain, PlacesInLoad}
+use Rattle.lk_place.specs.Plans.{IsPlaceable}
 use Rattle.lk_place.specs.Ranges.{FileIsDisjoint, HasPart, MemoryIsDisjoint}
 use Rattle.lk_place.specs.Records.{Record, record_at}
 use Rattle.lk_place.specs.Segments.{alignment_inside, section_records}
@@ -31,11 +32,11 @@ abbrev pub FileRangesAreDisjoint : Type 0
 FileRangesAreDisjoint = (setting : Setting) (states : List Cursors) (records : List Record)
     → IsReady setting → IsPlaced setting states records → FileIsDisjoint records
 
--- whatever the plan, no two parts of sections that take addresses share one (regions, given addresses and moves of the location,
--- which aren't placed yet, will break this)
+-- under a plan that is placed, no two parts of sections that take addresses share one (regions, given addresses and moves of the
+-- location may break this)
 abbrev pub MemoryRangesAreDisjoint : Type 0
-MemoryRangesAreDisjoint = (setting : Setting) (states : List Cursors) (records : List Record)
-    → IsSoundlySet setting states records → MemoryIsDisjoint setting.plan records
+MemoryRangesAreDisjoint = (setting : Setting) (output : OutputKind) (states : List Cursors) (records : List Record)
+    → IsSoundlySet setting states records → IsPlaceable setting.plan output → MemoryIsDisjoint setting.plan records
 
 -- under a plain plan no two share one
 abbrev pub PlainMemoryIsDisjoint : Type 0
@@ -68,8 +69,8 @@ RecordsKeepAlignments = (setting : Setting) (states : List Cursors) (records : L
 
 -- a plan with one load segment is plain, if its events are in order and place sections alone, and its sections have memory and
 -- take bytes of the file
-abbrev pub OrdinaryPlansArePlain : Type 0
-OrdinaryPlansArePlain = (plan : Plan) (output : OutputKind) → IsEventOrder plan
+abbrev pub OneLoadSegmentIsPlain : Type 0
+OneLoadSegmentIsPlain = (plan : Plan) (output : OutputKind) → IsEventOrder plan
     → output ≢ Partial → plan.regions ≡ [] → ((k : ℕ) (e : OrderEvent) → slice_get plan.events k ≡ Some e → IsAboutPlace e)
     → ((i j : ℕ) → IsLoadSegment plan i → IsLoadSegment plan j → i ≡ j)
     → ((s : ℕ) → s < length plan.sections → (has_memory plan s ≡ true) × (is_file_backed plan s ≡ true))

@@ -5,6 +5,7 @@ pub mod Placement
 pub mod PlacementLaws
 pub mod Plain
 pub mod PlainScan
+pub mod Plans
 pub mod Ranges
 pub mod Records
 pub mod Segments

@@ -12,6 +12,7 @@ use Rattle.lk_link.specs.Inside.{placed_section}
 use Rattle.lk_link.specs.Parts.{all_parts, first_part}
 use Rattle.lk_link.specs.PlanSections.{is_allocated, is_file_backed}
 use Rattle.lk_link.specs.SegmentKinds.{is_load, segment_at}
+use Rattle.lk_link.specs.WellFormed.{IsAboutPlace}
 use Rattle.lk_place.specs.declared.cursors.Cursors.{Cursors}
 use Rattle.lk_place.specs.declared.error.PlaceError.{PlaceError}
 use Rattle.lk_place.specs.declared.error.PlaceError.TheVariants.{AddressOverflow}
@@ -114,15 +115,17 @@ abbrev pub memory_moved : Cursors → ℕ → Result Cursors Refusal
 memory_moved from memory = if nat_lt memory (2 ^ 64) then Ok (record from { memory = memory }) else Err Overflow
 
 -- what an event does to the cursors before it places a section, or why it is refused: a load segment begins where the
--- platform lets it, by its place alignment, and nothing else moves anything (what moves the location isn't carried)
+-- platform lets it, by its place alignment, and nothing else that has a step moves anything
 abbrev pub moved : Setting → OrderEvent → Cursors → Result Cursors Refusal
 moved setting (SegmentStart i) from =
     let start = setting.target.segment_start (place_alignment setting i) from.file from.memory in
     if is_load (segment_at setting.plan.segments i).kind then memory_moved from start else Ok from
 moved setting _ from = Ok from
 
--- an event moves the cursors, and then places its section, if it has one
+-- an event moves the cursors, and then places its section, if it has one; what moves the location or gives an address has no step
+-- (it isn't carried)
 pub record Steps (setting : Setting) (e : OrderEvent) (from : Cursors) (records : List Record) (to : Cursors) : Type 0 where
+  pub carried : IsAboutPlace e
   pub entered : Cursors
   pub moves : moved setting e from ≡ Ok entered
   pub places : Places setting (placed_section e) entered records to
@@ -182,13 +185,11 @@ step_refusal setting k e from = option_map (numbered k) (event_refusal setting e
 
 -- ---- the placement
 
--- where memory begins: at the number that is given (another base isn't carried)
-abbrev pub base_of : Plan → ℕ
-base_of plan = unwrap_or (as_number plan.base) 0
-
--- the cursors before the first event
-abbrev pub first_state : Setting → Cursors
-first_state setting = record { file = 0; memory = base_of setting.plan }
+-- the cursors before the first event: the file begins at 0, and memory at the number that is the plan's base (from another base on
+-- nothing is placed: it isn't carried)
+pub record IsFirst (plan : Plan) (c : Cursors) : Type 0 where
+  pub file : c.file ≡ 0
+  pub memory : as_number plan.base ≡ Some c.memory
 
 -- the cursors before event k, among the states
 abbrev pub state_at : List Cursors → ℕ → Cursors
@@ -223,7 +224,8 @@ pub record IsPlacedBefore (setting : Setting) (n p : ℕ) : Type 0 where
 -- states are the cursors before each event up to the first that is refused, and behind the last where none is; records are
 -- those of all parts by number, nowhere where no event before the last state places them (libwild: `compute_layout_sections`)
 pub record IsPlaced (setting : Setting) (states : List Cursors) (records : List Record) : Type 0 where
-  pub begins : slice_get states 0 ≡ Some (first_state setting)
+  pub some : 0 < length states
+  pub begins : IsFirst setting.plan (state_at states 0)
   pub within : length states ≤ length setting.plan.events + 1
   pub steps : (k : ℕ) (e : OrderEvent) → k + 1 < length states → slice_get setting.plan.events k ≡ Some e
       → Passes setting states records k e

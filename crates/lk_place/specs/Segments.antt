@@ -64,11 +64,11 @@ abbrev pub is_marked : List Bool → ℕ → Bool
 is_marked marks s = slice_index_or marks s false
 
 -- a section without bytes is skipped where its primary isn't emitted
-abbrev pub is_skipped : Plan → List Record → List Bool → ℕ → Bool
-is_skipped plan records emitted s = not (is_filled (record_at records s)) && not (is_marked emitted (primary_of plan.sections s))
+abbrev pub is_skipped : Plan → List Record → (ℕ → Bool) → ℕ → Bool
+is_skipped plan records emitted s = not (is_filled (record_at records s)) && not (emitted (primary_of plan.sections s))
 
 -- a section inside a segment counts there, unless it is skipped; zero-fill thread-local ones count in thread-local segments alone
-abbrev pub counts : Plan → List Record → List Bool → ℕ → ℕ → Bool
+abbrev pub counts : Plan → List Record → (ℕ → Bool) → ℕ → ℕ → Bool
 counts plan records emitted i s =
     not (is_skipped plan records emitted s) && (is_tls (segment_at plan.segments i).kind || not (is_zero_fill_thread_local plan s))
 
@@ -77,13 +77,13 @@ abbrev pub stack_record : ℕ → Record
 stack_record size = record { file_size = 0; mem_size = size; alignment = 1; file_offset = 0; mem_offset = 0; lma_offset = 0 }
 
 -- a segment spans the sections inside that count; only that of the stack is as long as the stack, and spans none
-abbrev pub segment_record : Plan → ℕ → List Record → List Bool → ℕ → Record
+abbrev pub segment_record : Plan → ℕ → List Record → (ℕ → Bool) → ℕ → Record
 segment_record plan stack records emitted i =
     if is_stack (segment_at plan.segments i).kind then stack_record stack
     else hull (map (record_at records) (filter (counts plan records emitted i) (sections_inside plan.events i)))
 
 -- the layouts of these segments (libwild: `compute_segment_layout`)
-abbrev pub segment_layouts : Plan → ℕ → List Record → List Bool → List ℕ → List SegmentLayout
+abbrev pub segment_layouts : Plan → ℕ → List Record → (ℕ → Bool) → List ℕ → List SegmentLayout
 segment_layouts plan stack records emitted active = map (λ i. record { id = i; sizes = segment_record plan stack records emitted i }) active
 
 -- the greatest alignment of the sections inside a segment, by their records, and at least the page
@@ -97,12 +97,12 @@ abbrev pub stands_in : List (List ℕ) → ℕ → Bool
 stands_in insides s = list_any (λ inside. list_any (λ t. t == s) inside) insides
 
 -- whether a section isn't skipped, is allocated, and stands in no segment
-abbrev pub is_outside : Plan → List Record → List Bool → ℕ → Bool
+abbrev pub is_outside : Plan → List Record → (ℕ → Bool) → ℕ → Bool
 is_outside plan records emitted s =
     not (is_skipped plan records emitted s) && is_allocated plan s && not (stands_in (segment_insides plan) s)
 
 -- the first such section in the order of events
-abbrev pub found_outside : Plan → List Record → List Bool → Option ℕ
+abbrev pub found_outside : Plan → List Record → (ℕ → Bool) → Option ℕ
 found_outside plan records emitted = find (is_outside plan records emitted) (filter_map placed_section plan.events)
 
 -- sections may stand outside the segments where the program headers are asked for, and in partial output, which has no segments
@@ -110,7 +110,7 @@ abbrev pub may_stand_outside : LinkInput → Bool
 may_stand_outside link = link.plan.custom_phdrs || is_partial link.options.output
 
 -- the first section that stands outside and may not
-abbrev pub first_outside : LinkInput → List Record → List Bool → Option ℕ
+abbrev pub first_outside : LinkInput → List Record → (ℕ → Bool) → Option ℕ
 first_outside link records emitted = if may_stand_outside link then None else found_outside link.plan records emitted
 
 -- the refusal of such a section

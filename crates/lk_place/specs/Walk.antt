@@ -1,8 +1,9 @@
 -- The placement, computed from front to back. Contracts of private functions speak of it; that it is the placement that
 -- `Placement` defines is proved by lemmas.
-use Rattle.std.specs.Prelude.{◌≡◌, ℕ, zero, suc, ◌+◌, ◌-◌, ◌==◌, ◌&&◌, Bool, true, ◌<◌, if◌then◌else◌, List, length, nat_le, nat_lt, slice_get, Option, Some, None, Result, Ok, Err}
+use Rattle.std.specs.Prelude.{◌≡◌, ℕ, zero, suc, ◌+◌, ◌-◌, ◌==◌, ◌&&◌, Bool, true, ◌<◌, if◌then◌else◌, List, length, nat_le, nat_lt, slice_get, Option, Some, None, Result, Ok, Err, unwrap_or}
 use Rattle.std.specs.Int.{next_multiple_of}
 use Rattle.lk_link.specs.declared.plan.OrderEvent.{OrderEvent}
+use Rattle.lk_link.specs.Expressions.{as_number}
 use Rattle.lk_link.specs.Inside.{placed_section}
 use Rattle.lk_link.specs.Parts.{first_part}
 use Rattle.lk_link.specs.PlanSections.{is_file_backed}
@@ -10,11 +11,15 @@ use Rattle.lk_place.specs.declared.cursors.Cursors.{Cursors}
 use Rattle.lk_place.specs.declared.error.PlaceError.{PlaceError}
 use Rattle.lk_place.specs.declared.error.Refusal.{Refusal}
 use Rattle.lk_place.specs.declared.placement.Placing.{Placing}
-use Rattle.lk_place.specs.declared.setting.Walk.{Walk}
+use Rattle.lk_place.specs.declared.walk.Walk.{Walk}
 use Rattle.lk_place.specs.Alignments.{place_alignment, section_alignment}
-use Rattle.lk_place.specs.Placement.{end_behind, first_state, first_walked, is_below, is_walked, left_at, moved, numbered, overflow_at, refusal_of, resting, section_end, section_start, walk_alignment}
+use Rattle.lk_place.specs.Placement.{end_behind, first_walked, is_below, is_walked, left_at, moved, numbered, overflow_at, refusal_of, resting, section_end, section_start, walk_alignment}
 use Rattle.lk_place.specs.Records.{Record, nowhere, record_at}
 use Rattle.lk_place.specs.Setting.{Setting, part_at, part_count, setting_of, size_at, target_of}
+
+-- the cursors at which the walk begins: those of the placement, where the base is a number
+abbrev pub first_state : Setting → Cursors
+first_state setting = record { file = 0; memory = unwrap_or (as_number setting.plan.base) 0 }
 
 -- the setting of a walk
 abbrev pub setting_in : {P : Type 0} → (P → ℕ → ℕ → ℕ → ℕ) → Walk P → Setting
@@ -146,7 +151,7 @@ GivesWalked setting (Ok done) records =
     AllPass setting n × ((p : ℕ) → record_at records p ≡ record_after setting n p)
 GivesWalked setting (Err e) records = StopsBy setting e
 
--- a refusal, told with the event's number
-abbrev pub told : Result Cursors Refusal → ℕ → Result Cursors PlaceError
-told (Ok to) k = Ok to
-told (Err refusal) k = Err (numbered k refusal)
+-- what an event gave, its refusal told with the event's number
+abbrev pub at_event : Result Cursors Refusal → ℕ → Result Cursors PlaceError
+at_event (Ok to) k = Ok to
+at_event (Err refusal) k = Err (numbered k refusal)

@@ -1,9 +1,10 @@
 //! Laws of placement, each proved as the contract of a function that does nothing.
 
-ghost use Rattle.lk_place.specs.Laws.{FileRangesAreDisjoint, MemoryRangesAreDisjoint, OrdinaryPlansArePlain, PlainMemoryIsCongruent, PlainMemoryIsDisjoint, RecordsKeepAlignments};
+ghost use Rattle.lk_place.specs.Laws.{FileRangesAreDisjoint, MemoryRangesAreDisjoint, OneLoadSegmentIsPlain, PlainMemoryIsCongruent, PlainMemoryIsDisjoint, RecordsKeepAlignments};
 ghost use Rattle.lk_place.specs.PlacementLaws.{PartsTakeTheirBytes, PlacementExists, PlacementIsOne, RefusedExactlyPast};
 
-/// A law: there is a placement of each plan with its events in order and good sections, up to the first refused event.
+/// A law: there is a placement of each plan that is placed, with its events in order and good sections, up to the first refused
+/// event.
 pub fn placement_exists()
     ensures { PlacementExists }
 {}
@@ -13,7 +14,8 @@ pub fn placement_is_one()
     ensures { PlacementIsOne }
 {}
 
-/// A law: a section that is placed from some cursors on is refused there exactly where one of its parts ends past 2^64 - 1.
+/// A law: in a plan that is placed, a section that is placed from some cursors on is refused there exactly where one of its parts
+/// ends past 2^64 - 1.
 pub fn refused_exactly_past()
     ensures { RefusedExactlyPast }
 {}
@@ -28,7 +30,8 @@ pub fn file_ranges_are_disjoint()
     ensures { FileRangesAreDisjoint }
 {}
 
-/// A law: whatever the plan, no two parts of sections that have memory share an address, also where an event is refused.
+/// A law: under each plan that is placed, no two parts of sections that have memory share an address, also where an event is
+/// refused.
 pub fn memory_ranges_are_disjoint()
     ensures { MemoryRangesAreDisjoint }
 {}
@@ -52,6 +55,6 @@ pub fn records_keep_alignments()
 
 /// A law: a plan with one load segment is plain, if its events are in order and place sections alone, and its sections have
 /// memory and take bytes of the file.
-pub fn ordinary_plans_are_plain()
-    ensures { OrdinaryPlansArePlain }
+pub fn one_load_segment_is_plain()
+    ensures { OneLoadSegmentIsPlain }
 {}

@@ -10,7 +10,6 @@ mod placement;
 pub mod plain;
 pub mod record;
 pub mod segments;
-mod setting;
 pub mod walk;
 
 pub use crate::alignments::compute_segment_alignments;

@@ -17,7 +17,7 @@ use crate::alignments::section_alignment;
 use crate::cursors::Cursors;
 use crate::error::Refusal;
 use crate::record::OutputRecordLayout;
-use crate::setting::Walk;
+use crate::walk::Walk;
 use lk_link::alignment::Alignment;
 use lk_link::ids::OutputSectionId;
 use lk_link::plan::PlanPart;

@@ -32,8 +32,8 @@ fn leaves_gap(plan: &Plan, section: OutputSectionId) -> bool
     !(plan.is_file_backed(section) || plan.is_zero_fill_thread_local(section))
 }
 
-/// Whether this segment is the open one.
-fn is_open(scan: &Scan, segment: SegmentId) -> bool
+/// Whether the end of this segment closes the load segment that is open.
+fn closes(scan: &Scan, segment: SegmentId) -> bool
     ensures { result ≡ option_map_or (λ i. i == segment) scan.now.inside false }
 {
     match scan.inside {
@@ -81,7 +81,7 @@ fn scanned(plan: &Plan, scan: &Scan, event: &OrderEvent) -> Scan
             }
         }
         OrderEvent::SegmentEnd(segment) => {
-            if is_open(scan, segment) {
+            if closes(scan, segment) {
                 Scan {
                     inside: None,
                     gap: scan.gap,

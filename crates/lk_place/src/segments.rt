@@ -46,7 +46,7 @@ fn is_skipped(
     section: OutputSectionId,
 ) -> bool
     requires { section < length records.now }
-    ensures { result ≡ is_skipped plan.now records.now emitted.now section }
+    ensures { result ≡ is_skipped plan.now records.now (is_marked emitted.now) section }
 {
     let placed = &records[section.as_usize()];
     placed.mem_size == 0 && !is_marked(emitted, plan.sections.primary_of(section))
@@ -62,7 +62,7 @@ fn counts(
 ) -> bool
     requires in_range { section < length records.now }
     requires there { segment < length plan.now.segments }
-    ensures { result ≡ counts plan.now records.now emitted.now segment section }
+    ensures { result ≡ counts plan.now records.now (is_marked emitted.now) segment section }
 {
     let kind = plan.segments.as_slice()[segment.as_usize()].kind;
     !is_skipped(plan, records, emitted, section)
@@ -79,7 +79,7 @@ fn span_inside(
 ) -> OutputRecordLayout
     requires in_range { All (λ s. s < length records.now) inside.now }
     requires there { segment < length plan.now.segments }
-    ensures { result ≡ hull (map (record_at records.now) (filter (counts plan.now records.now emitted.now segment) inside.now)) }
+    ensures { result ≡ hull (map (record_at records.now) (filter (counts plan.now records.now (is_marked emitted.now) segment) inside.now)) }
 {
     let mut all = None;
     for section in inside {
@@ -115,7 +115,7 @@ fn span_segment(
     requires in_range { All (λ inside. All (λ s. s < length records.now) inside) insides.now }
     requires insides { insides.now ≡ segment_insides link.now.plan }
     requires there { segment < length link.now.plan.segments }
-    ensures { result ≡ segment_record link.now.plan link.now.options.stack records.now emitted.now segment }
+    ensures { result ≡ segment_record link.now.plan link.now.options.stack records.now (is_marked emitted.now) segment }
 {
     let number = segment.as_usize();
     if link.plan.segments.as_slice()[number].kind.is_stack() {
@@ -143,7 +143,7 @@ fn span_segments(
     requires in_range { All (λ inside. All (λ s. s < length records.now) inside) insides.now }
     requires insides { insides.now ≡ segment_insides link.now.plan }
     requires there { All (λ i. i < length link.now.plan.segments) active.now }
-    ensures { IfOk result (λ all. all.items ≡ segment_layouts link.now.plan link.now.options.stack records.now emitted.now active.now) }
+    ensures { IfOk result (λ all. all.items ≡ segment_layouts link.now.plan link.now.options.stack records.now (is_marked emitted.now) active.now) }
 {
     let mut all = Vec::with_capacity(alloc, active.len())?;
     for segment in active {
@@ -196,7 +196,7 @@ fn find_outside(
     requires in_range { All (λ inside. All (λ s. s < length records.now) inside) insides.now }
     requires insides { insides.now ≡ segment_insides plan.now }
     requires events { All (IsInRange plan.now) plan.now.events }
-    ensures { IfOk result (λ found. found ≡ found_outside plan.now records.now emitted.now) }
+    ensures { IfOk result (λ found. found ≡ found_outside plan.now records.now (is_marked emitted.now)) }
 {
     let standing = mark_standing(alloc, records.len(), insides)?;
     for event in plan.events.as_slice() {
@@ -232,7 +232,7 @@ fn outside(
     requires in_range { All (λ inside. All (λ s. s < length records.now) inside) insides.now }
     requires insides { insides.now ≡ segment_insides link.now.plan }
     requires events { All (IsInRange link.now.plan) link.now.plan.events }
-    ensures { IfOk result (λ found. found ≡ first_outside link.now records.now emitted.now) }
+    ensures { IfOk result (λ found. found ≡ first_outside link.now records.now (is_marked emitted.now)) }
 {
     if may_stand_outside(link) {
         return Ok(None);
@@ -254,9 +254,9 @@ pub fn compute_segment_layout(
     requires each { length sections.now ≡ length link.now.plan.sections }
     requires there { All (λ i. i < length link.now.plan.segments) active.now }
     ensures layouts { IfOk result (λ all. all.items
-        ≡ segment_layouts link.now.plan link.now.options.stack sections.now emitted.now active.now) }
-    ensures inside { OnOk result (first_outside link.now sections.now emitted.now ≡ None) }
-    ensures refusal { IfErr result (λ e. Refuses e (outside_refusal (first_outside link.now sections.now emitted.now))) }
+        ≡ segment_layouts link.now.plan link.now.options.stack sections.now (is_marked emitted.now) active.now) }
+    ensures inside { OnOk result (first_outside link.now sections.now (is_marked emitted.now) ≡ None) }
+    ensures refusal { IfErr result (λ e. Refuses e (outside_refusal (first_outside link.now sections.now (is_marked emitted.now)))) }
 {
     let insides = link.plan.sections_of_segments(alloc)?;
     match outside(alloc, link, sections, emitted, &insides)? {

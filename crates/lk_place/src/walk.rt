@@ -6,29 +6,30 @@
 //! ends at the first event with a number past 2^64 - 1.
 
 ghost use Rattle.std.specs.Prelude.{◌≡◌, ◌<◌, ℕ, Some, IfOk, OnOk, length};
+ghost use Rattle.lk_link.specs.Expressions.{as_number};
 ghost use Rattle.lk_link.specs.Inside.{placed_section};
 ghost use Rattle.lk_link.specs.Parts.{all_parts};
 ghost use Rattle.lk_link.specs.WellFormed.{IsInRange, IsWellFormed};
 ghost use Rattle.lk_place.specs.Alignments.{place_alignment};
 ghost use Rattle.lk_place.specs.Answers.{GivesPlaced};
-ghost use Rattle.lk_place.specs.Placement.{base_of, event_refusal, memory_moved, moved, section_refusal};
+ghost use Rattle.lk_place.specs.Placement.{event_refusal, memory_moved, moved, section_refusal};
+ghost use Rattle.lk_place.specs.Plans.{IsPlaceable};
 ghost use Rattle.lk_place.specs.Records.{nowhere, record_at};
 ghost use Rattle.lk_place.specs.Setting.{IsReady, setting_of, target_of};
 ghost use Rattle.lk_place.specs.Walk.{ArePlaces, GivesWalked, Rewrites, left_behind, recorded, setting_in, stepped};
-ghost use Rattle.lk_place.specs.Walk.{told, unless, written};
+ghost use Rattle.lk_place.specs.Walk.{at_event, unless, written};
 
 use crate::alignments::compute_segment_alignments;
 use crate::cursors::Cursors;
 use crate::error::{PlaceError, Refusal};
 use crate::hulls::{nothing, span_sections};
 use crate::record::OutputRecordLayout;
-use crate::setting::Walk;
 use lk_link::alignment::Alignment;
 use lk_link::fault::Place;
 use lk_link::ids::SegmentId;
 use lk_link::link::LinkInput;
 use lk_link::list::List;
-use lk_link::plan::OrderEvent;
+use lk_link::plan::{OrderEvent, Plan};
 use lk_link::platform::Platform;
 use std::alloc::{AllocError, Global};
 
@@ -39,6 +40,14 @@ pub struct Placed {
     pub parts: List<OutputRecordLayout>,
     /// Of all output sections.
     pub sections: List<OutputRecordLayout>,
+}
+
+/// What a walk goes by: the plan, the bytes of each of its parts by number, and the machine.
+#[derive(Drop)]
+pub(crate) struct Walk<'a, P: Platform> {
+    pub(crate) plan: &'a Plan,
+    pub(crate) sizes: &'a [u64],
+    pub(crate) platform: &'a P,
 }
 
 impl<P: Platform> Walk<'_, P> {
@@ -153,7 +162,7 @@ impl<P: Platform> Walk<'_, P> {
     ) -> Result<(), PlaceError>
         requires ready { IsReady (setting_in P.segment_start self.now) }
         requires places { ArePlaces (setting_in P.segment_start self.now) places.now }
-        requires starts { base ≡ base_of self.now.plan.now }
+        requires starts { as_number self.now.plan.now.base ≡ Some base }
         requires each { length records.old ≡ length (all_parts self.now.plan.now.sections) }
         requires nothing { (p : ℕ) → record_at records.old p ≡ nowhere }
         ensures { GivesWalked (setting_in P.segment_start self.now) result records.new }
@@ -164,15 +173,15 @@ impl<P: Platform> Walk<'_, P> {
         };
         for (number, event) in self.plan.events.as_slice().iter().enumerate() {
             let end = self.carry_out(places, event, cursors, records);
-            cursors = numbered(end, number)?;
+            cursors = at_event(end, number)?;
         }
         Ok(())
     }
 }
 
 /// Tells at which event the walk was refused.
-fn numbered(end: Result<Cursors, Refusal>, event: usize) -> Result<Cursors, PlaceError>
-    ensures { result ≡ told end event }
+fn at_event(end: Result<Cursors, Refusal>, event: usize) -> Result<Cursors, PlaceError>
+    ensures { result ≡ at_event end event }
 {
     match end {
         Ok(cursors) => Ok(cursors),
@@ -195,7 +204,8 @@ fn unplaced(alloc: Global, parts: usize) -> Result<Vec<OutputRecordLayout>, Allo
 }
 
 /// Where all parts and output sections stand, by the bytes of each part; or the first event with a number past 2^64 - 1.
-/// Offsets and addresses are in bytes (libwild: `compute_layout_sections`).
+/// Offsets and addresses are in bytes (libwild: `compute_layout_sections`). The plan asks no more of the walk than this one
+/// does: it begins at a number, and has no region, no thread-local section and no event that moves the location.
 pub fn compute_layout_sections<P: Platform>(
     alloc: Global,
     link: &LinkInput,
@@ -203,13 +213,14 @@ pub fn compute_layout_sections<P: Platform>(
     platform: &P,
 ) -> Result<Placed, PlaceError>
     requires well_formed { IsWellFormed link.now }
+    requires placeable { IsPlaceable link.now.plan link.now.options.output }
     requires each { length sizes.now ≡ length (all_parts link.now.plan.sections) }
     ensures { GivesPlaced (setting_of link.now.plan (target_of (P.segment_start platform.now)) sizes.now) result }
 {
     let plan = &link.plan;
     let places = compute_segment_alignments(alloc, link, sizes)?;
     let mut parts = unplaced(alloc, sizes.len())?;
-    let base = plan.base.as_number().unwrap_or(0);
+    let base = plan.base.as_number().unwrap();
     let walk = Walk {
         plan,
         sizes,

@@ -2,9 +2,9 @@ use Rattle.std.proofs.Common.{◌≡◌, drop}
 use Rattle.std.specs.Prelude.{find}
 use Rattle.std.specs.List.{filter_map}
 use Rattle.lk_link.specs.Inside.{placed_section}
-use Rattle.lk_place.specs.Segments.{found_outside, is_outside}
+use Rattle.lk_place.specs.Segments.{found_outside, is_marked, is_outside}
 use Rattle.lk_place.proofs.segments.find_outside.Given as goal
 
 -- the first among those that are left is the first of all
 abbrev pub invariant-loop-event : goal.invariant-loop-event
-invariant-loop-event l = find (is_outside l.plan l.records l.emitted) (filter_map placed_section (drop l.event-index l.plan.events)) ≡ found_outside l.plan l.records l.emitted
+invariant-loop-event l = find (is_outside l.plan l.records (is_marked l.emitted)) (filter_map placed_section (drop l.event-index l.plan.events)) ≡ found_outside l.plan l.records (is_marked l.emitted)

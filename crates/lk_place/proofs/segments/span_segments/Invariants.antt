@@ -1,9 +1,9 @@
 use Rattle.std.proofs.Common.{◌≡◌, ◌++◌, drop}
-use Rattle.lk_place.specs.Segments.{segment_layouts}
+use Rattle.lk_place.specs.Segments.{is_marked, segment_layouts}
 use Rattle.lk_place.proofs.segments.span_segments.Given as goal
 
 -- the layouts so far, followed by those that are left, are all
 abbrev pub invariant-loop-segment : goal.invariant-loop-segment
 invariant-loop-segment l =
-    l.all.items ++ segment_layouts l.link.plan l.link.options.stack l.records l.emitted (drop l.segment-index l.active)
-    ≡ segment_layouts l.link.plan l.link.options.stack l.records l.emitted l.active
+    l.all.items ++ segment_layouts l.link.plan l.link.options.stack l.records (is_marked l.emitted) (drop l.segment-index l.active)
+    ≡ segment_layouts l.link.plan l.link.options.stack l.records (is_marked l.emitted) l.active

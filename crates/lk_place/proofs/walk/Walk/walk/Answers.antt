@@ -1,16 +1,16 @@
-use Rattle.std.proofs.Common.{◌≡◌, ℕ, ◌∙◌, Some, ap, arith}
+use Rattle.std.proofs.Common.{◌≡◌, ℕ, ◌∙◌, Some, arith, refl}
 use Rattle.std.specs.Prelude.{slice_get}
 use Rattle.lk_place.specs.declared.cursors.Cursors.{Cursors}
 use Rattle.lk_place.specs.Records.{record_at}
 use Rattle.lk_place.specs.Walk.{setting_in}
-use Rattle.lk_place.proofs.WalkSteps.{IsTried, cursors_first, goes_on, passes_on, read_there, record_first, records_on, stops, walk_refused}
-use Rattle.lk_place.proofs.setting.Walk.walk.Goals as goal
+use Rattle.lk_place.proofs.WalkSteps.{IsTried, cursors_first, first_is, goes_on, passes_on, read_there, record_first, records_on, stops, walk_refused}
+use Rattle.lk_place.proofs.walk.Walk.walk.Goals as goal
 
 pub loop-number-init : goal.loop-number-init
 loop-number-init g c =
     let setting = setting_in g.P.Platform.segment_start c.args.self.now in
     record {
-      ends = ap (λ (n : ℕ). let begin : Cursors = record { file = 0; memory = n } in begin) c.requires.starts ∙ cursors_first setting;
+      ends = first_is setting (record { file = 0; memory = c.args.base }) (record { file = refl; memory = c.requires.starts }) ∙ cursors_first setting;
       records = λ p. c.requires.nothing p ∙ record_first setting p;
       pass = λ k below. absurd (omega arith);
     }

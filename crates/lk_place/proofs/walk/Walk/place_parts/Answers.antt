@@ -8,7 +8,7 @@ use Rattle.lk_place.specs.Walk.{record_by, setting_in}
 use Rattle.lk_place.proofs.Parts.{first_part-suc}
 use Rattle.lk_place.proofs.SectionEnds.{given_below, handed_on, part_placed, part_recorded, part_refused, parts_end}
 use Rattle.lk_place.proofs.Tables.{range_grows}
-use Rattle.lk_place.proofs.setting.Walk.place_parts.Goals as goal
+use Rattle.lk_place.proofs.walk.Walk.place_parts.Goals as goal
 
 pub returns-in_err-cursors-clause-ends : goal.returns-in_err-cursors-clause-ends
 returns-in_err-cursors-clause-ends g c =

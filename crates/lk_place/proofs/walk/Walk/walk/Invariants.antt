@@ -1,7 +1,7 @@
 use Rattle.std.proofs.Common.{◌≡◌, ℕ}
 use Rattle.lk_place.specs.Records.{record_at}
 use Rattle.lk_place.specs.Walk.{AllPass, cursors_after, record_after, setting_in}
-use Rattle.lk_place.proofs.setting.Walk.walk.Given as goal
+use Rattle.lk_place.proofs.walk.Walk.walk.Given as goal
 
 -- the cursors and the records behind the events so far, of which none is refused
 abbrev pub invariant-loop-number : goal.invariant-loop-number

@@ -4,7 +4,7 @@ use Rattle.lk_link.specs.Parts.{first_part}
 use Rattle.lk_place.specs.Placement.{end_behind, is_below}
 use Rattle.lk_place.specs.Records.{record_at}
 use Rattle.lk_place.specs.Walk.{is_among, record_by, setting_in}
-use Rattle.lk_place.proofs.setting.Walk.place_parts.Given as goal
+use Rattle.lk_place.proofs.walk.Walk.place_parts.Given as goal
 
 -- the cursors and the records behind the parts so far
 abbrev pub invariant-loop-place : goal.invariant-loop-place

@@ -5,7 +5,7 @@ use Rattle.lk_place.specs.Records.{Record}
 use Rattle.lk_place.specs.Setting.{part_count}
 use Rattle.lk_place.specs.Walk.{first_record, placed_at, setting_in, unless}
 use Rattle.lk_place.proofs.SectionEnds.{first_refused, first_walked_below, told_on}
-use Rattle.lk_place.proofs.setting.Walk.placing.Goals as goal
+use Rattle.lk_place.proofs.walk.Walk.placing.Goals as goal
 
 pub size-requires : goal.size-requires
 size-requires g c = rw c.first_walked-walked.ensures (first_walked_below (setting_in g.P.Platform.segment_start c.args.self.now) c.args.section c.requires.ready c.requires.in_range)

@@ -1,0 +1,27 @@
+-- Which plans are placed: those that ask no more of the walk than to place parts behind one another, from a number on.
+use Rattle.std.specs.Prelude.{◌≡◌, ◌≢◌, ℕ, true, false, [], None, Some, is_some, slice_get}
+use Rattle.lk_link.specs.declared.options.OutputKind.{OutputKind}
+use Rattle.lk_link.specs.declared.options.OutputKind.TheVariants.{Partial}
+use Rattle.lk_link.specs.declared.plan.OrderEvent.{OrderEvent}
+use Rattle.lk_link.specs.declared.plan.Plan.{Plan}
+use Rattle.lk_link.specs.Expressions.{as_number}
+use Rattle.lk_link.specs.PlanSections.{is_thread_local, section_at}
+use Rattle.lk_link.specs.WellFormed.{IsAboutPlace}
+
+-- a section that stands behind what is placed before it, and nowhere else: it isn't thread-local, stands in no region, and is loaded
+-- from where it stands
+pub record IsPlaceableSection (plan : Plan) (s : ℕ) : Type 0 where
+  pub thread_local : is_thread_local plan s ≡ false
+  pub region : (section_at plan.sections s).region ≡ None
+  pub at : (section_at plan.sections s).at ≡ None
+
+-- a plan that is placed: for whole output, from a number on that isn't asked for and has no headers before it, without regions and
+-- without events that move the location or give an address
+pub record IsPlaceable (plan : Plan) (output : OutputKind) : Type 0 where
+  pub whole : output ≢ Partial
+  pub base : is_some (as_number plan.base) ≡ true
+  pub unasked : plan.custom_base ≡ false
+  pub headers : plan.phdrs_headers ≡ false
+  pub regions : plan.regions ≡ []
+  pub events : (k : ℕ) (e : OrderEvent) → slice_get plan.events k ≡ Some e → IsAboutPlace e
+  pub sections : (s : ℕ) → IsPlaceableSection plan s
