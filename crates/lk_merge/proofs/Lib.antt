@@ -1,0 +1,3 @@
+pub mod AmongLemmas
+pub mod PieceLemmas
+pub mod ZeroBytes
