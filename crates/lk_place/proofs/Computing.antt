@@ -5,14 +5,11 @@ use Rattle.std.proofs.Math.Seq.{take-append_seam}
 use Rattle.std.proofs.lemmas.Option.{slice_get_within}
 use Rattle.lk_link.specs.declared.options.OutputKind.{OutputKind}
 use Rattle.lk_link.specs.declared.plan.OrderEvent.{OrderEvent}
-use Rattle.lk_link.specs.declared.plan.Plan.{Plan}
 use Rattle.lk_link.specs.Parts.{all_parts}
-use Rattle.lk_link.proofs.Numbers.{made_get}
 use Rattle.lk_place.specs.declared.cursors.Cursors.{Cursors}
 use Rattle.lk_place.specs.declared.error.PlaceError.{PlaceError}
 use Rattle.lk_place.specs.declared.error.PlaceError.TheVariants.{AddressOverflow, NoMemory, SectionOutsideSegments}
 use Rattle.lk_place.specs.declared.walk.Placed.{Placed}
-use Rattle.lk_place.specs.Alignments.{segment_alignment, segment_alignments}
 use Rattle.lk_place.specs.Answers.{ArePlaced, GivesPlaced, IsRefused}
 use Rattle.lk_place.specs.Placement.{refusal_of}
 use Rattle.lk_place.specs.Plans.{IsPlaceable}
@@ -35,10 +32,6 @@ written_back {X} n new old all = ap (λ (k : ℕ). take k (new ++ drop (length n
 refused_there : (setting : Setting) (k : ℕ) (c : Cursors) (e : PlaceError) (o : Option OrderEvent) → slice_get setting.plan.events k ≡ o → refusal_of setting k o c ≡ Some e → k < length setting.plan.events
 refused_there setting k c e None at h = absurd (cc)
 refused_there setting k c e (Some x) at h = slice_get_within setting.plan.events k x at
-
--- the place alignment of a segment, among those of all
-pub place_at : (plan : Plan) (sizes places : List ℕ) (i : ℕ) → places ≡ segment_alignments plan sizes → i < length plan.segments → slice_get places i ≡ Some (segment_alignment plan sizes i)
-place_at plan sizes places i is below = ap (λ (xs : List ℕ). slice_get xs i) is ∙ made_get (segment_alignment plan sizes) plan.segments i below
 
 -- a walk to the end is the placement
 pub walked_placed : (setting : Setting) (output : OutputKind) (records sections : List Record) → IsReady setting → IsPlaceable setting.plan output → length records ≡ length (all_parts setting.plan.sections)

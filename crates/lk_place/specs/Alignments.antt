@@ -1,11 +1,12 @@
 -- The greatest alignments: of an output section, and of a segment.
-use Rattle.std.specs.Prelude.{ℕ, List, filter, fold, map, max}
+use Rattle.std.specs.Prelude.{◌≡◌, ℕ, List, filter, fold, map, max}
 use Rattle.std.specs.List.{enumerate_from}
 use Rattle.lk_link.specs.declared.plan.Plan.{Plan}
 use Rattle.lk_link.specs.declared.plan.PlanPart.{PlanPart}
 use Rattle.lk_link.specs.Parts.{first_part}
 use Rattle.lk_link.specs.Inside.{sections_inside}
 use Rattle.lk_link.specs.PlanSections.{section_at}
+use Rattle.lk_place.specs.declared.alignments.Alignments.{Alignments}
 use Rattle.lk_place.specs.Setting.{Setting, has_bytes}
 
 -- the greatest of several numbers, and at least this one
@@ -24,6 +25,10 @@ filled_alignments sizes parts = map (λ q. q.1.alignment) (filter (λ q. has_byt
 abbrev pub greatest_alignment : Plan → List ℕ → ℕ → ℕ
 greatest_alignment plan sizes s = greatest_of (section_at plan.sections s).align (filled_alignments sizes (numbered_parts plan s))
 
+-- those of all sections, by number
+abbrev pub section_alignments : Plan → List ℕ → List ℕ
+section_alignments plan sizes = map (λ q. greatest_alignment plan sizes q.0) (enumerate_from 0 plan.sections)
+
 -- the greatest alignment of the sections inside a segment, and at least the page (libwild: `compute_segment_alignments`)
 abbrev pub segment_alignment : Plan → List ℕ → ℕ → ℕ
 segment_alignment plan sizes i = greatest_of plan.page (map (greatest_alignment plan sizes) (sections_inside plan.events i))
@@ -39,3 +44,8 @@ section_alignment setting s = greatest_alignment setting.plan setting.sizes s
 -- and a load segment at its own
 abbrev pub place_alignment : Setting → ℕ → ℕ
 place_alignment setting i = segment_alignment setting.plan setting.sizes i
+
+-- these are the alignments of the sections and segments of a plan
+pub record AreAlignments (plan : Plan) (sizes : List ℕ) (all : Alignments) : Type 0 where
+  pub sections : all.sections ≡ section_alignments plan sizes
+  pub segments : all.segments ≡ segment_alignments plan sizes

@@ -12,10 +12,10 @@ use Rattle.lk_place.specs.declared.error.PlaceError.{PlaceError}
 use Rattle.lk_place.specs.declared.error.Refusal.{Refusal}
 use Rattle.lk_place.specs.declared.placement.Placing.{Placing}
 use Rattle.lk_place.specs.declared.walk.Walk.{Walk}
-use Rattle.lk_place.specs.Alignments.{place_alignment, section_alignment}
+use Rattle.lk_place.specs.Alignments.{AreAlignments, section_alignment}
 use Rattle.lk_place.specs.Placement.{end_behind, first_walked, is_below, is_walked, left_at, moved, numbered, overflow_at, refusal_of, resting, section_end, section_start, walk_alignment}
 use Rattle.lk_place.specs.Records.{Record, nowhere, record_at}
-use Rattle.lk_place.specs.Setting.{Setting, part_at, part_count, setting_of, size_at, target_of}
+use Rattle.lk_place.specs.Setting.{IsReady, Setting, part_at, part_count, setting_of, size_at, target_of}
 
 -- the cursors at which the walk begins: those of the placement, where the base is a number
 abbrev pub first_state : Setting → Cursors
@@ -24,6 +24,11 @@ first_state setting = record { file = 0; memory = unwrap_or (as_number setting.p
 -- the setting of a walk
 abbrev pub setting_in : {P : Type 0} → (P → ℕ → ℕ → ℕ → ℕ) → Walk P → Setting
 setting_in start walk = setting_of walk.plan.now (target_of (start walk.platform.now)) walk.sizes.now
+
+-- the plan of a walk can be walked, and the alignments of its sections and segments are at hand
+pub record IsWalkable {P : Type 0} (start : P → ℕ → ℕ → ℕ → ℕ) (walk : Walk P) : Type 0 where
+  pub ready : IsReady (setting_in start walk)
+  pub aligned : AreAlignments walk.plan.now walk.sizes.now walk.alignments.now
 
 -- the refusal, if there is one, else what there is
 abbrev pub unless : {X E : Type 0} → Option E → X → Result X E
@@ -37,10 +42,6 @@ fitting c = unless (overflow_at c) c
 -- each record is made what f makes of it, by its number
 abbrev pub Rewrites : (ℕ → Record → Record) → List Record → List Record → Type 0
 Rewrites f old new = (p : ℕ) → record_at new p ≡ f p (record_at old p)
-
--- these are the place alignments of the segments
-abbrev pub ArePlaces : Setting → List ℕ → Type 0
-ArePlaces setting places = (i : ℕ) → i < length setting.plan.segments → slice_get places i ≡ Some (place_alignment setting i)
 
 -- ---- one section
 

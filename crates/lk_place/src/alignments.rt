@@ -10,7 +10,8 @@ ghost use Rattle.lk_link.specs.Alignments.{is_alignment};
 ghost use Rattle.lk_link.specs.Parts.{all_parts};
 ghost use Rattle.lk_link.specs.Rules.{is_good_section};
 ghost use Rattle.lk_link.specs.WellFormed.{IsWellFormed};
-ghost use Rattle.lk_place.specs.Alignments.{filled_alignments, greatest_alignment, greatest_of, segment_alignments};
+ghost use Rattle.lk_place.specs.Alignments.{AreAlignments, filled_alignments, greatest_alignment, greatest_of};
+ghost use Rattle.lk_place.specs.Alignments.{section_alignments, segment_alignments};
 
 use lk_link::alignment::Alignment;
 use lk_link::ids::OutputSectionId;
@@ -18,6 +19,13 @@ use lk_link::link::LinkInput;
 use lk_link::list::List;
 use lk_link::plan::{Plan, PlanPart};
 use std::alloc::{AllocError, Global};
+
+/// The alignments of all sections and segments, by number.
+#[derive(Drop)]
+pub(crate) struct Alignments {
+    pub(crate) sections: List<Alignment>,
+    pub(crate) segments: List<Alignment>,
+}
 
 /// The greater of this alignment and a part's, if the part has bytes.
 fn raise(greatest: Alignment, part: &PlanPart, size: u64) -> Alignment
@@ -48,7 +56,7 @@ fn greatest_of_parts(least: Alignment, parts: &[PlanPart], first: usize, sizes: 
 
 /// The greatest alignment of a section's parts with bytes, and at least its own. `sizes` has the bytes of each part.
 #[tactic(auto, using(crate::proofs::Parts::section_parts_facts, crate::proofs::Checked::good_sections))]
-pub(crate) fn section_alignment(plan: &Plan, sizes: &[u64], section: usize) -> Alignment
+fn section_alignment(plan: &Plan, sizes: &[u64], section: usize) -> Alignment
     requires good { list_all (is_good_section plan.now.sections) plan.now.sections ≡ true }
     requires each { length sizes.now ≡ length (all_parts plan.now.sections) }
     requires in_range { section < length plan.now.sections }
@@ -68,7 +76,7 @@ fn section_alignments(
 ) -> Result<Vec<Alignment>, AllocError>
     requires good { list_all (is_good_section plan.now.sections) plan.now.sections ≡ true }
     requires each { length sizes.now ≡ length (all_parts plan.now.sections) }
-    ensures { IfOk result (λ all. all.items ≡ map (λ q. greatest_alignment plan.now sizes.now q.0) (enumerate_from 0 plan.now.sections)) }
+    ensures { IfOk result (λ all. all.items ≡ section_alignments plan.now sizes.now) }
 {
     let mut all = Vec::with_capacity(alloc, plan.sections.len())?;
     for (number, _) in plan.sections.as_slice().iter().enumerate() {
@@ -110,6 +118,27 @@ fn greatest_of_each(
     Ok(all)
 }
 
+/// The alignments of all sections and segments of a plan. `sizes` has the bytes of each part, by number over all sections.
+pub(crate) fn compute_alignments(
+    alloc: Global,
+    link: &LinkInput,
+    sizes: &[u64],
+) -> Result<Alignments, AllocError>
+    requires well_formed { IsWellFormed link.now }
+    requires each { length sizes.now ≡ length (all_parts link.now.plan.sections) }
+    ensures { IfOk result (AreAlignments link.now.plan sizes.now) }
+{
+    let plan = &link.plan;
+    let page = Alignment::new(plan.page).unwrap();
+    let sections = section_alignments(alloc, plan, sizes)?;
+    let insides = plan.sections_of_segments(alloc)?;
+    let segments = greatest_of_each(alloc, page, &sections, &insides)?;
+    Ok(Alignments {
+        sections: List::from_vec(sections),
+        segments: List::from_vec(segments),
+    })
+}
+
 /// The place alignment of each segment, by number: the greatest of the page and of the sections inside
 /// (libwild: `compute_segment_alignments`). `sizes` has the bytes of each part, by number over all sections. Takes time for
 /// each section, event and segment.
@@ -122,9 +151,6 @@ pub fn compute_segment_alignments(
     requires each { length sizes.now ≡ length (all_parts link.now.plan.sections) }
     ensures { IfOk result (λ all. all.items ≡ segment_alignments link.now.plan sizes.now) }
 {
-    let plan = &link.plan;
-    let page = Alignment::new(plan.page).unwrap();
-    let alignments = section_alignments(alloc, plan, sizes)?;
-    let insides = plan.sections_of_segments(alloc)?;
-    greatest_of_each(alloc, page, &alignments, &insides)
+    let alignments = compute_alignments(alloc, link, sizes)?;
+    Ok(alignments.segments.into_vec())
 }

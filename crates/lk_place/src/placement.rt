@@ -7,13 +7,13 @@
 ghost use Rattle.std.specs.Prelude.{◌≡◌, ◌<◌, true, length, position, nat_lt, OnOk, IfOk, IfErr, SomeIff};
 ghost use Rattle.lk_link.specs.Alignments.{is_alignment};
 ghost use Rattle.lk_link.specs.Parts.{all_parts};
+ghost use Rattle.lk_place.specs.Alignments.{section_alignment};
 ghost use Rattle.lk_place.specs.Placement.{behind, first_walked, is_below, is_walked, next_end, overflow_at};
 ghost use Rattle.lk_place.specs.Placement.{resting, section_end, section_refusal, walk_alignment};
-ghost use Rattle.lk_place.specs.Setting.{IsReady, part_at, size_at};
-ghost use Rattle.lk_place.specs.Walk.{IsPlacing, Rewrites, all_written, fitting, left_behind, one_written};
+ghost use Rattle.lk_place.specs.Setting.{part_at, size_at};
+ghost use Rattle.lk_place.specs.Walk.{IsPlacing, IsWalkable, Rewrites, all_written, fitting, left_behind, one_written};
 ghost use Rattle.lk_place.specs.Walk.{placed_at, setting_in, unless, written};
 
-use crate::alignments::section_alignment;
 use crate::cursors::Cursors;
 use crate::error::Refusal;
 use crate::record::OutputRecordLayout;
@@ -123,12 +123,21 @@ impl<P: Platform> Walk<'_, P> {
     /// The number of a section's first walked part: the first with bytes, else the first.
     #[tactic(auto, using(crate::proofs::Parts::section_parts_facts))]
     fn first_walked(&self, section: OutputSectionId) -> usize
-        requires ready { IsReady (setting_in P.segment_start self.now) }
+        requires walkable { IsWalkable P.segment_start self.now }
         requires in_range { section < length self.now.plan.now.sections }
         ensures { result ≡ first_walked (setting_in P.segment_start self.now) section }
     {
         let (first, behind) = self.plan.sections.part_range(section.as_usize());
         first + first_with_bytes(&self.sizes[first..behind]).unwrap_or(0)
+    }
+
+    /// The alignment of a section.
+    fn section_alignment(&self, section: OutputSectionId) -> Alignment
+        requires walkable { IsWalkable P.segment_start self.now }
+        requires in_range { section < length self.now.plan.now.sections }
+        ensures { result ≡ section_alignment (setting_in P.segment_start self.now) section }
+    {
+        self.alignments.sections.as_slice()[section.as_usize()]
     }
 
     /// The bytes of the part with this number.
@@ -141,7 +150,7 @@ impl<P: Platform> Walk<'_, P> {
 
     /// The alignment of the part with this number.
     fn part_alignment(&self, part: usize) -> Alignment
-        requires ready { IsReady (setting_in P.segment_start self.now) }
+        requires walkable { IsWalkable P.segment_start self.now }
         requires in_range { part < length (all_parts self.now.plan.now.sections) }
         ensures { result ≡ (part_at self.now.plan.now.sections part).alignment }
     {
@@ -150,7 +159,7 @@ impl<P: Platform> Walk<'_, P> {
 
     /// The alignment at which a walked part is placed.
     fn walk_alignment(&self, placing: &Placing, part: usize) -> Alignment
-        requires ready { IsReady (setting_in P.segment_start self.now) }
+        requires walkable { IsWalkable P.segment_start self.now }
         requires placing { IsPlacing (setting_in P.segment_start self.now) placing.now }
         requires in_range { part < length (all_parts self.now.plan.now.sections) }
         ensures { result ≡ walk_alignment (setting_in P.segment_start self.now) placing.now.section part }
@@ -180,7 +189,7 @@ impl<P: Platform> Walk<'_, P> {
         from: Cursors,
         records: &mut [OutputRecordLayout],
     ) -> Result<Cursors, Refusal>
-        requires ready { IsReady (setting_in P.segment_start self.now) }
+        requires walkable { IsWalkable P.segment_start self.now }
         requires placing { IsPlacing (setting_in P.segment_start self.now) placing.now }
         requires in_range { part < length (all_parts self.now.plan.now.sections) }
         requires each { length records.old ≡ length (all_parts self.now.plan.now.sections) }
@@ -206,7 +215,7 @@ impl<P: Platform> Walk<'_, P> {
         placing: &Placing,
         records: &mut [OutputRecordLayout],
     ) -> Result<Cursors, Refusal>
-        requires ready { IsReady (setting_in P.segment_start self.now) }
+        requires walkable { IsWalkable P.segment_start self.now }
         requires placing { IsPlacing (setting_in P.segment_start self.now) placing.now }
         requires in_range { placing.now.section < length self.now.plan.now.sections }
         requires each { length records.old ≡ length (all_parts self.now.plan.now.sections) }
@@ -224,7 +233,7 @@ impl<P: Platform> Walk<'_, P> {
 
     /// How the parts of a section are placed that begin here, unless the first walked one ends past 2^64 - 1.
     fn placing(&self, section: OutputSectionId, begin: Cursors) -> Result<Placing, Refusal>
-        requires ready { IsReady (setting_in P.segment_start self.now) }
+        requires walkable { IsWalkable P.segment_start self.now }
         requires in_range { section < length self.now.plan.now.sections }
         ensures ok { IfOk result (IsPlacing (setting_in P.segment_start self.now)) }
         ensures same { IfOk result (λ placing. (placing.section ≡ section) × (placing.begin ≡ begin)) }
@@ -232,7 +241,7 @@ impl<P: Platform> Walk<'_, P> {
             in IfErr result (λ refusal. Err refusal ≡ fitting end) }
     {
         let backed = self.plan.is_file_backed(section);
-        let greatest = section_alignment(self.plan, self.sizes, section.as_usize());
+        let greatest = self.section_alignment(section);
         let walked = self.first_walked(section);
         let first = place_part(backed, greatest, self.size(walked), begin)?;
         Ok(Placing {
@@ -254,7 +263,7 @@ impl<P: Platform> Walk<'_, P> {
         from: Cursors,
         records: &mut [OutputRecordLayout],
     ) -> Result<Cursors, Refusal>
-        requires ready { IsReady (setting_in P.segment_start self.now) }
+        requires walkable { IsWalkable P.segment_start self.now }
         requires in_range { section < length self.now.plan.now.sections }
         requires each { length records.old ≡ length (all_parts self.now.plan.now.sections) }
         ensures ends { let setting = setting_in P.segment_start self.now

@@ -15,11 +15,11 @@ ghost use Rattle.lk_place.specs.Answers.{GivesPlaced};
 ghost use Rattle.lk_place.specs.Placement.{event_refusal, memory_moved, moved, section_refusal};
 ghost use Rattle.lk_place.specs.Plans.{IsPlaceable};
 ghost use Rattle.lk_place.specs.Records.{nowhere, record_at};
-ghost use Rattle.lk_place.specs.Setting.{IsReady, setting_of, target_of};
-ghost use Rattle.lk_place.specs.Walk.{ArePlaces, GivesWalked, Rewrites, left_behind, recorded, setting_in, stepped};
+ghost use Rattle.lk_place.specs.Setting.{setting_of, target_of};
+ghost use Rattle.lk_place.specs.Walk.{GivesWalked, IsWalkable, Rewrites, left_behind, recorded, setting_in, stepped};
 ghost use Rattle.lk_place.specs.Walk.{at_event, unless, written};
 
-use crate::alignments::compute_segment_alignments;
+use crate::alignments::{Alignments, compute_alignments};
 use crate::cursors::Cursors;
 use crate::error::{PlaceError, Refusal};
 use crate::hulls::{nothing, span_sections};
@@ -42,11 +42,13 @@ pub struct Placed {
     pub sections: List<OutputRecordLayout>,
 }
 
-/// What a walk goes by: the plan, the bytes of each of its parts by number, and the machine.
+/// What a walk goes by: the plan, the bytes of each of its parts by number, the alignments of its sections and segments, and
+/// the machine.
 #[derive(Drop)]
 pub(crate) struct Walk<'a, P: Platform> {
     pub(crate) plan: &'a Plan,
     pub(crate) sizes: &'a [u64],
+    pub(crate) alignments: &'a Alignments,
     pub(crate) platform: &'a P,
 }
 
@@ -68,15 +70,19 @@ impl<P: Platform> Walk<'_, P> {
         }
     }
 
+    /// The place alignment of a segment.
+    fn place_alignment(&self, segment: SegmentId) -> Alignment
+        requires walkable { IsWalkable P.segment_start self.now }
+        requires in_range { segment < length self.now.plan.now.segments }
+        ensures { result ≡ place_alignment (setting_in P.segment_start self.now) segment }
+    {
+        self.alignments.segments.as_slice()[segment.as_usize()]
+    }
+
     /// The cursors behind the opening of a segment: a load segment begins where the platform lets it, and another moves
     /// nothing.
-    fn open_segment(
-        &self,
-        place: Alignment,
-        segment: SegmentId,
-        from: Cursors,
-    ) -> Result<Cursors, Refusal>
-        requires place { place ≡ place_alignment (setting_in P.segment_start self.now) segment }
+    fn open_segment(&self, segment: SegmentId, from: Cursors) -> Result<Cursors, Refusal>
+        requires walkable { IsWalkable P.segment_start self.now }
         requires in_range { segment < length self.now.plan.now.segments }
         ensures { result ≡ moved (setting_in P.segment_start self.now) (OrderEvent.SegmentStart segment) from }
     {
@@ -84,27 +90,20 @@ impl<P: Platform> Walk<'_, P> {
             .kind
             .is_load()
         {
-            self.begin_load(place, from)
+            self.begin_load(self.place_alignment(segment), from)
         } else {
             Ok(from)
         }
     }
 
     /// The cursors after what an event does before it places a section.
-    fn enter(
-        &self,
-        places: &[Alignment],
-        event: &OrderEvent,
-        from: Cursors,
-    ) -> Result<Cursors, Refusal>
-        requires places { ArePlaces (setting_in P.segment_start self.now) places.now }
+    fn enter(&self, event: &OrderEvent, from: Cursors) -> Result<Cursors, Refusal>
+        requires walkable { IsWalkable P.segment_start self.now }
         requires in_range { IsInRange self.now.plan.now event.now }
         ensures { result ≡ moved (setting_in P.segment_start self.now) event.now from }
     {
         match *event {
-            OrderEvent::SegmentStart(segment) => {
-                self.open_segment(places[segment.as_usize()], segment, from)
-            }
+            OrderEvent::SegmentStart(segment) => { self.open_segment(segment, from) }
             _ => Ok(from),
         }
     }
@@ -117,7 +116,7 @@ impl<P: Platform> Walk<'_, P> {
         from: Cursors,
         records: &mut [OutputRecordLayout],
     ) -> Result<Cursors, Refusal>
-        requires ready { IsReady (setting_in P.segment_start self.now) }
+        requires walkable { IsWalkable P.segment_start self.now }
         requires in_range { IsInRange self.now.plan.now event.now }
         requires each { length records.old ≡ length (all_parts self.now.plan.now.sections) }
         ensures ends { let setting = setting_in P.segment_start self.now in let s = placed_section event.now
@@ -135,13 +134,11 @@ impl<P: Platform> Walk<'_, P> {
     /// it.
     fn carry_out(
         &self,
-        places: &[Alignment],
         event: &OrderEvent,
         from: Cursors,
         records: &mut [OutputRecordLayout],
     ) -> Result<Cursors, Refusal>
-        requires ready { IsReady (setting_in P.segment_start self.now) }
-        requires places { ArePlaces (setting_in P.segment_start self.now) places.now }
+        requires walkable { IsWalkable P.segment_start self.now }
         requires in_range { IsInRange self.now.plan.now event.now }
         requires each { length records.old ≡ length (all_parts self.now.plan.now.sections) }
         ensures ends { let setting = setting_in P.segment_start self.now
@@ -149,19 +146,13 @@ impl<P: Platform> Walk<'_, P> {
         ensures records { let setting = setting_in P.segment_start self.now
             in OnOk result (Rewrites (recorded setting (Some event.now) from) records.old records.new) }
     {
-        let entered = self.enter(places, event, from)?;
+        let entered = self.enter(event, from)?;
         self.place(event, entered, records)
     }
 
     /// Carries out all events in their order, up to the first that is refused. `records` has nothing yet.
-    fn walk(
-        &self,
-        places: &[Alignment],
-        base: u64,
-        records: &mut [OutputRecordLayout],
-    ) -> Result<(), PlaceError>
-        requires ready { IsReady (setting_in P.segment_start self.now) }
-        requires places { ArePlaces (setting_in P.segment_start self.now) places.now }
+    fn walk(&self, base: u64, records: &mut [OutputRecordLayout]) -> Result<(), PlaceError>
+        requires walkable { IsWalkable P.segment_start self.now }
         requires starts { as_number self.now.plan.now.base ≡ Some base }
         requires each { length records.old ≡ length (all_parts self.now.plan.now.sections) }
         requires nothing { (p : ℕ) → record_at records.old p ≡ nowhere }
@@ -172,7 +163,7 @@ impl<P: Platform> Walk<'_, P> {
             memory: base,
         };
         for (number, event) in self.plan.events.as_slice().iter().enumerate() {
-            let end = self.carry_out(places, event, cursors, records);
+            let end = self.carry_out(event, cursors, records);
             cursors = at_event(end, number)?;
         }
         Ok(())
@@ -218,15 +209,16 @@ pub fn compute_layout_sections<P: Platform>(
     ensures { GivesPlaced (setting_of link.now.plan (target_of (P.segment_start platform.now)) sizes.now) result }
 {
     let plan = &link.plan;
-    let places = compute_segment_alignments(alloc, link, sizes)?;
+    let alignments = compute_alignments(alloc, link, sizes)?;
     let mut parts = unplaced(alloc, sizes.len())?;
     let base = plan.base.as_number().unwrap();
     let walk = Walk {
         plan,
         sizes,
+        alignments: &alignments,
         platform,
     };
-    walk.walk(&places, base, &mut parts)?;
+    walk.walk(base, &mut parts)?;
     let sections = span_sections(alloc, &plan.sections, &parts)?;
     Ok(Placed {
         parts: List::from_vec(parts),

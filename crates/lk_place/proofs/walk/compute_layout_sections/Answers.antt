@@ -3,11 +3,8 @@ use Rattle.lk_link.specs.Parts.{all_parts}
 use Rattle.lk_place.specs.Records.{Record, record_at}
 use Rattle.lk_place.specs.Segments.{section_records}
 use Rattle.lk_place.specs.Setting.{IsReady, Setting, setting_of, target_of}
-use Rattle.lk_place.proofs.Computing.{place_at, refused_answer, walked_placed, written_back}
+use Rattle.lk_place.proofs.Computing.{refused_answer, walked_placed, written_back}
 use Rattle.lk_place.proofs.walk.compute_layout_sections.Goals as goal
-
-pub walk-requires-clause-places : goal.walk-requires-clause-places
-walk-requires-clause-places g c = λ i below. place_at c.args.link.now.plan c.args.sizes.now c.deref.result.now i (c.deref.ensures.value ∙ c.in_ok-places.ensures) below
 
 pub returns-in_err-walk : goal.returns-in_err-walk
 returns-in_err-walk g c =
@@ -23,6 +20,6 @@ returns g c =
     let all : c.in_ok-parts.parts.len ≡ length parts = omega (arith, c.walk.auto.records, c.deref_mut.ensures.len) in
     let made : c.from_vec.result ≡ parts = c.from_vec.ensures ∙ written_back c.in_ok-parts.parts.len parts c.in_ok-parts.parts.items all in
     let spans : c.from_vec-2.result ≡ section_records c.args.link.now.plan.sections c.from_vec.result =
-    c.from_vec-2.ensures ∙ c.in_ok-sections.ensures ∙ ap (section_records c.args.link.now.plan.sections) (c.deref-2.ensures.value ∙ sym c.from_vec.ensures) in
+    c.from_vec-2.ensures ∙ c.in_ok-sections.ensures ∙ ap (section_records c.args.link.now.plan.sections) (c.deref.ensures.value ∙ sym c.from_vec.ensures) in
     let count : length c.from_vec.result ≡ length (all_parts c.args.link.now.plan.sections) = ap length made ∙ omega (arith, c.walk.auto.records, ap length c.deref_mut.ensures.value, c.in_ok-parts.ensures.count, c.requires.each) in
     walked_placed setting c.args.link.now.options.output c.from_vec.result c.from_vec-2.result ready c.requires.placeable count c.in_ok-walk.ensures.0 (λ p. ap (λ (rs : List Record). record_at rs p) made ∙ c.in_ok-walk.ensures.1 p) spans

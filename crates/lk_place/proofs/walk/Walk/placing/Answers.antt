@@ -8,7 +8,7 @@ use Rattle.lk_place.proofs.SectionEnds.{first_refused, first_walked_below, told_
 use Rattle.lk_place.proofs.walk.Walk.placing.Goals as goal
 
 pub size-requires : goal.size-requires
-size-requires g c = rw c.first_walked-walked.ensures (first_walked_below (setting_in g.P.Platform.segment_start c.args.self.now) c.args.section c.requires.ready c.requires.in_range)
+size-requires g c = rw c.first_walked-walked.ensures (first_walked_below (setting_in g.P.Platform.segment_start c.args.self.now) c.args.section c.requires.walkable.ready c.requires.in_range)
 
 pub returns-in_err-first-clause-refused : goal.returns-in_err-first-clause-refused
 returns-in_err-first-clause-refused g c =
@@ -18,4 +18,4 @@ returns-in_err-first-clause-refused g c =
     let first : Record = placed_at c.is_file_backed-backed.result c.section_alignment-greatest.result c.size.result c.args.begin in
     let is : first ≡ first_record setting s c.args.begin = cc in
     told_on c.from_residual.result (λ (r : Refusal). Err r ≡ unless (overflow_at end) end) c.in_err-first.field-0.0 c.from_residual.ensures.1
-    (first_refused setting s c.args.begin first c.in_err-first.field-0.0 c.requires.ready c.requires.in_range is c.in_err-first.ensures)
+    (first_refused setting s c.args.begin first c.in_err-first.field-0.0 c.requires.walkable.ready c.requires.in_range is c.in_err-first.ensures)

@@ -19,7 +19,7 @@ pub carry_out-end-requires-clause-in_range : goal.carry_out-end-requires-clause-
 carry_out-end-requires-clause-in_range g c =
     let here : slice_get c.args.self.now.plan.now.events c.loop-number.number ≡ Some c.event-item.result =
     read_there c.args.self.now.plan.now.events c.as_slice-event-items.result.now c.loop-number.number c.event-item.result c.as_slice-event-items.ensures c.loop-number-test.true c.event-item.is in
-    c.requires.ready.events.in_range c.loop-number.number c.event-item.result here
+    c.requires.walkable.ready.events.in_range c.loop-number.number c.event-item.result here
 
 pub returns-in_err-cursors : goal.returns-in_err-cursors
 returns-in_err-cursors g c =

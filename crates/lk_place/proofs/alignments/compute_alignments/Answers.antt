@@ -2,7 +2,7 @@ use Rattle.std.proofs.Common.{arith}
 use Rattle.std.proofs.lemmas.Grind.{common_steps}
 use Rattle.lk_link.proofs.GoodLinks.{few}
 use Rattle.lk_place.proofs.SegmentAlignments.{insides_have, reach_insides}
-use Rattle.lk_place.proofs.alignments.compute_segment_alignments.Goals as goal
+use Rattle.lk_place.proofs.alignments.compute_alignments.Goals as goal
 
 pub sections_of_segments-requires : goal.sections_of_segments-requires
 sections_of_segments-requires c = (few c.args.link.now c.requires.well_formed).segments
