@@ -10,9 +10,10 @@ use Rattle.lk_link.specs.declared.expression.Expression.{Expression}
 use Rattle.lk_link.specs.declared.plan.OrderEvent.{OrderEvent}
 use Rattle.lk_link.specs.declared.plan.OrderEvent.TheVariants.{SegmentStart, SegmentEnd, Section, SetLocation, SetLocationRelative, SetSectionAddress}
 use Rattle.lk_link.specs.declared.plan.Plan.{Plan}
+use Rattle.lk_link.specs.Marks.{is_marked}
 use Rattle.lk_link.specs.Rules.{is_section, is_start, is_end}
 use Rattle.lk_check.specs.FirstBadEvent.{is_good_event, all_below, is_complete}
-use Rattle.lk_check.specs.Marks.{has_mark, AreMarked, AreMarks, Marks}
+use Rattle.lk_check.specs.Marks.{AreMarked, AreMarks, Marks}
 
 -- ---- one more event
 
@@ -22,12 +23,12 @@ any_more p before e b h = list_any-append p before (e ∷ []) ∙ ap (λ c. list
 -- the number that gets a mark is the one that the event names
 marked : (names : ℕ → OrderEvent → Bool) (n : ℕ) (before : List OrderEvent) (e : OrderEvent) (old new : List Bool) (m : ℕ) (fresh : Bool) → AreMarked names n before old → Marks m old new fresh → fresh ≡ true → names m e ≡ true → ((k : ℕ) → k ≢ m → names k e ≡ false) → AreMarked names n (before ++ e ∷ []) new
 marked names n before e old new m fresh h s good hit misses =
-    let within : m < length old = ltb-true m (length old) (and_parts (nat_lt m (length old)) (not (has_mark old m)) (sym s.is_fresh ∙ good)).0 in
+    let within : m < length old = ltb-true m (length old) (and_parts (nat_lt m (length old)) (not (is_marked old m)) (sym s.is_fresh ∙ good)).0 in
     let here = any_more (names m) before e true hit ∙ or-true (list_any (names m) before) in
     record {
       all = s.len ∙ h.all;
       each = λ k. ⊎_elim
-          (λ same. ap (has_mark new) same ∙ s.is_marked within ∙ sym here ∙ ap (λ j. list_any (names j) (before ++ e ∷ [])) (sym same))
+          (λ same. ap (is_marked new) same ∙ s.set within ∙ sym here ∙ ap (λ j. list_any (names j) (before ++ e ∷ [])) (sym same))
           (λ other. s.others k other ∙ h.each k ∙ sym (any_more (names k) before e false (misses k other) ∙ or-false (list_any (names k) before)))
           (cases_eq k m);
     }
@@ -41,7 +42,7 @@ kept names n before e marks h misses = record {
 
 -- a number is fresh where no event before named it
 fresh_by : (names : ℕ → OrderEvent → Bool) (n : ℕ) (before : List OrderEvent) (old new : List Bool) (m : ℕ) (fresh : Bool) → AreMarked names n before old → Marks m old new fresh → fresh ≡ (nat_lt m n && not (list_any (names m) before))
-fresh_by names n before old new m fresh h s = s.is_fresh ∙ ap (λ len. nat_lt m len && not (has_mark old m)) h.all ∙ ap (λ b. nat_lt m n && not b) (h.each m)
+fresh_by names n before old new m fresh h s = s.is_fresh ∙ ap (λ len. nat_lt m len && not (is_marked old m)) h.all ∙ ap (λ b. nat_lt m n && not b) (h.each m)
 
 no_other : (m k : ℕ) → k ≢ m → (m == k) ≡ false
 no_other m k other = ne_eqb m k (λ e. other (sym e))
@@ -74,17 +75,17 @@ start_marks plan before placed opened closed new i fresh h m good = record {
 
 -- ---- a segment that closes
 
-has_place : (marks : List Bool) (n : ℕ) → has_mark marks n ≡ true → n < length marks
-has_place marks n h = ⊎_elim (λ lt. lt) (λ past. absurd (let none : has_mark marks n ≡ false = get_or_past marks n false past in cc)) (cases_lt n (length marks))
+has_place : (marks : List Bool) (n : ℕ) → is_marked marks n ≡ true → n < length marks
+has_place marks n h = ⊎_elim (λ lt. lt) (λ past. absurd (let none : is_marked marks n ≡ false = get_or_past marks n false past in cc)) (cases_lt n (length marks))
 
-pub end_exact : (script : Bool) (plan : Plan) (before : List OrderEvent) (placed opened closed new : List Bool) (i : ℕ) (fresh : Bool) → AreMarks plan before placed opened closed → has_mark opened i ≡ true → Marks i closed new fresh → fresh ≡ is_good_event script plan before (SegmentEnd i)
+pub end_exact : (script : Bool) (plan : Plan) (before : List OrderEvent) (placed opened closed new : List Bool) (i : ℕ) (fresh : Bool) → AreMarks plan before placed opened closed → is_marked opened i ≡ true → Marks i closed new fresh → fresh ≡ is_good_event script plan before (SegmentEnd i)
 unfolding is_good_event
 end_exact script plan before placed opened closed new i fresh h begun m =
     let within : i < length plan.segments = omega (arith, has_place opened i begun, h.on_starts.all) in
     fresh_by is_end (length plan.segments) before closed new i fresh h.on_ends m
     ∙ ap (λ b. b && not (list_any (is_end i) before)) (lt-ltb i (length plan.segments) within ∙ sym begun ∙ h.on_starts.each i)
 
-pub end_refused : (script : Bool) (plan : Plan) (before : List OrderEvent) (placed opened closed : List Bool) (i : ℕ) → AreMarks plan before placed opened closed → has_mark opened i ≡ false → is_good_event script plan before (SegmentEnd i) ≡ false
+pub end_refused : (script : Bool) (plan : Plan) (before : List OrderEvent) (placed opened closed : List Bool) (i : ℕ) → AreMarks plan before placed opened closed → is_marked opened i ≡ false → is_good_event script plan before (SegmentEnd i) ≡ false
 unfolding is_good_event
 end_refused script plan before placed opened closed i h shut = ap (λ b. b && not (list_any (is_end i) before)) (sym (h.on_starts.each i) ∙ shut)
 
@@ -121,7 +122,7 @@ pub ruleset admission = (section_exact, section_marks, start_exact, start_marks,
 unmarked : (names : ℕ → OrderEvent → Bool) (n : ℕ) (marks : List Bool) → marks ≡ replicate n false → AreMarked names n [] marks
 unmarked names n marks h = record {
   all = ap length h ∙ length-replicate n false;
-  each = λ k. ap (λ ms. has_mark ms k) h
+  each = λ k. ap (λ ms. is_marked ms k) h
       ∙ ⊎_elim (λ lt. get_or-replicate n k false false lt) (λ past. get_or_past (replicate n false) k false (omega (arith, length-replicate n false))) (cases_lt k n);
 }
 
@@ -137,10 +138,10 @@ pub ruleset room = (take-replicate)
 
 -- ---- all events
 
-from_marks : (marks : List Bool) → All (λ m. m ≡ true) marks → (k : ℕ) → k < length marks → has_mark marks k ≡ true
+from_marks : (marks : List Bool) → All (λ m. m ≡ true) marks → (k : ℕ) → k < length marks → is_marked marks k ≡ true
 from_marks marks h k lt = h k false lt
 
-to_marks : (marks : List Bool) → ((k : ℕ) → k < length marks → has_mark marks k ≡ true) → All (λ m. m ≡ true) marks
+to_marks : (marks : List Bool) → ((k : ℕ) → k < length marks → is_marked marks k ≡ true) → All (λ m. m ≡ true) marks
 to_marks [] h k d lt = absurd (omega arith)
 to_marks (m ∷ marks) h zero d lt = h 0 (omega arith)
 to_marks (m ∷ marks) h (suc k) d lt = to_marks marks (λ j below. h (suc j) (omega arith)) k d (omega arith)

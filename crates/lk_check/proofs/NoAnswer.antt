@@ -41,16 +41,6 @@ both_none a b h g = ap (λ o. first_some o b) h ∙ g
 
 -- ---- a list
 
-not_here : {X : Type 0} (b : Bool) (x : X) (o : Option X) → cond b (Some x) o ≡ None → (b ≡ false) × (o ≡ None)
-not_here true x o h = absurd (cc)
-not_here false x o h = (refl, h)
-
--- where none is found, each fails
-pub none_found : {X : Type 0} (p : X → Bool) (xs : List X) (k : ℕ) (x : X) → find p xs ≡ None → slice_get xs k ≡ Some x → p x ≡ false
-none_found p [] k x h e = absurd (cc)
-none_found p (y ∷ xs) zero x h e = let same : y ≡ x = cc in ap p (sym same) ∙ (not_here (p y) y (find p xs) h).0
-none_found p (y ∷ xs) (suc k) x h e = none_found p xs k x (not_here (p y) y (find p xs) h).1 e
-
 -- where each fails, none is found
 pub find_none : {X : Type 0} (p : X → Bool) (xs : List X) → ((k : ℕ) (x : X) → slice_get xs k ≡ Some x → p x ≡ false) → find p xs ≡ None
 find_none p [] h = refl

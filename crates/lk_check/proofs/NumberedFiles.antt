@@ -11,55 +11,24 @@ use Rattle.lk_link.specs.Files.{file_in}
 use Rattle.lk_link.specs.Inputs.{NumberedFile, numbered_file, group_files, numbered_files}
 use Rattle.lk_link.specs.SymbolRules.{is_good_symbol}
 use Rattle.lk_link.specs.Symbols.{all_files}
+use Rattle.lk_link.proofs.Elements.{flat_map_at, map_at, numbered_at}
 use Rattle.lk_link.proofs.InputLemmas.{files_from_are}
 use Rattle.lk_check.specs.FirstBadFile.{bad_symbol, first_bad_symbol}
 use Rattle.lk_check.proofs.First.{found_of}
-
--- ---- elements of made lists
-
-in_join : {X : Type 0} (xs ys : List X) (k : ℕ) (y : X) → slice_get (xs ++ ys) k ≡ Some y → ((i : ℕ) × (slice_get xs i ≡ Some y)) ⊎ ((i : ℕ) × (slice_get ys i ≡ Some y))
-in_join [] ys k y h = inr (k, h)
-in_join (x ∷ xs) ys zero y h = inl (0, h)
-in_join (x ∷ xs) ys (suc k) y h = elim (in_join xs ys k y h) [ inl r ↦ inl (suc r.0, r.1) | inr r ↦ inr r ]
-
--- an element of a joined list is one of a part
-in_flat : {X Y : Type 0} (f : X → List Y) (xs : List X) (k : ℕ) (y : Y) → slice_get (flat_map f xs) k ≡ Some y → (j : ℕ) × (i : ℕ) × (x : X) × (slice_get xs j ≡ Some x) × (slice_get (f x) i ≡ Some y)
-in_flat f [] k y h = absurd (cc)
-in_flat f (x ∷ xs) k y h =
-    elim (in_join (f x) (flat_map f xs) k y h) [
-      | inl r ↦ (0, r.0, x, refl, r.1)
-      | inr r ↦ let s = in_flat f xs r.0 y r.1 in (suc s.0, s.1, s.2, s.3, s.4)
-    ]
-
-in_map : {X Y : Type 0} (f : X → Y) (xs : List X) (k : ℕ) (y : Y) → slice_get (map f xs) k ≡ Some y → (x : X) × (slice_get xs k ≡ Some x) × (f x ≡ y)
-in_map f [] k y h = absurd (cc)
-in_map f (x ∷ xs) zero y h = (x, refl, cc)
-in_map f (x ∷ xs) (suc k) y h = in_map f xs k y h
-
--- a numbered element stands under its number
-pub in_numbered : {X : Type 0} (n : ℕ) (xs : List X) (k : ℕ) (q : ℕ × X) → slice_get (enumerate_from n xs) k ≡ Some q → (q.0 ≡ n + k) × (slice_get xs k ≡ Some q.1)
-in_numbered n [] k q h = absurd (cc)
-in_numbered {X} n (x ∷ xs) zero q h =
-    let first : ℕ × X = (n, x) in
-    let same : first ≡ q = cc in
-    (ap (λ (p : ℕ × X). p.0) (sym same) ∙ sym (add-zero n), ap (λ (p : ℕ × X). Some p.1) same)
-in_numbered n (x ∷ xs) (suc k) q h =
-    let r = in_numbered (n + 1) xs k q h in
-    (omega (arith, r.0), r.1)
 
 -- ---- files
 
 -- a numbered file is the file with that number
 pub numbered_there : (groups : List (List InputFile)) (k : ℕ) (x : NumberedFile) → slice_get (numbered_files groups) k ≡ Some x → file_in groups x.id ≡ Some x.file
 numbered_there groups k x h =
-    let outer = in_flat (λ q. group_files q.0 0 q.1) (enumerate_from 0 groups) k x h in
-    let q = outer.2 in
-    let group = in_numbered 0 groups outer.0 q outer.3 in
-    let inner = in_map (numbered_file q.0) (enumerate_from 0 q.1) outer.1 x outer.4 in
+    let group = flat_map_at (λ q. group_files q.0 0 q.1) (enumerate_from 0 groups) k x h in
+    let q = group.from in
+    let outer = numbered_at 0 groups group.outer q group.there in
+    let inner = map_at (numbered_file q.0) (enumerate_from 0 q.1) group.inner x group.gives in
     let p = inner.0 in
-    let file = in_numbered 0 q.1 outer.1 p inner.1 in
-    let at_group : slice_get groups q.0 ≡ Some q.1 = ap (slice_get groups) (group.0 ∙ zero-add outer.0) ∙ group.1 in
-    let at_file : slice_get q.1 p.0 ≡ Some p.1 = ap (slice_get q.1) (file.0 ∙ zero-add outer.1) ∙ file.1 in
+    let file = numbered_at 0 q.1 group.inner p inner.1 in
+    let at_group : slice_get groups q.0 ≡ Some q.1 = ap (slice_get groups) (outer.0 ∙ zero-add group.outer) ∙ outer.1 in
+    let at_file : slice_get q.1 p.0 ≡ Some p.1 = ap (slice_get q.1) (file.0 ∙ zero-add group.inner) ∙ file.1 in
     let P : NumberedFile → Type 0 = λ z. file_in groups z.id ≡ Some z.file in
     subst P inner.2 (ap (option_and_then (λ files. slice_get files p.0)) at_group ∙ at_file)
 

@@ -23,7 +23,7 @@ use Rattle.lk_link.specs.FileKinds.{is_prelude}
 use Rattle.lk_link.specs.InputRules.{is_good_input, has_good_inputs}
 use Rattle.lk_link.specs.Inputs.{NumberedFile, numbered_files}
 use Rattle.lk_link.specs.Limits.{counted, limit_of}
-use Rattle.lk_link.proofs.Places.{all_at, all_from, all_where_none}
+use Rattle.lk_link.proofs.Places.{all_at, all_from, all_where_none, none_found}
 use Rattle.lk_link.specs.Rules.{is_good_options, is_good_section, has_script, begins_with_prelude}
 use Rattle.lk_link.specs.SegmentKinds.{is_tls}
 use Rattle.lk_link.specs.SymbolRules.{is_good_symbol, file_symbols}
@@ -35,7 +35,7 @@ use Rattle.lk_check.specs.FirstBadEvent.{first_bad_event}
 use Rattle.lk_check.specs.FirstBadFile.{is_other_prelude, first_bad_prelude, bad_symbol, first_bad_symbol, bad_input, first_bad_input}
 use Rattle.lk_check.specs.FirstExcess.{all_limits, excess, first_excess, first_exceeded}
 use Rattle.lk_check.specs.FirstFault.{first_bad_section, second_tls, options_fault, page_fault, section_fault, tls_fault, event_fault, prelude_fault, symbol_fault, input_fault, plan_fault, placing_fault, file_fault, first_broken, first_fault, WellFormedExactlyUnfaulted}
-use Rattle.lk_check.proofs.NoAnswer.{no_map, passes_if, holds_if, none_unless, none_first, both_none, none_found, find_none, none_where_all, none_of, none_from}
+use Rattle.lk_check.proofs.NoAnswer.{no_map, passes_if, holds_if, none_unless, none_first, both_none, find_none, none_where_all, none_of, none_from}
 use Rattle.lk_check.proofs.NumberedFiles.{numbered_there, all_by_groups, all_of_files}
 use Rattle.lk_check.proofs.UnfaultedEvents.{event_order, scripted, none_bad}
 

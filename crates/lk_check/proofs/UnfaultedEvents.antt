@@ -10,13 +10,14 @@ use Rattle.lk_link.specs.declared.expression.Expression.{Expression}
 use Rattle.lk_link.specs.declared.plan.OrderEvent.{OrderEvent}
 use Rattle.lk_link.specs.declared.plan.OrderEvent.TheVariants.{SegmentStart, SegmentEnd, Section, SetLocation, SetLocationRelative, SetSectionAddress}
 use Rattle.lk_link.specs.declared.plan.Plan.{Plan}
+use Rattle.lk_link.proofs.Elements.{numbered_at}
+use Rattle.lk_link.proofs.Events.{is_that_section, is_that_start, is_that_end}
 use Rattle.lk_link.proofs.Places.{found, among}
 use Rattle.lk_link.specs.Rules.{is_section, is_start, is_end, is_location}
 use Rattle.lk_link.proofs.InputLemmas.{numbered_get}
 use Rattle.lk_link.specs.WellFormed.{IsInRange, IsAboutPlace, IsEventOrder}
 use Rattle.lk_check.specs.FirstAnswer.{first_of}
 use Rattle.lk_check.specs.FirstBadEvent.{is_good_event, bad_event, first_bad_event, all_below, is_complete}
-use Rattle.lk_check.proofs.NumberedFiles.{in_numbered}
 use Rattle.lk_check.proofs.NoAnswer.{none_of, none_from, none_first, both_none, passes_if}
 
 -- ---- one event
@@ -60,18 +61,6 @@ location_good script plan before (SetSectionAddress x) h at = absurd (cc)
 relative_good : (script : Bool) (plan : Plan) (before : List OrderEvent) (x : Expression) (s : ℕ) → is_good_event script plan before (SetLocationRelative x s) ≡ true → s < length plan.sections
 unfolding is_good_event
 relative_good script plan before x s h = ltb-true s (length plan.sections) (and_parts script (nat_lt s (length plan.sections)) h).1
-
-is_that_section : (s : ℕ) (e : OrderEvent) → is_section s e ≡ true → e ≡ Section s
-is_that_section s (Section t) h = ap (λ n. Section n) (eqb-true t s h)
-is_that_section s _ h = absurd (cc)
-
-is_that_start : (i : ℕ) (e : OrderEvent) → is_start i e ≡ true → e ≡ SegmentStart i
-is_that_start i (SegmentStart j) h = ap (λ n. SegmentStart n) (eqb-true j i h)
-is_that_start i _ h = absurd (cc)
-
-is_that_end : (i : ℕ) (e : OrderEvent) → is_end i e ≡ true → e ≡ SegmentEnd i
-is_that_end i (SegmentEnd j) h = ap (λ n. SegmentEnd n) (eqb-true j i h)
-is_that_end i _ h = absurd (cc)
 
 -- the start of a segment that closes stands before its end
 start_before : (script : Bool) (plan : Plan) → AreGood script plan → (i k : ℕ) → slice_get plan.events k ≡ Some (SegmentEnd i) → (j : ℕ) × (j < k) × (slice_get plan.events j ≡ Some (SegmentStart i))
@@ -196,7 +185,7 @@ good_in_order script plan h moves k (SetSectionAddress x) at_k = refl
 
 all_good : (script : Bool) (plan : Plan) → AreGood script plan → first_of (bad_event script plan) (enumerate_from 0 plan.events) ≡ None
 all_good script plan good = none_from (bad_event script plan) (enumerate_from 0 plan.events) (λ k e at_k.
-    let numbered = in_numbered 0 plan.events k e at_k in
+    let numbered = numbered_at 0 plan.events k e at_k in
     let number = numbered.0 ∙ zero-add k in
     ap (λ b. cond b None (Some e.0)) (ap (λ n. is_good_event script plan (take n plan.events) e.1) number ∙ good k e.1 numbered.1))
 

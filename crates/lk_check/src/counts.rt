@@ -5,6 +5,7 @@ ghost use Rattle.lk_link.specs.declared.file.InputFile.{InputFile};
 ghost use Rattle.lk_link.specs.Limits.{file_name_bytes, merge_size, over_files};
 
 use lk_link::file::InputFile;
+use lk_link::limits::MERGE_UNIT;
 use lk_link::list::List;
 use lk_link::section::InputSection;
 use lk_link::symbol::InputSymbol;
@@ -65,7 +66,7 @@ impl FileNumber for NameBytes {
     }
 }
 
-/// The bytes of a file's merge sections, each rounded up to a multiple of 256.
+/// The bytes of a file's merge sections, each rounded up to a multiple of the unit.
 pub struct MergeBytes;
 
 impl FileNumber for MergeBytes {
@@ -102,7 +103,7 @@ fn section_name_bytes(sections: &[InputSection]) -> u64
     count
 }
 
-/// The bytes of merge sections, each rounded up to a multiple of 256.
+/// The bytes of merge sections, each rounded up to a multiple of the unit.
 fn merge_bytes(sections: &[InputSection]) -> u64
     ensures { result ≡ min (sum_by merge_size sections.now) (2 ^ 64 - 1) }
 {
@@ -119,7 +120,7 @@ fn merge_size(section: &InputSection) -> u64
 {
     if section.slot.is_merge() {
         (section.bytes.len() as u64)
-            .checked_next_multiple_of(256)
+            .checked_next_multiple_of(MERGE_UNIT)
             .unwrap_or(u64::MAX)
     } else {
         0

@@ -1,4 +1,15 @@
-//! The rule on events.
+//! The rule on events: each section is placed once; each segment is opened once, and closed once after that; what an event
+//! names is there; and only where a script is does the location counter move.
+//!
+//! The events are walked once, in their order, with three lists of marks: on the sections that were placed, on the
+//! segments that were opened, and on those that were closed. The marks tell all that the rule asks of the events before
+//! one. So each event takes constant time: what it names has to have a place in its list and no mark there, and a segment
+//! that closes has to have the mark of one that opened; then the event sets its mark. Behind the last event each mark has
+//! to be set. The first event that doesn't pass is the first behind which the events can't be in order any more; where all
+//! pass and a mark is left, something is missing, and its place is the number of events.
+//!
+//! The limits bound how many sections and segments there are, so the marks stand in arrays of fixed lengths: the check
+//! wants no memory, and can't be refused it.
 
 ghost use Rattle.std.specs.Prelude.{◌≡◌, ℕ, ◌+◌, ◌≤◌, false, true, List, [], ◌∷◌, ◌++◌, count_by, length, replicate};
 ghost use Rattle.lk_link.specs.declared.plan.OrderEvent.{OrderEvent};
@@ -9,13 +20,14 @@ ghost use Rattle.lk_link.specs.Rules.{has_script, is_location};
 ghost use Rattle.lk_link.specs.SymbolRules.{location_count};
 ghost use Rattle.lk_check.specs.FirstBadEvent.{is_good_event, first_bad_event, is_complete};
 ghost use Rattle.lk_check.specs.FirstFault.{check_of, event_fault};
-ghost use Rattle.lk_check.specs.Marks.{has_mark, AreMarks, Marks};
+ghost use Rattle.lk_check.specs.Marks.{AreMarks, Marks};
 
 use lk_link::fault::{LinkFault, Place, Rule};
 use lk_link::file::InputFile;
 use lk_link::limits::{OUTPUT_SECTIONS, SEGMENTS};
 use lk_link::link::LinkInput;
 use lk_link::list::List;
+use lk_link::marks::is_marked;
 use lk_link::plan::{OrderEvent, Plan};
 
 /// The most output sections.
@@ -26,7 +38,7 @@ const MOST_SEGMENTS: usize = SEGMENTS as usize;
 
 /// Each section is placed once, and each segment opened once, and closed once after that; what an event names is there,
 /// and only where a script is does the location counter move. Else the place is the first event after which that can't
-/// be, the number of events for what is missing.
+/// be, the number of events for what is missing. Takes time for each event, section and segment, and no memory.
 #[tactic(auto, unfolding(crate::specs::FirstFault::check_of, crate::specs::FirstFault::event_fault))]
 pub fn check_events(link: &LinkInput) -> Result<(), LinkFault>
     requires sections { length link.now.plan.sections ≤ OUTPUT_SECTIONS }
@@ -57,7 +69,7 @@ fn has_script_in(files: &[InputFile]) -> bool
     files.iter().any(|file| file.kind.is_script())
 }
 
-/// How many events move the location counter.
+/// How many events move the location counter. Takes time for each event.
 pub fn location_count(plan: &Plan) -> usize
     ensures { result ≡ location_count plan.now }
 {
@@ -70,21 +82,11 @@ fn count_locations(events: &[OrderEvent]) -> usize
 {
     let mut count = 0;
     for event in events {
-        if is_location(event) {
+        if event.is_location() {
             count += 1;
         }
     }
     count
-}
-
-/// Whether an event moves it.
-fn is_location(event: &OrderEvent) -> bool
-    ensures { result ≡ is_location event.now }
-{
-    matches!(
-        event,
-        OrderEvent::SetLocation(_) | OrderEvent::SetLocationRelative(_, _)
-    )
 }
 
 /// The first event that breaks the rule, in a plan of at most so many sections and segments.
@@ -155,7 +157,7 @@ fn admits(
         OrderEvent::Section(section) => mark(placed, section.as_usize()),
         OrderEvent::SegmentStart(segment) => mark(opened, segment.as_usize()),
         OrderEvent::SegmentEnd(segment) => {
-            has_mark(opened, segment.as_usize()) && mark(closed, segment.as_usize())
+            is_marked(opened, segment.as_usize()) && mark(closed, segment.as_usize())
         }
         OrderEvent::SetLocation(_) => script,
         OrderEvent::SetLocationRelative(_, section) => {
@@ -171,13 +173,6 @@ fn is_complete(placed: &[bool], opened: &[bool], closed: &[bool]) -> bool
     ensures { (plan : Plan) → AreMarks plan plan.events placed.now opened.now closed.now → result ≡ is_complete plan }
 {
     all_marked(placed) && all_marked(opened) && all_marked(closed)
-}
-
-/// Whether a number has a mark.
-fn has_mark(marks: &[bool], number: usize) -> bool
-    ensures { result ≡ has_mark marks.now number }
-{
-    number < marks.len() && marks[number]
 }
 
 /// Whether a number that has a place among the marks had none; marks it.

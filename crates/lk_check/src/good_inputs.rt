@@ -44,14 +44,14 @@ fn fits_part(section: &InputSection, part: &PlanPart) -> bool
     ensures { result ≡ fits_part section.now part.now }
 {
     (!section.slot.is_merge() || part.alignment == 1)
-        && (!section.sorted || section.slot.is_plain() && !part.packed)
+        && (!section.sorted || section.slot.is_regular() && !part.packed)
 }
 
 /// Whether a section that stays an output section of its own is plain, and isn't sorted.
 fn is_good_singleton(plan: &Plan, section: &InputSection) -> bool
     ensures { result ≡ is_good_singleton plan.now section.now }
 {
-    !is_singleton_part(plan, section.part) || section.slot.is_plain() && !section.sorted
+    !is_singleton_part(plan, section.part) || section.slot.is_regular() && !section.sorted
 }
 
 /// Whether attributes are among those for writing and code, and relocations and relaxations are good, in a file of so

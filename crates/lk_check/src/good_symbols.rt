@@ -7,6 +7,7 @@ use crate::parts::is_free_part;
 use lk_link::file::{FileKind, InputFile};
 use lk_link::groups::InputGroups;
 use lk_link::ids::{OutputSectionId, SymbolId};
+use lk_link::limits::GIVEN_FLAG_SETS;
 use lk_link::link::LinkInput;
 use lk_link::plan::Plan;
 use lk_link::section::InputSection;
@@ -24,7 +25,7 @@ pub fn is_good_symbol(
     ensures { result ≡ is_good_symbol link.now file.now symbol.now }
 {
     has_definition(&link.groups, symbol.def)
-        && symbol.flags.0 < 64
+        && symbol.flags.0 < GIVEN_FLAG_SETS
         && is_placement_in(file.kind, &symbol.at)
         && is_placement_there(&link.plan, locations, file.sections.as_slice(), &symbol.at)
 }

@@ -9,6 +9,7 @@ ghost use Rattle.lk_check.specs.FirstFault.{check_of, first_bad_section, section
 use lk_link::alignment::is_valid;
 use lk_link::fault::{LinkFault, Place, Rule};
 use lk_link::ids::OutputSectionId;
+use lk_link::limits::ATTRIBUTE_SETS;
 use lk_link::plan::{Plan, PlanPart, PlanSection, PlanSections};
 
 /// Each section is good; else the place is the first that isn't.
@@ -44,7 +45,7 @@ fn is_good_section(sections: &PlanSections, section: &PlanSection) -> bool
         && is_valid(section.align)
         && are_alignments(section.parts.as_slice())
         && falls(section.parts.as_slice())
-        && section.attrs < 32
+        && section.attrs < ATTRIBUTE_SETS
         && has_primary(sections, section)
 }
 

@@ -10,7 +10,7 @@ ghost use Rattle.lk_link.specs.Parts.{all_parts};
 ghost use Rattle.lk_link.specs.WellFormed.{IsWellFormed};
 ghost use Rattle.lk_place.specs.Records.{record_at};
 ghost use Rattle.lk_place.specs.Segments.{section_records};
-ghost use Rattle.lk_place.specs.Setting.{target_of};
+ghost use Rattle.lk_link.specs.Target.{platform_target};
 ghost use Rattle.lk_sizes.specs.Contents.{part_contents as contents_of};
 ghost use Rattle.lk_sizes.specs.Owners.{part_size};
 ghost use Rattle.lk_layout.specs.Carried.{IsCarried};
@@ -44,7 +44,7 @@ pub fn compute_alone<P: Platform, A: Arch>(
     platform: &P,
     _arch: &A,
 ) -> Result<Layout, LayoutError>
-    ensures { Gives (target_of (P.segment_start platform.now)) link.now result }
+    ensures { Gives (platform_target (P.segment_start platform.now)) link.now result }
 {
     check_link(link)?;
     match first_uncarried(link) {
@@ -61,7 +61,7 @@ fn lay_out<P: Platform>(
 ) -> Result<Layout, LayoutError>
     requires good { IsWellFormed link.now }
     requires carried { IsCarried link.now }
-    ensures { WithMemory (IsCarriedAnswer (target_of (P.segment_start platform.now)) link.now) result }
+    ensures { WithMemory (IsCarriedAnswer (platform_target (P.segment_start platform.now)) link.now) result }
 {
     let live = traverse_alone(alloc, link)?;
     let contents = part_contents(alloc, link, &live)?;
@@ -119,7 +119,7 @@ pub fn compute<R: Threads + Wait + Sync, P: Platform + Sync, A: Arch + Sync, G: 
     _gate: &G,
 ) -> Result<Layout, LayoutError>
     requires gate { 2 ≤ _workers → G.may_enter _gate.now }
-    ensures { Gives (target_of (P.segment_start platform.now)) link.now result }
+    ensures { Gives (platform_target (P.segment_start platform.now)) link.now result }
 {
     compute_alone(alloc, link, platform, arch)
 }

@@ -15,7 +15,7 @@ use Rattle.lk_link.specs.declared.relocation.RelaxCandidate.{RelaxCandidate}
 use Rattle.lk_link.specs.declared.section.InputSection.{InputSection}
 use Rattle.lk_link.specs.Files.{file_in}
 use Rattle.lk_link.specs.InputRules.{goes_to_part, fits_part, is_good_singleton, has_good_part, are_input_attrs, is_good_reloc, is_good_relax, rise, has_good_content, is_good_input, has_good_inputs, IsGoodInput}
-use Rattle.lk_link.specs.InputSlots.{is_discarded, is_merge, is_plain}
+use Rattle.lk_link.specs.InputSlots.{is_discarded, is_merge, is_regular}
 use Rattle.lk_link.specs.Limits.{counted, limit_of, all_sections, first_length_past}
 use Rattle.lk_link.specs.PartRules.{is_table_part, is_free_part, is_singleton_part}
 use Rattle.lk_link.specs.Parts.{all_parts}
@@ -97,18 +97,18 @@ good_parts plan symbols s h kept =
 
 fits_merge : (s : InputSection) (p : PlanPart) → fits_part s p ≡ true → is_merge s.slot ≡ true → p.alignment ≡ 1
 fits_merge s p h e =
-    let both = and_parts (not (is_merge s.slot) || (p.alignment == 1)) (not s.sorted || (is_plain s.slot && not p.packed)) h in
+    let both = and_parts (not (is_merge s.slot) || (p.alignment == 1)) (not s.sorted || (is_regular s.slot && not p.packed)) h in
     eqb-true p.alignment 1 (implied (is_merge s.slot) (p.alignment == 1) both.0 e)
 
-fits_sorted : (s : InputSection) (p : PlanPart) → fits_part s p ≡ true → s.sorted ≡ true → (is_plain s.slot ≡ true) × (p.packed ≡ false)
+fits_sorted : (s : InputSection) (p : PlanPart) → fits_part s p ≡ true → s.sorted ≡ true → (is_regular s.slot ≡ true) × (p.packed ≡ false)
 fits_sorted s p h e =
-    let both = and_parts (not (is_merge s.slot) || (p.alignment == 1)) (not s.sorted || (is_plain s.slot && not p.packed)) h in
-    let sorts = and_parts (is_plain s.slot) (not p.packed) (implied s.sorted (is_plain s.slot && not p.packed) both.1 e) in
+    let both = and_parts (not (is_merge s.slot) || (p.alignment == 1)) (not s.sorted || (is_regular s.slot && not p.packed)) h in
+    let sorts = and_parts (is_regular s.slot) (not p.packed) (implied s.sorted (is_regular s.slot && not p.packed) both.1 e) in
     (sorts.0, not-true p.packed sorts.1)
 
-fits_single : (plan : Plan) (s : InputSection) → is_good_singleton plan s ≡ true → is_singleton_part plan s.part ≡ true → (is_plain s.slot ≡ true) × (s.sorted ≡ false)
+fits_single : (plan : Plan) (s : InputSection) → is_good_singleton plan s ≡ true → is_singleton_part plan s.part ≡ true → (is_regular s.slot ≡ true) × (s.sorted ≡ false)
 fits_single plan s h e =
-    let both = and_parts (is_plain s.slot) (not s.sorted) (implied (is_singleton_part plan s.part) (is_plain s.slot && not s.sorted) h e) in
+    let both = and_parts (is_regular s.slot) (not s.sorted) (implied (is_singleton_part plan s.part) (is_regular s.slot && not s.sorted) h e) in
     (both.0, not-true s.sorted both.1)
 
 pub good_input : (plan : Plan) (symbols : ℕ) (s : InputSection) → is_good_input plan symbols s ≡ true → is_discarded s.slot ≡ false → IsGoodInput plan symbols s

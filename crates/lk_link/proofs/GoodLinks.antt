@@ -6,10 +6,11 @@ use Rattle.std.proofs.Common.{inl, inr, ⊎_elim, ap, sym, ◌∙◌}
 use Rattle.std.proofs.lemmas.Bool.{and_parts, eqb-true, leb-true, ltb-true, or_cases}
 use Rattle.std.proofs.lemmas.List.Folds.{length-flat_map-take}
 use Rattle.std.proofs.lemmas.Option.{slice_get_within, get_or_from_slice_get}
+use Rattle.lk_link.specs.declared.alignment.TheConstants.{GREATEST_ALIGNMENT}
 use Rattle.lk_link.specs.declared.fault.Limited.TheVariants as limited
 use Rattle.lk_link.specs.declared.file.InputFile.{InputFile}
 use Rattle.lk_link.specs.declared.symbol.InputSymbol.{InputSymbol}
-use Rattle.lk_link.specs.declared.limits.TheConstants.{MOST_NEAR_BRANCH, MOST_BUCKET, MOST_MERGE_GROUP}
+use Rattle.lk_link.specs.declared.limits.TheConstants.{ATTRIBUTE_SETS, MOST_NEAR_BRANCH, MOST_BUCKET, MOST_MERGE_GROUP}
 use Rattle.lk_link.specs.declared.link.LinkInput.{LinkInput}
 use Rattle.lk_link.specs.declared.options.Options.{Options}
 use Rattle.lk_link.specs.declared.plan.OrderEvent.{OrderEvent}
@@ -70,7 +71,7 @@ good_section sections s h =
     let parts = nat_lt 0 (length s.parts) in
     let own = is_alignment s.align in
     let aligned = list_all (λ p. is_alignment p.alignment) s.parts in
-    let attrs = nat_lt s.attrs 32 in
+    let attrs = nat_lt s.attrs ATTRIBUTE_SETS in
     let all = and_parts (parts && own && aligned && falls s.parts && attrs) (has_primary sections s) h in
     let five = and_parts (parts && own && aligned && falls s.parts) attrs all.0 in
     let four = and_parts (parts && own && aligned) (falls s.parts) five.0 in
@@ -81,7 +82,7 @@ good_section sections s h =
       aligned_self = two.1;
       aligned = three.1;
       falling = four.1;
-      few_attrs = ltb-true s.attrs 32 five.1;
+      few_attrs = ltb-true s.attrs ATTRIBUTE_SETS five.1;
       primary = λ p e. primary_there sections s.primary p all.1 e;
     }
 
@@ -119,7 +120,7 @@ part_aligned link p part h at_p =
 pub part_alignment-pos : (link : LinkInput) (p : ℕ) (part : PlanPart) → IsWellFormed link → slice_get (all_parts link.plan.sections) p ≡ Some part → 0 < part.alignment
 part_alignment-pos link p part h at_p = alignment-pos part.alignment (part_aligned link p part h at_p)
 
-pub part_alignment-le : (link : LinkInput) (p : ℕ) (part : PlanPart) → IsWellFormed link → slice_get (all_parts link.plan.sections) p ≡ Some part → part.alignment ≤ 65536
+pub part_alignment-le : (link : LinkInput) (p : ℕ) (part : PlanPart) → IsWellFormed link → slice_get (all_parts link.plan.sections) p ≡ Some part → part.alignment ≤ GREATEST_ALIGNMENT
 part_alignment-le link p part h at_p = alignment-le part.alignment (part_aligned link p part h at_p)
 
 -- a section has a part

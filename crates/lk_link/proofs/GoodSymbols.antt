@@ -9,6 +9,7 @@ use Rattle.std.proofs.lemmas.List.Folds.{list_all-map}
 use Rattle.std.proofs.lemmas.Option.{slice_get-map}
 use Rattle.lk_link.specs.declared.file.InputFile.{InputFile}
 use Rattle.lk_link.specs.declared.ids.FileId.{FileId}
+use Rattle.lk_link.specs.declared.limits.TheConstants.{GIVEN_FLAG_SETS}
 use Rattle.lk_link.specs.declared.link.LinkInput.{LinkInput}
 use Rattle.lk_link.specs.declared.plan.Plan.{Plan}
 use Rattle.lk_link.specs.declared.section.InputSection.{InputSection}
@@ -66,13 +67,13 @@ placement_there plan sections at.LoadBaseAddress h = tt
 
 pub good_symbol : (link : LinkInput) (f : InputFile) (s : InputSymbol) → is_good_symbol link f s ≡ true → IsGoodSymbol link f s
 good_symbol link f s h =
-    let flags = nat_lt s.flags.0 64 in
+    let flags = nat_lt s.flags.0 GIVEN_FLAG_SETS in
     let all = and_parts (has_definition link.groups s.def && flags && is_placement_in f.kind s.at) (is_placement_there link.plan f.sections s.at) h in
     let three = and_parts (has_definition link.groups s.def && flags) (is_placement_in f.kind s.at) all.0 in
     let two = and_parts (has_definition link.groups s.def) flags three.0 in
     record {
       defined = λ d e. its_own link.groups s.def d two.0 e;
-      few_flags = ltb-true s.flags.0 64 two.1;
+      few_flags = ltb-true s.flags.0 GIVEN_FLAG_SETS two.1;
       of_kind = three.1;
       there = placement_there link.plan f.sections s.at all.1;
     }

@@ -1,4 +1,6 @@
+pub mod Elements
 mod EndsLemmas
+pub mod Events
 pub mod ExpressionLemmas
 pub mod GoodInputs
 pub mod GoodLinks
@@ -7,6 +9,7 @@ pub mod InputLemmas
 mod NameLemmas
 mod NumberedLemmas
 pub mod Numbers
+pub mod PartNumbers
 pub mod Places
 pub mod Powers
 pub mod Rounding

@@ -1,18 +1,23 @@
 -- Alignments are powers of two.
-use Rattle.std.specs.Prelude.{◌≡◌, ℕ, ◌+◌, ◌<◌, ◌≤◌, zero, suc, ◌^◌, ◌==◌, ◌||◌, true, refl, List, [], ◌∷◌, length}
+use Rattle.std.specs.Prelude.{◌≡◌, ℕ, ◌+◌, ◌-◌, ◌*◌, ◌<◌, ◌≤◌, ◌^◌, ◌==◌, ◌||◌, true, refl, List, [], ◌∷◌, length, max, min}
+use Rattle.std.specs.Int.{◌∣◌}
 use Rattle.std.specs.List.{list_any}
-use Rattle.std.proofs.Common.{arith, sym, ap, ◌∙◌, inl, inr}
+use Rattle.std.proofs.Common.{arith, sym, ap, subst, ◌∙◌, inl, inr}
+use Rattle.std.proofs.Math.Nat.{dvd-mul_right}
+use Rattle.std.proofs.Math.Pow.{pow-lt}
+use Rattle.std.proofs.lemmas.Bool.{cases_lt}
 use Rattle.std.proofs.lemmas.Bool.Decides.{nat_tests, eqb_tells}
+use Rattle.std.proofs.lemmas.Nat.{pow-add}
 use Rattle.lk_link.specs.Alignments.{alignments, is_alignment, AlignmentsArePowers}
+use Rattle.lk_link.specs.Target.{above_zero}
+use Rattle.lk_link.specs.declared.alignment.TheConstants.{GREATEST_ALIGNMENT}
 
 -- an alignment is above 0
 pub alignment-pos : (n : ℕ) → is_alignment n ≡ true → 0 < n
-unfolding is_alignment
-alignment-pos zero h = cc
-alignment-pos (suc n) h = omega arith
+alignment-pos n h = above_zero n h
 
 -- an alignment is at most 65,536
-pub alignment-le : (n : ℕ) → is_alignment n ≡ true → n ≤ 65536
+pub alignment-le : (n : ℕ) → is_alignment n ≡ true → n ≤ GREATEST_ALIGNMENT
 unfolding is_alignment
 alignment-le n h = grind (arith, nat_tests)
 
@@ -51,6 +56,37 @@ alignments_are_powers n = (
   λ h. let found = power_of n 0 alignments all_powers h in (found.0, omega (arith, found.2), found.3),
   λ p. ap is_alignment p.2 ∙ one_of 0 p.0 alignments all_powers (omega arith) (omega (arith, p.1)),
 )
+
+-- ---- two alignments
+
+-- a lesser alignment divides a greater one
+pub alignment_divides : (a b : ℕ) → is_alignment a ≡ true → is_alignment b ≡ true → a ≤ b → a ∣ b
+alignment_divides a b h g le =
+    let p = (alignments_are_powers a).0 h in
+    let q = (alignments_are_powers b).0 g in
+    elim (cases_lt q.0 p.0) [
+      | inl less ↦ absurd (omega (arith, pow-lt less, p.2, q.2))
+      | inr more ↦
+          let split : q.0 ≡ p.0 + (q.0 - p.0) = omega arith in
+          let product : b ≡ a * 2 ^ (q.0 - p.0) = q.2 ∙ ap (λ (k : ℕ). 2 ^ k) split ∙ pow-add 2 p.0 (q.0 - p.0) ∙ ap (λ (n : ℕ). n * 2 ^ (q.0 - p.0)) (sym p.2) in
+          subst (λ n. a ∣ n) (sym product) (dvd-mul_right a (2 ^ (q.0 - p.0)))
+    ]
+
+-- the greater of two is one
+pub max_aligned : (a b : ℕ) → is_alignment a ≡ true → is_alignment b ≡ true → is_alignment (max a b) ≡ true
+max_aligned a b h g =
+    elim (cases_lt a b) [
+      | inl less ↦ let is : max a b ≡ b = omega arith in ap is_alignment is ∙ g
+      | inr more ↦ let is : max a b ≡ a = omega arith in ap is_alignment is ∙ h
+    ]
+
+-- and the lesser
+pub min_aligned : (a b : ℕ) → is_alignment a ≡ true → is_alignment b ≡ true → is_alignment (min a b) ≡ true
+min_aligned a b h g =
+    elim (cases_lt a b) [
+      | inl less ↦ let is : min a b ≡ a = omega arith in ap is_alignment is ∙ h
+      | inr more ↦ let is : min a b ≡ b = omega arith in ap is_alignment is ∙ g
+    ]
 
 -- alignments lie between 1 and 65,536
 pub ruleset alignments_small = (alignment-pos, alignment-le)

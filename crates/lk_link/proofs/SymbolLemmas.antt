@@ -1,7 +1,7 @@
 -- Files and symbols by their numbers.
 use Rattle.std.specs.List.{slice_get}
 use Rattle.std.specs.Option.{IsSome}
-use Rattle.std.proofs.Common.{◌≡◌, ℕ, zero, suc, ◌+◌, ◌-◌, ◌^◌, ◌<◌, ◌≤◌, List, [], ◌∷◌, Some, length, take, sum_by, refl, sym, ap, ◌∙◌, ⊎_elim, option_and_then, subst, arith}
+use Rattle.std.proofs.Common.{◌≡◌, ℕ, ◌+◌, ◌-◌, ◌^◌, ◌<◌, ◌≤◌, List, Some, length, take, sum_by, sym, ap, ◌∙◌, ⊎_elim, option_and_then, subst, arith}
 use Rattle.std.proofs.lemmas.Bool.{cases_order}
 use Rattle.std.proofs.lemmas.List.{take-take}
 use Rattle.std.proofs.lemmas.List.Sums.{sum_by_more, sum_by_more_le, sum_by-take-le}
@@ -12,6 +12,7 @@ use Rattle.lk_link.specs.Ends.{AreEnds, IsPlaceOf, start_of}
 use Rattle.lk_link.specs.Files.{file_in}
 use Rattle.lk_link.specs.FileIndex.{IsFileIndex}
 use Rattle.lk_link.specs.Symbols.{all_files, symbols_in, symbol_at, symbol_count, symbols_before, file_number, first_symbol, IsSymbolIn, IsSymbolOf, FilesHaveNumbers, SymbolsFollow, SymbolsHaveFiles}
+use Rattle.lk_link.proofs.Elements.{at_index}
 use Rattle.lk_link.proofs.EndsLemmas.{begins, item_of}
 use Rattle.lk_link.proofs.Places.{file_place, value_of}
 
@@ -90,23 +91,18 @@ symbols_have_files = record {
 
 -- ---- the index
 
-some_at : {X : Type 0} (xs : List X) (k : ℕ) → k < length xs → (x : X) × (slice_get xs k ≡ Some x)
-some_at [] k lt = absurd (omega arith)
-some_at (x ∷ xs) zero lt = (x, refl)
-some_at (x ∷ xs) (suc k) lt = some_at xs k (omega arith)
-
 -- the places of a symbol among files, and of its file among groups
 pub file_at_places : (groups : List (List InputFile)) (file_ends symbol_ends : List ℕ) (s k i g f : ℕ) → AreEnds (λ files. length files) file_ends groups → AreEnds symbols_in symbol_ends (all_files groups) → IsPlaceOf symbol_ends s k i → IsPlaceOf file_ends k g f → IsSymbolIn groups (record { group = g; file = f }) s
 file_at_places groups file_ends symbol_ends s k i g f by_group by_file at_k at_g =
     let there_g = at_g.there in
     let offset_g = at_g.offset in
     let below_g = at_g.below in
-    let group = some_at groups g (omega (arith, by_group.count)) in
+    let group = at_index groups g (omega (arith, by_group.count)) in
     let start_g = begins (λ files. length files) file_ends groups g by_group (omega (arith, by_group.count)) in
     let end_g = by_group.each g (omega (arith, by_group.count)) in
     let more_g = after_group groups g group.0 group.1 in
     let number : sum_by length (take g groups) + f ≡ k = omega arith in
-    let file = some_at group.0 f (omega arith) in
+    let file = at_index group.0 f (omega arith) in
     let there = file_from groups (record { group = g; file = f }) group.0 file.0 group.1 file.1 in
     let there_k = at_k.there in
     let offset_k = at_k.offset in

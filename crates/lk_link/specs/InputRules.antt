@@ -9,7 +9,7 @@ use Rattle.lk_link.specs.declared.plan.attributes.TheConstants.{WRITE, EXEC}
 use Rattle.lk_link.specs.declared.relocation.Relocation.{Relocation}
 use Rattle.lk_link.specs.declared.relocation.RelaxCandidate.{RelaxCandidate}
 use Rattle.lk_link.specs.declared.section.InputSection.{InputSection}
-use Rattle.lk_link.specs.InputSlots.{is_discarded, is_merge, is_plain}
+use Rattle.lk_link.specs.InputSlots.{is_discarded, is_merge, is_regular}
 use Rattle.lk_link.specs.PartRules.{is_free_part, is_singleton_part, is_table_part}
 use Rattle.lk_link.specs.Parts.{all_parts}
 
@@ -21,11 +21,11 @@ goes_to_part parts s = nat_lt s.part parts
 
 -- a merge section goes to a part of alignment 1, and a sorted one is plain and goes to no packed part
 abbrev pub fits_part : InputSection → PlanPart → Bool
-fits_part s p = (not (is_merge s.slot) || (p.alignment == 1)) && (not s.sorted || (is_plain s.slot && not p.packed))
+fits_part s p = (not (is_merge s.slot) || (p.alignment == 1)) && (not s.sorted || (is_regular s.slot && not p.packed))
 
 -- what stays an output section of its own is plain, and isn't sorted
 abbrev pub is_good_singleton : Plan → InputSection → Bool
-is_good_singleton plan s = not (is_singleton_part plan s.part) || (is_plain s.slot && not s.sorted)
+is_good_singleton plan s = not (is_singleton_part plan s.part) || (is_regular s.slot && not s.sorted)
 
 -- the part is one of the plan's and no table part, and fits
 abbrev pub has_good_part : Plan → InputSection → Bool
@@ -72,9 +72,9 @@ pub record IsGoodInput (plan : Plan) (symbols : ℕ) (s : InputSection) : Type 0
   pub to_part : s.part < length (all_parts plan.sections)
   pub to_no_table : is_table_part plan.named s.part ≡ false
   pub merged : (p : PlanPart) → slice_get (all_parts plan.sections) s.part ≡ Some p → is_merge s.slot ≡ true → p.alignment ≡ 1
-  pub sorts : (p : PlanPart) → slice_get (all_parts plan.sections) s.part ≡ Some p → s.sorted ≡ true → (is_plain s.slot ≡ true)
+  pub sorts : (p : PlanPart) → slice_get (all_parts plan.sections) s.part ≡ Some p → s.sorted ≡ true → (is_regular s.slot ≡ true)
       × (p.packed ≡ false)
-  pub singles : is_singleton_part plan s.part ≡ true → (is_plain s.slot ≡ true) × (s.sorted ≡ false)
+  pub singles : is_singleton_part plan s.part ≡ true → (is_regular s.slot ≡ true) × (s.sorted ≡ false)
   pub few_attrs : are_input_attrs s.attrs ≡ true
   pub in_relocs : (k : ℕ) (r : Relocation) → slice_get s.relocs k ≡ Some r → (r.offset < s.size) × (r.symbol < symbols)
   pub in_relax : (k : ℕ) (r : RelaxCandidate) → slice_get s.relax k ≡ Some r → (1 ≤ r.del) × (r.at + r.del ≤ s.size) × (r.symbol < symbols)

@@ -14,10 +14,10 @@ is_merge slot.Merge = true
 is_merge _ = false
 
 -- loaded for what it holds, and neither debug data nor merged: kept, or kept if something refers to it
-abbrev pub is_plain : InputSlot → Bool
-is_plain slot.Unloaded = true
-is_plain slot.MustLoad = true
-is_plain _ = false
+abbrev pub is_regular : InputSlot → Bool
+is_regular slot.Unloaded = true
+is_regular slot.MustLoad = true
+is_regular _ = false
 
 -- loaded for what it holds without being asked for
 abbrev pub is_must : InputSlot → Bool

@@ -1,5 +1,6 @@
 -- What holds of a well-formed link: its options, its plan, and how much it has.
 use Rattle.std.specs.Prelude.{◌≡◌, ◌≢◌, ℕ, ◌+◌, ◌<◌, ◌≤◌, true, Some, length, slice_get}
+use Rattle.lk_link.specs.declared.alignment.TheConstants.{GREATEST_ALIGNMENT}
 use Rattle.lk_link.specs.declared.link.LinkInput.{LinkInput}
 use Rattle.lk_link.specs.declared.plan.OrderEvent.{OrderEvent}
 use Rattle.lk_link.specs.declared.plan.PlanPart.{PlanPart}
@@ -18,7 +19,7 @@ OptionsAreGood = (link : LinkInput) → IsWellFormed link → AreGoodOptions lin
 abbrev pub PartsAreAligned : Type 0
 PartsAreAligned = (link : LinkInput) (p : ℕ) (part : PlanPart) → IsWellFormed link
     → slice_get (all_parts link.plan.sections) p ≡ Some part → (is_alignment part.alignment ≡ true) × (0 < part.alignment)
-    × (part.alignment ≤ 65536)
+    × (part.alignment ≤ GREATEST_ALIGNMENT)
 
 -- its sections are good, and their parts stand among all parts
 abbrev pub SectionsAreGood : Type 0

@@ -1,5 +1,6 @@
 pub mod Alignments
 pub mod CandidateIndex
+pub mod EmitKinds
 pub mod Ends
 pub mod Expressions
 pub mod FileIndex
@@ -13,6 +14,7 @@ pub mod Inputs
 pub mod Inside
 pub mod Laws
 pub mod Limits
+pub mod Marks
 pub mod Names
 pub mod Numbered
 pub mod OutputKinds
@@ -27,6 +29,7 @@ pub mod SegmentKinds
 pub mod Sizes
 pub mod StoredExpressions
 pub mod SymbolLaws
+pub mod SymbolPlacements
 pub mod SymbolRanges
 pub mod SymbolRules
 pub mod Symbols

@@ -6,7 +6,7 @@ use Rattle.std.specs.Option.{option_map_or}
 use Rattle.lk_link.specs.declared.fault.Limited.{Limited}
 use Rattle.lk_link.specs.declared.fault.Limited.TheVariants as limited
 use Rattle.lk_link.specs.declared.file.InputFile.{InputFile}
-use Rattle.lk_link.specs.declared.limits.TheConstants.{GROUPS, FILES, OUTPUT_SECTIONS, PARTS, SEGMENTS, REGIONS, EVENTS, SYMBOLS, INPUT_SECTIONS, CANDIDATES, RELOCATIONS, RELAXATIONS, NAME_BYTES, MERGE_BYTES}
+use Rattle.lk_link.specs.declared.limits.TheConstants.{GROUPS, FILES, OUTPUT_SECTIONS, PARTS, SEGMENTS, REGIONS, EVENTS, SYMBOLS, INPUT_SECTIONS, CANDIDATES, RELOCATIONS, RELAXATIONS, NAME_BYTES, MERGE_BYTES, MERGE_UNIT}
 use Rattle.lk_link.specs.declared.link.LinkInput.{LinkInput}
 use Rattle.lk_link.specs.declared.section.InputSection.{InputSection}
 use Rattle.lk_link.specs.InputSlots.{is_merge}
@@ -36,9 +36,9 @@ file_name_bytes f = sum_by (λ s. length s.name + 1) f.symbols + sum_by (λ s. l
 abbrev pub name_bytes : LinkInput → ℕ
 name_bytes link = sum_by (λ s. length s.name + 1) link.plan.sections + over_files file_name_bytes link.groups
 
--- the bytes of a merge section, rounded up to a multiple of 256
+-- the bytes of a merge section, rounded up to a multiple of the unit
 abbrev pub merge_size : InputSection → ℕ
-merge_size s = if is_merge s.slot then next_multiple_of (length s.bytes) 256 else 0
+merge_size s = if is_merge s.slot then next_multiple_of (length s.bytes) MERGE_UNIT else 0
 
 -- those of all merge sections
 abbrev pub merge_bytes : LinkInput → ℕ

@@ -1,12 +1,16 @@
 -- The parts of output sections, numbered over all sections in order.
-use Rattle.std.specs.Prelude.{◌≡◌, ℕ, ◌+◌, ◌≤◌, List, length, take, slice_index}
-use Rattle.std.specs.List.{flat_map}
+use Rattle.std.specs.Prelude.{◌≡◌, ℕ, ◌+◌, ◌≤◌, List, length, take, false, slice_index}
+use Rattle.std.specs.List.{flat_map, slice_index_or}
 use Rattle.lk_link.specs.declared.plan.PlanPart.{PlanPart}
 use Rattle.lk_link.specs.declared.plan.PlanSection.{PlanSection}
 
 -- all parts, in order
 abbrev pub all_parts : List PlanSection → List PlanPart
 all_parts sections = flat_map (λ s. s.parts) sections
+
+-- the part with this number; one of alignment 1 where there is none
+abbrev pub part_at : List PlanSection → ℕ → PlanPart
+part_at sections p = slice_index_or (all_parts sections) p (record { alignment = 1; packed = false })
 
 -- how many parts stand before a section: the number of its first part
 abbrev pub first_part : List PlanSection → ℕ → ℕ

@@ -3,7 +3,7 @@ use Rattle.std.specs.Prelude.{◌≡◌, ℕ, ◌<◌, ◌≤◌, ◌==◌, ◌&
 use Rattle.std.specs.List.{list_all, list_any}
 use Rattle.std.specs.Option.{ForSome, option_map_or}
 use Rattle.lk_link.specs.declared.file.InputFile.{InputFile}
-use Rattle.lk_link.specs.declared.limits.TheConstants.{MOST_NEAR_BRANCH, MOST_BUCKET, MOST_MERGE_GROUP}
+use Rattle.lk_link.specs.declared.limits.TheConstants.{ATTRIBUTE_SETS, MOST_NEAR_BRANCH, MOST_BUCKET, MOST_MERGE_GROUP}
 use Rattle.lk_link.specs.declared.options.Options.{Options}
 use Rattle.lk_link.specs.declared.plan.PlanPart.{PlanPart}
 use Rattle.lk_link.specs.declared.plan.PlanSection.{PlanSection}
@@ -53,11 +53,11 @@ is_primary sections s = option_map_or (λ q. is_none q.primary) (slice_get secti
 abbrev pub has_primary : List PlanSection → PlanSection → Bool
 has_primary sections s = option_map_or (is_primary sections) s.primary true
 
--- a section has a part, alignments are powers of two up to 65,536, those of parts fall, attributes are below 32, and
+-- a section has a part, alignments are powers of two up to 65,536, those of parts fall, attributes are among those that there are, and
 -- it is secondary only to a section that isn't
 abbrev pub is_good_section : List PlanSection → PlanSection → Bool
 is_good_section sections s = nat_lt 0 (length s.parts) && is_alignment s.align && list_all (λ p. is_alignment p.alignment) s.parts
-    && falls s.parts && nat_lt s.attrs 32 && has_primary sections s
+    && falls s.parts && nat_lt s.attrs ATTRIBUTE_SETS && has_primary sections s
 
 -- a section that isn't secondary
 abbrev pub IsPrimary : List PlanSection → ℕ → Type 0
@@ -69,7 +69,7 @@ pub record IsGoodSection (sections : List PlanSection) (s : PlanSection) : Type 
   pub aligned_self : is_alignment s.align ≡ true
   pub aligned : list_all (λ p. is_alignment p.alignment) s.parts ≡ true
   pub falling : falls s.parts ≡ true
-  pub few_attrs : s.attrs < 32
+  pub few_attrs : s.attrs < ATTRIBUTE_SETS
   pub primary : ForSome s.primary (IsPrimary sections)
 
 -- ---- events
@@ -87,11 +87,18 @@ abbrev pub is_end : ℕ → OrderEvent → Bool
 is_end i (SegmentEnd j) = j == i
 is_end i _ = false
 
--- whether it moves the location counter
+-- whether it sets the location counter
 abbrev pub is_location : OrderEvent → Bool
 is_location (SetLocation e) = true
 is_location (SetLocationRelative e s) = true
 is_location _ = false
+
+-- whether it moves what comes next: it sets the location counter, or gives the next section an address
+abbrev pub moves_location : OrderEvent → Bool
+moves_location (SegmentStart i) = false
+moves_location (SegmentEnd i) = false
+moves_location (Section s) = false
+moves_location _ = true
 
 -- whether a file is a script
 abbrev pub has_script : List (List InputFile) → Bool

@@ -5,6 +5,7 @@ use Rattle.std.specs.Option.{ForSome, option_map_or}
 use Rattle.lk_link.specs.declared.file.FileKind.{FileKind}
 use Rattle.lk_link.specs.declared.file.FileKind.TheVariants as kind
 use Rattle.lk_link.specs.declared.file.InputFile.{InputFile}
+use Rattle.lk_link.specs.declared.limits.TheConstants.{GIVEN_FLAG_SETS}
 use Rattle.lk_link.specs.declared.link.LinkInput.{LinkInput}
 use Rattle.lk_link.specs.declared.plan.Plan.{Plan}
 use Rattle.lk_link.specs.declared.section.InputSection.{InputSection}
@@ -91,10 +92,10 @@ is_placement_there plan sections _ = true
 
 -- ---- all symbols
 
--- what stands for a symbol stands for itself; its flags are below 64; files of its kind have such placements, and what
+-- what stands for a symbol stands for itself; its flags are among those that can be given; files of its kind have such placements, and what
 -- its placement names is there
 abbrev pub is_good_symbol : LinkInput → InputFile → InputSymbol → Bool
-is_good_symbol link f s = has_definition link.groups s.def && nat_lt s.flags.0 64
+is_good_symbol link f s = has_definition link.groups s.def && nat_lt s.flags.0 GIVEN_FLAG_SETS
     && is_placement_in f.kind s.at && is_placement_there link.plan f.sections s.at
 
 -- the symbols of files, in order, each with its file
@@ -128,6 +129,6 @@ IsPlacementThere plan sections at.LoadBaseAddress = Unit {0}
 
 pub record IsGoodSymbol (link : LinkInput) (f : InputFile) (s : InputSymbol) : Type 0 where
   pub defined : ForSome s.def (λ d. definition_of link.groups d ≡ Some d)
-  pub few_flags : s.flags.0 < 64
+  pub few_flags : s.flags.0 < GIVEN_FLAG_SETS
   pub of_kind : is_placement_in f.kind s.at ≡ true
   pub there : IsPlacementThere link.plan f.sections s.at

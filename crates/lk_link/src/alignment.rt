@@ -79,7 +79,7 @@ impl Alignment {
         ensures value { result ≡ self }
         ensures alignment { IsTrue (is_alignment self) }
         ensures positive { 0 < self }
-        ensures at_most { self ≤ 65536 }
+        ensures at_most { self ≤ GREATEST_ALIGNMENT }
     {
         self.value
     }

@@ -1,11 +1,12 @@
 //! Which sections stand inside each segment: those that are placed while it is open. One pass over the events for each
-//! segment, of which there are at most 64.
+//! segment, of which there are few.
 
 ghost use Rattle.std.specs.Prelude.{◌≡◌, ◌≤◌, length, IfOk};
 ghost use Rattle.lk_link.specs.Inside.{sections_inside, segment_insides};
 ghost use Rattle.lk_link.specs.Rules.{is_start, is_end};
 
 use crate::ids::{OutputSectionId, SegmentId};
+use crate::limits::SEGMENTS;
 use crate::list::List;
 use crate::plan::{OrderEvent, Plan};
 use std::alloc::{AllocError, Global};
@@ -16,7 +17,7 @@ impl Plan {
         &self,
         alloc: Global,
     ) -> Result<Vec<List<OutputSectionId>>, AllocError>
-        requires { length self.now.segments ≤ 64 }
+        requires { length self.now.segments ≤ SEGMENTS }
         ensures { IfOk result (λ insides. insides.items ≡ segment_insides self.now) }
     {
         let mut insides = Vec::with_capacity(alloc, self.segments.len())?;

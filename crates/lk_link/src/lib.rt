@@ -20,6 +20,7 @@ pub mod laws;
 pub mod limits;
 pub mod link;
 pub mod list;
+pub mod marks;
 pub mod names;
 pub mod options;
 pub mod plan;

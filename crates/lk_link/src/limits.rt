@@ -30,8 +30,14 @@ pub const RELOCATIONS: u64 = 16777216;
 pub const RELAXATIONS: u64 = 16777216;
 /// Bytes of the names of symbols, output sections and input sections, one more for each.
 pub const NAME_BYTES: u64 = 2147483647;
-/// Bytes of all merge sections, each rounded up to a multiple of 256.
+/// Bytes of all merge sections, each rounded up to a multiple of `MERGE_UNIT`.
 pub const MERGE_BYTES: u64 = 1099511627776;
+/// The bytes of a merge section are counted as the least multiple of this that holds them.
+pub const MERGE_UNIT: u64 = 256;
+/// How many sets of section attributes there are: the attributes of an output section are below this.
+pub const ATTRIBUTE_SETS: u32 = 32;
+/// How many sets of flags a description can give a symbol: its flags are below this.
+pub const GIVEN_FLAG_SETS: u32 = 64;
 /// A limited branch reaches further than this, in bytes.
 pub const MOST_NEAR_BRANCH: u64 = 2097152;
 /// The most bytes that may be asked for a bucket of merged strings.

@@ -20,13 +20,23 @@ pub enum OutputKind {
 }
 
 impl OutputKind {
-    ghost use Rattle.lk_link.specs.OutputKinds.{is_partial};
+    ghost use Rattle.lk_link.specs.OutputKinds.{is_partial, is_loaded_dynamically};
 
     /// Whether it is an object file again.
     pub fn is_partial(self) -> bool
         ensures { result ≡ is_partial self }
     {
         matches!(self, OutputKind::Partial)
+    }
+
+    /// Whether a dynamic linker loads it.
+    pub fn is_loaded_dynamically(self) -> bool
+        ensures { result ≡ is_loaded_dynamically self }
+    {
+        matches!(
+            self,
+            OutputKind::DynamicExecutable | OutputKind::SharedObject
+        )
     }
 }
 

@@ -42,6 +42,24 @@ pub enum Emit {
     Never,
 }
 
+impl Emit {
+    ghost use Rattle.lk_link.specs.EmitKinds.{is_always, is_never};
+
+    /// Whether it is emitted whatever is kept of it.
+    pub fn is_always(self) -> bool
+        ensures { result ≡ is_always self }
+    {
+        matches!(self, Emit::Always)
+    }
+
+    /// Whether it isn't emitted even where something of it is kept.
+    pub fn is_never(self) -> bool
+        ensures { result ≡ is_never self }
+    {
+        matches!(self, Emit::Never)
+    }
+}
+
 /// An output section.
 #[derive(Drop)]
 pub struct PlanSection {
@@ -138,6 +156,32 @@ pub enum OrderEvent {
     SetSectionAddress(Expression),
 }
 
+impl OrderEvent {
+    ghost use Rattle.lk_link.specs.Rules.{is_location, moves_location};
+
+    /// Whether it sets the location counter.
+    pub fn is_location(&self) -> bool
+        ensures { result ≡ is_location self.now }
+    {
+        matches!(
+            self,
+            OrderEvent::SetLocation(_) | OrderEvent::SetLocationRelative(_, _)
+        )
+    }
+
+    /// Whether it moves what comes next: it sets the location counter, or gives the next section an address.
+    pub fn moves_location(&self) -> bool
+        ensures { result ≡ moves_location self.now }
+    {
+        matches!(
+            self,
+            OrderEvent::SetLocation(_)
+                | OrderEvent::SetLocationRelative(_, _)
+                | OrderEvent::SetSectionAddress(_)
+        )
+    }
+}
+
 /// The parts that the plan gives a meaning of their own. The first eleven, up to the section names, are table parts.
 #[derive(Clone, Copy, Debug, PartialEq, Eq)]
 pub struct NamedParts {
@@ -156,6 +200,28 @@ pub struct NamedParts {
     pub comment: Option<PartId>,
     /// The code that thunks are made for.
     pub primary: Option<PartId>,
+}
+
+impl NamedParts {
+    ghost use Rattle.lk_link.specs.PartRules.{names_table};
+
+    /// Whether the plan gives a table part or the comment part.
+    pub fn names_table(&self) -> bool
+        ensures { result ≡ names_table self.now }
+    {
+        self.got.is_some()
+            || self.plt.is_some()
+            || self.symtab_local.is_some()
+            || self.symtab_global.is_some()
+            || self.strtab.is_some()
+            || self.dynsym.is_some()
+            || self.dynstr.is_some()
+            || self.file_header.is_some()
+            || self.program_headers.is_some()
+            || self.section_headers.is_some()
+            || self.shstrtab.is_some()
+            || self.comment.is_some()
+    }
 }
 
 /// The plan of a link.
@@ -184,7 +250,7 @@ impl Plan {
     ghost use Rattle.lk_link.specs.PlanSections.{is_singletons, own_attributes, is_allocated, is_file_backed, is_thread_local, is_zero_fill_thread_local, has_memory};
 
     /// Whether the input sections of a section stay output sections of their own.
-    fn is_singletons(&self, section: OutputSectionId) -> bool
+    pub fn is_singletons(&self, section: OutputSectionId) -> bool
         ensures { result ≡ is_singletons self.now section }
     {
         match self.singletons {

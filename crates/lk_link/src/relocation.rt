@@ -1,7 +1,7 @@
 //! Relocations: what a section refers to, and how.
 
 ghost use Rattle.std.specs.Prelude.{◌≡◌};
-ghost use Rattle.lk_link.specs.Relocations.{resolution_flags, needs_tlsld};
+ghost use Rattle.lk_link.specs.Relocations.{resolution_flags, needs_tlsld, wants_entry};
 
 use crate::flags::ValueFlags;
 
@@ -50,6 +50,15 @@ pub enum RelocationKind {
     None,
     Alignment,
     MachoAddition,
+}
+
+impl RelocationKind {
+    /// Whether it wants an entry of its symbol in a table: of the PLT, of the GOT, or a thread-local one of the GOT.
+    pub fn wants_entry(self) -> bool
+        ensures { result ≡ wants_entry self }
+    {
+        resolution_flags(self).wants_table_entry()
+    }
 }
 
 /// What a kind of relocation wants of its symbol (libwild: `resolution_flags`).

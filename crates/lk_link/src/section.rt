@@ -28,7 +28,7 @@ pub enum InputSlot {
 }
 
 impl InputSlot {
-    ghost use Rattle.lk_link.specs.InputSlots.{is_discarded, is_merge, is_plain, is_must, is_debug, can_be_kept};
+    ghost use Rattle.lk_link.specs.InputSlots.{is_discarded, is_merge, is_regular, is_must, is_debug, can_be_kept};
 
     /// Whether it is left out, whatever refers to it.
     pub fn is_discarded(self) -> bool
@@ -45,8 +45,8 @@ impl InputSlot {
     }
 
     /// Whether it is loaded for what it holds, and neither debug data nor merged.
-    pub fn is_plain(self) -> bool
-        ensures { result ≡ is_plain self }
+    pub fn is_regular(self) -> bool
+        ensures { result ≡ is_regular self }
     {
         matches!(self, InputSlot::Unloaded | InputSlot::MustLoad)
     }

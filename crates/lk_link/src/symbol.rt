@@ -1,5 +1,7 @@
 //! The symbols of input files.
 
+ghost use Rattle.std.specs.Prelude.{◌≡◌};
+
 use crate::expression::Expression;
 use crate::flags::ValueFlags;
 use crate::ids::{OutputSectionId, PartId, SymbolId};
@@ -58,6 +60,17 @@ pub enum SymbolPlacement {
         loc: SymbolLoc,
         provide: bool,
     },
+}
+
+impl SymbolPlacement {
+    ghost use Rattle.lk_link.specs.SymbolPlacements.{is_common};
+
+    /// Whether it is bytes of a part that all objects share.
+    pub fn is_common(&self) -> bool
+        ensures { result ≡ is_common self.now }
+    {
+        matches!(self, SymbolPlacement::Common { .. })
+    }
 }
 
 /// A symbol of an input file.

@@ -29,13 +29,13 @@ spanned a b = record {
 }
 
 -- what reaches over one more
-abbrev pub joined : Option Record → Record → Option Record
-joined None r = Some r
-joined (Some h) r = Some (spanned h r)
+abbrev pub with_record : Option Record → Record → Option Record
+with_record None r = Some r
+with_record (Some h) r = Some (spanned h r)
 
 -- the hull of several: from the least start to the greatest end, in the file and in memory; of none, nowhere
 abbrev pub hull : List Record → Record
-hull rs = unwrap_or (fold joined None rs) nowhere
+hull rs = unwrap_or (fold with_record None rs) nowhere
 
 -- ---- sections
 

@@ -16,10 +16,6 @@ pub record Setting : Type 0 where
   pub target : Target
   pub sizes : List ℕ
 
--- the machine at which load segments start so
-abbrev pub target_of : (ℕ → ℕ → ℕ → ℕ) → Target
-target_of segment_start = record { segment_start = segment_start }
-
 -- the setting of a plan, a machine and the parts' bytes
 abbrev pub setting_of : Plan → Target → List ℕ → Setting
 setting_of plan target sizes = record { plan = plan; target = target; sizes = sizes }

@@ -15,7 +15,8 @@ use Rattle.lk_place.specs.declared.walk.Walk.{Walk}
 use Rattle.lk_place.specs.Alignments.{AreAlignments, section_alignment}
 use Rattle.lk_place.specs.Placement.{end_behind, first_walked, is_below, is_walked, left_at, moved, numbered, overflow_at, refusal_of, resting, section_end, section_start, walk_alignment}
 use Rattle.lk_place.specs.Records.{Record, nowhere, record_at}
-use Rattle.lk_place.specs.Setting.{IsReady, Setting, part_at, part_count, setting_of, size_at, target_of}
+use Rattle.lk_place.specs.Setting.{IsReady, Setting, part_at, part_count, setting_of, size_at}
+use Rattle.lk_link.specs.Target.{platform_target}
 
 -- the cursors at which the walk begins: those of the placement, where the base is a number
 abbrev pub first_state : Setting → Cursors
@@ -23,7 +24,7 @@ first_state setting = record { file = 0; memory = unwrap_or (as_number setting.p
 
 -- the setting of a walk
 abbrev pub setting_in : {P : Type 0} → (P → ℕ → ℕ → ℕ → ℕ) → Walk P → Setting
-setting_in start walk = setting_of walk.plan.now (target_of (start walk.platform.now)) walk.sizes.now
+setting_in start walk = setting_of walk.plan.now (platform_target (start walk.platform.now)) walk.sizes.now
 
 -- the plan of a walk can be walked, and the alignments of its sections and segments are at hand
 pub record IsWalkable {P : Type 0} (start : P → ℕ → ℕ → ℕ → ℕ) (walk : Walk P) : Type 0 where

@@ -10,7 +10,7 @@ ghost use Rattle.lk_link.specs.Parts.{all_parts};
 ghost use Rattle.lk_link.specs.Rules.{is_good_section};
 ghost use Rattle.lk_place.specs.Alignments.{greatest_of};
 ghost use Rattle.lk_place.specs.Records.{nowhere};
-ghost use Rattle.lk_place.specs.Segments.{hull, is_filled, joined, section_record, section_records, spanned};
+ghost use Rattle.lk_place.specs.Segments.{hull, is_filled, section_record, section_records, spanned, with_record};
 
 use crate::record::OutputRecordLayout;
 use lk_link::alignment::Alignment;
@@ -34,11 +34,11 @@ fn span(a: &OutputRecordLayout, b: &OutputRecordLayout) -> OutputRecordLayout
 }
 
 /// What reaches over one more.
-pub(crate) fn join(
+pub(crate) fn with_record(
     so_far: Option<OutputRecordLayout>,
     one: &OutputRecordLayout,
 ) -> Option<OutputRecordLayout>
-    ensures { result ≡ joined so_far one.now }
+    ensures { result ≡ with_record so_far one.now }
 {
     match so_far {
         None => Some(*one),
@@ -66,7 +66,7 @@ fn hull_of(records: &[OutputRecordLayout]) -> OutputRecordLayout
 {
     let mut all = None;
     for one in records {
-        all = join(all, one);
+        all = with_record(all, one);
     }
     all.unwrap_or(nothing())
 }

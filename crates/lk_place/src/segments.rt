@@ -12,7 +12,7 @@ ghost use Rattle.lk_place.specs.Records.{record_at};
 ghost use Rattle.lk_place.specs.Segments.{Refuses, counts, first_outside, found_outside, hull, is_marked, is_skipped, may_stand_outside, outside_refusal, segment_layouts, segment_record, stack_record, stands_in};
 
 use crate::error::PlaceError;
-use crate::hulls::{join, nothing};
+use crate::hulls::{nothing, with_record};
 use crate::record::OutputRecordLayout;
 use lk_link::alignment::Alignment;
 use lk_link::ids::{OutputSectionId, SegmentId};
@@ -84,7 +84,7 @@ fn span_inside(
     let mut all = None;
     for section in inside {
         if counts(plan, records, emitted, segment, *section) {
-            all = join(all, &records[section.as_usize()]);
+            all = with_record(all, &records[section.as_usize()]);
         }
     }
     all.unwrap_or(nothing())

@@ -15,7 +15,8 @@ ghost use Rattle.lk_place.specs.Answers.{GivesPlaced};
 ghost use Rattle.lk_place.specs.Placement.{event_refusal, memory_moved, moved, section_refusal};
 ghost use Rattle.lk_place.specs.Plans.{IsPlaceable};
 ghost use Rattle.lk_place.specs.Records.{nowhere, record_at};
-ghost use Rattle.lk_place.specs.Setting.{setting_of, target_of};
+ghost use Rattle.lk_place.specs.Setting.{setting_of};
+ghost use Rattle.lk_link.specs.Target.{platform_target};
 ghost use Rattle.lk_place.specs.Walk.{GivesWalked, IsWalkable, Rewrites, left_behind, recorded, setting_in, stepped};
 ghost use Rattle.lk_place.specs.Walk.{at_event, unless, written};
 
@@ -206,7 +207,7 @@ pub fn compute_layout_sections<P: Platform>(
     requires well_formed { IsWellFormed link.now }
     requires placeable { IsPlaceable link.now.plan link.now.options.output }
     requires each { length sizes.now ≡ length (all_parts link.now.plan.sections) }
-    ensures { GivesPlaced (setting_of link.now.plan (target_of (P.segment_start platform.now)) sizes.now) result }
+    ensures { GivesPlaced (setting_of link.now.plan (platform_target (P.segment_start platform.now)) sizes.now) result }
 {
     let plan = &link.plan;
     let alignments = compute_alignments(alloc, link, sizes)?;

@@ -97,11 +97,11 @@ fn slots_are_told_apart(rt: HostRuntime) -> Result<(), Fail> {
         InputSlot::MustLoadDebugInfo,
         InputSlot::Merge,
     ] {
-        let (discarded, merge, plain) = (slot.is_discarded(), slot.is_merge(), slot.is_plain());
+        let (discarded, merge, regular) = (slot.is_discarded(), slot.is_merge(), slot.is_regular());
         let (must, debug, kept) = (slot.is_must(), slot.is_debug(), slot.can_be_kept());
         write!(
             text,
-            "{slot:?} {discarded} {merge} {plain} {must} {debug} {kept}\n"
+            "{slot:?} {discarded} {merge} {regular} {must} {debug} {kept}\n"
         )?;
     }
     assert_eq!(rt;

@@ -11,9 +11,9 @@ returns-in-SegmentStart-clause-exact c = λ plan before marks.
     let e = start_exact c.args.script plan before _ _ _ _ _ _ marks c.mark-in-SegmentStart.ensures in
     cc
 
-pub returns-then-has_mark-clause-exact : goal.returns-then-has_mark-clause-exact
-returns-then-has_mark-clause-exact c = λ plan before marks.
-    let e = end_exact c.args.script plan before _ _ _ _ _ _ marks (cc) c.mark-then-has_mark.ensures in
+pub returns-then-is_marked-clause-exact : goal.returns-then-is_marked-clause-exact
+returns-then-is_marked-clause-exact c = λ plan before marks.
+    let e = end_exact c.args.script plan before _ _ _ _ _ _ marks (cc) c.mark-then-is_marked.ensures in
     cc
 
 pub returns-in-SetLocation-clause-exact : goal.returns-in-SetLocation-clause-exact

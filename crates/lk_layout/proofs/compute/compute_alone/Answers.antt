@@ -1,6 +1,6 @@
 use Rattle.std.proofs.Common.{◌≡◌, None, Some}
 use Rattle.lk_check.specs.FirstFault.{first_fault}
-use Rattle.lk_place.specs.Setting.{target_of}
+use Rattle.lk_link.specs.Target.{platform_target}
 use Rattle.lk_layout.specs.Carried.{first_uncarried}
 use Rattle.lk_layout.specs.Defined.{Gives}
 use Rattle.lk_layout.proofs.Answering.{carried, err_exit, fault_none, fault_some, faulty, uncarried}
@@ -8,7 +8,7 @@ use Rattle.lk_layout.proofs.compute.compute_alone.Goals as goal
 
 pub returns-in_err-check_link : goal.returns-in_err-check_link
 returns-in_err-check_link g c =
-    let target = target_of (g.P.Platform.segment_start c.args.platform.now) in
+    let target = platform_target (g.P.Platform.segment_start c.args.platform.now) in
     let link = c.args.link.now in
     let fault = c.in_err-check_link.field-0.0 in
     err_exit (Gives target link) _ c.from_residual.result c.from_residual.ensures.1
@@ -16,14 +16,14 @@ returns-in_err-check_link g c =
 
 pub returns-in-Some : goal.returns-in-Some
 returns-in-Some g c =
-    let target = target_of (g.P.Platform.segment_start c.args.platform.now) in
+    let target = platform_target (g.P.Platform.segment_start c.args.platform.now) in
     let link = c.args.link.now in
     let found : first_uncarried link ≡ Some c.in-Some.what = cc in
     uncarried target link c.in-Some.what (fault_none (first_fault link) c.in_ok-check_link.ensures.exact) found
 
 pub returns-in-None : goal.returns-in-None
 returns-in-None g c =
-    let target = target_of (g.P.Platform.segment_start c.args.platform.now) in
+    let target = platform_target (g.P.Platform.segment_start c.args.platform.now) in
     let link = c.args.link.now in
     let all : first_uncarried link ≡ None = cc in
     carried target link c.lay_out.result (fault_none (first_fault link) c.in_ok-check_link.ensures.exact) all c.lay_out.ensures

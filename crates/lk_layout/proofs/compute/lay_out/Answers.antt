@@ -1,7 +1,8 @@
 use Rattle.std.proofs.Common.{◌≡◌, List, length, sym, ap, ◌∙◌}
 use Rattle.lk_gc.specs.declared.live.Live.{Live}
 use Rattle.lk_place.specs.Answers.{ArePlaced}
-use Rattle.lk_place.specs.Setting.{setting_of, target_of}
+use Rattle.lk_place.specs.Setting.{setting_of}
+use Rattle.lk_link.specs.Target.{platform_target}
 use Rattle.lk_sizes.specs.Contents.{part_contents}
 use Rattle.lk_sizes.specs.Owners.{part_size, part_sizes}
 use Rattle.lk_layout.specs.Defined.{IsCarriedAnswer, WithMemory, setting}
@@ -18,7 +19,7 @@ compute_layout_sections-requires-clause-each g c =
 
 pub tell-requires-clause-takes : goal.tell-requires-clause-takes
 tell-requires-clause-takes g c =
-    let target = target_of (g.P.Platform.segment_start c.args.platform.now) in
+    let target = platform_target (g.P.Platform.segment_start c.args.platform.now) in
     let link = c.args.link.now in
     let live : Live = c.in_ok-live.live in
     let contents : c.as_slice.result.now ≡ part_contents link live = c.as_slice.ensures ∙ c.in_ok-contents.ensures.1 in

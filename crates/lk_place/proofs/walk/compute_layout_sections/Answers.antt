@@ -2,19 +2,20 @@ use Rattle.std.proofs.Common.{◌≡◌, ◌∙◌, arith, List, length, sym, ap
 use Rattle.lk_link.specs.Parts.{all_parts}
 use Rattle.lk_place.specs.Records.{Record, record_at}
 use Rattle.lk_place.specs.Segments.{section_records}
-use Rattle.lk_place.specs.Setting.{IsReady, Setting, setting_of, target_of}
+use Rattle.lk_place.specs.Setting.{IsReady, Setting, setting_of}
+use Rattle.lk_link.specs.Target.{platform_target}
 use Rattle.lk_place.proofs.Computing.{refused_answer, walked_placed, written_back}
 use Rattle.lk_place.proofs.walk.compute_layout_sections.Goals as goal
 
 pub returns-in_err-walk : goal.returns-in_err-walk
 returns-in_err-walk g c =
-    let setting : Setting = setting_of c.args.link.now.plan (target_of (g.P.Platform.segment_start c.args.platform.now)) c.args.sizes.now in
+    let setting : Setting = setting_of c.args.link.now.plan (platform_target (g.P.Platform.segment_start c.args.platform.now)) c.args.sizes.now in
     let ready : IsReady setting = record { events = c.requires.well_formed.events; sections = c.requires.well_formed.sections; sizes = c.requires.each } in
     refused_answer setting c.args.link.now.options.output c.from_residual-in_err-walk.result c.in_err-walk.field-0.0 ready c.requires.placeable c.from_residual-in_err-walk.ensures.1 c.in_err-walk.ensures
 
 pub returns : goal.returns
 returns g c =
-    let setting : Setting = setting_of c.args.link.now.plan (target_of (g.P.Platform.segment_start c.args.platform.now)) c.args.sizes.now in
+    let setting : Setting = setting_of c.args.link.now.plan (platform_target (g.P.Platform.segment_start c.args.platform.now)) c.args.sizes.now in
     let ready : IsReady setting = record { events = c.requires.well_formed.events; sections = c.requires.well_formed.sections; sizes = c.requires.each } in
     let parts : List Record = c.walk.new.records in
     let all : c.in_ok-parts.parts.len ≡ length parts = omega (arith, c.walk.auto.records, c.deref_mut.ensures.len) in
