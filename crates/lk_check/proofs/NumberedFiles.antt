@@ -1,5 +1,5 @@
 -- The files of all groups, with their numbers.
-use Rattle.std.proofs.Common.{◌≡◌, ℕ, zero, suc, ◌+◌, ◌<◌, ◌⊎◌, Bool, not, ◌&&◌, List, [], ◌∷◌, ◌++◌, Option, Some, None, IsSomeAnd, option_and_then, option_map, length, map, position, refl, ap, sym, subst, ◌∙◌, inl, inr, arith, add-zero, zero-add}
+use Rattle.std.proofs.Common.{◌≡◌, ℕ, ◌<◌, Bool, not, ◌&&◌, List, [], ◌∷◌, Option, Some, None, IsSomeAnd, option_and_then, option_map, length, position, refl, ap, sym, subst, ◌∙◌, zero-add}
 use Rattle.std.specs.List.{enumerate_from, flat_map, list_all, slice_get}
 use Rattle.std.proofs.lemmas.List.Folds.{list_all-append, list_all-map}
 use Rattle.std.proofs.lemmas.List.Quantifiers.{position-Some}

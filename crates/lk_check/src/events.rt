@@ -36,6 +36,9 @@ const MOST_SECTIONS: usize = OUTPUT_SECTIONS as usize;
 /// The most segments.
 const MOST_SEGMENTS: usize = SEGMENTS as usize;
 
+/// The most sections and segments together.
+const MOST_MARKED: usize = MOST_SECTIONS + MOST_SEGMENTS;
+
 /// Each section is placed once, and each segment opened once, and closed once after that; what an event names is there,
 /// and only where a script is does the location counter move. Else the place is the first event after which that can't
 /// be, the number of events for what is missing. Takes time for each event, section and segment, and no memory.
@@ -97,7 +100,7 @@ fn first_bad_event<const SECTIONS: usize, const SEGMENTS: usize>(
 ) -> Option<usize>
     requires sections { length plan.now.sections ≤ SECTIONS }
     requires segments { length plan.now.segments ≤ SEGMENTS }
-    requires marks { SECTIONS + SEGMENTS ≤ 65536 }
+    requires marks { SECTIONS + SEGMENTS ≤ MOST_MARKED }
     ensures { result ≡ first_bad_event script plan.now }
 {
     let mut placed = [false; SECTIONS];
