@@ -4,22 +4,22 @@ use Rattle.std.specs.Prelude.{◌==◌, if◌then◌else◌}
 use Rattle.std.proofs.lemmas.Bool.{cases_Bool, eqb-true}
 use Rattle.std.proofs.lemmas.Bool.Decides.{nat_tests}
 use Rattle.lk_place.specs.Records.{Record}
-use Rattle.lk_place.specs.Walk.{is_among}
+use Rattle.lk_place.specs.Walk.{lies_in}
 
-among_more : (first j p : ℕ) → is_among first j p ≡ true → is_among first (j + 1) p ≡ true
+among_more : (first j p : ℕ) → lies_in first j p ≡ true → lies_in first (j + 1) p ≡ true
 among_more first j p h = grind (arith, nat_tests)
 
-among_last : (first j : ℕ) → is_among first (j + 1) (first + j) ≡ true
+among_last : (first j : ℕ) → lies_in first (j + 1) (first + j) ≡ true
 among_last first j = grind (arith, nat_tests)
 
-among_other : (first j p : ℕ) → (p == first + j) ≡ false → is_among first j p ≡ is_among first (j + 1) p
+among_other : (first j p : ℕ) → (p == first + j) ≡ false → lies_in first j p ≡ lies_in first (j + 1) p
 among_other first j p h = grind (arith, nat_tests)
 
 -- a range that is filled up to j, and one more
 pub range_grows : (new old base f : ℕ → Record) (first j q : ℕ) → q ≡ first + j
     → ((p : ℕ) → new p ≡ (if p == q then f q else old p))
-    → ((p : ℕ) → old p ≡ (if is_among first j p then f p else base p))
-    → (p : ℕ) → new p ≡ (if is_among first (j + 1) p then f p else base p)
+    → ((p : ℕ) → old p ≡ (if lies_in first j p then f p else base p))
+    → (p : ℕ) → new p ≡ (if lies_in first (j + 1) p then f p else base p)
 range_grows new old base f first j q at writes filled p =
     elim (cases_Bool (p == q)) [
       | inl here ↦
@@ -27,7 +27,7 @@ range_grows new old base f first j q at writes filled p =
           writes p
           ∙ ap (λ (b : Bool). cond b (f q) (old p)) here
           ∙ ap f (sym same)
-          ∙ ap (λ (b : Bool). cond b (f p) (base p)) (sym (ap (is_among first (j + 1)) (same ∙ at) ∙ among_last first j))
+          ∙ ap (λ (b : Bool). cond b (f p) (base p)) (sym (ap (lies_in first (j + 1)) (same ∙ at) ∙ among_last first j))
       | inr there ↦
           writes p
           ∙ ap (λ (b : Bool). cond b (f q) (old p)) there

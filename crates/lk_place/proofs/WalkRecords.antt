@@ -12,7 +12,7 @@ use Rattle.lk_place.specs.Placement.{IsPlacedBefore, section_start}
 use Rattle.lk_place.specs.Ranges.{HasPart}
 use Rattle.lk_place.specs.Records.{Record, nowhere}
 use Rattle.lk_place.specs.Setting.{IsReady, Setting, part_count, part_number}
-use Rattle.lk_place.specs.Walk.{cursors_after, entered, is_among, record_after, record_by, recorded, written}
+use Rattle.lk_place.specs.Walk.{cursors_after, entered, lies_in, record_after, record_by, recorded, rewritten}
 use Rattle.lk_place.proofs.ApartLaws.{section_one}
 use Rattle.lk_place.proofs.Insides.{placed_in_range}
 use Rattle.lk_place.proofs.Parts.{first_part-suc}
@@ -27,10 +27,10 @@ section_there setting k s ready here = placed_in_range setting.plan (Section s) 
 
 -- ---- whether a part is one of a section
 
-among_part : (first count j : ℕ) → j < count → is_among first count (first + j) ≡ true
+among_part : (first count j : ℕ) → j < count → lies_in first count (first + j) ≡ true
 among_part first count j h = grind (arith, nat_tests)
 
-among_is : (first count p : ℕ) → is_among first count p ≡ true → (j : ℕ) × (j < count) × (p ≡ first + j)
+among_is : (first count p : ℕ) → lies_in first count p ≡ true → (j : ℕ) × (j < count) × (p ≡ first + j)
 among_is first count p h =
     let from : first ≤ p = grind (arith, nat_tests) in
     let below : p < first + count = grind (arith, nat_tests) in
@@ -38,11 +38,11 @@ among_is first count p h =
 
 -- a part of one section isn't one of another
 among_other : (setting : Setting) (s t j : ℕ) → s < length setting.plan.sections → t < length setting.plan.sections → (s ≡ t → ⊥) → j < part_count setting.plan.sections s
-    → is_among (first_part setting.plan.sections t) (part_count setting.plan.sections t) (part_number setting.plan.sections s j) ≡ false
+    → lies_in (first_part setting.plan.sections t) (part_count setting.plan.sections t) (part_number setting.plan.sections s j) ≡ false
 among_other setting s t j below there other less =
     let sections : List PlanSection = setting.plan.sections in
     let p : ℕ = part_number sections s j in
-    elim (cases_Bool (is_among (first_part sections t) (part_count sections t) p)) [
+    elim (cases_Bool (lies_in (first_part sections t) (part_count sections t) p)) [
       | inl hit ↦
           let at = among_is (first_part sections t) (part_count sections t) p hit in
           let one : HasPart setting.plan s p = record { from = omega arith; below = omega (arith, first_part-suc sections s below) } in
@@ -56,22 +56,22 @@ among_other setting s t j below there other less =
 -- an event that places section s makes the records of its parts
 recorded_here : (setting : Setting) (s j : ℕ) (c : Cursors) (old : Record) → j < part_count setting.plan.sections s
     → recorded setting (Some (Section s)) c (part_number setting.plan.sections s j) old ≡ record_by setting s (section_start setting s (entered setting (Section s) c)) (part_number setting.plan.sections s j)
-unfolding written
+unfolding rewritten
 recorded_here setting s j c old less =
     let p : ℕ = part_number setting.plan.sections s j in
     ap (λ (b : Bool). cond b (record_by setting s (section_start setting s (entered setting (Section s) c)) p) old) (among_part (first_part setting.plan.sections s) (part_count setting.plan.sections s) j less)
 
 -- and leaves a part that isn't one of them
-recorded_miss : (setting : Setting) (t p : ℕ) (c : Cursors) (old : Record) → is_among (first_part setting.plan.sections t) (part_count setting.plan.sections t) p ≡ false
+recorded_miss : (setting : Setting) (t p : ℕ) (c : Cursors) (old : Record) → lies_in (first_part setting.plan.sections t) (part_count setting.plan.sections t) p ≡ false
     → recorded setting (Some (Section t)) c p old ≡ old
-unfolding written
+unfolding rewritten
 recorded_miss setting t p c old miss = ap (λ (b : Bool). cond b (record_by setting t (section_start setting t (entered setting (Section t) c)) p) old) miss
 
 -- an event leaves each part that isn't one of its section
 recorded_other : (setting : Setting) (o : Option OrderEvent) (p : ℕ) (c : Cursors) (old : Record)
-    → ((t : ℕ) → o ≡ Some (Section t) → is_among (first_part setting.plan.sections t) (part_count setting.plan.sections t) p ≡ false)
+    → ((t : ℕ) → o ≡ Some (Section t) → lies_in (first_part setting.plan.sections t) (part_count setting.plan.sections t) p ≡ false)
     → recorded setting o c p old ≡ old
-unfolding written
+unfolding rewritten
 recorded_other setting None p c old miss = refl
 recorded_other setting (Some (SegmentStart i)) p c old miss = refl
 recorded_other setting (Some (SegmentEnd i)) p c old miss = refl
@@ -92,7 +92,7 @@ record_placed setting k s j (suc m) ready here less early =
     let old : Record = record_after setting m p in
     elim (cases_lt k m) [
       | inl before ↦
-          let other : (t : ℕ) → slice_get setting.plan.events m ≡ Some (Section t) → is_among (first_part setting.plan.sections t) (part_count setting.plan.sections t) p ≡ false
+          let other : (t : ℕ) → slice_get setting.plan.events m ≡ Some (Section t) → lies_in (first_part setting.plan.sections t) (part_count setting.plan.sections t) p ≡ false
           = λ t there.
           among_other setting s t j (section_there setting k s ready here) (section_there setting m t ready there)
           (λ same. absurd (omega (arith, ready.events.once k m (Section t) tt (here ∙ ap (λ (n : ℕ). Some (Section n)) same) there))) less in
@@ -113,9 +113,9 @@ pub record_absent : (setting : Setting) (n p : ℕ) → (IsPlacedBefore setting 
 unfolding record_after
 record_absent setting zero p none = refl
 record_absent setting (suc m) p none =
-    let other : (t : ℕ) → slice_get setting.plan.events m ≡ Some (Section t) → is_among (first_part setting.plan.sections t) (part_count setting.plan.sections t) p ≡ false
+    let other : (t : ℕ) → slice_get setting.plan.events m ≡ Some (Section t) → lies_in (first_part setting.plan.sections t) (part_count setting.plan.sections t) p ≡ false
     = λ t there.
-    elim (cases_Bool (is_among (first_part setting.plan.sections t) (part_count setting.plan.sections t) p)) [
+    elim (cases_Bool (lies_in (first_part setting.plan.sections t) (part_count setting.plan.sections t) p)) [
       | inl hit ↦
           let at = among_is (first_part setting.plan.sections t) (part_count setting.plan.sections t) p hit in
           absurd (none (record { k = m; s = t; j = at.0; early = omega arith; places = there; within = at.1; is = at.2 }))
@@ -136,15 +136,15 @@ here_or_not setting m p (Some (SetLocation x)) at = inr (λ t j is less same. ab
 here_or_not setting m p (Some (SetLocationRelative x i)) at = inr (λ t j is less same. absurd (cc))
 here_or_not setting m p (Some (SetSectionAddress x)) at = inr (λ t j is less same. absurd (cc))
 here_or_not setting m p (Some (Section s)) at =
-    elim (cases_Bool (is_among (first_part setting.plan.sections s) (part_count setting.plan.sections s) p)) [
+    elim (cases_Bool (lies_in (first_part setting.plan.sections s) (part_count setting.plan.sections s) p)) [
       | inl hit ↦
           let there = among_is (first_part setting.plan.sections s) (part_count setting.plan.sections s) p hit in
           inl (record { k = m; s = s; j = there.0; early = omega arith; places = at; within = there.1; is = there.2 })
       | inr miss ↦ inr (λ t j is less same.
           let one : s ≡ t = cc in
           let part : p ≡ first_part setting.plan.sections s + j = same ∙ ap (λ (n : ℕ). part_number setting.plan.sections n j) (sym one) in
-          let hit : is_among (first_part setting.plan.sections s) (part_count setting.plan.sections s) p ≡ true =
-          ap (is_among (first_part setting.plan.sections s) (part_count setting.plan.sections s)) part
+          let hit : lies_in (first_part setting.plan.sections s) (part_count setting.plan.sections s) p ≡ true =
+          ap (lies_in (first_part setting.plan.sections s) (part_count setting.plan.sections s)) part
           ∙ among_part (first_part setting.plan.sections s) (part_count setting.plan.sections s) j (subst (λ (n : ℕ). j < part_count setting.plan.sections n) (sym one) less) in
           absurd (cc))
     ]

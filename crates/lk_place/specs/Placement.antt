@@ -77,11 +77,11 @@ reached setting s records from (suc j) =
 
 -- where a section's parts begin: in place of memory one that isn't allocated counts from 0
 abbrev pub section_start : Setting → ℕ → Cursors → Cursors
-section_start setting s from = record { file = from.file; memory = if is_allocated setting.plan s then from.memory else 0 }
+section_start setting s from = record from { memory = if is_allocated setting.plan s then from.memory else 0 }
 
 -- the cursors behind a section whose parts end here: one that isn't allocated leaves memory where it was
 abbrev pub left_at : Setting → ℕ → Cursors → Cursors → Cursors
-left_at setting s from end = record { file = end.file; memory = if is_allocated setting.plan s then end.memory else from.memory }
+left_at setting s from end = record from { file = end.file; memory = if is_allocated setting.plan s then end.memory else from.memory }
 
 -- part p of a section is placed from the cursors on
 abbrev pub PlacesPart : Setting → ℕ → ℕ → Cursors → List Record → Type 0

@@ -85,18 +85,18 @@ abbrev pub one_written : Setting → ℕ → Cursors → ℕ → Cursors → ℕ
 one_written setting s begin q from p old = if p == q then next_record setting s begin q from else old
 
 -- whether part p is one of n from the first on
-abbrev pub is_among : ℕ → ℕ → ℕ → Bool
-is_among first n p = nat_le first p && nat_lt p (first + n)
+abbrev pub lies_in : ℕ → ℕ → ℕ → Bool
+lies_in first n p = nat_le first p && nat_lt p (first + n)
 
 -- what the parts of a section that begin here make of the record of part p
 abbrev pub all_written : Setting → ℕ → Cursors → ℕ → Record → Record
 all_written setting s begin p old =
-    if is_among (first_part setting.plan.sections s) (part_count setting.plan.sections s) p then record_by setting s begin p else old
+    if lies_in (first_part setting.plan.sections s) (part_count setting.plan.sections s) p then record_by setting s begin p else old
 
 -- what a section makes of it
-unfoldable pub written : Setting → Option ℕ → Cursors → ℕ → Record → Record
-written setting None from p old = old
-written setting (Some s) from p old = all_written setting s (section_start setting s from) p old
+unfoldable pub rewritten : Setting → Option ℕ → Cursors → ℕ → Record → Record
+rewritten setting None from p old = old
+rewritten setting (Some s) from p old = all_written setting s (section_start setting s from) p old
 
 -- the cursors behind it
 unfoldable pub left_behind : Setting → Option ℕ → Cursors → Cursors
@@ -122,7 +122,7 @@ stepped setting (Some e) from = left_behind setting (placed_section e) (entered 
 -- what an event makes of the record of part p
 abbrev pub recorded : Setting → Option OrderEvent → Cursors → ℕ → Record → Record
 recorded setting None from p old = old
-recorded setting (Some e) from p old = written setting (placed_section e) (entered setting e from) p old
+recorded setting (Some e) from p old = rewritten setting (placed_section e) (entered setting e from) p old
 
 -- ---- all events
 

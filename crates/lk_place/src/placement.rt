@@ -12,7 +12,7 @@ ghost use Rattle.lk_place.specs.Placement.{behind, first_walked, is_below, is_wa
 ghost use Rattle.lk_place.specs.Placement.{resting, section_end, section_refusal, walk_alignment};
 ghost use Rattle.lk_place.specs.Setting.{part_at, size_at};
 ghost use Rattle.lk_place.specs.Walk.{IsPlacing, IsWalkable, Rewrites, all_written, fitting, left_behind, one_written};
-ghost use Rattle.lk_place.specs.Walk.{placed_at, setting_in, unless, written};
+ghost use Rattle.lk_place.specs.Walk.{placed_at, setting_in, unless, rewritten};
 
 use crate::cursors::Cursors;
 use crate::error::Refusal;
@@ -256,7 +256,7 @@ impl<P: Platform> Walk<'_, P> {
 
     /// Places a section from the cursors on, and answers the cursors behind it. One that isn't allocated counts from 0 in
     /// place of memory.
-    #[tactic(auto, unfolding(crate::specs::Walk::written, crate::specs::Walk::left_behind))]
+    #[tactic(auto, unfolding(crate::specs::Walk::rewritten, crate::specs::Walk::left_behind))]
     pub(crate) fn place_section(
         &self,
         section: OutputSectionId,
@@ -269,7 +269,7 @@ impl<P: Platform> Walk<'_, P> {
         ensures ends { let setting = setting_in P.segment_start self.now
             in result ≡ unless (section_refusal setting (Some section) from) (left_behind setting (Some section) from) }
         ensures records { let setting = setting_in P.segment_start self.now
-            in OnOk result (Rewrites (written setting (Some section) from) records.old records.new) }
+            in OnOk result (Rewrites (rewritten setting (Some section) from) records.old records.new) }
     {
         let allocated = self.plan.is_allocated(section);
         let begin = Cursors {

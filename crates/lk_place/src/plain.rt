@@ -33,7 +33,7 @@ fn leaves_gap(plan: &Plan, section: OutputSectionId) -> bool
 }
 
 /// Whether the end of this segment closes the load segment that is open.
-fn closes(scan: &Scan, segment: SegmentId) -> bool
+fn closes_load(scan: &Scan, segment: SegmentId) -> bool
     ensures { result ≡ option_map_or (λ i. i == segment) scan.now.inside false }
 {
     match scan.inside {
@@ -81,7 +81,7 @@ fn scanned(plan: &Plan, scan: &Scan, event: &OrderEvent) -> Scan
             }
         }
         OrderEvent::SegmentEnd(segment) => {
-            if closes(scan, segment) {
+            if closes_load(scan, segment) {
                 Scan {
                     inside: None,
                     gap: scan.gap,

@@ -91,7 +91,7 @@ fn span_inside(
 }
 
 /// The stack of this many bytes.
-fn stack_of(size: u64) -> OutputRecordLayout
+fn stack_record(size: u64) -> OutputRecordLayout
     ensures { result ≡ stack_record size }
 {
     OutputRecordLayout {
@@ -119,7 +119,7 @@ fn span_segment(
 {
     let number = segment.as_usize();
     if link.plan.segments.as_slice()[number].kind.is_stack() {
-        stack_of(link.options.stack)
+        stack_record(link.options.stack)
     } else {
         span_inside(
             &link.plan,

@@ -18,7 +18,7 @@ ghost use Rattle.lk_place.specs.Records.{nowhere, record_at};
 ghost use Rattle.lk_place.specs.Setting.{setting_of};
 ghost use Rattle.lk_link.specs.Target.{platform_target};
 ghost use Rattle.lk_place.specs.Walk.{GivesWalked, IsWalkable, Rewrites, left_behind, recorded, setting_in, stepped};
-ghost use Rattle.lk_place.specs.Walk.{at_event, unless, written};
+ghost use Rattle.lk_place.specs.Walk.{at_event, rewritten, unless};
 
 use crate::alignments::{Alignments, compute_alignments};
 use crate::cursors::Cursors;
@@ -98,7 +98,7 @@ impl<P: Platform> Walk<'_, P> {
     }
 
     /// The cursors after what an event does before it places a section.
-    fn enter(&self, event: &OrderEvent, from: Cursors) -> Result<Cursors, Refusal>
+    fn moved(&self, event: &OrderEvent, from: Cursors) -> Result<Cursors, Refusal>
         requires walkable { IsWalkable P.segment_start self.now }
         requires in_range { IsInRange self.now.plan.now event.now }
         ensures { result ≡ moved (setting_in P.segment_start self.now) event.now from }
@@ -110,7 +110,7 @@ impl<P: Platform> Walk<'_, P> {
     }
 
     /// Places the section of an event, if it has one, and answers the cursors behind it.
-    #[tactic(auto, unfolding(crate::specs::Walk::written, crate::specs::Walk::left_behind))]
+    #[tactic(auto, unfolding(crate::specs::Walk::rewritten, crate::specs::Walk::left_behind))]
     fn place(
         &self,
         event: &OrderEvent,
@@ -123,7 +123,7 @@ impl<P: Platform> Walk<'_, P> {
         ensures ends { let setting = setting_in P.segment_start self.now in let s = placed_section event.now
             in result ≡ unless (section_refusal setting s from) (left_behind setting s from) }
         ensures records { let setting = setting_in P.segment_start self.now
-            in OnOk result (Rewrites (written setting (placed_section event.now) from) records.old records.new) }
+            in OnOk result (Rewrites (rewritten setting (placed_section event.now) from) records.old records.new) }
     {
         match *event {
             OrderEvent::Section(section) => self.place_section(section, from, records),
@@ -147,7 +147,7 @@ impl<P: Platform> Walk<'_, P> {
         ensures records { let setting = setting_in P.segment_start self.now
             in OnOk result (Rewrites (recorded setting (Some event.now) from) records.old records.new) }
     {
-        let entered = self.enter(event, from)?;
+        let entered = self.moved(event, from)?;
         self.place(event, entered, records)
     }
 
