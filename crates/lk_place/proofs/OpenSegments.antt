@@ -2,7 +2,7 @@
 use Rattle.std.proofs.Common.{◌≡◌, ℕ, zero, suc, ◌≤◌, Bool, true, false, List, [], ◌∷◌, take, Some, refl, sym, ap, ◌∙◌, inl, inr, arith, eq-eqb}
 use Rattle.std.specs.Prelude.{◌&&◌, ◌||◌, not, slice_get}
 use Rattle.std.specs.List.{list_any}
-use Rattle.std.proofs.Math.Bool.{or-false, or-true}
+use Rattle.std.proofs.Math.Bool.{and-false, or-false, or-true}
 use Rattle.std.proofs.lemmas.Bool.Decides.{eqb_tells}
 use Rattle.lk_link.specs.declared.plan.OrderEvent.{OrderEvent}
 use Rattle.lk_link.specs.declared.plan.OrderEvent.TheVariants.{SegmentStart, SegmentEnd, Section, SetLocation, SetLocationRelative, SetSectionAddress}
@@ -90,10 +90,6 @@ pub open_same : (i k : ℕ) (es : List OrderEvent) (e : OrderEvent) → slice_ge
 open_same i k es e here unopened unclosed =
     ap (λ b. b && not (list_any (is_end i) (take (suc k) es))) (any_same (is_start i) es k e here unopened)
     ∙ ap (λ b. list_any (is_start i) (take k es) && not b) (any_same (is_end i) es k e here unclosed)
-
-and-false : (b : Bool) → (b && false) ≡ false
-and-false true = refl
-and-false false = refl
 
 -- behind its end a segment isn't open
 pub closed_now : (i k : ℕ) (es : List OrderEvent) (e : OrderEvent) → slice_get es k ≡ Some e → is_end i e ≡ true → is_open i (take (suc k) es) ≡ false

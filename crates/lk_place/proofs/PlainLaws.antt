@@ -1,7 +1,7 @@
 -- A plan with one load segment is plain.
-use Rattle.std.proofs.Common.{◌≡◌, ℕ, ◌<◌, ◌≤◌, Bool, true, false, length, take, refl, ap, ◌∙◌, inl, inr, arith}
+use Rattle.std.proofs.Common.{◌≡◌, ℕ, ◌<◌, ◌≤◌, true, false, length, take, refl, ap, ◌∙◌, inl, inr, arith}
 use Rattle.std.specs.Prelude.{◌&&◌, ◌||◌, if◌then◌else◌, not}
-use Rattle.std.proofs.lemmas.Bool.{and_parts, cases_lt}
+use Rattle.std.proofs.lemmas.Bool.{and_parts, cases_lt, not-true}
 use Rattle.std.proofs.lemmas.List.{get_or_past}
 use Rattle.lk_link.specs.declared.plan.OrderEvent.TheVariants.{Section}
 use Rattle.lk_link.specs.declared.plan.Plan.{Plan}
@@ -16,14 +16,10 @@ use Rattle.lk_place.proofs.Insides.{placed_in_range}
 use Rattle.lk_place.proofs.OpenSegments.{unopened}
 
 -- what has memory is allocated, and isn't zero-fill thread-local
-not_true : (b : Bool) → not b ≡ true → b ≡ false
-not_true true h = absurd (cc)
-not_true false h = refl
-
 has : (plan : Plan) (s : ℕ) → has_memory plan s ≡ true → (is_allocated plan s ≡ true) × (is_zero_fill_thread_local plan s ≡ false)
 has plan s h =
     let parts = and_parts (is_allocated plan s) (not (is_zero_fill_thread_local plan s)) h in
-    (parts.0, not_true (is_zero_fill_thread_local plan s) parts.1)
+    (parts.0, not-true (is_zero_fill_thread_local plan s) parts.1)
 
 -- nor is a section that isn't there
 none_zero_fill : (plan : Plan) (s : ℕ) → length plan.sections ≤ s → is_zero_fill_thread_local plan s ≡ false

@@ -4,7 +4,7 @@ use Rattle.std.specs.Prelude.{◌==◌, ◌&&◌, ◌||◌, fold, if◌then◌el
 use Rattle.std.specs.List.{cons_option, filter_map, last_or, slice_index_or}
 use Rattle.std.specs.Option.{option_map_or}
 use Rattle.std.proofs.Math.Bool.{or-true}
-use Rattle.std.proofs.lemmas.Bool.{and_from, and_parts, cases_lt, eqb-true, or_cases}
+use Rattle.std.proofs.lemmas.Bool.{and_from, and_parts, cases_lt, eqb-true, not-true, or_cases}
 use Rattle.std.proofs.lemmas.Bool.Decides.{eqb_tells}
 use Rattle.std.proofs.lemmas.List.{nil_from_length}
 use Rattle.std.proofs.lemmas.Option.{slice_get-get_or, slice_get_within}
@@ -247,17 +247,13 @@ knows plan order one (suc k) le =
 
 -- ---- exactly plain plans
 
-not_true : (b : Bool) → not b ≡ true → b ≡ false
-not_true true h = absurd (cc)
-not_true false h = refl
-
 none_of : (o : Option ℕ) → is_none o ≡ true → o ≡ None
 none_of None h = refl
 none_of (Some i) h = absurd (cc)
 
 -- what an accepted start of a load segment says, and what makes it accepted
 accepted_start : (load bare : Bool) (o : Option ℕ) → (not load || (is_none o && not bare)) ≡ true → load ≡ true → (o ≡ None) × (bare ≡ false)
-accepted_start true bare o h is = let both = and_parts (is_none o) (not bare) h in (none_of o both.0, not_true bare both.1)
+accepted_start true bare o h is = let both = and_parts (is_none o) (not bare) h in (none_of o both.0, not-true bare both.1)
 accepted_start false bare o h is = absurd (cc)
 
 accept_start : (load bare : Bool) (o : Option ℕ) → (load ≡ true → (o ≡ None) × (bare ≡ false)) → (not load || (is_none o && not bare)) ≡ true
@@ -267,7 +263,7 @@ accept_start false bare o h = refl
 -- the same of a section inside
 accepted_section : (o : Option ℕ) (i : ℕ) (allocated backed behind : Bool) → (is_none o || (allocated && not (backed && behind))) ≡ true → o ≡ Some i → (allocated ≡ true) × ((backed && behind) ≡ false)
 accepted_section None i allocated backed behind h is = absurd (cc)
-accepted_section (Some j) i allocated backed behind h is = let both = and_parts allocated (not (backed && behind)) h in (both.0, not_true (backed && behind) both.1)
+accepted_section (Some j) i allocated backed behind h is = let both = and_parts allocated (not (backed && behind)) h in (both.0, not-true (backed && behind) both.1)
 
 accept_section : (o : Option ℕ) (allocated backed behind : Bool) → ((i : ℕ) → o ≡ Some i → (allocated ≡ true) × ((backed && behind) ≡ false)) → (is_none o || (allocated && not (backed && behind))) ≡ true
 accept_section None allocated backed behind h = refl
@@ -306,7 +302,7 @@ plain_of plan output order h =
     accepted_section (known plan k).inside i (is_allocated plan s) (is_file_backed plan s) ((known plan k).gap || is_zero_fill_thread_local plan s)
     (accepted k (Section s) places.places.here) (inside i s k places) in
     record {
-      whole = λ is. let yes : is_partial output ≡ true = ap is_partial is in let no = not_true (is_partial output) one.0 in absurd (cc);
+      whole = λ is. let yes : is_partial output ≡ true = ap is_partial is in let no = not-true (is_partial output) one.0 in absurd (cc);
       regions = nil_from_length plan.regions (eqb-true (length plan.regions) 0 one.1);
       unmoved = λ k e here. about_place plan (known plan k) e (accepted k e here);
       apart = λ i j k load opens. elim (is_open i (take k plan.events)) as (λ b. is_open i (take k plan.events) ≡ b → b ≡ false) [
@@ -350,7 +346,7 @@ no_gap plan output i s k scan plain h places is =
               let before = h.gapped i is gap in
               let first : PlacesInLoad plan i before.0 before.1 = record { load = places.load; places = before.3 } in
               let filled = plain.backed_first i before.0 s before.1 k before.2 first places backed in
-              let left = not_true (is_file_backed plan before.0 || is_zero_fill_thread_local plan before.0) before.4 in
+              let left = not-true (is_file_backed plan before.0 || is_zero_fill_thread_local plan before.0) before.4 in
               absurd (cc)
           | inr bare ↦ let filled = plain.zero_fill i s k places bare in absurd (cc)
         ]

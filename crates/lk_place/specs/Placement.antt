@@ -1,5 +1,7 @@
 -- Where everything is placed: the cursors round each event up to the first that is refused, and the records of all parts.
-use Rattle.std.specs.Prelude.{◌≡◌, ℕ, zero, suc, ◌+◌, ◌-◌, ◌^◌, ◌<◌, ◌≤◌, ◌==◌, ◌&&◌, ◌||◌, Bool, true, false, MatchBool, if◌then◌else◌, List, length, min, nat_lt, slice_get, slice_range, Option, Some, None, Result, Ok, Err, option_map, unwrap_or, position}
+use Rattle.std.specs.Prelude.{◌≡◌, ℕ, zero, suc, ◌+◌, ◌-◌, ◌^◌, ◌<◌, ◌≤◌, ◌==◌, ◌&&◌, ◌||◌, Bool, true, false, MatchBool, if◌then◌else◌}
+use Rattle.std.specs.Prelude.{List, length, min, nat_lt, slice_get, slice_range, Option, Some, None, Result, Ok, Err, option_map, unwrap_or}
+use Rattle.std.specs.Prelude.{position}
 use Rattle.std.specs.Int.{next_multiple_of}
 use Rattle.std.specs.List.{slice_index_or}
 use Rattle.lk_link.specs.declared.fault.Place.TheVariants as place

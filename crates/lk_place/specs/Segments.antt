@@ -1,5 +1,6 @@
 -- What output sections and segments span.
-use Rattle.std.specs.Prelude.{◌≡◌, ℕ, ◌+◌, ◌-◌, ◌==◌, ◌&&◌, ◌||◌, not, Bool, false, if◌then◌else◌, List, Option, Some, None, find, filter, fold, map, max, min, nat_lt, slice_range, unwrap_or}
+use Rattle.std.specs.Prelude.{◌≡◌, ℕ, ◌+◌, ◌-◌, ◌==◌, ◌&&◌, ◌||◌, not, Bool, false, if◌then◌else◌, List, Option, Some, None, find, filter}
+use Rattle.std.specs.Prelude.{fold, map, max, min, nat_lt, slice_range, unwrap_or}
 use Rattle.std.specs.List.{enumerate_from, filter_map, list_any, slice_index_or}
 use Rattle.lk_link.specs.declared.link.LinkInput.{LinkInput}
 use Rattle.lk_link.specs.declared.plan.Plan.{Plan}

@@ -1,6 +1,7 @@
 //! Laws of placement, each proved as the contract of a function that does nothing.
 
-ghost use Rattle.lk_place.specs.Laws.{FileRangesAreDisjoint, MemoryRangesAreDisjoint, OneLoadSegmentIsPlain, PlainMemoryIsCongruent, PlainMemoryIsDisjoint, RecordsKeepAlignments};
+ghost use Rattle.lk_place.specs.Laws.{FileRangesAreDisjoint, MemoryRangesAreDisjoint, OneLoadSegmentIsPlain};
+ghost use Rattle.lk_place.specs.Laws.{PlainMemoryIsCongruent, PlainMemoryIsDisjoint, RecordsKeepAlignments};
 ghost use Rattle.lk_place.specs.PlacementLaws.{PartsTakeTheirBytes, PlacementExists, PlacementIsOne, RefusedExactlyPast};
 
 /// A law: there is a placement of each plan that is placed, with its events in order and good sections, up to the first refused

@@ -9,7 +9,8 @@ ghost use Rattle.std.specs.List.{list_any, slice_index_or};
 ghost use Rattle.lk_link.specs.Inside.{segment_insides};
 ghost use Rattle.lk_link.specs.WellFormed.{IsInRange, IsWellFormed};
 ghost use Rattle.lk_place.specs.Records.{record_at};
-ghost use Rattle.lk_place.specs.Segments.{Refuses, counts, first_outside, found_outside, hull, is_marked, is_skipped, may_stand_outside, outside_refusal, segment_layouts, segment_record, stack_record, stands_in};
+ghost use Rattle.lk_place.specs.Segments.{Refuses, counts, first_outside, found_outside, hull, is_marked, is_skipped};
+ghost use Rattle.lk_place.specs.Segments.{may_stand_outside, outside_refusal, segment_layouts, segment_record, stack_record, stands_in};
 
 use crate::error::PlaceError;
 use crate::hulls::{nothing, with_record};
@@ -79,7 +80,8 @@ fn span_inside(
 ) -> OutputRecordLayout
     requires in_range { All (λ s. s < length records.now) inside.now }
     requires there { segment < length plan.now.segments }
-    ensures { result ≡ hull (map (record_at records.now) (filter (counts plan.now records.now (is_marked emitted.now) segment) inside.now)) }
+    ensures { let counted = filter (counts plan.now records.now (is_marked emitted.now) segment) inside.now
+        in result ≡ hull (map (record_at records.now) counted) }
 {
     let mut all = None;
     for section in inside {
@@ -143,7 +145,8 @@ fn span_segments(
     requires in_range { All (λ inside. All (λ s. s < length records.now) inside) insides.now }
     requires insides { insides.now ≡ segment_insides link.now.plan }
     requires there { All (λ i. i < length link.now.plan.segments) active.now }
-    ensures { IfOk result (λ all. all.items ≡ segment_layouts link.now.plan link.now.options.stack records.now (is_marked emitted.now) active.now) }
+    ensures { IfOk result (λ all. all.items
+        ≡ segment_layouts link.now.plan link.now.options.stack records.now (is_marked emitted.now) active.now) }
 {
     let mut all = Vec::with_capacity(alloc, active.len())?;
     for segment in active {
