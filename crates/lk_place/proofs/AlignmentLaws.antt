@@ -1,13 +1,9 @@
--- The greatest alignments of sections and segments are alignments, and lesser ones divide greater ones.
-use Rattle.std.proofs.Common.{◌≡◌, ℕ, zero, suc, ◌+◌, ◌-◌, ◌*◌, ◌^◌, ◌≤◌, true, false, cond, List, [], ◌∷◌, map, max, min, take, sym, ap, subst, ◌∙◌, inl, inr, arith, add-zero, zero-add, Option, Some, None}
+-- The greatest alignments of sections and segments are alignments, and at least those of what they are the greatest of.
+use Rattle.std.proofs.Common.{◌≡◌, ℕ, zero, suc, ◌+◌, ◌≤◌, true, false, cond, List, [], ◌∷◌, map, max, take, sym, ap, subst, ◌∙◌, arith, add-zero, zero-add, Option, Some, None}
 use Rattle.std.specs.Prelude.{filter, if◌then◌else◌, slice_get}
-use Rattle.std.specs.Int.{◌∣◌}
 use Rattle.std.specs.List.{AllByRecursion, cons_option, enumerate_from, filter_map}
-use Rattle.std.proofs.lemmas.Bool.{cases_lt}
 use Rattle.std.proofs.lemmas.List.Elements.{recursion_from_All}
-use Rattle.std.proofs.lemmas.Nat.{pow-add}
-use Rattle.std.proofs.Math.Nat.{dvd-mul_right, le-max_left, le-max_right}
-use Rattle.std.proofs.Math.Pow.{pow-lt}
+use Rattle.std.proofs.Math.Nat.{le-max_left, le-max_right}
 use Rattle.lk_link.specs.declared.plan.Plan.{Plan}
 use Rattle.lk_link.specs.declared.plan.PlanPart.{PlanPart}
 use Rattle.lk_link.specs.declared.plan.OrderEvent.{OrderEvent}
@@ -16,39 +12,10 @@ use Rattle.lk_link.specs.Alignments.{is_alignment}
 use Rattle.lk_link.specs.Inside.{PlacesInside, is_open, placed_inside, placed_section, sections_inside}
 use Rattle.lk_link.specs.Parts.{first_part}
 use Rattle.lk_link.specs.PlanSections.{section_at}
-use Rattle.lk_link.proofs.Powers.{alignments_are_powers}
+use Rattle.lk_link.proofs.Powers.{max_aligned}
 use Rattle.lk_place.specs.Alignments.{greatest_alignment, greatest_of, place_alignment, section_alignment}
 use Rattle.lk_place.specs.Setting.{Setting, has_bytes}
 use Rattle.lk_place.proofs.Checked.{AreGood, own_aligned, parts_aligned}
-
--- ---- greater and lesser
-
-max_aligned : (a b : ℕ) → is_alignment a ≡ true → is_alignment b ≡ true → is_alignment (max a b) ≡ true
-max_aligned a b h g =
-    elim (cases_lt a b) [
-      | inl less ↦ let is : max a b ≡ b = omega arith in ap is_alignment is ∙ g
-      | inr more ↦ let is : max a b ≡ a = omega arith in ap is_alignment is ∙ h
-    ]
-
-pub min_aligned : (a b : ℕ) → is_alignment a ≡ true → is_alignment b ≡ true → is_alignment (min a b) ≡ true
-min_aligned a b h g =
-    elim (cases_lt a b) [
-      | inl less ↦ let is : min a b ≡ a = omega arith in ap is_alignment is ∙ h
-      | inr more ↦ let is : min a b ≡ b = omega arith in ap is_alignment is ∙ g
-    ]
-
--- a lesser alignment divides a greater one
-pub alignment_divides : (a b : ℕ) → is_alignment a ≡ true → is_alignment b ≡ true → a ≤ b → a ∣ b
-alignment_divides a b h g le =
-    let p = (alignments_are_powers a).0 h in
-    let q = (alignments_are_powers b).0 g in
-    elim (cases_lt q.0 p.0) [
-      | inl less ↦ absurd (omega (arith, pow-lt less, p.2, q.2))
-      | inr more ↦
-          let split : q.0 ≡ p.0 + (q.0 - p.0) = omega arith in
-          let product : b ≡ a * 2 ^ (q.0 - p.0) = q.2 ∙ ap (λ (k : ℕ). 2 ^ k) split ∙ pow-add 2 p.0 (q.0 - p.0) ∙ ap (λ (n : ℕ). n * 2 ^ (q.0 - p.0)) (sym p.2) in
-          subst (λ n. a ∣ n) (sym product) (dvd-mul_right a (2 ^ (q.0 - p.0)))
-    ]
 
 -- ---- sections
 

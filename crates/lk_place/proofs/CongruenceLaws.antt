@@ -22,8 +22,9 @@ use Rattle.lk_place.proofs.ApartLaws.{placed_of, section_one}
 use Rattle.lk_place.proofs.Congruent.{CursorsAgree, KeepsAgreement, StartsAgree, part_starts, section_leaves}
 use Rattle.lk_place.proofs.Insides.{placed_in_range}
 use Rattle.lk_place.proofs.Moves.{moves, opens_load}
-use Rattle.lk_place.proofs.OpenSegments.{is_its_start, open_before, section_event}
-use Rattle.lk_place.proofs.Parts.{first_part-suc}
+use Rattle.lk_place.proofs.OpenSegments.{open_before, section_event}
+use Rattle.lk_link.proofs.Events.{is_that_start}
+use Rattle.lk_link.proofs.PartNumbers.{first_part-suc}
 use Rattle.lk_place.proofs.Steps.{event_at, step_at}
 
 -- ---- the walk
@@ -106,7 +107,7 @@ open_agrees setting output states records i s k t (suc n) le opened =
     = elim (is_start i e) as (λ b. is_start i e ≡ b → CursorsAgree place (state_at states (n + 1))) [
       | true ↦ λ is.
           opens_agree setting states records i (state_at states n) (state_at states (n + 1)) t.set t.places.load
-          (subst (λ x. Steps setting x (state_at states n) records (state_at states (n + 1))) (is_its_start i e is) step)
+          (subst (λ x. Steps setting x (state_at states n) records (state_at states (n + 1))) (is_that_start i e is) step)
       | false ↦ λ unopened.
           let before : is_open i (take n setting.plan.events) ≡ true = open_before i n setting.plan.events e event.1 unopened opened in
           step_agrees setting output states records i s k t n e (state_at states n) (state_at states (n + 1)) (omega arith) event.1 before

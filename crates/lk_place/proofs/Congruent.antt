@@ -7,16 +7,16 @@ use Rattle.std.proofs.lemmas.Bool.{cases_lt}
 use Rattle.std.proofs.lemmas.List.{get_or_past}
 use Rattle.lk_link.specs.declared.plan.PlanPart.{PlanPart}
 use Rattle.lk_link.specs.Alignments.{is_alignment, IsLeastMultiple}
-use Rattle.lk_link.specs.Parts.{all_parts}
+use Rattle.lk_link.specs.Parts.{all_parts, part_at}
 use Rattle.lk_link.specs.PlanSections.{is_allocated, is_file_backed}
-use Rattle.lk_link.proofs.Powers.{alignment-pos}
+use Rattle.lk_link.proofs.Powers.{alignment-pos, alignment_divides, min_aligned}
 use Rattle.lk_link.proofs.Starts.{next_multiple_is_least}
 use Rattle.lk_place.specs.declared.cursors.Cursors.{Cursors}
 use Rattle.lk_place.specs.Alignments.{section_alignment}
 use Rattle.lk_place.specs.Placement.{IsPlacedAt, PlacesSection, behind, first_walked, is_walked, reached, section_start, walk_alignment}
 use Rattle.lk_place.specs.Records.{Record, record_at}
-use Rattle.lk_place.specs.Setting.{IsReady, Setting, part_at, part_count, part_number, size_at}
-use Rattle.lk_place.proofs.AlignmentLaws.{alignment_divides, min_aligned, section_aligned}
+use Rattle.lk_place.specs.Setting.{IsReady, Setting, part_count, part_number, size_at}
+use Rattle.lk_place.proofs.AlignmentLaws.{section_aligned}
 use Rattle.lk_place.proofs.Checked.{one_aligned}
 use Rattle.lk_place.proofs.Multiples.{least_one}
 use Rattle.lk_place.proofs.PlacedParts.{part_aligned}

@@ -12,7 +12,7 @@ use Rattle.lk_link.specs.declared.plan.PlanPart.{PlanPart}
 use Rattle.lk_link.specs.declared.plan.PlanSection.{PlanSection}
 use Rattle.lk_link.specs.declared.plan.OrderEvent.TheVariants.{Section}
 use Rattle.lk_link.specs.Inside.{sections_inside}
-use Rattle.lk_link.specs.Parts.{all_parts, first_part}
+use Rattle.lk_link.specs.Parts.{all_parts, first_part, part_at}
 use Rattle.lk_link.specs.PlanSections.{no_section, section_at}
 use Rattle.lk_place.specs.declared.cursors.Cursors.{Cursors}
 use Rattle.lk_place.specs.Alignments.{greatest_alignment, greatest_of, numbered_parts, section_alignment}
@@ -20,10 +20,10 @@ use Rattle.lk_place.specs.Laws.{RecordsKeepAlignments}
 use Rattle.lk_place.specs.Placement.{IsPlaced, PlacesSection, first_walked, is_walked, state_at}
 use Rattle.lk_place.specs.Records.{Record, nowhere, record_at}
 use Rattle.lk_place.specs.Segments.{is_filled, part_records, section_record, section_records}
-use Rattle.lk_place.specs.Setting.{IsReady, Setting, has_bytes, part_at, part_count, part_number}
+use Rattle.lk_place.specs.Setting.{IsReady, Setting, has_bytes, part_count, part_number}
 use Rattle.lk_place.proofs.AlignmentLaws.{greatest_of-least}
 use Rattle.lk_place.proofs.Insides.{inside_in_range}
-use Rattle.lk_place.proofs.Parts.{first_part-le, first_part-suc}
+use Rattle.lk_link.proofs.PartNumbers.{first_part-le, first_part-suc}
 use Rattle.lk_place.proofs.Steps.{step_at}
 
 -- ---- the greatest of those that pass

@@ -1,4 +1,4 @@
-mod AlignmentLaws
+pub mod AlignmentLaws
 mod ApartLaws
 mod Checked
 mod Computing
@@ -10,7 +10,6 @@ mod MassLaws
 mod Moves
 mod Multiples
 mod OpenSegments
-mod Parts
 mod PlacedParts
 mod PlacedSections
 mod PlainLaws

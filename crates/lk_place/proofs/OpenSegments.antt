@@ -1,44 +1,18 @@
 -- Which segments are open behind an event.
-use Rattle.std.proofs.Common.{◌≡◌, ℕ, zero, suc, ◌≤◌, Bool, true, false, List, [], ◌∷◌, take, Some, refl, sym, ap, ◌∙◌, inl, inr, arith, eq-eqb}
+use Rattle.std.proofs.Common.{◌≡◌, ℕ, zero, suc, ◌≤◌, Bool, true, false, List, [], ◌∷◌, take, Some, refl, sym, ap, ◌∙◌, arith, eq-eqb}
 use Rattle.std.specs.Prelude.{◌&&◌, ◌||◌, not, slice_get}
 use Rattle.std.specs.List.{list_any}
 use Rattle.std.proofs.Math.Bool.{and-false, or-false, or-true}
-use Rattle.std.proofs.lemmas.Bool.Decides.{eqb_tells}
 use Rattle.lk_link.specs.declared.plan.OrderEvent.{OrderEvent}
 use Rattle.lk_link.specs.declared.plan.OrderEvent.TheVariants.{SegmentStart, SegmentEnd, Section, SetLocation, SetLocationRelative, SetSectionAddress}
 use Rattle.lk_link.specs.declared.plan.Plan.{Plan}
 use Rattle.lk_link.specs.Inside.{is_open, placed_section}
 use Rattle.lk_link.specs.Rules.{is_start, is_end}
 use Rattle.lk_link.specs.WellFormed.{IsEventOrder}
+use Rattle.lk_link.proofs.Events.{is_that_end, is_that_start}
 use Rattle.lk_link.proofs.Places.{found}
 
 -- ---- events
-
--- an event that opens the segment is its start
-pub is_its_start : (i : ℕ) (e : OrderEvent) → is_start i e ≡ true → e ≡ SegmentStart i
-is_its_start i (SegmentStart j) h =
-    elim (eqb_tells j i) [
-      | inl hit ↦ ap (λ n. SegmentStart n) hit.1
-      | inr miss ↦ absurd (cc)
-    ]
-is_its_start i (SegmentEnd j) h = absurd (cc)
-is_its_start i (Section u) h = absurd (cc)
-is_its_start i (SetLocation x) h = absurd (cc)
-is_its_start i (SetLocationRelative x u) h = absurd (cc)
-is_its_start i (SetSectionAddress x) h = absurd (cc)
-
--- one that closes it is its end
-is_its_end : (i : ℕ) (e : OrderEvent) → is_end i e ≡ true → e ≡ SegmentEnd i
-is_its_end i (SegmentEnd j) h =
-    elim (eqb_tells j i) [
-      | inl hit ↦ ap (λ n. SegmentEnd n) hit.1
-      | inr miss ↦ absurd (cc)
-    ]
-is_its_end i (SegmentStart j) h = absurd (cc)
-is_its_end i (Section u) h = absurd (cc)
-is_its_end i (SetLocation x) h = absurd (cc)
-is_its_end i (SetLocationRelative x u) h = absurd (cc)
-is_its_end i (SetSectionAddress x) h = absurd (cc)
 
 -- an event that places a section is that of the section
 pub section_event : (e : OrderEvent) (u : ℕ) → placed_section e ≡ Some u → e ≡ Section u
@@ -103,7 +77,7 @@ unopened plan order i k m here le =
     elim started as (λ b. started ≡ b → (b && not (list_any (is_end i) (take m plan.events))) ≡ false) [
       | true ↦ λ is.
           let before = found (is_start i) plan.events m is in
-          let there : slice_get plan.events before.0 ≡ Some (SegmentStart i) = before.3 ∙ ap (λ (e : OrderEvent). Some e) (is_its_start i before.1 before.4) in
+          let there : slice_get plan.events before.0 ≡ Some (SegmentStart i) = before.3 ∙ ap (λ (e : OrderEvent). Some e) (is_that_start i before.1 before.4) in
           absurd (omega (arith, before.2, order.once before.0 k (SegmentStart i) tt there here))
       | false ↦ λ is. refl
     ] refl
@@ -115,7 +89,7 @@ unclosed plan order i k here =
     elim ended as (λ b. ended ≡ b → b ≡ false) [
       | true ↦ λ is.
           let before = found (is_end i) plan.events k is in
-          let there : slice_get plan.events before.0 ≡ Some (SegmentEnd i) = before.3 ∙ ap (λ (e : OrderEvent). Some e) (is_its_end i before.1 before.4) in
+          let there : slice_get plan.events before.0 ≡ Some (SegmentEnd i) = before.3 ∙ ap (λ (e : OrderEvent). Some e) (is_that_end i before.1 before.4) in
           let round = order.opened i (order.in_range k (SegmentStart i) here) in
           absurd (omega (
             arith,

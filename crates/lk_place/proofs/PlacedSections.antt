@@ -2,14 +2,14 @@
 use Rattle.std.proofs.Common.{◌≡◌, ℕ, zero, suc, ◌+◌, ◌-◌, ◌≤◌, ◌<◌, Bool, true, false, cond, List, length, refl, sym, ap, subst, ◌∙◌, arith, inl, inr}
 use Rattle.std.specs.Int.{next_multiple_of}
 use Rattle.std.proofs.lemmas.Bool.{cases_Bool}
-use Rattle.lk_link.specs.Parts.{first_part}
+use Rattle.lk_link.specs.Parts.{first_part, part_at}
 use Rattle.lk_link.specs.PlanSections.{is_file_backed}
 use Rattle.lk_link.proofs.Powers.{alignment-pos}
 use Rattle.lk_link.proofs.Starts.{next_multiple_is_least}
 use Rattle.lk_place.specs.declared.cursors.Cursors.{Cursors}
 use Rattle.lk_place.specs.Placement.{IsPlacedAt, PlacesSection, behind, end_behind, first_walked, is_walked, left_at, pushed, reached, resting, section_start, walk_alignment}
 use Rattle.lk_place.specs.Records.{Record, record_at}
-use Rattle.lk_place.specs.Setting.{IsReady, Setting, part_at, part_count, part_number, size_at}
+use Rattle.lk_place.specs.Setting.{IsReady, Setting, part_count, part_number, size_at}
 use Rattle.lk_place.specs.Walk.{first_record, placed_at, record_by}
 use Rattle.lk_place.proofs.Congruent.{walk_aligned}
 use Rattle.lk_place.proofs.Multiples.{least_one}

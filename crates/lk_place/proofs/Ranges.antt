@@ -3,12 +3,12 @@ use Rattle.std.proofs.Common.{◌≡◌, ◌≢◌, ℕ, zero, suc, ◌+◌, ◌
 use Rattle.std.specs.Prelude.{MatchBool, if◌then◌else◌}
 use Rattle.std.proofs.lemmas.Bool.{cases_lt}
 use Rattle.lk_link.specs.Alignments.{IsLeastMultiple}
-use Rattle.lk_link.specs.Parts.{first_part}
+use Rattle.lk_link.specs.Parts.{first_part, part_at}
 use Rattle.lk_link.specs.PlanSections.{is_file_backed}
 use Rattle.lk_place.specs.declared.cursors.Cursors.{Cursors}
 use Rattle.lk_place.specs.Placement.{IsPlacedAt, PlacesSection, behind, first_walked, is_walked, reached, resting, section_start, walk_alignment}
 use Rattle.lk_place.specs.Records.{Record, file_end, mem_end, nowhere, record_at}
-use Rattle.lk_place.specs.Setting.{Setting, part_at, part_count, part_number, size_at}
+use Rattle.lk_place.specs.Setting.{Setting, part_count, part_number, size_at}
 
 -- ---- two kinds of ranges
 

@@ -16,7 +16,7 @@ use Rattle.lk_place.specs.Records.{Record}
 use Rattle.lk_place.specs.Setting.{IsReady, Setting, has_bytes, part_count, part_number, size_at}
 use Rattle.lk_place.specs.Walk.{first_record, next_record, record_by, unless}
 use Rattle.lk_place.proofs.Checked.{has_part}
-use Rattle.lk_place.proofs.Parts.{first_part-le, first_part-suc}
+use Rattle.lk_link.proofs.PartNumbers.{first_part-le, first_part-suc}
 use Rattle.lk_place.proofs.PlacedParts.{behind_placed, unless_below, unless_past}
 
 -- neither cursor is past the other's

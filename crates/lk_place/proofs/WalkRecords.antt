@@ -15,7 +15,7 @@ use Rattle.lk_place.specs.Setting.{IsReady, Setting, part_count, part_number}
 use Rattle.lk_place.specs.Walk.{cursors_after, entered, lies_in, record_after, record_by, recorded, rewritten}
 use Rattle.lk_place.proofs.ApartLaws.{section_one}
 use Rattle.lk_place.proofs.Insides.{placed_in_range}
-use Rattle.lk_place.proofs.Parts.{first_part-suc}
+use Rattle.lk_link.proofs.PartNumbers.{first_part-suc}
 
 -- event k places section s
 abbrev pub PlacesAt : Setting → ℕ → ℕ → Type 0

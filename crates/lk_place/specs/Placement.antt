@@ -11,7 +11,7 @@ use Rattle.lk_link.specs.declared.plan.OrderEvent.TheVariants.{SegmentStart, Sec
 use Rattle.lk_link.specs.Alignments.{IsLeastMultiple}
 use Rattle.lk_link.specs.Expressions.{as_number}
 use Rattle.lk_link.specs.Inside.{placed_section}
-use Rattle.lk_link.specs.Parts.{all_parts, first_part}
+use Rattle.lk_link.specs.Parts.{all_parts, first_part, part_at}
 use Rattle.lk_link.specs.PlanSections.{is_allocated, is_file_backed}
 use Rattle.lk_link.specs.SegmentKinds.{is_load, segment_at}
 use Rattle.lk_link.specs.WellFormed.{IsAboutPlace}
@@ -22,7 +22,7 @@ use Rattle.lk_place.specs.declared.error.Refusal.{Refusal}
 use Rattle.lk_place.specs.declared.error.Refusal.TheVariants.{Overflow}
 use Rattle.lk_place.specs.Alignments.{place_alignment, section_alignment}
 use Rattle.lk_place.specs.Records.{Record, file_end, mem_end, nowhere, record_at}
-use Rattle.lk_place.specs.Setting.{Setting, has_bytes, part_at, part_count, part_number, size_at}
+use Rattle.lk_place.specs.Setting.{Setting, has_bytes, part_count, part_number, size_at}
 
 -- ---- the parts of a section
 

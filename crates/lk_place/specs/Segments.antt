@@ -1,7 +1,7 @@
 -- What output sections and segments span.
-use Rattle.std.specs.Prelude.{◌≡◌, ℕ, ◌+◌, ◌-◌, ◌==◌, ◌&&◌, ◌||◌, not, Bool, false, if◌then◌else◌, List, Option, Some, None, find, filter}
+use Rattle.std.specs.Prelude.{◌≡◌, ℕ, ◌+◌, ◌-◌, ◌==◌, ◌&&◌, ◌||◌, not, Bool, if◌then◌else◌, List, Option, Some, None, find, filter}
 use Rattle.std.specs.Prelude.{fold, map, max, min, nat_lt, slice_range, unwrap_or}
-use Rattle.std.specs.List.{enumerate_from, filter_map, list_any, slice_index_or}
+use Rattle.std.specs.List.{enumerate_from, filter_map, list_any}
 use Rattle.lk_link.specs.declared.link.LinkInput.{LinkInput}
 use Rattle.lk_link.specs.declared.plan.Plan.{Plan}
 use Rattle.lk_link.specs.declared.plan.PlanSection.{PlanSection}
@@ -59,10 +59,6 @@ abbrev pub section_records : List PlanSection → List Record → List Record
 section_records sections parts = map (λ q. section_record q.1 (part_records sections parts q.0)) (enumerate_from 0 sections)
 
 -- ---- segments
-
--- the mark of a section
-abbrev pub is_marked : List Bool → ℕ → Bool
-is_marked marks s = slice_index_or marks s false
 
 -- a section without bytes is skipped where its primary isn't emitted
 abbrev pub is_skipped : Plan → List Record → (ℕ → Bool) → ℕ → Bool

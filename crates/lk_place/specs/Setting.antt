@@ -1,8 +1,7 @@
 -- What a placement depends on: the plan, the machine, and the bytes of the plan's parts.
-use Rattle.std.specs.Prelude.{◌≡◌, ℕ, ◌+◌, Bool, true, false, List, length, nat_lt, slice_index}
-use Rattle.std.specs.List.{list_all, slice_index_or}
+use Rattle.std.specs.Prelude.{◌≡◌, ℕ, ◌+◌, Bool, true, List, length, nat_lt, slice_index}
+use Rattle.std.specs.List.{list_all}
 use Rattle.lk_link.specs.declared.plan.Plan.{Plan}
-use Rattle.lk_link.specs.declared.plan.PlanPart.{PlanPart}
 use Rattle.lk_link.specs.declared.plan.PlanSection.{PlanSection}
 use Rattle.lk_link.specs.Parts.{all_parts, first_part}
 use Rattle.lk_link.specs.PlanSections.{section_at}
@@ -27,10 +26,6 @@ size_at sizes p = slice_index sizes p
 -- whether the part with this number has bytes
 abbrev pub has_bytes : List ℕ → ℕ → Bool
 has_bytes sizes p = nat_lt 0 (size_at sizes p)
-
--- the part with this number over all sections
-abbrev pub part_at : List PlanSection → ℕ → PlanPart
-part_at sections p = slice_index_or (all_parts sections) p (record { alignment = 1; packed = false })
 
 -- how many parts a section has
 abbrev pub part_count : List PlanSection → ℕ → ℕ

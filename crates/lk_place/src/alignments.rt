@@ -55,7 +55,7 @@ fn greatest_of_parts(least: Alignment, parts: &[PlanPart], first: usize, sizes: 
 }
 
 /// The greatest alignment of a section's parts with bytes, and at least its own. `sizes` has the bytes of each part.
-#[tactic(auto, using(crate::proofs::Parts::section_parts_facts, crate::proofs::Checked::good_sections))]
+#[tactic(auto, using(lk_link::proofs::PartNumbers::part_numbers, crate::proofs::Checked::good_sections))]
 fn section_alignment(plan: &Plan, sizes: &[u64], section: usize) -> Alignment
     requires good { list_all (is_good_section plan.now.sections) plan.now.sections ≡ true }
     requires each { length sizes.now ≡ length (all_parts plan.now.sections) }

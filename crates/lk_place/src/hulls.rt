@@ -115,7 +115,7 @@ pub fn layout_section_from_part_layouts(
 }
 
 /// The records of all sections, by those of all parts.
-#[tactic(auto, using(crate::proofs::Parts::section_parts_facts, crate::proofs::Checked::good_sections))]
+#[tactic(auto, using(lk_link::proofs::PartNumbers::part_numbers, crate::proofs::Checked::good_sections))]
 pub(crate) fn span_sections(
     alloc: Global,
     sections: &PlanSections,

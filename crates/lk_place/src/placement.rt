@@ -6,11 +6,11 @@
 
 ghost use Rattle.std.specs.Prelude.{◌≡◌, ◌<◌, true, length, position, nat_lt, OnOk, IfOk, IfErr, SomeIff};
 ghost use Rattle.lk_link.specs.Alignments.{is_alignment};
-ghost use Rattle.lk_link.specs.Parts.{all_parts};
+ghost use Rattle.lk_link.specs.Parts.{all_parts, part_at};
 ghost use Rattle.lk_place.specs.Alignments.{section_alignment};
 ghost use Rattle.lk_place.specs.Placement.{behind, first_walked, is_below, is_walked, next_end, overflow_at};
 ghost use Rattle.lk_place.specs.Placement.{resting, section_end, section_refusal, walk_alignment};
-ghost use Rattle.lk_place.specs.Setting.{part_at, size_at};
+ghost use Rattle.lk_place.specs.Setting.{size_at};
 ghost use Rattle.lk_place.specs.Walk.{IsPlacing, IsWalkable, Rewrites, all_written, fitting, left_behind, one_written};
 ghost use Rattle.lk_place.specs.Walk.{placed_at, setting_in, unless, rewritten};
 
@@ -121,7 +121,7 @@ fn first_with_bytes(sizes: &[u64]) -> Option<usize>
 
 impl<P: Platform> Walk<'_, P> {
     /// The number of a section's first walked part: the first with bytes, else the first.
-    #[tactic(auto, using(crate::proofs::Parts::section_parts_facts))]
+    #[tactic(auto, using(lk_link::proofs::PartNumbers::part_numbers))]
     fn first_walked(&self, section: OutputSectionId) -> usize
         requires walkable { IsWalkable P.segment_start self.now }
         requires in_range { section < length self.now.plan.now.sections }
@@ -209,7 +209,7 @@ impl<P: Platform> Walk<'_, P> {
     }
 
     /// Places the parts of a section one behind the other, and answers the cursors behind the last.
-    #[tactic(auto, using(crate::proofs::Parts::section_parts_facts))]
+    #[tactic(auto, using(lk_link::proofs::PartNumbers::part_numbers))]
     fn place_parts(
         &self,
         placing: &Placing,

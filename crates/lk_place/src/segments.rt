@@ -9,7 +9,8 @@ ghost use Rattle.std.specs.List.{list_any, slice_index_or};
 ghost use Rattle.lk_link.specs.Inside.{segment_insides};
 ghost use Rattle.lk_link.specs.WellFormed.{IsInRange, IsWellFormed};
 ghost use Rattle.lk_place.specs.Records.{record_at};
-ghost use Rattle.lk_place.specs.Segments.{Refuses, counts, first_outside, found_outside, hull, is_marked, is_skipped};
+ghost use Rattle.lk_place.specs.Segments.{Refuses, counts, first_outside, found_outside, hull, is_skipped};
+ghost use Rattle.lk_link.specs.Marks.{is_marked};
 ghost use Rattle.lk_place.specs.Segments.{may_stand_outside, outside_refusal, segment_layouts, segment_record, stack_record, stands_in};
 
 use crate::error::PlaceError;
@@ -19,6 +20,7 @@ use lk_link::alignment::Alignment;
 use lk_link::ids::{OutputSectionId, SegmentId};
 use lk_link::link::LinkInput;
 use lk_link::list::List;
+use lk_link::marks::is_marked;
 use lk_link::plan::{OrderEvent, Plan};
 use std::alloc::{AllocError, Global};
 
@@ -27,16 +29,6 @@ use std::alloc::{AllocError, Global};
 pub struct SegmentLayout {
     pub id: SegmentId,
     pub sizes: OutputRecordLayout,
-}
-
-/// The mark of a section; none where there is no such section.
-fn is_marked(marks: &[bool], section: OutputSectionId) -> bool
-    ensures { result ≡ is_marked marks.now section }
-{
-    match marks.get(section.as_usize()) {
-        Some(mark) => *mark,
-        None => false,
-    }
 }
 
 /// Whether a section is skipped: without bytes, and its primary isn't emitted.
@@ -50,7 +42,7 @@ fn is_skipped(
     ensures { result ≡ is_skipped plan.now records.now (is_marked emitted.now) section }
 {
     let placed = &records[section.as_usize()];
-    placed.mem_size == 0 && !is_marked(emitted, plan.sections.primary_of(section))
+    placed.mem_size == 0 && !is_marked(emitted, plan.sections.primary_of(section).as_usize())
 }
 
 /// Whether a section inside a segment counts there.
