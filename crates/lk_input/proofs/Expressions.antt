@@ -13,7 +13,7 @@ use Rattle.lk_input.specs.declared.read.expression.ExpressionForm.{ExpressionFor
 use Rattle.lk_input.specs.declared.read.expression.OperandForm.{OperandForm}
 use Rattle.lk_input.specs.declared.read.expression.ExpressionForm.TheVariants.{Operand, Operator}
 use Rattle.lk_input.specs.ReadingSteps.{Path, ◌>>=◌, below, wanted, element, fixed_list, at_most, one_of}
-use Rattle.lk_input.specs.ReadingExpressions.{expression_of, expressions_of, part_at, expression_from, operand_of, form_text, all_forms}
+use Rattle.lk_input.specs.ReadingExpressions.{expression_of, expressions_of, side_at, expression_from, operand_of, form_text, all_forms}
 
 -- ---- how deep
 
@@ -41,13 +41,13 @@ parts-get no_items i = refl
 parts-get (item d ds) zero = refl
 parts-get (item d ds) (suc i) = parts-get ds i
 
-joined : (i : ℕ) (o : Option Data) → below (decimal i) (wanted (option_map expression_of o) >>= λ part. part) ≡ below (decimal i) (wanted o >>= expression_of)
-joined i None = refl
-joined i (Some d) = refl
+side_found : (i : ℕ) (o : Option Data) → below (decimal i) (wanted (option_map expression_of o) >>= λ part. part) ≡ below (decimal i) (wanted o >>= expression_of)
+side_found i None = refl
+side_found i (Some d) = refl
 
 -- it is that item as an expression
-part_at-is : (i : ℕ) (ds : Items) → part_at i (expressions_of ds) ≡ element expression_of i (array ds)
-part_at-is i ds = ap (λ o. below (decimal i) (wanted o >>= λ part. part)) (parts-get ds i) ∙ joined i (get_item i ds)
+side_at-is : (i : ℕ) (ds : Items) → side_at i (expressions_of ds) ≡ element expression_of i (array ds)
+side_at-is i ds = ap (λ o. below (decimal i) (wanted o >>= λ part. part)) (parts-get ds i) ∙ side_found i (get_item i ds)
 
 -- an expression of this form, by its items
 abbrev pub expression_by : ExpressionForm → Data → Result Term Path
@@ -60,7 +60,7 @@ expression_by (Operator o) d = do
 
 from_items : (f : ExpressionForm) (ds : Items) → expression_from f (array ds) (expressions_of ds) ≡ expression_by f (array ds)
 from_items (Operand o) ds = refl
-from_items (Operator o) ds = rw (part_at-is 1 ds, part_at-is 2 ds)
+from_items (Operator o) ds = rw (side_at-is 1 ds, side_at-is 2 ds)
 
 form_then : (r : Result ExpressionForm Path) (ds : Items) → (r >>= λ f. expression_from f (array ds) (expressions_of ds)) ≡ (r >>= λ f. expression_by f (array ds))
 form_then (Ok f) ds = from_items f ds

@@ -62,15 +62,15 @@ operand_of operand.Length d = single index_of d >>= λ i. Ok (is.Length i)
 operand_of operand.Headers d = alone is.SizeOfHeaders d
 
 -- what the item at an index is as an expression, of all items as expressions
-abbrev pub part_at : ℕ → List (Result Term Path) → Result Term Path
-part_at i parts = below (decimal i) (wanted (slice_get parts i) >>= λ part. part)
+abbrev pub side_at : ℕ → List (Result Term Path) → Result Term Path
+side_at i parts = below (decimal i) (wanted (slice_get parts i) >>= λ part. part)
 
 -- an expression of this form: an operand, or an operator with a left expression and a right one
 abbrev pub expression_from : ExpressionForm → Data → List (Result Term Path) → Result Term Path
 expression_from (form.Operand o) d parts = operand_of o d >>= λ x. Ok (Leaf x)
 expression_from (form.Operator o) d parts = do
-  left ← part_at 1 parts
-  right ← part_at 2 parts
+  left ← side_at 1 parts
+  right ← side_at 2 parts
   _ ← at_most 3 d
   Ok (Node o left right)
 

@@ -48,13 +48,13 @@ candidate_of d = do
   Ok (record { output = output; file = record { group = group; file = file }; index = section })
 
 -- the candidates of a file
-abbrev pub candidates_of : Data → Result (List Candidate) Path
-candidates_of d = list_of candidate_of d
+abbrev pub file_candidates_of : Data → Result (List Candidate) Path
+file_candidates_of d = list_of candidate_of d
 
 -- the sections of a file of this kind: only objects have any, and elsewhere the key is not read
-abbrev pub sections_in : FileKind → Data → Result (List InputSection) Path
-sections_in Object d = defaulted [] input_sections_of (file_key_text key.Sections) d
-sections_in _ d = Ok []
+abbrev pub sections_by_kind : FileKind → Data → Result (List InputSection) Path
+sections_by_kind Object d = defaulted [] input_sections_of (file_key_text key.Sections) d
+sections_by_kind _ d = Ok []
 
 -- an input file: its kind must be given
 unfoldable pub input_file_of : Data → Result InputFile Path
@@ -63,11 +63,11 @@ input_file_of d = do
   kind ← required (one_of file_kind_text all_file_kinds) (file_key_text key.Kind) d
   name ← defaulted [] text_of (file_key_text key.Name) d
   symbols ← defaulted [] (list_of input_symbol_of) (file_key_text key.Symbols) d
-  sections ← sections_in kind d
+  sections ← sections_by_kind kind d
   archive ← defaulted false truth_of (file_key_text key.Archive) d
   export ← defaulted false truth_of (file_key_text key.Export) d
   check ← defaulted false truth_of (file_key_text key.Check) d
-  candidates ← defaulted [] candidates_of (file_key_text key.Candidates) d
+  candidates ← defaulted [] file_candidates_of (file_key_text key.Candidates) d
   Ok (record {
     kind = kind;
     name = name;

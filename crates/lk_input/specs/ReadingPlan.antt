@@ -39,25 +39,25 @@ plan_key_text key.Primary = codes "primary"
 plan_key_text key.Singletons = codes "singletons"
 
 -- the number of the part with this key, if the plan names one
-abbrev pub part_at : PlanKey → Data → Result (Option ℕ) Path
-part_at k d = optional index_of (plan_key_text k) d
+abbrev pub named_part : PlanKey → Data → Result (Option ℕ) Path
+named_part k d = optional index_of (plan_key_text k) d
 
 -- the parts that the plan names
 unfoldable pub named_parts_of : Data → Result NamedParts Path
 named_parts_of d = do
-  got ← part_at key.Got d
-  plt ← part_at key.Plt d
-  symtab_local ← part_at key.SymtabLocal d
-  symtab_global ← part_at key.SymtabGlobal d
-  strtab ← part_at key.Strtab d
-  dynsym ← part_at key.Dynsym d
-  dynstr ← part_at key.Dynstr d
-  file_header ← part_at key.FileHeader d
-  program_headers ← part_at key.ProgramHeaders d
-  section_headers ← part_at key.SectionHeaders d
-  shstrtab ← part_at key.Shstrtab d
-  comment ← part_at key.Comment d
-  primary ← part_at key.Primary d
+  got ← named_part key.Got d
+  plt ← named_part key.Plt d
+  symtab_local ← named_part key.SymtabLocal d
+  symtab_global ← named_part key.SymtabGlobal d
+  strtab ← named_part key.Strtab d
+  dynsym ← named_part key.Dynsym d
+  dynstr ← named_part key.Dynstr d
+  file_header ← named_part key.FileHeader d
+  program_headers ← named_part key.ProgramHeaders d
+  section_headers ← named_part key.SectionHeaders d
+  shstrtab ← named_part key.Shstrtab d
+  comment ← named_part key.Comment d
+  primary ← named_part key.Primary d
   Ok (record {
     got = got;
     plt = plt;

@@ -39,12 +39,12 @@ abbrev pub all_slots : List InputSlot
 all_slots = Discard ∷ Unloaded ∷ MustLoad ∷ DebugInfo ∷ MustLoadDebugInfo ∷ Merge ∷ []
 
 -- the bytes of a hexadecimal text
-abbrev pub bytes_of : Data → Result (List ℕ) Path
-bytes_of d = text_of d >>= λ text. wanted (result_ok (decode_of text))
+abbrev pub hex_bytes : Data → Result (List ℕ) Path
+hex_bytes d = text_of d >>= λ text. wanted (result_ok (decode_of text))
 
 -- what a section holds: only merge sections have data
 abbrev pub data_in : InputSlot → Data → Result (List ℕ) Path
-data_in Merge d = defaulted [] bytes_of (input_section_key_text key.Data) d
+data_in Merge d = defaulted [] hex_bytes (input_section_key_text key.Data) d
 data_in _ d = Ok []
 
 -- the size of a section: a merge section's is that of its data, whatever was given

@@ -33,9 +33,9 @@ Fails (Shape path) read = read ≡ Err path
 Fails NoMemory read = Unit {0}
 
 -- what was returned is what reading gives, unless memory ran out
-abbrev pub Gives : {A : Type 0} → Result A InputError → Result A Path → Type 0
-Gives (Ok x) read = read ≡ Ok x
-Gives (Err e) read = Fails e read
+abbrev pub Reads : {A : Type 0} → Result A InputError → Result A Path → Type 0
+Reads (Ok x) read = read ≡ Ok x
+Reads (Err e) read = Fails e read
 
 -- an error that tells of this path, or of want of memory
 abbrev pub IsFaultAt : Path → InputError → Type 0
@@ -164,13 +164,13 @@ double f g d = do
   Ok (x, y)
 
 -- the items of a list, counted from i
-unfoldable pub items_of : {A : Type 0} → (Data → Result A Path) → ℕ → Items → Result (List A) Path
-items_of f i no_items = Ok []
-items_of f i (item d ds) = do
+unfoldable pub read_items : {A : Type 0} → (Data → Result A Path) → ℕ → Items → Result (List A) Path
+read_items f i no_items = Ok []
+read_items f i (item d ds) = do
   x ← below (decimal i) (f d)
-  xs ← items_of f (suc i) ds
+  xs ← read_items f (suc i) ds
   Ok (x ∷ xs)
 
 -- a list of values that f reads
 abbrev pub list_of : {A : Type 0} → (Data → Result A Path) → Data → Result (List A) Path
-list_of f d = wanted (as_array d) >>= items_of f 0
+list_of f d = wanted (as_array d) >>= read_items f 0

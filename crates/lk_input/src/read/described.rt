@@ -7,7 +7,7 @@
 ghost use Rattle.std.specs.Prelude.{◌≡◌, Result, option_map, List as Items, ℕ};
 ghost use Rattle.serde_json.specs.Data.{Data};
 ghost use Rattle.serde_json.specs.View.{view, items_view};
-ghost use Rattle.lk_input.specs.ReadingSteps.{Gives, step_text, wanted, number_of, index_of, signed_of, truth_of, text_of, found_by, below, items_of, list_of, word_of, one_of};
+ghost use Rattle.lk_input.specs.ReadingSteps.{Reads, step_text, wanted, number_of, index_of, signed_of, truth_of, text_of, found_by, below, read_items, list_of, word_of, one_of};
 
 use crate::read::error::InputError;
 use crate::read::word::{Step, Word};
@@ -23,12 +23,12 @@ pub(crate) trait Described: Sized + Drop {
     ghost described: { Data → Result Self (Items ℕ) };
 
     fn read(alloc: Global, value: &Value) -> Result<Self, InputError>
-        ensures { Gives result (described (view value.now)) };
+        ensures { Reads result (described (view value.now)) };
 }
 
 /// The form that was wanted, if it was there.
 pub(crate) fn wanted<T: Drop>(alloc: Global, form: Option<T>) -> Result<T, InputError>
-    ensures { Gives result (wanted form) }
+    ensures { Reads result (wanted form) }
 {
     match form {
         Some(form) => Ok(form),
@@ -131,9 +131,9 @@ impl<T: Described> Described for List<T> {
 }
 
 /// The items of a list.
-#[tactic(auto, unfolding(crate::specs::ReadingSteps::items_of))]
+#[tactic(auto, unfolding(crate::specs::ReadingSteps::read_items))]
 fn read_items<T: Described>(alloc: Global, values: &[Value]) -> Result<List<T>, InputError>
-    ensures { Gives result (items_of T.described 0 (items_view values.now)) }
+    ensures { Reads result (read_items T.described 0 (items_view values.now)) }
 {
     let mut items = Vec::with_capacity(alloc, values.len())?;
     for (i, value) in values.iter().enumerate() {
@@ -149,7 +149,7 @@ pub(crate) fn read_at<T: Described>(
     found: Option<&Value>,
     step: Step,
 ) -> Result<T, InputError>
-    ensures { Gives result (below (step_text step) (found_by T.described (option_map (λ v. view v.now) found.entry))) }
+    ensures { Reads result (below (step_text step) (found_by T.described (option_map (λ v. view v.now) found.entry))) }
 {
     match read_found(alloc, found) {
         Ok(read) => Ok(read),
@@ -159,14 +159,14 @@ pub(crate) fn read_at<T: Described>(
 
 /// What was found, as seen where it stands.
 fn read_found<T: Described>(alloc: Global, found: Option<&Value>) -> Result<T, InputError>
-    ensures { Gives result (found_by T.described (option_map (λ v. view v.now) found.entry)) }
+    ensures { Reads result (found_by T.described (option_map (λ v. view v.now) found.entry)) }
 {
     T::read(alloc, wanted(alloc, found)?)
 }
 
 /// One of these words.
 pub(crate) fn one_of<W: Word>(alloc: Global, value: &Value, words: &[W]) -> Result<W, InputError>
-    ensures { Gives result (one_of W.spelling words.now (view value.now)) }
+    ensures { Reads result (one_of W.spelling words.now (view value.now)) }
 {
     let text = wanted(alloc, value.as_str())?;
     wanted(alloc, word_of(text, words))

@@ -3,7 +3,7 @@
 ghost use Rattle.std.specs.Prelude.{◌≡◌};
 ghost use Rattle.serde_json.specs.View.{view};
 ghost use Rattle.lk_input.specs.ReadingEvents.{event_text, all_events, event_in, order_event_of};
-ghost use Rattle.lk_input.specs.ReadingSteps.{Gives, one_of};
+ghost use Rattle.lk_input.specs.ReadingSteps.{Reads, one_of};
 
 use crate::read::described::{Described, one_of};
 use crate::read::error::InputError;
@@ -62,7 +62,7 @@ impl Described for EventForm {
 /// The event that begins so.
 #[tactic(auto, unfolding(crate::specs::ReadingEvents::event_in))]
 fn event_in(alloc: Global, value: &Value, form: EventForm) -> Result<OrderEvent, InputError>
-    ensures { Gives result (event_in form (view value.now)) }
+    ensures { Reads result (event_in form (view value.now)) }
 {
     Ok(match form {
         EventForm::SegmentStart => OrderEvent::SegmentStart(single(alloc, value)?),

@@ -8,7 +8,7 @@
 ghost use Rattle.std.specs.Prelude.{◌≡◌};
 ghost use Rattle.serde_json.specs.View.{view};
 ghost use Rattle.lk_input.specs.ReadingExpressions.{operand_text, operator_text, form_text, all_forms, operand_of, expression_of, AddsTokens};
-ghost use Rattle.lk_input.specs.ReadingSteps.{Gives, element, one_of};
+ghost use Rattle.lk_input.specs.ReadingSteps.{Reads, element, one_of};
 
 use crate::read::described::{Described, one_of};
 use crate::read::error::InputError;
@@ -114,7 +114,7 @@ impl Described for ExpressionForm {
 /// The operand that an expression of this form is.
 #[tactic(auto, unfolding(crate::specs::ReadingExpressions::operand_of))]
 fn read_operand(alloc: Global, value: &Value, form: OperandForm) -> Result<Operand, InputError>
-    ensures { Gives result (operand_of form (view value.now)) }
+    ensures { Reads result (operand_of form (view value.now)) }
 {
     Ok(match form {
         OperandForm::Number => Operand::Number(single(alloc, value)?),

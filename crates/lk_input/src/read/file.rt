@@ -2,8 +2,8 @@
 
 ghost use Rattle.std.specs.Prelude.{◌≡◌};
 ghost use Rattle.serde_json.specs.View.{view};
-ghost use Rattle.lk_input.specs.ReadingFiles.{file_key_text, file_kind_text, all_file_kinds, candidate_of, candidates_of, sections_in, input_file_of, groups_of};
-ghost use Rattle.lk_input.specs.ReadingSteps.{Gives, one_of};
+ghost use Rattle.lk_input.specs.ReadingFiles.{file_key_text, file_kind_text, all_file_kinds, candidate_of, file_candidates_of, sections_by_kind, input_file_of, groups_of};
+ghost use Rattle.lk_input.specs.ReadingSteps.{Reads, one_of};
 
 use crate::read::described::{Described, one_of};
 use crate::read::error::InputError;
@@ -103,7 +103,7 @@ impl Described for Candidate {
 }
 
 impl Described for Candidates {
-    ghost described = { candidates_of };
+    ghost described = { file_candidates_of };
 
     fn read(alloc: Global, value: &Value) -> Result<Candidates, InputError> {
         let candidates = List::read(alloc, value)?;
@@ -112,8 +112,12 @@ impl Described for Candidates {
 }
 
 /// The sections of a file of this kind: only objects have any.
-fn sections_in(alloc: Global, value: &Value, kind: FileKind) -> Result<InputSections, InputError>
-    ensures { Gives result (sections_in kind (view value.now)) }
+fn sections_by_kind(
+    alloc: Global,
+    value: &Value,
+    kind: FileKind,
+) -> Result<InputSections, InputError>
+    ensures { Reads result (sections_by_kind kind (view value.now)) }
 {
     let none = InputSections::empty(alloc);
     match kind {
@@ -131,7 +135,7 @@ impl Described for InputFile {
         let kind = required(alloc, value, FileKey::Kind)?;
         let name = defaulted(alloc, value, FileKey::Name, Text::new(alloc))?;
         let symbols = defaulted(alloc, value, FileKey::Symbols, List::new(alloc))?;
-        let sections = sections_in(alloc, value, kind)?;
+        let sections = sections_by_kind(alloc, value, kind)?;
         let archive = defaulted(alloc, value, FileKey::Archive, false)?;
         let export = defaulted(alloc, value, FileKey::Export, false)?;
         let check = defaulted(alloc, value, FileKey::Check, false)?;

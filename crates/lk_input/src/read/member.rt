@@ -2,7 +2,7 @@
 
 ghost use Rattle.std.specs.Prelude.{◌≡◌};
 ghost use Rattle.serde_json.specs.View.{view};
-ghost use Rattle.lk_input.specs.ReadingSteps.{Gives, object, required, defaulted, optional, object_or_empty, fixed_list, element, at_most, alone, single, double};
+ghost use Rattle.lk_input.specs.ReadingSteps.{Reads, object, required, defaulted, optional, object_or_empty, fixed_list, element, at_most, alone, single, double};
 
 use crate::read::described::{Described, read_at};
 use crate::read::error::InputError;
@@ -12,7 +12,7 @@ use std::alloc::Global;
 
 /// The value is an object.
 pub(crate) fn object(alloc: Global, value: &Value) -> Result<(), InputError>
-    ensures { Gives result (object (view value.now)) }
+    ensures { Reads result (object (view value.now)) }
 {
     if value.is_object() {
         Ok(())
@@ -27,7 +27,7 @@ pub(crate) fn required<T: Described, K: Word>(
     value: &Value,
     key: K,
 ) -> Result<T, InputError>
-    ensures { Gives result (required T.described (K.spelling key) (view value.now)) }
+    ensures { Reads result (required T.described (K.spelling key) (view value.now)) }
 {
     let key = key.text();
     read_at(alloc, value.get(key), Step::Member(key))
@@ -40,7 +40,7 @@ pub(crate) fn defaulted<T: Described, K: Word>(
     key: K,
     other: T,
 ) -> Result<T, InputError>
-    ensures { Gives result (defaulted other T.described (K.spelling key) (view value.now)) }
+    ensures { Reads result (defaulted other T.described (K.spelling key) (view value.now)) }
 {
     let key = key.text();
     match value.get(key) {
@@ -55,7 +55,7 @@ pub(crate) fn optional<T: Described, K: Word>(
     value: &Value,
     key: K,
 ) -> Result<Option<T>, InputError>
-    ensures { Gives result (optional T.described (K.spelling key) (view value.now)) }
+    ensures { Reads result (optional T.described (K.spelling key) (view value.now)) }
 {
     let key = key.text();
     match value.get(key) {
@@ -70,7 +70,7 @@ pub(crate) fn object_or_empty<T: Described, K: Word>(
     value: &Value,
     key: K,
 ) -> Result<T, InputError>
-    ensures { Gives result (object_or_empty T.described (K.spelling key) (view value.now)) }
+    ensures { Reads result (object_or_empty T.described (K.spelling key) (view value.now)) }
 {
     let key = key.text();
     let empty = Value::Object(Map::new(alloc));
@@ -80,7 +80,7 @@ pub(crate) fn object_or_empty<T: Described, K: Word>(
 
 /// The value is a fixed list.
 pub(crate) fn fixed_list(alloc: Global, value: &Value) -> Result<(), InputError>
-    ensures { Gives result (fixed_list (view value.now)) }
+    ensures { Reads result (fixed_list (view value.now)) }
 {
     if value.is_array() {
         Ok(())
@@ -95,14 +95,14 @@ pub(crate) fn element<T: Described>(
     value: &Value,
     index: usize,
 ) -> Result<T, InputError>
-    ensures { Gives result (element T.described index (view value.now)) }
+    ensures { Reads result (element T.described index (view value.now)) }
 {
     read_at(alloc, value.get(index), Step::Item(index))
 }
 
 /// It has at most so many items.
 pub(crate) fn at_most(alloc: Global, value: &Value, count: usize) -> Result<(), InputError>
-    ensures { Gives result (at_most count (view value.now)) }
+    ensures { Reads result (at_most count (view value.now)) }
 {
     if value.get(count).is_some() {
         Err(InputError::misfit(alloc))
@@ -114,7 +114,7 @@ pub(crate) fn at_most(alloc: Global, value: &Value, count: usize) -> Result<(), 
 /// Nothing stands behind what the list begins with, which is `form`.
 #[tactic(auto, unfolding(crate::specs::ReadingSteps::alone))]
 pub(crate) fn alone<T: Drop>(alloc: Global, value: &Value, form: T) -> Result<T, InputError>
-    ensures { Gives result (alone form (view value.now)) }
+    ensures { Reads result (alone form (view value.now)) }
 {
     at_most(alloc, value, 1)?;
     Ok(form)
@@ -123,7 +123,7 @@ pub(crate) fn alone<T: Drop>(alloc: Global, value: &Value, form: T) -> Result<T,
 /// The one item behind what the list begins with.
 #[tactic(auto, unfolding(crate::specs::ReadingSteps::single))]
 pub(crate) fn single<T: Described>(alloc: Global, value: &Value) -> Result<T, InputError>
-    ensures { Gives result (single T.described (view value.now)) }
+    ensures { Reads result (single T.described (view value.now)) }
 {
     let item = element(alloc, value, 1)?;
     at_most(alloc, value, 2)?;
@@ -136,7 +136,7 @@ pub(crate) fn double<T: Described, U: Described>(
     alloc: Global,
     value: &Value,
 ) -> Result<(T, U), InputError>
-    ensures { Gives result (double T.described U.described (view value.now)) }
+    ensures { Reads result (double T.described U.described (view value.now)) }
 {
     let first = element(alloc, value, 1)?;
     let second = element(alloc, value, 2)?;

@@ -2,8 +2,8 @@
 
 ghost use Rattle.std.specs.Prelude.{◌≡◌};
 ghost use Rattle.serde_json.specs.View.{view};
-ghost use Rattle.lk_input.specs.ReadingSections.{input_section_key_text, slot_text, all_slots, bytes_of, data_in, size_in, input_section_of, input_sections_of};
-ghost use Rattle.lk_input.specs.ReadingSteps.{Gives, one_of};
+ghost use Rattle.lk_input.specs.ReadingSections.{input_section_key_text, slot_text, all_slots, hex_bytes, data_in, size_in, input_section_of, input_sections_of};
+ghost use Rattle.lk_input.specs.ReadingSteps.{Reads, one_of};
 
 use crate::read::described::{Described, one_of, wanted};
 use crate::read::error::InputError;
@@ -126,7 +126,7 @@ impl Hexadecimal {
 }
 
 impl Described for Hexadecimal {
-    ghost described = { bytes_of };
+    ghost described = { hex_bytes };
 
     fn read(alloc: Global, value: &Value) -> Result<Hexadecimal, InputError> {
         let text = wanted(alloc, value.as_str())?;
@@ -142,7 +142,7 @@ impl Described for Hexadecimal {
 
 /// What a section in this slot holds: the data of a merge section, and nothing of others.
 fn data_in(alloc: Global, value: &Value, slot: InputSlot) -> Result<List<u8>, InputError>
-    ensures { Gives result (data_in slot (view value.now)) }
+    ensures { Reads result (data_in slot (view value.now)) }
 {
     match slot {
         InputSlot::Merge => {

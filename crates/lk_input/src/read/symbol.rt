@@ -3,7 +3,7 @@
 ghost use Rattle.std.specs.Prelude.{◌≡◌};
 ghost use Rattle.serde_json.specs.View.{view};
 ghost use Rattle.lk_input.specs.ReadingSymbols.{symbol_key_text, loc_text, all_locs, loc_in, symbol_loc_of, placement_text, all_placements, redirect_of, placement_in, symbol_placement_of, input_symbol_of};
-ghost use Rattle.lk_input.specs.ReadingSteps.{Gives, one_of};
+ghost use Rattle.lk_input.specs.ReadingSteps.{Reads, one_of};
 
 use crate::read::described::{Described, one_of};
 use crate::read::error::InputError;
@@ -60,7 +60,7 @@ impl Described for LocForm {
 /// The place that begins so.
 #[tactic(auto, unfolding(crate::specs::ReadingSymbols::loc_in))]
 fn loc_in(alloc: Global, value: &Value, form: LocForm) -> Result<SymbolLoc, InputError>
-    ensures { Gives result (loc_in form (view value.now)) }
+    ensures { Reads result (loc_in form (view value.now)) }
 {
     Ok(match form {
         LocForm::None => alone(alloc, value, SymbolLoc::None)?,
@@ -150,7 +150,7 @@ impl Described for PlacementForm {
 /// What an expression gives.
 #[tactic(auto, unfolding(crate::specs::ReadingSymbols::redirect_of))]
 fn redirect_of(alloc: Global, value: &Value) -> Result<SymbolPlacement, InputError>
-    ensures { Gives result (redirect_of (view value.now)) }
+    ensures { Reads result (redirect_of (view value.now)) }
 {
     let expression = element(alloc, value, 1)?;
     let loc = element(alloc, value, 2)?;
@@ -170,7 +170,7 @@ fn placement_in(
     value: &Value,
     form: PlacementForm,
 ) -> Result<SymbolPlacement, InputError>
-    ensures { Gives result (placement_in form (view value.now)) }
+    ensures { Reads result (placement_in form (view value.now)) }
 {
     Ok(match form {
         PlacementForm::Section => {
