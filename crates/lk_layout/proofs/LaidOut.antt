@@ -1,6 +1,5 @@
 -- What stands behind a defined layout.
 use Rattle.std.proofs.Common.{◌≡◌, List, Option, Some, None, Result, Ok, refl, ap}
-use Rattle.std.specs.Prelude.{option_map}
 use Rattle.lk_check.specs.FirstFault.{WellFormedExactlyUnfaulted}
 use Rattle.lk_gc.specs.declared.live.Live.{Live}
 use Rattle.lk_gc.specs.Reach.{AreLive}
@@ -8,16 +7,14 @@ use Rattle.lk_link.specs.declared.link.LinkInput.{LinkInput}
 use Rattle.lk_link.specs.Target.{Target}
 use Rattle.lk_link.specs.WellFormed.{IsWellFormed}
 use Rattle.lk_place.specs.declared.cursors.Cursors.{Cursors}
-use Rattle.lk_place.specs.declared.error.PlaceError.{PlaceError}
 use Rattle.lk_place.specs.Placement.{IsPlaced, placement_refusal}
 use Rattle.lk_place.specs.Records.{Record}
 use Rattle.lk_layout.specs.declared.error.LayoutError.{LayoutError}
-use Rattle.lk_layout.specs.declared.error.Uncarried.{Uncarried}
 use Rattle.lk_layout.specs.declared.layout.Layout.{Layout}
 use Rattle.lk_layout.specs.Carried.{IsCarried, first_uncarried}
 use Rattle.lk_layout.specs.Defined.{IsDefined, IsPlacedAnswer, Unless, fault_refusal, layout_of, not_carried, segment_refusal, setting, sizes_refusal, uncarried_refusal, walk_refusal}
 use Rattle.lk_layout.specs.Errors.{place_error}
-use Rattle.lk_layout.proofs.OneAnswer.{unrefused}
+use Rattle.lk_layout.proofs.OneAnswer.{none_of, unrefused}
 
 -- a link that is well formed, of which all is laid out, with what is live, a whole placement and the layout of these
 pub record IsLaidOut (target : Target) (link : LinkInput) (layout : Layout) : Type 0 where
@@ -35,10 +32,6 @@ pub record IsLaidOut (target : Target) (link : LinkInput) (layout : Layout) : Ty
 passed : (refusal : Option LayoutError) (layout : Layout) (P : Type 0) → Unless refusal (Ok layout) P → (refusal ≡ None) × P
 passed None layout P h = (refl, h)
 passed (Some e) layout P h = absurd (cc)
-
-none_of : {X : Type 0} (f : X → LayoutError) (o : Option X) → option_map f o ≡ None → o ≡ None
-none_of f None h = refl
-none_of f (Some x) h = absurd (cc)
 
 pub laid_out : WellFormedExactlyUnfaulted → (target : Target) (link : LinkInput) (layout : Layout) → IsDefined target link (Ok layout) → IsLaidOut target link layout
 laid_out exactly target link layout defined =

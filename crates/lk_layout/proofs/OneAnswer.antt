@@ -4,7 +4,6 @@ use Rattle.std.specs.Prelude.{option_map}
 use Rattle.lk_check.specs.FirstFault.{first_fault, WellFormedExactlyUnfaulted}
 use Rattle.lk_gc.specs.declared.live.Live.{Live}
 use Rattle.lk_gc.specs.Reach.{LiveExists, LiveIsOne}
-use Rattle.lk_link.specs.declared.fault.LinkFault.{LinkFault}
 use Rattle.lk_link.specs.declared.link.LinkInput.{LinkInput}
 use Rattle.lk_link.specs.Target.{Target}
 use Rattle.lk_link.specs.WellFormed.{IsWellFormed}
@@ -13,18 +12,21 @@ use Rattle.lk_place.specs.PlacementLaws.{PlacementExists, PlacementIsOne}
 use Rattle.lk_place.specs.Records.{Record}
 use Rattle.lk_layout.specs.declared.error.LayoutError.{LayoutError}
 use Rattle.lk_layout.specs.declared.layout.Layout.{Layout}
-use Rattle.lk_layout.specs.Defined.{IsCarriedAnswer, IsDefined, IsPlacedAnswer, IsSizedAnswer, Unless, fault_refusal, layout_of, segment_refusal, setting, sizes_refusal, uncarried_refusal, walk_refusal}
+use Rattle.lk_layout.specs.Carried.{IsCarried, first_uncarried}
+use Rattle.lk_layout.specs.Defined.{IsCarriedAnswer, IsDefined, IsPlacedAnswer, IsSizedAnswer, Unless, fault_refusal, layout_of, not_carried, segment_refusal, setting, sizes_refusal, uncarried_refusal, walk_refusal}
 use Rattle.lk_layout.specs.Errors.{fault_error}
 use Rattle.lk_layout.specs.Laws.{DefinedAnswerExists, DefinedAnswerIsOne}
+use Rattle.lk_layout.proofs.CarriedPlans.{placeable}
 use Rattle.lk_layout.proofs.Settings.{ready}
 
-pub no_fault : (fault : Option LinkFault) → option_map fault_error fault ≡ None → fault ≡ None
-no_fault None h = refl
-no_fault (Some f) h = absurd (cc)
+-- what isn't refused isn't there
+pub none_of : {X : Type 0} (f : X → LayoutError) (o : Option X) → option_map f o ≡ None → o ≡ None
+none_of f None h = refl
+none_of f (Some x) h = absurd (cc)
 
 -- a link that isn't refused for a fault is well formed
 pub unrefused : WellFormedExactlyUnfaulted → (link : LinkInput) → fault_refusal link ≡ None → IsWellFormed link
-unrefused exactly link h = (exactly link).1 (no_fault (first_fault link) h)
+unrefused exactly link h = (exactly link).1 (none_of fault_error (first_fault link) h)
 
 -- ---- there is one
 
@@ -38,23 +40,23 @@ placed_exists : (link : LinkInput) (live : Live) (records : List Record) → (an
 placed_exists link live records =
     unless_exists (segment_refusal link live records) (λ a. a ≡ Ok (layout_of link live records)) (λ none. (Ok (layout_of link live records), refl))
 
-sized_exists : PlacementExists → (target : Target) (link : LinkInput) (live : Live) → IsWellFormed link → (answer : Result Layout LayoutError) × IsSizedAnswer target link live answer
-sized_exists placement target link live good =
-    let p = placement (setting target link live) (ready target link live good) in
+sized_exists : PlacementExists → (target : Target) (link : LinkInput) (live : Live) → IsWellFormed link → IsCarried link → (answer : Result Layout LayoutError) × IsSizedAnswer target link live answer
+sized_exists placement target link live good carried =
+    let p = placement (setting target link live) link.options.output (ready target link live good) (placeable link carried) in
     let rest = unless_exists (walk_refusal target link live p.0) (IsPlacedAnswer link live p.1) (λ none. placed_exists link live p.1) in
     (rest.0, (p.0, p.1, p.2, rest.1))
 
-carried_exists : LiveExists → PlacementExists → (target : Target) (link : LinkInput) → IsWellFormed link → (answer : Result Layout LayoutError) × IsCarriedAnswer target link answer
-carried_exists live placement target link good =
+carried_exists : LiveExists → PlacementExists → (target : Target) (link : LinkInput) → IsWellFormed link → IsCarried link → (answer : Result Layout LayoutError) × IsCarriedAnswer target link answer
+carried_exists live placement target link good carried =
     let l = live link in
-    let rest = unless_exists (sizes_refusal link l.0) (IsSizedAnswer target link l.0) (λ none. sized_exists placement target link l.0 good) in
+    let rest = unless_exists (sizes_refusal link l.0) (IsSizedAnswer target link l.0) (λ none. sized_exists placement target link l.0 good carried) in
     (rest.0, (l.0, l.1, rest.1))
 
 pub answer_exists : WellFormedExactlyUnfaulted → LiveExists → PlacementExists → DefinedAnswerExists
 answer_exists exactly live placement target link =
     unless_exists (fault_refusal link) (λ a. Unless (uncarried_refusal link) a (IsCarriedAnswer target link a)) (λ none.
     unless_exists (uncarried_refusal link) (IsCarriedAnswer target link) (λ all.
-    carried_exists live placement target link (unrefused exactly link none)))
+    carried_exists live placement target link (unrefused exactly link none) (none_of not_carried (first_uncarried link) all)))
 
 -- ---- and no other
 

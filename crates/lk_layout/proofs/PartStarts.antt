@@ -3,54 +3,32 @@ use Rattle.std.proofs.Common.{◌≡◌, ℕ, zero, suc, ◌+◌, ◌-◌, ◌*�
 use Rattle.std.specs.Prelude.{◌||◌, slice_get}
 use Rattle.std.specs.Int.{◌∣◌}
 use Rattle.std.specs.List.{AllByRecursion, enumerate_from, list_all, slice_index_or}
-use Rattle.std.proofs.Math.Nat.{dvd-mul_right, dvd_trans, le-max_left, le-max_right}
-use Rattle.std.proofs.Math.Pow.{pow-lt}
+use Rattle.std.proofs.Math.Nat.{dvd_trans, le-max_left, le-max_right}
 use Rattle.std.proofs.lemmas.Bool.{and_parts, cases_lt, lt-ltb}
 use Rattle.std.proofs.lemmas.List.Concat.{get_or-flat_map}
-use Rattle.std.proofs.lemmas.Nat.{pow-add}
 use Rattle.std.proofs.lemmas.Option.{slice_get-get_or, slice_get_within}
 use Rattle.lk_link.specs.declared.link.LinkInput.{LinkInput}
 use Rattle.lk_link.specs.declared.plan.OrderEvent.TheVariants.{Section}
 use Rattle.lk_link.specs.declared.plan.PlanPart.{PlanPart}
 use Rattle.lk_link.specs.declared.plan.PlanSection.{PlanSection}
 use Rattle.lk_link.specs.Alignments.{is_alignment}
-use Rattle.lk_link.specs.Parts.{all_parts, first_part}
+use Rattle.lk_link.specs.Parts.{all_parts, first_part, part_at}
 use Rattle.lk_link.specs.PlanSections.{no_section, section_at}
 use Rattle.lk_link.specs.Rules.{IsGoodSection}
 use Rattle.lk_link.specs.WellFormed.{IsWellFormed}
 use Rattle.lk_link.proofs.GoodLinks.{section_of}
-use Rattle.lk_link.proofs.Powers.{alignments_are_powers}
 use Rattle.lk_place.specs.declared.cursors.Cursors.{Cursors}
 use Rattle.lk_place.specs.Alignments.{greatest_of, section_alignment}
 use Rattle.lk_place.specs.Placement.{IsPlaced, first_walked, is_walked, placement_refusal, state_at}
 use Rattle.lk_place.specs.Records.{Record, record_at}
-use Rattle.lk_place.specs.Setting.{Setting, has_bytes, part_at, part_count, part_number, size_at}
+use Rattle.lk_place.specs.Setting.{Setting, has_bytes, part_count, part_number, size_at}
 use Rattle.lk_sizes.proofs.Tiling.{part_is_aligned}
+use Rattle.lk_link.proofs.Powers.{alignment_divides, max_aligned}
+use Rattle.lk_place.proofs.AlignmentLaws.{greatest_of-least}
 
 -- ---- alignments
 
--- a lesser alignment divides a greater one
-divides : (a b : ℕ) → is_alignment a ≡ true → is_alignment b ≡ true → a ≤ b → a ∣ b
-divides a b h g le =
-    let p = (alignments_are_powers a).0 h in
-    let q = (alignments_are_powers b).0 g in
-    elim (cases_lt q.0 p.0) [
-      | inl less ↦ absurd (omega (arith, pow-lt less, p.2, q.2))
-      | inr more ↦
-          let split : q.0 ≡ p.0 + (q.0 - p.0) = omega arith in
-          let product : b ≡ a * 2 ^ (q.0 - p.0) = q.2 ∙ ap (λ (k : ℕ). 2 ^ k) split ∙ pow-add 2 p.0 (q.0 - p.0) ∙ ap (λ (n : ℕ). n * 2 ^ (q.0 - p.0)) (sym p.2) in
-          subst (λ n. a ∣ n) (sym product) (dvd-mul_right a (2 ^ (q.0 - p.0)))
-    ]
-
--- the greater of two alignments is one
-greater_aligned : (a b : ℕ) → is_alignment a ≡ true → is_alignment b ≡ true → is_alignment (max a b) ≡ true
-greater_aligned a b h g =
-    elim (cases_lt a b) [
-      | inl less ↦ let is : max a b ≡ b = omega arith in ap is_alignment is ∙ g
-      | inr more ↦ let is : max a b ≡ a = omega arith in ap is_alignment is ∙ h
-    ]
-
--- so is the greatest of those of the parts with bytes
+-- the greatest of alignments of parts with bytes is one
 greatest_aligned : (sizes : List ℕ) (least n : ℕ) (parts : List PlanPart) → is_alignment least ≡ true → list_all (λ (p : PlanPart). is_alignment p.alignment) parts ≡ true
     → is_alignment (greatest_of least (map (λ q. q.1.alignment) (filter (λ q. has_bytes sizes q.0) (enumerate_from n parts)))) ≡ true
 greatest_aligned sizes least n [] h all = h
@@ -58,13 +36,9 @@ greatest_aligned sizes least n (p ∷ parts) h all =
     let both = and_parts (is_alignment p.alignment) (list_all (λ (q : PlanPart). is_alignment q.alignment) parts) all in
     let rest : List (ℕ × PlanPart) = filter (λ q. has_bytes sizes q.0) (enumerate_from (n + 1) parts) in
     elim (has_bytes sizes n) as (λ b. is_alignment (greatest_of least (map (λ q. q.1.alignment) (cond b ((n, p) ∷ rest) rest))) ≡ true) [
-      | true ↦ greatest_aligned sizes (max least p.alignment) (n + 1) parts (greater_aligned least p.alignment h both.0) both.1
+      | true ↦ greatest_aligned sizes (max least p.alignment) (n + 1) parts (max_aligned least p.alignment h both.0) both.1
       | false ↦ greatest_aligned sizes least (n + 1) parts h both.1
     ]
-
-from_least : (least : ℕ) (several : List ℕ) → least ≤ greatest_of least several
-from_least least [] = omega arith
-from_least least (x ∷ xs) = omega (arith, from_least (max least x) xs, le-max_left least x)
 
 -- it is at least that of each part with bytes
 reaches : (sizes : List ℕ) (least n : ℕ) (parts : List PlanPart) (j : ℕ) (d : PlanPart) → j < length parts → has_bytes sizes (n + j) ≡ true
@@ -75,7 +49,7 @@ reaches sizes least n (p ∷ parts) zero d below full =
     let number : n ≡ n + 0 = omega arith in
     let here : has_bytes sizes n ≡ true = ap (has_bytes sizes) number ∙ full in
     subst (λ b. p.alignment ≤ greatest_of least (map (λ q. q.1.alignment) (cond b ((n, p) ∷ rest) rest))) (sym here)
-    (omega (arith, from_least (max least p.alignment) (map (λ (q : ℕ × PlanPart). q.1.alignment) rest), le-max_right least p.alignment))
+    (omega (arith, greatest_of-least (max least p.alignment) (map (λ (q : ℕ × PlanPart). q.1.alignment) rest), le-max_right least p.alignment))
 reaches sizes least n (p ∷ parts) (suc j) d below full =
     let rest : List (ℕ × PlanPart) = filter (λ q. has_bytes sizes q.0) (enumerate_from (n + 1) parts) in
     let number : n + 1 + j ≡ n + suc j = omega arith in
@@ -141,7 +115,7 @@ part_starts s link states records p good same is unrefused within some =
     = ap (λ xs. is_alignment (part_at xs q).alignment) plans ∙ ap (λ n. is_alignment (part_at sections n).alignment) number ∙ part_is_aligned link p good in
     let found : own ∣ (record_at records q).mem_offset
     = elim (q == first_walked s t) as (λ b. (cond b greatest (min own greatest)) ∣ (record_at records q).mem_offset → own ∣ (record_at records q).mem_offset) [
-      | true ↦ λ h. dvd_trans own (divides own greatest aligned fine least) h
+      | true ↦ λ h. dvd_trans own (alignment_divides own greatest aligned fine least) h
       | false ↦ λ h. let one : min own greatest ≡ own = omega (arith, least) in subst (λ n. n ∣ (record_at records q).mem_offset) one h
     ] placed.at.multiple in
     subst (λ n. (part_at sections n).alignment ∣ (record_at records n).mem_offset) number (subst (λ xs. (part_at xs q).alignment ∣ (record_at records q).mem_offset) plans found)

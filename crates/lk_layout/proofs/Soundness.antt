@@ -10,11 +10,10 @@ use Rattle.std.proofs.lemmas.Bool.Decides.{eqb_tells}
 use Rattle.lk_check.specs.FirstFault.{WellFormedExactlyUnfaulted}
 use Rattle.lk_gc.specs.declared.live.Live.{Live}
 use Rattle.lk_gc.specs.Reach.{live_inputs}
-use Rattle.lk_gc.proofs.Among.{contains_at, map_in}
 use Rattle.lk_link.specs.declared.link.LinkInput.{LinkInput}
 use Rattle.lk_link.specs.declared.plan.PlanPart.{PlanPart}
 use Rattle.lk_link.specs.Inputs.{Input}
-use Rattle.lk_link.specs.Parts.{all_parts}
+use Rattle.lk_link.specs.Parts.{all_parts, part_at}
 use Rattle.lk_link.specs.Sizes.{capacity}
 use Rattle.lk_link.specs.Target.{IsLawful, Target}
 use Rattle.lk_place.specs.Laws.{FileRangesAreDisjoint, IsSoundlySet, KeepAlignments, MemoryRangesAreDisjoint, PlainMemoryIsCongruent, PlainMemoryIsDisjoint, RecordsKeepAlignments}
@@ -23,28 +22,29 @@ use Rattle.lk_place.specs.Plain.{IsPlain}
 use Rattle.lk_place.specs.Ranges.{FileIsDisjoint, MemoryIsDisjoint}
 use Rattle.lk_place.specs.Records.{Record, nowhere, record_at}
 use Rattle.lk_place.specs.Segments.{alignment_inside}
-use Rattle.lk_sizes.specs.Owners.{LiveSectionsAreOwners, Owner, SectionOwner, bytes_of, live_address, owner_address, owner_bytes, owner_number, owners_of, part_at, part_size}
+use Rattle.lk_sizes.specs.declared.addresses.LiveSection.{LiveSection}
+use Rattle.lk_sizes.specs.LiveSections.{live_section, live_sections}
+use Rattle.lk_sizes.specs.Owners.{LiveSectionsAreOwners, Owner, SectionOwner, bytes_of, live_address, owner_address, owner_bytes, owner_number, owners_of, part_size}
 use Rattle.lk_sizes.specs.Tiles.{HasByte, IsTiled, OwnersAreAligned, OwnersTileTheirPart}
 use Rattle.lk_sizes.proofs.LiveOnes.{Differ, Pairwise, live_differ, live_goes}
 use Rattle.lk_layout.specs.declared.layout.Layout.{Layout}
-use Rattle.lk_layout.specs.declared.live.LiveSection.{LiveSection}
-use Rattle.lk_layout.specs.Defined.{IsDefined, layout_of, setting}
+use Rattle.lk_layout.specs.Defined.{IsDefined, layout_of, setting, starts_of}
 use Rattle.lk_layout.specs.Laws.{DefinedLayoutsAreSound, LaidOutMemoryIsDisjoint, LaidOutSectionsAreApart}
-use Rattle.lk_layout.specs.LiveSections.{live_section, live_sections, starts_of}
 use Rattle.lk_layout.specs.Sound.{IsInSection, IsSharedOut, IsSound, IsTold, LiveSectionsAreAligned, LiveSectionsAreApart, MemoryIsCongruent, part_record}
-use Rattle.lk_layout.proofs.CarriedPlans.{no_zero_fill_in}
+use Rattle.lk_layout.proofs.CarriedPlans.{no_zero_fill, placeable}
 use Rattle.lk_layout.proofs.LaidOut.{IsLaidOut, laid_out}
 use Rattle.lk_layout.proofs.PartStarts.{part_starts}
 use Rattle.lk_layout.proofs.Settings.{ready, size_of, takes}
+use Rattle.lk_link.proofs.Elements.{contains_at, map_in}
 
 -- ---- the layout and its records
 
 parts_are : (target : Target) (link : LinkInput) (layout : Layout) (laid : IsLaidOut target link layout) → layout.section_part_layouts ≡ laid.records
 parts_are target link layout laid = ap (λ (l : Layout). l.section_part_layouts) laid.same
 
-shown : (target : Target) (link : LinkInput) (layout : Layout) (laid : IsLaidOut target link layout) → layout.live_sections ≡ live_sections link laid.live layout.section_part_layouts
+shown : (target : Target) (link : LinkInput) (layout : Layout) (laid : IsLaidOut target link layout) → layout.live_sections ≡ live_sections link laid.live (starts_of layout.section_part_layouts)
 shown target link layout laid =
-    ap (λ (l : Layout). l.live_sections) laid.same ∙ ap (live_sections link laid.live) (sym (parts_are target link layout laid))
+    ap (λ (l : Layout). l.live_sections) laid.same ∙ ap (λ (rs : List Record). live_sections link laid.live (starts_of rs)) (sym (parts_are target link layout laid))
 
 -- the owners of each part share it out
 shared_out : OwnersTileTheirPart → PartsTakeTheirBytes → (target : Target) (link : LinkInput) (layout : Layout) (laid : IsLaidOut target link layout) (p : ℕ) → p < length (all_parts link.plan.sections)
@@ -59,21 +59,21 @@ shared_out tile mass target link layout laid p within = record {
 
 -- a live section that is told stands among the owners of its part
 record Stands (link : LinkInput) (live : Live) (layout : Layout) (x : Input) (l : LiveSection) : Type 0 where
-  address : l.address ≡ owner_address (part_record layout x.section.part).mem_offset (part_at link x.section.part) (owners_of link live x.section.part) (owner_number link live x)
+  address : l.address ≡ owner_address (part_record layout x.section.part).mem_offset (part_at link.plan.sections x.section.part) (owners_of link live x.section.part) (owner_number link live x)
   size : l.size ≡ x.section.size
   owner : slice_get (owners_of link live x.section.part) (owner_number link live x) ≡ Some (SectionOwner x)
 
 stands : LiveSectionsAreOwners → (link : LinkInput) (live : Live) (layout : Layout) (a : ℕ) (x : Input) (l : LiveSection)
-    → layout.live_sections ≡ live_sections link live layout.section_part_layouts → IsTold link live layout a x l → Stands link live layout x l
+    → layout.live_sections ≡ live_sections link live (starts_of layout.section_part_layouts) → IsTold link live layout a x l → Stands link live layout x l
 stands owners link live layout a x l is told =
     let records : List Record = layout.section_part_layouts in
-    let made : slice_get (live_sections link live records) a ≡ Some (live_section link live records x) = map_in (live_section link live records) (live_inputs link live) a x told.there in
-    let here : Some l ≡ Some (live_section link live records x) = sym told.told ∙ ap (λ (ls : List LiveSection). slice_get ls a) is ∙ made in
-    let same : l ≡ live_section link live records x = cc in
+    let made : slice_get (live_sections link live (starts_of records)) a ≡ Some (live_section link live (starts_of records) x) = map_in (live_section link live (starts_of records)) (live_inputs link live) a x told.there in
+    let here : Some l ≡ Some (live_section link live (starts_of records) x) = sym told.told ∙ ap (λ (ls : List LiveSection). slice_get ls a) is ∙ made in
+    let same : l ≡ live_section link live (starts_of records) x = cc in
     let start : slice_index (starts_of records) x.section.part ≡ (record_at records x.section.part).mem_offset = lists.get_or-map (λ (r : Record). r.mem_offset) records x.section.part nowhere in
     record {
       address = ap (λ (m : LiveSection). m.address) same
-          ∙ ap (λ (n : ℕ). owner_address n (part_at link x.section.part) (owners_of link live x.section.part) (owner_number link live x)) start;
+          ∙ ap (λ (n : ℕ). owner_address n (part_at link.plan.sections x.section.part) (owners_of link live x.section.part) (owner_number link live x)) start;
       size = ap (λ (m : LiveSection). m.size) same;
       owner = owners link live x (contains_at (live_inputs link live) a x told.there);
     }
@@ -88,12 +88,12 @@ size-le part size =
 
 -- the bytes of a live section are its owner's
 has_byte : (link : LinkInput) (live : Live) (layout : Layout) (x : Input) (l : LiveSection) (address : ℕ) → Stands link live layout x l → IsInSection address l
-    → HasByte (part_record layout x.section.part).mem_offset (part_at link x.section.part) (owners_of link live x.section.part) (owner_number link live x) address
+    → HasByte (part_record layout x.section.part).mem_offset (part_at link.plan.sections x.section.part) (owners_of link live x.section.part) (owner_number link live x) address
 has_byte link live layout x l address s here = record {
   owner = SectionOwner x;
   there = s.owner;
   from = omega (arith, s.address, here.begins);
-  below = omega (arith, s.address, s.size, here.ends, size-le (part_at link x.section.part) x.section.size);
+  below = omega (arith, s.address, s.size, here.ends, size-le (part_at link.plan.sections x.section.part) x.section.size);
 }
 
 -- ---- live sections stand apart
@@ -134,7 +134,7 @@ sections_apart tile mass owners target link layout laid memory a b address x y l
       | inr miss ↦ memory p q address miss.1 memory_a memory_b
           (record { begins = in_p.0; ends = omega (arith, in_p.1, of_p.whole) }) (record { begins = in_q.0; ends = omega (arith, in_q.1, of_q.whole) })
       | inl hit ↦
-          let owned : ℕ → ℕ → Type 0 = λ r k. HasByte (part_record layout r).mem_offset (part_at link r) (owners_of link live r) k address in
+          let owned : ℕ → ℕ → Type 0 = λ r k. HasByte (part_record layout r).mem_offset (part_at link.plan.sections r) (owners_of link live r) k address in
           let beside : owned p (owner_number link live y) = subst (λ r. owned r (owner_number link live y)) (sym hit.1) second in
           let number : owner_number link live x ≡ owner_number link live y = of_p.tiled.apart (owner_number link live x) (owner_number link live y) address first beside in
           let mine : slice_get (owners_of link live p) (owner_number link live x) ≡ Some (SectionOwner x) = (stands owners link live layout a x l (shown target link layout laid) told_a).owner in
@@ -161,13 +161,13 @@ sections_aligned tile aligned owners target link layout laid a x l told some unp
     let s : Stands link live layout x l = stands owners link live layout a x l (shown target link layout laid) told in
     let within : p < length (all_parts link.plan.sections) = live_goes link live a x laid.good laid.are_live told.there in
     let byte = has_byte link live layout x l l.address s (record { begins = omega arith; ends = omega (arith, some) }) in
-    let bytes : 0 < part_size link live p = owner_within (part_at link p) (part_record layout p).mem_offset (owners_of link live p) (owner_number link live x) l.address (tile link live p (part_record layout p).mem_offset) byte in
+    let bytes : 0 < part_size link live p = owner_within (part_at link.plan.sections p) (part_record layout p).mem_offset (owners_of link live p) (owner_number link live x) l.address (tile link live p (part_record layout p).mem_offset) byte in
     let size : slice_index_or (setting target link live).sizes p 0 ≡ part_size link live p = size_of link live p within in
-    let begins : (part_at link p).alignment ∣ (record_at laid.records p).mem_offset
+    let begins : (part_at link.plan.sections p).alignment ∣ (record_at laid.records p).mem_offset
     = part_starts (setting target link live) link laid.states laid.records p laid.good refl laid.is laid.unrefused within (omega (arith, bytes, size)) in
     let record_is : (record_at laid.records p).mem_offset ≡ (part_record layout p).mem_offset = ap (λ rs. (record_at rs p).mem_offset) (sym (parts_are target link layout laid)) in
-    subst (λ n. (part_at link p).alignment ∣ n) (sym s.address)
-    (dvd-add (part_at link p).alignment (subst (λ n. (part_at link p).alignment ∣ n) record_is begins) (aligned link live p (owner_number link live x) laid.good unpacked))
+    subst (λ n. (part_at link.plan.sections p).alignment ∣ n) (sym s.address)
+    (dvd-add (part_at link.plan.sections p).alignment (subst (λ n. (part_at link.plan.sections p).alignment ∣ n) record_is begins) (aligned link live p (owner_number link live x) laid.good unpacked))
 
 -- ---- the laws
 
@@ -185,7 +185,7 @@ congruent in_step keep target link layout laid lawful plain i s k p places backe
     let live : Live = laid.live in
     let kept : KeepAlignments (setting target link live) laid.records
     = keep (setting target link live) laid.states laid.records (ready target link live laid.good) laid.is (laid.is.ends laid.unrefused) in
-    let found = in_step (setting target link live) link.options.output laid.states laid.records (soundly_set target link layout laid lawful) plain (λ t. no_zero_fill_in link t laid.carried) i s k p places backed part in
+    let found = in_step (setting target link live) link.options.output laid.states laid.records (soundly_set target link layout laid lawful) plain (λ t. no_zero_fill link t laid.carried) i s k p places backed part in
     let there = subst (λ (n : ℕ). (record_at laid.records p).mem_offset % n ≡ (record_at laid.records p).file_offset % n) (sym (kept.segment i)) found in
     subst (λ (l : Layout). IsCongruentAt link l i p) (sym laid.same) there
 
@@ -222,7 +222,7 @@ pub memory_disjoint : WellFormedExactlyUnfaulted → MemoryRangesAreDisjoint →
 memory_disjoint exactly memory target link layout carried lawful defined =
     let laid = laid_out exactly target link layout defined in
     subst (MemoryIsDisjoint link.plan) (sym (parts_are target link layout laid))
-    (memory (setting target link laid.live) laid.states laid.records (soundly_set target link layout laid lawful))
+    (memory (setting target link laid.live) link.options.output laid.states laid.records (soundly_set target link layout laid lawful) (placeable link laid.carried))
 
 -- and so are its live sections
 pub laid_out_apart : WellFormedExactlyUnfaulted → OwnersTileTheirPart → OwnersAreAligned → LiveSectionsAreOwners → PartsTakeTheirBytes → FileRangesAreDisjoint → MemoryRangesAreDisjoint → PlainMemoryIsDisjoint

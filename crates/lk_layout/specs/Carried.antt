@@ -1,27 +1,21 @@
 -- What a description may have that isn't laid out yet.
-use Rattle.std.specs.Prelude.{◌≡◌, ◌==◌, ◌&&◌, ◌||◌, not, Bool, true, false, List, [], ◌∷◌, Option, None, is_some, find, length}
+use Rattle.std.specs.Prelude.{◌≡◌, ◌==◌, ◌&&◌, ◌||◌, not, Bool, false, List, [], ◌∷◌, Option, None, is_some, find, length}
 use Rattle.std.specs.List.{list_any}
 use Rattle.lk_link.specs.declared.file.InputFile.{InputFile}
 use Rattle.lk_link.specs.declared.link.LinkInput.{LinkInput}
-use Rattle.lk_link.specs.declared.options.OutputKind.{OutputKind}
-use Rattle.lk_link.specs.declared.options.OutputKind.TheVariants as output
-use Rattle.lk_link.specs.declared.plan.NamedParts.{NamedParts}
-use Rattle.lk_link.specs.declared.plan.OrderEvent.{OrderEvent}
-use Rattle.lk_link.specs.declared.plan.OrderEvent.TheVariants.{SegmentStart, SegmentEnd, Section}
 use Rattle.lk_link.specs.declared.plan.Plan.{Plan}
 use Rattle.lk_link.specs.declared.plan.PlanSection.{PlanSection}
 use Rattle.lk_link.specs.declared.plan.attributes.TheConstants.{TLS}
-use Rattle.lk_link.specs.declared.relocation.RelocationKind.{RelocationKind}
-use Rattle.lk_link.specs.declared.symbol.SymbolPlacement.{SymbolPlacement}
-use Rattle.lk_link.specs.declared.symbol.SymbolPlacement.TheVariants as symbol
 use Rattle.lk_link.specs.Expressions.{as_number}
 use Rattle.lk_link.specs.FileKinds.{is_internal, is_object, is_prelude}
-use Rattle.lk_link.specs.Flags.{wants_table_entry}
 use Rattle.lk_link.specs.InputSlots.{is_debug, is_merge, is_must}
-use Rattle.lk_link.specs.OutputKinds.{is_partial}
+use Rattle.lk_link.specs.OutputKinds.{is_loaded_dynamically, is_partial}
+use Rattle.lk_link.specs.PartRules.{names_table}
 use Rattle.lk_link.specs.PlanSections.{is_set}
-use Rattle.lk_link.specs.Relocations.{resolution_flags}
+use Rattle.lk_link.specs.Relocations.{wants_entry}
+use Rattle.lk_link.specs.Rules.{moves_location}
 use Rattle.lk_link.specs.SegmentKinds.{is_tls}
+use Rattle.lk_link.specs.SymbolPlacements.{is_common}
 use Rattle.lk_layout.specs.declared.error.Uncarried.{Uncarried}
 use Rattle.lk_layout.specs.declared.error.Uncarried.TheVariants as uncarried
 
@@ -31,49 +25,20 @@ use Rattle.lk_layout.specs.declared.error.Uncarried.TheVariants as uncarried
 abbrev pub any_file : (InputFile → Bool) → LinkInput → Bool
 any_file p link = list_any (λ files. list_any p files) link.groups
 
--- bytes that all objects share
-abbrev pub is_common : SymbolPlacement → Bool
-is_common (symbol.Common p size) = true
-is_common _ = false
-
 abbrev pub has_symbols : InputFile → Bool
 has_symbols f = not (length f.symbols == 0)
 
--- a relocation of this kind wants an entry of a table
-abbrev pub wants_entry : RelocationKind → Bool
-wants_entry k = wants_table_entry (resolution_flags k)
-
 -- ---- the plan
-
--- moves the location, or gives an address
-abbrev pub moves_location : OrderEvent → Bool
-moves_location (SegmentStart i) = false
-moves_location (SegmentEnd i) = false
-moves_location (Section s) = false
-moves_location _ = true
 
 -- thread-local, secondary to another section, in a region, or loaded from elsewhere
 abbrev pub is_special_section : PlanSection → Bool
 is_special_section s = is_set TLS s.attrs || is_some s.primary || is_some s.region || is_some s.at
-
--- the plan gives a table part or the comment part
-abbrev pub names_table : NamedParts → Bool
-names_table n =
-    is_some n.got || is_some n.plt || is_some n.symtab_local || is_some n.symtab_global || is_some n.strtab || is_some n.dynsym
-    || is_some n.dynstr || is_some n.file_header || is_some n.program_headers || is_some n.section_headers
-    || is_some n.shstrtab || is_some n.comment
 
 -- a base that is asked for or no number, headers in segments, regions, moves of the location, or a special section or segment
 abbrev pub is_special_plan : Plan → Bool
 is_special_plan plan =
     plan.custom_base || plan.custom_phdrs || plan.phdrs_headers || not (length plan.regions == 0) || not (is_some (as_number plan.base))
     || list_any moves_location plan.events || list_any is_special_section plan.sections || list_any (λ s. is_tls s.kind) plan.segments
-
--- loaded by a dynamic linker
-abbrev pub is_loaded_dynamically : OutputKind → Bool
-is_loaded_dynamically output.DynamicExecutable = true
-is_loaded_dynamically output.SharedObject = true
-is_loaded_dynamically _ = false
 
 -- ---- what isn't carried
 

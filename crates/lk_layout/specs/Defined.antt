@@ -1,5 +1,5 @@
 -- The one answer of a link: the first refusal, in the order in which they are looked for, else the layout.
-use Rattle.std.specs.Prelude.{◌≡◌, List, Option, Some, None, option_map, Result, Ok, Err}
+use Rattle.std.specs.Prelude.{◌≡◌, ℕ, List, Option, Some, None, map, option_map, Result, Ok, Err}
 use Rattle.lk_link.specs.declared.link.LinkInput.{LinkInput}
 use Rattle.lk_link.specs.Target.{Target}
 use Rattle.lk_check.specs.FirstFault.{first_fault}
@@ -12,7 +12,9 @@ use Rattle.lk_place.specs.Segments.{first_outside, outside_refusal, section_reco
 use Rattle.lk_place.specs.Setting.{Setting, setting_of}
 use Rattle.lk_sizes.specs.Attributes.{all_section_attributes}
 use Rattle.lk_sizes.specs.Contents.{size_refusal}
+use Rattle.lk_sizes.specs.Emitted.{is_emitted}
 use Rattle.lk_sizes.specs.Header.{header_info}
+use Rattle.lk_sizes.specs.LiveSections.{live_sections}
 use Rattle.lk_sizes.specs.Owners.{part_sizes}
 use Rattle.lk_layout.specs.declared.error.LayoutError.{LayoutError}
 use Rattle.lk_layout.specs.declared.error.LayoutError.TheVariants.{NoMemory, NotCarried}
@@ -20,7 +22,6 @@ use Rattle.lk_layout.specs.declared.error.Uncarried.{Uncarried}
 use Rattle.lk_layout.specs.declared.layout.Layout.{Layout}
 use Rattle.lk_layout.specs.Carried.{first_uncarried}
 use Rattle.lk_layout.specs.Errors.{fault_error, size_error, place_error}
-use Rattle.lk_layout.specs.LiveSections.{live_sections}
 
 -- the answer is this refusal, if there is one, else P holds of it
 abbrev pub Unless : Option LayoutError → Result Layout LayoutError → Type 0 → Type 0
@@ -56,9 +57,13 @@ walk_refusal target link live states = option_map place_error (placement_refusal
 abbrev pub segment_refusal : LinkInput → Live → List Record → Option LayoutError
 segment_refusal link live records =
     let sections = section_records link.plan.sections records in
-    option_map place_error (outside_refusal (first_outside link sections (header_info link live).emitted))
+    option_map place_error (outside_refusal (first_outside link sections (is_emitted link live)))
 
 -- ---- the layout
+
+-- where parts with these records start in memory
+abbrev pub starts_of : List Record → List ℕ
+starts_of records = map (λ r. r.mem_offset) records
 
 -- what the live sections and the records of all parts make
 abbrev pub layout_of : LinkInput → Live → List Record → Layout
@@ -70,8 +75,8 @@ layout_of link live records =
       section_part_layouts = records;
       section_attributes = all_section_attributes link live;
       output_section_indexes = headers.output_section_indexes;
-      segment_layouts = segment_layouts link.plan link.options.stack sections headers.emitted headers.active_segment_ids;
-      live_sections = live_sections link live records;
+      segment_layouts = segment_layouts link.plan link.options.stack sections (is_emitted link live) headers.active_segment_ids;
+      live_sections = live_sections link live (starts_of records);
     }
 
 -- ---- the answer

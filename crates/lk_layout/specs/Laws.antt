@@ -14,7 +14,7 @@ use Rattle.lk_layout.specs.Carried.{IsCarried}
 use Rattle.lk_layout.specs.Defined.{IsDefined}
 use Rattle.lk_layout.specs.Sound.{IsSound, LiveSectionsAreApart}
 
--- every link has a defined answer; so has every well-formed link
+-- every link has a defined answer
 abbrev pub DefinedAnswerExists : Type 0
 DefinedAnswerExists = (target : Target) (link : LinkInput) → (answer : Result Layout LayoutError) × IsDefined target link answer
 
@@ -41,7 +41,7 @@ LaidOutSectionsAreApart = (target : Target) (link : LinkInput) (layout : Layout)
 
 -- what makes the plan of a link plain of which all is laid out: no load segment opens while another is open, and inside each all
 -- is allocated, and what takes bytes of the file comes before what takes none
-pub record IsOrdinary (link : LinkInput) : Type 0 where
+pub record HasPlainLoads (link : LinkInput) : Type 0 where
   pub apart : (i j k : ℕ) → IsLoadSegment link.plan i → OpensLoad link.plan j k → is_open i (take k link.plan.events) ≡ false
   pub allocated : (i s k : ℕ) → PlacesInLoad link.plan i s k → is_allocated link.plan s ≡ true
   pub backed_first : (i s t m n : ℕ) → m < n → PlacesInLoad link.plan i s m → PlacesInLoad link.plan i t n
@@ -49,4 +49,4 @@ pub record IsOrdinary (link : LinkInput) : Type 0 where
 
 -- the other conditions of a plain plan hold of what is laid out
 abbrev pub CarriedPlansArePlain : Type 0
-CarriedPlansArePlain = (link : LinkInput) → IsCarried link → IsOrdinary link → IsPlain link.plan link.options.output
+CarriedPlansArePlain = (link : LinkInput) → IsCarried link → HasPlainLoads link → IsPlain link.plan link.options.output

@@ -2,6 +2,5 @@ pub mod Carried
 pub mod Defined
 pub mod Errors
 pub mod Laws
-pub mod LiveSections
 pub mod Sound
 pub mod Texts

@@ -3,7 +3,7 @@ use Rattle.std.specs.Prelude.{◌≡◌, ◌≢◌, ℕ, ◌+◌, ◌%◌, ◌<�
 use Rattle.std.specs.Int.{◌∣◌}
 use Rattle.lk_link.specs.declared.link.LinkInput.{LinkInput}
 use Rattle.lk_link.specs.Inputs.{Input}
-use Rattle.lk_link.specs.Parts.{all_parts}
+use Rattle.lk_link.specs.Parts.{all_parts, part_at}
 use Rattle.lk_link.specs.PlanSections.{is_file_backed}
 use Rattle.lk_gc.specs.declared.live.Live.{Live}
 use Rattle.lk_gc.specs.Reach.{AreLive, live_inputs}
@@ -11,11 +11,12 @@ use Rattle.lk_place.specs.Plain.{IsPlain, PlacesInLoad}
 use Rattle.lk_place.specs.Ranges.{FileIsDisjoint, HasPart, MemoryIsDisjoint, TakesMemory}
 use Rattle.lk_place.specs.Records.{Record, record_at}
 use Rattle.lk_place.specs.Segments.{alignment_inside}
-use Rattle.lk_sizes.specs.Owners.{bytes_of, owners_of, part_at}
+use Rattle.lk_sizes.specs.declared.addresses.LiveSection.{LiveSection}
+use Rattle.lk_sizes.specs.LiveSections.{live_sections}
+use Rattle.lk_sizes.specs.Owners.{bytes_of, owners_of}
 use Rattle.lk_sizes.specs.Tiles.{IsTiled}
 use Rattle.lk_layout.specs.declared.layout.Layout.{Layout}
-use Rattle.lk_layout.specs.declared.live.LiveSection.{LiveSection}
-use Rattle.lk_layout.specs.LiveSections.{live_sections}
+use Rattle.lk_layout.specs.Defined.{starts_of}
 
 -- the record of the part with this number over all sections
 abbrev pub part_record : Layout → ℕ → Record
@@ -30,8 +31,8 @@ MemoryIsCongruent link layout = (i s k p : ℕ) → PlacesInLoad link.plan i s k
 
 -- the owners of a part share out its memory
 pub record IsSharedOut (link : LinkInput) (live : Live) (layout : Layout) (p : ℕ) : Type 0 where
-  pub whole : (part_record layout p).mem_size ≡ bytes_of (part_at link p) (owners_of link live p)
-  pub tiled : IsTiled (part_record layout p).mem_offset (part_at link p) (owners_of link live p)
+  pub whole : (part_record layout p).mem_size ≡ bytes_of (part_at link.plan.sections p) (owners_of link live p)
+  pub tiled : IsTiled (part_record layout p).mem_offset (part_at link.plan.sections p) (owners_of link live p)
 
 -- x is live section a, and l is told of it
 pub record IsTold (link : LinkInput) (live : Live) (layout : Layout) (a : ℕ) (x : Input) (l : LiveSection) : Type 0 where
@@ -53,7 +54,7 @@ LiveSectionsAreApart link live layout = (a b address : ℕ) (x y : Input) (l m :
 -- a live section with bytes starts at a multiple of its part's alignment, if the part isn't packed
 abbrev pub LiveSectionsAreAligned : LinkInput → Live → Layout → Type 0
 LiveSectionsAreAligned link live layout = (a : ℕ) (x : Input) (l : LiveSection) → IsTold link live layout a x l → 0 < l.size
-    → (part_at link x.section.part).packed ≡ false → (part_at link x.section.part).alignment ∣ l.address
+    → (part_at link.plan.sections x.section.part).packed ≡ false → (part_at link.plan.sections x.section.part).alignment ∣ l.address
 
 -- what holds of the memory of a layout under a plain plan: no two parts share an address, nor do two live sections; and memory
 -- goes along the file
@@ -66,7 +67,7 @@ pub record IsSoundInMemory (link : LinkInput) (live : Live) (layout : Layout) : 
 -- a part has one owner; no two parts share a byte of the file; and under a plain plan the same holds of memory
 pub record IsSound (link : LinkInput) (live : Live) (layout : Layout) : Type 0 where
   pub reached : AreLive link live
-  pub shown : layout.live_sections ≡ live_sections link live layout.section_part_layouts
+  pub shown : layout.live_sections ≡ live_sections link live (starts_of layout.section_part_layouts)
   pub aligned : LiveSectionsAreAligned link live layout
   pub shared : (p : ℕ) → p < length (all_parts link.plan.sections) → IsSharedOut link live layout p
   pub file : FileIsDisjoint layout.section_part_layouts

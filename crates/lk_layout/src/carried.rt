@@ -6,17 +6,19 @@
 ghost use Rattle.std.specs.Prelude.{◌≡◌, ◌||◌, not, is_some};
 ghost use Rattle.std.specs.List.{list_any};
 ghost use Rattle.lk_link.specs.InputSlots.{is_debug, is_merge, is_must};
+ghost use Rattle.lk_link.specs.OutputKinds.{is_loaded_dynamically, is_partial};
+ghost use Rattle.lk_link.specs.PartRules.{names_table};
+ghost use Rattle.lk_link.specs.Relocations.{wants_entry};
+ghost use Rattle.lk_link.specs.Rules.{moves_location};
 ghost use Rattle.lk_link.specs.SegmentKinds.{is_tls};
-ghost use Rattle.lk_layout.specs.Carried.{any_file, file_has, first_uncarried, has, is_common, is_loaded_dynamically, is_special_plan, is_special_section, moves_location, names_table, wants_entry};
+ghost use Rattle.lk_link.specs.SymbolPlacements.{is_common};
+ghost use Rattle.lk_layout.specs.Carried.{any_file, file_has, first_uncarried, has, is_special_plan, is_special_section};
 
 use crate::error::Uncarried;
 use lk_link::file::InputFile;
 use lk_link::link::LinkInput;
-use lk_link::options::OutputKind;
-use lk_link::plan::{NamedParts, OrderEvent, Plan, PlanSection, PlanSegment, attributes};
-use lk_link::relocation::{RelocationKind, resolution_flags};
+use lk_link::plan::{OrderEvent, Plan, PlanSection, PlanSegment, attributes};
 use lk_link::section::InputSection;
-use lk_link::symbol::SymbolPlacement;
 
 /// What is looked for, in this order.
 const ALL_UNCARRIED: [Uncarried; 13] = [
@@ -49,42 +51,14 @@ fn has(link: &LinkInput, what: Uncarried) -> bool
     ensures { result ≡ has link.now what }
 {
     match what {
-        Uncarried::Output => is_loaded_dynamically(link.options.output),
-        Uncarried::Table => names_table(&link.plan.named) || any_file(link, what),
+        Uncarried::Output => link.options.output.is_loaded_dynamically(),
+        Uncarried::Table => link.plan.named.names_table() || any_file(link, what),
         Uncarried::Plan => is_special_plan(&link.plan),
         Uncarried::Partial => { link.options.output.is_partial() || link.plan.singletons.is_some() }
         Uncarried::Primary => link.plan.named.primary.is_some(),
         Uncarried::Relax => link.options.relax,
         _ => any_file(link, what),
     }
-}
-
-/// Whether a dynamic linker loads the output.
-fn is_loaded_dynamically(output: OutputKind) -> bool
-    ensures { result ≡ is_loaded_dynamically output }
-{
-    matches!(
-        output,
-        OutputKind::DynamicExecutable | OutputKind::SharedObject
-    )
-}
-
-/// Whether the plan gives a table part or the comment part.
-fn names_table(named: &NamedParts) -> bool
-    ensures { result ≡ names_table named.now }
-{
-    named.got.is_some()
-        || named.plt.is_some()
-        || named.symtab_local.is_some()
-        || named.symtab_global.is_some()
-        || named.strtab.is_some()
-        || named.dynsym.is_some()
-        || named.dynstr.is_some()
-        || named.file_header.is_some()
-        || named.program_headers.is_some()
-        || named.section_headers.is_some()
-        || named.shstrtab.is_some()
-        || named.comment.is_some()
 }
 
 /// Whether the plan places something otherwise than from a given number on, section by section.
@@ -96,23 +70,16 @@ fn is_special_plan(plan: &Plan) -> bool
         || plan.phdrs_headers
         || !plan.regions.is_empty()
         || plan.base.as_number().is_none()
-        || moves_location(plan.events.as_slice())
+        || has_moving_event(plan.events.as_slice())
         || has_special_section(plan.sections.as_slice())
         || has_tls_segment(plan.segments.as_slice())
 }
 
 /// Whether an event moves the location.
-fn moves_location(events: &[OrderEvent]) -> bool
+fn has_moving_event(events: &[OrderEvent]) -> bool
     ensures { result ≡ list_any moves_location events.now }
 {
-    events.iter().any(|event| {
-        matches!(
-            event,
-            OrderEvent::SetLocation(_)
-                | OrderEvent::SetLocationRelative(_, _)
-                | OrderEvent::SetSectionAddress(_)
-        )
-    })
+    events.iter().any(|event| event.moves_location())
 }
 
 /// Whether a section is thread-local, secondary to another section, in a region, or loaded from elsewhere.
@@ -192,7 +159,7 @@ fn has_debug_or_group(file: &InputFile) -> bool
 fn has_common(file: &InputFile) -> bool
     ensures { result ≡ list_any (λ x. is_common x.at) file.now.symbols }
 {
-    file.symbols.as_slice().iter().any(|symbol| matches!(symbol.at, SymbolPlacement::Common { .. }))
+    file.symbols.as_slice().iter().any(|symbol| symbol.at.is_common())
 }
 
 /// Whether a relocation wants an entry of a table.
@@ -210,14 +177,7 @@ fn wants_entries(section: &InputSection) -> bool
         .relocs
         .as_slice()
         .iter()
-        .any(|reloc| wants_entry(reloc.kind))
-}
-
-/// Whether a kind of relocation wants an entry of a table.
-fn wants_entry(kind: RelocationKind) -> bool
-    ensures { result ≡ wants_entry kind }
-{
-    resolution_flags(kind).wants_table_entry()
+        .any(|reloc| reloc.kind.wants_entry())
 }
 
 /// Whether a section is put in order by its name.

@@ -4,23 +4,22 @@
 //! part, where the parts stand, which sections and segments are told, what those span, and at last the address of each live
 //! section. A step that refuses ends the computation, so that the answer is the first refusal in this order, or the layout.
 
-ghost use Rattle.std.specs.Prelude.{◌≡◌, ◌<◌, ◌≤◌, ℕ, length};
+ghost use Rattle.std.specs.Prelude.{◌≡◌, ◌+◌, ◌<◌, ◌≤◌, ◌^◌, ℕ, IfOk, length, slice_index};
 ghost use Rattle.lk_gc.specs.Reach.{AreLive};
 ghost use Rattle.lk_link.specs.Parts.{all_parts};
 ghost use Rattle.lk_link.specs.WellFormed.{IsWellFormed};
 ghost use Rattle.lk_place.specs.Records.{record_at};
 ghost use Rattle.lk_place.specs.Segments.{section_records};
 ghost use Rattle.lk_link.specs.Target.{platform_target};
-ghost use Rattle.lk_sizes.specs.Contents.{part_contents as contents_of};
+ghost use Rattle.lk_sizes.specs.Contents.{AreBrought};
 ghost use Rattle.lk_sizes.specs.Owners.{part_size};
 ghost use Rattle.lk_layout.specs.Carried.{IsCarried};
-ghost use Rattle.lk_layout.specs.Defined.{Gives, IsCarriedAnswer, IsPlacedAnswer, WithMemory};
+ghost use Rattle.lk_layout.specs.Defined.{Gives, IsCarriedAnswer, IsPlacedAnswer, WithMemory, starts_of};
 
 use crate::arch::Arch;
 use crate::carried::first_uncarried;
 use crate::error::LayoutError;
 use crate::layout::Layout;
-use crate::live::live_sections;
 use lk_check::check_link;
 use lk_gc::{Live, traverse_alone};
 use lk_link::gate::Gate;
@@ -28,11 +27,13 @@ use lk_link::link::LinkInput;
 use lk_link::list::List;
 use lk_link::platform::Platform;
 use lk_place::laws::parts_take_their_bytes;
-use lk_place::{Placed, compute_layout_sections, compute_segment_layout};
+use lk_place::{OutputRecordLayout, Placed, compute_layout_sections, compute_segment_layout};
+use lk_sizes::laws::first_sizes_are_sizes;
 use lk_sizes::{
-    PartContents, determine_header_sizes, part_contents, part_sizes, propagate_section_attributes,
+    PartContents, determine_header_sizes, live_sections, part_contents, part_sizes,
+    propagate_section_attributes,
 };
-use std::alloc::Global;
+use std::alloc::{AllocError, Global};
 use std::sync::Wait;
 use std::thread::Threads;
 
@@ -68,26 +69,29 @@ fn lay_out<P: Platform>(
     let sizes = part_sizes(alloc, contents.as_slice())?;
     let placed = compute_layout_sections(alloc, link, &sizes, platform)?;
     parts_take_their_bytes();
-    tell(alloc, link, &live, contents.as_slice(), placed)
+    first_sizes_are_sizes();
+    tell(alloc, link, &live, contents.as_slice(), &sizes, placed)
 }
 
-/// What is told of a link that is placed: headers, segments, attributes and the addresses of live sections.
+/// What is told of a link that is placed, by the first sizes of its parts: headers, segments, attributes and the addresses of
+/// live sections.
 fn tell(
     alloc: Global,
     link: &LinkInput,
     live: &Live,
     contents: &[PartContents],
+    sizes: &[u64],
     placed: Placed,
 ) -> Result<Layout, LayoutError>
     requires good { IsWellFormed link.now }
     requires live { AreLive link.now live.now }
-    requires contents { contents.now ≡ contents_of link.now live.now }
+    requires brought { AreBrought link.now live.now contents.now sizes.now }
     requires sections { placed.sections ≡ section_records link.now.plan.sections placed.parts }
     requires each { length placed.parts ≡ length (all_parts link.now.plan.sections) }
     requires takes { (p : ℕ) → p < length placed.parts → (record_at placed.parts p).mem_size ≡ part_size link.now live.now p }
     ensures { WithMemory (IsPlacedAnswer link.now live.now placed.parts) result }
 {
-    let headers = determine_header_sizes(alloc, link, contents)?;
+    let headers = determine_header_sizes(alloc, link, contents, sizes)?;
     let segments = compute_segment_layout(
         alloc,
         link,
@@ -96,7 +100,8 @@ fn tell(
         headers.active_segment_ids.as_slice(),
     )?;
     let attributes = propagate_section_attributes(alloc, link, contents)?;
-    let live = live_sections(alloc, link, live, placed.parts.as_slice())?;
+    let starts = starts_of(alloc, placed.parts.as_slice())?;
+    let live = live_sections(alloc, link, live, starts)?;
     Ok(Layout {
         section_layouts: placed.sections,
         section_part_layouts: placed.parts,
@@ -105,6 +110,20 @@ fn tell(
         segment_layouts: List::from_vec(segments),
         live_sections: List::from_vec(live),
     })
+}
+
+/// Where parts with these records start in memory.
+fn starts_of(alloc: Global, parts: &[OutputRecordLayout]) -> Result<Vec<u64>, AllocError>
+    ensures value { IfOk result (λ starts. starts.items ≡ starts_of parts.now) }
+    ensures fit { IfOk result (λ starts. (p : ℕ) → p < length parts.now
+        → slice_index starts.items p + (record_at parts.now p).mem_size < 2 ^ 64) }
+{
+    let mut starts = Vec::with_capacity(alloc, parts.len())?;
+    for part in parts {
+        let _end = part.mem_end();
+        starts.push(part.mem_offset)?;
+    }
+    Ok(starts)
 }
 
 /// The layout of a link: the defined answer, unless memory runs out (libwild: `layout::compute`). With 0 or 1 workers it

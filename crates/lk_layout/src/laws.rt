@@ -10,7 +10,7 @@ use lk_place::laws::{
 };
 use lk_sizes::laws::{live_sections_are_owners, owners_are_aligned, owners_tile_their_part};
 
-/// A law: every link has a defined answer, and so has every well-formed link, on any machine.
+/// A law: every link has a defined answer, on every machine.
 pub fn defined_answer_exists()
     ensures { DefinedAnswerExists }
 {

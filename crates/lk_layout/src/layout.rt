@@ -1,8 +1,8 @@
 //! The layout of a link.
 
-use crate::live::LiveSection;
 use lk_link::list::List;
 use lk_place::{OutputRecordLayout, SegmentLayout};
+use lk_sizes::LiveSection;
 
 /// Where everything stands (libwild: `Layout`).
 #[derive(Drop)]

@@ -7,10 +7,9 @@ pub mod compute;
 pub mod error;
 pub mod laws;
 pub mod layout;
-pub mod live;
 
 pub use crate::arch::{Arch, Small64Arch};
 pub use crate::carried::first_uncarried;
 pub use crate::error::{LayoutError, Uncarried};
 pub use crate::layout::Layout;
-pub use crate::live::LiveSection;
+pub use lk_sizes::LiveSection;

@@ -12,11 +12,11 @@ use Rattle.std.proofs.lemmas.Option.{get_or_from_slice_get, slice_get_within}
 use Rattle.lk_link.specs.declared.link.LinkInput.{LinkInput}
 use Rattle.lk_link.specs.declared.plan.PlanPart.{PlanPart}
 use Rattle.lk_link.specs.Inputs.{Input}
-use Rattle.lk_link.specs.Parts.{all_parts}
+use Rattle.lk_link.specs.Parts.{all_parts, part_at}
 use Rattle.lk_link.specs.Sizes.{capacity}
 use Rattle.lk_sizes.specs.declared.owners.Total.{Total}
 use Rattle.lk_sizes.specs.Contents.{keeps_empty}
-use Rattle.lk_sizes.specs.Owners.{SectionOwner, bytes_of, into, owner_bytes, part_at}
+use Rattle.lk_sizes.specs.Owners.{SectionOwner, bytes_of, into, owner_bytes}
 
 pub into-append : (p : ℕ) (xs ys : List Input) → into p (xs ++ ys) ≡ into p xs ++ into p ys
 into-append p xs ys = filter-append (λ x. x.section.part == p) xs ys
@@ -70,13 +70,13 @@ pub record IsTotal (part : PlanPart) (p : ℕ) (done : List Input) (total : Tota
 -- what they bring to each part
 pub record AreTotals (link : LinkInput) (done : List Input) (totals : List Total) : Type 0 where
   pub count : length totals ≡ length (all_parts link.plan.sections)
-  pub each : (p : ℕ) (d : Total) → p < length (all_parts link.plan.sections) → IsTotal (part_at link p) p done (slice_index_or totals p d)
+  pub each : (p : ℕ) (d : Total) → p < length (all_parts link.plan.sections) → IsTotal (part_at link.plan.sections p) p done (slice_index_or totals p d)
 
 pub no_totals : (link : LinkInput) (none : Total) → none ≡ record { bytes = 0; has_empty = false; attrs = 0 }
     → AreTotals link [] (replicate (length (all_parts link.plan.sections)) none)
 no_totals link none is = record {
   count = length-replicate (length (all_parts link.plan.sections)) none;
-  each = λ p d below. subst (λ (t : Total). IsTotal (part_at link p) p [] t)
+  each = λ p d below. subst (λ (t : Total). IsTotal (part_at link.plan.sections p) p [] t)
       (sym (get_or-replicate (length (all_parts link.plan.sections)) p none d below ∙ is))
       (record { bytes = refl; empty = refl; attrs = refl });
 }
@@ -112,26 +112,26 @@ one_elsewhere part p done x total other h =
     }
 
 pub add_one : (link : LinkInput) (done : List Input) (x : Input) (totals : List Total) (at : ℕ) (read d : Total) (part : PlanPart) (new : Total)
-    → AreTotals link done totals → at ≡ x.section.part → at < length (all_parts link.plan.sections) → read ≡ slice_index_or totals at d → part ≡ part_at link at
+    → AreTotals link done totals → at ≡ x.section.part → at < length (all_parts link.plan.sections) → read ≡ slice_index_or totals at d → part ≡ part_at link.plan.sections at
     → new.bytes ≡ min (read.bytes + capacity part x.section.size) (2 ^ 128 - 1) → new.has_empty ≡ (read.has_empty || keeps_empty x) → new.attrs ≡ bit_or read.attrs x.section.attrs
     → AreTotals link (done ++ x ∷ []) (set totals at new)
 add_one link done x totals at read d part new h here within is of bytes empty attrs = record {
   count = length-set totals at new ∙ h.count;
   each = λ p e below. elim (eqb_tells at p) [
-    | inl hit ↦ subst (λ (q : ℕ). IsTotal (part_at link q) q (done ++ x ∷ []) (slice_index_or (set totals at new) q e)) hit.1
-        (subst (λ (t : Total). IsTotal (part_at link at) at (done ++ x ∷ []) t) (sym (get_or-set_same totals at new e (omega (arith, h.count))))
-        (one_more (part_at link at) at done x read new (sym here)
-        (subst (λ (t : Total). IsTotal (part_at link at) at done t) (sym is) (h.each at d within))
+    | inl hit ↦ subst (λ (q : ℕ). IsTotal (part_at link.plan.sections q) q (done ++ x ∷ []) (slice_index_or (set totals at new) q e)) hit.1
+        (subst (λ (t : Total). IsTotal (part_at link.plan.sections at) at (done ++ x ∷ []) t) (sym (get_or-set_same totals at new e (omega (arith, h.count))))
+        (one_more (part_at link.plan.sections at) at done x read new (sym here)
+        (subst (λ (t : Total). IsTotal (part_at link.plan.sections at) at done t) (sym is) (h.each at d within))
         (bytes ∙ ap (λ (q : PlanPart). min (read.bytes + capacity q x.section.size) (2 ^ 128 - 1)) of) empty attrs))
     | inr miss ↦
         let other : p ≡ at → ⊥ = λ same. miss.1 (sym same) in
-        subst (λ (t : Total). IsTotal (part_at link p) p (done ++ x ∷ []) t) (sym (get_or-set_other totals at p new e other))
-        (one_elsewhere (part_at link p) p done x (slice_index_or totals p e) (λ goes. miss.1 (here ∙ goes)) (h.each p e below))
+        subst (λ (t : Total). IsTotal (part_at link.plan.sections p) p (done ++ x ∷ []) t) (sym (get_or-set_other totals at p new e other))
+        (one_elsewhere (part_at link.plan.sections p) p done x (slice_index_or totals p e) (λ goes. miss.1 (here ∙ goes)) (h.each p e below))
   ];
 }
 
 pub total_at : (link : LinkInput) (done : List Input) (totals : List Total) (p : ℕ) (total : Total) → AreTotals link done totals → slice_get totals p ≡ Some total
-    → IsTotal (part_at link p) p done total
+    → IsTotal (part_at link.plan.sections p) p done total
 total_at link done totals p total h there =
-    subst (λ (t : Total). IsTotal (part_at link p) p done t) (get_or_from_slice_get totals p total total there)
+    subst (λ (t : Total). IsTotal (part_at link.plan.sections p) p done t) (get_or_from_slice_get totals p total total there)
     (h.each p total (omega (arith, h.count, slice_get_within totals p total there)))

@@ -7,11 +7,12 @@ use Rattle.lk_link.specs.declared.link.LinkInput.{LinkInput}
 use Rattle.lk_link.specs.Inputs.{Input}
 use Rattle.lk_gc.specs.declared.live.Live.{Live}
 use Rattle.lk_gc.specs.Reach.{live_inputs}
-use Rattle.lk_gc.proofs.Among.{at_contained}
 use Rattle.lk_gc.proofs.LiveWalk.{split_at}
-use Rattle.lk_sizes.specs.Owners.{LiveSectionsAreOwners, Owner, SectionOwner, bytes_of, into, is_section, live_address, owner_number, owners_of, part_at}
+use Rattle.lk_sizes.specs.Owners.{LiveSectionsAreOwners, Owner, SectionOwner, bytes_of, into, owns, live_address, owner_number, owners_of}
 use Rattle.lk_sizes.proofs.Adding.{into-append, into_here}
 use Rattle.lk_sizes.proofs.LiveOnes.{Differ, Pairwise, in_front, live_differ, not_section}
+use Rattle.lk_link.specs.Parts.{part_at}
+use Rattle.lk_link.proofs.Elements.{at_contained}
 
 -- the first that passes stands behind those that don't
 position_behind : {X : Type 0} (p : X → Bool) (xs : List X) (y : X) (ys : List X) → AllByRecursion (λ x. p x ≡ false) xs → p y ≡ true → position_or_len p (xs ++ y ∷ ys) ≡ length xs
@@ -24,10 +25,10 @@ taken_front [] ys = refl
 taken_front (x ∷ xs) ys = ap (λ (zs : List _). x ∷ zs) (taken_front xs ys)
 
 -- those that differ, and go to a part, aren't taken for it as owners
-front_owners : (p : ℕ) (xs : List Input) (y : Input) → AllByRecursion (λ x. Differ x y) xs → AllByRecursion (λ o. is_section y o ≡ false) (map SectionOwner (into p xs))
+front_owners : (p : ℕ) (xs : List Input) (y : Input) → AllByRecursion (λ x. Differ x y) xs → AllByRecursion (λ o. owns y o ≡ false) (map SectionOwner (into p xs))
 front_owners p [] y h = tt
 front_owners p (x ∷ xs) y h =
-    elim (x.section.part == p) as (λ b. AllByRecursion (λ o. is_section y o ≡ false) (map SectionOwner (cond b (x ∷ into p xs) (into p xs)))) [
+    elim (x.section.part == p) as (λ b. AllByRecursion (λ o. owns y o ≡ false) (map SectionOwner (cond b (x ∷ into p xs) (into p xs)))) [
       | true ↦ (not_section x y h.0, front_owners p xs y h.1)
       | false ↦ front_owners p xs y h.1
     ]
@@ -35,7 +36,7 @@ front_owners p (x ∷ xs) y h =
 same_number : (n : ℕ) → (n == n) ≡ true
 same_number n = true_from_ne_false (n == n) (λ other. eqb-false n n other refl)
 
-is_itself : (x : Input) → is_section x (SectionOwner x) ≡ true
+is_itself : (x : Input) → owns x (SectionOwner x) ≡ true
 is_itself x =
     ap (λ b. b && x.file.file == x.file.file && x.index == x.index) (same_number x.file.group)
     ∙ ap (λ b. b && x.index == x.index) (same_number x.file.file)
@@ -62,20 +63,20 @@ stands_behind link live front x rest all =
       rest = after;
       owners = owners;
       number =
-          ap (position_or_len (is_section x)) owners
-          ∙ position_behind (is_section x) before (SectionOwner x) after (front_owners p front x differ) (is_itself x);
+          ap (position_or_len (owns x)) owners
+          ∙ position_behind (owns x) before (SectionOwner x) after (front_owners p front x differ) (is_itself x);
     }
 
 -- a live section's address: the part's start, and the bytes of those in front that go to its part
 pub address_behind : (link : LinkInput) (live : Live) (starts : List ℕ) (front : List Input) (x : Input) (rest : List Input) → live_inputs link live ≡ front ++ x ∷ rest
-    → live_address link live starts x ≡ slice_index starts x.section.part + bytes_of (part_at link x.section.part) (map SectionOwner (into x.section.part front))
+    → live_address link live starts x ≡ slice_index starts x.section.part + bytes_of (part_at link.plan.sections x.section.part) (map SectionOwner (into x.section.part front))
 address_behind link live starts front x rest all =
     let p : ℕ = x.section.part in
     let before : List Owner = map SectionOwner (into p front) in
     let is = stands_behind link live front x rest all in
     let taken : take (owner_number link live x) (owners_of link live p) ≡ before =
     ap (λ (n : ℕ). take n (owners_of link live p)) is.number ∙ ap (take (length before)) is.owners ∙ taken_front before (SectionOwner x ∷ is.rest) in
-    ap (λ (os : List Owner). slice_index starts p + bytes_of (part_at link p) os) taken
+    ap (λ (os : List Owner). slice_index starts p + bytes_of (part_at link.plan.sections p) os) taken
 
 -- ---- each stands among the owners
 

@@ -24,46 +24,55 @@ use Rattle.lk_sizes.specs.declared.header.HeaderInfo.{HeaderInfo}
 use Rattle.lk_sizes.specs.declared.owners.PartContents.{PartContents}
 use Rattle.lk_sizes.specs.Attributes.{all_section_attributes, by_section, part_attributes, parts_of, section_attributes}
 use Rattle.lk_sizes.specs.Contents.{contents_of, has_empty, part_contents}
-use Rattle.lk_sizes.specs.Emitted.{active_by, active_segments, can_be_emitted, event_sections, is_active, is_always, is_emitted, is_kept, is_marked, is_partial, keeps_section, output_index, part_keeps}
-use Rattle.lk_sizes.proofs.Fitting.{first_is_size}
-use Rattle.lk_sizes.proofs.Made.{any_map, any_same, filter_alike, made_range, made_same_below, made_whole, map_id, map_map}
-use Rattle.lk_sizes.proofs.SectionParts.{first_part-le, part_range-le}
+use Rattle.lk_sizes.specs.Emitted.{active_segments, can_be_emitted, event_sections, is_active, is_emitted, is_kept, output_index}
+use Rattle.lk_sizes.specs.Owners.{first_size, first_sizes}
+use Rattle.lk_sizes.proofs.Made.{any_map, any_or, any_same, filter_alike, made_range, made_same_below, made_whole, map_id, map_map}
+use Rattle.lk_link.proofs.PartNumbers.{first_part-le, first_part-rises}
+use Rattle.lk_link.specs.Marks.{is_marked}
+use Rattle.lk_link.specs.EmitKinds.{is_always}
+use Rattle.lk_link.specs.OutputKinds.{is_partial}
+use Rattle.lk_sizes.specs.Tables.{active_by, in_section}
 
 -- ---- by the contents of the parts
 
--- the contents of a section's parts
-abbrev pub contents_in : Plan → List PartContents → ℕ → List PartContents
-contents_in plan contents s = slice_range contents (first_part plan.sections s) (first_part plan.sections (s + 1))
-
 abbrev pub attributes_by : Plan → List PartContents → ℕ → ℕ
-attributes_by plan contents s = if is_singletons plan s then 0 else fold bit_or (own_attributes plan s) (map (λ c. c.attrs) (contents_in plan contents s))
+attributes_by plan contents s = if is_singletons plan s then 0 else fold bit_or (own_attributes plan s) (map (λ c. c.attrs) (in_section plan.sections s contents))
 
-abbrev pub kept_by : Plan → List PartContents → ℕ → Bool
-kept_by plan contents s = is_always (section_at plan.sections s).emit || list_any part_keeps (contents_in plan contents s)
+abbrev pub kept_by : Plan → List PartContents → List ℕ → ℕ → Bool
+kept_by plan contents sizes s =
+    is_always (section_at plan.sections s).emit || (list_any (λ n. nat_lt 0 n) (in_section plan.sections s sizes) || list_any (λ c. c.has_empty) (in_section plan.sections s contents))
 
 abbrev pub left_by : Plan → List Bool → ℕ → Bool
 left_by plan marks s = is_marked marks s && can_be_emitted plan s
 
 contents_are : (link : LinkInput) (live : Live) (s : ℕ) → s < length link.plan.sections
-    → contents_in link.plan (part_contents link live) s ≡ map (contents_of link live) (parts_of link.plan.sections s)
+    → in_section link.plan.sections s (part_contents link live) ≡ map (contents_of link live) (parts_of link.plan.sections s)
 contents_are link live s below =
     made_range (contents_of link live) (all_parts link.plan.sections) (first_part link.plan.sections s) (first_part link.plan.sections (s + 1))
-    (part_range-le link.plan.sections s below) (first_part-le link.plan.sections (s + 1))
+    (first_part-rises link.plan.sections s) (first_part-le link.plan.sections (s + 1))
 
 attributes_are : (link : LinkInput) (live : Live) (s : ℕ) → s < length link.plan.sections → attributes_by link.plan (part_contents link live) s ≡ section_attributes link live s
 attributes_are link live s below =
-    let all : map (λ c. c.attrs) (contents_in link.plan (part_contents link live) s) ≡ map (part_attributes link live) (parts_of link.plan.sections s) =
+    let all : map (λ c. c.attrs) (in_section link.plan.sections s (part_contents link live)) ≡ map (part_attributes link live) (parts_of link.plan.sections s) =
     ap (map (λ (c : PartContents). c.attrs)) (contents_are link live s below) ∙ map_map (λ (c : PartContents). c.attrs) (contents_of link live) (parts_of link.plan.sections s) in
     ap (λ (attrs : List ℕ). cond (is_singletons link.plan s) 0 (fold bit_or (own_attributes link.plan s) attrs)) all
 
-kept_are : (link : LinkInput) (live : Live) (s : ℕ) → s < length link.plan.sections → kept_by link.plan (part_contents link live) s ≡ is_kept link live s
+sizes_are : (link : LinkInput) (live : Live) (s : ℕ) → s < length link.plan.sections
+    → in_section link.plan.sections s (first_sizes link live) ≡ map (first_size link live) (parts_of link.plan.sections s)
+sizes_are link live s below =
+    made_range (first_size link live) (all_parts link.plan.sections) (first_part link.plan.sections s) (first_part link.plan.sections (s + 1))
+    (first_part-rises link.plan.sections s) (first_part-le link.plan.sections (s + 1))
+
+kept_are : (link : LinkInput) (live : Live) (s : ℕ) → s < length link.plan.sections → kept_by link.plan (part_contents link live) (first_sizes link live) s ≡ is_kept link live s
 kept_are link live s below =
     let parts : List ℕ = parts_of link.plan.sections s in
-    let all : list_any part_keeps (contents_in link.plan (part_contents link live) s) ≡ list_any (keeps_section link live) parts =
-    ap (list_any part_keeps) (contents_are link live s below)
-    ∙ any_map part_keeps (contents_of link live) parts
-    ∙ any_same (λ p. part_keeps (contents_of link live p)) (keeps_section link live) parts (λ p. ap (λ (n : ℕ). nat_lt 0 n || has_empty link live p) (sym (first_is_size link live p))) in
-    ap (λ b. is_always (section_at link.plan.sections s).emit || b) all
+    let bytes : list_any (λ n. nat_lt 0 n) (in_section link.plan.sections s (first_sizes link live)) ≡ list_any (λ p. nat_lt 0 (first_size link live p)) parts =
+    ap (list_any (λ (n : ℕ). nat_lt 0 n)) (sizes_are link live s below) ∙ any_map (λ (n : ℕ). nat_lt 0 n) (first_size link live) parts in
+    let empty : list_any (λ c. c.has_empty) (in_section link.plan.sections s (part_contents link live)) ≡ list_any (has_empty link live) parts =
+    ap (list_any (λ (c : PartContents). c.has_empty)) (contents_are link live s below) ∙ any_map (λ (c : PartContents). c.has_empty) (contents_of link live) parts in
+    ap (λ b. is_always (section_at link.plan.sections s).emit || (b || list_any (λ (c : PartContents). c.has_empty) (in_section link.plan.sections s (part_contents link live)))) bytes
+    ∙ ap (λ b. is_always (section_at link.plan.sections s).emit || (list_any (λ p. nat_lt 0 (first_size link live p)) parts || b)) empty
+    ∙ ap (λ b. is_always (section_at link.plan.sections s).emit || b) (sym (any_or (λ p. nat_lt 0 (first_size link live p)) (has_empty link live) parts))
 
 -- what a pass over all sections makes, by number
 pub whole : {X Y : Type 0} (f : ℕ → Y) (xs : List X) (n : ℕ) → n ≡ length xs → map f (range_with_len 0 n) ≡ map (λ q. f q.0) (enumerate_from 0 xs)
@@ -76,10 +85,10 @@ all_attributes link live n h =
     ∙ made_same_below (attributes_by link.plan (part_contents link live)) (section_attributes link live) link.plan.sections 0 (λ p below. attributes_are link live p (omega (arith, below)))
 
 pub all_kept : (link : LinkInput) (live : Live) (n : ℕ) → n ≡ length link.plan.sections
-    → map (kept_by link.plan (part_contents link live)) (range_with_len 0 n) ≡ by_section (is_kept link live) link
+    → map (kept_by link.plan (part_contents link live) (first_sizes link live)) (range_with_len 0 n) ≡ by_section (is_kept link live) link
 all_kept link live n h =
-    whole (kept_by link.plan (part_contents link live)) link.plan.sections n h
-    ∙ made_same_below (kept_by link.plan (part_contents link live)) (is_kept link live) link.plan.sections 0 (λ p below. kept_are link live p (omega (arith, below)))
+    whole (kept_by link.plan (part_contents link live) (first_sizes link live)) link.plan.sections n h
+    ∙ made_same_below (kept_by link.plan (part_contents link live) (first_sizes link live)) (is_kept link live) link.plan.sections 0 (λ p below. kept_are link live p (omega (arith, below)))
 
 -- ---- primaries
 

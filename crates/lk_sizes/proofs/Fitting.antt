@@ -9,19 +9,19 @@ use Rattle.lk_link.specs.declared.fault.Place.TheVariants.{Part}
 use Rattle.lk_link.specs.declared.link.LinkInput.{LinkInput}
 use Rattle.lk_link.specs.declared.plan.PlanPart.{PlanPart}
 use Rattle.lk_link.specs.Inputs.{Input}
-use Rattle.lk_link.specs.Parts.{all_parts}
+use Rattle.lk_link.specs.Parts.{all_parts, part_at}
 use Rattle.lk_link.specs.Sizes.{capacity}
 use Rattle.lk_link.proofs.Numbers.{length-made, made_at, made_of}
 use Rattle.lk_gc.specs.declared.live.Live.{Live}
-use Rattle.lk_gc.proofs.Among.{at_index, map_in}
 use Rattle.lk_sizes.specs.declared.error.SizeError.TheVariants.{AddressOverflow}
 use Rattle.lk_sizes.specs.declared.owners.PartContents.{PartContents}
 use Rattle.lk_sizes.specs.declared.owners.Total.{Total}
 use Rattle.lk_sizes.specs.Attributes.{part_attributes}
 use Rattle.lk_sizes.specs.Contents.{contents_of, has_empty, part_contents, size_refusal}
-use Rattle.lk_sizes.specs.Owners.{FirstSizesAreSizes, SectionOwner, bytes_of, first_size, live_into, overflowing_part, owner_bytes, part_at, part_size, part_sizes}
+use Rattle.lk_sizes.specs.Owners.{FirstSizesAreSizes, SectionOwner, bytes_of, first_size, live_into, overflowing_part, owner_bytes, part_size, part_sizes}
 use Rattle.lk_sizes.proofs.Made.{made_map, made_same}
 use Rattle.lk_sizes.proofs.Overflowing.{agree_fitting, agree_overflow, overflows_at, overflows_nowhere}
+use Rattle.lk_link.proofs.Elements.{at_index, map_in}
 
 -- what a total says, where its bytes fit
 abbrev pub as_contents : Total → PartContents
@@ -100,7 +100,7 @@ owned part (x ∷ xs) =
     )
 
 pub first_is_size : (link : LinkInput) (live : Live) (p : ℕ) → first_size link live p ≡ part_size link live p
-first_is_size link live p = owned (part_at link p) (live_into link live p)
+first_is_size link live p = owned (part_at link.plan.sections p) (live_into link live p)
 
 pub first_sizes_are_sizes : FirstSizesAreSizes
 first_sizes_are_sizes link live = made_same (first_size link live) (part_size link live) (all_parts link.plan.sections) 0 (first_is_size link live)

@@ -7,6 +7,5 @@ pub mod LiveOnes
 pub mod LiveParts
 pub mod Made
 pub mod Overflowing
-pub mod SectionParts
 pub mod Tiling
 pub mod Walking

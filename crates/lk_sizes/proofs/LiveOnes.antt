@@ -14,7 +14,7 @@ use Rattle.lk_link.specs.WellFormed.{IsWellFormed}
 use Rattle.lk_gc.specs.declared.live.Live.{Live}
 use Rattle.lk_gc.specs.Reach.{AreLive, IsLive, live_inputs, marked}
 use Rattle.lk_gc.proofs.Numbered.{file_of_input, one_place}
-use Rattle.lk_sizes.specs.Owners.{SectionOwner, is_section}
+use Rattle.lk_sizes.specs.Owners.{SectionOwner, owns}
 
 -- ---- each is one of the link's
 
@@ -101,8 +101,8 @@ in_front [] y ys h = tt
 in_front (x ∷ xs) y ys h = (behind (Differ x) xs y ys h.0, in_front xs y ys h.1)
 
 -- what differs isn't taken for the other
-pub not_section : (x y : Input) → Differ x y → is_section y (SectionOwner x) ≡ false
-not_section x y differ = false_from_ne_true (is_section y (SectionOwner x)) (λ taken.
+pub not_section : (x y : Input) → Differ x y → owns y (SectionOwner x) ≡ false
+not_section x y differ = false_from_ne_true (owns y (SectionOwner x)) (λ taken.
     let both = and_parts (x.file.group == y.file.group && x.file.file == y.file.file) (x.index == y.index) taken in
     let ids = and_parts (x.file.group == y.file.group) (x.file.file == y.file.file) both.0 in
     let group : x.file.group ≡ y.file.group = eqb-true x.file.group y.file.group ids.0 in

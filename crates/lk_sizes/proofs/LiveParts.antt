@@ -9,17 +9,16 @@ use Rattle.lk_link.specs.declared.walks.InputRef.{InputRef}
 use Rattle.lk_link.specs.Inputs.{Input}
 use Rattle.lk_link.specs.Walks.{input_of}
 use Rattle.lk_link.specs.Alignments.{is_alignment}
-use Rattle.lk_link.specs.Parts.{all_parts}
+use Rattle.lk_link.specs.Parts.{all_parts, part_at}
 use Rattle.lk_link.specs.WellFormed.{IsWellFormed}
 use Rattle.lk_gc.specs.declared.live.Live.{Live}
 use Rattle.lk_gc.specs.Reach.{AreLive, live_inputs}
 use Rattle.lk_gc.proofs.LiveWalk.{turn}
-use Rattle.lk_sizes.specs.Owners.{part_at}
 use Rattle.lk_sizes.proofs.LiveOnes.{live_goes}
 use Rattle.lk_sizes.proofs.Tiling.{part_is_aligned}
 
 -- a part that is read is the part with that number
-pub read_part : (link : LinkInput) (parts : List PlanPart) (p : ℕ) (d : PlanPart) → parts ≡ all_parts link.plan.sections → p < length parts → slice_index_or parts p d ≡ part_at link p
+pub read_part : (link : LinkInput) (parts : List PlanPart) (p : ℕ) (d : PlanPart) → parts ≡ all_parts link.plan.sections → p < length parts → slice_index_or parts p d ≡ part_at link.plan.sections p
 read_part link parts p d all below =
     get_or_default parts p d (record { alignment = 1; packed = false }) below
     ∙ ap (λ (ps : List PlanPart). slice_index_or ps p (record { alignment = 1; packed = false })) all

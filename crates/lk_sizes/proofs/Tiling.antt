@@ -12,12 +12,12 @@ use Rattle.lk_link.specs.declared.plan.PlanPart.{PlanPart}
 use Rattle.lk_link.specs.Alignments.{is_alignment}
 use Rattle.lk_link.specs.Inputs.{Input}
 use Rattle.lk_link.proofs.GoodLinks.{part_aligned}
-use Rattle.lk_link.specs.Parts.{all_parts}
+use Rattle.lk_link.specs.Parts.{all_parts, part_at}
 use Rattle.lk_link.proofs.Powers.{alignment-pos}
 use Rattle.lk_link.specs.Sizes.{capacity}
 use Rattle.lk_link.proofs.Starts.{next_multiple_is_least}
 use Rattle.lk_link.specs.WellFormed.{IsWellFormed}
-use Rattle.lk_sizes.specs.Owners.{Owner, SectionOwner, live_into, owner_address, owner_bytes, owners_of, bytes_of, part_at}
+use Rattle.lk_sizes.specs.Owners.{Owner, SectionOwner, live_into, owner_address, owner_bytes, owners_of, bytes_of}
 use Rattle.lk_sizes.specs.Tiles.{HasByte, IsTiled, OwnersTileTheirPart, OwnersAreAligned}
 
 -- an owner behind the first stands where it stands in the rest, counted from the end of the first
@@ -84,18 +84,18 @@ pub tiles : (start : ℕ) (part : PlanPart) (owners : List Owner) → IsTiled st
 tiles start part owners = record { inside = inside start part owners; covered = covered start part owners; apart = apart start part owners }
 
 pub owners_tile : OwnersTileTheirPart
-owners_tile link live p start = tiles start (part_at link p) (owners_of link live p)
+owners_tile link live p start = tiles start (part_at link.plan.sections p) (owners_of link live p)
 
 -- ---- alignment
 
 -- each part has an alignment, and so has what stands where there is none
-pub part_is_aligned : (link : LinkInput) (p : ℕ) → IsWellFormed link → is_alignment (part_at link p).alignment ≡ true
+pub part_is_aligned : (link : LinkInput) (p : ℕ) → IsWellFormed link → is_alignment (part_at link.plan.sections p).alignment ≡ true
 unfolding is_alignment
 part_is_aligned link p h =
     let parts : List PlanPart = all_parts link.plan.sections in
     let none : PlanPart = record { alignment = 1; packed = false } in
     elim (cases_lt p (length parts)) [
-      | inl within ↦ part_aligned link p (part_at link p) h (slice_get-get_or parts p none within)
+      | inl within ↦ part_aligned link p (part_at link.plan.sections p) h (slice_get-get_or parts p none within)
       | inr past ↦ ap (λ (q : PlanPart). is_alignment q.alignment) (get_or_past parts p none past)
     ]
 
@@ -114,4 +114,4 @@ aligned part (x ∷ xs) (suc k) h i =
 
 pub owners_are_aligned : OwnersAreAligned
 owners_are_aligned link live p k good unpacked =
-    aligned (part_at link p) (live_into link live p) k unpacked (alignment-pos (part_at link p).alignment (part_is_aligned link p good))
+    aligned (part_at link.plan.sections p) (live_into link live p) k unpacked (alignment-pos (part_at link.plan.sections p).alignment (part_is_aligned link p good))

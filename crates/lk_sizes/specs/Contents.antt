@@ -10,7 +10,7 @@ use Rattle.lk_sizes.specs.declared.error.SizeError.{SizeError}
 use Rattle.lk_sizes.specs.declared.error.SizeError.TheVariants.{AddressOverflow, NoMemory}
 use Rattle.lk_sizes.specs.declared.owners.PartContents.{PartContents}
 use Rattle.lk_sizes.specs.Attributes.{part_attributes}
-use Rattle.lk_sizes.specs.Owners.{by_part, live_into, overflowing_part, part_size, part_sizes}
+use Rattle.lk_sizes.specs.Owners.{by_part, first_sizes, live_into, overflowing_part, part_size, part_sizes}
 
 -- whether a section would keep its output section without bytes: it has none, and isn't debug data
 abbrev pub keeps_empty : Input → Bool
@@ -31,6 +31,11 @@ contents_of link live p = record {
 -- what they bring to each part
 abbrev pub part_contents : LinkInput → Live → List PartContents
 part_contents link live = by_part (contents_of link live) link
+
+-- all is what the live sections bring to each part, and sizes are the first sizes of the parts
+pub record AreBrought (link : LinkInput) (live : Live) (all : List PartContents) (sizes : List ℕ) : Type 0 where
+  pub contents : all ≡ part_contents link live
+  pub first : sizes ≡ first_sizes link live
 
 -- the first part at which the sizes pass 2^64 - 1 together is refused
 abbrev pub size_refusal : LinkInput → Live → Option SizeError

@@ -1,39 +1,24 @@
 -- Which output sections are emitted, and which segments are active.
-use Rattle.std.specs.Prelude.{ℕ, ◌==◌, ◌&&◌, ◌||◌, not, Bool, true, false, List, Option, filter, map, nat_lt}
-use Rattle.std.specs.List.{enumerate_from, filter_map, list_any, position, slice_index_or}
+use Rattle.std.specs.Prelude.{ℕ, ◌==◌, ◌&&◌, ◌||◌, not, Bool, List, Option, filter, map, nat_lt}
+use Rattle.std.specs.List.{enumerate_from, filter_map, list_any, position}
 use Rattle.lk_link.specs.declared.link.LinkInput.{LinkInput}
-use Rattle.lk_link.specs.declared.options.OutputKind.{OutputKind}
-use Rattle.lk_link.specs.declared.options.OutputKind.TheVariants.{Partial}
-use Rattle.lk_link.specs.declared.plan.Emit.{Emit}
-use Rattle.lk_link.specs.declared.plan.Emit.TheVariants.{Always, Never}
 use Rattle.lk_link.specs.declared.plan.OrderEvent.{OrderEvent}
 use Rattle.lk_link.specs.declared.plan.Plan.{Plan}
+use Rattle.lk_link.specs.EmitKinds.{is_always, is_never}
 use Rattle.lk_link.specs.Inside.{placed_section, sections_inside}
+use Rattle.lk_link.specs.OutputKinds.{is_partial}
 use Rattle.lk_link.specs.PlanSections.{is_singletons, primary_of, section_at}
 use Rattle.lk_link.specs.SegmentKinds.{is_stack, segment_at}
 use Rattle.lk_gc.specs.declared.live.Live.{Live}
-use Rattle.lk_sizes.specs.declared.owners.PartContents.{PartContents}
 use Rattle.lk_sizes.specs.Attributes.{parts_of}
 use Rattle.lk_sizes.specs.Contents.{has_empty}
 use Rattle.lk_sizes.specs.Owners.{first_size}
 
 -- ---- sections
 
-abbrev pub is_always : Emit → Bool
-is_always Always = true
-is_always _ = false
-
-abbrev pub is_never : Emit → Bool
-is_never Never = true
-is_never _ = false
-
 -- whether a part keeps its section: by bytes, or by a live section without bytes
 abbrev pub keeps_section : LinkInput → Live → ℕ → Bool
 keeps_section link live p = nat_lt 0 (first_size link live p) || has_empty link live p
-
--- the same, by what the live sections bring to it
-abbrev pub part_keeps : PartContents → Bool
-part_keeps c = nat_lt 0 c.bytes || c.has_empty
 
 -- whether an output section is kept: the plan always emits it, or one of its parts keeps it
 abbrev pub is_kept : LinkInput → Live → ℕ → Bool
@@ -49,10 +34,6 @@ is_emitted link live s =
     list_any (λ q. primary_of link.plan.sections q.0 == s && is_kept link live q.0) (enumerate_from 0 link.plan.sections)
     && can_be_emitted link.plan s
 
--- whether a section has a mark
-abbrev pub is_marked : List Bool → ℕ → Bool
-is_marked marks s = slice_index_or marks s false
-
 -- the sections that events place, in order
 abbrev pub event_sections : List OrderEvent → List ℕ
 event_sections events = filter_map placed_section events
@@ -62,11 +43,6 @@ abbrev pub output_index : LinkInput → Live → ℕ → Option ℕ
 output_index link live s = position (λ t. t == s) (filter (is_emitted link live) (event_sections link.plan.events))
 
 -- ---- segments
-
--- an object file again
-abbrev pub is_partial : OutputKind → Bool
-is_partial Partial = true
-is_partial _ = false
 
 -- whether a segment is told, by the sections for which something holds: none is in partial output; else each where program headers
 -- were asked for, one that always is, one for the stack, and one with such a section inside
@@ -79,10 +55,6 @@ is_told link some i =
 -- whether it is active: told by the emitted sections
 abbrev pub is_active : LinkInput → Live → ℕ → Bool
 is_active link live i = is_told link (is_emitted link live) i
-
--- the same by marks of emitted sections
-abbrev pub active_by : LinkInput → List Bool → ℕ → Bool
-active_by link emitted i = is_told link (is_marked emitted) i
 
 -- the active segments, in rising order
 abbrev pub active_segments : LinkInput → Live → List ℕ

@@ -5,14 +5,10 @@ use Rattle.lk_link.specs.declared.link.LinkInput.{LinkInput}
 use Rattle.lk_link.specs.declared.plan.PlanPart.{PlanPart}
 use Rattle.lk_link.specs.Files.{first_some}
 use Rattle.lk_link.specs.Inputs.{Input}
-use Rattle.lk_link.specs.Parts.{all_parts}
+use Rattle.lk_link.specs.Parts.{all_parts, part_at}
 use Rattle.lk_link.specs.Sizes.{capacity}
 use Rattle.lk_gc.specs.declared.live.Live.{Live}
 use Rattle.lk_gc.specs.Reach.{live_inputs}
-
--- the part with this number
-abbrev pub part_at : LinkInput → ℕ → PlanPart
-part_at link p = slice_index_or (all_parts link.plan.sections) p (record { alignment = 1; packed = false })
 
 -- those of some input sections that go to a part
 abbrev pub into : ℕ → List Input → List Input
@@ -47,32 +43,29 @@ owner_address start part owners k = start + bytes_of part (take k owners)
 -- ---- addresses of live sections
 
 -- whether an owner is this input section
-abbrev pub is_section : Input → Owner → Bool
-is_section x (SectionOwner y) = y.file.group == x.file.group && y.file.file == x.file.file && y.index == x.index
+abbrev pub owns : Input → Owner → Bool
+owns x (SectionOwner y) = y.file.group == x.file.group && y.file.file == x.file.file && y.index == x.index
 
 -- how many owners of its part stand before a live section
 abbrev pub owner_number : LinkInput → Live → Input → ℕ
-owner_number link live x = position_or_len (is_section x) (owners_of link live x.section.part)
+owner_number link live x = position_or_len (owns x) (owners_of link live x.section.part)
 
 -- a live section's address, by the starts of all parts in memory
 abbrev pub live_address : LinkInput → Live → List ℕ → Input → ℕ
 live_address link live starts x =
     let p = x.section.part in
-    owner_address (slice_index starts p) (part_at link p) (owners_of link live p) (owner_number link live x)
-
--- those of all live sections, in order
-abbrev pub live_addresses : LinkInput → Live → List ℕ → List ℕ
-live_addresses link live starts = map (live_address link live starts) (live_inputs link live)
+    owner_address (slice_index starts p) (part_at link.plan.sections p) (owners_of link live p) (owner_number link live x)
 
 -- each part ends below 2^64
 abbrev pub EndsFit : LinkInput → Live → List ℕ → Type 0
-EndsFit link live starts = (p : ℕ) → p < length starts → slice_index starts p + bytes_of (part_at link p) (owners_of link live p) < 2 ^ 64
+EndsFit link live starts = (p : ℕ) → p < length starts
+    → slice_index starts p + bytes_of (part_at link.plan.sections p) (owners_of link live p) < 2 ^ 64
 
 -- ---- sizes
 
 -- a part's size is the sum of its owners' bytes
 abbrev pub part_size : LinkInput → Live → ℕ → ℕ
-part_size link live p = bytes_of (part_at link p) (owners_of link live p)
+part_size link live p = bytes_of (part_at link.plan.sections p) (owners_of link live p)
 
 -- what is made for each part by its number
 abbrev pub by_part : {X : Type 0} → (ℕ → X) → LinkInput → List X
@@ -84,7 +77,7 @@ part_sizes link live = by_part (part_size link live) link
 
 -- the size that tells whether a part keeps its section: what its live sections take with the sizes that they have in the description
 abbrev pub first_size : LinkInput → Live → ℕ → ℕ
-first_size link live p = sum_by (λ x. capacity (part_at link p) x.section.size) (live_into link live p)
+first_size link live p = sum_by (λ x. capacity (part_at link.plan.sections p) x.section.size) (live_into link live p)
 
 -- those of all parts
 abbrev pub first_sizes : LinkInput → Live → List ℕ

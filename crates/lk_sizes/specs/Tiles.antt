@@ -5,7 +5,8 @@ use Rattle.lk_link.specs.declared.link.LinkInput.{LinkInput}
 use Rattle.lk_link.specs.declared.plan.PlanPart.{PlanPart}
 use Rattle.lk_link.specs.WellFormed.{IsWellFormed}
 use Rattle.lk_gc.specs.declared.live.Live.{Live}
-use Rattle.lk_sizes.specs.Owners.{Owner, owner_address, owner_bytes, owners_of, bytes_of, part_at}
+use Rattle.lk_sizes.specs.Owners.{Owner, owner_address, owner_bytes, owners_of, bytes_of}
+use Rattle.lk_link.specs.Parts.{part_at}
 
 -- owner k has the byte at this address
 pub record HasByte (start : ℕ) (part : PlanPart) (owners : List Owner) (k : ℕ) (address : ℕ) : Type 0 where
@@ -22,9 +23,9 @@ pub record IsTiled (start : ℕ) (part : PlanPart) (owners : List Owner) : Type 
 
 -- the owners of each part tile it, wherever it starts
 abbrev pub OwnersTileTheirPart : Type 0
-OwnersTileTheirPart = (link : LinkInput) (live : Live) (p start : ℕ) → IsTiled start (part_at link p) (owners_of link live p)
+OwnersTileTheirPart = (link : LinkInput) (live : Live) (p start : ℕ) → IsTiled start (part_at link.plan.sections p) (owners_of link live p)
 
 -- where a part isn't packed, each owner stands at a multiple of the alignment from the part's start
 abbrev pub OwnersAreAligned : Type 0
-OwnersAreAligned = (link : LinkInput) (live : Live) (p k : ℕ) → IsWellFormed link → (part_at link p).packed ≡ false
-    → (part_at link p).alignment ∣ bytes_of (part_at link p) (take k (owners_of link live p))
+OwnersAreAligned = (link : LinkInput) (live : Live) (p k : ℕ) → IsWellFormed link → (part_at link.plan.sections p).packed ≡ false
+    → (part_at link.plan.sections p).alignment ∣ bytes_of (part_at link.plan.sections p) (take k (owners_of link live p))

@@ -1,4 +1,4 @@
-//! The addresses of live sections.
+//! The live sections with their addresses.
 //!
 //! The owners of a part stand one behind the other from the part's start. A table holds the next address of each part, at
 //! first the start; one pass over the live sections gives each the next address of its part, which moves on by the bytes
@@ -10,34 +10,53 @@ ghost use Rattle.lk_link.specs.Parts.{all_parts};
 ghost use Rattle.lk_link.specs.Sizes.{capacity};
 ghost use Rattle.lk_link.specs.WellFormed.{IsWellFormed};
 ghost use Rattle.lk_gc.specs.Reach.{AreLive};
-ghost use Rattle.lk_sizes.specs.Owners.{EndsFit, live_addresses as live_addresses_of};
+ghost use Rattle.lk_sizes.specs.LiveSections.{live_sections};
+ghost use Rattle.lk_sizes.specs.Owners.{EndsFit};
 
 use lk_gc::Live;
-use lk_link::{InputSection, LinkInput, PlanPart, Section};
+use lk_link::{FileId, InputSection, LinkInput, PlanPart, Section};
 use std::alloc::{AllocError, Global};
 
-/// The address of each live section, in order, by where the parts start in memory. Looks at each input section once, with a
-/// table of the next address of each part (libwild: `ObjectLayoutState::finalise_layout`).
-pub fn live_addresses(
+/// A live section, with the address that it gets.
+#[derive(Clone, Copy, Debug, PartialEq, Eq)]
+pub struct LiveSection {
+    pub file: FileId,
+    /// Its index in the file.
+    pub index: usize,
+    /// The address of its first byte.
+    pub address: u64,
+    /// Bytes.
+    pub size: u64,
+}
+
+/// The live sections by file and index, with their addresses, by where the parts start in memory. Looks at each input
+/// section once; the list of starts becomes the table of the next addresses (libwild: `ObjectLayoutState::finalise_layout`).
+pub fn live_sections(
     alloc: Global,
     link: &LinkInput,
     live: &Live,
-    starts: &[u64],
-) -> Result<Vec<u64>, AllocError>
+    starts: Vec<u64>,
+) -> Result<Vec<LiveSection>, AllocError>
     requires good { IsWellFormed link.now }
     requires live { AreLive link.now live.now }
-    requires starts { length starts.now ≡ length (all_parts link.now.plan.sections) }
-    requires fit { EndsFit link.now live.now starts.now }
-    ensures { IfOk result (λ addresses. addresses.items ≡ live_addresses_of link.now live.now starts.now) }
+    requires starts { length starts.items ≡ length (all_parts link.now.plan.sections) }
+    requires fit { EndsFit link.now live.now starts.items }
+    ensures { IfOk result (λ sections. sections.items ≡ live_sections link.now live.now starts.items) }
 {
     let parts = link.plan.sections.parts();
-    let mut next = Vec::from_slice(alloc, starts)?;
-    let mut addresses = Vec::with_capacity(alloc, live.marks.len())?;
+    let mut next = starts;
+    let mut sections = Vec::with_capacity(alloc, live.marks.len())?;
     for input in live.inputs(link) {
         let part = input.section.part.as_usize();
-        addresses.push(take_next(&mut next[part], &parts[part], input.section))?;
+        let address = take_next(&mut next[part], &parts[part], input.section);
+        sections.push(LiveSection {
+            file: input.file,
+            index: input.index,
+            address,
+            size: input.section.size,
+        })?;
     }
-    Ok(addresses)
+    Ok(sections)
 }
 
 /// The next address of a part, which moves on by the bytes that the section takes there.

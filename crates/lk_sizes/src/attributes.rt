@@ -1,14 +1,14 @@
 //! The attributes of output sections: those that the plan gives them, with those of the live sections that go to their parts.
 
-ghost use Rattle.std.specs.Prelude.{◌≡◌, ◌+◌, ◌<◌, fold, if◌then◌else◌, length, map, bit_or, slice_range, IfOk};
-ghost use Rattle.lk_link.specs.Parts.{all_parts, first_part};
+ghost use Rattle.std.specs.Prelude.{◌≡◌, ◌<◌, fold, if◌then◌else◌, length, map, bit_or, IfOk};
+ghost use Rattle.lk_link.specs.Parts.{all_parts};
 ghost use Rattle.lk_link.specs.PlanSections.{is_singletons, own_attributes};
 ghost use Rattle.lk_link.specs.WellFormed.{IsWellFormed};
 ghost use Rattle.lk_gc.specs.declared.live.Live.{Live};
 ghost use Rattle.lk_sizes.specs.Attributes.{all_section_attributes};
 ghost use Rattle.lk_sizes.specs.Contents.{part_contents};
+ghost use Rattle.lk_sizes.specs.Tables.{in_section};
 
-use crate::header::is_singletons;
 use crate::owners::PartContents;
 use lk_link::{LinkInput, OutputSectionId, Plan};
 use std::alloc::{AllocError, Global};
@@ -25,14 +25,14 @@ fn join(attrs: u32, parts: &[PartContents]) -> u32
 }
 
 /// The attributes of an output section, by what its parts' live sections bring.
-#[tactic(auto, using(crate::proofs::SectionParts::section_parts_facts))]
+#[tactic(auto, using(lk_link::proofs::PartNumbers::part_numbers))]
 fn section_attributes(plan: &Plan, section: OutputSectionId, contents: &[PartContents]) -> u32
     requires within { section < length plan.now.sections }
     requires count { length contents.now ≡ length (all_parts plan.now.sections) }
-    ensures { result ≡ (if is_singletons plan.now section then 0 else fold bit_or (own_attributes plan.now section) (map (λ c. c.attrs)
-        (slice_range contents.now (first_part plan.now.sections section) (first_part plan.now.sections (section + 1))))) }
+    ensures { result ≡ (if is_singletons plan.now section then 0
+        else fold bit_or (own_attributes plan.now section) (map (λ c. c.attrs) (in_section plan.now.sections section contents.now))) }
 {
-    if is_singletons(plan, section) {
+    if plan.is_singletons(section) {
         return 0;
     }
     let (first, behind) = plan.sections.part_range(section.as_usize());

@@ -1,28 +1,43 @@
 //! Which output sections are emitted, their indexes in the output, and which segments are active.
 //!
-//! Each step is a pass: which sections are kept, by what the live sections bring to their parts; the marks of secondary
-//! sections move to their primaries, and sections that the plan never emits lose theirs; the marked ones are numbered in
-//! the order in which events place them; a segment is active where the plan asks for it, for the stack, and where an
-//! emitted section stands inside.
+//! What is told of a section may depend on whether anything went into it: an output file has no header for a section that
+//! stayed empty, unless the plan wants one. Each step is a pass over the plan.
+//!
+//! First, which sections are kept: those that the plan always emits, and those with a part that has bytes by its first
+//! size, or a live section without bytes that isn't debug data. The first sizes go by the input sections as they are
+//! described: whether a section is emitted must be known before later steps, which may change sizes, can run. Then the
+//! marks of secondary sections move to their primaries, since both stand in the output as one section, and sections that
+//! the plan never emits lose theirs, as does the section of singletons, whose input sections are told one by one. The
+//! marked ones are numbered in the order in which events place them; a section that no event places has no index.
+//!
+//! At last the active segments, which are those with a header. Where the program headers were asked for, every segment has
+//! one, since the plan then says what the headers are. Else it is those that the plan always wants, those for the stack,
+//! which has no sections inside, and those in which an emitted section stands. Partial output, which is linked again
+//! before anything loads it, has none.
 
-ghost use Rattle.std.specs.Prelude.{◌≡◌, ◌==◌, ◌&&◌, ◌||◌, ◌<◌, ◌≤◌, ◌^◌, ◌+◌, ◌++◌, ◌∷◌, [], ℕ, All, Some, None, IfOk, OnOk, filter, if◌then◌else◌, length, map, not, slice_range};
+ghost use Rattle.std.specs.Prelude.{◌≡◌, ◌==◌, ◌&&◌, ◌||◌, ◌<◌, ◌≤◌, ◌^◌, ◌+◌, ◌++◌, ◌∷◌, [], ℕ, All, Some, None, IfOk, OnOk, filter, if◌then◌else◌, length, map, nat_lt, not};
 ghost use Rattle.std.specs.List.{enumerate_from, list_any, position_from, slice_index_or};
 ghost use Rattle.lk_link.specs.Files.{first_some};
+ghost use Rattle.lk_link.specs.EmitKinds.{is_always};
 ghost use Rattle.lk_link.specs.Inside.{segment_insides};
-ghost use Rattle.lk_link.specs.Parts.{all_parts, first_part};
-ghost use Rattle.lk_link.specs.PlanSections.{is_singletons, primary_of, section_at};
+ghost use Rattle.lk_link.specs.Marks.{is_marked};
+ghost use Rattle.lk_link.specs.OutputKinds.{is_partial};
+ghost use Rattle.lk_link.specs.Parts.{all_parts};
+ghost use Rattle.lk_link.specs.PlanSections.{primary_of, section_at};
 ghost use Rattle.lk_link.specs.SegmentKinds.{is_stack};
 ghost use Rattle.lk_link.specs.WellFormed.{IsInRange, IsWellFormed};
 ghost use Rattle.lk_gc.specs.declared.live.Live.{Live};
 ghost use Rattle.lk_sizes.specs.Attributes.{by_section};
-ghost use Rattle.lk_sizes.specs.Contents.{part_contents};
-ghost use Rattle.lk_sizes.specs.Emitted.{active_by, can_be_emitted, event_sections, is_always, is_emitted, is_kept, is_marked, is_never, is_partial, part_keeps};
+ghost use Rattle.lk_sizes.specs.Emitted.{can_be_emitted, event_sections, is_emitted, is_kept};
 ghost use Rattle.lk_sizes.specs.Header.{header_info};
+ghost use Rattle.lk_sizes.specs.Tables.{active_by, in_section};
+ghost use Rattle.lk_sizes.specs.Contents.{AreBrought};
 
 use crate::owners::PartContents;
+use lk_link::limits::{EVENTS, SEGMENTS};
+use lk_link::marks::is_marked;
 use lk_link::{
-    Emit, LinkInput, List, OrderEvent, OutputKind, OutputSectionId, Plan, PlanSections,
-    PlanSegment, SegmentId,
+    LinkInput, List, OrderEvent, OutputSectionId, Plan, PlanSections, PlanSegment, SegmentId,
 };
 use std::alloc::{AllocError, Global};
 
@@ -37,18 +52,24 @@ pub struct HeaderInfo {
     pub active_segment_ids: List<SegmentId>,
 }
 
-/// What the headers tell, by what the live sections bring to the parts (libwild: `determine_header_sizes`). Looks at each
-/// section and its parts once, and at each event once for the sections and once for each segment.
+/// What the headers tell, by what the live sections bring to the parts, and the first sizes of the parts in bytes (libwild:
+/// `determine_header_sizes`). Looks at each section and its parts once, and at each event once for the sections and once for
+/// each segment.
 pub fn determine_header_sizes(
     alloc: Global,
     link: &LinkInput,
     contents: &[PartContents],
+    first_sizes: &[u64],
 ) -> Result<HeaderInfo, AllocError>
     requires good { IsWellFormed link.now }
     requires count { length contents.now ≡ length (all_parts link.now.plan.sections) }
-    ensures { (live : Live) → contents.now ≡ part_contents link.now live → IfOk result (λ header. header ≡ header_info link.now live) }
+    requires sizes { length first_sizes.now ≡ length (all_parts link.now.plan.sections) }
+    ensures header { (live : Live) → AreBrought link.now live contents.now first_sizes.now
+        → IfOk result (λ header. header ≡ header_info link.now live) }
+    ensures marks { (live : Live) → AreBrought link.now live contents.now first_sizes.now
+        → IfOk result (λ header. is_marked header.emitted ≡ is_emitted link.now live) }
 {
-    let emitted = mark_emitted(alloc, link, contents)?;
+    let emitted = mark_emitted(alloc, link, contents, first_sizes)?;
     let indexes = index_emitted(alloc, &link.plan, &emitted)?;
     let insides = link.plan.sections_of_segments(alloc)?;
     let active = find_active(alloc, link, &emitted, &insides)?;
@@ -59,21 +80,18 @@ pub fn determine_header_sizes(
     })
 }
 
-/// Whether the input sections of an output section stay output sections of their own.
-pub(crate) fn is_singletons(plan: &Plan, section: OutputSectionId) -> bool
-    ensures { result ≡ is_singletons plan.now section }
+/// Whether a part has bytes, by these sizes.
+fn have_bytes(sizes: &[u64]) -> bool
+    ensures { result ≡ list_any (λ n. nat_lt 0 n) sizes.now }
 {
-    match plan.singletons {
-        Some(singletons) => singletons.as_u32() == section.as_u32(),
-        None => false,
-    }
+    sizes.iter().any(|size| *size > 0)
 }
 
-/// Whether one of these parts keeps its section: by bytes, or by a live section without bytes.
-fn keep_section(parts: &[PartContents]) -> bool
-    ensures { result ≡ list_any part_keeps parts.now }
+/// Whether a live section without bytes goes to one of these parts.
+fn have_empty(parts: &[PartContents]) -> bool
+    ensures { result ≡ list_any (λ c. c.has_empty) parts.now }
 {
-    parts.iter().any(|part| part.bytes > 0 || part.has_empty)
+    parts.iter().any(|part| part.has_empty)
 }
 
 /// For each output section, whether it is emitted.
@@ -81,30 +99,34 @@ fn mark_emitted(
     alloc: Global,
     link: &LinkInput,
     contents: &[PartContents],
+    first_sizes: &[u64],
 ) -> Result<Vec<bool>, AllocError>
     requires good { IsWellFormed link.now }
     requires count { length contents.now ≡ length (all_parts link.now.plan.sections) }
+    requires sizes { length first_sizes.now ≡ length (all_parts link.now.plan.sections) }
     ensures count { IfOk result (λ emitted. length emitted.items ≡ length link.now.plan.sections) }
-    ensures emitted { (live : Live) → contents.now ≡ part_contents link.now live
+    ensures emitted { (live : Live) → AreBrought link.now live contents.now first_sizes.now
         → IfOk result (λ emitted. emitted.items ≡ by_section (is_emitted link.now live) link.now) }
 {
-    let kept = mark_kept(alloc, link, contents)?;
+    let kept = mark_kept(alloc, link, contents, first_sizes)?;
     let marks = mark_primaries(alloc, &link.plan.sections, &kept)?;
     let emitted = leave_out(alloc, &link.plan, &marks)?;
     Ok(emitted)
 }
 
 /// Whether an output section is kept: the plan always emits it, or one of its parts keeps it.
-#[tactic(auto, using(crate::proofs::SectionParts::section_parts_facts))]
-fn is_kept(plan: &Plan, section: usize, contents: &[PartContents]) -> bool
+#[tactic(auto, using(lk_link::proofs::PartNumbers::part_numbers))]
+fn is_kept(plan: &Plan, section: usize, contents: &[PartContents], first_sizes: &[u64]) -> bool
     requires within { section < length plan.now.sections }
     requires count { length contents.now ≡ length (all_parts plan.now.sections) }
-    ensures { result ≡ (is_always (section_at plan.now.sections section).emit || list_any part_keeps
-        (slice_range contents.now (first_part plan.now.sections section) (first_part plan.now.sections (section + 1)))) }
+    requires sizes { length first_sizes.now ≡ length (all_parts plan.now.sections) }
+    ensures { result ≡ (is_always (section_at plan.now.sections section).emit
+        || (list_any (λ n. nat_lt 0 n) (in_section plan.now.sections section first_sizes.now)
+        || list_any (λ c. c.has_empty) (in_section plan.now.sections section contents.now))) }
 {
     let (first, behind) = plan.sections.part_range(section);
-    let always = matches!(plan.sections.as_slice()[section].emit, Emit::Always);
-    always || keep_section(&contents[first..behind])
+    let emit = plan.sections.as_slice()[section].emit;
+    emit.is_always() || have_bytes(&first_sizes[first..behind]) || have_empty(&contents[first..behind])
 }
 
 /// For each output section, whether it is kept.
@@ -112,16 +134,18 @@ fn mark_kept(
     alloc: Global,
     link: &LinkInput,
     contents: &[PartContents],
+    first_sizes: &[u64],
 ) -> Result<Vec<bool>, AllocError>
-    requires { length contents.now ≡ length (all_parts link.now.plan.sections) }
+    requires count { length contents.now ≡ length (all_parts link.now.plan.sections) }
+    requires sizes { length first_sizes.now ≡ length (all_parts link.now.plan.sections) }
     ensures count { IfOk result (λ kept. length kept.items ≡ length link.now.plan.sections) }
-    ensures kept { (live : Live) → contents.now ≡ part_contents link.now live
+    ensures kept { (live : Live) → AreBrought link.now live contents.now first_sizes.now
         → IfOk result (λ kept. kept.items ≡ by_section (is_kept link.now live) link.now) }
 {
     let plan = &link.plan;
     let mut kept = Vec::with_capacity(alloc, plan.sections.len())?;
     for number in 0..plan.sections.len() {
-        kept.push(is_kept(plan, number, contents))?;
+        kept.push(is_kept(plan, number, contents, first_sizes))?;
     }
     Ok(kept)
 }
@@ -175,7 +199,7 @@ fn stays(plan: &Plan, section: OutputSectionId, marks: &[bool]) -> bool
     requires { section < length plan.now.sections }
     ensures { result ≡ (is_marked marks.now section && can_be_emitted plan.now section) }
 {
-    is_marked(marks, section) && can_be_emitted(plan, section)
+    is_marked(marks, section.as_usize()) && can_be_emitted(plan, section)
 }
 
 /// Whether a section can be emitted: the plan doesn't say never, and it isn't that of singletons.
@@ -184,14 +208,7 @@ fn can_be_emitted(plan: &Plan, section: OutputSectionId) -> bool
     ensures { result ≡ can_be_emitted plan.now section }
 {
     let emit = plan.sections.as_slice()[section.as_usize()].emit;
-    !is_never(emit) && !is_singletons(plan, section)
-}
-
-/// Whether a section is never emitted.
-fn is_never(emit: Emit) -> bool
-    ensures { result ≡ is_never emit }
-{
-    matches!(emit, Emit::Never)
+    !emit.is_never() && !plan.is_singletons(section)
 }
 
 /// Gives an emitted section its index, if it has none yet.
@@ -214,7 +231,7 @@ fn index_emitted(
     emitted: &[bool],
 ) -> Result<Vec<Option<u32>>, AllocError>
     requires each { length emitted.now ≡ length plan.now.sections }
-    requires few { length plan.now.events ≤ 262144 }
+    requires few { length plan.now.events ≤ EVENTS }
     requires events { All (IsInRange plan.now) plan.now.events }
     ensures count { IfOk result (λ indexes. length indexes.items ≡ length plan.now.sections) }
     ensures indexes { IfOk result (λ indexes. (s : ℕ) → s < length plan.now.sections → slice_index_or indexes.items s None
@@ -233,28 +250,11 @@ fn index_emitted(
     Ok(indexes)
 }
 
-/// Whether a section has a mark.
-fn is_marked(marks: &[bool], section: OutputSectionId) -> bool
-    ensures { result ≡ is_marked marks.now section }
-{
-    match marks.get(section.as_usize()) {
-        Some(mark) => *mark,
-        None => false,
-    }
-}
-
 /// Whether one of these sections has a mark.
 fn any_marked(marks: &[bool], sections: &[OutputSectionId]) -> bool
     ensures { result ≡ list_any (is_marked marks.now) sections.now }
 {
-    sections.iter().any(|section| is_marked(marks, *section))
-}
-
-/// Whether an object file is made again.
-fn is_partial(output: OutputKind) -> bool
-    ensures { result ≡ is_partial output }
-{
-    matches!(output, OutputKind::Partial)
+    sections.iter().any(|section| is_marked(marks, section.as_usize()))
 }
 
 /// Whether a segment with these sections inside is active.
@@ -267,7 +267,7 @@ fn is_active(
     ensures { result ≡ (not (is_partial link.now.options.output)
         && (link.now.plan.custom_phdrs || segment.now.always || is_stack segment.now.kind || list_any (is_marked emitted.now) inside.now)) }
 {
-    if is_partial(link.options.output) {
+    if link.options.output.is_partial() {
         return false;
     }
     link.plan.custom_phdrs
@@ -297,7 +297,7 @@ fn find_active(
     emitted: &[bool],
     insides: &[List<OutputSectionId>],
 ) -> Result<Vec<SegmentId>, AllocError>
-    requires few { length link.now.plan.segments ≤ 64 }
+    requires few { length link.now.plan.segments ≤ SEGMENTS }
     requires insides { insides.now ≡ segment_insides link.now.plan }
     ensures { IfOk result (λ active. active.items
         ≡ filter (active_by link.now emitted.now) (map (λ q. q.0) (enumerate_from 0 link.now.plan.segments))) }

@@ -8,7 +8,7 @@ pub mod header;
 pub mod laws;
 pub mod owners;
 
-pub use addresses::live_addresses;
+pub use addresses::{LiveSection, live_sections};
 pub use attributes::propagate_section_attributes;
 pub use error::SizeError;
 pub use header::{HeaderInfo, determine_header_sizes};

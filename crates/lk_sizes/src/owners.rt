@@ -14,8 +14,8 @@ ghost use Rattle.lk_link.specs.declared.link.LinkInput.{LinkInput};
 ghost use Rattle.lk_gc.specs.Reach.{AreLive};
 ghost use Rattle.lk_gc.specs.declared.live.Live.{Live};
 ghost use Rattle.lk_sizes.specs.Attributes.{part_attributes};
-ghost use Rattle.lk_sizes.specs.Contents.{GivesContents, has_empty, part_contents as part_contents_of};
-ghost use Rattle.lk_sizes.specs.Owners.{part_size, part_sizes as part_sizes_of};
+ghost use Rattle.lk_sizes.specs.Contents.{GivesContents, has_empty, part_contents};
+ghost use Rattle.lk_sizes.specs.Owners.{part_size, part_sizes};
 ghost use Rattle.lk_sizes.specs.declared.owners.Total.{Total};
 
 use crate::error::SizeError;
@@ -121,8 +121,8 @@ fn add_up(alloc: Global, link: &LinkInput, live: &Live) -> Result<Vec<Total>, Al
 /// The bytes of each part.
 pub fn part_sizes(alloc: Global, contents: &[PartContents]) -> Result<Vec<u64>, AllocError>
     ensures bytes { IfOk result (λ sizes. sizes.items ≡ map (λ c. c.bytes) contents.now) }
-    ensures sizes { (link : LinkInput) (live : Live) → contents.now ≡ part_contents_of link live
-        → IfOk result (λ sizes. sizes.items ≡ part_sizes_of link live) }
+    ensures sizes { (link : LinkInput) (live : Live) → contents.now ≡ part_contents link live
+        → IfOk result (λ sizes. sizes.items ≡ part_sizes link live) }
 {
     let mut sizes = Vec::with_capacity(alloc, contents.len())?;
     for part in contents {

@@ -84,7 +84,7 @@ fn told_sizes(alloc: Global, link: &LinkInput) -> Result<String, AllocError>
     let attributes = propagate_section_attributes(alloc, link, contents.as_slice())?;
     let (sizes, attributes) = (sizes.as_slice(), attributes.as_slice());
     write!(text, "sizes {sizes:?} attributes {attributes:?}\n")?;
-    let headers = determine_header_sizes(alloc, link, contents.as_slice())?;
+    let headers = determine_header_sizes(alloc, link, contents.as_slice(), sizes)?;
     let emitted = headers.emitted.as_slice();
     let indexes = headers.output_section_indexes.as_slice();
     write!(text, "emitted {emitted:?} {indexes:?} active")?;

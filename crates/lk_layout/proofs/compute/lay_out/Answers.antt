@@ -6,7 +6,7 @@ use Rattle.lk_link.specs.Target.{platform_target}
 use Rattle.lk_sizes.specs.Contents.{part_contents}
 use Rattle.lk_sizes.specs.Owners.{part_size, part_sizes}
 use Rattle.lk_layout.specs.Defined.{IsCarriedAnswer, WithMemory, setting}
-use Rattle.lk_layout.proofs.Answering.{err_exit, out_of_memory, oversized, placed, unplaced, untraversed}
+use Rattle.lk_layout.proofs.CarriedPlans.{placeable}
 use Rattle.lk_layout.proofs.Settings.{length-by_part, takes}
 use Rattle.lk_layout.proofs.compute.lay_out.Goals as goal
 
@@ -16,6 +16,17 @@ compute_layout_sections-requires-clause-each g c =
     let live : Live = c.in_ok-live.live in
     let contents : c.as_slice.result.now ≡ part_contents link live = c.as_slice.ensures ∙ c.in_ok-contents.ensures.1 in
     ap length (c.deref.ensures.value ∙ c.in_ok-sizes.ensures.sizes link live contents) ∙ length-by_part (part_size link live) link
+
+pub compute_layout_sections-requires-clause-placeable : goal.compute_layout_sections-requires-clause-placeable
+compute_layout_sections-requires-clause-placeable g c = placeable c.args.link.now c.requires.carried
+
+pub tell-requires-clause-brought : goal.tell-requires-clause-brought
+tell-requires-clause-brought g c =
+    let link = c.args.link.now in
+    let live : Live = c.in_ok-live.live in
+    let contents : c.as_slice-2.result.now ≡ part_contents link live = c.as_slice-2.ensures ∙ c.in_ok-contents.ensures.1 in
+    let sizes = c.in_ok-sizes.ensures.sizes link live (c.as_slice.ensures ∙ c.in_ok-contents.ensures.1) in
+    record { contents = contents; first = c.deref-2.ensures.value ∙ sizes ∙ sym (c.first_sizes_are_sizes.ensures link live) }
 
 pub tell-requires-clause-takes : goal.tell-requires-clause-takes
 tell-requires-clause-takes g c =

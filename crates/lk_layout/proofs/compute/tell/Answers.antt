@@ -1,15 +1,28 @@
-use Rattle.std.proofs.Common.{◌≡◌, ◌<◌, ℕ, List, length, sym, ap, subst, ◌∙◌}
-use Rattle.std.specs.Prelude.{All}
+use Rattle.std.proofs.Common.{◌≡◌, ◌<◌, ℕ, List, length, sym, ap, subst, ◌∙◌, arith}
+use Rattle.std.specs.Prelude.{All, slice_index}
+use Rattle.std.proofs.lemmas.List.{length-map}
+use Rattle.lk_place.specs.Records.{Record, record_at}
 use Rattle.lk_sizes.specs.Contents.{contents_of}
 use Rattle.lk_sizes.specs.Header.{header_info}
+use Rattle.lk_sizes.specs.Owners.{first_size, part_size}
 use Rattle.lk_layout.proofs.Settings.{active_there, length-by_part, length-section_records}
 use Rattle.lk_layout.proofs.compute.tell.Goals as goal
+use Rattle.lk_place.specs.Segments.{section_records}
+use Rattle.lk_sizes.specs.declared.header.HeaderInfo.{HeaderInfo}
+use Rattle.lk_sizes.specs.Emitted.{active_segments, is_emitted}
+use Rattle.lk_sizes.specs.LiveSections.{live_sections}
+use Rattle.lk_layout.specs.Defined.{starts_of}
+use Rattle.lk_layout.proofs.Answering.{same_layout, told}
+use Rattle.lk_link.specs.Marks.{is_marked}
 
 pub determine_header_sizes-requires-clause-count : goal.determine_header_sizes-requires-clause-count
-determine_header_sizes-requires-clause-count c = ap length c.requires.contents ∙ length-by_part (contents_of c.args.link.now c.args.live.now) c.args.link.now
+determine_header_sizes-requires-clause-count c = ap length c.requires.brought.contents ∙ length-by_part (contents_of c.args.link.now c.args.live.now) c.args.link.now
+
+pub determine_header_sizes-requires-clause-sizes : goal.determine_header_sizes-requires-clause-sizes
+determine_header_sizes-requires-clause-sizes c = ap length c.requires.brought.first ∙ length-by_part (first_size c.args.link.now c.args.live.now) c.args.link.now
 
 pub propagate_section_attributes-requires-clause-count : goal.propagate_section_attributes-requires-clause-count
-propagate_section_attributes-requires-clause-count c = ap length c.requires.contents ∙ length-by_part (contents_of c.args.link.now c.args.live.now) c.args.link.now
+propagate_section_attributes-requires-clause-count c = ap length c.requires.brought.contents ∙ length-by_part (contents_of c.args.link.now c.args.live.now) c.args.link.now
 
 pub compute_segment_layout-requires-clause-each : goal.compute_segment_layout-requires-clause-each
 compute_segment_layout-requires-clause-each c =
@@ -19,7 +32,39 @@ pub compute_segment_layout-requires-clause-there : goal.compute_segment_layout-r
 compute_segment_layout-requires-clause-there c =
     let link = c.args.link.now in
     let live = c.args.live.now in
-    let headers = c.in_ok-headers.ensures live c.requires.contents in
+    let headers = c.in_ok-headers.ensures.header live c.requires.brought in
     let active : c.as_slice-3.result.now ≡ (header_info link live).active_segment_ids = c.as_slice-3.ensures ∙ ap (λ h. h.active_segment_ids) headers in
     let There : List ℕ → Type 0 = All (λ i. i < length link.plan.segments) in
     subst There (sym active) (active_there link live)
+
+pub live_sections-requires-clause-starts : goal.live_sections-requires-clause-starts
+live_sections-requires-clause-starts c =
+    ap length c.in_ok-starts.ensures.value ∙ length-map c.as_slice-4.result.now (λ (r : Record). r.mem_offset) ∙ ap length c.as_slice-4.ensures ∙ c.requires.each
+
+pub live_sections-requires-clause-fit : goal.live_sections-requires-clause-fit
+live_sections-requires-clause-fit c = λ p below.
+    let link = c.args.link.now in
+    let read : List Record = c.as_slice-4.result.now in
+    let parts : read ≡ c.args.placed.parts = c.as_slice-4.ensures in
+    let count : length c.in_ok-starts.starts.items ≡ length read = ap length c.in_ok-starts.ensures.value ∙ length-map read (λ (r : Record). r.mem_offset) in
+    let mass : (record_at read p).mem_size ≡ part_size link c.args.live.now p
+    = ap (λ (rs : List Record). (record_at rs p).mem_size) parts ∙ c.requires.takes p (omega (arith, below, count, ap length parts)) in
+    omega (arith, c.in_ok-starts.ensures.fit p (omega (arith, below, count)), mass)
+
+pub returns : goal.returns
+returns c =
+    let link = c.args.link.now in
+    let live = c.args.live.now in
+    let records : List Record = c.args.placed.parts in
+    let headers : c.in_ok-headers.headers ≡ header_info link live = c.in_ok-headers.ensures.header live c.requires.brought in
+    let sections : c.as_slice.result.now ≡ section_records link.plan.sections records = c.as_slice.ensures ∙ c.requires.sections in
+    let marks : is_marked c.as_slice-2.result.now ≡ is_emitted link live
+    = ap is_marked c.as_slice-2.ensures ∙ c.in_ok-headers.ensures.marks live c.requires.brought in
+    let active : c.as_slice-3.result.now ≡ active_segments link live = c.as_slice-3.ensures ∙ ap (λ (h : HeaderInfo). h.active_segment_ids) headers in
+    let starts : c.in_ok-starts.starts.items ≡ starts_of records = c.in_ok-starts.ensures.value ∙ ap starts_of c.as_slice-4.ensures in
+    told link live records _ (rw (sections, marks) at c.in_ok-segments.ensures.inside)
+    (same_layout _ _ records _ _ _ _ _ _ _ _ c.requires.sections
+    (c.from_vec.ensures ∙ c.in_ok-attributes.ensures live c.requires.brought.contents)
+    (ap (λ (h : HeaderInfo). h.output_section_indexes) headers)
+    (c.from_vec-2.ensures ∙ (rw (sections, marks, active) at c.in_ok-segments.ensures.layouts))
+    (c.from_vec-3.ensures ∙ c.in_ok-live.ensures ∙ ap (live_sections link live) starts))

@@ -1,6 +1,6 @@
 use Rattle.std.proofs.Common.{get_or, arith}
 use Rattle.std.proofs.lemmas.List.{get_or_default}
-use Rattle.lk_layout.specs.declared.live.LiveSection.{LiveSection}
+use Rattle.lk_sizes.specs.declared.addresses.LiveSection.{LiveSection}
 use Rattle.lk_run.specs.Report.{live_line}
 use Rattle.lk_run.proofs.Lines.{goes_on, ends}
 use Rattle.lk_run.proofs.report.write_live_sections.Goals as goal

@@ -2,12 +2,12 @@ use Rattle.std.proofs.Common.{◌≡◌, map, List, ap, ◌∙◌, arith}
 use Rattle.std.specs.List.{range_with_len}
 use Rattle.lk_sizes.specs.declared.owners.PartContents.{PartContents}
 use Rattle.lk_sizes.proofs.Emitting.{all_attributes, attributes_by}
-use Rattle.lk_sizes.proofs.Limited.{few_sections}
+use Rattle.lk_sizes.proofs.Limited.{sections_fit}
 use Rattle.lk_sizes.proofs.Made.{one_pushed}
 use Rattle.lk_sizes.proofs.attributes.propagate_section_attributes.Goals as goal
 
 pub overflow_cast-number : goal.overflow_cast-number
-overflow_cast-number c = let few = few_sections c.args.link.now c.requires.good in omega arith
+overflow_cast-number c = omega (arith, sections_fit c.args.link.now c.requires.good)
 
 pub loop-number-preserved : goal.loop-number-preserved
 loop-number-preserved c =

@@ -7,9 +7,11 @@ use Rattle.lk_link.specs.declared.plan.PlanSegment.{PlanSegment}
 use Rattle.lk_link.specs.declared.plan.SegmentKind.TheVariants.{Load, Other}
 use Rattle.lk_link.specs.Inside.{sections_inside}
 use Rattle.lk_link.specs.SegmentKinds.{is_stack, segment_at}
-use Rattle.lk_sizes.specs.Emitted.{active_by, is_marked, is_partial}
 use Rattle.lk_sizes.proofs.Emitting.{filter_more, all_active}
 use Rattle.lk_sizes.proofs.header.find_active.Goals as goal
+use Rattle.lk_link.specs.Marks.{is_marked}
+use Rattle.lk_link.specs.OutputKinds.{is_partial}
+use Rattle.lk_sizes.specs.Tables.{active_by}
 
 pub bounds-insides-number : goal.bounds-insides-number
 bounds-insides-number c =

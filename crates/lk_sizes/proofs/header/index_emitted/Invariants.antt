@@ -2,8 +2,9 @@ use Rattle.std.proofs.Common.{◌≡◌, ℕ, ◌<◌, ◌≤◌, drop, length, 
 use Rattle.std.specs.Prelude.{◌==◌, filter}
 use Rattle.std.specs.List.{position_from, slice_index_or}
 use Rattle.lk_link.specs.Files.{first_some}
-use Rattle.lk_sizes.specs.Emitted.{is_marked, event_sections}
+use Rattle.lk_sizes.specs.Emitted.{event_sections}
 use Rattle.lk_sizes.proofs.header.index_emitted.Given as goal
+use Rattle.lk_link.specs.Marks.{is_marked}
 
 -- the index so far, or else the one that is given by what is left
 abbrev pub invariant-loop-event : goal.invariant-loop-event

@@ -2,17 +2,17 @@ use Rattle.std.proofs.Common.{◌≡◌, map, length, ap, ◌∙◌, arith}
 use Rattle.std.specs.List.{enumerate_from}
 use Rattle.lk_link.proofs.Numbers.{length-made}
 use Rattle.lk_sizes.proofs.Emitting.{emitted_are, left_by}
-use Rattle.lk_sizes.proofs.Limited.{few_sections}
+use Rattle.lk_sizes.proofs.Limited.{sections_fit}
 use Rattle.lk_sizes.proofs.header.mark_emitted.Goals as goal
 
 pub mark_primaries-requires-clause-count : goal.mark_primaries-requires-clause-count
 mark_primaries-requires-clause-count c = ap length c.deref.ensures.value ∙ c.in_ok-kept.ensures.count
 
 pub mark_primaries-requires-clause-few : goal.mark_primaries-requires-clause-few
-mark_primaries-requires-clause-few c = let few = few_sections c.args.link.now c.requires.good in omega arith
+mark_primaries-requires-clause-few c = omega (arith, sections_fit c.args.link.now c.requires.good)
 
 pub leave_out-requires-clause-few : goal.leave_out-requires-clause-few
-leave_out-requires-clause-few c = let few = few_sections c.args.link.now c.requires.good in omega arith
+leave_out-requires-clause-few c = omega (arith, sections_fit c.args.link.now c.requires.good)
 
 pub returns : goal.returns
 returns c =
@@ -21,8 +21,8 @@ returns c =
     rw c.deref-2.ensures.value at c.in_ok-emitted.ensures in
     record {
       count = ap length left ∙ length-made (left_by plan c.in_ok-marks.marks.items) plan.sections 0;
-      emitted = λ live is.
+      emitted = λ live brought.
           left
-          ∙ emitted_are c.args.link.now live c.in_ok-kept.kept.items c.in_ok-marks.marks.items (c.in_ok-kept.ensures.kept live is)
+          ∙ emitted_are c.args.link.now live c.in_ok-kept.kept.items c.in_ok-marks.marks.items (c.in_ok-kept.ensures.kept live brought)
           (rw c.deref.ensures.value at c.in_ok-marks.ensures.marks);
     }

@@ -1,9 +1,9 @@
 use Rattle.std.proofs.Common.{◌≡◌, ◌+◌, Bool, List, length, drop, refl, ap, sym, ◌∙◌, subst, arith, rules}
 use Rattle.std.proofs.lemmas.List.{take_at}
 use Rattle.lk_link.specs.PlanSections.{primary_of}
-use Rattle.lk_sizes.specs.Emitted.{is_marked}
 use Rattle.lk_sizes.proofs.Emitting.{ArePrimaries, one_primary, primaries_end}
 use Rattle.lk_sizes.proofs.header.mark_primaries.Goals as goal
+use Rattle.lk_link.specs.Marks.{is_marked}
 
 pub loop-number-preserved : goal.loop-number-preserved
 loop-number-preserved c =
