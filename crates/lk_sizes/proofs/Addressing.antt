@@ -1,5 +1,5 @@
 -- Where live sections stand among the owners of their parts.
-use Rattle.std.proofs.Common.{◌≡◌, ℕ, zero, suc, ◌+◌, ◌==◌, ◌&&◌, Bool, true, false, cond, List, [], ◌∷◌, ◌++◌, length, map, take, Some, refl, ap, ◌∙◌, subst, arith, not}
+use Rattle.std.proofs.Common.{◌≡◌, ℕ, ◌+◌, ◌==◌, ◌&&◌, Bool, true, false, cond, List, [], ◌∷◌, ◌++◌, length, map, take, Some, refl, ap, ◌∙◌, subst, arith, not}
 use Rattle.std.specs.List.{AllByRecursion, position_or_len, slice_get, slice_index}
 use Rattle.std.proofs.lemmas.Bool.{eqb-false, true_from_ne_false}
 use Rattle.std.proofs.lemmas.List.{map-append}

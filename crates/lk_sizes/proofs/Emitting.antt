@@ -1,7 +1,7 @@
 -- Which sections are emitted, from what the live sections bring to their parts.
 use Rattle.std.proofs.Common.{◌≡◌, ℕ, ◌+◌, ◌<◌, ◌≤◌, ◌==◌, ◌&&◌, ◌||◌, Bool, false, cond, List, [], ◌∷◌, ◌++◌, get_or, length, map, take, Some, None, Option, unwrap_or, refl, sym, ap, ◌∙◌, arith, inl, inr}
 use Rattle.std.specs.Prelude.{bit_or, fold, if◌then◌else◌, nat_lt, not}
-use Rattle.std.specs.List.{enumerate_from, filter, list_any, position_from, range_with_len, slice_get, slice_index_or, slice_range}
+use Rattle.std.specs.List.{enumerate_from, filter, list_any, position_from, range_with_len, slice_get, slice_index_or}
 use Rattle.std.proofs.lemmas.Bool.{cases_lt, eqb-true, false_from_ne_true}
 use Rattle.std.proofs.lemmas.Iterator.Adapters.{position_from-zero}
 use Rattle.std.proofs.lemmas.List.{get_or_past, take_more, take_all}

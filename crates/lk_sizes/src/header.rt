@@ -126,7 +126,9 @@ fn is_kept(plan: &Plan, section: usize, contents: &[PartContents], first_sizes: 
 {
     let (first, behind) = plan.sections.part_range(section);
     let emit = plan.sections.as_slice()[section].emit;
-    emit.is_always() || have_bytes(&first_sizes[first..behind]) || have_empty(&contents[first..behind])
+    emit.is_always()
+        || have_bytes(&first_sizes[first..behind])
+        || have_empty(&contents[first..behind])
 }
 
 /// For each output section, whether it is kept.
@@ -254,7 +256,9 @@ fn index_emitted(
 fn any_marked(marks: &[bool], sections: &[OutputSectionId]) -> bool
     ensures { result ≡ list_any (is_marked marks.now) sections.now }
 {
-    sections.iter().any(|section| is_marked(marks, section.as_usize()))
+    sections
+        .iter()
+        .any(|section| is_marked(marks, section.as_usize()))
 }
 
 /// Whether a segment with these sections inside is active.

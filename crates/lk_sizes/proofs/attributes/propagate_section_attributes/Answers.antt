@@ -1,4 +1,4 @@
-use Rattle.std.proofs.Common.{◌≡◌, map, List, ap, ◌∙◌, arith}
+use Rattle.std.proofs.Common.{map, List, ap, ◌∙◌, arith}
 use Rattle.std.specs.List.{range_with_len}
 use Rattle.lk_sizes.specs.declared.owners.PartContents.{PartContents}
 use Rattle.lk_sizes.proofs.Emitting.{all_attributes, attributes_by}
