@@ -1,7 +1,7 @@
 -- What the plan of a link has of which all is laid out.
-use Rattle.std.proofs.Common.{◌≡◌, ◌≢◌, ℕ, Bool, true, false, cond, List, [], ◌∷◌, Option, None, Some, length, refl, sym, ap, ◌∙◌, inl, inr}
+use Rattle.std.proofs.Common.{◌≡◌, ◌≢◌, ℕ, Bool, true, false, cond, List, [], Option, None, Some, length, refl, ap, ◌∙◌, inl, inr}
 use Rattle.std.specs.Prelude.{◌||◌, ◌&&◌, ◌==◌, not, is_some, slice_get}
-use Rattle.std.specs.List.{list_any, slice_index_or}
+use Rattle.std.specs.List.{list_any}
 use Rattle.std.proofs.lemmas.Bool.{cases_lt, eqb-true, or_parts}
 use Rattle.std.proofs.lemmas.List.{get_or_past, nil_from_length}
 use Rattle.std.proofs.lemmas.List.Folds.{list_any_at}
@@ -25,7 +25,7 @@ use Rattle.lk_link.specs.WellFormed.{IsAboutPlace}
 use Rattle.lk_place.specs.Plans.{IsPlaceable, IsPlaceableSection}
 use Rattle.lk_layout.specs.declared.error.Uncarried.TheVariants as uncarried
 use Rattle.lk_layout.specs.Carried.{IsCarried, all_uncarried, first_uncarried, has, is_special_section}
-use Rattle.lk_layout.specs.Laws.{CarriedPlansArePlain, HasPlainLoads}
+use Rattle.lk_layout.specs.Laws.{CarriedPlansArePlain}
 use Rattle.lk_link.specs.Rules.{moves_location}
 
 -- what isn't looked for in vain isn't there

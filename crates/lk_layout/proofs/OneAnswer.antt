@@ -1,5 +1,5 @@
 -- Every link has a defined answer, and it is one.
-use Rattle.std.proofs.Common.{◌≡◌, List, Option, Some, None, Result, Ok, Err, refl, sym, ap, subst, ◌∙◌, inl, inr}
+use Rattle.std.proofs.Common.{◌≡◌, List, Option, Some, None, Result, Ok, Err, refl, sym, subst, ◌∙◌}
 use Rattle.std.specs.Prelude.{option_map}
 use Rattle.lk_check.specs.FirstFault.{first_fault, WellFormedExactlyUnfaulted}
 use Rattle.lk_gc.specs.declared.live.Live.{Live}
@@ -13,7 +13,7 @@ use Rattle.lk_place.specs.Records.{Record}
 use Rattle.lk_layout.specs.declared.error.LayoutError.{LayoutError}
 use Rattle.lk_layout.specs.declared.layout.Layout.{Layout}
 use Rattle.lk_layout.specs.Carried.{IsCarried, first_uncarried}
-use Rattle.lk_layout.specs.Defined.{IsCarriedAnswer, IsDefined, IsPlacedAnswer, IsSizedAnswer, Unless, fault_refusal, layout_of, not_carried, segment_refusal, setting, sizes_refusal, uncarried_refusal, walk_refusal}
+use Rattle.lk_layout.specs.Defined.{IsCarriedAnswer, IsPlacedAnswer, IsSizedAnswer, Unless, fault_refusal, layout_of, not_carried, segment_refusal, setting, sizes_refusal, uncarried_refusal, walk_refusal}
 use Rattle.lk_layout.specs.Errors.{fault_error}
 use Rattle.lk_layout.specs.Laws.{DefinedAnswerExists, DefinedAnswerIsOne}
 use Rattle.lk_layout.proofs.CarriedPlans.{placeable}

@@ -1,9 +1,9 @@
 -- A part with bytes starts at a multiple of its alignment.
-use Rattle.std.proofs.Common.{◌≡◌, ℕ, zero, suc, ◌+◌, ◌-◌, ◌*◌, ◌^◌, ◌<◌, ◌≤◌, ◌==◌, Bool, true, false, cond, List, [], ◌∷◌, length, map, filter, max, min, None, Some, refl, sym, ap, subst, ◌∙◌, inl, inr, arith, length-append}
+use Rattle.std.proofs.Common.{◌≡◌, ℕ, zero, suc, ◌+◌, ◌-◌, ◌<◌, ◌≤◌, ◌==◌, true, false, cond, List, [], ◌∷◌, length, map, filter, max, min, None, Some, sym, ap, subst, ◌∙◌, inl, inr, arith, length-append}
 use Rattle.std.specs.Prelude.{◌||◌, slice_get}
 use Rattle.std.specs.Int.{◌∣◌}
-use Rattle.std.specs.List.{AllByRecursion, enumerate_from, list_all, slice_index_or}
-use Rattle.std.proofs.Math.Nat.{dvd_trans, le-max_left, le-max_right}
+use Rattle.std.specs.List.{enumerate_from, list_all, slice_index_or}
+use Rattle.std.proofs.Math.Nat.{dvd_trans, le-max_right}
 use Rattle.std.proofs.lemmas.Bool.{and_parts, cases_lt, lt-ltb}
 use Rattle.std.proofs.lemmas.List.Concat.{get_or-flat_map}
 use Rattle.std.proofs.lemmas.Option.{slice_get-get_or, slice_get_within}
@@ -19,7 +19,7 @@ use Rattle.lk_link.specs.WellFormed.{IsWellFormed}
 use Rattle.lk_link.proofs.GoodLinks.{section_of}
 use Rattle.lk_place.specs.declared.cursors.Cursors.{Cursors}
 use Rattle.lk_place.specs.Alignments.{greatest_of, section_alignment}
-use Rattle.lk_place.specs.Placement.{IsPlaced, first_walked, is_walked, placement_refusal, state_at}
+use Rattle.lk_place.specs.Placement.{IsPlaced, first_walked, is_walked, placement_refusal}
 use Rattle.lk_place.specs.Records.{Record, record_at}
 use Rattle.lk_place.specs.Setting.{Setting, has_bytes, part_count, part_number, size_at}
 use Rattle.lk_sizes.proofs.Tiling.{part_is_aligned}

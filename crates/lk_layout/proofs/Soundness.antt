@@ -1,8 +1,8 @@
 -- A defined layout is sound.
-use Rattle.std.proofs.Common.{◌≡◌, ℕ, zero, suc, ◌+◌, ◌%◌, ◌<◌, ◌≤◌, true, false, cond, List, [], ◌∷◌, length, map, None, Some, Ok, refl, sym, ap, subst, ◌∙◌, inl, inr, arith}
+use Rattle.std.proofs.Common.{◌≡◌, ℕ, zero, suc, ◌%◌, ◌<◌, ◌≤◌, true, false, cond, List, [], ◌∷◌, length, Some, refl, sym, ap, subst, ◌∙◌, inl, inr, arith}
 use Rattle.std.specs.Prelude.{slice_get, slice_index}
 use Rattle.std.specs.Int.{◌∣◌, next_multiple_of}
-use Rattle.std.specs.List.{AllByRecursion, Contains, slice_index_or}
+use Rattle.std.specs.List.{AllByRecursion, slice_index_or}
 use Rattle.std.proofs.Math.ListN as lists
 use Rattle.std.proofs.Math.Nat.{dvd-add}
 use Rattle.std.proofs.lemmas.Bool.{cases_lt}
@@ -24,11 +24,11 @@ use Rattle.lk_place.specs.Records.{Record, nowhere, record_at}
 use Rattle.lk_place.specs.Segments.{alignment_inside}
 use Rattle.lk_sizes.specs.declared.addresses.LiveSection.{LiveSection}
 use Rattle.lk_sizes.specs.LiveSections.{live_section, live_sections}
-use Rattle.lk_sizes.specs.Owners.{LiveSectionsAreOwners, Owner, SectionOwner, bytes_of, live_address, owner_address, owner_bytes, owner_number, owners_of, part_size}
+use Rattle.lk_sizes.specs.Owners.{LiveSectionsAreOwners, Owner, SectionOwner, bytes_of, owner_address, owner_number, owners_of, part_size}
 use Rattle.lk_sizes.specs.Tiles.{HasByte, IsTiled, OwnersAreAligned, OwnersTileTheirPart}
 use Rattle.lk_sizes.proofs.LiveOnes.{Differ, Pairwise, live_differ, live_goes}
 use Rattle.lk_layout.specs.declared.layout.Layout.{Layout}
-use Rattle.lk_layout.specs.Defined.{IsDefined, layout_of, setting, starts_of}
+use Rattle.lk_layout.specs.Defined.{setting, starts_of}
 use Rattle.lk_layout.specs.Laws.{DefinedLayoutsAreSound, LaidOutMemoryIsDisjoint, LaidOutSectionsAreApart}
 use Rattle.lk_layout.specs.Sound.{IsInSection, IsSharedOut, IsSound, IsTold, LiveSectionsAreAligned, LiveSectionsAreApart, MemoryIsCongruent, part_record}
 use Rattle.lk_layout.proofs.CarriedPlans.{no_zero_fill, placeable}

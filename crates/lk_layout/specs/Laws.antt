@@ -1,10 +1,9 @@
 -- Laws: every link has one defined answer, and a defined layout is sound.
-use Rattle.std.specs.Prelude.{◌≡◌, ◌≢◌, ℕ, ◌<◌, ◌||◌, true, false, Result, Ok, slice_get, take}
+use Rattle.std.specs.Prelude.{◌≡◌, ℕ, ◌<◌, true, false, Result, Ok, take}
 use Rattle.lk_link.specs.declared.link.LinkInput.{LinkInput}
 use Rattle.lk_link.specs.Inside.{is_open}
 use Rattle.lk_link.specs.PlanSections.{is_allocated, is_file_backed}
 use Rattle.lk_link.specs.Target.{IsLawful, Target}
-use Rattle.lk_link.specs.WellFormed.{IsWellFormed}
 use Rattle.lk_gc.specs.declared.live.Live.{Live}
 use Rattle.lk_place.specs.Plain.{IsLoadSegment, IsPlain, OpensLoad, PlacesInLoad}
 use Rattle.lk_place.specs.Ranges.{MemoryIsDisjoint}

@@ -159,7 +159,10 @@ fn has_debug_or_group(file: &InputFile) -> bool
 fn has_common(file: &InputFile) -> bool
     ensures { result ≡ list_any (λ x. is_common x.at) file.now.symbols }
 {
-    file.symbols.as_slice().iter().any(|symbol| symbol.at.is_common())
+    file.symbols
+        .as_slice()
+        .iter()
+        .any(|symbol| symbol.at.is_common())
 }
 
 /// Whether a relocation wants an entry of a table.

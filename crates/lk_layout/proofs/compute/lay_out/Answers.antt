@@ -1,11 +1,10 @@
-use Rattle.std.proofs.Common.{◌≡◌, List, length, sym, ap, ◌∙◌}
+use Rattle.std.proofs.Common.{◌≡◌, length, sym, ap, ◌∙◌}
 use Rattle.lk_gc.specs.declared.live.Live.{Live}
 use Rattle.lk_place.specs.Answers.{ArePlaced}
-use Rattle.lk_place.specs.Setting.{setting_of}
 use Rattle.lk_link.specs.Target.{platform_target}
 use Rattle.lk_sizes.specs.Contents.{part_contents}
 use Rattle.lk_sizes.specs.Owners.{part_size, part_sizes}
-use Rattle.lk_layout.specs.Defined.{IsCarriedAnswer, WithMemory, setting}
+use Rattle.lk_layout.specs.Defined.{setting}
 use Rattle.lk_layout.proofs.CarriedPlans.{placeable}
 use Rattle.lk_layout.proofs.Settings.{length-by_part, takes}
 use Rattle.lk_layout.proofs.compute.lay_out.Goals as goal
