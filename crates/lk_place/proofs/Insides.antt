@@ -8,8 +8,8 @@ use Rattle.lk_link.specs.declared.plan.OrderEvent.{OrderEvent}
 use Rattle.lk_link.specs.declared.plan.OrderEvent.TheVariants.{SegmentStart, SegmentEnd, Section, SetLocation, SetLocationRelative, SetSectionAddress}
 use Rattle.lk_link.specs.declared.plan.PlanSegment.{PlanSegment}
 use Rattle.lk_link.specs.Inside.{is_open, placed_inside, placed_section, sections_inside, segment_insides}
-use Rattle.lk_link.proofs.Numbers.{length-made, made_at}
 use Rattle.lk_link.specs.WellFormed.{IsEventOrder, IsInRange}
+use Rattle.lk_place.proofs.Tables.{by_number_count, by_number_read}
 
 -- what is placed, if it is
 placed_all : (P : ℕ → Type 0) (o : Option ℕ) (rest : List ℕ) → ((s : ℕ) → o ≡ Some s → P s) → AllByRecursion P rest → AllByRecursion P (cons_option o rest)
@@ -58,8 +58,7 @@ insides_within plan n insides order count is =
 
 -- there are as many as segments, each with the sections inside its segment
 pub insides_count : (plan : Plan) (insides : List (List ℕ)) → insides ≡ segment_insides plan → length insides ≡ length plan.segments
-insides_count plan insides is = ap length is ∙ length-made (sections_inside plan.events) plan.segments 0
+insides_count plan insides is = by_number_count (sections_inside plan.events) plan.segments insides is
 
 pub inside_at : (plan : Plan) (insides : List (List ℕ)) (i : ℕ) (d : List ℕ) → insides ≡ segment_insides plan → i < length plan.segments → slice_index_or insides i d ≡ sections_inside plan.events i
-inside_at plan insides i d is below =
-    ap (λ (xs : List (List ℕ)). slice_index_or xs i d) is ∙ made_at (sections_inside plan.events) d plan.segments 0 i below ∙ ap (sections_inside plan.events) (zero-add i)
+inside_at plan insides i d is below = by_number_read (sections_inside plan.events) plan.segments insides i d is below

@@ -15,9 +15,9 @@ mod PlacedSections
 mod PlainLaws
 mod PlainScanLaws
 mod Ranges
-mod SegmentAlignments
 mod RefusalLaws
 mod SectionEnds
+mod SegmentAlignments
 mod Steps
 mod Tables
 mod WalkLaws

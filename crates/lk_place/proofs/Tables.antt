@@ -1,8 +1,10 @@
 -- Tables that are written by number.
-use Rattle.std.proofs.Common.{◌≡◌, ℕ, ◌+◌, Bool, true, false, cond, sym, ap, ◌∙◌, arith, inl, inr}
+use Rattle.std.proofs.Common.{◌≡◌, ℕ, ◌+◌, ◌<◌, Bool, true, false, cond, List, length, map, sym, ap, ◌∙◌, arith, inl, inr, zero-add}
 use Rattle.std.specs.Prelude.{◌==◌, if◌then◌else◌}
 use Rattle.std.proofs.lemmas.Bool.{cases_Bool, eqb-true}
 use Rattle.std.proofs.lemmas.Bool.Decides.{nat_tests}
+use Rattle.std.specs.List.{enumerate_from, slice_index_or}
+use Rattle.lk_link.proofs.Numbers.{length-made, made_at}
 use Rattle.lk_place.specs.Records.{Record}
 use Rattle.lk_place.specs.Walk.{lies_in}
 
@@ -34,3 +36,13 @@ range_grows new old base f first j q at writes filled p =
           ∙ filled p
           ∙ ap (λ (b : Bool). cond b (f p) (base p)) (among_other first j p (sym (ap (λ (n : ℕ). p == n) at) ∙ there))
     ]
+
+-- ---- lists that are made of the numbers of other lists' elements
+
+-- they are as long
+pub by_number_count : {X Y : Type 0} (f : ℕ → Y) (xs : List X) (all : List Y) → all ≡ map (λ q. f q.0) (enumerate_from 0 xs) → length all ≡ length xs
+by_number_count f xs all is = ap length is ∙ length-made f xs 0
+
+-- and are read by number
+pub by_number_read : {X Y : Type 0} (f : ℕ → Y) (xs : List X) (all : List Y) (i : ℕ) (d : Y) → all ≡ map (λ q. f q.0) (enumerate_from 0 xs) → i < length xs → slice_index_or all i d ≡ f i
+by_number_read {X} {Y} f xs all i d is below = ap (λ (ys : List Y). slice_index_or ys i d) is ∙ made_at f d xs 0 i below ∙ ap f (zero-add i)

@@ -1,13 +1,15 @@
 use Rattle.std.proofs.Common.{◌≡◌, ◌<◌, ℕ, List, length, ap, ◌∙◌, arith}
 use Rattle.lk_link.specs.declared.plan.Plan.{Plan}
-use Rattle.lk_place.specs.Alignments.{section_alignments, greatest_alignment}
-use Rattle.lk_place.proofs.SegmentAlignments.{sections_count, section_read}
+use Rattle.lk_place.specs.Alignments.{greatest_alignment, section_alignments}
+use Rattle.lk_place.proofs.Tables.{by_number_count, by_number_read}
 use Rattle.lk_place.proofs.walk.Walk.section_alignment.Goals as goal
 
 pub bounds-as_slice-as_usize : goal.bounds-as_slice-as_usize
 bounds-as_slice-as_usize g c =
-    let all : c.as_slice.result.now ≡ section_alignments c.args.self.now.plan.now c.args.self.now.sizes.now = c.as_slice.ensures ∙ c.requires.walkable.aligned.sections in
-    omega (arith, sections_count c.args.self.now.plan.now c.args.self.now.sizes.now c.as_slice.result.now all, c.as_usize.ensures, c.requires.in_range)
+    let plan : Plan = c.args.self.now.plan.now in
+    let sizes : List ℕ = c.args.self.now.sizes.now in
+    let all : c.as_slice.result.now ≡ section_alignments plan sizes = c.as_slice.ensures ∙ c.requires.walkable.aligned.sections in
+    omega (arith, by_number_count (greatest_alignment plan sizes) plan.sections c.as_slice.result.now all, c.as_usize.ensures, c.requires.in_range)
 
 pub returns : goal.returns
 returns g c =
@@ -16,5 +18,5 @@ returns g c =
     let all : c.as_slice.result.now ≡ section_alignments plan sizes = c.as_slice.ensures ∙ c.requires.walkable.aligned.sections in
     let below : c.as_usize.result < length plan.sections = omega (arith, c.as_usize.ensures, c.requires.in_range) in
     c.index-as_slice-as_usize.is
-    ∙ section_read plan sizes c.as_slice.result.now c.as_usize.result c.index-as_slice-as_usize.result all below
+    ∙ by_number_read (greatest_alignment plan sizes) plan.sections c.as_slice.result.now c.as_usize.result c.index-as_slice-as_usize.result all below
     ∙ ap (greatest_alignment plan sizes) c.as_usize.ensures
