@@ -1,14 +1,17 @@
 -- What stands inside the segments of a plan is there.
-use Rattle.std.proofs.Common.{◌≡◌, ℕ, suc, ◌+◌, ◌<◌, Bool, true, false, List, [], ◌∷◌, length, map, take, refl, ap, subst, sym, ◌∙◌, zero-add, Option, Some, None, arith}
+use Rattle.std.proofs.Common.{◌≡◌, ℕ, suc, ◌+◌, ◌<◌, Bool, true, false, List, [], ◌∷◌, length, map, take, refl, subst, sym, Option, Some, None, arith}
 use Rattle.std.specs.Prelude.{All, if◌then◌else◌, slice_get}
 use Rattle.std.specs.List.{AllByRecursion, cons_option, enumerate_from, filter_map, slice_index_or}
 use Rattle.std.proofs.lemmas.List.Elements.{All-from_recursion}
+use Rattle.std.proofs.lemmas.Option.{slice_get-get_or}
 use Rattle.lk_link.specs.declared.plan.Plan.{Plan}
 use Rattle.lk_link.specs.declared.plan.OrderEvent.{OrderEvent}
 use Rattle.lk_link.specs.declared.plan.OrderEvent.TheVariants.{SegmentStart, SegmentEnd, Section, SetLocation, SetLocationRelative, SetSectionAddress}
 use Rattle.lk_link.specs.declared.plan.PlanSegment.{PlanSegment}
 use Rattle.lk_link.specs.Inside.{is_open, placed_inside, placed_section, sections_inside, segment_insides}
-use Rattle.lk_link.specs.WellFormed.{IsEventOrder, IsInRange}
+use Rattle.lk_link.specs.WellFormed.{IsEventOrder, IsInRange, IsWellFormed}
+use Rattle.lk_place.specs.declared.segments.Spans.{Spans}
+use Rattle.lk_place.specs.Spans.{CanSpan}
 use Rattle.lk_place.proofs.Tables.{by_number_count, by_number_read}
 
 -- what is placed, if it is
@@ -62,3 +65,16 @@ insides_count plan insides is = by_number_count (sections_inside plan.events) pl
 
 pub inside_at : (plan : Plan) (insides : List (List ℕ)) (i : ℕ) (d : List ℕ) → insides ≡ segment_insides plan → i < length plan.segments → slice_index_or insides i d ≡ sections_inside plan.events i
 inside_at plan insides i d is below = by_number_read (sections_inside plan.events) plan.segments insides i d is below
+
+-- ---- segments
+
+-- a well-formed link can be spanned by the records of its sections and what stands inside its segments
+pub can_span : (spans : Spans) → IsWellFormed spans.link.now → length spans.records.now ≡ length spans.link.now.plan.sections → spans.insides.now ≡ segment_insides spans.link.now.plan → CanSpan spans
+can_span spans good each are =
+    let plan : Plan = spans.link.now.plan in
+    record {
+      each = each;
+      insides = are;
+      in_range = insides_within plan (length spans.records.now) spans.insides.now good.events each are;
+      events = λ k d below. good.events.in_range k (slice_index_or plan.events k d) (slice_get-get_or plan.events k d below);
+    }

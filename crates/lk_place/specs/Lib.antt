@@ -10,4 +10,5 @@ pub mod Ranges
 pub mod Records
 pub mod Segments
 pub mod Setting
+pub mod Spans
 pub mod Walk

@@ -6,12 +6,12 @@
 
 ghost use Rattle.std.specs.Prelude.{◌≡◌, ◌==◌, ◌||◌, ◌<◌, ◌≤◌, ℕ, false, None, All, IfErr, IfOk, OnOk, filter, length, map, vec_len};
 ghost use Rattle.std.specs.List.{list_any, slice_index_or};
-ghost use Rattle.lk_link.specs.Inside.{segment_insides};
-ghost use Rattle.lk_link.specs.WellFormed.{IsInRange, IsWellFormed};
+ghost use Rattle.lk_link.specs.WellFormed.{IsWellFormed};
 ghost use Rattle.lk_place.specs.Records.{record_at};
 ghost use Rattle.lk_place.specs.Segments.{Refuses, counts, first_outside, found_outside, hull, is_skipped};
 ghost use Rattle.lk_link.specs.Marks.{is_marked};
 ghost use Rattle.lk_place.specs.Segments.{may_stand_outside, outside_refusal, segment_layouts, segment_record, stack_record, stands_in};
+ghost use Rattle.lk_place.specs.Spans.{CanSpan};
 
 use crate::error::PlaceError;
 use crate::hulls::{nothing, with_record};
@@ -21,7 +21,7 @@ use lk_link::ids::{OutputSectionId, SegmentId};
 use lk_link::link::LinkInput;
 use lk_link::list::List;
 use lk_link::marks::is_marked;
-use lk_link::plan::{OrderEvent, Plan};
+use lk_link::plan::OrderEvent;
 use std::alloc::{AllocError, Global};
 
 /// An active segment, with what it spans (libwild: `SegmentLayout`).
@@ -31,57 +31,16 @@ pub struct SegmentLayout {
     pub sizes: OutputRecordLayout,
 }
 
-/// Whether a section is skipped: without bytes, and its primary isn't emitted.
-fn is_skipped(
-    plan: &Plan,
-    records: &[OutputRecordLayout],
-    emitted: &[bool],
-    section: OutputSectionId,
-) -> bool
-    requires { section < length records.now }
-    ensures { result ≡ is_skipped plan.now records.now (is_marked emitted.now) section }
-{
-    let placed = &records[section.as_usize()];
-    placed.mem_size == 0 && !is_marked(emitted, plan.sections.primary_of(section).as_usize())
-}
-
-/// Whether a section inside a segment counts there.
-fn counts(
-    plan: &Plan,
-    records: &[OutputRecordLayout],
-    emitted: &[bool],
-    segment: SegmentId,
-    section: OutputSectionId,
-) -> bool
-    requires in_range { section < length records.now }
-    requires there { segment < length plan.now.segments }
-    ensures { result ≡ counts plan.now records.now (is_marked emitted.now) segment section }
-{
-    let kind = plan.segments.as_slice()[segment.as_usize()].kind;
-    !is_skipped(plan, records, emitted, section)
-        && (kind.is_tls() || !plan.is_zero_fill_thread_local(section))
-}
-
-/// What reaches over the sections inside a segment that count.
-fn span_inside(
-    plan: &Plan,
-    records: &[OutputRecordLayout],
-    emitted: &[bool],
-    segment: SegmentId,
-    inside: &[OutputSectionId],
-) -> OutputRecordLayout
-    requires in_range { All (λ s. s < length records.now) inside.now }
-    requires there { segment < length plan.now.segments }
-    ensures { let counted = filter (counts plan.now records.now (is_marked emitted.now) segment) inside.now
-        in result ≡ hull (map (record_at records.now) counted) }
-{
-    let mut all = None;
-    for section in inside {
-        if counts(plan, records, emitted, segment, *section) {
-            all = with_record(all, &records[section.as_usize()]);
-        }
-    }
-    all.unwrap_or(nothing())
+/// What segments are spanned by.
+#[derive(Drop)]
+struct Spans<'a> {
+    link: &'a LinkInput,
+    /// The records of all sections.
+    records: &'a [OutputRecordLayout],
+    /// The marks of the emitted sections.
+    emitted: &'a [bool],
+    /// The sections inside each segment.
+    insides: &'a [List<OutputSectionId>],
 }
 
 /// The stack of this many bytes.
@@ -96,59 +55,6 @@ fn stack_record(size: u64) -> OutputRecordLayout
         mem_offset: 0,
         lma_offset: 0,
     }
-}
-
-/// What a segment spans: the stack of a stack segment, else the sections inside that count.
-fn span_segment(
-    link: &LinkInput,
-    records: &[OutputRecordLayout],
-    emitted: &[bool],
-    insides: &[List<OutputSectionId>],
-    segment: SegmentId,
-) -> OutputRecordLayout
-    requires in_range { All (λ inside. All (λ s. s < length records.now) inside) insides.now }
-    requires insides { insides.now ≡ segment_insides link.now.plan }
-    requires there { segment < length link.now.plan.segments }
-    ensures { result ≡ segment_record link.now.plan link.now.options.stack records.now (is_marked emitted.now) segment }
-{
-    let number = segment.as_usize();
-    if link.plan.segments.as_slice()[number].kind.is_stack() {
-        stack_record(link.options.stack)
-    } else {
-        span_inside(
-            &link.plan,
-            records,
-            emitted,
-            segment,
-            insides[number].as_slice(),
-        )
-    }
-}
-
-/// The layouts of these segments, with these sections inside each of all.
-fn span_segments(
-    alloc: Global,
-    link: &LinkInput,
-    records: &[OutputRecordLayout],
-    emitted: &[bool],
-    insides: &[List<OutputSectionId>],
-    active: &[SegmentId],
-) -> Result<Vec<SegmentLayout>, AllocError>
-    requires in_range { All (λ inside. All (λ s. s < length records.now) inside) insides.now }
-    requires insides { insides.now ≡ segment_insides link.now.plan }
-    requires there { All (λ i. i < length link.now.plan.segments) active.now }
-    ensures { IfOk result (λ all. all.items
-        ≡ segment_layouts link.now.plan link.now.options.stack records.now (is_marked emitted.now) active.now) }
-{
-    let mut all = Vec::with_capacity(alloc, active.len())?;
-    for segment in active {
-        let sizes = span_segment(link, records, emitted, insides, *segment);
-        all.push(SegmentLayout {
-            id: *segment,
-            sizes,
-        })?;
-    }
-    Ok(all)
 }
 
 /// Sets the marks of some sections.
@@ -179,32 +85,113 @@ fn mark_standing(
     Ok(marks)
 }
 
-/// The first section, in the order of events, that isn't skipped, is allocated and stands in no segment.
-fn find_outside(
-    alloc: Global,
-    plan: &Plan,
-    records: &[OutputRecordLayout],
-    emitted: &[bool],
-    insides: &[List<OutputSectionId>],
-) -> Result<Option<OutputSectionId>, AllocError>
-    requires each { length records.now ≡ length plan.now.sections }
-    requires in_range { All (λ inside. All (λ s. s < length records.now) inside) insides.now }
-    requires insides { insides.now ≡ segment_insides plan.now }
-    requires events { All (IsInRange plan.now) plan.now.events }
-    ensures { IfOk result (λ found. found ≡ found_outside plan.now records.now (is_marked emitted.now)) }
-{
-    let standing = mark_standing(alloc, records.len(), insides)?;
-    for event in plan.events.as_slice() {
-        if let OrderEvent::Section(section) = *event {
-            if !is_skipped(plan, records, emitted, section)
-                && plan.is_allocated(section)
-                && !standing[section.as_usize()]
-            {
-                return Ok(Some(section));
+impl Spans<'_> {
+    /// Whether a section is skipped: without bytes, and its primary isn't emitted.
+    fn is_skipped(&self, section: OutputSectionId) -> bool
+        requires { section < length self.now.records.now }
+        ensures { result ≡ is_skipped self.now.link.now.plan self.now.records.now (is_marked self.now.emitted.now) section }
+    {
+        let placed = &self.records[section.as_usize()];
+        let primary = self.link.plan.sections.primary_of(section);
+        placed.mem_size == 0 && !is_marked(self.emitted, primary.as_usize())
+    }
+
+    /// Whether a section inside a segment counts there.
+    fn counts(&self, segment: SegmentId, section: OutputSectionId) -> bool
+        requires in_range { section < length self.now.records.now }
+        requires there { segment < length self.now.link.now.plan.segments }
+        ensures { result ≡ counts self.now.link.now.plan self.now.records.now (is_marked self.now.emitted.now) segment section }
+    {
+        let plan = &self.link.plan;
+        let kind = plan.segments.as_slice()[segment.as_usize()].kind;
+        !self.is_skipped(section) && (kind.is_tls() || !plan.is_zero_fill_thread_local(section))
+    }
+
+    /// What reaches over the sections inside a segment that count.
+    fn span_inside(&self, segment: SegmentId, inside: &[OutputSectionId]) -> OutputRecordLayout
+        requires in_range { All (λ s. s < length self.now.records.now) inside.now }
+        requires there { segment < length self.now.link.now.plan.segments }
+        ensures { let spans = self.now in
+            let counted = filter (counts spans.link.now.plan spans.records.now (is_marked spans.emitted.now) segment) inside.now
+            in result ≡ hull (map (record_at spans.records.now) counted) }
+    {
+        let mut all = None;
+        for section in inside {
+            if self.counts(segment, *section) {
+                all = with_record(all, &self.records[section.as_usize()]);
             }
         }
+        all.unwrap_or(nothing())
     }
-    Ok(None)
+
+    /// What a segment spans: the stack of a stack segment, else the sections inside that count.
+    fn span_segment(&self, segment: SegmentId) -> OutputRecordLayout
+        requires ready { CanSpan self.now }
+        requires there { segment < length self.now.link.now.plan.segments }
+        ensures { let link = self.now.link.now
+            in result ≡ segment_record link.plan link.options.stack self.now.records.now (is_marked self.now.emitted.now) segment }
+    {
+        let number = segment.as_usize();
+        if self.link.plan.segments.as_slice()[number].kind.is_stack() {
+            stack_record(self.link.options.stack)
+        } else {
+            self.span_inside(segment, self.insides[number].as_slice())
+        }
+    }
+
+    /// The layouts of these segments.
+    fn span_segments(
+        &self,
+        alloc: Global,
+        active: &[SegmentId],
+    ) -> Result<Vec<SegmentLayout>, AllocError>
+        requires ready { CanSpan self.now }
+        requires there { All (λ i. i < length self.now.link.now.plan.segments) active.now }
+        ensures { let link = self.now.link.now in IfOk result (λ all. all.items
+            ≡ segment_layouts link.plan link.options.stack self.now.records.now (is_marked self.now.emitted.now) active.now) }
+    {
+        let mut all = Vec::with_capacity(alloc, active.len())?;
+        for segment in active {
+            let sizes = self.span_segment(*segment);
+            all.push(SegmentLayout {
+                id: *segment,
+                sizes,
+            })?;
+        }
+        Ok(all)
+    }
+
+    /// The first section, in the order of events, that isn't skipped, is allocated and stands in no segment.
+    fn find_outside(&self, alloc: Global) -> Result<Option<OutputSectionId>, AllocError>
+        requires ready { CanSpan self.now }
+        ensures { IfOk result (λ found. found
+            ≡ found_outside self.now.link.now.plan self.now.records.now (is_marked self.now.emitted.now)) }
+    {
+        let plan = &self.link.plan;
+        let standing = mark_standing(alloc, self.records.len(), self.insides)?;
+        for event in plan.events.as_slice() {
+            if let OrderEvent::Section(section) = *event {
+                if !self.is_skipped(section)
+                    && plan.is_allocated(section)
+                    && !standing[section.as_usize()]
+                {
+                    return Ok(Some(section));
+                }
+            }
+        }
+        Ok(None)
+    }
+
+    /// The first section, in the order of events, that stands outside the segments and may not.
+    fn outside(&self, alloc: Global) -> Result<Option<OutputSectionId>, AllocError>
+        requires ready { CanSpan self.now }
+        ensures { IfOk result (λ found. found ≡ first_outside self.now.link.now self.now.records.now (is_marked self.now.emitted.now)) }
+    {
+        if may_stand_outside(self.link) {
+            return Ok(None);
+        }
+        self.find_outside(alloc)
+    }
 }
 
 /// Whether sections may stand outside the segments: where the program headers are asked for, and in partial output, which
@@ -213,26 +200,6 @@ fn may_stand_outside(link: &LinkInput) -> bool
     ensures { result ≡ may_stand_outside link.now }
 {
     link.plan.custom_phdrs || link.options.output.is_partial()
-}
-
-/// The first section, in the order of events, that stands outside the segments and may not.
-fn outside(
-    alloc: Global,
-    link: &LinkInput,
-    records: &[OutputRecordLayout],
-    emitted: &[bool],
-    insides: &[List<OutputSectionId>],
-) -> Result<Option<OutputSectionId>, AllocError>
-    requires each { length records.now ≡ length link.now.plan.sections }
-    requires in_range { All (λ inside. All (λ s. s < length records.now) inside) insides.now }
-    requires insides { insides.now ≡ segment_insides link.now.plan }
-    requires events { All (IsInRange link.now.plan) link.now.plan.events }
-    ensures { IfOk result (λ found. found ≡ first_outside link.now records.now (is_marked emitted.now)) }
-{
-    if may_stand_outside(link) {
-        return Ok(None);
-    }
-    find_outside(alloc, &link.plan, records, emitted, insides)
 }
 
 /// What these segments span, by the records of all output sections and the marks of the emitted ones (libwild:
@@ -254,8 +221,14 @@ pub fn compute_segment_layout(
     ensures refusal { IfErr result (λ e. Refuses e (outside_refusal (first_outside link.now sections.now (is_marked emitted.now)))) }
 {
     let insides = link.plan.sections_of_segments(alloc)?;
-    match outside(alloc, link, sections, emitted, &insides)? {
+    let spans = Spans {
+        link,
+        records: sections,
+        emitted,
+        insides: &insides,
+    };
+    match spans.outside(alloc)? {
         Some(section) => Err(PlaceError::SectionOutsideSegments { section }),
-        None => Ok(span_segments(alloc, link, sections, emitted, &insides, active)?),
+        None => Ok(spans.span_segments(alloc, active)?),
     }
 }
