@@ -9,6 +9,8 @@ use Rattle.lk_link.specs.Inside.{is_open, placed_section}
 use Rattle.lk_link.specs.Parts.{first_part}
 use Rattle.lk_link.specs.PlanSections.{is_file_backed, is_zero_fill_thread_local}
 use Rattle.lk_link.specs.Rules.{is_start}
+use Rattle.lk_link.proofs.Events.{is_that_start}
+use Rattle.lk_link.proofs.PartNumbers.{first_part-suc}
 use Rattle.lk_place.specs.declared.cursors.Cursors.{Cursors}
 use Rattle.lk_place.specs.Alignments.{place_alignment}
 use Rattle.lk_place.specs.Laws.{IsSoundlySet, PlainMemoryIsCongruent}
@@ -23,8 +25,6 @@ use Rattle.lk_place.proofs.Congruent.{CursorsAgree, KeepsAgreement, StartsAgree,
 use Rattle.lk_place.proofs.Insides.{placed_in_range}
 use Rattle.lk_place.proofs.Moves.{moves, opens_load}
 use Rattle.lk_place.proofs.OpenSegments.{open_before, section_event}
-use Rattle.lk_link.proofs.Events.{is_that_start}
-use Rattle.lk_link.proofs.PartNumbers.{first_part-suc}
 use Rattle.lk_place.proofs.Steps.{event_at, step_at}
 
 -- ---- the walk

@@ -14,6 +14,7 @@ use Rattle.lk_link.specs.declared.plan.OrderEvent.TheVariants.{Section}
 use Rattle.lk_link.specs.Inside.{sections_inside}
 use Rattle.lk_link.specs.Parts.{all_parts, first_part, part_at}
 use Rattle.lk_link.specs.PlanSections.{no_section, section_at}
+use Rattle.lk_link.proofs.PartNumbers.{first_part-le, first_part-suc}
 use Rattle.lk_place.specs.declared.cursors.Cursors.{Cursors}
 use Rattle.lk_place.specs.Alignments.{greatest_alignment, greatest_of, numbered_parts, section_alignment}
 use Rattle.lk_place.specs.Laws.{RecordsKeepAlignments}
@@ -23,7 +24,6 @@ use Rattle.lk_place.specs.Segments.{is_filled, part_records, section_record, sec
 use Rattle.lk_place.specs.Setting.{IsReady, Setting, has_bytes, part_count, part_number}
 use Rattle.lk_place.proofs.AlignmentLaws.{greatest_of-least}
 use Rattle.lk_place.proofs.Insides.{inside_in_range}
-use Rattle.lk_link.proofs.PartNumbers.{first_part-le, first_part-suc}
 use Rattle.lk_place.proofs.Steps.{step_at}
 
 -- ---- the greatest of those that pass

@@ -5,13 +5,13 @@ use Rattle.std.specs.List.{slice_index_or}
 use Rattle.std.proofs.Math.Seq.{get_or-append_right}
 use Rattle.std.proofs.lemmas.Bool.{cases_lt}
 use Rattle.std.proofs.lemmas.List.{get_or_append_left}
+use Rattle.std.proofs.lemmas.Bool.Decides.{nat_tests}
 use Rattle.lk_link.specs.declared.plan.PlanPart.{PlanPart}
 use Rattle.lk_link.specs.declared.plan.PlanSection.{PlanSection}
 use Rattle.lk_link.specs.Alignments.{is_alignment}
 use Rattle.lk_link.specs.Parts.{all_parts}
 use Rattle.lk_link.specs.PlanSections.{section_at}
 use Rattle.lk_place.proofs.Checked.{parts_aligned}
-use Rattle.std.proofs.lemmas.Bool.Decides.{nat_tests}
 use Rattle.lk_place.specs.declared.cursors.Cursors.{Cursors}
 use Rattle.lk_place.specs.declared.error.Refusal.TheVariants.{Overflow}
 use Rattle.lk_place.specs.Placement.{behind, is_below, overflow_at, pushed}

@@ -3,13 +3,13 @@ use Rattle.std.proofs.Common.{◌≡◌, ℕ, zero, suc, ◌<◌, Bool, true, fa
 use Rattle.std.proofs.lemmas.Bool.{cases_Bool, cases_lt}
 use Rattle.std.proofs.lemmas.Bool.Decides.{nat_tests}
 use Rattle.lk_link.specs.PlanSections.{is_file_backed}
+use Rattle.lk_link.specs.Parts.{part_at}
 use Rattle.lk_place.specs.declared.cursors.Cursors.{Cursors}
 use Rattle.lk_place.specs.declared.error.Refusal.TheVariants.{Overflow}
 use Rattle.lk_place.specs.Placement.{behind, end_behind, first_walked, is_below, is_walked, overflow_at, pushed, section_end, section_start, walk_alignment}
 use Rattle.lk_place.specs.PlacementLaws.{RefusedExactlyPast}
 use Rattle.lk_place.specs.Records.{Fits, Record, record_at}
 use Rattle.lk_place.specs.Setting.{Setting, part_count, part_number, size_at}
-use Rattle.lk_link.specs.Parts.{part_at}
 use Rattle.lk_place.proofs.PlacedParts.{behind_placed}
 use Rattle.lk_place.proofs.PlacedSections.{by_walked, place_walked, places_makes, walked_record}
 use Rattle.lk_place.proofs.SectionEnds.{IsFirstWalked, below_too, ends_rise, first_walked_place}

@@ -7,6 +7,7 @@ use Rattle.std.proofs.lemmas.List.{get_or-drop, get_or-take, length-drop, length
 use Rattle.std.proofs.lemmas.List.Quantifiers.{position-Some}
 use Rattle.lk_link.specs.Parts.{first_part}
 use Rattle.lk_link.specs.PlanSections.{is_file_backed}
+use Rattle.lk_link.proofs.PartNumbers.{first_part-le, first_part-suc}
 use Rattle.lk_place.specs.declared.cursors.Cursors.{Cursors}
 use Rattle.lk_place.specs.declared.error.Refusal.{Refusal}
 use Rattle.lk_place.specs.declared.error.Refusal.TheVariants.{Overflow}
@@ -16,7 +17,6 @@ use Rattle.lk_place.specs.Records.{Record}
 use Rattle.lk_place.specs.Setting.{IsReady, Setting, has_bytes, part_count, part_number, size_at}
 use Rattle.lk_place.specs.Walk.{first_record, next_record, record_by, unless}
 use Rattle.lk_place.proofs.Checked.{has_part}
-use Rattle.lk_link.proofs.PartNumbers.{first_part-le, first_part-suc}
 use Rattle.lk_place.proofs.PlacedParts.{behind_placed, unless_below, unless_past}
 
 -- neither cursor is past the other's

@@ -11,6 +11,7 @@ use Rattle.lk_link.specs.declared.plan.OrderEvent.TheVariants.{SegmentStart, Seg
 use Rattle.lk_link.specs.Inside.{placed_section}
 use Rattle.lk_link.specs.Parts.{all_parts}
 use Rattle.lk_link.proofs.Numbers.{length-made, made_at}
+use Rattle.lk_link.proofs.PartNumbers.{parts_end-le}
 use Rattle.lk_place.specs.declared.cursors.Cursors.{Cursors}
 use Rattle.lk_place.specs.declared.error.PlaceError.{PlaceError}
 use Rattle.lk_place.specs.declared.error.Refusal.{Refusal}
@@ -20,7 +21,6 @@ use Rattle.lk_place.specs.Plans.{IsPlaceable}
 use Rattle.lk_place.specs.Records.{Record, nowhere, record_at}
 use Rattle.lk_place.specs.Setting.{IsReady, Setting, part_number}
 use Rattle.lk_place.specs.Walk.{AllPass, after_move, cursors_after, entered, left_behind, record_after, record_by, stepped}
-use Rattle.lk_link.proofs.PartNumbers.{parts_end-le}
 use Rattle.lk_place.proofs.PlacedSections.{AreMade, MakesSection, made_places, places_makes}
 use Rattle.lk_place.proofs.WalkRecords.{PlacesAt, placed_or_not, record_absent, record_placed, section_there}
 use Rattle.lk_place.proofs.WalkSteps.{cursors_first, cursors_next, first_from, first_is}

@@ -7,6 +7,7 @@ use Rattle.lk_link.specs.declared.plan.OrderEvent.{OrderEvent}
 use Rattle.lk_link.specs.declared.plan.OrderEvent.TheVariants.{SegmentStart, SegmentEnd, Section, SetLocation, SetLocationRelative, SetSectionAddress}
 use Rattle.lk_link.specs.declared.plan.PlanSection.{PlanSection}
 use Rattle.lk_link.specs.Parts.{first_part}
+use Rattle.lk_link.proofs.PartNumbers.{first_part-suc}
 use Rattle.lk_place.specs.declared.cursors.Cursors.{Cursors}
 use Rattle.lk_place.specs.Placement.{IsPlacedBefore, section_start}
 use Rattle.lk_place.specs.Ranges.{HasPart}
@@ -15,7 +16,6 @@ use Rattle.lk_place.specs.Setting.{IsReady, Setting, part_count, part_number}
 use Rattle.lk_place.specs.Walk.{cursors_after, entered, lies_in, record_after, record_by, recorded, rewritten}
 use Rattle.lk_place.proofs.ApartLaws.{section_one}
 use Rattle.lk_place.proofs.Insides.{placed_in_range}
-use Rattle.lk_link.proofs.PartNumbers.{first_part-suc}
 
 -- event k places section s
 abbrev pub PlacesAt : Setting → ℕ → ℕ → Type 0

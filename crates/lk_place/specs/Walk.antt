@@ -8,6 +8,7 @@ use Rattle.lk_link.specs.Expressions.{as_number}
 use Rattle.lk_link.specs.Inside.{placed_section}
 use Rattle.lk_link.specs.Parts.{first_part, part_at}
 use Rattle.lk_link.specs.PlanSections.{is_file_backed}
+use Rattle.lk_link.specs.Target.{platform_target}
 use Rattle.lk_place.specs.declared.cursors.Cursors.{Cursors}
 use Rattle.lk_place.specs.declared.error.PlaceError.{PlaceError}
 use Rattle.lk_place.specs.declared.error.Refusal.{Refusal}
@@ -18,7 +19,6 @@ use Rattle.lk_place.specs.Placement.{end_behind, first_walked, is_below, is_walk
 use Rattle.lk_place.specs.Placement.{resting, section_end, section_start, walk_alignment}
 use Rattle.lk_place.specs.Records.{Record, nowhere, record_at}
 use Rattle.lk_place.specs.Setting.{IsReady, Setting, part_count, setting_of, size_at}
-use Rattle.lk_link.specs.Target.{platform_target}
 
 -- the cursors at which the walk begins: those of the placement, where the base is a number
 abbrev pub first_state : Setting → Cursors

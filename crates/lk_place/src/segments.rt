@@ -7,9 +7,9 @@
 ghost use Rattle.std.specs.Prelude.{◌≡◌, ◌==◌, ◌||◌, ◌<◌, ◌≤◌, ℕ, false, None, All, IfErr, IfOk, OnOk, filter, length, map, vec_len};
 ghost use Rattle.std.specs.List.{list_any, slice_index_or};
 ghost use Rattle.lk_link.specs.WellFormed.{IsWellFormed};
+ghost use Rattle.lk_link.specs.Marks.{is_marked};
 ghost use Rattle.lk_place.specs.Records.{record_at};
 ghost use Rattle.lk_place.specs.Segments.{Refuses, counts, first_outside, found_outside, hull, is_skipped};
-ghost use Rattle.lk_link.specs.Marks.{is_marked};
 ghost use Rattle.lk_place.specs.Segments.{may_stand_outside, outside_refusal, segment_layouts, segment_record, stack_record, stands_in};
 ghost use Rattle.lk_place.specs.Spans.{CanSpan};
 

@@ -10,13 +10,13 @@ ghost use Rattle.lk_link.specs.Expressions.{as_number};
 ghost use Rattle.lk_link.specs.Inside.{placed_section};
 ghost use Rattle.lk_link.specs.Parts.{all_parts};
 ghost use Rattle.lk_link.specs.WellFormed.{IsInRange, IsWellFormed};
+ghost use Rattle.lk_link.specs.Target.{platform_target};
 ghost use Rattle.lk_place.specs.Alignments.{place_alignment};
 ghost use Rattle.lk_place.specs.Answers.{GivesPlaced};
 ghost use Rattle.lk_place.specs.Placement.{event_refusal, memory_moved, moved, section_refusal};
 ghost use Rattle.lk_place.specs.Plans.{IsPlaceable};
 ghost use Rattle.lk_place.specs.Records.{nowhere, record_at};
 ghost use Rattle.lk_place.specs.Setting.{setting_of};
-ghost use Rattle.lk_link.specs.Target.{platform_target};
 ghost use Rattle.lk_place.specs.Walk.{GivesWalked, IsWalkable, Rewrites, left_behind, recorded, setting_in, stepped};
 ghost use Rattle.lk_place.specs.Walk.{at_event, rewritten, unless};
 
@@ -196,8 +196,9 @@ fn unplaced(alloc: Global, parts: usize) -> Result<Vec<OutputRecordLayout>, Allo
 }
 
 /// Where all parts and output sections stand, by the bytes of each part; or the first event with a number past 2^64 - 1.
-/// Offsets and addresses are in bytes (libwild: `compute_layout_sections`). The plan asks no more of the walk than this one
-/// does: it begins at a number, and has no region, no thread-local section and no event that moves the location.
+/// Offsets and addresses are in bytes (libwild: `compute_layout_sections`). Takes plans that ask no more of the walk than it does:
+/// for whole output, from a number on that isn't asked for, with no headers in a segment, no region, no thread-local section, no load
+/// address, and no event that moves the location or gives an address.
 pub fn compute_layout_sections<P: Platform>(
     alloc: Global,
     link: &LinkInput,

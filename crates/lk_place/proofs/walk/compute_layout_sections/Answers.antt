@@ -1,9 +1,9 @@
 use Rattle.std.proofs.Common.{◌≡◌, ◌∙◌, arith, List, length, sym, ap}
 use Rattle.lk_link.specs.Parts.{all_parts}
+use Rattle.lk_link.specs.Target.{platform_target}
 use Rattle.lk_place.specs.Records.{Record, record_at}
 use Rattle.lk_place.specs.Segments.{section_records}
 use Rattle.lk_place.specs.Setting.{IsReady, Setting, setting_of}
-use Rattle.lk_link.specs.Target.{platform_target}
 use Rattle.lk_place.proofs.Computing.{refused_answer, walked_placed, written_back}
 use Rattle.lk_place.proofs.walk.compute_layout_sections.Goals as goal
 

@@ -2,8 +2,8 @@ use Rattle.std.proofs.Common.{◌≡◌, drop}
 use Rattle.std.specs.Prelude.{find}
 use Rattle.std.specs.List.{filter_map}
 use Rattle.lk_link.specs.Inside.{placed_section}
-use Rattle.lk_place.specs.Segments.{found_outside, is_outside}
 use Rattle.lk_link.specs.Marks.{is_marked}
+use Rattle.lk_place.specs.Segments.{found_outside, is_outside}
 use Rattle.lk_place.proofs.segments.Spans.find_outside.Given as goal
 
 -- the first among those that are left is the first of all

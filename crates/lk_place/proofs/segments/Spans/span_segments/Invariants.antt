@@ -1,6 +1,6 @@
 use Rattle.std.proofs.Common.{◌≡◌, ◌++◌, drop}
-use Rattle.lk_place.specs.Segments.{segment_layouts}
 use Rattle.lk_link.specs.Marks.{is_marked}
+use Rattle.lk_place.specs.Segments.{segment_layouts}
 use Rattle.lk_place.proofs.segments.Spans.span_segments.Given as goal
 
 -- the layouts so far, followed by those that are left, are all
