@@ -8,9 +8,6 @@ use Rattle.lk_link.proofs.Numbers.{length-made, made_at}
 use Rattle.lk_place.specs.Records.{Record}
 use Rattle.lk_place.specs.Walk.{lies_in}
 
-among_more : (first j p : ℕ) → lies_in first j p ≡ true → lies_in first (j + 1) p ≡ true
-among_more first j p h = grind (arith, nat_tests)
-
 among_last : (first j : ℕ) → lies_in first (j + 1) (first + j) ≡ true
 among_last first j = grind (arith, nat_tests)
 
