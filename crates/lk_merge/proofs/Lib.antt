@@ -1,3 +1,5 @@
 pub mod AmongLemmas
+pub mod BucketLemmas
 pub mod PieceLemmas
+pub mod TableLemmas
 pub mod ZeroBytes

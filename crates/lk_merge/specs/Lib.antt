@@ -1,3 +1,5 @@
+pub mod BucketTables
+pub mod Buckets
 pub mod Hash
 pub mod Image
 pub mod Pieces

@@ -2,12 +2,14 @@
 //! holds one.
 #![tactic(auto)]
 
+pub mod bucket;
 pub mod error;
 pub mod hash;
 pub mod laws;
 pub mod offset;
 pub mod string;
 
+pub use bucket::MergeStringsSectionBucket;
 pub use error::MergeError;
 pub use hash::{Fnv64, PieceHash};
 pub use offset::{BucketOffset, LinearInputOffset};

@@ -33,9 +33,18 @@ impl BucketOffset {
         if offset >= 1 << OFFSET_BITS {
             return None;
         }
-        Some(BucketOffset {
+        Some(BucketOffset::at(bucket, offset))
+    }
+
+    /// This offset in this bucket.
+    pub(crate) fn at(bucket: usize, offset: u32) -> BucketOffset
+        requires bucket { bucket < 16 }
+        requires offset { offset < 2 ^ 28 }
+        ensures { result ≡ bucket * 2 ^ 28 + offset }
+    {
+        BucketOffset {
             number: bucket as u32 * (1 << OFFSET_BITS) + offset,
-        })
+        }
     }
 
     /// The bucket, below 16.
