@@ -1,5 +1,15 @@
 pub mod AmongLemmas
+pub mod Beginning
 pub mod BucketLemmas
+pub mod Constants
+pub mod Growing
+pub mod InputLemmas
+pub mod LaidOut
+pub mod MergedLemmas
 pub mod PieceLemmas
+pub mod Refusing
+pub mod Strings
 pub mod TableLemmas
+pub mod Taking
+pub mod TooLong
 pub mod ZeroBytes

@@ -26,15 +26,15 @@ last_after_zero (c ∷ bs) = last_of_more 0 c bs
 
 -- ---- cutting
 
-cut_zero : (b : ℕ) (bs : List ℕ) → b ≡ 0 → cut (b ∷ bs) ≡ (b ∷ []) ∷ cut bs
+pub cut_zero : (b : ℕ) (bs : List ℕ) → b ≡ 0 → cut (b ∷ bs) ≡ (b ∷ []) ∷ cut bs
 unfolding cut
 cut_zero b bs h = ap (λ t. cond t ((b ∷ []) ∷ cut bs) (lengthen b (cut bs))) (eq-eqb b 0 h)
 
-cut_other : (b : ℕ) (bs : List ℕ) → b ≢ 0 → cut (b ∷ bs) ≡ lengthen b (cut bs)
+pub cut_other : (b : ℕ) (bs : List ℕ) → b ≢ 0 → cut (b ∷ bs) ≡ lengthen b (cut bs)
 unfolding cut
 cut_other b bs h = ap (λ t. cond t ((b ∷ []) ∷ cut bs) (lengthen b (cut bs))) (ne_eqb b 0 h)
 
-cut_none : cut [] ≡ []
+pub cut_none : cut [] ≡ []
 unfolding cut
 cut_none = refl
 

@@ -1,6 +1,6 @@
 -- What the output holds of the pieces of its inputs, and where.
 use Rattle.std.specs.Prelude.{◌≡◌, ℕ, ◌+◌, ◌-◌, ◌%◌, ◌==◌, Bool, List, [], ◌∷◌, ◌++◌, Option, None, Some, if◌then◌else◌, filter, length, nat_lt}
-use Rattle.std.specs.List.{concat, flat_map, list_any}
+use Rattle.std.specs.List.{concat, flat_map, list_any, range_with_len}
 use Rattle.std.specs.Str.{bytes_eq}
 use Rattle.lk_merge.specs.Pieces.{Piece, MergeInput, pieces_of}
 
@@ -27,8 +27,8 @@ module _ (hash : Piece → ℕ) where
   bucket_list pieces b = firsts_behind [] (in_bucket b pieces)
 
 -- the buckets, in order
-abbrev pub all_buckets : List ℕ
-all_buckets = 0 ∷ 1 ∷ 2 ∷ 3 ∷ 4 ∷ 5 ∷ 6 ∷ 7 ∷ 8 ∷ 9 ∷ 10 ∷ 11 ∷ 12 ∷ 13 ∷ 14 ∷ 15 ∷ []
+unfoldable pub all_buckets : List ℕ
+all_buckets = range_with_len 0 16
 
 -- ---- the image
 

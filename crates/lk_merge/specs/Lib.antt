@@ -2,4 +2,8 @@ pub mod BucketTables
 pub mod Buckets
 pub mod Hash
 pub mod Image
+pub mod Inputs
+pub mod MergedTables
+pub mod Merging
+pub mod MergingTables
 pub mod Pieces

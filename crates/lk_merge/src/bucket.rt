@@ -91,7 +91,8 @@ impl<'data> MergeStringsSectionBucket<'data> {
 
     /// The bytes that it holds (libwild: `MergeStringsSectionBucket::len`).
     pub fn len(&self) -> usize
-        ensures { result ≡ length (concat self.now.pieces) }
+        ensures bytes { result ≡ length (concat self.now.pieces) }
+        ensures small { result ≤ 2 ^ 28 }
     {
         self.next_offset as usize
     }

@@ -5,12 +5,19 @@
 pub mod bucket;
 pub mod error;
 pub mod hash;
+pub mod inputs;
 pub mod laws;
+mod merging;
 pub mod offset;
+pub mod offset_map;
+pub mod section;
 pub mod string;
 
 pub use bucket::MergeStringsSectionBucket;
 pub use error::MergeError;
 pub use hash::{Fnv64, PieceHash};
+pub use inputs::{StringMergeInputSection, StringMergeInputSections, total_input_size};
 pub use offset::{BucketOffset, LinearInputOffset};
+pub use offset_map::OffsetMap;
+pub use section::MergedStringsSection;
 pub use string::MergeString;

@@ -1,0 +1,53 @@
+-- What merging makes of the inputs of an output section, or why it refuses them.
+use Rattle.std.specs.Prelude.{◌≡◌, ℕ, ◌+◌, ◌%◌, Bool, not, List, [], ◌∷◌, Option, None, Some, Result, Ok, Err, if◌then◌else◌, length, map, nat_lt, option_map, position}
+use Rattle.lk_link.specs.Files.{first_some}
+use Rattle.lk_merge.specs.declared.error.MergeError.{MergeError}
+use Rattle.lk_merge.specs.declared.error.MergeError.TheVariants.{NotTerminated, TooLarge, NoMemory}
+use Rattle.lk_merge.specs.Buckets.{bucket_place}
+use Rattle.lk_merge.specs.Image.{bucket_list, all_buckets, all_pieces, place_in}
+use Rattle.lk_merge.specs.Pieces.{Piece, MergeInput, is_terminated}
+
+-- ---- places
+
+-- the place of a piece: its bucket, and where it starts there, in one number
+abbrev pub place_of : (Piece → ℕ) → List Piece → Piece → ℕ
+place_of hash pieces p = bucket_place (hash p % 16) (place_in (bucket_list hash pieces (hash p % 16)) p)
+
+-- ---- refusals
+
+-- the first of some pieces, the first of which starts at a place, that ends past the limit: where it starts, and its length
+unfoldable pub first_too_long : ℕ → ℕ → List Piece → Option (ℕ × ℕ)
+first_too_long limit at [] = None
+first_too_long limit at (p ∷ ps) = if nat_lt limit (at + length p) then Some (at, length p) else first_too_long limit (at + length p) ps
+
+-- the refusal of a bucket that would keep these pieces
+abbrev pub bucket_refusal : ℕ → ℕ → ℕ → List Piece → Option MergeError
+bucket_refusal section limit b kept = option_map (λ q. TooLarge section b q.0 q.1) (first_too_long limit 0 kept)
+
+-- the first answer among some things
+unfoldable pub first_of : {X Y : Type 0} → (X → Option Y) → List X → Option Y
+first_of f [] = None
+first_of f (x ∷ xs) = first_some (f x) (first_of f xs)
+
+-- the least bucket's refusal
+abbrev pub long_refusal : (Piece → ℕ) → ℕ → ℕ → List Piece → Option MergeError
+long_refusal hash section limit pieces = first_of (λ b. bucket_refusal section limit b (bucket_list hash pieces b)) all_buckets
+
+-- the refusal of an output section: of its first input that isn't terminated, else of a piece that is too long
+abbrev pub merge_refusal : (Piece → ℕ) → ℕ → ℕ → List MergeInput → Option MergeError
+merge_refusal hash section limit inputs =
+    first_some (option_map (λ k. NotTerminated section k) (position (λ x. not (is_terminated x)) inputs))
+    (long_refusal hash section limit (all_pieces inputs))
+
+-- ---- what is kept
+
+-- what the buckets of an output section keep, in order; without inputs it has no buckets
+abbrev pub kept_lists : (Piece → ℕ) → List MergeInput → List (List Piece)
+kept_lists hash [] = []
+kept_lists hash (x ∷ xs) = map (bucket_list hash (all_pieces (x ∷ xs))) all_buckets
+
+-- what the merging of an output section answers: its inputs merged, or the refusal; nothing is said for want of memory
+abbrev pub GivesMerged : (Piece → ℕ) → ℕ → ℕ → List MergeInput → Result (List MergeInput) MergeError → Type 0
+GivesMerged hash section limit inputs (Ok merged) = (merge_refusal hash section limit inputs ≡ None) × (merged ≡ inputs)
+GivesMerged hash section limit inputs (Err NoMemory) = Unit {0}
+GivesMerged hash section limit inputs (Err error) = merge_refusal hash section limit inputs ≡ Some error

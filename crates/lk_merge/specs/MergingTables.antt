@@ -1,0 +1,61 @@
+-- Of the insides of merging: what the pieces so far have made of the buckets and of the offset map. Cited by private parts
+-- alone.
+use Rattle.std.specs.Prelude.{◌≡◌, ℕ, ◌+◌, ◌<◌, ◌≤◌, ◌^◌, List, [], ◌∷◌, ◌++◌, Option, None, Some, Result, Ok, Err, length, map, slice_get}
+use Rattle.std.specs.List.{concat}
+use Rattle.lk_merge.specs.declared.error.MergeError.{MergeError}
+use Rattle.lk_merge.specs.declared.error.MergeError.TheVariants.{NoMemory}
+use Rattle.lk_merge.specs.declared.merging.BucketState.{BucketState}
+use Rattle.lk_merge.specs.declared.merging.Merging.{Merging}
+use Rattle.lk_merge.specs.declared.offset_map.PieceEntry.{PieceEntry}
+use Rattle.lk_merge.specs.Hash.{fnv64}
+use Rattle.lk_merge.specs.Image.{bucket_list, firsts_behind, in_bucket}
+use Rattle.lk_merge.specs.Inputs.{Located, located, located_in}
+use Rattle.lk_merge.specs.Merging.{bucket_refusal, long_refusal, place_of}
+use Rattle.lk_merge.specs.Pieces.{Piece, MergeInput, IsString}
+
+-- the state of a bucket after the pieces that it should keep: it has them, or has stopped at its first one that is too long
+pub record HasTaken (section limit b : ℕ) (kept : List Piece) (state : BucketState) : Type 0 where
+  pub refusal : state.refusal ≡ bucket_refusal section limit b kept
+  pub holds : bucket_refusal section limit b kept ≡ None → state.bucket ≡ record { section = section; number = b; limit = limit; pieces = kept }
+
+-- the pieces of some located ones
+abbrev pub pieces_in : List Located → List Piece
+pieces_in done = map (λ l. l.piece) done
+
+-- no bucket refuses any of some pieces
+abbrev pub AllFit : ℕ → ℕ → List Piece → Type 0
+AllFit section limit pieces = (b : ℕ) → b < 16 → bucket_refusal section limit b (bucket_list fnv64 pieces b) ≡ None
+
+-- what the offset map says of a piece, among all pieces
+abbrev pub entry_of : List Piece → Located → PieceEntry
+entry_of pieces l = record { start = l.start; place = place_of fnv64 pieces l.piece; input = l.input }
+
+-- what located pieces have made of the buckets and of the map
+pub record HasMerged (section limit : ℕ) (done : List Located) (merging : Merging) : Type 0 where
+  pub count : length merging.buckets.items ≡ 16
+  pub buckets : (b : ℕ) (state : BucketState) → slice_get merging.buckets.items b ≡ Some state
+      → HasTaken section limit b (bucket_list fnv64 (pieces_in done) b) state
+  pub entries : AllFit section limit (pieces_in done) → merging.entries.items ≡ map (entry_of (pieces_in done)) done
+
+-- the strings that were taken of some data, what is left, and what they have made
+pub record TookStrings (bytes : List ℕ) (input from : ℕ) (old : Merging) (rest : List ℕ) (start : ℕ) (new : Merging) : Type 0 where
+  pub taken : List Piece
+  pub each : (k : ℕ) (p : Piece) → slice_get taken k ≡ Some p → IsString p
+  pub whole : bytes ≡ concat taken ++ rest
+  pub at : start ≡ from + length (concat taken)
+  pub count : length new.buckets.items ≡ length old.buckets.items
+  pub made : (section limit : ℕ) (done : List Located) → HasMerged section limit done old
+      → HasMerged section limit (done ++ located_in input from taken) new
+
+-- all pieces of some inputs have been added, for some output section and limit
+pub record HasMergedAll (inputs : List MergeInput) (merging : Merging) : Type 0 where
+  pub section : ℕ
+  pub limit : ℕ
+  pub small : limit ≤ 2 ^ 28
+  pub merged : HasMerged section limit (located inputs) merging
+
+-- what the merging of pieces answers, by the buckets alone
+abbrev pub GivesFitting : ℕ → ℕ → List Piece → List MergeInput → Result (List MergeInput) MergeError → Type 0
+GivesFitting section limit pieces inputs (Ok merged) = (long_refusal fnv64 section limit pieces ≡ None) × (merged ≡ inputs)
+GivesFitting section limit pieces inputs (Err NoMemory) = Unit {0}
+GivesFitting section limit pieces inputs (Err error) = long_refusal fnv64 section limit pieces ≡ Some error
