@@ -1,6 +1,6 @@
 -- What merging has made before the first piece.
-use Rattle.std.proofs.Common.{◌≡◌, ℕ, ◌+◌, ◌<◌, List, [], ◌∷◌, ◌++◌, length, map, get_or, Option, None, Some, refl, sym, ap, ◌∙◌, subst, arith}
-use Rattle.std.specs.List.{range_with_len, slice_get}
+use Rattle.std.proofs.Common.{◌≡◌, ℕ, ◌<◌, [], length, map, get_or, None, refl, sym, ap, ◌∙◌, subst, arith}
+use Rattle.std.specs.List.{range_with_len}
 use Rattle.std.proofs.lemmas.List.FromFn.{length-map-range_with_len, get_or-map-range_with_len}
 use Rattle.std.proofs.lemmas.Option.{slice_get_within, get_or_from_slice_get}
 use Rattle.lk_merge.specs.declared.merging.BucketState.{BucketState}
@@ -10,7 +10,6 @@ use Rattle.lk_merge.specs.Hash.{fnv64}
 use Rattle.lk_merge.specs.Image.{firsts_behind, bucket_list}
 use Rattle.lk_merge.specs.Merging.{bucket_refusal, first_too_long}
 use Rattle.lk_merge.specs.MergingTables.{HasTaken, HasMerged}
-use Rattle.lk_merge.proofs.TooLong.{too_long_none}
 
 -- a bucket before its first piece
 abbrev pub empty_state : ℕ → ℕ → ℕ → BucketState
@@ -37,8 +36,8 @@ merged_none section limit merging buckets entries = record {
   buckets = λ b state at.
       let small : b < 16 = let n = length-map-range_with_len (empty_state section limit) 0 16 in omega (arith, slice_get_within merging.buckets.items b state at, ap length buckets, n) in
       let is : empty_state section limit b ≡ state =
-          sym (get_or-map-range_with_len (empty_state section limit) 0 16 b b state small (omega arith)) ∙ ap (λ l. get_or l b state) (sym buckets)
-          ∙ get_or_from_slice_get merging.buckets.items b state state at in
+      sym (get_or-map-range_with_len (empty_state section limit) 0 16 b b state small (omega arith)) ∙ ap (λ l. get_or l b state) (sym buckets)
+      ∙ get_or_from_slice_get merging.buckets.items b state state at in
       subst (HasTaken section limit b (bucket_list fnv64 [] b)) is (took_none section limit b);
   entries = λ _. entries;
 }

@@ -1,8 +1,8 @@
 -- What a bucket answers, by its table.
-use Rattle.std.proofs.Common.{◌≡◌, ℕ, ◌+◌, ◌-◌, ◌*◌, ◌^◌, ◌<◌, ◌≤◌, Bool, true, false, cond, ◌||◌, List, [], ◌∷◌, ◌++◌, length, map, Option, None, Some, Ok, Err, refl, sym, ap, ◌∙◌, arith, subst, leb}
+use Rattle.std.proofs.Common.{◌≡◌, ℕ, ◌+◌, ◌-◌, ◌^◌, ◌<◌, ◌≤◌, Bool, true, false, cond, ◌||◌, List, [], ◌∷◌, ◌++◌, length, map, None, Some, Ok, Err, refl, sym, ap, ◌∙◌, arith, leb}
 use Rattle.std.specs.List.{concat}
 use Rattle.std.specs.Map.{keys_of, lookup}
-use Rattle.std.proofs.lemmas.Bool.{true≢false, le-leb, lt-leb}
+use Rattle.std.proofs.lemmas.Bool.{le-leb, lt-leb}
 use Rattle.std.proofs.lemmas.List.{map-append}
 use Rattle.lk_merge.specs.declared.error.MergeError.TheVariants.{TooLarge}
 use Rattle.lk_merge.specs.declared.string.MergeString.{MergeString}
@@ -52,11 +52,10 @@ module _ (section number limit next : ℕ) (entries : List (MergeString × ℕ))
       × (bucket_by section number limit entries ≡ with_piece (bucket_by section number limit entries) p)
   answer_there v h =
       let found = there v h in
-      let bucket : Bucket = bucket_by section number limit entries in
-      (
+      let bucket : Bucket = bucket_by section number limit entries in (
         ap (λ t. cond (t || fits_behind bucket p) (Ok (bucket_place number (place_in (stored entries) p)))
-        (Err (TooLarge section number (length (concat (stored entries))) (length p)))) found.0
-        ∙ ap (λ n. Ok (bucket_place number n)) (sym found.1),
+            (Err (TooLarge section number (length (concat (stored entries))) (length p)))) found.0
+            ∙ ap (λ n. Ok (bucket_place number n)) (sym found.1),
         ap (λ t. record bucket { pieces = cond t (stored entries) (stored entries ++ p ∷ []) }) (sym found.0),
       )
 

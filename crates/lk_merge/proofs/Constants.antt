@@ -1,7 +1,7 @@
 -- The one piece of a constant, and answers of calls that are passed on.
-use Rattle.std.proofs.Common.{◌≡◌, ◌≢◌, ℕ, ◌+◌, ◌<◌, Bool, true, false, cond, List, [], ◌∷◌, ◌++◌, length, Result, Ok, Err, refl, sym, ap, ◌∙◌, arith}
+use Rattle.std.proofs.Common.{◌≡◌, ◌≢◌, ℕ, ◌+◌, true, false, cond, List, [], ◌∷◌, length, Result, Ok, Err, refl, ap, ◌∙◌, arith}
 use Rattle.std.specs.Result.{OnOk}
-use Rattle.lk_merge.specs.Inputs.{Located, located_in}
+use Rattle.lk_merge.specs.Inputs.{located_in}
 use Rattle.lk_merge.specs.Pieces.{MergeInput, cut, constant, pieces_of}
 use Rattle.lk_merge.proofs.InputLemmas.{located_in_none, located_in_step}
 

@@ -1,14 +1,14 @@
 -- What merging has made, with one more piece.
-use Rattle.std.proofs.Common.{◌≡◌, ◌≢◌, ℕ, zero, suc, ◌+◌, ◌*◌, ◌%◌, ◌<◌, ◌≤◌, Bool, true, false, cond, ◌||◌, eqb, List, [], ◌∷◌, ◌++◌, length, map, set, get_or, filter, Option, None, Some, option_map, refl, sym, ap, ◌∙◌, subst, arith, inl, inr, ◌⊎◌, append-nil}
-use Rattle.std.specs.List.{slice_get, concat}
+use Rattle.std.proofs.Common.{◌≡◌, ◌≢◌, ℕ, zero, suc, ◌+◌, ◌%◌, ◌<◌, Bool, true, false, cond, ◌||◌, eqb, List, [], ◌∷◌, ◌++◌, length, map, set, Option, None, Some, option_map, refl, sym, ap, ◌∙◌, subst, arith, inl, inr, append-nil}
+use Rattle.std.specs.List.{slice_get}
 use Rattle.std.specs.Option.{option_to_list}
 use Rattle.std.specs.Str.{bytes_eq}
 use Rattle.std.proofs.Math.Nat.{mod-lt}
-use Rattle.std.proofs.lemmas.Bool.{true≢false, eqb-true, eqb-false, eq-eqb, ne_eqb}
+use Rattle.std.proofs.lemmas.Bool.{eqb-false, eq-eqb, ne_eqb}
 use Rattle.std.proofs.lemmas.Bool.Decides.{eqb_tells}
-use Rattle.std.proofs.lemmas.List.{map-append, length-set, get_or-set_same, get_or-set_other, length_push}
+use Rattle.std.proofs.lemmas.List.{map-append, length-set}
 use Rattle.std.proofs.lemmas.List.Elements.{filter-append}
-use Rattle.std.proofs.lemmas.Option.{slice_get-get_or, slice_get_within, get_or_from_slice_get}
+use Rattle.std.proofs.lemmas.Option.{slice_get_within}
 use Rattle.lk_merge.specs.declared.error.MergeError.{MergeError}
 use Rattle.lk_merge.specs.declared.merging.BucketState.{BucketState}
 use Rattle.lk_merge.specs.declared.merging.Merging.{Merging as Merges}
@@ -20,7 +20,7 @@ use Rattle.lk_merge.specs.Inputs.{Located}
 use Rattle.lk_merge.specs.Merging.{bucket_refusal, place_of}
 use Rattle.lk_merge.specs.MergingTables.{HasTaken, HasMerged, AllFit, pieces_in, entry_of}
 use Rattle.lk_merge.specs.Pieces.{Piece}
-use Rattle.lk_merge.proofs.AmongLemmas.{same_piece, among-append, among-firsts, firsts-append, place-append_in, equal_piece}
+use Rattle.lk_merge.proofs.AmongLemmas.{same_piece, among-firsts, firsts-append, place-append_in, equal_piece}
 use Rattle.lk_merge.proofs.TooLong.{stays_refused}
 
 -- ---- pieces of a bucket
@@ -51,7 +51,7 @@ place_stays hash ps more q h =
     let b : ℕ = hash q % 16 in
     let there : is_among (bucket_list hash ps b) q ≡ true = among_bucket_list hash ps q ∙ h in
     let grown : bucket_list hash (ps ++ more) b ≡ bucket_list hash ps b ++ firsts_behind (in_bucket hash b ps) (in_bucket hash b more)
-        = ap (firsts_behind []) (filter-append _ ps more) ∙ firsts-append [] (in_bucket hash b ps) (in_bucket hash b more) in
+    = ap (firsts_behind []) (filter-append _ ps more) ∙ firsts-append [] (in_bucket hash b ps) (in_bucket hash b more) in
     ap (bucket_place b) (sym (place-append_in (bucket_list hash ps b) (firsts_behind (in_bucket hash b ps) (in_bucket hash b more)) q there))
     ∙ ap (λ l. bucket_place b (place_in l q)) (sym grown)
 
@@ -166,7 +166,7 @@ module _ (section limit : ℕ) (done : List Located) (old new : Merges) (p : Pie
             let before : old.entries.items ≡ map (entry_of ps) done = h.entries (fit_before section limit ps p fits) in
             let none : after.refusal ≡ None = mine.0.refusal ∙ ap (bucket_refusal section limit own) (sym (own_list ps p own (eq-eqb own own refl))) ∙ fits own small in
             let at_place : place ≡ Some (place_of fnv64 (ps ++ p ∷ []) p)
-                = mine.1 none ∙ ap (λ l. Some (bucket_place own (place_in l p))) (sym (own_list ps p own (eq-eqb own own refl))) in
+            = mine.1 none ∙ ap (λ l. Some (bucket_place own (place_in l p))) (sym (own_list ps p own (eq-eqb own own refl))) in
             entries ∙ ap (λ l. l ++ told start input place) (before ∙ entries_stay done (p ∷ []))
             ∙ ap (λ o. map (entry_of (ps ++ p ∷ [])) done ++ told start input o) at_place
             ∙ sym (map-append (entry_of (ps ++ p ∷ [])) done (here ∷ []))

@@ -1,6 +1,6 @@
 -- Inputs one behind another, and the places of their pieces.
-use Rattle.std.proofs.Common.{◌≡◌, ℕ, zero, suc, ◌+◌, ◌≤◌, ◌<◌, List, [], ◌∷◌, ◌++◌, length, map, sum_by, Some, option_map, inl, inr, ◌⊎◌, ◌^◌, refl, sym, ap, ◌∙◌, arith, append_assoc, append-nil, length-append}
-use Rattle.std.specs.List.{concat, flat_map, slice_get}
+use Rattle.std.proofs.Common.{◌≡◌, ℕ, zero, suc, ◌+◌, ◌<◌, List, [], ◌∷◌, ◌++◌, length, map, Some, option_map, inl, inr, ◌⊎◌, ◌^◌, refl, sym, ap, ◌∙◌, arith, append_assoc, append-nil, length-append}
+use Rattle.std.specs.List.{concat, slice_get}
 use Rattle.std.proofs.lemmas.List.{map-append, length_push}
 use Rattle.std.proofs.lemmas.List.Sums.{sum_by_push, sum_by-cons}
 use Rattle.std.proofs.lemmas.Option.{slice_get-map, slice_get_within}
@@ -52,13 +52,13 @@ one_more_input total ss s h at fits few behind = record {
   few = let n = length_push ss s in omega (arith, n, few);
   rise = λ j k r t below r_at t_at. elim (push_at ss s t k t_at) [
     | inl b ↦ elim (push_at ss s r j r_at) [
-        | inl a ↦ h.rise j k r t below a b
-        | inr a ↦ absurd (omega (arith, a.0, below, slice_get_within ss k t b))
-      ]
+      | inl a ↦ h.rise j k r t below a b
+      | inr a ↦ absurd (omega (arith, a.0, below, slice_get_within ss k t b))
+    ]
     | inr b ↦ elim (push_at ss s r j r_at) [
-        | inl a ↦ let less = behind j (input_of r) (slice_get-map input_of ss j ∙ ap (option_map input_of) a) in let n : s.number ≡ t.number = ap (λ (x : StringMergeInputSection). x.number) b.1 in omega (arith, less, n)
-        | inr a ↦ absurd (omega (arith, a.0, b.0, below))
-      ]
+      | inl a ↦ let less = behind j (input_of r) (slice_get-map input_of ss j ∙ ap (option_map input_of) a) in let n : s.number ≡ t.number = ap (λ (x : StringMergeInputSection). x.number) b.1 in omega (arith, less, n)
+      | inr a ↦ absurd (omega (arith, a.0, b.0, below))
+    ]
   ];
 }
 

@@ -1,5 +1,5 @@
 -- Where inputs start, and that they end within all.
-use Rattle.std.proofs.Common.{◌≡◌, ℕ, zero, suc, ◌+◌, ◌≤◌, ◌<◌, ◌^◌, List, [], ◌∷◌, ◌++◌, length, map, take, get_or, sum_by, refl, sym, ap, ◌∙◌, subst, arith, add-one}
+use Rattle.std.proofs.Common.{◌≡◌, ℕ, zero, suc, ◌+◌, ◌≤◌, ◌<◌, ◌^◌, List, [], ◌∷◌, ◌++◌, length, map, take, get_or, sym, ap, ◌∙◌, subst, arith}
 use Rattle.std.proofs.lemmas.List.{map-append, length-map, length-take-le, take_more}
 use Rattle.std.proofs.lemmas.List.Sums.{sum_by-cons}
 use Rattle.lk_merge.specs.declared.inputs.StringMergeInputSection.{StringMergeInputSection}
@@ -54,7 +54,7 @@ merged_next section limit total ss k s old new h within is merged =
     let count : length before ≡ k = length-map (take k ss) input_of ∙ length-take-le k ss (omega arith) in
     let start : s.start_input_offset ≡ 0 + padded_total before = laid_out_at 0 ss k s h.laid_out within is in
     let more : map input_of (take (k + 1) ss) ≡ before ++ input_of s ∷ []
-        = ap (map input_of) (take_more ss k s within ∙ ap (λ (x : StringMergeInputSection). take k ss ++ x ∷ []) (sym is)) ∙ map-append input_of (take k ss) (s ∷ []) in
+    = ap (map input_of) (take_more ss k s within ∙ ap (λ (x : StringMergeInputSection). take k ss ++ x ∷ []) (sym is)) ∙ map-append input_of (take k ss) (s ∷ []) in
     let all : located (map input_of (take (k + 1) ss)) ≡ located before ++ located_in k s.start_input_offset (pieces_of (input_of s))
-        = ap located more ∙ located_from_push 0 0 k before (input_of s) (omega (arith, count)) ∙ ap (λ n. located before ++ located_in k n (pieces_of (input_of s))) (sym start) in
+    = ap located more ∙ located_from_push 0 0 k before (input_of s) (omega (arith, count)) ∙ ap (λ n. located before ++ located_in k n (pieces_of (input_of s))) (sym start) in
     subst (λ l. HasMerged section limit l new) (sym all) merged

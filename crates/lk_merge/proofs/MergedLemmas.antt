@@ -1,5 +1,5 @@
 -- A merged section's buckets and offset map.
-use Rattle.std.proofs.Common.{◌≡◌, ◌≢◌, ℕ, zero, suc, ◌+◌, ◌<◌, ◌≤◌, ◌^◌, Bool, true, false, eqb, List, [], ◌∷◌, ◌++◌, length, map, take, get_or, Option, None, Some, Ok, Err, option_map, refl, sym, ap, ◌∙◌, subst, arith}
+use Rattle.std.proofs.Common.{◌≡◌, ◌≢◌, ℕ, zero, suc, ◌+◌, ◌<◌, ◌≤◌, ◌^◌, Bool, true, false, eqb, List, [], ◌∷◌, length, map, take, get_or, Option, None, Some, Err, option_map, refl, sym, ap, ◌∙◌, subst, arith}
 use Rattle.std.specs.List.{concat, list_all, range_with_len, slice_get, All}
 use Rattle.std.proofs.lemmas.Bool.{eqb-true, eqb-false}
 use Rattle.std.proofs.lemmas.List.{length-map, get_or-take}
@@ -16,7 +16,7 @@ use Rattle.lk_merge.specs.Hash.{fnv64}
 use Rattle.lk_merge.specs.Image.{all_buckets, all_pieces, bucket_list}
 use Rattle.lk_merge.specs.Inputs.{Located, located}
 use Rattle.lk_merge.specs.MergedTables.{IsMerged}
-use Rattle.lk_merge.specs.Merging.{bucket_refusal, first_of, first_too_long, kept_lists, long_refusal}
+use Rattle.lk_merge.specs.Merging.{bucket_refusal, first_of, kept_lists, long_refusal}
 use Rattle.lk_merge.specs.MergingTables.{AllFit, GivesFitting, HasMerged, entry_of, pieces_in}
 use Rattle.lk_merge.specs.Pieces.{Piece, MergeInput, is_terminated}
 use Rattle.lk_merge.proofs.TooLong.{fits_from_none, none_first, some_first, unrefused_list}
@@ -63,8 +63,8 @@ module _ (section limit : ℕ) (done : List Located) (merging : Merges) (h : Has
       let states : List BucketState = merging.buckets.items in
       let s = states_at states b (omega (arith, h.count)) in
       let there : slice_get (map (λ (k : Bucket). k.pieces) (map (λ (z : BucketState). z.bucket) states)) b ≡ Some s.0.bucket.pieces
-          = slice_get-map (λ (k : Bucket). k.pieces) (map (λ (z : BucketState). z.bucket) states) b
-          ∙ ap (option_map (λ (k : Bucket). k.pieces)) (slice_get-map (λ (z : BucketState). z.bucket) states b ∙ ap (option_map (λ (z : BucketState). z.bucket)) s.1) in
+      = slice_get-map (λ (k : Bucket). k.pieces) (map (λ (z : BucketState). z.bucket) states) b
+      ∙ ap (option_map (λ (k : Bucket). k.pieces)) (slice_get-map (λ (z : BucketState). z.bucket) states b ∙ ap (option_map (λ (z : BucketState). z.bucket)) s.1) in
       get_or_from_slice_get _ b s.0.bucket.pieces [] there ∙ ap (λ (k : Bucket). k.pieces) ((h.buckets b s.0 s.1).holds (fit b small))
 
   pub kept_are : AllFit section limit pieces
@@ -137,9 +137,9 @@ found_long section limit done merging before state e h none are within at is =
     let f : ℕ → Option MergeError = λ b. bucket_refusal section limit b (bucket_list fnv64 (pieces_in done) b) in
     let here : slice_get states i ≡ Some state = slice_get-get_or states i state within ∙ ap (λ (s : BucketState). Some s) (sym at) in
     first_among f 0 16 i e (omega arith) (omega (arith, h.count)) (λ b low high.
-        let s = states_at states b (omega arith) in
-        let same : get_or before b s.0 ≡ s.0 = ap (λ l. get_or l b s.0) are ∙ get_or-take i states b s.0 high ∙ get_or_from_slice_get states b s.0 s.0 s.1 in
-        state_refusal section limit done merging h b s.0 s.1 ∙ subst (λ (z : BucketState). z.refusal ≡ None) same (none b s.0 high))
+    let s = states_at states b (omega arith) in
+    let same : get_or before b s.0 ≡ s.0 = ap (λ l. get_or l b s.0) are ∙ get_or-take i states b s.0 high ∙ get_or_from_slice_get states b s.0 s.0 s.1 in
+    state_refusal section limit done merging h b s.0 s.1 ∙ subst (λ (z : BucketState). z.refusal ≡ None) same (none b s.0 high))
     (state_refusal section limit done merging h i state here ∙ is)
 
 pub gives_long : (section limit : ℕ) (all : List Piece) (inputs : List MergeInput) (e : MergeError) → long_refusal fnv64 section limit all ≡ Some e

@@ -1,7 +1,7 @@
 -- The refusal of an output section, by what was found.
-use Rattle.std.proofs.Common.{◌≡◌, ◌≢◌, ℕ, zero, suc, ◌+◌, ◌<◌, ◌≤◌, Bool, true, false, cond, ◌&&◌, not, ltb, List, [], ◌∷◌, length, map, Option, None, Some, Result, Ok, Err, option_map, refl, sym, ap, ◌∙◌, subst, arith}
+use Rattle.std.proofs.Common.{◌≡◌, ℕ, ◌+◌, ◌≤◌, Bool, true, false, cond, ◌&&◌, not, ltb, List, [], ◌∷◌, length, map, Option, None, Some, Result, Ok, Err, option_map, refl, sym, ap, ◌∙◌, arith}
 use Rattle.std.specs.List.{list_all, prefix_len, position, position_or_len}
-use Rattle.std.proofs.lemmas.Bool.{true≢false, ltb-false, not-false}
+use Rattle.std.proofs.lemmas.Bool.{ltb-false}
 use Rattle.std.proofs.lemmas.List.{length-map}
 use Rattle.lk_link.specs.Files.{first_some}
 use Rattle.lk_merge.specs.declared.error.MergeError.{MergeError}
@@ -11,7 +11,7 @@ use Rattle.lk_merge.specs.Hash.{fnv64}
 use Rattle.lk_merge.specs.Image.{all_pieces}
 use Rattle.lk_merge.specs.Inputs.{input_of}
 use Rattle.lk_merge.specs.Merging.{GivesMerged, bucket_refusal, long_refusal, merge_refusal}
-use Rattle.lk_merge.specs.MergingTables.{AllFit, GivesFitting}
+use Rattle.lk_merge.specs.MergingTables.{GivesFitting}
 use Rattle.lk_merge.specs.Pieces.{MergeInput, is_terminated}
 use Rattle.lk_merge.proofs.Beginning.{fine, no_list}
 use Rattle.lk_merge.proofs.MergedLemmas.{no_long}
@@ -36,7 +36,7 @@ all_from_prefix t (x ∷ xs) h = by (t x) refl (all_from_prefix t xs)
     by : (b : Bool) → t x ≡ b → (length xs ≤ prefix_len (λ y. not (not (t y))) xs → list_all t xs ≡ true) → list_all t (x ∷ xs) ≡ true
     by true e rest =
         let n : prefix_len (λ y. not (not (t y))) (x ∷ xs) ≡ 1 + prefix_len (λ y. not (not (t y))) xs
-            = ap (λ b. cond (not (not b)) (1 + prefix_len (λ y. not (not (t y))) xs) 0) e in
+        = ap (λ b. cond (not (not b)) (1 + prefix_len (λ y. not (not (t y))) xs) 0) e in
         ap (λ b. b && list_all t xs) e ∙ rest (omega (arith, h, n))
     by false e rest =
         let n : prefix_len (λ y. not (not (t y))) (x ∷ xs) ≡ 0 = ap (λ b. cond (not (not b)) (1 + prefix_len (λ y. not (not (t y))) xs) 0) e in

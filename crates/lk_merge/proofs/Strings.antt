@@ -1,5 +1,5 @@
 -- The strings that are taken of some data, one after the other.
-use Rattle.std.proofs.Common.{◌≡◌, ◌≢◌, ℕ, zero, suc, ◌+◌, ◌≤◌, ◌<◌, List, [], ◌∷◌, ◌++◌, length, Some, refl, sym, ap, ◌∙◌, subst, arith, append_assoc, append-nil, length-append, inl, inr}
+use Rattle.std.proofs.Common.{◌≡◌, ◌≢◌, ℕ, zero, suc, ◌+◌, ◌≤◌, ◌<◌, List, [], ◌∷◌, ◌++◌, length, Some, refl, sym, ap, ◌∙◌, subst, arith, append_assoc, append-nil, length-append}
 use Rattle.std.specs.List.{concat, slice_get, Contains}
 use Rattle.lk_merge.specs.declared.merging.Merging.{Merging as Merges}
 use Rattle.lk_merge.specs.Inputs.{Located, located_in}
@@ -61,7 +61,7 @@ module _ (bytes : List ℕ) (input from : ℕ) (old : Merges) where
         let one : Located = record { input = input; start = at; piece = p } in
         let last : ℕ → List Located = λ n. (done ++ located_in input from h.taken) ++ record { input = input; start = n; piece = p } ∷ [] in
         let wide : (done ++ located_in input from h.taken) ++ one ∷ [] ≡ done ++ located_in input from (h.taken ++ p ∷ [])
-            = ap last h.at ∙ append_assoc done (located_in input from h.taken) _ ∙ ap (λ l. done ++ l) (sym (located_in_push input from h.taken p)) in
+        = ap last h.at ∙ append_assoc done (located_in input from h.taken) _ ∙ ap (λ l. done ++ l) (sym (located_in_push input from h.taken p)) in
         subst (λ l. HasMerged section limit l new) wide (made section limit (done ++ located_in input from h.taken) (h.made section limit done merged));
   }
 
@@ -75,5 +75,5 @@ module _ (bytes : List ℕ) (input from : ℕ) (old : Merges) where
       → (section limit : ℕ) (done : List Located) → HasMerged section limit done old → HasMerged section limit (done ++ located_in input from (cut bytes)) new
   took_all rest at new h none section limit done merged =
       let same : h.taken ≡ cut bytes
-          = sym (append-nil h.taken) ∙ ap (λ l. h.taken ++ l) (sym (cut_no_zero rest none)) ∙ sym (cut_all h.taken rest h.each) ∙ ap cut (sym h.whole) in
+      = sym (append-nil h.taken) ∙ ap (λ l. h.taken ++ l) (sym (cut_no_zero rest none)) ∙ sym (cut_all h.taken rest h.each) ∙ ap cut (sym h.whole) in
       subst (λ ps. HasMerged section limit (done ++ located_in input from ps) new) same (h.made section limit done merged)

@@ -1,10 +1,9 @@
 -- The table of a bucket: each of its pieces with its place.
-use Rattle.std.proofs.Common.{◌≡◌, ℕ, ◌+◌, ◌≤◌, Bool, true, false, cond, ◌||◌, List, [], ◌∷◌, ◌++◌, length, map, Option, None, Some, refl, sym, ap, ◌∙◌, arith, length-append, append-nil}
+use Rattle.std.proofs.Common.{◌≡◌, ℕ, ◌+◌, Bool, true, false, cond, ◌||◌, List, [], ◌∷◌, ◌++◌, length, map, None, Some, refl, sym, ap, ◌∙◌, arith, length-append, append-nil}
 use Rattle.std.specs.List.{concat}
 use Rattle.std.specs.Map.{keys_of, lookup}
 use Rattle.std.specs.Str.{bytes_eq}
 use Rattle.std.proofs.lemmas.Bool.{true≢false}
-use Rattle.std.proofs.lemmas.List.{map-append}
 use Rattle.lk_merge.specs.declared.string.MergeString.{MergeString}
 use Rattle.lk_merge.specs.BucketTables.{piece_of, placed_from}
 use Rattle.lk_merge.specs.Image.{is_among, place_in}
@@ -34,7 +33,7 @@ lookup_there at (s ∷ ss) p h = by (lookup_there (at + length s.bytes.now) ss p
     by rest false e =
         let there : is_among (map piece_of ss) p ≡ true = ap (λ b. b || is_among (map piece_of ss) p) (sym e) ∙ h in
         let n : (at + length s.bytes.now) + place_in (map piece_of ss) p ≡ at + place_in (map piece_of (s ∷ ss)) p
-            = omega (arith, place_step s.bytes.now (map piece_of ss) p false e) in
+        = omega (arith, place_step s.bytes.now (map piece_of ss) p false e) in
         ap (λ b. cond b (Some at) (lookup (is_key p) (placed_from (at + length s.bytes.now) ss))) e ∙ rest there ∙ ap Some n
 
 -- and one that it hasn't isn't
@@ -55,7 +54,7 @@ pub placed-push : (at : ℕ) (ss : List MergeString) (s : MergeString)
 placed-push at [] s = let n : at ≡ at + 0 = omega arith in ap (λ k. (s, k) ∷ []) n
 placed-push at (r ∷ ss) s =
     let more : length (r.bytes.now ++ concat (map piece_of ss)) ≡ length r.bytes.now + length (concat (map piece_of ss))
-        = length-append r.bytes.now (concat (map piece_of ss)) in
+    = length-append r.bytes.now (concat (map piece_of ss)) in
     let n : (at + length r.bytes.now) + length (concat (map piece_of ss)) ≡ at + length (concat (map piece_of (r ∷ ss))) = omega (arith, more) in
     ap (λ l. (r, at) ∷ l) (placed-push (at + length r.bytes.now) ss s ∙ ap (λ k. placed_from (at + length r.bytes.now) ss ++ (s, k) ∷ []) n)
 

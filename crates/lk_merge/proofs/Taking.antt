@@ -1,5 +1,5 @@
 -- The state of a bucket with one more piece.
-use Rattle.std.proofs.Common.{◌≡◌, ℕ, ◌+◌, Bool, true, false, List, [], ◌∷◌, ◌++◌, Option, None, Some, Result, Ok, Err, is_some, refl, sym, ap, ◌∙◌, subst, inl, inr, ◌⊎◌}
+use Rattle.std.proofs.Common.{◌≡◌, ℕ, true, false, List, [], ◌∷◌, ◌++◌, Option, None, Some, Result, Ok, Err, is_some, refl, sym, ap, ◌∙◌, inl, inr}
 use Rattle.std.proofs.lemmas.Bool.{true≢false}
 use Rattle.lk_merge.specs.declared.error.MergeError.{MergeError}
 use Rattle.lk_merge.specs.declared.error.MergeError.TheVariants.{NotTerminated, TooLarge, NoMemory}
@@ -35,8 +35,7 @@ module _ (section limit b : ℕ) (pieces : List Piece) (p : Piece) (state : Buck
       by : (o : Option MergeError) → state.refusal ≡ o → HasTaken section limit b wide state × (state.refusal ≡ None → None ≡ Some place)
       by None e = absurd (true≢false (stop ∙ ap is_some e))
       by (Some error) e =
-          let later : bucket_refusal section limit b wide ≡ Some error = stays_refused section limit b pieces p error (sym h.refusal ∙ e) in
-          (
+          let later : bucket_refusal section limit b wide ≡ Some error = stays_refused section limit b pieces p error (sym h.refusal ∙ e) in (
             record {
               refusal = e ∙ sym later;
               holds = λ none. absurd (let some : Some error ≡ None = sym later ∙ none in cc);
@@ -60,8 +59,7 @@ module _ (section limit b : ℕ) (pieces : List Piece) (p : Piece) (state : Buck
       let before = h.holds fine in
       elim (one_more section limit b pieces p fine) [
         | inl t ↦
-            let same : at ≡ place = ok_same (adding state.bucket p) at place answer (ap (λ k. adding k p) before ∙ t.answer) in
-            (
+            let same : at ≡ place = ok_same (adding state.bucket p) at place answer (ap (λ k. adding k p) before ∙ t.answer) in (
               record {
                 refusal = none ∙ sym t.refusal;
                 holds = λ _. is ∙ ap (λ k. with_piece k p) before ∙ t.holds;
@@ -81,8 +79,7 @@ module _ (section limit b : ℕ) (pieces : List Piece) (p : Piece) (state : Buck
         | inl t ↦ absurd (ok_or_err (adding state.bucket p) place error (ap (λ k. adding k p) before ∙ t.answer) answer)
         | inr s ↦
             let same : error ≡ s.error = err_same (adding state.bucket p) error s.error answer (ap (λ k. adding k p) before ∙ s.answer) in
-            let later : Some error ≡ bucket_refusal section limit b wide = ap (λ (e : MergeError). Some e) same ∙ sym s.refusal in
-            (
+            let later : Some error ≡ bucket_refusal section limit b wide = ap (λ (e : MergeError). Some e) same ∙ sym s.refusal in (
               record { refusal = later; holds = λ none. absurd (let some : Some error ≡ None = later ∙ none in cc) },
               λ none. absurd (cc),
             )

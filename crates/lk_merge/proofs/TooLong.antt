@@ -1,7 +1,7 @@
 -- What becomes of a bucket and of its refusal with one more piece.
-use Rattle.std.proofs.Common.{◌≡◌, ℕ, ◌+◌, ◌-◌, ◌<◌, ◌≤◌, Bool, true, false, cond, ◌||◌, List, [], ◌∷◌, ◌++◌, length, Option, None, Some, Ok, Err, option_map, refl, sym, ap, ◌∙◌, arith, subst, leb, ltb, inl, inr, ◌⊎◌, append-nil, length-append}
+use Rattle.std.proofs.Common.{◌≡◌, ℕ, ◌+◌, ◌<◌, ◌≤◌, Bool, true, false, cond, ◌||◌, List, [], ◌∷◌, ◌++◌, length, Option, None, Some, Ok, Err, option_map, refl, sym, ap, ◌∙◌, arith, leb, ltb, inl, inr, ◌⊎◌, append-nil, length-append}
 use Rattle.std.specs.List.{concat}
-use Rattle.std.proofs.lemmas.Bool.{true≢false, le-leb, lt-leb, lt-ltb, le-ltb, leb-true, leb-false}
+use Rattle.std.proofs.lemmas.Bool.{lt-ltb, le-ltb, leb-true, leb-false}
 use Rattle.lk_link.specs.Files.{first_some}
 use Rattle.lk_merge.specs.declared.error.MergeError.{MergeError}
 use Rattle.lk_merge.specs.declared.error.MergeError.TheVariants.{TooLarge}
@@ -9,7 +9,7 @@ use Rattle.lk_merge.specs.Buckets.{Bucket, bucket_place, fits_behind, adding, wi
 use Rattle.lk_merge.specs.Image.{firsts_behind, is_among, place_in}
 use Rattle.lk_merge.specs.Merging.{first_too_long, bucket_refusal}
 use Rattle.lk_merge.specs.Pieces.{Piece}
-use Rattle.lk_merge.proofs.AmongLemmas.{firsts_push, among-firsts, place-append_out, place_step, place_none, equal_piece}
+use Rattle.lk_merge.proofs.AmongLemmas.{firsts_push, among-firsts, place-append_out, place_step, equal_piece}
 use Rattle.lk_merge.proofs.TableLemmas.{place_behind}
 
 too_long_step : (limit at : ℕ) (p : Piece) (ps : List Piece) (t : Bool) → ltb limit (at + length p) ≡ t
@@ -40,8 +40,10 @@ too_long_append limit at (x ∷ xs) ys = by (too_long_append limit (at + length 
   where
     later : Option (ℕ × ℕ)
     later = first_too_long limit (at + length (concat (x ∷ xs))) ys
+
     n : (at + length x) + length (concat xs) ≡ at + length (concat (x ∷ xs))
     n = let more : length (x ++ concat xs) ≡ length x + length (concat xs) = length-append x (concat xs) in omega (arith, more)
+
     by : first_too_long limit (at + length x) (xs ++ ys) ≡ first_some (first_too_long limit (at + length x) xs) (first_too_long limit ((at + length x) + length (concat xs)) ys)
         → (t : Bool) → ltb limit (at + length x) ≡ t
         → first_too_long limit at (x ∷ xs ++ ys) ≡ first_some (first_too_long limit at (x ∷ xs)) later
@@ -60,6 +62,7 @@ fits_from_none limit at (x ∷ xs) h e = by (fits_from_none limit (at + length x
   where
     more : length (x ++ concat xs) ≡ length x + length (concat xs)
     more = length-append x (concat xs)
+
     by : (at + length x ≤ limit → first_too_long limit (at + length x) xs ≡ None → (at + length x) + length (concat xs) ≤ limit)
         → (t : Bool) → leb (at + length x) limit ≡ t → at + length (concat (x ∷ xs)) ≤ limit
     by rest true f =
@@ -97,6 +100,7 @@ module _ (section limit b : ℕ) (pieces : List Piece) (p : Piece) where
     where
       refused : Option (ℕ × ℕ) → Option MergeError
       refused o = option_map (λ q. TooLarge section b q.0 q.1) o
+
       by : (o : Option (ℕ × ℕ)) → first_too_long limit 0 kept ≡ o → bucket_refusal section limit b wider ≡ Some e
       by None f = absurd (let none : None ≡ Some e = sym (ap (option_map (λ q. TooLarge section b q.0 q.1)) f) ∙ h in cc)
       by (Some q) f =
@@ -118,19 +122,21 @@ module _ (section limit b : ℕ) (pieces : List Piece) (p : Piece) where
     pub refusal : bucket_refusal section limit b wider ≡ Some error
     pub answer : adding bucket p ≡ Err error
 
-
   pub one_more : bucket_refusal section limit b kept ≡ None → Taken ⊎ Stopped
   one_more h = by (is_among kept p) (fits_behind bucket p) refl refl
     where
       whole : (t f : Bool) → is_among kept p ≡ t → fits_behind bucket p ≡ f
           → adding bucket p ≡ cond (t || f) (Ok (bucket_place b (place_in kept p))) (Err (TooLarge section b (length (concat kept)) (length p)))
       whole t f e g = λ i. cond (e i || g i) (Ok (bucket_place b (place_in kept p))) (Err (TooLarge section b (length (concat kept)) (length p)))
+
       with_it : (t : Bool) → is_among kept p ≡ t → with_piece bucket p ≡ record { section = section; number = b; limit = limit; pieces = cond t kept (kept ++ p ∷ []) }
       with_it t e = λ i. record { section = section; number = b; limit = limit; pieces = cond (e i) kept (kept ++ p ∷ []) }
+
       last_place : is_among kept p ≡ false → place_in (kept ++ p ∷ []) p ≡ place_in kept p
       last_place e =
           let head : place_in (p ∷ []) p ≡ 0 = place_step p [] p true (equal_piece p p refl) in
           place-append_out kept (p ∷ []) p e ∙ omega (arith, head, place_behind kept p e)
+
       last_long : (t : Bool) → ltb limit (length (concat kept) + length p) ≡ t → first_too_long limit 0 (kept ++ p ∷ []) ≡ cond t (Some (length (concat kept), length p)) None
       last_long t e =
           let n : 0 + length (concat kept) ≡ length (concat kept) = omega arith in
@@ -138,6 +144,7 @@ module _ (section limit b : ℕ) (pieces : List Piece) (p : Piece) where
           ∙ none_first (first_too_long limit (0 + length (concat kept)) (p ∷ [])) ∙ ap (λ a. first_too_long limit a (p ∷ [])) n
           ∙ too_long_step limit (length (concat kept)) p [] t e
           ∙ ap (λ o. cond t (Some (length (concat kept), length p)) o) (too_long_none limit (length (concat kept) + length p))
+
       by : (t f : Bool) → is_among kept p ≡ t → fits_behind bucket p ≡ f → Taken ⊎ Stopped
       by true f e g =
           let same : wider ≡ kept = wider_is true e ∙ append-nil kept in

@@ -2,7 +2,7 @@
 use Rattle.std.specs.Prelude.{◌≡◌, ℕ, ◌+◌, ◌*◌, ◌^◌, ◌||◌, Bool, List, [], ◌∷◌, ◌++◌, Result, Ok, Err, if◌then◌else◌, length, nat_le}
 use Rattle.std.specs.List.{concat}
 use Rattle.lk_merge.specs.declared.error.MergeError.{MergeError}
-use Rattle.lk_merge.specs.declared.error.MergeError.TheVariants.{NotTerminated, TooLarge, NoMemory}
+use Rattle.lk_merge.specs.declared.error.MergeError.TheVariants.{TooLarge, NoMemory}
 use Rattle.lk_merge.specs.Image.{is_among, place_in}
 use Rattle.lk_merge.specs.Pieces.{Piece}
 

@@ -1,6 +1,6 @@
 -- Of the insides of merging: what the pieces so far have made of the buckets and of the offset map. Cited by private parts
 -- alone.
-use Rattle.std.specs.Prelude.{◌≡◌, ℕ, ◌+◌, ◌<◌, ◌≤◌, ◌^◌, List, [], ◌∷◌, ◌++◌, Option, None, Some, Result, Ok, Err, length, map, slice_get}
+use Rattle.std.specs.Prelude.{◌≡◌, ℕ, ◌+◌, ◌<◌, ◌≤◌, ◌^◌, List, ◌++◌, None, Some, Result, Ok, Err, length, map, slice_get}
 use Rattle.std.specs.List.{concat}
 use Rattle.lk_merge.specs.declared.error.MergeError.{MergeError}
 use Rattle.lk_merge.specs.declared.error.MergeError.TheVariants.{NoMemory}
@@ -8,7 +8,7 @@ use Rattle.lk_merge.specs.declared.merging.BucketState.{BucketState}
 use Rattle.lk_merge.specs.declared.merging.Merging.{Merging}
 use Rattle.lk_merge.specs.declared.offset_map.PieceEntry.{PieceEntry}
 use Rattle.lk_merge.specs.Hash.{fnv64}
-use Rattle.lk_merge.specs.Image.{bucket_list, firsts_behind, in_bucket}
+use Rattle.lk_merge.specs.Image.{bucket_list}
 use Rattle.lk_merge.specs.Inputs.{Located, located, located_in}
 use Rattle.lk_merge.specs.Merging.{bucket_refusal, long_refusal, place_of}
 use Rattle.lk_merge.specs.Pieces.{Piece, MergeInput, IsString}

@@ -90,12 +90,7 @@ impl<'data> Merging<'data> {
     }
 
     /// Adds a piece of an input, which starts at an offset into all inputs.
-    fn add(
-        &mut self,
-        string: MergeString<'data>,
-        input: u32,
-        start: u64,
-    ) -> Result<(), AllocError>
+    fn add(&mut self, string: MergeString<'data>, input: u32, start: u64) -> Result<(), AllocError>
         requires some { 0 < length string.bytes.now }
         requires count { length self.old.buckets.items ≡ 16 }
         ensures count { OnOk result (length self.new.buckets.items ≡ 16) }
@@ -115,12 +110,7 @@ impl<'data> Merging<'data> {
     }
 
     /// Adds the strings of an input, which starts at an offset into all inputs. Bytes behind the last zero byte are in none.
-    fn add_strings(
-        &mut self,
-        bytes: &'data [u8],
-        input: u32,
-        start: u64,
-    ) -> Result<(), AllocError>
+    fn add_strings(&mut self, bytes: &'data [u8], input: u32, start: u64) -> Result<(), AllocError>
         requires count { length self.old.buckets.items ≡ 16 }
         requires fits { start + length bytes.now < 2 ^ 64 }
         ensures count { OnOk result (length self.new.buckets.items ≡ 16) }
@@ -184,11 +174,7 @@ impl<'data> Merging<'data> {
             buckets.push(bucket)?;
         }
         let string_offsets = OffsetMap::from_entries(entries);
-        Ok(MergedStringsSection::from_parts(
-            inputs,
-            buckets,
-            string_offsets,
-        ))
+        Ok(MergedStringsSection::from_parts(inputs, buckets, string_offsets))
     }
 }
 

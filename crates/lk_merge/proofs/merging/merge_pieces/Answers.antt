@@ -1,7 +1,6 @@
-use Rattle.std.proofs.Common.{List, map, take, sym, subst}
+use Rattle.std.proofs.Common.{List, map, take}
 use Rattle.lk_merge.specs.declared.inputs.StringMergeInputSection.{StringMergeInputSection}
 use Rattle.lk_merge.specs.Inputs.{input_of, located, padded_total}
-use Rattle.lk_merge.specs.MergingTables.{HasMerged}
 use Rattle.lk_merge.proofs.LaidOut.{input_fits, merged_first, merged_next}
 use Rattle.lk_merge.proofs.merging.merge_pieces.Goals as goal
 

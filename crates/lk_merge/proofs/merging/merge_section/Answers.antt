@@ -1,11 +1,9 @@
-use Rattle.std.proofs.Common.{◌≡◌, ℕ, List, [], None, Some, length, true, not, map, sym, ap, ◌∙◌, subst}
-use Rattle.std.specs.List.{list_all, position}
+use Rattle.std.proofs.Common.{◌≡◌, List, None, Some, length, sym, ap, ◌∙◌, subst}
+use Rattle.std.specs.List.{list_all}
 use Rattle.std.proofs.lemmas.Bool.{eqb-true}
 use Rattle.std.proofs.lemmas.List.{length-map}
-use Rattle.lk_merge.specs.Hash.{fnv64}
 use Rattle.lk_merge.specs.Image.{all_pieces}
 use Rattle.lk_merge.specs.Inputs.{input_of, located}
-use Rattle.lk_merge.specs.Merging.{GivesMerged}
 use Rattle.lk_merge.specs.MergingTables.{GivesFitting, HasMerged}
 use Rattle.lk_merge.specs.Pieces.{MergeInput, is_terminated}
 use Rattle.lk_merge.proofs.Refusing.{position_inputs, all_from_none, refused_first, gives_all, nothing_refused}
@@ -33,7 +31,7 @@ returns c =
     let none = position_inputs c.as_slice-sections.result.now c.args.inputs.now None c.as_slice-sections.ensures.inputs c.in_default.ensures in
     let same : c.in_ok-clone.field-0 ≡ c.args.inputs.now = c.in_ok-clone.ensures in
     let merged : HasMerged c.args.section c.args.limit (located c.in_ok-clone.field-0) c.in_ok-merging.merging
-        = subst (λ (xs : List MergeInput). HasMerged c.args.section c.args.limit (located xs) c.in_ok-merging.merging) (c.as_slice-sections.ensures.inputs ∙ sym same) c.in_ok-merging.ensures in
+    = subst (λ (xs : List MergeInput). HasMerged c.args.section c.args.limit (located xs) c.in_ok-merging.merging) (c.as_slice-sections.ensures.inputs ∙ sym same) c.in_ok-merging.ensures in
     gives_all c.args.section c.args.limit c.args.inputs.now c.finish.result none
     (subst (λ (xs : List MergeInput). GivesFitting c.args.section c.args.limit (all_pieces xs) xs c.finish.result) same
     (c.finish.ensures c.args.section c.args.limit c.requires merged))

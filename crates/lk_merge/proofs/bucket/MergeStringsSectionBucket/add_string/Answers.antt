@@ -1,16 +1,14 @@
-use Rattle.std.proofs.Common.{◌≡◌, ℕ, ◌+◌, ◌-◌, ◌<◌, ◌≤◌, List, ◌∷◌, [], ◌++◌, length, None, Some, Ok, Err, sym, ap, ◌∙◌, subst, refl, arith}
-use Rattle.std.specs.Map.{lookup}
+use Rattle.std.proofs.Common.{◌≡◌, ℕ, ◌+◌, ◌-◌, ◌<◌, ◌≤◌, List, ◌∷◌, [], ◌++◌, length, Ok, Err, sym, ap, ◌∙◌, subst, refl, arith}
 use Rattle.indexmap.proofs.CallerLemmas.{insert_entry-new}
 use Rattle.lk_merge.specs.declared.error.MergeError.TheVariants.{TooLarge}
 use Rattle.lk_merge.specs.declared.string.MergeString.{MergeString}
-use Rattle.lk_merge.specs.Buckets.{Bucket, Adds, adding, with_piece, bucket_place}
+use Rattle.lk_merge.specs.Buckets.{adding, with_piece, bucket_place}
 use Rattle.lk_merge.specs.BucketTables.{IsTable}
-use Rattle.lk_merge.proofs.TableLemmas.{is_key}
 use Rattle.lk_merge.proofs.BucketLemmas.{small_place, answer_there, answer_refused, answer_added, bucket_by, table_more, bucket_more}
 use Rattle.lk_merge.proofs.bucket.MergeStringsSectionBucket.add_string.Goals as goal
 
 pub at-requires-clause-offset : goal.at-requires-clause-offset
-at-requires-clause-offset c = 
+at-requires-clause-offset c =
     let i = c.self.inside in
     small_place i.section i.number i.limit i.next_offset i.strings.entries c.self.invariant c.args.string.bytes.now c.in-Some.offset.now
     c.requires (sym c.in-Some.ensures.value)
@@ -21,8 +19,7 @@ returns-in-Some c =
     let p : List ℕ = c.args.string.bytes.now in
     let v : ℕ = c.in-Some.offset.now in
     let r = answer_there i.section i.number i.limit i.next_offset i.strings.entries c.self.invariant p v (sym c.in-Some.ensures.value) in
-    let place : bucket_place i.number v ≡ c.at.result = sym c.at.ensures in
-    (
+    let place : bucket_place i.number v ≡ c.at.result = sym c.at.ensures in (
       subst (λ b. adding b p ≡ Ok c.at.result) c.self.view_is (r.0 ∙ ap (λ (n : ℕ). Ok n) place),
       subst (λ b. b ≡ with_piece b p) c.self.view_is r.1,
     )
@@ -33,10 +30,9 @@ returns-then-len-self c =
     let p : List ℕ = c.args.string.bytes.now in
     let same : length p ≡ length c.as_bytes.result.now = ap length (sym c.as_bytes.ensures) in
     let long : i.limit - i.next_offset < length p = omega (arith, same, c.if-len-self.true) in
-    let r = answer_refused i.section i.number i.limit i.next_offset i.strings.entries c.self.invariant p (sym c.in_default.ensures.value) long in
-    (
+    let r = answer_refused i.section i.number i.limit i.next_offset i.strings.entries c.self.invariant p (sym c.in_default.ensures.value) long in (
       subst (λ b. adding b p ≡ Err (TooLarge i.section i.number i.next_offset (length c.as_bytes.result.now))) c.self.view_is
-      (r ∙ ap (λ n. Err (TooLarge i.section i.number i.next_offset n)) same),
+          (r ∙ ap (λ n. Err (TooLarge i.section i.number i.next_offset n)) same),
       refl,
     )
 
@@ -62,8 +58,7 @@ returns c =
     let entries = c.in_ok-insert.ensures.entries ∙ insert_entry-new _ i.strings s i.next_offset none in
     let r = answer_added i.section i.number i.limit i.next_offset i.strings.entries c.self.invariant p none short in
     let b = bucket_more i.section i.number i.limit i.next_offset i.strings.entries c.self.invariant s none in
-    let place : bucket_place i.number i.next_offset ≡ c.at-2.result = sym c.at-2.ensures in
-    (
+    let place : bucket_place i.number i.next_offset ≡ c.at-2.result = sym c.at-2.ensures in (
       subst (λ b. adding b p ≡ Ok c.at-2.result) c.self.view_is (r ∙ ap (λ (n : ℕ). Ok n) place),
       ap (bucket_by i.section i.number i.limit) entries ∙ subst (λ o. bucket_by i.section i.number i.limit (i.strings.entries ++ (s, i.next_offset) ∷ []) ≡ with_piece o p) c.self.view_is b,
     )

@@ -1,8 +1,8 @@
-use Rattle.std.proofs.Common.{◌≡◌, ℕ, ◌+◌, ◌<◌, ◌^◌, List, ◌∷◌, [], ◌++◌, Some, length, map, sym, ap, ◌∙◌, subst, arith}
+use Rattle.std.proofs.Common.{◌≡◌, ◌+◌, List, ◌∷◌, [], ◌++◌, length, map, sym, ap, ◌∙◌, subst, arith}
 use Rattle.std.specs.List.{slice_get}
 use Rattle.std.proofs.lemmas.List.{length-map}
 use Rattle.lk_merge.specs.declared.inputs.StringMergeInputSection.{StringMergeInputSection}
-use Rattle.lk_merge.specs.Inputs.{AreInputs, input_of, padded_len, padded_total}
+use Rattle.lk_merge.specs.Inputs.{AreInputs, input_of, padded_total}
 use Rattle.lk_merge.specs.Pieces.{MergeInput}
 use Rattle.lk_merge.proofs.InputLemmas.{one_more_input}
 use Rattle.lk_merge.proofs.inputs.StringMergeInputSections.push.Goals as goal

@@ -1,13 +1,11 @@
-use Rattle.std.proofs.Common.{◌≡◌, ℕ, ◌%◌, ◌<◌, ◌++◌, List, length, set, get_or, Option, None, Some, refl, sym, ap, ◌∙◌, subst, arith, append-nil}
+use Rattle.std.proofs.Common.{◌≡◌, ℕ, ◌%◌, ◌<◌, ◌++◌, List, length, set, get_or, Option, Some, sym, ap, ◌∙◌, arith, append-nil}
 use Rattle.std.specs.List.{slice_get}
 use Rattle.std.proofs.Math.Nat.{mod-lt}
 use Rattle.std.proofs.lemmas.Option.{slice_get-get_or}
 use Rattle.lk_merge.specs.declared.merging.BucketState.{BucketState}
-use Rattle.lk_merge.specs.declared.merging.Merging.{Merging as Merges}
 use Rattle.lk_merge.specs.Hash.{fnv64}
-use Rattle.lk_merge.specs.MergingTables.{HasMerged}
 use Rattle.lk_merge.specs.Pieces.{Piece}
-use Rattle.lk_merge.proofs.Growing.{Becomes, grown, told}
+use Rattle.lk_merge.proofs.Growing.{grown, told}
 use Rattle.lk_merge.proofs.merging.Merging.add.Goals as goal
 
 -- the bucket of a piece is there

@@ -1,10 +1,10 @@
-use Rattle.std.proofs.Common.{◌≡◌, ◌≢◌, ℕ, List, [], ◌∷◌, ◌++◌, false, true, length, sym, ap, ◌∙◌, subst, eqb, append-nil}
+use Rattle.std.proofs.Common.{◌≡◌, ◌≢◌, ℕ, List, [], ◌∷◌, ◌++◌, length, sym, ap, ◌∙◌, subst, append-nil}
 use Rattle.std.proofs.lemmas.Bool.{eqb-true, eqb-false}
 use Rattle.lk_merge.specs.declared.inputs.StringMergeInputSection.{StringMergeInputSection}
 use Rattle.lk_merge.specs.declared.merging.Merging.{Merging as Merges}
 use Rattle.lk_merge.specs.Inputs.{Located, located_in, input_of}
 use Rattle.lk_merge.specs.MergingTables.{HasMerged}
-use Rattle.lk_merge.specs.Pieces.{cut, constant, pieces_of}
+use Rattle.lk_merge.specs.Pieces.{cut, pieces_of}
 use Rattle.lk_merge.proofs.Constants.{on_ok, constant_some, constant_none, pieces_string, pieces_constant, located_one}
 use Rattle.lk_merge.proofs.InputLemmas.{located_in_none}
 use Rattle.lk_merge.proofs.merging.Merging.add_input.Goals as goal
