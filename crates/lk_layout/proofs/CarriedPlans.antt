@@ -2,7 +2,7 @@
 use Rattle.std.proofs.Common.{◌≡◌, ◌≢◌, ℕ, Bool, true, false, cond, List, [], Option, None, Some, length, refl, ap, ◌∙◌, inl, inr}
 use Rattle.std.specs.Prelude.{◌||◌, ◌&&◌, ◌==◌, not, is_some, slice_get}
 use Rattle.std.specs.List.{list_any}
-use Rattle.std.proofs.lemmas.Bool.{cases_lt, eqb-true, or_parts}
+use Rattle.std.proofs.lemmas.Bool.{cases_lt, eqb-true, or_parts, not-false, or_left}
 use Rattle.std.proofs.lemmas.List.{get_or_past, nil_from_length}
 use Rattle.std.proofs.lemmas.List.Folds.{list_any_at}
 use Rattle.std.proofs.lemmas.Option.{get_or_from_slice_get, slice_get-get_or, slice_get_within}
@@ -47,10 +47,6 @@ record IsUsual (plan : Plan) : Type 0 where
   unmoved : list_any moves_location plan.events ≡ false
   sections : list_any is_special_section plan.sections ≡ false
 
-not_false : (b : Bool) → not b ≡ false → b ≡ true
-not_false true h = refl
-not_false false h = absurd (cc)
-
 usual_of : (plan : Plan) (a b c d e f g h : Bool) → plan.custom_base ≡ a → plan.phdrs_headers ≡ c → (length plan.regions == 0) ≡ d → is_some (as_number plan.base) ≡ e
     → list_any moves_location plan.events ≡ f → list_any is_special_section plan.sections ≡ g
     → (a || b || c || not d || not e || f || g || h) ≡ false → IsUsual plan
@@ -65,8 +61,8 @@ usual_of plan a b c d e f g h is_a is_c is_d is_e is_f is_g none =
     record {
       unasked = is_a ∙ first.0;
       headers = is_c ∙ second.1;
-      regions = is_d ∙ not_false d third.1;
-      base = is_e ∙ not_false e fourth.1;
+      regions = is_d ∙ not-false d third.1;
+      base = is_e ∙ not-false e fourth.1;
       unmoved = is_f ∙ fifth.1;
       sections = is_g ∙ sixth.1;
     }
@@ -145,9 +141,6 @@ placeable link carried =
 pub no_zero_fill : (link : LinkInput) (s : ℕ) → IsCarried link → is_zero_fill_thread_local link.plan s ≡ false
 no_zero_fill link s carried = ap (λ b. b && is_set NOBITS (own_attributes link.plan s)) ((placeable link carried).sections s).thread_local
 
-or-left : (a b : Bool) → a ≡ true → (a || b) ≡ true
-or-left a b h = ap (λ c. c || b) h
-
 -- where all is laid out, a plan with plain load segments is plain
 pub carried_plans_are_plain : CarriedPlansArePlain
 carried_plans_are_plain link carried loads =
@@ -160,5 +153,5 @@ carried_plans_are_plain link carried loads =
       settled = λ i k s opens last. no_zero_fill link s carried;
       allocated = loads.allocated;
       zero_fill = λ i s k places zero. absurd (let no : is_zero_fill_thread_local link.plan s ≡ false = no_zero_fill link s carried in cc);
-      backed_first = λ i s t m n less first second backed. or-left _ _ (loads.backed_first i s t m n less first second backed);
+      backed_first = λ i s t m n less first second backed. or_left _ _ (loads.backed_first i s t m n less first second backed);
     }

@@ -23,24 +23,16 @@ use Rattle.lk_place.specs.Placement.{IsPlaced, first_walked, is_walked, placemen
 use Rattle.lk_place.specs.Records.{Record, record_at}
 use Rattle.lk_place.specs.Setting.{Setting, has_bytes, part_count, part_number, size_at}
 use Rattle.lk_sizes.proofs.Tiling.{part_is_aligned}
-use Rattle.lk_link.proofs.Powers.{alignment_divides, max_aligned}
-use Rattle.lk_place.proofs.AlignmentLaws.{greatest_of-least}
+use Rattle.lk_link.proofs.Powers.{alignment_divides}
+use Rattle.lk_place.proofs.AlignmentLaws.{greatest_of-least, section_aligned}
+use Rattle.lk_gc.specs.declared.live.Live.{Live}
+use Rattle.lk_link.specs.Target.{Target}
+use Rattle.lk_sizes.specs.Owners.{part_sizes}
+use Rattle.lk_layout.specs.Defined.{setting}
 
 -- ---- alignments
 
--- the greatest of alignments of parts with bytes is one
-greatest_aligned : (sizes : List ℕ) (least n : ℕ) (parts : List PlanPart) → is_alignment least ≡ true → list_all (λ (p : PlanPart). is_alignment p.alignment) parts ≡ true
-    → is_alignment (greatest_of least (map (λ q. q.1.alignment) (filter (λ q. has_bytes sizes q.0) (enumerate_from n parts)))) ≡ true
-greatest_aligned sizes least n [] h all = h
-greatest_aligned sizes least n (p ∷ parts) h all =
-    let both = and_parts (is_alignment p.alignment) (list_all (λ (q : PlanPart). is_alignment q.alignment) parts) all in
-    let rest : List (ℕ × PlanPart) = filter (λ q. has_bytes sizes q.0) (enumerate_from (n + 1) parts) in
-    elim (has_bytes sizes n) as (λ b. is_alignment (greatest_of least (map (λ q. q.1.alignment) (cond b ((n, p) ∷ rest) rest))) ≡ true) [
-      | true ↦ greatest_aligned sizes (max least p.alignment) (n + 1) parts (max_aligned least p.alignment h both.0) both.1
-      | false ↦ greatest_aligned sizes least (n + 1) parts h both.1
-    ]
-
--- it is at least that of each part with bytes
+-- the greatest alignment is at least that of each part with bytes
 reaches : (sizes : List ℕ) (least n : ℕ) (parts : List PlanPart) (j : ℕ) (d : PlanPart) → j < length parts → has_bytes sizes (n + j) ≡ true
     → (slice_index_or parts j d).alignment ≤ greatest_of least (map (λ q. q.1.alignment) (filter (λ q. has_bytes sizes q.0) (enumerate_from n parts)))
 reaches sizes least n [] j d below full = absurd (omega arith)
@@ -81,41 +73,35 @@ section_in (x ∷ xs) p h =
 
 -- ---- the law
 
-pub part_starts : (s : Setting) (link : LinkInput) (states : List Cursors) (records : List Record) (p : ℕ) → IsWellFormed link → s.plan ≡ link.plan
-    → IsPlaced s states records → placement_refusal s states ≡ None → p < length (all_parts link.plan.sections) → 0 < size_at s.sizes p
+pub part_starts : (target : Target) (link : LinkInput) (live : Live) (states : List Cursors) (records : List Record) (p : ℕ) → IsWellFormed link
+    → IsPlaced (setting target link live) states records → placement_refusal (setting target link live) states ≡ None
+    → p < length (all_parts link.plan.sections) → 0 < size_at (part_sizes link live) p
     → (part_at link.plan.sections p).alignment ∣ (record_at records p).mem_offset
-part_starts s link states records p good same is unrefused within some =
+part_starts target link live states records p good is unrefused within some =
+    let s : Setting = setting target link live in
     let sections : List PlanSection = link.plan.sections in
-    let plans : s.plan.sections ≡ sections = ap (λ plan. plan.sections) same in
     let i : IsInSection sections p = section_in sections p within in
     let t : ℕ = i.section in
     let event = good.events.placed t i.there in
-    let at : slice_get s.plan.events event.0 ≡ Some (Section t) = ap (λ plan. slice_get plan.events event.0) same ∙ event.1 in
-    let early : event.0 + 1 < length states = omega (arith, is.ends unrefused, slice_get_within s.plan.events event.0 (Section t) at) in
-    let step = is.steps event.0 (Section t) early at in
-    let q : ℕ = part_number s.plan.sections t i.place in
-    let number : q ≡ p = ap (λ xs. part_number xs t i.place) plans ∙ sym i.is in
+    let early : event.0 + 1 < length states = omega (arith, is.ends unrefused, slice_get_within link.plan.events event.0 (Section t) event.1) in
+    let step = is.steps event.0 (Section t) early event.1 in
+    let q : ℕ = part_number sections t i.place in
+    let number : q ≡ p = sym i.is in
     let bytes : has_bytes s.sizes q ≡ true = ap (has_bytes s.sizes) number ∙ lt-ltb 0 (size_at s.sizes p) some in
     let walked : is_walked s t q ≡ true = ap (λ b. b || (q == first_walked s t)) bytes in
-    let inside : i.place < part_count s.plan.sections t = subst (λ xs. i.place < part_count xs t) (sym plans) i.within in
-    let placed = step.steps.places.walked i.place inside walked in
-    let own : ℕ = (part_at s.plan.sections q).alignment in
+    let placed = step.steps.places.walked i.place i.within walked in
+    let own : ℕ = (part_at sections q).alignment in
     let greatest : ℕ = section_alignment s t in
     let none : PlanPart = record { alignment = 1; packed = false } in
-    let of_section : IsGoodSection sections (section_at sections t) = section_of link t (section_at sections t) good (slice_get-get_or sections t no_section i.there) in
-    let fine : is_alignment greatest ≡ true
-    = subst (λ xs. is_alignment (greatest_of (section_at xs t).align (map (λ q. q.1.alignment) (filter (λ q. has_bytes s.sizes q.0) (enumerate_from (first_part xs t) (section_at xs t).parts)))) ≡ true) (sym plans)
-    (greatest_aligned s.sizes (section_at sections t).align (first_part sections t) (section_at sections t).parts of_section.aligned_self of_section.aligned) in
-    let mine : part_at s.plan.sections q ≡ slice_index_or (section_at s.plan.sections t).parts i.place none
-    = get_or-flat_map (λ (x : PlanSection). x.parts) s.plan.sections t i.place no_section none (subst (λ xs. t < length xs) (sym plans) i.there) inside in
+    let mine : part_at sections q ≡ slice_index_or (section_at sections t).parts i.place none
+    = get_or-flat_map (λ (x : PlanSection). x.parts) sections t i.place no_section none i.there i.within in
     let least : own ≤ greatest
     = subst (λ (x : PlanPart). x.alignment ≤ greatest) (sym mine)
-    (reaches s.sizes (section_at s.plan.sections t).align (first_part s.plan.sections t) (section_at s.plan.sections t).parts i.place none inside bytes) in
-    let aligned : is_alignment own ≡ true
-    = ap (λ xs. is_alignment (part_at xs q).alignment) plans ∙ ap (λ n. is_alignment (part_at sections n).alignment) number ∙ part_is_aligned link p good in
+    (reaches s.sizes (section_at sections t).align (first_part sections t) (section_at sections t).parts i.place none i.within bytes) in
+    let divides : own ∣ greatest = alignment_divides own greatest (part_is_aligned link q good) (section_aligned link.plan s.sizes t good.sections) least in
     let found : own ∣ (record_at records q).mem_offset
     = elim (q == first_walked s t) as (λ b. (cond b greatest (min own greatest)) ∣ (record_at records q).mem_offset → own ∣ (record_at records q).mem_offset) [
-      | true ↦ λ h. dvd_trans own (alignment_divides own greatest aligned fine least) h
+      | true ↦ λ h. dvd_trans own divides h
       | false ↦ λ h. let one : min own greatest ≡ own = omega (arith, least) in subst (λ n. n ∣ (record_at records q).mem_offset) one h
     ] placed.at.multiple in
-    subst (λ n. (part_at sections n).alignment ∣ (record_at records n).mem_offset) number (subst (λ xs. (part_at xs q).alignment ∣ (record_at records q).mem_offset) plans found)
+    subst (λ n. (part_at sections n).alignment ∣ (record_at records n).mem_offset) number found

@@ -164,7 +164,7 @@ sections_aligned tile aligned owners target link layout laid a x l told some unp
     let bytes : 0 < part_size link live p = owner_within (part_at link.plan.sections p) (part_record layout p).mem_offset (owners_of link live p) (owner_number link live x) l.address (tile link live p (part_record layout p).mem_offset) byte in
     let size : slice_index_or (setting target link live).sizes p 0 ≡ part_size link live p = size_of link live p within in
     let begins : (part_at link.plan.sections p).alignment ∣ (record_at laid.records p).mem_offset
-    = part_starts (setting target link live) link laid.states laid.records p laid.good refl laid.is laid.unrefused within (omega (arith, bytes, size)) in
+    = part_starts target link live laid.states laid.records p laid.good laid.is laid.unrefused within (omega (arith, bytes, size)) in
     let record_is : (record_at laid.records p).mem_offset ≡ (part_record layout p).mem_offset = ap (λ rs. (record_at rs p).mem_offset) (sym (parts_are target link layout laid)) in
     subst (λ n. (part_at link.plan.sections p).alignment ∣ n) (sym s.address)
     (dvd-add (part_at link.plan.sections p).alignment (subst (λ n. (part_at link.plan.sections p).alignment ∣ n) record_is begins) (aligned link live p (owner_number link live x) laid.good unpacked))

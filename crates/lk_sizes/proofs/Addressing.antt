@@ -13,16 +13,13 @@ use Rattle.lk_sizes.proofs.Adding.{into-append, into_here}
 use Rattle.lk_sizes.proofs.LiveOnes.{Differ, Pairwise, in_front, live_differ, not_section}
 use Rattle.lk_link.specs.Parts.{part_at}
 use Rattle.lk_link.proofs.Elements.{at_contained}
+use Rattle.std.proofs.Math.Seq.{take-append_seam}
 
 -- the first that passes stands behind those that don't
 position_behind : {X : Type 0} (p : X → Bool) (xs : List X) (y : X) (ys : List X) → AllByRecursion (λ x. p x ≡ false) xs → p y ≡ true → position_or_len p (xs ++ y ∷ ys) ≡ length xs
 position_behind p [] y ys none here = ap (λ b. cond (not b) (1 + position_or_len p ys) 0) here
 position_behind p (x ∷ xs) y ys none here =
     ap (λ b. cond (not b) (1 + position_or_len p (xs ++ y ∷ ys)) 0) none.0 ∙ omega (arith, position_behind p xs y ys none.1 here)
-
-taken_front : {X : Type 0} (xs ys : List X) → take (length xs) (xs ++ ys) ≡ xs
-taken_front [] ys = refl
-taken_front (x ∷ xs) ys = ap (λ (zs : List _). x ∷ zs) (taken_front xs ys)
 
 -- those that differ, and go to a part, aren't taken for it as owners
 front_owners : (p : ℕ) (xs : List Input) (y : Input) → AllByRecursion (λ x. Differ x y) xs → AllByRecursion (λ o. owns y o ≡ false) (map SectionOwner (into p xs))
@@ -75,7 +72,7 @@ address_behind link live starts front x rest all =
     let before : List Owner = map SectionOwner (into p front) in
     let is = stands_behind link live front x rest all in
     let taken : take (owner_number link live x) (owners_of link live p) ≡ before =
-    ap (λ (n : ℕ). take n (owners_of link live p)) is.number ∙ ap (take (length before)) is.owners ∙ taken_front before (SectionOwner x ∷ is.rest) in
+    ap (λ (n : ℕ). take n (owners_of link live p)) is.number ∙ ap (take (length before)) is.owners ∙ take-append_seam before (SectionOwner x ∷ is.rest) in
     ap (λ (os : List Owner). slice_index starts p + bytes_of (part_at link.plan.sections p) os) taken
 
 -- ---- each stands among the owners

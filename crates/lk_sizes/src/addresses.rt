@@ -45,7 +45,8 @@ pub fn live_sections(
 {
     let parts = link.plan.sections.parts();
     let mut next = starts;
-    let mut sections = Vec::with_capacity(alloc, live.marks.len())?;
+    let count = live.marks.as_slice().iter().filter(|mark| **mark).count();
+    let mut sections = Vec::with_capacity(alloc, count)?;
     for input in live.inputs(link) {
         let part = input.section.part.as_usize();
         let address = take_next(&mut next[part], &parts[part], input.section);
