@@ -5,11 +5,10 @@ usage: run.py [PROGRAM [MEGABYTES..]]
        run.py --long [PROGRAM]
 
 PROGRAM is crates/lk_program/out/lk_program unless given, the sizes are 1, 10 and 100 MB. Each
-description is given to the program in three forms, several times: with a value of a wrong shape where
-the first field is looked for, so that it is parsed and no more; with one that is the last to be read;
-and as it is. The run fails where an answer isn't of the kind that is wanted or two runs over the same
-bytes differ. Seconds are processor seconds, the least of the runs. None of them is judged: each is set
-against others of the same run.
+description is given to the program in two forms, several times: with a value of a wrong shape that is
+the last to be read, so that it is read and no more; and as it is. The run fails where an answer isn't of
+the kind that is wanted or two runs over the same bytes differ. Seconds are processor seconds, the least
+of the runs. None of them is judged: each is set against others of the same run.
 
 With --long, each description has one list that is as long as it may be, or millions long. The run fails
 where the program crashes, runs out of its stack of 8 MB or answers something else.
@@ -38,28 +37,27 @@ STACK_BYTES = 8 << 20
 
 # The end of each form, in place of the ending of the description, and what the answer begins with.
 FORMS = {
-    "parsed": (b'\n],"options":7}\n', b"not a link description: /options\n"),
     "read": (b',[{"kind":"prelude","candidates":7}]\n]}\n', b"not a link description: /groups/"),
     "whole": (ENDING, (b"layout\n", b"not carried: ")),
 }
 
 FIRST_COLUMN = ("description", -16)
 LAID_OUT_COLUMNS = (
-    *(("seconds", 8), ("ms/MB", 7), ("growth", 7), ("x wc -l", 8), ("parse", 6), ("read", 6)),
-    *(("the rest", 9), ("peak", 8), ("output", 7)),
+    *(("seconds", 8), ("ms/MB", 7), ("growth", 7), ("x wc -l", 8), ("read", 6), ("the rest", 9)),
+    *(("peak", 8), ("output", 7)),
 )
 LAID_OUT_LEGEND = """\
-growth: the power of the size by which the seconds grow, 1 is linear; parse, read, the rest: parts of
-the seconds; peak and output: multiples of the size
+growth: the power of the size by which the seconds grow, 1 is linear; read, the rest: parts of the
+seconds; peak and output: multiples of the size
 """
 CHECKED_COLUMNS = (
-    *(("ms/MB", 7), ("x wc -l", 8), ("read", 6), ("check", 6), ("check/read", 11), ("growth", 17)),
-    *(("peak", 8), ("parsed", 8)),
+    *(("ms/MB", 7), ("x wc -l", 8), ("read", 7), ("check", 6), ("growth", 11), ("peak", 8)),
+    ("read peak", 10),
 )
 CHECKED_LEGEND = """\
-ms/MB and x wc -l: of all; read, check: as parts of parsing; growth: the powers of the size by which
-parsing, reading and checking grow; peak, parsed: the peak memory of all, and of parsing alone, as
-multiples of the size. Aims: read below 1, and check a small part of read.
+ms/MB and x wc -l: of all; read: ms/MB; check: as a part of reading; growth: the powers of the size by
+which reading and checking grow; peak, read peak: the peak memory of all, and of reading alone, as
+multiples of the size. Aim: check a small part of read.
 """
 
 
@@ -142,10 +140,9 @@ class Stages:
         for name, (ending, wanted) in FORMS.items():
             set_ending(path, self.size, ending)
             forms[name] = best([program, "layout", "0"], path, output, wanted)
-        self.whole, self.parsed = forms["whole"], forms["parsed"]
-        self.parsing = self.parsed.seconds
-        self.reading = forms["read"].seconds - self.parsing
-        self.rest = self.whole.seconds - forms["read"].seconds
+        self.whole, self.read = forms["whole"], forms["read"]
+        self.reading = self.read.seconds
+        self.rest = self.whole.seconds - self.reading
 
 
 class Series:
@@ -172,7 +169,7 @@ class Series:
 
     def laid_out_row(self, stages):
         seconds = stages.whole.seconds
-        parts = (stages.parsing, stages.reading, stages.rest)
+        parts = (stages.reading, stages.rest)
         return (
             "%.3f" % seconds,
             "%.1f" % (seconds * 1e9 / stages.size),
@@ -185,16 +182,14 @@ class Series:
 
     def checked_row(self, stages):
         seconds = stages.whole.seconds
-        part = stages.rest / stages.reading if stages.reading > 0 else math.nan
         return (
             "%.1f" % (seconds * 1e9 / stages.size),
             "%.0f" % (seconds / stages.lines.seconds),
-            "%.2f" % (stages.reading / stages.parsing),
-            "%.2f" % (stages.rest / stages.parsing),
-            "%.2f" % part,
-            self.growth(stages, lambda of: of.parsing, lambda of: of.reading, lambda of: of.rest),
+            "%.1f" % (stages.reading * 1e9 / stages.size),
+            "%.2f" % (stages.rest / stages.reading),
+            self.growth(stages, lambda of: of.reading, lambda of: of.rest),
             self.peak_text(stages.whole.peak, stages.size),
-            self.peak_text(stages.parsed.peak, stages.size),
+            self.peak_text(stages.read.peak, stages.size),
         )
 
     def stages(self, sizes):

@@ -1,3 +1,5 @@
+pub mod Large
+pub mod LargeMembers
 pub mod Reading
 pub mod ReadingEvents
 pub mod ReadingExpressions
@@ -11,3 +13,4 @@ pub mod ReadingSegments
 pub mod ReadingSteps
 pub mod ReadingSymbols
 pub mod Texts
+pub mod Tokens

@@ -3,10 +3,6 @@ use Rattle.std.specs.Prelude.{◌≡◌, ℕ, List, [], Option, Some, None, Resu
 use Rattle.std.specs.Str.{is_utf8}
 use Rattle.serde_json.specs.Data.{Data}
 use Rattle.serde_json.specs.Read.{read as read_json}
-use Rattle.serde_json.specs.Errors.{IsMemory}
-use Rattle.serde_json.specs.declared.error.Error.{Error as JsonError}
-use Rattle.serde_json.specs.View.{view}
-use Rattle.serde_json.specs.declared.value.Value.{Value}
 use Rattle.lk_link.specs.declared.link.LinkInput.{LinkInput}
 use Rattle.lk_input.specs.declared.read.error.InputError.{InputError}
 use Rattle.lk_input.specs.declared.read.error.InputError.TheVariants.{NotJson, Shape, NoMemory}
@@ -56,16 +52,3 @@ Answers (Ok x) reading = reading ≡ Ok x
 Answers (Err NotJson) reading = reading ≡ Err NotJson
 Answers (Err (Shape path)) reading = reading ≡ Err (Shape path)
 Answers (Err NoMemory) reading = Unit {0}
-
--- the error of text that is no JSON, or of want of memory
-abbrev pub IsOfJson : JsonError → InputError → Type 0
-IsOfJson e NotJson = ¬ IsMemory e
-IsOfJson e (Shape path) = ⊥
-IsOfJson e NoMemory = IsMemory e
-
--- what was answered for the JSON value, unless memory ran out
-abbrev pub GivesJson : Result Value InputError → Option Data → Type 0
-GivesJson (Ok v) json = json ≡ Some (view v)
-GivesJson (Err NotJson) json = json ≡ None
-GivesJson (Err (Shape path)) json = ⊥
-GivesJson (Err NoMemory) json = Unit {0}

@@ -6,15 +6,23 @@
 //! the description. Its path is put together on the way out, one step at each level, so that a good description pays
 //! nothing for it.
 
-ghost use Rattle.std.specs.Prelude.{◌≡◌};
+ghost use Rattle.std.specs.Prelude.{◌≡◌, ◌∷◌};
+ghost use Rattle.json.specs.Json.{parse_map};
+ghost use Rattle.json.specs.Reads.{token_of};
+ghost use Rattle.serde_json.specs.Read.{read as read_json};
 ghost use Rattle.serde_json.specs.View.{view};
-ghost use Rattle.lk_input.specs.Reading.{link_key_text, link_of, json_of, reading_of, GivesJson, Answers};
+ghost use Rattle.lk_input.specs.LargeMembers.{link_large, link_kept, link_from};
+ghost use Rattle.lk_input.specs.Reading.{link_key_text, link_of, reading_of_json, reading_of, Answers};
+ghost use Rattle.lk_input.specs.ReadingSteps.{Reads};
+ghost use Rattle.lk_input.specs.Tokens.{data_at, Stands, as_is};
 
 mod described;
 mod error;
 mod event;
 mod expression;
+mod fail;
 mod file;
+mod large;
 mod member;
 mod options;
 mod output_section;
@@ -22,17 +30,27 @@ mod plan;
 mod relocation;
 mod section;
 mod segment;
+mod stream;
 mod symbol;
+mod tokens;
 mod word;
 
-use crate::read::described::Described;
-use crate::read::member::{defaulted, object, object_or_empty, required};
+use crate::read::fail::Fail;
+use crate::read::large::{Large, kept_or, reread, stream_members};
+use crate::read::member::{object_or_empty, required};
+use crate::read::stream::{Streamed, misfit_from, settled};
+use crate::read::tokens::deeper;
 use crate::read::word::Word;
 pub use error::InputError;
+use json::{Reader, Scratch, Token};
 use lk_link::groups::InputGroups;
 use lk_link::link::LinkInput;
+use lk_link::text::Text;
 use serde_json::Value;
 use std::alloc::Global;
+
+/// How deep lists and objects may nest in a JSON text.
+const MAX_DEPTH: usize = 127;
 
 /// A key of the description.
 #[derive(Clone, Copy, Debug, PartialEq, Eq)]
@@ -55,38 +73,112 @@ impl Word for LinkKey {
     }
 }
 
-#[tactic(auto, unfolding(crate::specs::Reading::link_of))]
-impl Described for LinkInput {
-    ghost described = { link_of };
+/// The large member of the description.
+#[derive(Drop)]
+struct LinkMembers {
+    groups: Option<Result<InputGroups, Text>>,
+}
 
-    fn read(alloc: Global, value: &Value) -> Result<LinkInput, InputError> {
-        object(alloc, value)?;
-        let options = object_or_empty(alloc, value, LinkKey::Options)?;
-        let plan = required(alloc, value, LinkKey::Plan)?;
-        let groups = defaulted(alloc, value, LinkKey::Groups, InputGroups::empty(alloc))?;
-        Ok(LinkInput {
-            options,
-            plan,
-            groups,
-        })
+impl Large for LinkMembers {
+    ghost is_large = { link_large };
+
+    ghost kept = { link_kept };
+
+    fn none() -> LinkMembers {
+        LinkMembers { groups: None }
+    }
+
+    fn take(
+        &mut self,
+        alloc: Global,
+        key: &str,
+        reader: &mut Reader<'_>,
+        depth: usize,
+    ) -> Result<bool, Fail> {
+        if key == LinkKey::Groups.text() {
+            reread(alloc, &mut self.groups, reader, depth)?;
+            Ok(true)
+        } else {
+            Ok(false)
+        }
     }
 }
 
-/// The JSON value that the bytes are.
-#[tactic(auto, using(crate::proofs::Texts::utf8_tests))]
-fn json_of(alloc: Global, bytes: &[u8]) -> Result<Value, InputError>
-    ensures { GivesJson result (json_of bytes.now) }
+/// The description, of its large member and the object of the others.
+#[tactic(auto, unfolding(crate::specs::LargeMembers::link_from))]
+fn link_from(alloc: Global, large: LinkMembers, others: &Value) -> Result<LinkInput, InputError>
+    ensures { Reads result (link_from large (view others.now)) }
 {
-    let text = str::from_utf8(bytes)?;
-    Ok(Value::from_str(alloc, text)?)
+    let options = object_or_empty(alloc, others, LinkKey::Options)?;
+    let plan = required(alloc, others, LinkKey::Plan)?;
+    let none = InputGroups::empty(alloc);
+    let groups = kept_or(alloc, large.groups, LinkKey::Groups, none)?;
+    Ok(LinkInput {
+        options,
+        plan,
+        groups,
+    })
+}
+
+/// The description that begins with this token, if it begins an object.
+#[tactic(auto, using(crate::proofs::Objects::objects))]
+fn stream_link(
+    alloc: Global,
+    token: Token<'_>,
+    reader: &mut Reader<'_>,
+    depth: usize,
+) -> Result<Result<LinkInput, Text>, Fail>
+    ensures { Stands as_is result (parse_map link_of (data_at depth (token_of token.entry ∷ reader.old))) reader.new }
+{
+    match token {
+        Token::BeginObject => {
+            let depth = deeper(depth)?;
+            let (large, others) = stream_members::<LinkMembers>(alloc, reader, depth)?;
+            settled(link_from(alloc, large, &Value::Object(others)))
+        }
+        token => misfit_from(alloc, token, reader, depth),
+    }
+}
+
+#[tactic(auto, using(crate::proofs::Objects::objects))]
+impl Streamed for LinkInput {
+    ghost streamed = { link_of };
+
+    fn stream(
+        alloc: Global,
+        reader: &mut Reader<'_>,
+        depth: usize,
+    ) -> Result<Result<LinkInput, Text>, Fail> {
+        match reader.next() {
+            Some(token) => stream_link(alloc, token, reader, depth),
+            None => Err(Fail::NotJson),
+        }
+    }
+}
+
+/// The description that a text is, all of it.
+fn read_text(alloc: Global, text: &str, scratch: &mut Scratch) -> Result<LinkInput, InputError>
+    ensures { Answers result (reading_of_json (read_json text.now)) }
+{
+    let mut reader = Reader::new(text, scratch)?;
+    let read = LinkInput::stream(alloc, &mut reader, MAX_DEPTH)?;
+    match reader.next() {
+        Some(_) => Err(InputError::NotJson),
+        None => match read {
+            Ok(link) => Ok(link),
+            Err(path) => Err(InputError::Shape(path)),
+        },
+    }
 }
 
 /// The link description that the bytes are: JSON, with the fields of the format. Refused are bytes that are no JSON
 /// text, and a description with a value that is missing or has a wrong shape; of those the first is told, in the order
 /// of the format. Unknown keys are ignored.
+#[tactic(auto, using(crate::proofs::Texts::utf8_tests))]
 pub fn read_link(alloc: Global, bytes: &[u8]) -> Result<LinkInput, InputError>
     ensures { Answers result (reading_of bytes.now) }
 {
-    let value = json_of(alloc, bytes)?;
-    LinkInput::read(alloc, &value)
+    let text = str::from_utf8(bytes)?;
+    let mut scratch = Scratch::new(alloc);
+    read_text(alloc, text, &mut scratch)
 }

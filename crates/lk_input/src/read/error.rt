@@ -1,8 +1,10 @@
 //! Why no description was read.
 
-ghost use Rattle.std.specs.Prelude.{◌≡◌, []};
+ghost use Rattle.std.specs.Prelude.{◌≡◌, ◌∷◌, ◌++◌, [], IfOk};
 ghost use Rattle.lk_input.specs.declared.read.error.InputError.TheVariants.{NotJson, Shape, NoMemory};
+ghost use Rattle.lk_input.specs.ReadingSteps.{step_text};
 
+use crate::read::fail::Fail;
 use crate::read::word::Step;
 use lk_link::text::Text;
 use std::alloc::{AllocError, AllocFailed, Global};
@@ -65,22 +67,29 @@ impl From<Utf8Error> for InputError {
     }
 }
 
-impl From<serde_json::Error> for InputError {
-    ghost use Rattle.lk_input.specs.Reading.{IsOfJson};
+impl From<Fail> for InputError {
+    ghost use Rattle.lk_input.specs.Tokens.{input_error};
 
-    ghost from_gives = { IsOfJson };
+    ghost from_gives = { λ e error. error ≡ input_error e };
 
-    fn from(e: serde_json::Error) -> InputError {
-        if e.is_memory() {
-            InputError::NoMemory
-        } else {
-            InputError::NotJson
+    fn from(e: Fail) -> InputError {
+        match e {
+            Fail::NotJson => InputError::NotJson,
+            Fail::NoMemory => InputError::NoMemory,
         }
     }
 }
 
+/// The path of a fault as seen from one step above.
+pub(crate) fn path_below(alloc: Global, step: Step, path: &Text) -> Result<Text, AllocError>
+    ensures { IfOk result (λ longer. longer ≡ 47 ∷ step_text step ++ path.now) }
+{
+    let longer = format!(in alloc; "/{step}{path}", path = path.as_str())?;
+    Ok(Text::from_string(longer))
+}
+
 impl InputError {
-    ghost use Rattle.lk_input.specs.ReadingSteps.{IsBelow, step_text};
+    ghost use Rattle.lk_input.specs.ReadingSteps.{IsBelow};
 
     /// The fault of a value of a wrong shape, before its path is known.
     pub(crate) fn misfit(alloc: Global) -> InputError
@@ -94,12 +103,10 @@ impl InputError {
         ensures { IsBelow (step_text step) self result }
     {
         match self {
-            InputError::Shape(path) => {
-                match format!(in alloc; "/{step}{path}", path = path.as_str()) {
-                    Ok(longer) => InputError::Shape(Text::from_string(longer)),
-                    Err(_) => InputError::NoMemory,
-                }
-            }
+            InputError::Shape(path) => match path_below(alloc, step, &path) {
+                Ok(longer) => InputError::Shape(longer),
+                Err(_) => InputError::NoMemory,
+            },
             other => other,
         }
     }

@@ -7,9 +7,12 @@ ghost use Rattle.lk_input.specs.ReadingSteps.{Reads, one_of};
 
 use crate::read::described::{Described, one_of, wanted};
 use crate::read::error::InputError;
+use crate::read::fail::Fail;
 use crate::read::member::{defaulted, object, optional, required};
+use crate::read::stream::{Streamed, stream_value};
 use crate::read::word::Word;
 use hex::FromHexError;
+use json::Reader;
 use lk_link::file::InputSections;
 use lk_link::ids::PartId;
 use lk_link::list::List;
@@ -197,11 +200,29 @@ impl Described for InputSection {
     }
 }
 
-impl Described for InputSections {
-    ghost described = { input_sections_of };
+impl Streamed for InputSection {
+    ghost streamed = { input_section_of };
 
-    fn read(alloc: Global, value: &Value) -> Result<InputSections, InputError> {
-        let sections = List::read(alloc, value)?;
-        Ok(InputSections::new(alloc, sections)?)
+    fn stream(
+        alloc: Global,
+        reader: &mut Reader<'_>,
+        depth: usize,
+    ) -> Result<Result<InputSection, Text>, Fail> {
+        stream_value(alloc, reader, depth)
+    }
+}
+
+impl Streamed for InputSections {
+    ghost streamed = { input_sections_of };
+
+    fn stream(
+        alloc: Global,
+        reader: &mut Reader<'_>,
+        depth: usize,
+    ) -> Result<Result<InputSections, Text>, Fail> {
+        match List::stream(alloc, reader, depth)? {
+            Ok(sections) => Ok(Ok(InputSections::new(alloc, sections)?)),
+            Err(path) => Ok(Err(path)),
+        }
     }
 }

@@ -7,10 +7,13 @@ ghost use Rattle.lk_input.specs.ReadingSteps.{Reads, one_of};
 
 use crate::read::described::{Described, one_of};
 use crate::read::error::InputError;
+use crate::read::fail::Fail;
 use crate::read::member::{
     alone, at_most, defaulted, double, element, fixed_list, object, optional, required, single,
 };
+use crate::read::stream::{Streamed, stream_value};
 use crate::read::word::Word;
+use json::Reader;
 use lk_link::flags::ValueFlags;
 use lk_link::symbol::{InputSymbol, SymbolLoc, SymbolPlacement};
 use lk_link::text::Text;
@@ -257,5 +260,17 @@ impl Described for InputSymbol {
             weak,
             hidden,
         })
+    }
+}
+
+impl Streamed for InputSymbol {
+    ghost streamed = { input_symbol_of };
+
+    fn stream(
+        alloc: Global,
+        reader: &mut Reader<'_>,
+        depth: usize,
+    ) -> Result<Result<InputSymbol, Text>, Fail> {
+        stream_value(alloc, reader, depth)
     }
 }

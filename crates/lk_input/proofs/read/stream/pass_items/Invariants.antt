@@ -1,0 +1,10 @@
+use Rattle.std.proofs.Common.{◌≡◌, length}
+use Rattle.json.specs.Json.{parse_map}
+use Rattle.lk_input.specs.Tokens.{items_at, anything}
+use Rattle.lk_input.proofs.read.stream.pass_items.Given as goal
+
+abbrev pub invariant-items : goal.invariant-items
+invariant-items g l = parse_map anything (items_at l.depth l.initial.reader) ≡ parse_map anything (items_at l.depth l.reader)
+
+abbrev pub decreases-items : goal.decreases-items
+decreases-items g l = length l.reader

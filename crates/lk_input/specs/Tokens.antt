@@ -1,0 +1,59 @@
+-- What stands at a place among the tokens of a JSON text: the words of private contracts.
+use Rattle.std.specs.Prelude.{◌≡◌, ℕ, ◌+◌, List, length, Option, Some, None, Result, Ok, Err, ⊤}
+use Rattle.json.specs.Token.{Token}
+use Rattle.json.specs.Json.{items, members, value}
+use Rattle.serde_json.specs.Data.{Data, Items, Members}
+use Rattle.serde_json.specs.Read.{of_json, of_items, of_members, converted}
+use Rattle.lk_input.specs.declared.read.error.InputError.{InputError}
+use Rattle.lk_input.specs.declared.read.error.InputError.TheVariants as error
+use Rattle.lk_input.specs.declared.read.fail.Fail.{Fail}
+use Rattle.lk_input.specs.declared.read.fail.Fail.TheVariants.{NotJson, NoMemory}
+use Rattle.lk_input.specs.ReadingSteps.{Path}
+
+-- the value that the tokens begin with, which nests no deeper than the number, and the tokens behind it
+unfoldable pub data_at : ℕ → List Token → Option (Data × List Token)
+data_at depth ts = converted of_json (value depth ts)
+
+-- the items up to the end of a list, and the tokens behind it
+unfoldable pub items_at : ℕ → List Token → Option (Items × List Token)
+items_at depth ts = converted of_items (items (value depth) (length ts) ts)
+
+-- the members up to the end of an object, put to those that were found before, and the tokens behind it
+unfoldable pub members_at : Members → ℕ → List Token → Option (Members × List Token)
+members_at found depth ts = converted (λ ms. of_members ms found) (members (value depth) (length ts) ts)
+
+-- why nothing was returned: nothing stands there, or memory ran out
+abbrev pub Lacks : {B : Type 0} → Fail → Option (B × List Token) → Type 0
+Lacks NotJson read = read ≡ None
+Lacks NoMemory read = Unit {0}
+
+-- what was returned stands there, and the tokens behind it are left
+abbrev pub Stands : {A B : Type 0} → (A → B) → Result A Fail → Option (B × List Token) → List Token → Type 0
+Stands seen (Ok x) read left = read ≡ Some (seen x, left)
+Stands seen (Err e) read left = Lacks e read
+
+-- the depth that is left one level further in
+abbrev pub IsDeeper : ℕ → Result ℕ Fail → Type 0
+IsDeeper depth (Ok d) = depth ≡ d + 1
+IsDeeper depth (Err NotJson) = depth ≡ 0
+IsDeeper depth (Err NoMemory) = ⊥
+
+-- what was returned is itself what stands there
+abbrev pub as_is : {A : Type 0} → A → A
+as_is x = x
+
+-- that something stands there, whatever it is
+abbrev pub anything : {A : Type 0} → A → ⊤
+anything x = tt
+
+-- what was read, with the path of a wrong shape apart from what ends all reading
+abbrev pub settled : {A : Type 0} → Result A InputError → Result (Result A Path) Fail
+settled (Ok x) = Ok (Ok x)
+settled (Err (error.Shape path)) = Ok (Err path)
+settled (Err error.NotJson) = Err NotJson
+settled (Err error.NoMemory) = Err NoMemory
+
+-- why bytes give no description, if their tokens were read no further
+abbrev pub input_error : Fail → InputError
+input_error NotJson = error.NotJson
+input_error NoMemory = error.NoMemory
