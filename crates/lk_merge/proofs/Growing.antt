@@ -63,7 +63,7 @@ entries_stay_of all more (l ∷ done) h =
     let entry : ℕ → PieceEntry = λ n. record { start = l.start; place = n; input = l.input } in
     (λ i. entry (at i) ∷ entries_stay_of all more done (λ r k there. h r (k + 1) (let n : k + 1 ≡ suc k = omega arith in ap (λ j. slice_get (l ∷ done) j) n ∙ there)) i)
 
-among_pieces : (done : List Located) (k : ℕ) (l : Located) → slice_get done k ≡ Some l → is_among (pieces_in done) l.piece ≡ true
+pub among_pieces : (done : List Located) (k : ℕ) (l : Located) → slice_get done k ≡ Some l → is_among (pieces_in done) l.piece ≡ true
 among_pieces [] k l h = absurd (cc)
 among_pieces (r ∷ done) zero l h =
     let same : r ≡ l = cc in

@@ -2,9 +2,14 @@ pub mod AmongLemmas
 pub mod Beginning
 pub mod BucketLemmas
 pub mod Constants
+pub mod Finding
+pub mod FindingSteps
+pub mod GoodPieces
 pub mod Growing
+pub mod Halving
 pub mod InputLemmas
 pub mod LaidOut
+pub mod LocatedLemmas
 pub mod MergedLemmas
 pub mod PieceLemmas
 pub mod Refusing

@@ -44,7 +44,7 @@ concat-lengthen b [] c bs h = absurd (cc)
 concat-lengthen b (p ∷ ps) c bs h = ap (λ l. b ∷ l) h
 
 -- the pieces together are the data, where these end in a zero byte
-concat-cut : (bytes : List ℕ) → last_byte bytes ≡ 0 → concat (cut bytes) ≡ bytes
+pub concat-cut : (bytes : List ℕ) → last_byte bytes ≡ 0 → concat (cut bytes) ≡ bytes
 concat-cut [] h = ap concat cut_none
 concat-cut (b ∷ []) h = ap concat (cut_zero b [] h) ∙ ap (λ ps. b ∷ concat ps) cut_none
 concat-cut (b ∷ c ∷ bs) h = by (concat-cut (c ∷ bs) (sym (last_of_more b c bs) ∙ h)) (eqb b 0) refl

@@ -6,4 +6,5 @@ pub mod Inputs
 pub mod MergedTables
 pub mod Merging
 pub mod MergingTables
+pub mod OffsetMaps
 pub mod Pieces

@@ -1,11 +1,12 @@
 -- What merging makes of the inputs of an output section, or why it refuses them.
-use Rattle.std.specs.Prelude.{◌≡◌, ℕ, ◌+◌, ◌%◌, not, List, [], ◌∷◌, Option, None, Some, Result, Ok, Err, if◌then◌else◌, length, map, nat_lt, option_map, position}
+use Rattle.std.specs.Prelude.{◌≡◌, ℕ, ◌+◌, ◌%◌, ◌==◌, not, List, [], ◌∷◌, Option, None, Some, Result, Ok, Err, if◌then◌else◌, length, map, nat_lt, option_and_then, option_map, position}
 use Rattle.lk_link.specs.Files.{first_some}
 use Rattle.lk_merge.specs.declared.error.MergeError.{MergeError}
 use Rattle.lk_merge.specs.declared.error.MergeError.TheVariants.{NotTerminated, TooLarge, NoMemory}
 use Rattle.lk_merge.specs.Buckets.{bucket_place}
-use Rattle.lk_merge.specs.Image.{bucket_list, all_buckets, all_pieces, place_in}
-use Rattle.lk_merge.specs.Pieces.{Piece, MergeInput, is_terminated}
+use Rattle.lk_merge.specs.Image.{bucket_list, all_buckets, all_pieces, piece_at, place_in}
+use Rattle.lk_merge.specs.Inputs.{padded_len}
+use Rattle.lk_merge.specs.Pieces.{Piece, MergeInput, is_terminated, pieces_of}
 
 -- ---- places
 
@@ -51,3 +52,17 @@ abbrev pub GivesMerged : (Piece → ℕ) → ℕ → ℕ → List MergeInput →
 GivesMerged hash section limit inputs (Ok merged) = (merge_refusal hash section limit inputs ≡ None) × (merged ≡ inputs)
 GivesMerged hash section limit inputs (Err NoMemory) = Unit {0}
 GivesMerged hash section limit inputs (Err error) = merge_refusal hash section limit inputs ≡ Some error
+
+-- where an offset of one of some inputs stands: its piece's place, and the distance into the piece; nowhere behind the data
+abbrev pub place_at : (Piece → ℕ) → List MergeInput → MergeInput → ℕ → Option ℕ
+place_at hash inputs x offset = option_map (λ q. place_of hash (all_pieces inputs) q.0 + q.1) (piece_at (pieces_of x) offset)
+
+-- the last of inputs that starts at an offset, where the first of them starts at another
+unfoldable pub last_from : ℕ → List MergeInput → ℕ → Option MergeInput
+last_from at [] start = None
+last_from at (x ∷ xs) start = first_some (last_from (at + padded_len x) xs start) (if at == start then Some x else None)
+
+-- where an offset behind the start of an input stands: several may start at one place, of which the last alone can have bytes
+-- (libwild: `find_string`)
+abbrev pub found_place : (Piece → ℕ) → List MergeInput → ℕ → ℕ → Option ℕ
+found_place hash inputs start offset = option_and_then (λ x. place_at hash inputs x offset) (last_from 0 inputs start)

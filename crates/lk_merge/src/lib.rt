@@ -19,5 +19,5 @@ pub use hash::{Fnv64, PieceHash};
 pub use inputs::{StringMergeInputSection, StringMergeInputSections, total_input_size};
 pub use offset::{BucketOffset, LinearInputOffset};
 pub use offset_map::OffsetMap;
-pub use section::MergedStringsSection;
+pub use section::{MergedStringsSection, find_string};
 pub use string::MergeString;

@@ -47,6 +47,16 @@ impl BucketOffset {
         }
     }
 
+    /// So many bytes further.
+    pub(crate) fn plus(self, bytes: u64) -> BucketOffset
+        requires { self + bytes < 2 ^ 32 }
+        ensures { result ≡ self + bytes }
+    {
+        BucketOffset {
+            number: self.number + bytes as u32,
+        }
+    }
+
     /// The bucket, below 16.
     pub fn bucket(self) -> usize
         ensures bucket { result ≡ self / 2 ^ 28 }

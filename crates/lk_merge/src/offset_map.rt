@@ -1,6 +1,7 @@
 //! From input offsets to places in buckets.
 
-ghost use Rattle.std.specs.Prelude.{◌≡◌, [], length};
+ghost use Rattle.std.specs.Prelude.{◌≡◌, [], MatchOption, length};
+ghost use Rattle.lk_merge.specs.OffsetMaps.{IsLastAt, NoneAt, StartsRise};
 
 use crate::offset::BucketOffset;
 use std::alloc::Global;
@@ -55,4 +56,29 @@ impl OffsetMap {
     {
         self.entries.len()
     }
+
+    /// All entries, lent.
+    pub(crate) fn as_slice(&self) -> &[PieceEntry]
+        ensures { result.now ≡ self.now }
+    {
+        self.entries.as_slice()
+    }
+}
+
+/// The index of the last piece that starts at an offset or before it, if there is one. Takes logarithmic time.
+pub(crate) fn last_at(entries: &[PieceEntry], offset: u64) -> Option<usize>
+    requires { StartsRise entries.now }
+    ensures { MatchOption result (NoneAt entries.now offset) (IsLastAt entries.now offset) }
+{
+    let mut low = 0;
+    let mut high = entries.len();
+    while low < high {
+        let middle = low + (high - low) / 2;
+        if entries[middle].start <= offset {
+            low = middle + 1;
+        } else {
+            high = middle;
+        }
+    }
+    low.checked_sub(1)
 }

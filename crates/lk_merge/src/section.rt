@@ -5,11 +5,12 @@ ghost use Rattle.std.specs.List.{concat};
 ghost use Rattle.lk_merge.specs.Hash.{fnv64};
 ghost use Rattle.lk_merge.specs.Image.{all_pieces, image, image_pieces};
 ghost use Rattle.lk_merge.specs.MergedTables.{IsMerged};
-ghost use Rattle.lk_merge.specs.Merging.{kept_lists};
+ghost use Rattle.lk_merge.specs.Merging.{found_place, kept_lists};
 
 use crate::bucket::MergeStringsSectionBucket;
 use crate::inputs::StringMergeInputSections;
-use crate::offset_map::OffsetMap;
+use crate::offset::{BucketOffset, LinearInputOffset};
+use crate::offset_map::{OffsetMap, last_at};
 use std::alloc::Global;
 use std::marker::Model;
 
@@ -77,4 +78,28 @@ impl<'data> MergedStringsSection<'data> {
     {
         self.string_offsets.len()
     }
+}
+
+/// Where the piece stands that holds an offset behind the start of an input, in bytes, and the distance into it. None where no
+/// input starts there, or its data end at the offset or before. Of several inputs that start at one place the last alone can
+/// have bytes. Takes logarithmic time (libwild: `find_string`).
+pub fn find_string(
+    section: &MergedStringsSection<'_>,
+    start: LinearInputOffset,
+    offset: u64,
+) -> Option<BucketOffset>
+    ensures { result ≡ found_place fnv64 section.now start offset }
+{
+    let entries = section.string_offsets.as_slice();
+    let inputs = section.inputs.as_slice();
+    let at = start.as_u64().checked_add(offset)?;
+    let entry = &entries[last_at(entries, at)?];
+    let input = &inputs[entry.input as usize];
+    if input.start_input_offset.as_u64() != start.as_u64() {
+        return None;
+    }
+    if offset >= input.section_data.len() as u64 {
+        return None;
+    }
+    Some(entry.place.plus(at - entry.start))
 }

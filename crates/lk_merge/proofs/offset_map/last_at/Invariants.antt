@@ -1,0 +1,11 @@
+use Rattle.std.proofs.Common.{◌≡◌, ℕ, ◌-◌, ◌<◌, ◌≤◌, List, Some, length}
+use Rattle.std.specs.List.{slice_get}
+use Rattle.lk_merge.specs.declared.offset_map.PieceEntry.{PieceEntry}
+use Rattle.lk_merge.proofs.Halving.{IsHalved}
+use Rattle.lk_merge.proofs.offset_map.last_at.Given as goal
+
+abbrev pub invariant-loop-low : goal.invariant-loop-low
+invariant-loop-low l = IsHalved l.entries l.offset l.low l.high
+
+abbrev pub decreases-loop-low : goal.decreases-loop-low
+decreases-loop-low l = l.high - l.low
