@@ -1,5 +1,5 @@
 -- Where an offset behind the start of an input is found.
-use Rattle.std.proofs.Common.{◌≡◌, ◌≢◌, ℕ, zero, suc, ◌+◌, ◌-◌, ◌*◌, ◌%◌, ◌^◌, ◌≤◌, ◌<◌, Bool, true, false, cond, eqb, List, [], ◌∷◌, ◌++◌, length, map, take, get_or, sum_by, Option, None, Some, option_map, refl, sym, ap, ◌∙◌, subst, arith, inl, inr, ◌⊎◌, ⊎_elim, option_and_then}
+use Rattle.std.proofs.Common.{◌≡◌, ◌≢◌, ℕ, zero, suc, ◌+◌, ◌-◌, ◌%◌, ◌^◌, ◌≤◌, ◌<◌, Bool, true, false, cond, eqb, List, [], ◌∷◌, length, map, take, Option, None, Some, option_map, refl, sym, ap, ◌∙◌, arith, inl, inr, ◌⊎◌, ⊎_elim, option_and_then}
 use Rattle.std.specs.List.{concat, list_all, slice_get}
 use Rattle.std.proofs.Math.Nat.{mod-lt}
 use Rattle.std.proofs.lemmas.Bool.{eqb-true, eqb-false, cases_lt}
@@ -8,10 +8,10 @@ use Rattle.lk_link.specs.Files.{first_some}
 use Rattle.lk_link.proofs.Elements.{map_at, map_in}
 use Rattle.lk_merge.specs.declared.offset_map.PieceEntry.{PieceEntry}
 use Rattle.lk_merge.specs.Hash.{fnv64}
-use Rattle.lk_merge.specs.Image.{all_pieces, bucket_list, is_among, place_in}
+use Rattle.lk_merge.specs.Image.{all_pieces, bucket_list, is_among}
 use Rattle.lk_merge.specs.Inputs.{Located, located, padded_len, padded_total}
 use Rattle.lk_merge.specs.Merging.{found_place, last_from, place_at, place_of}
-use Rattle.lk_merge.specs.MergingTables.{entry_of, pieces_in}
+use Rattle.lk_merge.specs.MergingTables.{entry_of}
 use Rattle.lk_merge.specs.OffsetMaps.{IsLastAt, NoneAt, StartsRise}
 use Rattle.lk_merge.specs.Pieces.{Piece, MergeInput, is_terminated, pieces_of}
 use Rattle.lk_merge.proofs.AmongLemmas.{place_within}
@@ -19,7 +19,7 @@ use Rattle.lk_merge.proofs.GoodPieces.{good_pieces, piece_at_some, piece_at_past
 use Rattle.lk_merge.proofs.Growing.{among_bucket_list, among_pieces}
 use Rattle.lk_merge.proofs.InputLemmas.{pieces_located_from}
 use Rattle.lk_merge.proofs.LaidOut.{data_fits}
-use Rattle.lk_merge.proofs.LocatedLemmas.{Covers, Rise, covers_all, rise_from, slice_within}
+use Rattle.lk_merge.proofs.LocatedLemmas.{covers_all, rise_from, slice_within}
 use Rattle.lk_merge.proofs.TooLong.{none_first, some_first}
 
 -- ---- the last input that starts at an offset
@@ -60,6 +60,7 @@ last_found at (x ∷ xs) start = by (last_found (at + padded_len x) xs start) (e
   where
     here : (start_at at (x ∷ xs) 0) ≡ at
     here = omega arith
+
     by : NoneFound (at + padded_len x) xs start ⊎ OneFound (at + padded_len x) xs start → (t : Bool) → eqb at start ≡ t → NoneFound at (x ∷ xs) start ⊎ OneFound at (x ∷ xs) start
     by (inl n) true e = inr (record {
       input = x;
@@ -194,7 +195,7 @@ module _ (xs : List MergeInput) (entries : List PieceEntry) (terminated : list_a
         let l : Located = record { input = k; start = padded_total (take k xs) + (offset - d); piece = p } in
         let far : start + offset - (padded_total (take k xs) + (offset - d)) ≡ d = omega (arith, from, here.0) in
         let among : is_among (bucket_list fnv64 all (fnv64 p % 16)) p ≡ true
-            = among_bucket_list fnv64 all p ∙ ap (λ ps. is_among ps p) (sym (pieces_located_from 0 0 xs)) ∙ among_pieces (located xs) c.index l c.there in
+        = among_bucket_list fnv64 all p ∙ ap (λ ps. is_among ps p) (sym (pieces_located_from 0 0 xs)) ∙ among_pieces (located xs) c.index l c.there in
         let within = place_within (bucket_list fnv64 all (fnv64 p % 16)) p among in
         let below : fnv64 p % 16 < 16 = mod-lt (fnv64 p) (omega arith) in
         let bounded = small (fnv64 p % 16) below in
@@ -222,9 +223,9 @@ module _ (xs : List MergeInput) (entries : List PieceEntry) (terminated : list_a
 
     pub found_or_nowhere : IsFound ⊎ IsNowhere
     found_or_nowhere = elim (last_found 0 xs start) [
-        | inl n ↦ inr (nowhere n)
-        | inr o ↦ ⊎_elim (λ short. inl (found_in o short)) (λ far. inr (past o far)) (cases_lt offset (length o.input.bytes))
-      ]
+      | inl n ↦ inr (nowhere n)
+      | inr o ↦ ⊎_elim (λ short. inl (found_in o short)) (λ far. inr (past o far)) (cases_lt offset (length o.input.bytes))
+    ]
 
     -- the entry is the only last one
     pub only_last : (f : IsFound) (i : ℕ) (h : IsLastAt entries (start + offset) i) → h.entry ≡ f.last.entry

@@ -1,5 +1,5 @@
 -- What a look-up finds, by what it has seen.
-use Rattle.std.proofs.Common.{◌≡◌, ◌≢◌, ℕ, zero, suc, ◌+◌, ◌-◌, ◌^◌, ◌≤◌, ◌<◌, List, [], ◌∷◌, length, map, take, get_or, Option, None, Some, refl, sym, ap, ◌∙◌, subst, arith, inl, inr, ◌⊎◌, option_map}
+use Rattle.std.proofs.Common.{◌≡◌, ◌≢◌, ℕ, zero, suc, ◌+◌, ◌-◌, ◌^◌, ◌≤◌, ◌<◌, List, [], ◌∷◌, length, map, take, get_or, Option, None, Some, sym, ap, ◌∙◌, subst, arith, inl, inr, ◌⊎◌, option_map}
 use Rattle.std.specs.List.{slice_get}
 use Rattle.std.proofs.lemmas.List.{take-map, take_all, length-map}
 use Rattle.std.proofs.lemmas.Option.{slice_get-map, slice_get-get_or}
@@ -16,7 +16,6 @@ use Rattle.lk_merge.specs.MergingTables.{entry_of}
 use Rattle.lk_merge.specs.OffsetMaps.{IsLastAt, NoneAt, StartsRise}
 use Rattle.lk_merge.specs.Pieces.{Piece, MergeInput, pieces_of}
 use Rattle.lk_merge.proofs.Finding.{IsFound, IsNowhere, entries_rise, found_or_nowhere, only_last, not_none, starts_behind}
-use Rattle.lk_merge.proofs.InputLemmas.{located_in_none, located_in_step}
 use Rattle.lk_merge.proofs.LaidOut.{data_fits, laid_out_at}
 use Rattle.lk_merge.proofs.LocatedLemmas.{slice_within}
 

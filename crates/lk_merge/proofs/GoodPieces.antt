@@ -1,7 +1,7 @@
 -- The pieces of terminated inputs have bytes, and are their data.
-use Rattle.std.proofs.Common.{◌≡◌, ◌≢◌, ℕ, zero, suc, ◌+◌, ◌-◌, ◌≤◌, ◌<◌, Bool, true, false, cond, ltb, eqb, ◌&&◌, List, [], ◌∷◌, ◌++◌, length, get_or, Option, None, Some, refl, sym, ap, ◌∙◌, subst, arith, append-nil, length-append}
-use Rattle.std.specs.List.{concat, list_all, slice_get, All}
-use Rattle.std.proofs.lemmas.Bool.{true≢false, eqb-true, le-ltb, lt-ltb, ltb-true, ltb-false}
+use Rattle.std.proofs.Common.{◌≡◌, ℕ, zero, suc, ◌+◌, ◌-◌, ◌≤◌, ◌<◌, Bool, true, false, ltb, ◌&&◌, List, [], ◌∷◌, ◌++◌, length, get_or, None, Some, refl, sym, ap, ◌∙◌, subst, arith, append-nil, length-append}
+use Rattle.std.specs.List.{concat, list_all, slice_get}
+use Rattle.std.proofs.lemmas.Bool.{true≢false, eqb-true, le-ltb, ltb-false}
 use Rattle.std.proofs.lemmas.Option.{slice_get_within, get_or_from_slice_get}
 use Rattle.lk_merge.specs.Image.{piece_at}
 use Rattle.lk_merge.specs.Pieces.{Piece, MergeInput, IsString, cut, constant, pieces_of, is_terminated}

@@ -1,5 +1,5 @@
 -- Where the pieces of inputs start, and which of them an offset is in.
-use Rattle.std.proofs.Common.{◌≡◌, ◌≢◌, ℕ, zero, suc, ◌+◌, ◌-◌, ◌≤◌, ◌<◌, Bool, true, false, cond, ltb, List, [], ◌∷◌, ◌++◌, length, map, take, drop, get_or, sum_by, Option, None, Some, refl, sym, ap, ◌∙◌, subst, arith, inl, inr, ◌⊎◌, append_assoc, length-append}
+use Rattle.std.proofs.Common.{◌≡◌, ℕ, zero, suc, ◌+◌, ◌-◌, ◌≤◌, ◌<◌, Bool, true, false, cond, ltb, List, [], ◌∷◌, ◌++◌, length, take, None, Some, refl, sym, ap, ◌∙◌, subst, arith, inl, inr, append_assoc, length-append}
 use Rattle.std.specs.List.{concat, slice_get}
 use Rattle.std.proofs.lemmas.Bool.{ltb-true, ltb-false}
 use Rattle.std.proofs.lemmas.List.Sums.{sum_by-cons}
@@ -92,13 +92,13 @@ rise_append : (xs ys : List Located) (middle : ℕ) → Rise xs → Rise ys → 
 rise_append xs ys middle rx ry low high i j l m below l_at m_at =
     elim (append_at xs ys i l l_at) [
       | inl a ↦ elim (append_at xs ys j m m_at) [
-          | inl b ↦ rx i j l m below a b
-          | inr b ↦ omega (arith, low i l a, high b.0 m b.2)
-        ]
+        | inl b ↦ rx i j l m below a b
+        | inr b ↦ omega (arith, low i l a, high b.0 m b.2)
+      ]
       | inr a ↦ elim (append_at xs ys j m m_at) [
-          | inl b ↦ absurd (omega (arith, a.1, below, slice_within xs j m b))
-          | inr b ↦ ry a.0 b.0 l m (omega (arith, a.1, b.1, below)) a.2 b.2
-        ]
+        | inl b ↦ absurd (omega (arith, a.1, below, slice_within xs j m b))
+        | inr b ↦ ry a.0 b.0 l m (omega (arith, a.1, b.1, below)) a.2 b.2
+      ]
     ]
 
 rise_in : (k at : ℕ) (ps : List Piece) → HaveBytes ps → Rise (located_in k at ps)
@@ -112,6 +112,7 @@ rise_in k at (p ∷ ps) h =
     one : Rise (record { input = k; start = at; piece = p } ∷ [])
     one i zero l m below l_at m_at = absurd (omega (arith, below))
     one i (suc j) l m below l_at m_at = absurd (cc)
+
     low : (i : ℕ) (l : Located) → slice_get (record { input = k; start = at; piece = p } ∷ []) i ≡ Some l → l.start + length l.piece ≤ at + length p
     low zero l e =
         let only : Located = record { input = k; start = at; piece = p } in
@@ -157,6 +158,7 @@ covers_in k at (q ∷ ps) offset p d h there = by (ltb offset (length q)) refl (
   where
     step : located_in k at (q ∷ ps) ≡ record { input = k; start = at; piece = q } ∷ located_in k (at + length q) ps
     step = located_in_step k at q ps
+
     by : (t : Bool) → ltb offset (length q) ≡ t
         → (piece_at ps (offset - length q) ≡ Some (p, d) → (d ≤ offset - length q) × (d < length p)
         × Covers (located_in k (at + length q) ps) ((at + length q) + (offset - length q)) (record { input = k; start = (at + length q) + ((offset - length q) - d); piece = p }))
@@ -167,8 +169,7 @@ covers_in k at (q ∷ ps) offset p d h there = by (ltb offset (length q)) refl (
         let far : offset ≡ d = ap (λ (z : Piece × ℕ). z.1) pair in
         let short : offset < length q = ltb-true _ _ e in
         let same : length q ≡ length p = ap length piece in
-        let start : at ≡ at + (offset - d) = omega (arith, far) in
-        (
+        let start : at ≡ at + (offset - d) = omega (arith, far) in (
           omega (arith, far),
           omega (arith, far, short, same),
           record {
@@ -187,8 +188,7 @@ covers_in k at (q ∷ ps) offset p d h there = by (ltb offset (length q)) refl (
         let r = rest (sym (piece_at_step q ps offset false e) ∙ there) in
         let c = r.2 in
         let at_is : (at + length q) + (offset - length q) ≡ at + offset = omega (arith, long) in
-        let start_is : (at + length q) + ((offset - length q) - d) ≡ at + (offset - d) = omega (arith, long, r.0) in
-        (
+        let start_is : (at + length q) + ((offset - length q) - d) ≡ at + (offset - d) = omega (arith, long, r.0) in (
           omega (arith, r.0),
           r.1,
           record {
@@ -224,13 +224,12 @@ covers_all xs k x offset p d there good found short =
     let c = own.2 in
     let tail : List Located = located_from (k + 1) (start + padded_len x) split.0 in
     let whole : located_from 0 0 xs ≡ located_from 0 0 front ++ (located_in k start (pieces_of x) ++ tail)
-        = ap (located_from 0 0) split.1 ∙ located_from_append 0 0 k front (x ∷ split.0) (omega (arith, split.2))
-        ∙ ap (λ a. located_from 0 0 front ++ located_from k a (x ∷ split.0)) (omega arith)
-        ∙ ap (λ l. located_from 0 0 front ++ l) (located_from_cons k start x split.0) in
+    = ap (located_from 0 0) split.1 ∙ located_from_append 0 0 k front (x ∷ split.0) (omega (arith, split.2))
+    ∙ ap (λ a. located_from 0 0 front ++ located_from k a (x ∷ split.0)) (omega arith)
+    ∙ ap (λ l. located_from 0 0 front ++ l) (located_from_cons k start x split.0) in
     let n : ℕ = length (located_from 0 0 front) in
     let good_tail : HaveGoodPieces split.0 = λ i y e. good (k + 1 + i) y (ap (λ l. slice_get l (k + 1 + i)) split.1
-        ∙ append_right front (x ∷ split.0) (suc i) (k + 1 + i) y (omega (arith, split.2)) e) in
-    (
+    ∙ append_right front (x ∷ split.0) (suc i) (k + 1 + i) y (omega (arith, split.2)) e) in (
       own.0,
       own.1,
       record {
@@ -243,9 +242,9 @@ covers_all xs k x offset p d there good found short =
             elim (append_at (located_from 0 0 front) (located_in k start (pieces_of x) ++ tail) j m (ap (λ l. slice_get l j) (sym whole) ∙ m_at)) [
               | inl a ↦ absurd (omega (arith, below, slice_within (located_from 0 0 front) j m a))
               | inr a ↦ elim (append_at (located_in k start (pieces_of x)) tail a.0 m a.2) [
-                  | inl b ↦ c.later a.0 m (omega (arith, below, a.1)) b
-                  | inr b ↦ let e = between_from (k + 1) (start + padded_len x) split.0 b.0 m good_tail b.2 in omega (arith, e.from, short)
-                ]
+                | inl b ↦ c.later a.0 m (omega (arith, below, a.1)) b
+                | inr b ↦ let e = between_from (k + 1) (start + padded_len x) split.0 b.0 m good_tail b.2 in omega (arith, e.from, short)
+              ]
             ];
       },
     )

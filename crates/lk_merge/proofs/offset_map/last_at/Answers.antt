@@ -1,6 +1,6 @@
-use Rattle.std.proofs.Common.{◌≡◌, ℕ, ◌+◌, ◌-◌, ◌/◌, ◌<◌, ◌≤◌, List, get_or, sym, ap, subst, arith}
+use Rattle.std.proofs.Common.{◌+◌, ◌-◌, ◌/◌, ap, arith}
 use Rattle.lk_merge.specs.declared.offset_map.PieceEntry.{PieceEntry}
-use Rattle.lk_merge.proofs.Halving.{halved_first, halved_up, halved_down, halved_last}
+use Rattle.lk_merge.proofs.Halving.{halved_first, halved_down, halved_last}
 use Rattle.lk_merge.proofs.offset_map.last_at.Goals as goal
 
 pub loop-low-init : goal.loop-low-init

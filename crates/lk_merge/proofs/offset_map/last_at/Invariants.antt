@@ -1,6 +1,4 @@
-use Rattle.std.proofs.Common.{◌≡◌, ℕ, ◌-◌, ◌<◌, ◌≤◌, List, Some, length}
-use Rattle.std.specs.List.{slice_get}
-use Rattle.lk_merge.specs.declared.offset_map.PieceEntry.{PieceEntry}
+use Rattle.std.proofs.Common.{◌-◌}
 use Rattle.lk_merge.proofs.Halving.{IsHalved}
 use Rattle.lk_merge.proofs.offset_map.last_at.Given as goal
 
