@@ -1,4 +1,4 @@
--- Lists of input sections that are too long.
+-- Lists of input sections that are too long: the words of private contracts.
 use Rattle.std.specs.Prelude.{ℕ, List, Option, option_map, find, length, nat_lt}
 use Rattle.std.specs.List.{flat_map}
 use Rattle.lk_link.specs.declared.file.InputFile.{InputFile}

@@ -1,4 +1,4 @@
--- An index of candidates by their output sections.
+-- An index of candidates by their output sections: the words of the index behind a model, and what is looked up there.
 use Rattle.std.specs.Prelude.{◌≡◌, ℕ, ◌==◌, List, filter}
 use Rattle.lk_link.specs.declared.file.Candidate.{Candidate}
 use Rattle.lk_link.specs.Numbered.{items_of}

@@ -1,4 +1,4 @@
--- Lists that follow each other, and where each of them ends.
+-- Lists that follow each other, and where each of them ends: the words of indexes behind models.
 use Rattle.std.specs.Prelude.{◌≡◌, ℕ, zero, suc, ◌+◌, ◌-◌, ◌^◌, ◌<◌, List, length, take, min, slice_index, sum_by}
 
 -- the ends of lists: how many items stand in each list and in those before it, as far as 64 bits go

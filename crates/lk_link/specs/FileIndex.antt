@@ -1,4 +1,4 @@
--- An index of the files, symbols and input sections of a link by their numbers.
+-- An index of the files, symbols and input sections of a link by their numbers: the words of the index behind a model.
 use Rattle.std.specs.Prelude.{ℕ, List, length}
 use Rattle.lk_link.specs.declared.file.InputFile.{InputFile}
 use Rattle.lk_link.specs.Ends.{AreEnds}

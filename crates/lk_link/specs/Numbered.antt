@@ -1,4 +1,4 @@
--- Items with numbers.
+-- Items with numbers: the words of indexes behind models.
 use Rattle.std.specs.Prelude.{◌≡◌, ℕ, ◌<◌, ◌≤◌, ◌==◌, List, length, filter, map, slice_index}
 
 -- the items of this number, in their order

@@ -14,10 +14,7 @@ table_parts n = n.got ∷ n.plt ∷ n.symtab_local ∷ n.symtab_global ∷ n.str
 
 -- the plan gives a table part or the comment part
 abbrev pub names_table : NamedParts → Bool
-names_table n =
-    is_some n.got || is_some n.plt || is_some n.symtab_local || is_some n.symtab_global || is_some n.strtab || is_some n.dynsym
-    || is_some n.dynstr || is_some n.file_header || is_some n.program_headers || is_some n.section_headers
-    || is_some n.shstrtab || is_some n.comment
+names_table n = list_any is_some (table_parts n) || is_some n.comment
 
 -- whether it is this part
 abbrev pub is_part : ℕ → Option ℕ → Bool

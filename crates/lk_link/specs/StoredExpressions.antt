@@ -1,4 +1,4 @@
--- How expressions are told apart: a term is stored as its tokens, and a token as its place among all kinds and its number.
+-- How expressions are told apart (a term is stored as its tokens, and a token as its place among all kinds and its number): the words of a model.
 use Rattle.std.specs.Prelude.{◌≡◌, ℕ, List, [], ◌∷◌, ◌++◌, refl}
 use Rattle.std.specs.Coded.{Coded, code_by, coded×, coded_ℕ, coded_list}
 use Rattle.std.specs.List.{slice_index_or}

@@ -1,4 +1,4 @@
--- What a layout depends on beside the link.
+-- What a layout depends on beside the link, and the rule of the small platform with the law that the platform cites (so its proof stands here).
 use Rattle.std.specs.Prelude.{◌≡◌, ℕ, zero, suc, ◌+◌, ◌-◌, ◌%◌, ◌<◌, ◌≤◌, IsTrue, true}
 use Rattle.std.specs.Int.{next_multiple_of}
 use Rattle.std.proofs.Common.{arith, sym, ap, ◌∙◌, zero-add}

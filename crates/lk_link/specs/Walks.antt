@@ -1,4 +1,4 @@
--- What is left of a walk over files and over input sections.
+-- What is left of a walk over files and over input sections: the words of iterators.
 use Rattle.std.specs.Prelude.{◌≡◌, ℕ, ◌+◌, ◌<◌, ◌^◌, List, ◌++◌, Some, length, slice_get}
 use Rattle.lk_link.specs.declared.ids.FileId.{FileId}
 use Rattle.lk_link.specs.declared.file.InputFile.{InputFile}

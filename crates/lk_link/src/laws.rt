@@ -7,12 +7,20 @@ ghost use Rattle.lk_link.specs.InputLaws.{InputsAreGood, InputsGoToParts, InputL
 ghost use Rattle.lk_link.specs.Laws.{OptionsAreGood, PartsAreAligned, SectionsAreGood, PrimariesAreOthers, EventsStandOnce, ListsAreFew};
 ghost use Rattle.lk_link.specs.SymbolLaws.{SymbolsAreGood, NumberedSymbolsAreGood, DefinitionsStandForThemselves};
 
+use crate::alignment::Alignment;
 use crate::ids::{FileId, OutputSectionId, PartId, RegionId, SegmentId, SymbolId};
 use std::cmp::Ordering;
 
 /// A law: files compare by group, then by their numbers there.
 pub fn files_compare_by_group(a: FileId, b: FileId) -> Ordering
     ensures { result ≡ file_cmp a b }
+{
+    a.cmp(&b)
+}
+
+/// A law: alignments compare as their values.
+pub fn alignments_compare_as_values(a: Alignment, b: Alignment) -> Ordering
+    ensures { result ≡ nat_cmp a b }
 {
     a.cmp(&b)
 }
