@@ -1,6 +1,7 @@
 //! Laws on the answer, each proved as the contract of a function that does nothing.
 
-ghost use Rattle.lk_layout.specs.Laws.{CarriedPlansArePlain, DefinedAnswerExists, DefinedAnswerIsOne, DefinedLayoutsAreSound, LaidOutMemoryIsDisjoint, LaidOutSectionsAreApart};
+ghost use Rattle.lk_layout.specs.Laws.{CarriedPlansArePlain, DefinedAnswerExists, DefinedAnswerIsOne, DefinedLayoutsAreSound};
+ghost use Rattle.lk_layout.specs.Laws.{LaidOutMemoryIsDisjoint, LaidOutSectionsAreApart};
 
 use lk_check::well_formed_exactly_unfaulted;
 use lk_gc::{live_exists, live_is_one};

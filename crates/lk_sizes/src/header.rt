@@ -15,7 +15,8 @@
 //! which has no sections inside, and those in which an emitted section stands. Partial output, which is linked again
 //! before anything loads it, has none.
 
-ghost use Rattle.std.specs.Prelude.{◌≡◌, ◌==◌, ◌&&◌, ◌||◌, ◌<◌, ◌≤◌, ◌^◌, ◌+◌, ◌++◌, ◌∷◌, [], ℕ, All, Some, None, IfOk, OnOk, filter, if◌then◌else◌, length, map, nat_lt, not};
+ghost use Rattle.std.specs.Prelude.{◌≡◌, ◌==◌, ◌&&◌, ◌||◌, ◌<◌, ◌≤◌, ◌^◌, ◌+◌, ◌++◌, ◌∷◌, [], ℕ, All, Some, None, IfOk, OnOk, filter};
+ghost use Rattle.std.specs.Prelude.{if◌then◌else◌, length, map, nat_lt, not};
 ghost use Rattle.std.specs.List.{enumerate_from, list_any, position_from, slice_index_or};
 ghost use Rattle.lk_link.specs.Files.{first_some};
 ghost use Rattle.lk_link.specs.EmitKinds.{is_always};
