@@ -42,7 +42,7 @@ placed_exists link live records =
 
 sized_exists : PlacementExists → (target : Target) (link : LinkInput) (live : Live) → IsWellFormed link → IsCarried link → (answer : Result Layout LayoutError) × IsSizedAnswer target link live answer
 sized_exists placement target link live good carried =
-    let p = placement (setting target link live) link.options.output (ready target link live good) (placeable link carried) in
+    let p = placement (setting target link live) (ready target link live good) (placeable link carried) in
     let rest = unless_exists (walk_refusal target link live p.0) (IsPlacedAnswer link live p.1) (λ none. placed_exists link live p.1) in
     (rest.0, (p.0, p.1, p.2, rest.1))
 

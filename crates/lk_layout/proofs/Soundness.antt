@@ -185,7 +185,7 @@ congruent in_step keep target link layout laid lawful plain i s k p places backe
     let live : Live = laid.live in
     let kept : KeepAlignments (setting target link live) laid.records
     = keep (setting target link live) laid.states laid.records (ready target link live laid.good) laid.is (laid.is.ends laid.unrefused) in
-    let found = in_step (setting target link live) link.options.output laid.states laid.records (soundly_set target link layout laid lawful) plain (λ t. no_zero_fill link t laid.carried) i s k p places backed part in
+    let found = in_step (setting target link live) laid.states laid.records (soundly_set target link layout laid lawful) plain (λ t. no_zero_fill link t laid.carried) i s k p places backed part in
     let there = subst (λ (n : ℕ). (record_at laid.records p).mem_offset % n ≡ (record_at laid.records p).file_offset % n) (sym (kept.segment i)) found in
     subst (λ (l : Layout). IsCongruentAt link l i p) (sym laid.same) there
 
@@ -203,7 +203,7 @@ is_sound tile aligned owners mass file memory in_step keep target link layout la
           (file (setting target link laid.live) laid.states laid.records (ready target link laid.live laid.good) laid.is);
       memory = λ plain.
           let disjoint : MemoryIsDisjoint link.plan records = subst (MemoryIsDisjoint link.plan) (sym (parts_are target link layout laid))
-          (memory (setting target link laid.live) link.options.output laid.states laid.records (soundly_set target link layout laid lawful) plain) in
+          (memory (setting target link laid.live) laid.states laid.records (soundly_set target link layout laid lawful) plain) in
           record {
             disjoint = disjoint;
             apart = sections_apart tile mass owners target link layout laid disjoint;
@@ -222,7 +222,7 @@ pub memory_disjoint : WellFormedExactlyUnfaulted → MemoryRangesAreDisjoint →
 memory_disjoint exactly memory target link layout carried lawful defined =
     let laid = laid_out exactly target link layout defined in
     subst (MemoryIsDisjoint link.plan) (sym (parts_are target link layout laid))
-    (memory (setting target link laid.live) link.options.output laid.states laid.records (soundly_set target link layout laid lawful) (placeable link laid.carried))
+    (memory (setting target link laid.live) laid.states laid.records (soundly_set target link layout laid lawful) (placeable link laid.carried))
 
 -- and so are its live sections
 pub laid_out_apart : WellFormedExactlyUnfaulted → OwnersTileTheirPart → OwnersAreAligned → LiveSectionsAreOwners → PartsTakeTheirBytes → FileRangesAreDisjoint → MemoryRangesAreDisjoint → PlainMemoryIsDisjoint

@@ -47,7 +47,7 @@ sizes_refusal link live = option_map size_error (size_refusal link live)
 
 -- what is placed, for which machine, with the bytes of the parts
 abbrev pub setting : Target → LinkInput → Live → Setting
-setting target link live = setting_of link.plan target (part_sizes link live)
+setting target link live = setting_of link target (part_sizes link live)
 
 -- an event that can't be carried out
 abbrev pub walk_refusal : Target → LinkInput → Live → List Cursors → Option LayoutError

@@ -119,7 +119,7 @@ memory_is_disjoint setting states records set p q o other one two here there =
     p q o other (has p one) (has q two) (here.begins, here.ends) (there.begins, there.ends)
 
 pub memory_ranges_are_disjoint : MemoryRangesAreDisjoint
-memory_ranges_are_disjoint setting output states records set may = memory_is_disjoint setting states records set
+memory_ranges_are_disjoint setting states records set may = memory_is_disjoint setting states records set
 
 pub plain_memory_is_disjoint : PlainMemoryIsDisjoint
-plain_memory_is_disjoint setting output states records set plain = memory_is_disjoint setting states records set
+plain_memory_is_disjoint setting states records set plain = memory_is_disjoint setting states records set

@@ -3,7 +3,6 @@ use Rattle.std.proofs.Common.{◌≡◌, ℕ, ◌<◌, List, [], ◌∷◌, ◌+
 use Rattle.std.specs.Prelude.{slice_get, Result, Ok, Err, IsErrAnd}
 use Rattle.std.proofs.Math.Seq.{take-append_seam}
 use Rattle.std.proofs.lemmas.Option.{slice_get_within}
-use Rattle.lk_link.specs.declared.options.OutputKind.{OutputKind}
 use Rattle.lk_link.specs.declared.plan.OrderEvent.{OrderEvent}
 use Rattle.lk_link.specs.Parts.{all_parts}
 use Rattle.lk_place.specs.declared.cursors.Cursors.{Cursors}
@@ -34,27 +33,27 @@ refused_there setting k c e None at h = absurd (cc)
 refused_there setting k c e (Some x) at h = slice_get_within setting.plan.events k x at
 
 -- a walk to the end is the placement
-pub walked_placed : (setting : Setting) (output : OutputKind) (records sections : List Record) → IsReady setting → IsPlaceable setting.plan output → length records ≡ length (all_parts setting.plan.sections)
+pub walked_placed : (setting : Setting) (records sections : List Record) → IsReady setting → IsPlaceable setting.plan setting.output → length records ≡ length (all_parts setting.plan.sections)
     → AllPass setting (length setting.plan.events) → ((p : ℕ) → record_at records p ≡ record_after setting (length setting.plan.events) p)
     → sections ≡ section_records setting.plan.sections records → ArePlaced setting (record { parts = records; sections = sections })
-walked_placed setting output records sections ready may each pass at is =
+walked_placed setting records sections ready may each pass at is =
     let n : ℕ = length setting.plan.events in
     record {
       states = states_to setting n;
-      is = walk_is_placed setting output n records may (record { ready = ready; within = omega arith; pass = pass; stops = λ none. refl; each = each; at = λ p below. at p });
+      is = walk_is_placed setting n records may (record { ready = ready; within = omega arith; pass = pass; stops = λ none. refl; each = each; at = λ p below. at p });
       unrefused = walk_refusal setting n ∙ ap (λ (o : Option OrderEvent). refusal_of setting n o (cursors_after setting n)) (none_behind setting.plan.events);
       sections = is;
     }
 
 -- a walk that stops tells the first refusal
-pub stopped_refused : (setting : Setting) (output : OutputKind) (e : PlaceError) → IsReady setting → IsPlaceable setting.plan output → StopsBy setting e → IsRefused setting e
-stopped_refused setting output e ready may stop =
+pub stopped_refused : (setting : Setting) (e : PlaceError) → IsReady setting → IsPlaceable setting.plan setting.output → StopsBy setting e → IsRefused setting e
+stopped_refused setting e ready may stop =
     let n : ℕ = stop.k in
     let there : n < length setting.plan.events = refused_there setting n (cursors_after setting n) e (slice_get setting.plan.events n) refl stop.here in
     record {
       states = states_to setting n;
       records = records_to setting n;
-      is = walk_is_placed setting output n (records_to setting n) may (made_walk setting n ready (omega arith) stop.before (λ none. absurd (cc (stop.here))));
+      is = walk_is_placed setting n (records_to setting n) may (made_walk setting n ready (omega arith) stop.before (λ none. absurd (cc (stop.here))));
       refused = walk_refusal setting n ∙ stop.here;
     }
 
@@ -64,6 +63,6 @@ refused_gives setting (AddressOverflow place) refused = refused
 refused_gives setting (SectionOutsideSegments s) refused = refused
 
 -- the same where it is handed on
-pub refused_answer : (setting : Setting) (output : OutputKind) (r : Result Placed PlaceError) (e : PlaceError) → IsReady setting → IsPlaceable setting.plan output → IsErrAnd r (λ x. x ≡ e) → StopsBy setting e → GivesPlaced setting r
-refused_answer setting output (Ok placed) e ready may h stop = absurd h
-refused_answer setting output (Err x) e ready may h stop = refused_gives setting x (stopped_refused setting output x ready may (subst (StopsBy setting) (sym h) stop))
+pub refused_answer : (setting : Setting) (r : Result Placed PlaceError) (e : PlaceError) → IsReady setting → IsPlaceable setting.plan setting.output → IsErrAnd r (λ x. x ≡ e) → StopsBy setting e → GivesPlaced setting r
+refused_answer setting (Ok placed) e ready may h stop = absurd h
+refused_answer setting (Err x) e ready may h stop = refused_gives setting x (stopped_refused setting x ready may (subst (StopsBy setting) (sym h) stop))

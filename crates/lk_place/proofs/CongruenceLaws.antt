@@ -2,7 +2,6 @@
 use Rattle.std.proofs.Common.{◌≡◌, ℕ, zero, suc, ◌+◌, ◌-◌, ◌%◌, ◌<◌, ◌≤◌, Bool, true, false, List, length, take, Option, Some, None, refl, sym, ap, subst, ◌∙◌, inl, inr, arith, add-one}
 use Rattle.std.specs.Prelude.{◌||◌, slice_get}
 use Rattle.std.proofs.lemmas.Bool.{cases_lt}
-use Rattle.lk_link.specs.declared.options.OutputKind.{OutputKind}
 use Rattle.lk_link.specs.declared.plan.OrderEvent.{OrderEvent}
 use Rattle.lk_link.specs.declared.plan.OrderEvent.TheVariants.{SegmentStart, Section}
 use Rattle.lk_link.specs.Inside.{is_open, placed_section}
@@ -31,19 +30,19 @@ use Rattle.lk_place.proofs.Steps.{event_at, step_at}
 
 -- what a walk through a load segment is about: a plain plan, and a section with bytes in the file that an event before the last
 -- state places while the segment is open
-record IsThrough (setting : Setting) (output : OutputKind) (states : List Cursors) (records : List Record) (i s k : ℕ) : Type 0 where
+record IsThrough (setting : Setting) (states : List Cursors) (records : List Record) (i s k : ℕ) : Type 0 where
   set : IsSoundlySet setting states records
-  plain : IsPlain setting.plan output
+  plain : IsPlain setting.plan setting.output
   filled : (u : ℕ) → is_zero_fill_thread_local setting.plan u ≡ false
   places : PlacesInLoad setting.plan i s k
   backed : is_file_backed setting.plan s ≡ true
   early : k < length states - 1
 
 -- a section placed inside the segment, no later than that one, keeps what agrees in agreement
-keeps : (setting : Setting) (output : OutputKind) (states : List Cursors) (records : List Record) (i s k : ℕ) → IsThrough setting output states records i s k
+keeps : (setting : Setting) (states : List Cursors) (records : List Record) (i s k : ℕ) → IsThrough setting states records i s k
     → (u n : ℕ) (from : Cursors) → PlacesInLoad setting.plan i u n → is_file_backed setting.plan u ≡ true → CursorsAgree (place_alignment setting i) from
     → KeepsAgreement setting (place_alignment setting i) u from
-keeps setting output states records i s k t u n from there backed agrees = record {
+keeps setting states records i s k t u n from there backed agrees = record {
   ready = t.set.ready;
   good = place_aligned setting i t.set.ready.sections t.set.page;
   there = placed_in_range setting.plan (Section u) u (t.set.ready.events.in_range n (Section u) there.places.here) refl;
@@ -70,23 +69,23 @@ opens_agree setting states records i from to set load step =
     ∙ ap (λ n. n % place) (sym there.0)
     ∙ ap (λ (c : Cursors). c.file % place) (sym step.places)
 
-places_agree : (setting : Setting) (output : OutputKind) (states : List Cursors) (records : List Record) (i s k : ℕ) → IsThrough setting output states records i s k
+places_agree : (setting : Setting) (states : List Cursors) (records : List Record) (i s k : ℕ) → IsThrough setting states records i s k
     → (n : ℕ) (e : OrderEvent) (o : Option ℕ) (from to : Cursors) → n < k → slice_get setting.plan.events n ≡ Some e → placed_section e ≡ o → is_open i (take n setting.plan.events) ≡ true
     → CursorsAgree (place_alignment setting i) from → Places setting o from records to → CursorsAgree (place_alignment setting i) to
-places_agree setting output states records i s k t n e None from to less here none opened h stays = subst (CursorsAgree (place_alignment setting i)) (sym stays) h
-places_agree setting output states records i s k t n e (Some u) from to less here named opened h places =
+places_agree setting states records i s k t n e None from to less here none opened h stays = subst (CursorsAgree (place_alignment setting i)) (sym stays) h
+places_agree setting states records i s k t n e (Some u) from to less here named opened h places =
     let event : slice_get setting.plan.events n ≡ Some (Section u) = here ∙ ap (λ (x : OrderEvent). Some x) (section_event e u named) in
     let there : PlacesInLoad setting.plan i u n = record { load = t.places.load; places = record { here = event; inside = opened } } in
     let backed = first_of_two (is_file_backed setting.plan u) (is_zero_fill_thread_local setting.plan u) (t.plain.backed_first i u s n k less there t.places t.backed) (t.filled u) in
-    section_leaves setting (place_alignment setting i) u from to records (keeps setting output states records i s k t u n from there backed h) places
+    section_leaves setting (place_alignment setting i) u from to records (keeps setting states records i s k t u n from there backed h) places
 
 -- one event that does not open the segment
-step_agrees : (setting : Setting) (output : OutputKind) (states : List Cursors) (records : List Record) (i s k : ℕ) → IsThrough setting output states records i s k
+step_agrees : (setting : Setting) (states : List Cursors) (records : List Record) (i s k : ℕ) → IsThrough setting states records i s k
     → (n : ℕ) (e : OrderEvent) (from to : Cursors) → n < k → slice_get setting.plan.events n ≡ Some e → is_open i (take n setting.plan.events) ≡ true
     → CursorsAgree (place_alignment setting i) from → Steps setting e from records to → CursorsAgree (place_alignment setting i) to
-step_agrees setting output states records i s k t n e from to less here opened h step =
+step_agrees setting states records i s k t n e from to less here opened h step =
     elim (moves setting e from step.entered step.moves) [
-      | inl same ↦ places_agree setting output states records i s k t n e (placed_section e) step.entered to less here refl opened (subst (CursorsAgree (place_alignment setting i)) (sym same) h) step.places
+      | inl same ↦ places_agree setting states records i s k t n e (placed_section e) step.entered to less here refl opened (subst (CursorsAgree (place_alignment setting i)) (sym same) h) step.places
       | inr opens ↦
           let other : OpensLoad setting.plan opens.segment n = record { load = opens.load; here = here ∙ ap (λ (x : OrderEvent). Some x) opens.is } in
           let closed = t.plain.apart i opens.segment n t.places.load other in
@@ -94,10 +93,10 @@ step_agrees setting output states records i s k t n e from to less here opened h
     ]
 
 -- as long as the segment is open, both agree
-open_agrees : (setting : Setting) (output : OutputKind) (states : List Cursors) (records : List Record) (i s k : ℕ) → IsThrough setting output states records i s k
+open_agrees : (setting : Setting) (states : List Cursors) (records : List Record) (i s k : ℕ) → IsThrough setting states records i s k
     → (n : ℕ) → n ≤ k → is_open i (take n setting.plan.events) ≡ true → CursorsAgree (place_alignment setting i) (state_at states n)
-open_agrees setting output states records i s k t zero le opened = absurd (cc)
-open_agrees setting output states records i s k t (suc n) le opened =
+open_agrees setting states records i s k t zero le opened = absurd (cc)
+open_agrees setting states records i s k t (suc n) le opened =
     let place : ℕ = place_alignment setting i in
     let early : n < length states - 1 = omega (arith, t.early) in
     let event = event_at setting states records n t.set.placed early in
@@ -110,25 +109,25 @@ open_agrees setting output states records i s k t (suc n) le opened =
           (subst (λ x. Steps setting x (state_at states n) records (state_at states (n + 1))) (is_that_start i e is) step)
       | false ↦ λ unopened.
           let before : is_open i (take n setting.plan.events) ≡ true = open_before i n setting.plan.events e event.1 unopened opened in
-          step_agrees setting output states records i s k t n e (state_at states n) (state_at states (n + 1)) (omega arith) event.1 before
-          (open_agrees setting output states records i s k t n (omega arith) before) step
+          step_agrees setting states records i s k t n e (state_at states n) (state_at states (n + 1)) (omega arith) event.1 before
+          (open_agrees setting states records i s k t n (omega arith) before) step
     ] refl in
     subst (λ m. CursorsAgree place (state_at states m)) (add-one n) agrees
 
 -- ---- the law
 
 -- where the section's event comes before the last state, its parts' starts agree
-placed_agree : (setting : Setting) (output : OutputKind) (states : List Cursors) (records : List Record) (i s k j : ℕ) → IsThrough setting output states records i s k
+placed_agree : (setting : Setting) (states : List Cursors) (records : List Record) (i s k j : ℕ) → IsThrough setting states records i s k
     → j < part_count setting.plan.sections s → StartsAgree (place_alignment setting i) (record_at records (part_number setting.plan.sections s j))
-placed_agree setting output states records i s k j t below =
+placed_agree setting states records i s k j t below =
     let place : ℕ = place_alignment setting i in
     let from : Cursors = state_at states k in
-    let agrees : CursorsAgree place from = open_agrees setting output states records i s k t k (omega arith) t.places.places.inside in
+    let agrees : CursorsAgree place from = open_agrees setting states records i s k t k (omega arith) t.places.places.inside in
     let step : Steps setting (Section s) from records (state_at states (k + 1)) = step_at setting states records k (Section s) t.set.placed t.early t.places.places.here in
     elim (moves setting (Section s) from step.entered step.moves) [
       | inl same ↦
           part_starts setting place s j step.entered (state_at states (k + 1)) records
-          (keeps setting output states records i s k t s k step.entered t.places t.backed (subst (CursorsAgree place) (sym same) agrees)) step.places below
+          (keeps setting states records i s k t s k step.entered t.places t.backed (subst (CursorsAgree place) (sym same) agrees)) step.places below
       | inr opens ↦ let never : Section s ≡ SegmentStart opens.segment = opens.is in absurd (cc)
     ]
 
@@ -143,7 +142,7 @@ unplaced setting states records s k p set here part late =
     late (omega (arith, same, a.early)))
 
 pub plain_memory_is_congruent : PlainMemoryIsCongruent
-plain_memory_is_congruent setting output states records set plain filled i s k p places backed part =
+plain_memory_is_congruent setting states records set plain filled i s k p places backed part =
     let place : ℕ = place_alignment setting i in
     let below = placed_in_range setting.plan (Section s) s (set.ready.events.in_range k (Section s) places.places.here) refl in
     let first : ℕ = first_part setting.plan.sections s in
@@ -151,8 +150,8 @@ plain_memory_is_congruent setting output states records set plain filled i s k p
       | inl early ↦
           let number : p ≡ first + (p - first) = omega (arith, part.from) in
           let within : p - first < part_count setting.plan.sections s = omega (arith, part.from, part.below, first_part-suc setting.plan.sections s below) in
-          let through : IsThrough setting output states records i s k = record { set = set; plain = plain; filled = filled; places = places; backed = backed; early = early } in
-          subst (λ n. StartsAgree place (record_at records n)) (sym number) (placed_agree setting output states records i s k (p - first) through within)
+          let through : IsThrough setting states records i s k = record { set = set; plain = plain; filled = filled; places = places; backed = backed; early = early } in
+          subst (λ n. StartsAgree place (record_at records n)) (sym number) (placed_agree setting states records i s k (p - first) through within)
       | inr late ↦ ap (λ (r : Record). r.mem_offset % place) (unplaced setting states records s k p set places.places.here part (λ early. omega arith))
           ∙ sym (ap (λ (r : Record). r.file_offset % place) (unplaced setting states records s k p set places.places.here part (λ early. omega arith)))
     ]

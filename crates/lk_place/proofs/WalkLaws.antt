@@ -5,7 +5,6 @@ use Rattle.std.specs.List.{enumerate_from, slice_index_or}
 use Rattle.std.proofs.lemmas.Bool.{cases_lt}
 use Rattle.std.proofs.lemmas.List.{ext_get_or, get_or_past}
 use Rattle.std.proofs.lemmas.Option.{slice_get-get_or}
-use Rattle.lk_link.specs.declared.options.OutputKind.{OutputKind}
 use Rattle.lk_link.specs.declared.plan.OrderEvent.{OrderEvent}
 use Rattle.lk_link.specs.declared.plan.OrderEvent.TheVariants.{SegmentStart, SegmentEnd, Section, SetLocation, SetLocationRelative, SetSectionAddress}
 use Rattle.lk_link.specs.Inside.{placed_section}
@@ -17,7 +16,7 @@ use Rattle.lk_place.specs.declared.error.PlaceError.{PlaceError}
 use Rattle.lk_place.specs.declared.error.Refusal.{Refusal}
 use Rattle.lk_place.specs.Placement.{IsFirst, IsPlaced, IsPlacedBefore, Passes, Places, Steps, event_refusal, moved, numbered, placement_refusal, refusal_behind_move, refusal_of, section_start, state_at, step_refusal}
 use Rattle.lk_place.specs.PlacementLaws.{PlacementExists, PlacementIsOne}
-use Rattle.lk_place.specs.Plans.{IsPlaceable}
+use Rattle.lk_place.specs.Plans.{IsPlaceable, IsPlaceableEvent}
 use Rattle.lk_place.specs.Records.{Record, nowhere, record_at}
 use Rattle.lk_place.specs.Setting.{IsReady, Setting, part_number}
 use Rattle.lk_place.specs.Walk.{AllPass, after_move, cursors_after, entered, left_behind, record_after, record_by, stepped}
@@ -85,9 +84,14 @@ pub record IsWalk (setting : Setting) (n : ℕ) (records : List Record) : Type 0
   pub each : length records ≡ length (all_parts setting.plan.sections)
   pub at : (p : ℕ) → p < length (all_parts setting.plan.sections) → record_at records p ≡ record_after setting n p
 
-walk_passes : (setting : Setting) (output : OutputKind) (n : ℕ) (records : List Record) → IsPlaceable setting.plan output → IsWalk setting n records
+-- each event of a plan that is placed is
+placeable_event : (setting : Setting) (k : ℕ) (e : OrderEvent) → IsPlaceable setting.plan setting.output → slice_get setting.plan.events k ≡ Some e
+    → IsPlaceableEvent setting.plan e
+placeable_event setting k e may here = record { about = may.events k e here; section = λ s named. may.sections s }
+
+walk_passes : (setting : Setting) (n : ℕ) (records : List Record) → IsPlaceable setting.plan setting.output → IsWalk setting n records
     → (k : ℕ) (e : OrderEvent) → k < n → slice_get setting.plan.events k ≡ Some e → Passes setting (states_to setting n) records k e
-walk_passes setting output n records may walk k e less here =
+walk_passes setting n records may walk k e less here =
     let from : Cursors = cursors_after setting k in
     let at : state_at (states_to setting n) k ≡ from = state_is setting n k (omega arith) in
     let next : state_at (states_to setting n) (k + 1) ≡ left_behind setting (placed_section e) (entered setting e from) =
@@ -105,7 +109,7 @@ walk_passes setting output n records may walk k e less here =
     record {
       unrefused = ap (step_refusal setting k e) at ∙ unrefused;
       steps = record {
-        carried = may.events k e here;
+        placeable = placeable_event setting k e may here;
         entered = entered setting e from;
         moves = ap (moved setting e) at ∙ gives;
         places = places;
@@ -119,15 +123,16 @@ walk_refusal setting n =
     ap (λ (m : ℕ). refusal_of setting m (slice_get setting.plan.events m) (state_at (states_to setting n) m)) last
     ∙ ap (refusal_of setting n (slice_get setting.plan.events n)) (state_is setting n n (omega arith))
 
-pub walk_is_placed : (setting : Setting) (output : OutputKind) (n : ℕ) (records : List Record) → IsPlaceable setting.plan output → IsWalk setting n records
+pub walk_is_placed : (setting : Setting) (n : ℕ) (records : List Record) → IsPlaceable setting.plan setting.output → IsWalk setting n records
     → IsPlaced setting (states_to setting n) records
-walk_is_placed setting output n records may walk =
+walk_is_placed setting n records may walk =
     let count : length (states_to setting n) ≡ n + 1 = states_count setting 0 n in
     record {
       some = omega (arith, count);
-      begins = subst (IsFirst setting.plan) (cursors_first setting ∙ sym (state_is setting n 0 (omega arith))) (first_from setting may.base);
+      begins = subst (IsFirst setting) (cursors_first setting ∙ sym (state_is setting n 0 (omega arith))) (first_from setting may);
       within = omega (arith, count, walk.within);
-      steps = λ k e more here. walk_passes setting output n records may walk k e (omega (arith, count)) here;
+      steps = λ k e more here. walk_passes setting n records may walk k e (omega (arith, count)) here;
+      refused = λ e here. placeable_event setting (length (states_to setting n) - 1) e may here;
       ends = λ none. omega (arith, count, walk.stops (sym (walk_refusal setting n) ∙ none));
       each = walk.each;
       others = λ p none.
@@ -173,13 +178,13 @@ made_walk setting n ready within pass stops = record {
 }
 
 pub placement_exists : PlacementExists
-placement_exists setting output ready may =
+placement_exists setting ready may =
     let all : ℕ = length setting.plan.events in
     elim (stops_or_passes setting all) [
-      | inl pass ↦ (states_to setting all, records_to setting all, walk_is_placed setting output all (records_to setting all) may (made_walk setting all ready (omega arith) pass (λ none. refl)))
+      | inl pass ↦ (states_to setting all, records_to setting all, walk_is_placed setting all (records_to setting all) may (made_walk setting all ready (omega arith) pass (λ none. refl)))
       | inr stop ↦
           let n : ℕ = stop.0 in
-          (states_to setting n, records_to setting n, walk_is_placed setting output n (records_to setting n) may (made_walk setting n ready (omega (arith, stop.1)) stop.2 (λ none. absurd (cc (stop.3.1)))))
+          (states_to setting n, records_to setting n, walk_is_placed setting n (records_to setting n) may (made_walk setting n ready (omega (arith, stop.1)) stop.2 (λ none. absurd (cc (stop.3.1)))))
     ]
 
 -- ---- it is one

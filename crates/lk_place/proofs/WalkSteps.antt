@@ -9,22 +9,33 @@ use Rattle.lk_place.specs.declared.cursors.Cursors.{Cursors}
 use Rattle.lk_place.specs.declared.error.PlaceError.{PlaceError}
 use Rattle.lk_place.specs.declared.error.Refusal.{Refusal}
 use Rattle.lk_place.specs.Placement.{IsFirst, event_refusal, numbered, refusal_of}
+use Rattle.lk_place.specs.Plans.{IsPlaceable}
 use Rattle.lk_place.specs.Records.{Record, nowhere}
 use Rattle.lk_place.specs.Setting.{Setting}
 use Rattle.lk_place.specs.Walk.{AllPass, GivesWalked, StopsBy, at_event, cursors_after, first_state, record_after, recorded, stepped, unless}
 
 -- the walk begins where the placement does
-pub first_is : (setting : Setting) (c : Cursors) → IsFirst setting.plan c → c ≡ first_state setting
-first_is setting c h =
-    ap (λ (n : ℕ). let at : Cursors = record { file = n; memory = c.memory } in at) h.file
-    ∙ ap (λ (o : Option ℕ). let at : Cursors = record { file = 0; memory = unwrap_or o 0 } in at) (sym h.memory)
+pub starts_at : (setting : Setting) (c : Cursors) → c.file ≡ 0 → as_number setting.plan.base ≡ Some c.memory → c ≡ first_state setting
+starts_at setting c file memory =
+    ap (λ (n : ℕ). let at : Cursors = record { file = n; memory = c.memory } in at) file
+    ∙ ap (λ (o : Option ℕ). let at : Cursors = record { file = 0; memory = unwrap_or o 0 } in at) (sym memory)
+
+pub first_is : (setting : Setting) (c : Cursors) → IsFirst setting c → c ≡ first_state setting
+first_is setting c h = starts_at setting c h.file h.memory
 
 unwrapped : (o : Option ℕ) → is_some o ≡ true → o ≡ Some (unwrap_or o 0)
 unwrapped None h = absurd (cc)
 unwrapped (Some n) h = refl
 
-pub first_from : (setting : Setting) → is_some (as_number setting.plan.base) ≡ true → IsFirst setting.plan (first_state setting)
-first_from setting h = record { file = refl; memory = unwrapped (as_number setting.plan.base) h }
+pub first_from : (setting : Setting) → IsPlaceable setting.plan setting.output → IsFirst setting (first_state setting)
+first_from setting may = record {
+  whole = may.whole;
+  unasked = may.unasked;
+  headers = may.headers;
+  regions = may.regions;
+  file = refl;
+  memory = unwrapped (as_number setting.plan.base) may.base;
+}
 
 -- before all events the cursors are at the start
 pub cursors_first : (setting : Setting) → first_state setting ≡ cursors_after setting 0

@@ -35,21 +35,21 @@ FileRangesAreDisjoint = (setting : Setting) (states : List Cursors) (records : L
 -- under a plan that is placed, no two parts of sections that take addresses share one (regions, given addresses and moves of the
 -- location may break this)
 abbrev pub MemoryRangesAreDisjoint : Type 0
-MemoryRangesAreDisjoint = (setting : Setting) (output : OutputKind) (states : List Cursors) (records : List Record)
-    → IsSoundlySet setting states records → IsPlaceable setting.plan output → MemoryIsDisjoint setting.plan records
+MemoryRangesAreDisjoint = (setting : Setting) (states : List Cursors) (records : List Record)
+    → IsSoundlySet setting states records → IsPlaceable setting.plan setting.output → MemoryIsDisjoint setting.plan records
 
 -- under a plain plan no two share one
 abbrev pub PlainMemoryIsDisjoint : Type 0
-PlainMemoryIsDisjoint = (setting : Setting) (output : OutputKind) (states : List Cursors) (records : List Record)
-    → IsSoundlySet setting states records → IsPlain setting.plan output → MemoryIsDisjoint setting.plan records
+PlainMemoryIsDisjoint = (setting : Setting) (states : List Cursors) (records : List Record)
+    → IsSoundlySet setting states records → IsPlain setting.plan setting.output → MemoryIsDisjoint setting.plan records
 
 -- ---- in step
 
 -- under a plain plan a part with bytes in the file, inside a load segment, starts at the same place in memory and in the file,
 -- modulo the segment's place alignment (of plans without zero-fill thread-local sections, which aren't placed yet)
 abbrev pub PlainMemoryIsCongruent : Type 0
-PlainMemoryIsCongruent = (setting : Setting) (output : OutputKind) (states : List Cursors) (records : List Record)
-    → IsSoundlySet setting states records → IsPlain setting.plan output → ((s : ℕ) → is_zero_fill_thread_local setting.plan s ≡ false)
+PlainMemoryIsCongruent = (setting : Setting) (states : List Cursors) (records : List Record)
+    → IsSoundlySet setting states records → IsPlain setting.plan setting.output → ((s : ℕ) → is_zero_fill_thread_local setting.plan s ≡ false)
     → (i s k p : ℕ) → PlacesInLoad setting.plan i s k → is_file_backed setting.plan s ≡ true → HasPart setting.plan s p
     → (record_at records p).mem_offset % place_alignment setting i ≡ (record_at records p).file_offset % place_alignment setting i
 

@@ -1,11 +1,11 @@
 -- Where everything is placed: the cursors round each event up to the first that is refused, and the records of all parts.
-use Rattle.std.specs.Prelude.{◌≡◌, ℕ, zero, suc, ◌+◌, ◌-◌, ◌^◌, ◌<◌, ◌≤◌, ◌==◌, ◌&&◌, ◌||◌, Bool, true, false, MatchBool, if◌then◌else◌}
-use Rattle.std.specs.Prelude.{List, length, min, nat_lt, slice_get, slice_range, Option, Some, None, Result, Ok, Err, option_map, unwrap_or}
+use Rattle.std.specs.Prelude.{◌≡◌, ◌≢◌, ℕ, zero, suc, ◌+◌, ◌-◌, ◌^◌, ◌<◌, ◌≤◌, ◌==◌, ◌&&◌, ◌||◌, Bool, true, false, MatchBool, if◌then◌else◌}
+use Rattle.std.specs.Prelude.{List, [], length, min, nat_lt, slice_get, slice_range, Option, Some, None, Result, Ok, Err, option_map, unwrap_or}
 use Rattle.std.specs.Prelude.{position}
 use Rattle.std.specs.Int.{next_multiple_of}
 use Rattle.std.specs.List.{slice_index_or}
 use Rattle.lk_link.specs.declared.fault.Place.TheVariants as place
-use Rattle.lk_link.specs.declared.plan.Plan.{Plan}
+use Rattle.lk_link.specs.declared.options.OutputKind.TheVariants.{Partial}
 use Rattle.lk_link.specs.declared.plan.OrderEvent.{OrderEvent}
 use Rattle.lk_link.specs.declared.plan.OrderEvent.TheVariants.{SegmentStart, Section}
 use Rattle.lk_link.specs.Alignments.{IsLeastMultiple}
@@ -14,13 +14,13 @@ use Rattle.lk_link.specs.Inside.{placed_section}
 use Rattle.lk_link.specs.Parts.{all_parts, first_part, part_at}
 use Rattle.lk_link.specs.PlanSections.{is_allocated, is_file_backed}
 use Rattle.lk_link.specs.SegmentKinds.{is_load, segment_at}
-use Rattle.lk_link.specs.WellFormed.{IsAboutPlace}
 use Rattle.lk_place.specs.declared.cursors.Cursors.{Cursors}
 use Rattle.lk_place.specs.declared.error.PlaceError.{PlaceError}
 use Rattle.lk_place.specs.declared.error.PlaceError.TheVariants.{AddressOverflow}
 use Rattle.lk_place.specs.declared.error.Refusal.{Refusal}
 use Rattle.lk_place.specs.declared.error.Refusal.TheVariants.{Overflow}
 use Rattle.lk_place.specs.Alignments.{place_alignment, section_alignment}
+use Rattle.lk_place.specs.Plans.{IsPlaceableEvent}
 use Rattle.lk_place.specs.Records.{Record, file_end, mem_end, nowhere, record_at}
 use Rattle.lk_place.specs.Setting.{Setting, has_bytes, part_count, part_number, size_at}
 
@@ -124,10 +124,10 @@ moved setting (SegmentStart i) from =
     if is_load (segment_at setting.plan.segments i).kind then memory_moved from start else Ok from
 moved setting _ from = Ok from
 
--- an event moves the cursors, and then places its section, if it has one; what moves the location or gives an address has no step
--- (it isn't carried)
+-- an event moves the cursors, and then places its section, if it has one; what isn't placed yet has no step: what moves the
+-- location, gives an address, or places a section that is thread-local, stands in a region or is loaded elsewhere
 pub record Steps (setting : Setting) (e : OrderEvent) (from : Cursors) (records : List Record) (to : Cursors) : Type 0 where
-  pub carried : IsAboutPlace e
+  pub placeable : IsPlaceableEvent setting.plan e
   pub entered : Cursors
   pub moves : moved setting e from ≡ Ok entered
   pub places : Places setting (placed_section e) entered records to
@@ -187,11 +187,15 @@ step_refusal setting k e from = option_map (numbered k) (event_refusal setting e
 
 -- ---- the placement
 
--- the cursors before the first event: the file begins at 0, and memory at the number that is the plan's base (from another base on
--- nothing is placed: it isn't carried)
-pub record IsFirst (plan : Plan) (c : Cursors) : Type 0 where
+-- the cursors before the first event: the file begins at 0, and memory at the number that is the plan's base. Partial output, a
+-- base that is asked for or is no number, headers before the first section and regions have no first state: they aren't placed yet
+pub record IsFirst (setting : Setting) (c : Cursors) : Type 0 where
+  pub whole : setting.output ≢ Partial
+  pub unasked : setting.plan.custom_base ≡ false
+  pub headers : setting.plan.phdrs_headers ≡ false
+  pub regions : setting.plan.regions ≡ []
   pub file : c.file ≡ 0
-  pub memory : as_number plan.base ≡ Some c.memory
+  pub memory : as_number setting.plan.base ≡ Some c.memory
 
 -- the cursors before event k, among the states
 abbrev pub state_at : List Cursors → ℕ → Cursors
@@ -223,14 +227,16 @@ pub record IsPlacedBefore (setting : Setting) (n p : ℕ) : Type 0 where
   pub within : j < part_count setting.plan.sections s
   pub is : p ≡ part_number setting.plan.sections s j
 
--- states are the cursors before each event up to the first that is refused, and behind the last where none is; records are
--- those of all parts by number, nowhere where no event before the last state places them (libwild: `compute_layout_sections`)
+-- states are the cursors before each event up to the first that is refused (of those that are placed, too), and behind the last
+-- where none is; records are those of all parts by number, nowhere where no event before the last state places them (libwild:
+-- `compute_layout_sections`)
 pub record IsPlaced (setting : Setting) (states : List Cursors) (records : List Record) : Type 0 where
   pub some : 0 < length states
-  pub begins : IsFirst setting.plan (state_at states 0)
+  pub begins : IsFirst setting (state_at states 0)
   pub within : length states ≤ length setting.plan.events + 1
   pub steps : (k : ℕ) (e : OrderEvent) → k + 1 < length states → slice_get setting.plan.events k ≡ Some e
       → Passes setting states records k e
+  pub refused : (e : OrderEvent) → slice_get setting.plan.events (length states - 1) ≡ Some e → IsPlaceableEvent setting.plan e
   pub ends : placement_refusal setting states ≡ None → length states ≡ length setting.plan.events + 1
   pub each : length records ≡ length (all_parts setting.plan.sections)
   pub others : (p : ℕ) → (IsPlacedBefore setting (length states - 1) p → ⊥) → record_at records p ≡ nowhere

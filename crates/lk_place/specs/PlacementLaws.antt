@@ -1,6 +1,5 @@
 -- Laws of the definition of placement: there is one, it is one, and parts take their bytes.
 use Rattle.std.specs.Prelude.{◌≡◌, ◌<◌, ◌↔◌, ℕ, List, Some, None, length, map}
-use Rattle.lk_link.specs.declared.options.OutputKind.{OutputKind}
 use Rattle.lk_place.specs.declared.cursors.Cursors.{Cursors}
 use Rattle.lk_place.specs.Placement.{IsPlaced, PlacesSection, placement_refusal, section_refusal}
 use Rattle.lk_place.specs.Plans.{IsPlaceable}
@@ -9,7 +8,7 @@ use Rattle.lk_place.specs.Setting.{IsReady, Setting, part_count, part_number}
 
 -- there is a placement of each plan that is placed, up to the first refused event
 abbrev pub PlacementExists : Type 0
-PlacementExists = (setting : Setting) (output : OutputKind) → IsReady setting → IsPlaceable setting.plan output
+PlacementExists = (setting : Setting) → IsReady setting → IsPlaceable setting.plan setting.output
     → (states : List Cursors) × (records : List Record) × IsPlaced setting states records
 
 -- there is one alone: the same states and the same records
@@ -25,7 +24,7 @@ PartsTakeTheirBytes = (setting : Setting) (states : List Cursors) (records : Lis
 -- in a plan that is placed, a section whose parts are placed from the cursors on is refused there exactly where one of them ends
 -- past 2^64 - 1
 abbrev pub RefusedExactlyPast : Type 0
-RefusedExactlyPast = (setting : Setting) (output : OutputKind) (s : ℕ) (from : Cursors) (records : List Record) (to : Cursors)
-    → IsReady setting → IsPlaceable setting.plan output → s < length setting.plan.sections → PlacesSection setting s from records to
+RefusedExactlyPast = (setting : Setting) (s : ℕ) (from : Cursors) (records : List Record) (to : Cursors)
+    → IsReady setting → IsPlaceable setting.plan setting.output → s < length setting.plan.sections → PlacesSection setting s from records to
     → (section_refusal setting (Some s) from ≡ None) ↔ ((j : ℕ) → j < part_count setting.plan.sections s
     → Fits (record_at records (part_number setting.plan.sections s j)))

@@ -5,6 +5,7 @@ use Rattle.lk_link.specs.declared.options.OutputKind.TheVariants.{Partial}
 use Rattle.lk_link.specs.declared.plan.OrderEvent.{OrderEvent}
 use Rattle.lk_link.specs.declared.plan.Plan.{Plan}
 use Rattle.lk_link.specs.Expressions.{as_number}
+use Rattle.lk_link.specs.Inside.{placed_section}
 use Rattle.lk_link.specs.PlanSections.{is_thread_local, section_at}
 use Rattle.lk_link.specs.WellFormed.{IsAboutPlace}
 
@@ -14,6 +15,11 @@ pub record IsPlaceableSection (plan : Plan) (s : ℕ) : Type 0 where
   pub thread_local : is_thread_local plan s ≡ false
   pub region : (section_at plan.sections s).region ≡ None
   pub at : (section_at plan.sections s).at ≡ None
+
+-- an event that is placed: it moves no location and gives no address, and the section that it places, if it has one, is such
+pub record IsPlaceableEvent (plan : Plan) (e : OrderEvent) : Type 0 where
+  pub about : IsAboutPlace e
+  pub section : (s : ℕ) → placed_section e ≡ Some s → IsPlaceableSection plan s
 
 -- a plan that is placed: for whole output, from a number on that isn't asked for and has no headers before it, without regions and
 -- without events that move the location or give an address

@@ -1,6 +1,8 @@
--- What a placement depends on: the plan, the machine, and the bytes of the plan's parts.
+-- What a placement depends on: the plan, the kind of output, the machine, and the bytes of the plan's parts.
 use Rattle.std.specs.Prelude.{◌≡◌, ℕ, ◌+◌, Bool, true, List, length, nat_lt, slice_index}
 use Rattle.std.specs.List.{list_all}
+use Rattle.lk_link.specs.declared.link.LinkInput.{LinkInput}
+use Rattle.lk_link.specs.declared.options.OutputKind.{OutputKind}
 use Rattle.lk_link.specs.declared.plan.Plan.{Plan}
 use Rattle.lk_link.specs.declared.plan.PlanSection.{PlanSection}
 use Rattle.lk_link.specs.Parts.{all_parts, first_part}
@@ -9,15 +11,16 @@ use Rattle.lk_link.specs.Rules.{is_good_section}
 use Rattle.lk_link.specs.Target.{Target}
 use Rattle.lk_link.specs.WellFormed.{IsEventOrder}
 
--- what is placed, for which machine, and the bytes of each part, by its number over all sections
+-- what is placed, for which output and machine, and the bytes of each part, by its number over all sections
 pub record Setting : Type 0 where
   pub plan : Plan
+  pub output : OutputKind
   pub target : Target
   pub sizes : List ℕ
 
--- the setting of a plan, a machine and the parts' bytes
-abbrev pub setting_of : Plan → Target → List ℕ → Setting
-setting_of plan target sizes = record { plan = plan; target = target; sizes = sizes }
+-- the setting of a link, a machine and the parts' bytes
+abbrev pub setting_of : LinkInput → Target → List ℕ → Setting
+setting_of link target sizes = record { plan = link.plan; output = link.options.output; target = target; sizes = sizes }
 
 -- the bytes of the part with this number
 abbrev pub size_at : List ℕ → ℕ → ℕ

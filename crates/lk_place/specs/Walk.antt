@@ -26,12 +26,12 @@ first_state setting = record { file = 0; memory = unwrap_or (as_number setting.p
 
 -- the setting of a walk
 abbrev pub setting_in : {P : Type 0} → (P → ℕ → ℕ → ℕ → ℕ) → Walk P → Setting
-setting_in start walk = setting_of walk.plan.now (platform_target (start walk.platform.now)) walk.sizes.now
+setting_in start walk = setting_of walk.link.now (platform_target (start walk.platform.now)) walk.sizes.now
 
 -- the plan of a walk can be walked, and the alignments of its sections and segments are at hand
 pub record IsWalkable {P : Type 0} (start : P → ℕ → ℕ → ℕ → ℕ) (walk : Walk P) : Type 0 where
   pub ready : IsReady (setting_in start walk)
-  pub aligned : AreAlignments walk.plan.now walk.sizes.now walk.alignments.now
+  pub aligned : AreAlignments walk.link.now.plan walk.sizes.now walk.alignments.now
 
 -- the refusal, if there is one, else what there is
 abbrev pub unless : {X E : Type 0} → Option E → X → Result X E

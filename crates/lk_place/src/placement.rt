@@ -124,17 +124,17 @@ impl<P: Platform> Walk<'_, P> {
     #[tactic(auto, using(lk_link::proofs::PartNumbers::part_numbers))]
     fn first_walked(&self, section: OutputSectionId) -> usize
         requires walkable { IsWalkable P.segment_start self.now }
-        requires in_range { section < length self.now.plan.now.sections }
+        requires in_range { section < length self.now.link.now.plan.sections }
         ensures { result ≡ first_walked (setting_in P.segment_start self.now) section }
     {
-        let (first, behind) = self.plan.sections.part_range(section.as_usize());
+        let (first, behind) = self.link.plan.sections.part_range(section.as_usize());
         first + first_with_bytes(&self.sizes[first..behind]).unwrap_or(0)
     }
 
     /// The alignment of a section.
     fn section_alignment(&self, section: OutputSectionId) -> Alignment
         requires walkable { IsWalkable P.segment_start self.now }
-        requires in_range { section < length self.now.plan.now.sections }
+        requires in_range { section < length self.now.link.now.plan.sections }
         ensures { result ≡ section_alignment (setting_in P.segment_start self.now) section }
     {
         self.alignments.sections.as_slice()[section.as_usize()]
@@ -151,17 +151,17 @@ impl<P: Platform> Walk<'_, P> {
     /// The alignment of the part with this number.
     fn part_alignment(&self, part: usize) -> Alignment
         requires walkable { IsWalkable P.segment_start self.now }
-        requires in_range { part < length (all_parts self.now.plan.now.sections) }
-        ensures { result ≡ (part_at self.now.plan.now.sections part).alignment }
+        requires in_range { part < length (all_parts self.now.link.now.plan.sections) }
+        ensures { result ≡ (part_at self.now.link.now.plan.sections part).alignment }
     {
-        alignment_of(&self.plan.sections.parts()[part])
+        alignment_of(&self.link.plan.sections.parts()[part])
     }
 
     /// The alignment at which a walked part is placed.
     fn walk_alignment(&self, placing: &Placing, part: usize) -> Alignment
         requires walkable { IsWalkable P.segment_start self.now }
         requires placing { IsPlacing (setting_in P.segment_start self.now) placing.now }
-        requires in_range { part < length (all_parts self.now.plan.now.sections) }
+        requires in_range { part < length (all_parts self.now.link.now.plan.sections) }
         ensures { result ≡ walk_alignment (setting_in P.segment_start self.now) placing.now.section part }
     {
         if part == placing.walked {
@@ -191,8 +191,8 @@ impl<P: Platform> Walk<'_, P> {
     ) -> Result<Cursors, Refusal>
         requires walkable { IsWalkable P.segment_start self.now }
         requires placing { IsPlacing (setting_in P.segment_start self.now) placing.now }
-        requires in_range { part < length (all_parts self.now.plan.now.sections) }
-        requires each { length records.old ≡ length (all_parts self.now.plan.now.sections) }
+        requires in_range { part < length (all_parts self.now.link.now.plan.sections) }
+        requires each { length records.old ≡ length (all_parts self.now.link.now.plan.sections) }
         ensures ends { result ≡ fitting (next_end (setting_in P.segment_start self.now) placing.now.section part from) }
         ensures records { let setting = setting_in P.segment_start self.now
             in OnOk result (Rewrites (one_written setting placing.now.section placing.now.begin part from) records.old records.new) }
@@ -217,13 +217,17 @@ impl<P: Platform> Walk<'_, P> {
     ) -> Result<Cursors, Refusal>
         requires walkable { IsWalkable P.segment_start self.now }
         requires placing { IsPlacing (setting_in P.segment_start self.now) placing.now }
-        requires in_range { placing.now.section < length self.now.plan.now.sections }
-        requires each { length records.old ≡ length (all_parts self.now.plan.now.sections) }
+        requires in_range { placing.now.section < length self.now.link.now.plan.sections }
+        requires each { length records.old ≡ length (all_parts self.now.link.now.plan.sections) }
         ensures ends { result ≡ fitting (section_end (setting_in P.segment_start self.now) placing.now.section placing.now.begin) }
         ensures records { let setting = setting_in P.segment_start self.now
             in OnOk result (Rewrites (all_written setting placing.now.section placing.now.begin) records.old records.new) }
     {
-        let (first, behind) = self.plan.sections.part_range(placing.section.as_usize());
+        let (first, behind) = self
+            .link
+            .plan
+            .sections
+            .part_range(placing.section.as_usize());
         let mut cursors = placing.begin;
         for place in 0..behind - first {
             cursors = self.place_next(placing, first + place, cursors, records)?;
@@ -234,13 +238,13 @@ impl<P: Platform> Walk<'_, P> {
     /// How the parts of a section are placed that begin here, unless the first walked one ends past 2^64 - 1.
     fn placing(&self, section: OutputSectionId, begin: Cursors) -> Result<Placing, Refusal>
         requires walkable { IsWalkable P.segment_start self.now }
-        requires in_range { section < length self.now.plan.now.sections }
+        requires in_range { section < length self.now.link.now.plan.sections }
         ensures ok { IfOk result (IsPlacing (setting_in P.segment_start self.now)) }
         ensures same { IfOk result (λ placing. (placing.section ≡ section) × (placing.begin ≡ begin)) }
         ensures refused { let end = section_end (setting_in P.segment_start self.now) section begin
             in IfErr result (λ refusal. Err refusal ≡ fitting end) }
     {
-        let backed = self.plan.is_file_backed(section);
+        let backed = self.link.plan.is_file_backed(section);
         let greatest = self.section_alignment(section);
         let walked = self.first_walked(section);
         let first = place_part(backed, greatest, self.size(walked), begin)?;
@@ -264,14 +268,14 @@ impl<P: Platform> Walk<'_, P> {
         records: &mut [OutputRecordLayout],
     ) -> Result<Cursors, Refusal>
         requires walkable { IsWalkable P.segment_start self.now }
-        requires in_range { section < length self.now.plan.now.sections }
-        requires each { length records.old ≡ length (all_parts self.now.plan.now.sections) }
+        requires in_range { section < length self.now.link.now.plan.sections }
+        requires each { length records.old ≡ length (all_parts self.now.link.now.plan.sections) }
         ensures ends { let setting = setting_in P.segment_start self.now
             in result ≡ unless (section_refusal setting (Some section) from) (left_behind setting (Some section) from) }
         ensures records { let setting = setting_in P.segment_start self.now
             in OnOk result (Rewrites (rewritten setting (Some section) from) records.old records.new) }
     {
-        let allocated = self.plan.is_allocated(section);
+        let allocated = self.link.plan.is_allocated(section);
         let begin = Cursors {
             file: from.file,
             memory: if allocated { from.memory } else { 0 },

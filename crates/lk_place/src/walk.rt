@@ -30,7 +30,7 @@ use lk_link::fault::Place;
 use lk_link::ids::SegmentId;
 use lk_link::link::LinkInput;
 use lk_link::list::List;
-use lk_link::plan::{OrderEvent, Plan};
+use lk_link::plan::OrderEvent;
 use lk_link::platform::Platform;
 use std::alloc::{AllocError, Global};
 
@@ -43,11 +43,11 @@ pub struct Placed {
     pub sections: List<OutputRecordLayout>,
 }
 
-/// What a walk goes by: the plan, the bytes of each of its parts by number, the alignments of its sections and segments, and
+/// What a walk goes by: the link, the bytes of each part of its plan by number, the alignments of its sections and segments, and
 /// the machine.
 #[derive(Drop)]
 pub(crate) struct Walk<'a, P: Platform> {
-    pub(crate) plan: &'a Plan,
+    pub(crate) link: &'a LinkInput,
     pub(crate) sizes: &'a [u64],
     pub(crate) alignments: &'a Alignments,
     pub(crate) platform: &'a P,
@@ -74,7 +74,7 @@ impl<P: Platform> Walk<'_, P> {
     /// The place alignment of a segment.
     fn place_alignment(&self, segment: SegmentId) -> Alignment
         requires walkable { IsWalkable P.segment_start self.now }
-        requires in_range { segment < length self.now.plan.now.segments }
+        requires in_range { segment < length self.now.link.now.plan.segments }
         ensures { result ≡ place_alignment (setting_in P.segment_start self.now) segment }
     {
         self.alignments.segments.as_slice()[segment.as_usize()]
@@ -84,10 +84,10 @@ impl<P: Platform> Walk<'_, P> {
     /// nothing.
     fn open_segment(&self, segment: SegmentId, from: Cursors) -> Result<Cursors, Refusal>
         requires walkable { IsWalkable P.segment_start self.now }
-        requires in_range { segment < length self.now.plan.now.segments }
+        requires in_range { segment < length self.now.link.now.plan.segments }
         ensures { result ≡ moved (setting_in P.segment_start self.now) (OrderEvent.SegmentStart segment) from }
     {
-        if self.plan.segments.as_slice()[segment.as_usize()]
+        if self.link.plan.segments.as_slice()[segment.as_usize()]
             .kind
             .is_load()
         {
@@ -100,7 +100,7 @@ impl<P: Platform> Walk<'_, P> {
     /// The cursors after what an event does before it places a section.
     fn moved(&self, event: &OrderEvent, from: Cursors) -> Result<Cursors, Refusal>
         requires walkable { IsWalkable P.segment_start self.now }
-        requires in_range { IsInRange self.now.plan.now event.now }
+        requires in_range { IsInRange self.now.link.now.plan event.now }
         ensures { result ≡ moved (setting_in P.segment_start self.now) event.now from }
     {
         match *event {
@@ -118,8 +118,8 @@ impl<P: Platform> Walk<'_, P> {
         records: &mut [OutputRecordLayout],
     ) -> Result<Cursors, Refusal>
         requires walkable { IsWalkable P.segment_start self.now }
-        requires in_range { IsInRange self.now.plan.now event.now }
-        requires each { length records.old ≡ length (all_parts self.now.plan.now.sections) }
+        requires in_range { IsInRange self.now.link.now.plan event.now }
+        requires each { length records.old ≡ length (all_parts self.now.link.now.plan.sections) }
         ensures ends { let setting = setting_in P.segment_start self.now in let s = placed_section event.now
             in result ≡ unless (section_refusal setting s from) (left_behind setting s from) }
         ensures records { let setting = setting_in P.segment_start self.now
@@ -140,8 +140,8 @@ impl<P: Platform> Walk<'_, P> {
         records: &mut [OutputRecordLayout],
     ) -> Result<Cursors, Refusal>
         requires walkable { IsWalkable P.segment_start self.now }
-        requires in_range { IsInRange self.now.plan.now event.now }
-        requires each { length records.old ≡ length (all_parts self.now.plan.now.sections) }
+        requires in_range { IsInRange self.now.link.now.plan event.now }
+        requires each { length records.old ≡ length (all_parts self.now.link.now.plan.sections) }
         ensures ends { let setting = setting_in P.segment_start self.now
             in result ≡ unless (event_refusal setting event.now from) (stepped setting (Some event.now) from) }
         ensures records { let setting = setting_in P.segment_start self.now
@@ -154,8 +154,8 @@ impl<P: Platform> Walk<'_, P> {
     /// Carries out all events in their order, up to the first that is refused. `records` has nothing yet.
     fn walk(&self, base: u64, records: &mut [OutputRecordLayout]) -> Result<(), PlaceError>
         requires walkable { IsWalkable P.segment_start self.now }
-        requires starts { as_number self.now.plan.now.base ≡ Some base }
-        requires each { length records.old ≡ length (all_parts self.now.plan.now.sections) }
+        requires starts { as_number self.now.link.now.plan.base ≡ Some base }
+        requires each { length records.old ≡ length (all_parts self.now.link.now.plan.sections) }
         requires nothing { (p : ℕ) → record_at records.old p ≡ nowhere }
         ensures { GivesWalked (setting_in P.segment_start self.now) result records.new }
     {
@@ -163,7 +163,7 @@ impl<P: Platform> Walk<'_, P> {
             file: 0,
             memory: base,
         };
-        for (number, event) in self.plan.events.as_slice().iter().enumerate() {
+        for (number, event) in self.link.plan.events.as_slice().iter().enumerate() {
             let end = self.carry_out(event, cursors, records);
             cursors = at_event(end, number)?;
         }
@@ -208,20 +208,19 @@ pub fn compute_layout_sections<P: Platform>(
     requires well_formed { IsWellFormed link.now }
     requires placeable { IsPlaceable link.now.plan link.now.options.output }
     requires each { length sizes.now ≡ length (all_parts link.now.plan.sections) }
-    ensures { GivesPlaced (setting_of link.now.plan (platform_target (P.segment_start platform.now)) sizes.now) result }
+    ensures { GivesPlaced (setting_of link.now (platform_target (P.segment_start platform.now)) sizes.now) result }
 {
-    let plan = &link.plan;
     let alignments = compute_alignments(alloc, link, sizes)?;
     let mut parts = unplaced(alloc, sizes.len())?;
-    let base = plan.base.as_number().unwrap();
+    let base = link.plan.base.as_number().unwrap();
     let walk = Walk {
-        plan,
+        link,
         sizes,
         alignments: &alignments,
         platform,
     };
     walk.walk(base, &mut parts)?;
-    let sections = span_sections(alloc, &plan.sections, &parts)?;
+    let sections = span_sections(alloc, &link.plan.sections, &parts)?;
     Ok(Placed {
         parts: List::from_vec(parts),
         sections: List::from_vec(sections),

@@ -9,13 +9,13 @@ use Rattle.lk_place.proofs.walk.compute_layout_sections.Goals as goal
 
 pub returns-in_err-walk : goal.returns-in_err-walk
 returns-in_err-walk g c =
-    let setting : Setting = setting_of c.args.link.now.plan (platform_target (g.P.Platform.segment_start c.args.platform.now)) c.args.sizes.now in
+    let setting : Setting = setting_of c.args.link.now (platform_target (g.P.Platform.segment_start c.args.platform.now)) c.args.sizes.now in
     let ready : IsReady setting = record { events = c.requires.well_formed.events; sections = c.requires.well_formed.sections; sizes = c.requires.each } in
-    refused_answer setting c.args.link.now.options.output c.from_residual-in_err-walk.result c.in_err-walk.field-0.0 ready c.requires.placeable c.from_residual-in_err-walk.ensures.1 c.in_err-walk.ensures
+    refused_answer setting c.from_residual-in_err-walk.result c.in_err-walk.field-0.0 ready c.requires.placeable c.from_residual-in_err-walk.ensures.1 c.in_err-walk.ensures
 
 pub returns : goal.returns
 returns g c =
-    let setting : Setting = setting_of c.args.link.now.plan (platform_target (g.P.Platform.segment_start c.args.platform.now)) c.args.sizes.now in
+    let setting : Setting = setting_of c.args.link.now (platform_target (g.P.Platform.segment_start c.args.platform.now)) c.args.sizes.now in
     let ready : IsReady setting = record { events = c.requires.well_formed.events; sections = c.requires.well_formed.sections; sizes = c.requires.each } in
     let parts : List Record = c.walk.new.records in
     let all : c.in_ok-parts.parts.len ≡ length parts = omega (arith, c.walk.auto.records, c.deref_mut.ensures.len) in
@@ -23,4 +23,4 @@ returns g c =
     let spans : c.from_vec-2.result ≡ section_records c.args.link.now.plan.sections c.from_vec.result =
     c.from_vec-2.ensures ∙ c.in_ok-sections.ensures ∙ ap (section_records c.args.link.now.plan.sections) (c.deref.ensures.value ∙ sym c.from_vec.ensures) in
     let count : length c.from_vec.result ≡ length (all_parts c.args.link.now.plan.sections) = ap length made ∙ omega (arith, c.walk.auto.records, ap length c.deref_mut.ensures.value, c.in_ok-parts.ensures.count, c.requires.each) in
-    walked_placed setting c.args.link.now.options.output c.from_vec.result c.from_vec-2.result ready c.requires.placeable count c.in_ok-walk.ensures.0 (λ p. ap (λ (rs : List Record). record_at rs p) made ∙ c.in_ok-walk.ensures.1 p) spans
+    walked_placed setting c.from_vec.result c.from_vec-2.result ready c.requires.placeable count c.in_ok-walk.ensures.0 (λ p. ap (λ (rs : List Record). record_at rs p) made ∙ c.in_ok-walk.ensures.1 p) spans

@@ -6,14 +6,14 @@ use Rattle.lk_place.proofs.walk.Walk.place_alignment.Goals as goal
 
 pub bounds-as_slice-as_usize : goal.bounds-as_slice-as_usize
 bounds-as_slice-as_usize g c =
-    let plan : Plan = c.args.self.now.plan.now in
+    let plan : Plan = c.args.self.now.link.now.plan in
     let sizes : List ℕ = c.args.self.now.sizes.now in
     let all : c.as_slice.result.now ≡ segment_alignments plan sizes = c.as_slice.ensures ∙ c.requires.walkable.aligned.segments in
     omega (arith, by_number_count (segment_alignment plan sizes) plan.segments c.as_slice.result.now all, c.as_usize.ensures, c.requires.in_range)
 
 pub returns : goal.returns
 returns g c =
-    let plan : Plan = c.args.self.now.plan.now in
+    let plan : Plan = c.args.self.now.link.now.plan in
     let sizes : List ℕ = c.args.self.now.sizes.now in
     let all : c.as_slice.result.now ≡ segment_alignments plan sizes = c.as_slice.ensures ∙ c.requires.walkable.aligned.segments in
     let below : c.as_usize.result < length plan.segments = omega (arith, c.as_usize.ensures, c.requires.in_range) in

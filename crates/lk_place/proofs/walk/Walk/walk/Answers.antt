@@ -3,29 +3,29 @@ use Rattle.std.specs.Prelude.{slice_get}
 use Rattle.lk_place.specs.declared.cursors.Cursors.{Cursors}
 use Rattle.lk_place.specs.Records.{record_at}
 use Rattle.lk_place.specs.Walk.{setting_in}
-use Rattle.lk_place.proofs.WalkSteps.{IsTried, cursors_first, first_is, goes_on, passes_on, read_there, record_first, records_on, stops, walk_refused}
+use Rattle.lk_place.proofs.WalkSteps.{IsTried, cursors_first, goes_on, passes_on, read_there, record_first, records_on, starts_at, stops, walk_refused}
 use Rattle.lk_place.proofs.walk.Walk.walk.Goals as goal
 
 pub loop-number-init : goal.loop-number-init
 loop-number-init g c =
     let setting = setting_in g.P.Platform.segment_start c.args.self.now in
     record {
-      ends = first_is setting (record { file = 0; memory = c.args.base }) (record { file = refl; memory = c.requires.starts }) ∙ cursors_first setting;
+      ends = starts_at setting (record { file = 0; memory = c.args.base }) refl c.requires.starts ∙ cursors_first setting;
       records = λ p. c.requires.nothing p ∙ record_first setting p;
       pass = λ k below. absurd (omega arith);
     }
 
 pub carry_out-end-requires-clause-in_range : goal.carry_out-end-requires-clause-in_range
 carry_out-end-requires-clause-in_range g c =
-    let here : slice_get c.args.self.now.plan.now.events c.loop-number.number ≡ Some c.event-item.result =
-    read_there c.args.self.now.plan.now.events c.as_slice-event-items.result.now c.loop-number.number c.event-item.result c.as_slice-event-items.ensures c.loop-number-test.true c.event-item.is in
+    let here : slice_get c.args.self.now.link.now.plan.events c.loop-number.number ≡ Some c.event-item.result =
+    read_there c.args.self.now.link.now.plan.events c.as_slice-event-items.result.now c.loop-number.number c.event-item.result c.as_slice-event-items.ensures c.loop-number-test.true c.event-item.is in
     c.requires.walkable.ready.events.in_range c.loop-number.number c.event-item.result here
 
 pub returns-in_err-cursors : goal.returns-in_err-cursors
 returns-in_err-cursors g c =
     let setting = setting_in g.P.Platform.segment_start c.args.self.now in
     let here : slice_get setting.plan.events c.loop-number.number ≡ Some c.event-item.result =
-    read_there c.args.self.now.plan.now.events c.as_slice-event-items.result.now c.loop-number.number c.event-item.result c.as_slice-event-items.ensures c.loop-number-test.true c.event-item.is in
+    read_there c.args.self.now.link.now.plan.events c.as_slice-event-items.result.now c.loop-number.number c.event-item.result c.as_slice-event-items.ensures c.loop-number-test.true c.event-item.is in
     let tried : IsTried setting c.loop-number.number c.event-item.result c.loop-number.cursors c.carry_out-end.result = record {
       here = here;
       so_far = c.loop-number.invariant.ends;
@@ -41,7 +41,7 @@ loop-number-preserved g c =
     let k : ℕ = c.loop-number.number in
     let to : Cursors = c.in_ok-cursors.cursors in
     let here : slice_get setting.plan.events k ≡ Some c.event-item.result =
-    read_there c.args.self.now.plan.now.events c.as_slice-event-items.result.now c.loop-number.number c.event-item.result c.as_slice-event-items.ensures c.loop-number-test.true c.event-item.is in
+    read_there c.args.self.now.link.now.plan.events c.as_slice-event-items.result.now c.loop-number.number c.event-item.result c.as_slice-event-items.ensures c.loop-number-test.true c.event-item.is in
     let tried : IsTried setting k c.event-item.result c.loop-number.cursors c.carry_out-end.result = record {
       here = here;
       so_far = c.loop-number.invariant.ends;
