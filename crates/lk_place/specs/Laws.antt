@@ -1,10 +1,12 @@
 -- Laws of placement: what it keeps apart, and what it keeps in step.
-use Rattle.std.specs.Prelude.{◌≡◌, ◌≢◌, ℕ, ◌+◌, ◌%◌, ◌<◌, true, false, List, [], Some, length, slice_get}
+use Rattle.std.specs.Prelude.{◌≡◌, ◌≢◌, ℕ, ◌+◌, ◌%◌, ◌<◌, ◌==◌, ◌↔◌, true, false, List, [], Some, length, slice_get}
+use Rattle.std.specs.List.{list_any}
 use Rattle.lk_link.specs.declared.options.OutputKind.{OutputKind}
 use Rattle.lk_link.specs.declared.options.OutputKind.TheVariants.{Partial}
 use Rattle.lk_link.specs.declared.plan.OrderEvent.{OrderEvent}
 use Rattle.lk_link.specs.declared.plan.Plan.{Plan}
 use Rattle.lk_link.specs.Alignments.{is_alignment}
+use Rattle.lk_link.specs.Inside.{PlacesInside, sections_inside}
 use Rattle.lk_link.specs.PlanSections.{has_memory, is_file_backed, is_zero_fill_thread_local}
 use Rattle.lk_link.specs.Target.{IsLawful}
 use Rattle.lk_link.specs.WellFormed.{IsAboutPlace, IsEventOrder}
@@ -64,6 +66,13 @@ pub record KeepAlignments (setting : Setting) (records : List Record) : Type 0 w
 abbrev pub RecordsKeepAlignments : Type 0
 RecordsKeepAlignments = (setting : Setting) (states : List Cursors) (records : List Record)
     → IsReady setting → IsPlaced setting states records → length states ≡ length setting.plan.events + 1 → KeepAlignments setting records
+
+-- ---- inside segments
+
+-- a section is one of those inside a segment exactly where an event places it while the segment is open
+abbrev pub InsideIsPlaced : Type 0
+InsideIsPlaced = (plan : Plan) (i s : ℕ)
+    → (list_any (λ t. t == s) (sections_inside plan.events i) ≡ true) ↔ ((k : ℕ) × PlacesInside plan.events i s k)
 
 -- ---- plain plans
 

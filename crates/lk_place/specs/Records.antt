@@ -1,5 +1,5 @@
 -- Where something stands in the file and in memory.
-use Rattle.std.specs.Prelude.{ℕ, ◌+◌, ◌^◌, ◌<◌, List}
+use Rattle.std.specs.Prelude.{ℕ, ◌+◌, ◌^◌, ◌<◌, Bool, List, nat_lt}
 use Rattle.std.specs.List.{slice_index_or}
 
 -- a range of the file and one of memory, the alignment, and where it is loaded from
@@ -16,6 +16,10 @@ file_end r = r.file_offset + r.file_size
 
 abbrev pub mem_end : Record → ℕ
 mem_end r = r.mem_offset + r.mem_size
+
+-- whether what stands there has bytes in memory
+abbrev pub is_filled : Record → Bool
+is_filled r = nat_lt 0 r.mem_size
 
 -- both ends are below 2^64
 pub record Fits (r : Record) : Type 0 where

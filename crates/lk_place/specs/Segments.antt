@@ -1,6 +1,6 @@
 -- What output sections and segments span.
 use Rattle.std.specs.Prelude.{◌≡◌, ℕ, ◌+◌, ◌-◌, ◌==◌, ◌&&◌, ◌||◌, not, Bool, if◌then◌else◌, List, Option, Some, None, find, filter}
-use Rattle.std.specs.Prelude.{fold, map, max, min, nat_lt, slice_range, unwrap_or}
+use Rattle.std.specs.Prelude.{fold, map, max, min, slice_range, unwrap_or}
 use Rattle.std.specs.List.{enumerate_from, filter_map, list_any}
 use Rattle.lk_link.specs.declared.link.LinkInput.{LinkInput}
 use Rattle.lk_link.specs.declared.plan.Plan.{Plan}
@@ -14,7 +14,7 @@ use Rattle.lk_place.specs.declared.error.PlaceError.{PlaceError}
 use Rattle.lk_place.specs.declared.error.PlaceError.TheVariants.{NoMemory, SectionOutsideSegments}
 use Rattle.lk_place.specs.declared.segments.SegmentLayout.{SegmentLayout}
 use Rattle.lk_place.specs.Alignments.{greatest_of}
-use Rattle.lk_place.specs.Records.{Record, file_end, mem_end, nowhere, record_at}
+use Rattle.lk_place.specs.Records.{Record, file_end, is_filled, mem_end, nowhere, record_at}
 
 -- ---- hulls
 
@@ -39,10 +39,6 @@ abbrev pub hull : List Record → Record
 hull rs = unwrap_or (fold with_record None rs) nowhere
 
 -- ---- sections
-
--- what stands there has bytes
-abbrev pub is_filled : Record → Bool
-is_filled r = nat_lt 0 r.mem_size
 
 -- a section spans its parts, at the greatest alignment of those with bytes, and at least at its own
 -- (libwild: `layout_section_from_part_layouts`)

@@ -9,8 +9,8 @@ ghost use Rattle.lk_link.specs.Alignments.{is_alignment};
 ghost use Rattle.lk_link.specs.Parts.{all_parts};
 ghost use Rattle.lk_link.specs.Rules.{is_good_section};
 ghost use Rattle.lk_place.specs.Alignments.{greatest_of};
-ghost use Rattle.lk_place.specs.Records.{nowhere};
-ghost use Rattle.lk_place.specs.Segments.{hull, is_filled, section_record, section_records, spanned, with_record};
+ghost use Rattle.lk_place.specs.Records.{is_filled, nowhere};
+ghost use Rattle.lk_place.specs.Segments.{hull, section_record, section_records, spanned, with_record};
 
 use crate::record::OutputRecordLayout;
 use lk_link::alignment::Alignment;
@@ -75,7 +75,7 @@ fn hull_of(records: &[OutputRecordLayout]) -> OutputRecordLayout
 fn raise(greatest: Alignment, one: &OutputRecordLayout) -> Alignment
     ensures { result ≡ (if is_filled one.now then max greatest one.now.alignment else greatest) }
 {
-    if one.mem_size > 0 {
+    if one.is_filled() {
         greatest.greater(one.alignment)
     } else {
         greatest

@@ -1,6 +1,6 @@
 //! Laws of placement, each proved as the contract of a function that does nothing.
 
-ghost use Rattle.lk_place.specs.Laws.{FileRangesAreDisjoint, MemoryRangesAreDisjoint, OneLoadSegmentIsPlain};
+ghost use Rattle.lk_place.specs.Laws.{FileRangesAreDisjoint, InsideIsPlaced, MemoryRangesAreDisjoint, OneLoadSegmentIsPlain};
 ghost use Rattle.lk_place.specs.Laws.{PlainMemoryIsCongruent, PlainMemoryIsDisjoint, RecordsKeepAlignments};
 ghost use Rattle.lk_place.specs.PlacementLaws.{PartsTakeTheirBytes, PlacementExists, PlacementIsOne, RefusedExactlyPast};
 
@@ -52,6 +52,11 @@ pub fn plain_memory_is_congruent()
 /// sections inside a segment give its place alignment.
 pub fn records_keep_alignments()
     ensures { RecordsKeepAlignments }
+{}
+
+/// A law: a section is one of those inside a segment exactly where an event places it while the segment is open.
+pub fn inside_is_placed()
+    ensures { InsideIsPlaced }
 {}
 
 /// A law: a plan with one load segment is plain, if its events are in order and place sections alone, and its sections have

@@ -54,7 +54,14 @@ impl Model for OutputRecordLayout {
 }
 
 impl OutputRecordLayout {
-    ghost use Rattle.lk_place.specs.Records.{file_end, mem_end};
+    ghost use Rattle.lk_place.specs.Records.{file_end, is_filled, mem_end};
+
+    /// Whether it has bytes in memory.
+    pub fn is_filled(&self) -> bool
+        ensures { result ≡ is_filled self.now }
+    {
+        self.mem_size > 0
+    }
 
     /// The end of its range of the file.
     pub fn file_end(&self) -> u64

@@ -93,7 +93,7 @@ impl Spans<'_> {
     {
         let placed = &self.records[section.as_usize()];
         let primary = self.link.plan.sections.primary_of(section);
-        placed.mem_size == 0 && !is_marked(self.emitted, primary.as_usize())
+        !placed.is_filled() && !is_marked(self.emitted, primary.as_usize())
     }
 
     /// Whether a section inside a segment counts there.
