@@ -1,6 +1,6 @@
 -- The cursors behind the parts of a section rise, and stay where they begin up to the first walked part.
 use Rattle.std.proofs.Common.{◌≡◌, ℕ, zero, suc, ◌+◌, ◌-◌, ◌≤◌, ◌<◌, Bool, true, false, cond, List, length, drop, Option, Some, None, refl, sym, ap, subst, ◌∙◌, arith, inl, inr, add-one, eq-eqb}
-use Rattle.std.specs.Prelude.{◌==◌, ◌||◌, nat_lt, slice_index, slice_range, position, unwrap_or, Result, Ok, Err, IfErr, IsErrAnd}
+use Rattle.std.specs.Prelude.{◌==◌, ◌||◌, nat_lt, slice_index, position, unwrap_or, Result, Ok, Err, IfErr, IsErrAnd}
 use Rattle.std.proofs.lemmas.Bool.{cases_Bool, cases_lt}
 use Rattle.std.proofs.lemmas.Bool.Decides.{nat_tests}
 use Rattle.std.proofs.lemmas.List.{get_or-drop, get_or-take, length-drop, length-take}
@@ -14,7 +14,7 @@ use Rattle.lk_place.specs.declared.error.Refusal.TheVariants.{Overflow}
 use Rattle.lk_place.specs.Alignments.{section_alignment}
 use Rattle.lk_place.specs.Placement.{behind, end_behind, first_walked, is_below, is_walked, next_end, overflow_at, pushed, walk_alignment}
 use Rattle.lk_place.specs.Records.{Record}
-use Rattle.lk_place.specs.Setting.{IsReady, Setting, has_bytes, part_count, part_number, size_at}
+use Rattle.lk_place.specs.Setting.{IsReady, Setting, has_bytes, of_parts, part_count, part_number, size_at}
 use Rattle.lk_place.specs.Walk.{first_record, next_record, record_by, unless}
 use Rattle.lk_place.proofs.Checked.{has_part}
 use Rattle.lk_place.proofs.PlacedParts.{behind_placed, unless_below, unless_past}
@@ -77,7 +77,7 @@ stays_past setting s begin j k h past =
 
 -- the sizes of a section's parts
 abbrev pub section_sizes : Setting → ℕ → List ℕ
-section_sizes setting s = slice_range setting.sizes (first_part setting.plan.sections s) (first_part setting.plan.sections (s + 1))
+section_sizes setting s = of_parts setting.plan.sections setting.sizes s
 
 -- there are as many as parts
 pub sizes_count : (setting : Setting) (s : ℕ) → IsReady setting → s < length setting.plan.sections → length (section_sizes setting s) ≡ part_count setting.plan.sections s

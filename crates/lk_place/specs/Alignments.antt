@@ -1,12 +1,11 @@
 -- The greatest alignments: of an output section, and of a segment.
-use Rattle.std.specs.Prelude.{◌≡◌, ℕ, List, filter, fold, map, max}
+use Rattle.std.specs.Prelude.{ℕ, List, filter, fold, map, max}
 use Rattle.std.specs.List.{enumerate_from}
 use Rattle.lk_link.specs.declared.plan.Plan.{Plan}
 use Rattle.lk_link.specs.declared.plan.PlanPart.{PlanPart}
 use Rattle.lk_link.specs.Parts.{first_part}
 use Rattle.lk_link.specs.Inside.{sections_inside}
 use Rattle.lk_link.specs.PlanSections.{section_at}
-use Rattle.lk_place.specs.declared.alignments.Alignments.{Alignments}
 use Rattle.lk_place.specs.Setting.{Setting, has_bytes}
 
 -- the greatest of several numbers, and at least this one
@@ -44,8 +43,3 @@ section_alignment setting s = greatest_alignment setting.plan setting.sizes s
 -- and a load segment at its own
 abbrev pub place_alignment : Setting → ℕ → ℕ
 place_alignment setting i = segment_alignment setting.plan setting.sizes i
-
--- these are the alignments of the sections and segments of a plan
-pub record AreAlignments (plan : Plan) (sizes : List ℕ) (all : Alignments) : Type 0 where
-  pub sections : all.sections ≡ section_alignments plan sizes
-  pub segments : all.segments ≡ segment_alignments plan sizes

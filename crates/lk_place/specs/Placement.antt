@@ -1,6 +1,6 @@
 -- Where everything is placed: the cursors round each event up to the first that is refused, and the records of all parts.
 use Rattle.std.specs.Prelude.{◌≡◌, ◌≢◌, ℕ, zero, suc, ◌+◌, ◌-◌, ◌^◌, ◌<◌, ◌≤◌, ◌==◌, ◌&&◌, ◌||◌, Bool, true, false, MatchBool, if◌then◌else◌}
-use Rattle.std.specs.Prelude.{List, [], length, min, nat_lt, slice_get, slice_range, Option, Some, None, Result, Ok, Err, option_map, unwrap_or}
+use Rattle.std.specs.Prelude.{List, [], length, min, nat_lt, slice_get, Option, Some, None, Result, Ok, Err, option_map, unwrap_or}
 use Rattle.std.specs.Prelude.{position}
 use Rattle.std.specs.Int.{next_multiple_of}
 use Rattle.std.specs.List.{slice_index_or}
@@ -11,7 +11,7 @@ use Rattle.lk_link.specs.declared.plan.OrderEvent.TheVariants.{SegmentStart, Sec
 use Rattle.lk_link.specs.Alignments.{IsLeastMultiple}
 use Rattle.lk_link.specs.Expressions.{as_number}
 use Rattle.lk_link.specs.Inside.{placed_section}
-use Rattle.lk_link.specs.Parts.{all_parts, first_part, part_at}
+use Rattle.lk_link.specs.Parts.{all_parts, part_at}
 use Rattle.lk_link.specs.PlanSections.{is_allocated, is_file_backed}
 use Rattle.lk_link.specs.SegmentKinds.{is_load, segment_at}
 use Rattle.lk_place.specs.declared.cursors.Cursors.{Cursors}
@@ -22,7 +22,7 @@ use Rattle.lk_place.specs.declared.error.Refusal.TheVariants.{Overflow}
 use Rattle.lk_place.specs.Alignments.{place_alignment, section_alignment}
 use Rattle.lk_place.specs.Plans.{IsPlaceableEvent}
 use Rattle.lk_place.specs.Records.{Record, file_end, mem_end, nowhere, record_at}
-use Rattle.lk_place.specs.Setting.{Setting, has_bytes, part_count, part_number, size_at}
+use Rattle.lk_place.specs.Setting.{Setting, has_bytes, of_parts, part_count, part_number, size_at}
 
 -- ---- the parts of a section
 
@@ -30,8 +30,7 @@ use Rattle.lk_place.specs.Setting.{Setting, has_bytes, part_count, part_number, 
 abbrev pub first_walked : Setting → ℕ → ℕ
 first_walked setting s =
     let sections = setting.plan.sections in
-    let sizes = slice_range setting.sizes (first_part sections s) (first_part sections (s + 1)) in
-    part_number sections s (unwrap_or (position (nat_lt 0) sizes) 0)
+    part_number sections s (unwrap_or (position (nat_lt 0) (of_parts sections setting.sizes s)) 0)
 
 -- the parts with bytes are walked; where there are none, the first part is
 abbrev pub is_walked : Setting → ℕ → ℕ → Bool

@@ -31,7 +31,7 @@ last_before events k = last_or None (filter_map placed_section (take k events))
 
 -- a plan whose memory goes along the file: for whole output, with no region, and with no event that moves the location or gives
 -- an address; a load segment opens while no other is open, and not behind zero-fill thread-local data; and all inside one is
--- allocated, first what takes bytes of the file, with zero-fill thread-local data, which takes none, anywhere between (own)
+-- allocated, first what takes bytes of the file, with zero-fill thread-local data, which takes none, anywhere between
 pub record IsPlain (plan : Plan) (output : OutputKind) : Type 0 where
   pub whole : output ≢ Partial
   pub regions : plan.regions ≡ []

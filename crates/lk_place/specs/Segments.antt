@@ -1,12 +1,11 @@
 -- What output sections and segments span.
-use Rattle.std.specs.Prelude.{◌≡◌, ℕ, ◌+◌, ◌-◌, ◌==◌, ◌&&◌, ◌||◌, not, Bool, if◌then◌else◌, List, Option, Some, None, find, filter}
-use Rattle.std.specs.Prelude.{fold, map, max, min, slice_range, unwrap_or}
+use Rattle.std.specs.Prelude.{◌≡◌, ℕ, ◌-◌, ◌==◌, ◌&&◌, ◌||◌, not, Bool, if◌then◌else◌, List, Option, Some, None, find, filter}
+use Rattle.std.specs.Prelude.{fold, map, max, min, unwrap_or}
 use Rattle.std.specs.List.{enumerate_from, filter_map, list_any}
 use Rattle.lk_link.specs.declared.link.LinkInput.{LinkInput}
 use Rattle.lk_link.specs.declared.plan.Plan.{Plan}
 use Rattle.lk_link.specs.declared.plan.PlanSection.{PlanSection}
 use Rattle.lk_link.specs.Inside.{placed_section, sections_inside, segment_insides}
-use Rattle.lk_link.specs.Parts.{first_part}
 use Rattle.lk_link.specs.OutputKinds.{is_partial}
 use Rattle.lk_link.specs.PlanSections.{primary_of, is_allocated, is_zero_fill_thread_local}
 use Rattle.lk_link.specs.SegmentKinds.{is_stack, is_tls, segment_at}
@@ -15,6 +14,7 @@ use Rattle.lk_place.specs.declared.error.PlaceError.TheVariants.{NoMemory, Secti
 use Rattle.lk_place.specs.declared.segments.SegmentLayout.{SegmentLayout}
 use Rattle.lk_place.specs.Alignments.{greatest_of}
 use Rattle.lk_place.specs.Records.{Record, file_end, is_filled, mem_end, nowhere, record_at}
+use Rattle.lk_place.specs.Setting.{of_parts}
 
 -- ---- hulls
 
@@ -46,9 +46,9 @@ abbrev pub section_record : PlanSection → List Record → Record
 section_record section parts =
     record (hull parts) { alignment = greatest_of section.align (map (λ r. r.alignment) (filter is_filled parts)) }
 
--- the records of a section's parts, a range of those of all parts
+-- the records of a section's parts
 abbrev pub part_records : List PlanSection → List Record → ℕ → List Record
-part_records sections parts s = slice_range parts (first_part sections s) (first_part sections (s + 1))
+part_records sections parts s = of_parts sections parts s
 
 -- the records of all sections, by the records of all parts
 abbrev pub section_records : List PlanSection → List Record → List Record

@@ -1,5 +1,5 @@
 -- What a placement depends on: the plan, the kind of output, the machine, and the bytes of the plan's parts.
-use Rattle.std.specs.Prelude.{◌≡◌, ℕ, ◌+◌, Bool, true, List, length, nat_lt, slice_index}
+use Rattle.std.specs.Prelude.{◌≡◌, ℕ, ◌+◌, Bool, true, List, length, nat_lt, slice_index, slice_range}
 use Rattle.std.specs.List.{list_all}
 use Rattle.lk_link.specs.declared.link.LinkInput.{LinkInput}
 use Rattle.lk_link.specs.declared.options.OutputKind.{OutputKind}
@@ -37,6 +37,10 @@ part_count sections s = length (section_at sections s).parts
 -- the number, over all sections, of the part with this place in its section
 abbrev pub part_number : List PlanSection → ℕ → ℕ → ℕ
 part_number sections s j = first_part sections s + j
+
+-- what belongs to a section's parts, of what belongs to all parts by number
+abbrev pub of_parts : {X : Type 0} → List PlanSection → List X → ℕ → List X
+of_parts sections all s = slice_range all (first_part sections s) (first_part sections (s + 1))
 
 -- events in order, good sections, and a size for each part
 pub record IsReady (setting : Setting) : Type 0 where

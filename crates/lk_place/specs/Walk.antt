@@ -4,17 +4,19 @@ use Rattle.std.specs.Prelude.{◌≡◌, ℕ, zero, suc, ◌+◌, ◌-◌, ◌==
 use Rattle.std.specs.Prelude.{slice_get, Option, Some, None, Result, Ok, Err, unwrap_or}
 use Rattle.std.specs.Int.{next_multiple_of}
 use Rattle.lk_link.specs.declared.plan.OrderEvent.{OrderEvent}
+use Rattle.lk_link.specs.declared.plan.Plan.{Plan}
 use Rattle.lk_link.specs.Expressions.{as_number}
 use Rattle.lk_link.specs.Inside.{placed_section}
 use Rattle.lk_link.specs.Parts.{first_part, part_at}
 use Rattle.lk_link.specs.PlanSections.{is_file_backed}
 use Rattle.lk_link.specs.Target.{platform_target}
+use Rattle.lk_place.specs.declared.alignments.Alignments.{Alignments}
 use Rattle.lk_place.specs.declared.cursors.Cursors.{Cursors}
 use Rattle.lk_place.specs.declared.error.PlaceError.{PlaceError}
 use Rattle.lk_place.specs.declared.error.Refusal.{Refusal}
 use Rattle.lk_place.specs.declared.placement.Placing.{Placing}
 use Rattle.lk_place.specs.declared.walk.Walk.{Walk}
-use Rattle.lk_place.specs.Alignments.{AreAlignments, section_alignment}
+use Rattle.lk_place.specs.Alignments.{section_alignment, section_alignments, segment_alignments}
 use Rattle.lk_place.specs.Placement.{end_behind, first_walked, is_below, is_walked, left_at, moved, numbered, overflow_at, refusal_of}
 use Rattle.lk_place.specs.Placement.{resting, section_end, section_start, walk_alignment}
 use Rattle.lk_place.specs.Records.{Record, nowhere, record_at}
@@ -27,6 +29,11 @@ first_state setting = record { file = 0; memory = unwrap_or (as_number setting.p
 -- the setting of a walk
 abbrev pub setting_in : {P : Type 0} → (P → ℕ → ℕ → ℕ → ℕ) → Walk P → Setting
 setting_in start walk = setting_of walk.link.now (platform_target (start walk.platform.now)) walk.sizes.now
+
+-- these are the alignments of the sections and segments of a plan
+pub record AreAlignments (plan : Plan) (sizes : List ℕ) (all : Alignments) : Type 0 where
+  pub sections : all.sections ≡ section_alignments plan sizes
+  pub segments : all.segments ≡ segment_alignments plan sizes
 
 -- the plan of a walk can be walked, and the alignments of its sections and segments are at hand
 pub record IsWalkable {P : Type 0} (start : P → ℕ → ℕ → ℕ → ℕ) (walk : Walk P) : Type 0 where

@@ -10,8 +10,9 @@ ghost use Rattle.lk_link.specs.Alignments.{is_alignment};
 ghost use Rattle.lk_link.specs.Parts.{all_parts};
 ghost use Rattle.lk_link.specs.Rules.{is_good_section};
 ghost use Rattle.lk_link.specs.WellFormed.{IsWellFormed};
-ghost use Rattle.lk_place.specs.Alignments.{AreAlignments, filled_alignments, greatest_alignment, greatest_of};
+ghost use Rattle.lk_place.specs.Alignments.{filled_alignments, greatest_alignment, greatest_of};
 ghost use Rattle.lk_place.specs.Alignments.{section_alignments, segment_alignments};
+ghost use Rattle.lk_place.specs.Walk.{AreAlignments};
 
 use lk_link::alignment::Alignment;
 use lk_link::ids::OutputSectionId;

@@ -35,7 +35,7 @@ pub(crate) struct Placing {
     greatest: Alignment,
     /// The number of the first walked part.
     walked: usize,
-    /// Its record.
+    /// Its record, beside which the others rest, also those before it.
     first: OutputRecordLayout,
 }
 
