@@ -25,7 +25,7 @@ use Rattle.lk_link.specs.WellFormed.{IsAboutPlace}
 use Rattle.lk_place.specs.Plans.{IsPlaceable, IsPlaceableSection}
 use Rattle.lk_layout.specs.declared.error.Uncarried.TheVariants as uncarried
 use Rattle.lk_layout.specs.Carried.{IsCarried, all_uncarried, first_uncarried, has, is_special_section}
-use Rattle.lk_layout.specs.Laws.{CarriedPlansArePlain}
+use Rattle.lk_layout.specs.Laws.{CarriedPlansArePlaceable, CarriedPlansArePlain}
 use Rattle.lk_link.specs.Rules.{moves_location}
 
 -- what isn't looked for in vain isn't there
@@ -124,7 +124,7 @@ placeable_section plan s none =
 -- ---- plans
 
 -- the plan of a link of which all is laid out is one that is placed
-pub placeable : (link : LinkInput) → IsCarried link → IsPlaceable link.plan link.options.output
+pub placeable : CarriedPlansArePlaceable
 placeable link carried =
     let is : IsUsual link.plan = usual link carried in
     record {

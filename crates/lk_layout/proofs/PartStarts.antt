@@ -50,14 +50,14 @@ reaches sizes least n (p ∷ parts) (suc j) d below full =
 
 -- ---- the section of a part
 
-record IsInSection (sections : List PlanSection) (p : ℕ) : Type 0 where
+record HasSection (sections : List PlanSection) (p : ℕ) : Type 0 where
   section : ℕ
   place : ℕ
   there : section < length sections
   within : place < part_count sections section
   is : p ≡ part_number sections section place
 
-section_in : (sections : List PlanSection) (p : ℕ) → p < length (all_parts sections) → IsInSection sections p
+section_in : (sections : List PlanSection) (p : ℕ) → p < length (all_parts sections) → HasSection sections p
 section_in [] p h = absurd (omega arith)
 section_in (x ∷ xs) p h =
     elim (cases_lt p (length x.parts)) [
@@ -77,7 +77,7 @@ pub part_starts : (target : Target) (link : LinkInput) (live : Live) (states : L
 part_starts target link live states records p good is unrefused within some =
     let s : Setting = setting target link live in
     let sections : List PlanSection = link.plan.sections in
-    let i : IsInSection sections p = section_in sections p within in
+    let i : HasSection sections p = section_in sections p within in
     let t : ℕ = i.section in
     let event = good.events.placed t i.there in
     let early : event.0 + 1 < length states = omega (arith, is.ends unrefused, slice_get_within link.plan.events event.0 (Section t) event.1) in

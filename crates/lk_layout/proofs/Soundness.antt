@@ -9,13 +9,14 @@ use Rattle.std.proofs.lemmas.Bool.{cases_lt}
 use Rattle.std.proofs.lemmas.Bool.Decides.{eqb_tells}
 use Rattle.lk_check.specs.FirstFault.{WellFormedExactlyUnfaulted}
 use Rattle.lk_gc.specs.declared.live.Live.{Live}
-use Rattle.lk_gc.specs.Reach.{live_inputs}
+use Rattle.lk_gc.specs.Reach.{AreLive, live_inputs}
 use Rattle.lk_link.specs.declared.link.LinkInput.{LinkInput}
 use Rattle.lk_link.specs.declared.plan.PlanPart.{PlanPart}
 use Rattle.lk_link.specs.Inputs.{Input}
 use Rattle.lk_link.specs.Parts.{all_parts, part_at}
 use Rattle.lk_link.specs.Sizes.{capacity}
 use Rattle.lk_link.specs.Target.{IsLawful, Target}
+use Rattle.lk_link.specs.WellFormed.{IsWellFormed}
 use Rattle.lk_place.specs.Laws.{FileRangesAreDisjoint, IsSoundlySet, KeepAlignments, MemoryRangesAreDisjoint, PlainMemoryIsCongruent, PlainMemoryIsDisjoint, RecordsKeepAlignments}
 use Rattle.lk_place.specs.PlacementLaws.{PartsTakeTheirBytes}
 use Rattle.lk_place.specs.Plain.{IsPlain}
@@ -31,7 +32,7 @@ use Rattle.lk_layout.specs.declared.layout.Layout.{Layout}
 use Rattle.lk_layout.specs.Defined.{setting, starts_of}
 use Rattle.lk_layout.specs.Laws.{DefinedLayoutsAreSound, LaidOutMemoryIsDisjoint, LaidOutSectionsAreApart}
 use Rattle.lk_layout.specs.Sound.{IsInSection, IsSharedOut, IsSound, IsTold, LiveSectionsAreAligned, LiveSectionsAreApart, MemoryIsCongruent, part_record}
-use Rattle.lk_layout.proofs.CarriedPlans.{no_zero_fill, placeable}
+use Rattle.lk_layout.proofs.CarriedPlans.{no_zero_fill}
 use Rattle.lk_layout.proofs.LaidOut.{IsLaidOut, laid_out}
 use Rattle.lk_layout.proofs.PartStarts.{part_starts}
 use Rattle.lk_layout.proofs.Settings.{ready, size_of, takes}
@@ -118,16 +119,17 @@ one_owner link live a b x y other at_a at_b same =
       | inr more ↦ differ_at xs b a y x (live_differ link live) (omega (arith, other)) at_b at_a (ap (λ (z : Input). z.file) (sym same)) (ap (λ (z : Input). z.index) (sym same))
     ]
 
-sections_apart : OwnersTileTheirPart → PartsTakeTheirBytes → LiveSectionsAreOwners → (target : Target) (link : LinkInput) (layout : Layout) (laid : IsLaidOut target link layout)
-    → MemoryIsDisjoint link.plan layout.section_part_layouts → LiveSectionsAreApart link laid.live layout
-sections_apart tile mass owners target link layout laid memory a b address x y l m other told_a told_b memory_a memory_b here there =
-    let live : Live = laid.live in
+sections_apart : LiveSectionsAreOwners → (link : LinkInput) (live : Live) (layout : Layout) → IsWellFormed link → AreLive link live
+    → layout.live_sections ≡ live_sections link live (starts_of layout.section_part_layouts)
+    → ((p : ℕ) → p < length (all_parts link.plan.sections) → IsSharedOut link live layout p)
+    → MemoryIsDisjoint link.plan layout.section_part_layouts → LiveSectionsAreApart link live layout
+sections_apart owners link live layout good are_live is shared memory a b address x y l m other told_a told_b memory_a memory_b here there =
     let p : ℕ = x.section.part in
     let q : ℕ = y.section.part in
-    let first = has_byte link live layout x l address (stands owners link live layout a x l (shown target link layout laid) told_a) here in
-    let second = has_byte link live layout y m address (stands owners link live layout b y m (shown target link layout laid) told_b) there in
-    let of_p = shared_out tile mass target link layout laid p (live_goes link live a x laid.good laid.are_live told_a.there) in
-    let of_q = shared_out tile mass target link layout laid q (live_goes link live b y laid.good laid.are_live told_b.there) in
+    let first = has_byte link live layout x l address (stands owners link live layout a x l is told_a) here in
+    let second = has_byte link live layout y m address (stands owners link live layout b y m is told_b) there in
+    let of_p = shared p (live_goes link live a x good are_live told_a.there) in
+    let of_q = shared q (live_goes link live b y good are_live told_b.there) in
     let in_p = of_p.tiled.inside (owner_number link live x) address first in
     let in_q = of_q.tiled.inside (owner_number link live y) address second in
     elim (eqb_tells p q) [
@@ -137,8 +139,8 @@ sections_apart tile mass owners target link layout laid memory a b address x y l
           let owned : ℕ → ℕ → Type 0 = λ r k. HasByte (part_record layout r).mem_offset (part_at link.plan.sections r) (owners_of link live r) k address in
           let beside : owned p (owner_number link live y) = subst (λ r. owned r (owner_number link live y)) (sym hit.1) second in
           let number : owner_number link live x ≡ owner_number link live y = of_p.tiled.apart (owner_number link live x) (owner_number link live y) address first beside in
-          let mine : slice_get (owners_of link live p) (owner_number link live x) ≡ Some (SectionOwner x) = (stands owners link live layout a x l (shown target link layout laid) told_a).owner in
-          let yours : slice_get (owners_of link live q) (owner_number link live y) ≡ Some (SectionOwner y) = (stands owners link live layout b y m (shown target link layout laid) told_b).owner in
+          let mine : slice_get (owners_of link live p) (owner_number link live x) ≡ Some (SectionOwner x) = (stands owners link live layout a x l is told_a).owner in
+          let yours : slice_get (owners_of link live q) (owner_number link live y) ≡ Some (SectionOwner y) = (stands owners link live layout b y m is told_b).owner in
           let both : Some (SectionOwner x) ≡ Some (SectionOwner y)
           = sym mine ∙ ap (λ (r : ℕ). slice_get (owners_of link live r) (owner_number link live x)) hit.1 ∙ ap (slice_get (owners_of link live q)) number ∙ yours in
           let same : x ≡ y = cc in
@@ -206,7 +208,7 @@ is_sound tile aligned owners mass file memory in_step keep target link layout la
           (memory (setting target link laid.live) laid.states laid.records (soundly_set target link layout laid lawful) plain) in
           record {
             disjoint = disjoint;
-            apart = sections_apart tile mass owners target link layout laid disjoint;
+            apart = sections_apart owners link laid.live layout laid.good laid.are_live (shown target link layout laid) (shared_out tile mass target link layout laid) disjoint;
             congruent = congruent in_step keep target link layout laid lawful plain;
           };
     }
@@ -217,17 +219,17 @@ sound exactly tile aligned owners mass file memory in_step keep target link layo
     let laid = laid_out exactly target link layout defined in
     (laid.live, is_sound tile aligned owners mass file memory in_step keep target link layout laid lawful)
 
--- under every plan that is laid out today, the memory of a layout is disjoint
+-- under a placeable plan, the memory of a layout is disjoint
 pub memory_disjoint : WellFormedExactlyUnfaulted → MemoryRangesAreDisjoint → LaidOutMemoryIsDisjoint
-memory_disjoint exactly memory target link layout carried lawful defined =
+memory_disjoint exactly memory target link layout placeable lawful defined =
     let laid = laid_out exactly target link layout defined in
     subst (MemoryIsDisjoint link.plan) (sym (parts_are target link layout laid))
-    (memory (setting target link laid.live) laid.states laid.records (soundly_set target link layout laid lawful) (placeable link laid.carried))
+    (memory (setting target link laid.live) laid.states laid.records (soundly_set target link layout laid lawful) placeable)
 
 -- and so are its live sections
-pub laid_out_apart : WellFormedExactlyUnfaulted → OwnersTileTheirPart → OwnersAreAligned → LiveSectionsAreOwners → PartsTakeTheirBytes → FileRangesAreDisjoint → MemoryRangesAreDisjoint → PlainMemoryIsDisjoint
-    → PlainMemoryIsCongruent → RecordsKeepAlignments → LaidOutSectionsAreApart
-laid_out_apart exactly tile aligned owners mass file memory plain in_step keep target link layout carried lawful defined =
-    let laid = laid_out exactly target link layout defined in
-    let is : IsSound link laid.live layout = is_sound tile aligned owners mass file plain in_step keep target link layout laid lawful in
-    (laid.live, is, sections_apart tile mass owners target link layout laid (memory_disjoint exactly memory target link layout carried lawful defined))
+pub laid_out_apart : WellFormedExactlyUnfaulted → LiveSectionsAreOwners → DefinedLayoutsAreSound → LaidOutMemoryIsDisjoint → LaidOutSectionsAreApart
+laid_out_apart exactly owners sound disjoint target link layout placeable lawful defined =
+    let good : IsWellFormed link = (laid_out exactly target link layout defined).good in
+    let found = sound target link layout lawful defined in
+    let is : IsSound link found.0 layout = found.1 in
+    (found.0, is, sections_apart owners link found.0 layout good is.reached is.shown is.shared (disjoint target link layout placeable lawful defined))

@@ -10,10 +10,9 @@ use Rattle.lk_place.specs.Placement.{IsPlaced, placement_refusal}
 use Rattle.lk_place.specs.Records.{Record}
 use Rattle.lk_place.specs.Segments.{first_outside, outside_refusal, section_records, segment_layouts}
 use Rattle.lk_place.specs.Setting.{Setting, setting_of}
-use Rattle.lk_sizes.specs.Attributes.{all_section_attributes}
+use Rattle.lk_sizes.specs.Attributes.{all_section_attributes, by_section}
 use Rattle.lk_sizes.specs.Contents.{size_refusal}
-use Rattle.lk_sizes.specs.Emitted.{is_emitted}
-use Rattle.lk_sizes.specs.Header.{header_info}
+use Rattle.lk_sizes.specs.Emitted.{active_segments, is_emitted, output_index}
 use Rattle.lk_sizes.specs.LiveSections.{live_sections}
 use Rattle.lk_sizes.specs.Owners.{part_sizes}
 use Rattle.lk_layout.specs.declared.error.LayoutError.{LayoutError}
@@ -69,13 +68,12 @@ starts_of records = map (λ r. r.mem_offset) records
 abbrev pub layout_of : LinkInput → Live → List Record → Layout
 layout_of link live records =
     let sections = section_records link.plan.sections records in
-    let headers = header_info link live in
     record {
       section_layouts = sections;
       section_part_layouts = records;
       section_attributes = all_section_attributes link live;
-      output_section_indexes = headers.output_section_indexes;
-      segment_layouts = segment_layouts link.plan link.options.stack sections (is_emitted link live) headers.active_segment_ids;
+      output_section_indexes = by_section (output_index link live) link;
+      segment_layouts = segment_layouts link.plan link.options.stack sections (is_emitted link live) (active_segments link live);
       live_sections = live_sections link live (starts_of records);
     }
 

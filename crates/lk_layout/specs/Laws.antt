@@ -6,6 +6,7 @@ use Rattle.lk_link.specs.PlanSections.{is_allocated, is_file_backed}
 use Rattle.lk_link.specs.Target.{IsLawful, Target}
 use Rattle.lk_gc.specs.declared.live.Live.{Live}
 use Rattle.lk_place.specs.Plain.{IsLoadSegment, IsPlain, OpensLoad, PlacesInLoad}
+use Rattle.lk_place.specs.Plans.{IsPlaceable}
 use Rattle.lk_place.specs.Ranges.{MemoryIsDisjoint}
 use Rattle.lk_layout.specs.declared.error.LayoutError.{LayoutError}
 use Rattle.lk_layout.specs.declared.layout.Layout.{Layout}
@@ -27,16 +28,20 @@ abbrev pub DefinedLayoutsAreSound : Type 0
 DefinedLayoutsAreSound = (target : Target) (link : LinkInput) (layout : Layout)
     → IsLawful target → IsDefined target link (Ok layout) → (live : Live) × IsSound link live layout
 
--- as long as no plan is laid out that has regions or gives addresses, its memory is disjoint under every plan
+-- under a placeable plan the memory of a defined layout is disjoint, also if the plan isn't plain
 abbrev pub LaidOutMemoryIsDisjoint : Type 0
-LaidOutMemoryIsDisjoint = (target : Target) (link : LinkInput) (layout : Layout)
-    → IsCarried link → IsLawful target → IsDefined target link (Ok layout) → MemoryIsDisjoint link.plan layout.section_part_layouts
+LaidOutMemoryIsDisjoint = (target : Target) (link : LinkInput) (layout : Layout) → IsPlaceable link.plan link.options.output
+    → IsLawful target → IsDefined target link (Ok layout) → MemoryIsDisjoint link.plan layout.section_part_layouts
 
 -- and so are its live sections
 abbrev pub LaidOutSectionsAreApart : Type 0
-LaidOutSectionsAreApart = (target : Target) (link : LinkInput) (layout : Layout)
-    → IsCarried link → IsLawful target → IsDefined target link (Ok layout)
+LaidOutSectionsAreApart = (target : Target) (link : LinkInput) (layout : Layout) → IsPlaceable link.plan link.options.output
+    → IsLawful target → IsDefined target link (Ok layout)
     → (live : Live) × IsSound link live layout × LiveSectionsAreApart link live layout
+
+-- a link of which all is laid out has a placeable plan
+abbrev pub CarriedPlansArePlaceable : Type 0
+CarriedPlansArePlaceable = (link : LinkInput) → IsCarried link → IsPlaceable link.plan link.options.output
 
 -- what makes the plan of a link plain of which all is laid out: no load segment opens while another is open, and inside each all
 -- is allocated, and what takes bytes of the file comes before what takes none

@@ -68,14 +68,15 @@ fn lay_out<P: Platform>(
     let contents = part_contents(alloc, link, &live)?;
     let sizes = part_sizes(alloc, contents.as_slice())?;
     let placed = compute_layout_sections(alloc, link, &sizes, platform)?;
+    // Laws, which do nothing: the parts end where their owners do, and the sizes so far are those that tell what is emitted.
     parts_take_their_bytes();
     first_sizes_are_sizes();
-    tell(alloc, link, &live, contents.as_slice(), &sizes, placed)
+    lay_out_placed(alloc, link, &live, contents.as_slice(), &sizes, placed)
 }
 
-/// What is told of a link that is placed, by the first sizes of its parts: headers, segments, attributes and the addresses of
+/// The layout of a link that is placed, by the first sizes of its parts: headers, segments, attributes and the addresses of
 /// live sections.
-fn tell(
+fn lay_out_placed(
     alloc: Global,
     link: &LinkInput,
     live: &Live,
@@ -120,6 +121,7 @@ fn starts_of(alloc: Global, parts: &[OutputRecordLayout]) -> Result<Vec<u64>, Al
 {
     let mut starts = Vec::with_capacity(alloc, parts.len())?;
     for part in parts {
+        // Its contract says that the part ends below 2^64, for the addresses inside.
         let _end = part.mem_end();
         starts.push(part.mem_offset)?;
     }

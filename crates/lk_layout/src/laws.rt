@@ -1,7 +1,7 @@
 //! Laws on the answer, each proved as the contract of a function that does nothing.
 
-ghost use Rattle.lk_layout.specs.Laws.{CarriedPlansArePlain, DefinedAnswerExists, DefinedAnswerIsOne, DefinedLayoutsAreSound};
-ghost use Rattle.lk_layout.specs.Laws.{LaidOutMemoryIsDisjoint, LaidOutSectionsAreApart};
+ghost use Rattle.lk_layout.specs.Laws.{CarriedPlansArePlaceable, CarriedPlansArePlain, DefinedAnswerExists, DefinedAnswerIsOne};
+ghost use Rattle.lk_layout.specs.Laws.{DefinedLayoutsAreSound, LaidOutMemoryIsDisjoint, LaidOutSectionsAreApart};
 
 use lk_check::well_formed_exactly_unfaulted;
 use lk_gc::{live_exists, live_is_one};
@@ -44,7 +44,7 @@ pub fn defined_layouts_are_sound()
     records_keep_alignments();
 }
 
-/// A law: under every plan that is laid out today, no two parts of sections that take addresses share one.
+/// A law: under a placeable plan, no two parts of sections that take addresses share one.
 pub fn laid_out_memory_is_disjoint()
     ensures { LaidOutMemoryIsDisjoint }
 {
@@ -57,16 +57,15 @@ pub fn laid_out_sections_are_apart()
     ensures { LaidOutSectionsAreApart }
 {
     well_formed_exactly_unfaulted();
-    owners_tile_their_part();
-    owners_are_aligned();
     live_sections_are_owners();
-    parts_take_their_bytes();
-    file_ranges_are_disjoint();
-    memory_ranges_are_disjoint();
-    plain_memory_is_disjoint();
-    plain_memory_is_congruent();
-    records_keep_alignments();
+    defined_layouts_are_sound();
+    laid_out_memory_is_disjoint();
 }
+
+/// A law: where all is laid out, a plan is placeable.
+pub fn carried_plans_are_placeable()
+    ensures { CarriedPlansArePlaceable }
+{}
 
 /// A law: where all is laid out, a plan is plain if no load segment opens while another is open, and inside each all is
 /// allocated, and what takes bytes of the file comes before what takes none.

@@ -19,16 +19,16 @@ compute_layout_sections-requires-clause-each g c =
 pub compute_layout_sections-requires-clause-placeable : goal.compute_layout_sections-requires-clause-placeable
 compute_layout_sections-requires-clause-placeable g c = placeable c.args.link.now c.requires.carried
 
-pub tell-requires-clause-brought : goal.tell-requires-clause-brought
-tell-requires-clause-brought g c =
+pub lay_out_placed-requires-clause-brought : goal.lay_out_placed-requires-clause-brought
+lay_out_placed-requires-clause-brought g c =
     let link = c.args.link.now in
     let live : Live = c.in_ok-live.live in
     let contents : c.as_slice-2.result.now ≡ part_contents link live = c.as_slice-2.ensures ∙ c.in_ok-contents.ensures.1 in
     let sizes = c.in_ok-sizes.ensures.sizes link live (c.as_slice.ensures ∙ c.in_ok-contents.ensures.1) in
     record { contents = contents; first = c.deref-2.ensures.value ∙ sizes ∙ sym (c.first_sizes_are_sizes.ensures link live) }
 
-pub tell-requires-clause-takes : goal.tell-requires-clause-takes
-tell-requires-clause-takes g c =
+pub lay_out_placed-requires-clause-takes : goal.lay_out_placed-requires-clause-takes
+lay_out_placed-requires-clause-takes g c =
     let target = platform_target (g.P.Platform.segment_start c.args.platform.now) in
     let link = c.args.link.now in
     let live : Live = c.in_ok-live.live in

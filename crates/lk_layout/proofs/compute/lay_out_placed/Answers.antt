@@ -6,7 +6,7 @@ use Rattle.lk_sizes.specs.Contents.{contents_of}
 use Rattle.lk_sizes.specs.Header.{header_info}
 use Rattle.lk_sizes.specs.Owners.{first_size, part_size}
 use Rattle.lk_layout.proofs.Settings.{active_there, length-by_part, length-section_records}
-use Rattle.lk_layout.proofs.compute.tell.Goals as goal
+use Rattle.lk_layout.proofs.compute.lay_out_placed.Goals as goal
 use Rattle.lk_place.specs.Segments.{section_records}
 use Rattle.lk_sizes.specs.declared.header.HeaderInfo.{HeaderInfo}
 use Rattle.lk_sizes.specs.Emitted.{active_segments, is_emitted}
