@@ -19,12 +19,14 @@ use Rattle.lk_link.specs.declared.plan.attributes.TheConstants.{NOBITS, TLS}
 use Rattle.lk_link.specs.Expressions.{as_number}
 use Rattle.lk_link.specs.OutputKinds.{is_partial}
 use Rattle.lk_link.proofs.Places.{none_found}
+use Rattle.lk_link.specs.PartRules.{names_table}
 use Rattle.lk_link.specs.PlanSections.{is_set, is_singletons, is_zero_fill_thread_local, no_section, own_attributes, section_at}
 use Rattle.lk_link.specs.SegmentKinds.{is_tls}
 use Rattle.lk_link.specs.WellFormed.{IsAboutPlace}
 use Rattle.lk_place.specs.Plans.{IsPlaceable, IsPlaceableSection}
+use Rattle.lk_sizes.specs.Owners.{KeepsSizes}
 use Rattle.lk_layout.specs.declared.error.Uncarried.TheVariants as uncarried
-use Rattle.lk_layout.specs.Carried.{IsCarried, all_uncarried, first_uncarried, has, is_special_section}
+use Rattle.lk_layout.specs.Carried.{IsCarried, all_uncarried, any_file, file_has, first_uncarried, has, is_special_section}
 use Rattle.lk_layout.specs.Laws.{CarriedPlansArePlaceable, CarriedPlansArePlain}
 use Rattle.lk_link.specs.Rules.{moves_location}
 
@@ -155,3 +157,14 @@ carried_plans_are_plain link carried loads =
       zero_fill = λ i s k places zero. absurd (let no : is_zero_fill_thread_local link.plan s ≡ false = no_zero_fill link s carried in cc);
       backed_first = λ i s t m n less first second backed. or_left _ _ (loads.backed_first i s t m n less first second backed);
     }
+
+-- ---- sizes
+
+-- nothing changes its sizes
+pub keeps_sizes : (link : LinkInput) → IsCarried link → KeepsSizes link
+unfolding first_uncarried has
+keeps_sizes link carried = record {
+  relax = none_found (has link) all_uncarried 10 uncarried.Relax carried refl;
+  tables = (or_parts (names_table link.plan.named) (any_file (file_has uncarried.Table) link) (none_found (has link) all_uncarried 5 uncarried.Table carried refl)).0;
+  primary = none_found (has link) all_uncarried 9 uncarried.Primary carried refl;
+}

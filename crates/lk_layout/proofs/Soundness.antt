@@ -27,7 +27,7 @@ use Rattle.lk_sizes.specs.declared.addresses.LiveSection.{LiveSection}
 use Rattle.lk_sizes.specs.LiveSections.{live_section, live_sections}
 use Rattle.lk_sizes.specs.Owners.{LiveSectionsAreOwners, Owner, SectionOwner, bytes_of, owner_address, owner_number, owners_of, part_size}
 use Rattle.lk_sizes.specs.Tiles.{HasByte, IsTiled, OwnersAreAligned, OwnersTileTheirPart}
-use Rattle.lk_sizes.proofs.LiveOnes.{Differ, Pairwise, live_differ, live_goes}
+use Rattle.lk_sizes.proofs.LiveOnes.{Differ, Pairwise, live_differ, live_goes, live_good}
 use Rattle.lk_layout.specs.declared.layout.Layout.{Layout}
 use Rattle.lk_layout.specs.Defined.{setting, starts_of}
 use Rattle.lk_layout.specs.Laws.{DefinedLayoutsAreSound, LaidOutMemoryIsDisjoint, LaidOutSectionsAreApart}
@@ -169,7 +169,7 @@ sections_aligned tile aligned owners target link layout laid a x l told some unp
     = part_starts target link live laid.states laid.records p laid.good laid.is laid.unrefused within (omega (arith, bytes, size)) in
     let record_is : (record_at laid.records p).mem_offset ≡ (part_record layout p).mem_offset = ap (λ rs. (record_at rs p).mem_offset) (sym (parts_are target link layout laid)) in
     subst (λ n. (part_at link.plan.sections p).alignment ∣ n) (sym s.address)
-    (dvd-add (part_at link.plan.sections p).alignment (subst (λ n. (part_at link.plan.sections p).alignment ∣ n) record_is begins) (aligned link live p (owner_number link live x) laid.good unpacked))
+    (dvd-add (part_at link.plan.sections p).alignment (subst (λ n. (part_at link.plan.sections p).alignment ∣ n) record_is begins) (aligned link live p (owner_number link live x) laid.good (live_good link live a x laid.good laid.are_live told.there).1.to_no_table unpacked))
 
 -- ---- the laws
 

@@ -103,4 +103,4 @@ pub first_is_size : (link : LinkInput) (live : Live) (p : ℕ) → first_size li
 first_is_size link live p = owned (part_at link.plan.sections p) (live_into link live p)
 
 pub first_sizes_are_sizes : FirstSizesAreSizes
-first_sizes_are_sizes link live = made_same (first_size link live) (part_size link live) (all_parts link.plan.sections) 0 (first_is_size link live)
+first_sizes_are_sizes link live keeps = made_same (first_size link live) (part_size link live) (all_parts link.plan.sections) 0 (first_is_size link live)

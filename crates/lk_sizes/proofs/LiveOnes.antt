@@ -1,13 +1,14 @@
 -- The live sections of a link: each is one of the link's, goes to a part, and stands once among them.
 use Rattle.std.proofs.Common.{◌≡◌, ℕ, zero, suc, ◌<◌, ◌==◌, ◌&&◌, Bool, true, false, List, [], ◌∷◌, ◌++◌, length, Some, refl, ap, ◌∙◌, arith}
 use Rattle.std.specs.List.{AllByRecursion, slice_get, slice_index_or}
-use Rattle.std.proofs.lemmas.Bool.{and_parts, eqb-true, false_from_ne_true, ltb-true}
+use Rattle.std.proofs.lemmas.Bool.{and_parts, eqb-true, false_from_ne_true}
 use Rattle.lk_link.specs.declared.ids.FileId.{FileId}
 use Rattle.lk_link.specs.declared.link.LinkInput.{LinkInput}
 use Rattle.lk_link.specs.declared.section.InputSlot.{InputSlot}
 use Rattle.lk_link.specs.declared.section.InputSlot.TheVariants as slot
 use Rattle.lk_link.specs.Inputs.{Input, all_inputs}
-use Rattle.lk_link.proofs.GoodInputs.{inputs_go_to_parts}
+use Rattle.lk_link.proofs.GoodInputs.{inputs_are_good}
+use Rattle.lk_link.specs.InputRules.{IsGoodInput}
 use Rattle.lk_link.specs.InputSlots.{can_be_kept, is_discarded}
 use Rattle.lk_link.specs.Parts.{all_parts}
 use Rattle.lk_link.specs.WellFormed.{IsWellFormed}
@@ -41,14 +42,17 @@ not_left_out slot.DebugInfo h = refl
 not_left_out slot.MustLoadDebugInfo h = refl
 not_left_out slot.Merge h = refl
 
--- it goes to one of the plan's parts
-pub live_goes : (link : LinkInput) (live : Live) (j : ℕ) (x : Input) → IsWellFormed link → AreLive link live → slice_get (live_inputs link live) j ≡ Some x
-    → x.section.part < length (all_parts link.plan.sections)
-live_goes link live j x good l h =
+-- it is good, among so many symbols of its file: it goes to one of the plan's parts, and to no table part
+pub live_good : (link : LinkInput) (live : Live) (j : ℕ) (x : Input) → IsWellFormed link → AreLive link live → slice_get (live_inputs link live) j ≡ Some x
+    → (symbols : ℕ) × IsGoodInput link.plan symbols x.section
+live_good link live j x good l h =
     let at = live_at link live j x l h in
     let file = file_of_input link.groups at.0 x at.1 in
-    ltb-true x.section.part (length (all_parts link.plan.sections))
-    (inputs_go_to_parts link x.file x.index file.0 x.section good file.1 file.2 (not_left_out x.section.slot at.2.slot))
+    (length (file.0).symbols, inputs_are_good link x.file x.index file.0 x.section good file.1 file.2 (not_left_out x.section.slot at.2.slot))
+
+pub live_goes : (link : LinkInput) (live : Live) (j : ℕ) (x : Input) → IsWellFormed link → AreLive link live → slice_get (live_inputs link live) j ≡ Some x
+    → x.section.part < length (all_parts link.plan.sections)
+live_goes link live j x good l h = (live_good link live j x good l h).1.to_part
 
 -- ---- each stands once
 

@@ -113,5 +113,5 @@ aligned part (x ∷ xs) (suc k) h i =
     (dvd-add part.alignment (rounded part x.section.size h i) (aligned part xs k h i))
 
 pub owners_are_aligned : OwnersAreAligned
-owners_are_aligned link live p k good unpacked =
+owners_are_aligned link live p k good free unpacked =
     aligned (part_at link.plan.sections p) (live_into link live p) k unpacked (alignment-pos (part_at link.plan.sections p).alignment (part_is_aligned link p good))

@@ -1,11 +1,12 @@
 -- Who takes the bytes of a part, and where each stands.
-use Rattle.std.specs.Prelude.{◌≡◌, ℕ, zero, suc, ◌+◌, ◌-◌, ◌^◌, ◌<◌, ◌==◌, ◌&&◌, Bool, if◌then◌else◌, List, length, take, map, filter}
+use Rattle.std.specs.Prelude.{◌≡◌, ℕ, zero, suc, ◌+◌, ◌-◌, ◌^◌, ◌<◌, ◌==◌, ◌&&◌, Bool, if◌then◌else◌, false, is_some, List, length, take, map, filter}
 use Rattle.std.specs.Prelude.{sum, sum_by, slice_index, Option, Some, None, nat_lt, Contains}
 use Rattle.std.specs.List.{enumerate_from, position_or_len, slice_get}
 use Rattle.lk_link.specs.declared.link.LinkInput.{LinkInput}
 use Rattle.lk_link.specs.declared.plan.PlanPart.{PlanPart}
 use Rattle.lk_link.specs.Files.{first_some}
 use Rattle.lk_link.specs.Inputs.{Input}
+use Rattle.lk_link.specs.PartRules.{names_table}
 use Rattle.lk_link.specs.Parts.{all_parts, part_at}
 use Rattle.lk_link.specs.Sizes.{capacity}
 use Rattle.lk_gc.specs.declared.live.Live.{Live}
@@ -84,9 +85,15 @@ first_size link live p = sum_by (λ x. capacity (part_at link.plan.sections p) x
 abbrev pub first_sizes : LinkInput → Live → List ℕ
 first_sizes link live = by_part (first_size link live) link
 
--- the first sizes are the sizes, as long as nothing is made smaller and nothing else takes bytes
+-- a link in which no section is made smaller, and only live sections take bytes: without relaxation, tables and thunks
+pub record KeepsSizes (link : LinkInput) : Type 0 where
+  pub relax : link.options.relax ≡ false
+  pub tables : names_table link.plan.named ≡ false
+  pub primary : is_some link.plan.named.primary ≡ false
+
+-- there the first sizes are the sizes
 abbrev pub FirstSizesAreSizes : Type 0
-FirstSizesAreSizes = (link : LinkInput) (live : Live) → first_sizes link live ≡ part_sizes link live
+FirstSizesAreSizes = (link : LinkInput) (live : Live) → KeepsSizes link → first_sizes link live ≡ part_sizes link live
 
 -- the least number below n that passes
 abbrev pub least_below : (ℕ → Bool) → ℕ → Option ℕ

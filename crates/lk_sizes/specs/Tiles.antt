@@ -6,6 +6,7 @@ use Rattle.lk_link.specs.declared.plan.PlanPart.{PlanPart}
 use Rattle.lk_link.specs.WellFormed.{IsWellFormed}
 use Rattle.lk_gc.specs.declared.live.Live.{Live}
 use Rattle.lk_sizes.specs.Owners.{Owner, owner_address, owner_bytes, owners_of, bytes_of}
+use Rattle.lk_link.specs.PartRules.{is_table_part}
 use Rattle.lk_link.specs.Parts.{part_at}
 
 -- owner k has the byte at this address
@@ -25,7 +26,8 @@ pub record IsTiled (start : ℕ) (part : PlanPart) (owners : List Owner) : Type 
 abbrev pub OwnersTileTheirPart : Type 0
 OwnersTileTheirPart = (link : LinkInput) (live : Live) (p start : ℕ) → IsTiled start (part_at link.plan.sections p) (owners_of link live p)
 
--- where a part isn't packed, each owner stands at a multiple of the alignment from the part's start
+-- where a part is no table part and isn't packed, each owner stands at a multiple of the alignment from the part's start
 abbrev pub OwnersAreAligned : Type 0
-OwnersAreAligned = (link : LinkInput) (live : Live) (p k : ℕ) → IsWellFormed link → (part_at link.plan.sections p).packed ≡ false
+OwnersAreAligned = (link : LinkInput) (live : Live) (p k : ℕ) → IsWellFormed link
+    → is_table_part link.plan.named p ≡ false → (part_at link.plan.sections p).packed ≡ false
     → (part_at link.plan.sections p).alignment ∣ bytes_of (part_at link.plan.sections p) (take k (owners_of link live p))

@@ -3,7 +3,7 @@
 ghost use Rattle.lk_sizes.specs.Owners.{FirstSizesAreSizes, LiveSectionsAreOwners};
 ghost use Rattle.lk_sizes.specs.Tiles.{OwnersTileTheirPart, OwnersAreAligned};
 
-/// A law: the sizes that tell which sections are emitted are the sizes of the parts.
+/// A law: the sizes that tell which sections are emitted are the sizes of the parts, where nothing changes them in between.
 pub fn first_sizes_are_sizes()
     ensures { FirstSizesAreSizes }
 {}
@@ -13,7 +13,7 @@ pub fn owners_tile_their_part()
     ensures { OwnersTileTheirPart }
 {}
 
-/// A law: where a part isn't packed, each owner stands at a multiple of the alignment from the part's start.
+/// A law: where a part is no table part and isn't packed, each owner stands at a multiple of the alignment from the part's start.
 pub fn owners_are_aligned()
     ensures { OwnersAreAligned }
 {}

@@ -5,7 +5,7 @@ use Rattle.lk_link.specs.Target.{platform_target}
 use Rattle.lk_sizes.specs.Contents.{part_contents}
 use Rattle.lk_sizes.specs.Owners.{part_size, part_sizes}
 use Rattle.lk_layout.specs.Defined.{setting}
-use Rattle.lk_layout.proofs.CarriedPlans.{placeable}
+use Rattle.lk_layout.proofs.CarriedPlans.{keeps_sizes, placeable}
 use Rattle.lk_layout.proofs.Settings.{length-by_part, takes}
 use Rattle.lk_layout.proofs.compute.lay_out.Goals as goal
 
@@ -25,7 +25,7 @@ lay_out_placed-requires-clause-brought g c =
     let live : Live = c.in_ok-live.live in
     let contents : c.as_slice-2.result.now ≡ part_contents link live = c.as_slice-2.ensures ∙ c.in_ok-contents.ensures.1 in
     let sizes = c.in_ok-sizes.ensures.sizes link live (c.as_slice.ensures ∙ c.in_ok-contents.ensures.1) in
-    record { contents = contents; first = c.deref-2.ensures.value ∙ sizes ∙ sym (c.first_sizes_are_sizes.ensures link live) }
+    record { contents = contents; first = c.deref-2.ensures.value ∙ sizes ∙ sym (c.first_sizes_are_sizes.ensures link live (keeps_sizes link c.requires.carried)) }
 
 pub lay_out_placed-requires-clause-takes : goal.lay_out_placed-requires-clause-takes
 lay_out_placed-requires-clause-takes g c =
