@@ -1,6 +1,6 @@
 -- Who takes the bytes of a part, and where each stands.
-use Rattle.std.specs.Prelude.{◌≡◌, ℕ, zero, suc, ◌+◌, ◌-◌, ◌^◌, ◌<◌, ◌==◌, ◌&&◌, Bool, if◌then◌else◌, false, is_some, List, length, take, map, filter}
-use Rattle.std.specs.Prelude.{sum, sum_by, slice_index, Option, Some, None, nat_lt, Contains}
+use Rattle.std.specs.Prelude.{◌≡◌, ℕ, zero, suc, ◌+◌, ◌-◌, ◌^◌, ◌<◌, ◌==◌, ◌&&◌, Bool, if◌then◌else◌, List, length, take, map, filter}
+use Rattle.std.specs.Prelude.{false, is_some, sum, sum_by, slice_index, Option, Some, None, nat_lt, Contains}
 use Rattle.std.specs.List.{enumerate_from, position_or_len, slice_get}
 use Rattle.lk_link.specs.declared.link.LinkInput.{LinkInput}
 use Rattle.lk_link.specs.declared.plan.PlanPart.{PlanPart}
