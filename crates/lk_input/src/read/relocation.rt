@@ -6,9 +6,13 @@ ghost use Rattle.lk_input.specs.ReadingSteps.{one_of};
 
 use crate::read::described::{Described, one_of};
 use crate::read::error::InputError;
+use crate::read::fail::Fail;
 use crate::read::member::{at_most, element, fixed_list};
+use crate::read::stream::{Streamed, stream_value};
 use crate::read::word::Word;
+use json::Reader;
 use lk_link::relocation::{RelaxCandidate, Relocation, RelocationKind};
+use lk_link::text::Text;
 use serde_json::Value;
 use std::alloc::Global;
 
@@ -149,6 +153,18 @@ impl Described for Relocation {
             kind,
             thunkable,
         })
+    }
+}
+
+impl Streamed for Relocation {
+    ghost streamed = { relocation_of };
+
+    fn stream(
+        alloc: Global,
+        reader: &mut Reader<'_>,
+        depth: usize,
+    ) -> Result<Result<Relocation, Text>, Fail> {
+        stream_value(alloc, reader, depth)
     }
 }
 

@@ -1,21 +1,28 @@
 //! The sections of objects from JSON.
 
-ghost use Rattle.std.specs.Prelude.{◌≡◌};
+ghost use Rattle.std.specs.Prelude.{◌≡◌, ◌∷◌};
+ghost use Rattle.json.specs.Json.{parse_map};
+ghost use Rattle.json.specs.Reads.{token_of};
 ghost use Rattle.serde_json.specs.View.{view};
+ghost use Rattle.lk_input.specs.LargeMembers.{section_large, section_kept, section_from};
 ghost use Rattle.lk_input.specs.ReadingSections.{input_section_key_text, slot_text, all_slots, hex_bytes, data_in, size_in, input_section_of, input_sections_of};
 ghost use Rattle.lk_input.specs.ReadingSteps.{Reads, one_of};
+ghost use Rattle.lk_input.specs.Tokens.{data_at, Stands, as_is};
 
 use crate::read::described::{Described, one_of, wanted};
 use crate::read::error::InputError;
 use crate::read::fail::Fail;
-use crate::read::member::{defaulted, object, optional, required};
-use crate::read::stream::{Streamed, stream_value};
+use crate::read::large::{Large, kept_or, reread, stream_members};
+use crate::read::member::{defaulted, optional, required};
+use crate::read::stream::{Streamed, misfit_from, settled};
+use crate::read::tokens::deeper;
 use crate::read::word::Word;
 use hex::FromHexError;
-use json::Reader;
+use json::{Reader, Token};
 use lk_link::file::InputSections;
 use lk_link::ids::PartId;
 use lk_link::list::List;
+use lk_link::relocation::Relocation;
 use lk_link::section::{InputSection, InputSlot};
 use lk_link::text::Text;
 use serde_json::Value;
@@ -167,39 +174,94 @@ fn size_in(slot: InputSlot, size: u64, bytes: &List<u8>) -> u64
     }
 }
 
-#[tactic(auto, unfolding(crate::specs::ReadingSections::input_section_of))]
-impl Described for InputSection {
-    ghost described = { input_section_of };
+/// The large member of a section.
+#[derive(Drop)]
+pub(crate) struct SectionMembers {
+    relocs: Option<Result<List<Relocation>, Text>>,
+}
 
-    fn read(alloc: Global, value: &Value) -> Result<InputSection, InputError> {
-        object(alloc, value)?;
-        let name = defaulted(alloc, value, InputSectionKey::Name, Text::new(alloc))?;
-        let slot = required(alloc, value, InputSectionKey::Slot)?;
-        let part = defaulted(alloc, value, InputSectionKey::Part, PartId::from_u32(0))?;
-        let size = defaulted(alloc, value, InputSectionKey::Size, 0)?;
-        let bytes = data_in(alloc, value, slot)?;
-        let strings = defaulted(alloc, value, InputSectionKey::Strings, false)?;
-        let sorted = defaulted(alloc, value, InputSectionKey::Sorted, false)?;
-        let attrs = defaulted(alloc, value, InputSectionKey::Attrs, 0)?;
-        let group = optional(alloc, value, InputSectionKey::Group)?;
-        let relocs = defaulted(alloc, value, InputSectionKey::Relocs, List::new(alloc))?;
-        let relax = defaulted(alloc, value, InputSectionKey::Relax, List::new(alloc))?;
-        Ok(InputSection {
-            name,
-            slot,
-            part,
-            size: size_in(slot, size, &bytes),
-            bytes,
-            strings,
-            sorted,
-            attrs,
-            group,
-            relocs,
-            relax,
-        })
+impl Large for SectionMembers {
+    ghost is_large = { section_large };
+
+    ghost kept = { section_kept };
+
+    fn none() -> SectionMembers {
+        SectionMembers { relocs: None }
+    }
+
+    fn take(
+        &mut self,
+        alloc: Global,
+        key: &str,
+        reader: &mut Reader<'_>,
+        depth: usize,
+    ) -> Result<bool, Fail> {
+        if key == InputSectionKey::Relocs.text() {
+            reread(alloc, &mut self.relocs, reader, depth)?;
+            Ok(true)
+        } else {
+            Ok(false)
+        }
     }
 }
 
+/// A section, of its large member and the object of the others.
+#[tactic(auto, unfolding(crate::specs::LargeMembers::section_from))]
+fn section_from(
+    alloc: Global,
+    large: SectionMembers,
+    others: &Value,
+) -> Result<InputSection, InputError>
+    ensures { Reads result (section_from large (view others.now)) }
+{
+    let name = defaulted(alloc, others, InputSectionKey::Name, Text::new(alloc))?;
+    let slot = required(alloc, others, InputSectionKey::Slot)?;
+    let part = defaulted(alloc, others, InputSectionKey::Part, PartId::from_u32(0))?;
+    let size = defaulted(alloc, others, InputSectionKey::Size, 0)?;
+    let bytes = data_in(alloc, others, slot)?;
+    let strings = defaulted(alloc, others, InputSectionKey::Strings, false)?;
+    let sorted = defaulted(alloc, others, InputSectionKey::Sorted, false)?;
+    let attrs = defaulted(alloc, others, InputSectionKey::Attrs, 0)?;
+    let group = optional(alloc, others, InputSectionKey::Group)?;
+    let no_relocs = List::new(alloc);
+    let relocs = kept_or(alloc, large.relocs, InputSectionKey::Relocs, no_relocs)?;
+    let relax = defaulted(alloc, others, InputSectionKey::Relax, List::new(alloc))?;
+    Ok(InputSection {
+        name,
+        slot,
+        part,
+        size: size_in(slot, size, &bytes),
+        bytes,
+        strings,
+        sorted,
+        attrs,
+        group,
+        relocs,
+        relax,
+    })
+}
+
+/// The section that begins with this token, if it begins an object.
+#[tactic(auto, using(crate::proofs::Objects::objects))]
+fn stream_section(
+    alloc: Global,
+    token: Token<'_>,
+    reader: &mut Reader<'_>,
+    depth: usize,
+) -> Result<Result<InputSection, Text>, Fail>
+    ensures { Stands as_is result (parse_map input_section_of (data_at depth (token_of token.entry ∷ reader.old))) reader.new }
+{
+    match token {
+        Token::BeginObject => {
+            let depth = deeper(depth)?;
+            let (large, others) = stream_members::<SectionMembers>(alloc, reader, depth)?;
+            settled(section_from(alloc, large, &Value::Object(others)))
+        }
+        token => misfit_from(alloc, token, reader, depth),
+    }
+}
+
+#[tactic(auto, using(crate::proofs::Objects::objects))]
 impl Streamed for InputSection {
     ghost streamed = { input_section_of };
 
@@ -208,7 +270,10 @@ impl Streamed for InputSection {
         reader: &mut Reader<'_>,
         depth: usize,
     ) -> Result<Result<InputSection, Text>, Fail> {
-        stream_value(alloc, reader, depth)
+        match reader.next() {
+            Some(token) => stream_section(alloc, token, reader, depth),
+            None => Err(Fail::NotJson),
+        }
     }
 }
 
