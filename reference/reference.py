@@ -16,11 +16,13 @@ from rules.reading import description
 from rules.refusal import LAID_OUT, UNREADABLE, USAGE, Refusal
 
 LONGEST_INPUT = 1_073_741_824
+# the numbers of workers, as they are written; the answer doesn't depend on them
+WORKERS = [str(number) for number in range(65)]
 
 
 def lines_of(words, data):
     """The lines of the report."""
-    if words != ["layout", "0"]:
+    if len(words) != 2 or words[0] != "layout" or words[1] not in WORKERS:
         raise Refusal(USAGE, "usage: lk_program layout N | gen SEED SIZE")
     if len(data) > LONGEST_INPUT:
         raise Refusal(UNREADABLE, "input is longer than %d bytes" % LONGEST_INPUT)

@@ -12,8 +12,10 @@ use Rattle.lk_run.specs.declared.status.Status.TheVariants.{LaidOut, Refused, Us
 use Rattle.lk_run.specs.declared.words.Command.{Command}
 use Rattle.lk_run.specs.declared.words.Command.TheVariants as commands
 use Rattle.lk_run.specs.Device.{SourceState, SinkState}
-use Rattle.lk_run.specs.Run.{Held, Whole, Longer, IsKept, IsAnswerTo, IsAnswerToReading, IsDefinedFor, Commanded, Uncommanded, IsRun, told_of}
-use Rattle.lk_run.specs.Steps.{IsCommandRun, IsUsageRun, IsFailure}
+use Rattle.lk_run.specs.declared.run.Reading.{Reading}
+use Rattle.lk_run.specs.declared.run.Reading.TheVariants.{Link, Fault}
+use Rattle.lk_run.specs.Run.{Held, Whole, Longer, Holds, IsReadUp, IsKept, IsAnswerTo, IsAnswerToReading, IsDefinedFor, Commanded, Uncommanded, IsRun, told_of}
+use Rattle.lk_run.specs.Steps.{IsReadAs, IsReadingOf, IsLinkToldBy, IsCommandRun, IsLayoutRun, IsUsageRun, IsFailure}
 use Rattle.lk_run.specs.Words.{command_of, usage}
 
 -- what an answer's status may be
@@ -32,9 +34,21 @@ pub told_held : (command : Command) (held : Held) (answer : Answer) → IsAnswer
 told_held (commands.Layout workers) (Whole bytes) answer is = told_reading (reading_of bytes) answer is
 told_held (commands.Layout workers) Longer answer is = inr (inr (ap (λ (a : Answer). a.status) is))
 
--- every command answers what was read
-pub answers_whole : (command : Command) (bytes : List ℕ) (answer : Answer) → IsAnswerToReading (reading_of bytes) answer → IsAnswerTo command (Whole bytes) answer
-answers_whole (commands.Layout workers) bytes answer is = is
+-- what was read of all that the source held
+pub read_whole : (bytes : List ℕ) (reading : Reading) (from to : SourceState) → Holds from.left (Whole bytes) → IsReadUp (Whole bytes) from.left to.left
+    → to.faults ≡ from.faults → IsReadAs (reading_of bytes) reading → IsReadingOf reading from to
+read_whole bytes (Link link) from to holds up faultless read = (
+  λ workers answer is. record { held = Whole bytes; holds = holds; answers = subst (λ r. IsAnswerToReading r answer) (sym read) is; read = up; faultless = faultless },
+  faultless,
+)
+read_whole bytes (Fault answer) from to holds up faultless read =
+    λ workers. record { held = Whole bytes; holds = holds; answers = read; read = up; faultless = faultless }
+
+-- a link that was read, and told
+pub link_run : (link : LinkInput) (from to : SourceState) (before after : SinkState) (status : Status) → IsReadingOf (Link link) from to
+    → IsLinkToldBy status link before after → IsLayoutRun from to before after status
+link_run link from to before after status read (inl told) = λ workers. inl (told.0, read.0 workers told.0 told.1, told.2)
+link_run link from to before after status read (inr failed) = λ workers. inr (subst (λ s. IsFailure s from to) (sym failed.0) read.1, failed.1)
 
 defined : (words : List (List ℕ)) (command : Command) (from to : SourceState) (answer : Answer) → command_of words ≡ Some command → Commanded command from to answer
     → IsDefinedFor words from to answer
@@ -54,7 +68,7 @@ failed_run words from to before after Unreadable command why kept = absurd why
 failed_run words from to before after WriteFault command why kept = absurd why
 
 -- a command that was run
-pub command_run : (words : List (List ℕ)) (command : Command) (from to : SourceState) (before after : SinkState) (status : Status) → command_of words ≡ Some command
+command_run : (words : List (List ℕ)) (command : Command) (from to : SourceState) (before after : SinkState) (status : Status) → command_of words ≡ Some command
     → IsCommandRun command from to before after status → IsRun words from to before after status
 command_run words command from to before after status is (inr failed) = failed_run words from to before after status (is_command words command is) failed.0 failed.1
 command_run words command from to before after status is (inl told) =
@@ -71,6 +85,12 @@ command_run words command from to before after status is (inl told) =
         ]
       ]
     ]
+
+-- `layout N` that was run
+pub layout_run : (words : List (List ℕ)) (command : Command) (from to : SourceState) (before after : SinkState) (status : Status) → command_of words ≡ Some command
+    → IsLayoutRun from to before after status → IsRun words from to before after status
+layout_run words (commands.Layout workers) from to before after status is run =
+    command_run words (commands.Layout workers) from to before after status is (run workers)
 
 -- words that are no command
 pub usage_run : (words : List (List ℕ)) (from : SourceState) (before after : SinkState) (status : Status) → command_of words ≡ None → IsUsageRun before after status

@@ -1,11 +1,16 @@
 -- What the steps of a run do, one after the other; only the private functions of the run cite it.
-use Rattle.std.specs.Prelude.{◌≡◌, ◌<◌, Result, Ok, Err, ◌⊎◌}
+use Rattle.std.specs.Prelude.{◌≡◌, ℕ, ◌<◌, List, length, slice_index, Result, Ok, Err, ◌⊎◌}
+use Rattle.lk_input.specs.declared.read.error.InputError.{InputError}
+use Rattle.lk_link.specs.declared.link.LinkInput.{LinkInput}
 use Rattle.lk_run.specs.declared.answer.Answer.{Answer}
+use Rattle.lk_run.specs.declared.run.Reading.{Reading}
+use Rattle.lk_run.specs.declared.run.Reading.TheVariants.{Link, Fault}
 use Rattle.lk_run.specs.declared.status.Status.{Status}
 use Rattle.lk_run.specs.declared.status.Status.TheVariants.{LaidOut, Refused, Usage, Unreadable, ReadFault, WriteFault, NoMemory}
 use Rattle.lk_run.specs.declared.words.Command.{Command}
+use Rattle.lk_run.specs.declared.words.Command.TheVariants as commands
 use Rattle.lk_run.specs.Device.{SourceState, SinkState}
-use Rattle.lk_run.specs.Run.{Commanded, IsKept, Takes, TakesPrefix}
+use Rattle.lk_run.specs.Run.{IsAnswerToReading, Commanded, IsKept, Takes, TakesPrefix}
 use Rattle.lk_run.specs.Words.{usage}
 
 -- why a command has no answer: the source failed, or memory ran out
@@ -18,15 +23,34 @@ IsFailure Usage from to = ⊥
 IsFailure Unreadable from to = ⊥
 IsFailure WriteFault from to = ⊥
 
--- the answer of a command to what the source held, or the status that tells why it has none
-abbrev pub GivesAnswer : Command → Result Answer Status → SourceState → SourceState → Type 0
-GivesAnswer command (Ok answer) from to = Commanded command from to answer
-GivesAnswer command (Err status) from to = IsFailure status from to
+-- what was read as this gives this reading: the link, or a text that answers it
+abbrev pub IsReadAs : Result LinkInput InputError → Reading → Type 0
+IsReadAs read (Link link) = read ≡ Ok link
+IsReadAs read (Fault answer) = IsAnswerToReading read answer
+
+-- whatever answers the link, or this answer, is the answer of `layout N` to what the source held, which was read without a
+-- fault
+abbrev pub IsReadingOf : Reading → SourceState → SourceState → Type 0
+IsReadingOf (Link link) from to =
+    ((workers : ℕ) (answer : Answer) → IsAnswerToReading (Ok link) answer → Commanded (commands.Layout workers) from to answer)
+    × (to.faults ≡ from.faults)
+IsReadingOf (Fault answer) from to = (workers : ℕ) → Commanded (commands.Layout workers) from to answer
+
+-- a reading of what the source held, or the status that tells why there is none
+abbrev pub GivesReading : Result Reading Status → SourceState → SourceState → Type 0
+GivesReading (Ok reading) from to = IsReadingOf reading from to
+GivesReading (Err status) from to = IsFailure status from to
 
 -- the answer was told: its text is written, or the sink failed on it
 abbrev pub IsToldBy : Status → Answer → SinkState → SinkState → Type 0
 IsToldBy status answer before after =
     ((status ≡ answer.status) × Takes before after answer.text) ⊎ ((status ≡ WriteFault) × TakesPrefix before after answer.text)
+
+-- an answer to the link was told, or memory ran out
+abbrev pub IsLinkToldBy : Status → LinkInput → SinkState → SinkState → Type 0
+IsLinkToldBy status link before after =
+    ((answer : Answer) × IsAnswerToReading (Ok link) answer × IsToldBy status answer before after)
+    ⊎ ((status ≡ NoMemory) × IsKept before after)
 
 -- a command was run
 abbrev pub IsCommandRun : Command → SourceState → SourceState → SinkState → SinkState → Status → Type 0
@@ -34,6 +58,14 @@ IsCommandRun command from to before after status =
     ((answer : Answer) × Commanded command from to answer × IsToldBy status answer before after)
     ⊎ (IsFailure status from to × IsKept before after)
 
+-- `layout N` was run: the same run for every number of workers
+abbrev pub IsLayoutRun : SourceState → SourceState → SinkState → SinkState → Status → Type 0
+IsLayoutRun from to before after status = (workers : ℕ) → IsCommandRun (commands.Layout workers) from to before after status
+
 -- the usage was told
 abbrev pub IsUsageRun : SinkState → SinkState → Status → Type 0
 IsUsageRun before after status = IsToldBy status (record { status = Usage; text = usage }) before after
+
+-- a plus or a zero stands in front of more
+abbrev pub IsPadded : List ℕ → Type 0
+IsPadded word = (1 < length word) × ((slice_index word 0 ≡ 48) ⊎ (slice_index word 0 ≡ 43))

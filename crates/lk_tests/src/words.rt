@@ -1,10 +1,18 @@
 //! Words, statuses, and runs whose words or input are no good.
 
 use crate::rows::{Asked, expect_rows};
-use crate::runs::{told, words_of};
+use crate::runs::{ROOM, told, words_of};
+use lk_link::NoGate;
+use lk_run::memory::MemorySink;
+use lk_run::run::{run, run_alone};
 use lk_run::status::Status;
-use lk_run::words::{Command, read_words};
+use lk_run::sure::{SureSink, SureSource};
+use lk_run::words::read_words;
+use std::alloc::{AllocError, Global};
+use std::str;
+use std::sync::Wait;
 use std::test::Fail;
+use std::thread::Threads;
 
 #[test]
 fn statuses_have_their_numbers(rt: HostRuntime) -> Result<(), Fail> {
@@ -29,10 +37,14 @@ fn statuses_have_their_numbers(rt: HostRuntime) -> Result<(), Fail> {
 }
 
 /// Lines of words that are no command.
-const NO_COMMANDS: &str = "layout 1
-layout 07
+const NO_COMMANDS: &str = "layout 07
 layout 00
+layout 064
+layout +1
+layout -1
 layout 65
+layout 100
+layout 256
 layout
 layout 0 0
 Layout 0
@@ -41,9 +53,7 @@ gen 1 1
 layout 0 gen";
 
 #[test]
-fn only_layout_zero_is_a_command(rt: HostRuntime) -> Result<(), Fail> {
-    let command = read_words(&words_of(rt.alloc(), "layout 0")?);
-    assert_eq!(rt; command, Some(Command::Layout(0)));
+fn other_words_are_no_command(rt: HostRuntime) -> Result<(), Fail> {
     for line in NO_COMMANDS.lines() {
         assert_eq!(rt; read_words(&words_of(rt.alloc(), line)?), None, "{line}");
         let text = told(rt.alloc(), line, "{}")?;
@@ -52,6 +62,49 @@ fn only_layout_zero_is_a_command(rt: HostRuntime) -> Result<(), Fail> {
             "2 usage: lk_program layout N | gen SEED SIZE\n",
             "{line}"
         );
+    }
+    Ok(())
+}
+
+/// The smallest description.
+const SMALLEST: &str = r#"{"plan":{"page":4096},"groups":[[{"kind":"prelude"}]]}"#;
+
+/// What a run with such words reads and writes, over the smallest description: on the caller's own thread, and by workers.
+fn told_twice(
+    rt: &(impl Threads + Wait + Sync),
+    alloc: Global,
+    line: &str,
+) -> Result<String, AllocError> {
+    let words = words_of(alloc, line)?;
+    let mut source = SureSource::new(SMALLEST.as_bytes().to_vec(alloc)?);
+    let mut sink = SureSink::new();
+    let alone = run_alone(alloc, &words, &mut source, &mut sink);
+    let left = source.left().len();
+    let taken = sink.count();
+    let mut source = SureSource::new(SMALLEST.as_bytes().to_vec(alloc)?);
+    let mut sink = MemorySink::new(alloc, ROOM, 7, Vec::new(alloc))?;
+    let ended = run(rt, alloc, &words, &mut source, &mut sink, &NoGate);
+    let text = str::from_utf8(sink.written()).unwrap_or("no text");
+    format!(in alloc; "{alone:?} {left} {taken}, {ended:?} {text}")
+}
+
+/// How many workers are asked for, and how a run on the caller's own thread ends, with the bytes that its source has left
+/// and its sink took.
+const WORKERS: &str = "0 => Some(LaidOut) 0 19
+1 => Some(LaidOut) 0 19
+2 => None 54 0
+10 => None 54 0
+64 => None 54 0";
+
+#[test]
+fn the_number_of_workers_changes_nothing(rt: HostRuntime) -> Result<(), Fail> {
+    for row in WORKERS.lines() {
+        if let Some((workers, alone)) = row.split_once(" => ") {
+            let line = format!(in rt.alloc(); "layout {workers}")?;
+            let want = format!(in rt.alloc(); "{alone}, LaidOut layout\nentry -\nend\n")?;
+            let found = told_twice(&rt, rt.alloc(), line.as_str())?;
+            assert_eq!(rt; found.as_str(), want.as_str(), "{line}");
+        }
     }
     Ok(())
 }

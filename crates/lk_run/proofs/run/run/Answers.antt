@@ -1,7 +1,7 @@
 use Rattle.std.proofs.Common.{map}
 use Rattle.std.specs.String.{string_bytes}
 use Rattle.lk_run.proofs.SoundRuns.{sound_run}
-use Rattle.lk_run.proofs.run.run_soundly.Goals as goal
+use Rattle.lk_run.proofs.run.run.Goals as goal
 
 pub returns-clause-sound : goal.returns-clause-sound
 returns-clause-sound g c =
