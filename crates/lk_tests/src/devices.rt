@@ -2,15 +2,16 @@
 
 ghost use Rattle.std.specs.Prelude.{◌≡◌, IfOk};
 
+use crate::rows::{Asked, add, expect_rows, expect_text};
 use crate::runs::{ROOM, words_of};
 use lk_link::NoGate;
 use lk_run::memory::{MemorySink, MemorySource};
 use lk_run::run::run;
 use lk_run::sink::Sink;
-use lk_run::source::{Failed, Source};
+use lk_run::source::Source;
 use lk_run::standard::{StandardInput, StandardOutput};
 use lk_run::sure::{SureSink, SureSource};
-use lk_run::transfer::{ReadAllError, read_all, write_all};
+use lk_run::transfer::{read_all, write_all};
 use std::alloc::{AllocError, Global};
 use std::io::{Read, Write};
 use std::sync::Wait;
@@ -18,16 +19,16 @@ use std::test::Fail;
 use std::thread::Threads;
 use std::{io, str};
 
-/// The number that a word is; none for other words.
-fn number(word: Option<&str>) -> Option<u64> {
-    word?.parse::<u64>().ok()
+/// The number that a word is; 0 for other words.
+fn number(word: Option<&str>) -> u64 {
+    word.unwrap_or("").parse::<u64>().unwrap_or(0)
 }
 
-/// The list of the number that a word is; an empty one for other words.
+/// The list of the number that a word is; an empty one for a dash.
 fn failing_of(alloc: Global, word: Option<&str>) -> Result<Vec<u64>, AllocError> {
     let mut failing = Vec::new(alloc);
-    if let Some(call) = number(word) {
-        failing.push(call)?;
+    if word != Some("-") {
+        failing.push(number(word))?;
     }
     Ok(failing)
 }
@@ -39,7 +40,7 @@ fn source_of(
     most: Option<&str>,
     failing: Option<&str>,
 ) -> Result<MemorySource, AllocError> {
-    let most = number(most).unwrap_or(1).max(1) as usize;
+    let most = number(most).max(1) as usize;
     let failing = failing_of(alloc, failing)?;
     Ok(MemorySource::new(text.as_bytes().to_vec(alloc)?, most, failing))
 }
@@ -51,8 +52,7 @@ fn sink_of(
     most: Option<&str>,
     failing: Option<&str>,
 ) -> Result<MemorySink, AllocError> {
-    let room = number(room).unwrap_or(0) as usize;
-    let most = number(most).unwrap_or(0) as usize;
+    let (room, most) = (number(room) as usize, number(most) as usize);
     MemorySink::new(alloc, room, most, failing_of(alloc, failing)?)
 }
 
@@ -60,169 +60,175 @@ fn sink_of(
 
 /// How many bytes a read gives at most, which read fails, and how many reads there are: what each gives, with the
 /// buffer behind it; how many bytes are left, and how many reads failed.
-const READS: &str = "3 1 2 => 3abc..... failed........ 2 left, 1 failed
-3 1 4 => 3abc..... failed........ 2de...... 0........ 0 left, 1 failed
-9 - 2 => 5abcde... 0........ 0 left, 0 failed";
+const READS: &str = r#"
+3 1 2 => read (Ok(3), Ok("abc.....")) read (Err(Failed), Ok("........")) left (2, 1)
+3 1 4 => read (Ok(3), Ok("abc.....")) read (Err(Failed), Ok("........")) read (Ok(2), Ok("de......")) read (Ok(0), Ok("........")) left (0, 1)
+9 - 2 => read (Ok(5), Ok("abcde...")) read (Ok(0), Ok("........")) left (0, 0)
+"#;
 
 /// Adds what a read of eight bytes gives.
-fn add_read(text: &mut String, source: &mut MemorySource) -> Result<(), AllocError> {
+fn add_read(line: &mut String, source: &mut MemorySource) -> Result<(), AllocError> {
     let mut buf = [b'.'; 8];
-    match source.read(&mut buf) {
-        Ok(count) => write!(text, "{count}")?,
-        Err(Failed) => text.push_str("failed")?,
-    }
-    for byte in buf {
-        text.push(char::from(byte))?;
-    }
-    text.push(' ')
+    let result = source.read(&mut buf);
+    add(line, "read", &(result, str::from_utf8(&buf)))
 }
 
-/// What becomes of a row.
-fn told_reads(alloc: Global, row: &str) -> Result<String, AllocError> {
-    let mut text = String::new(alloc);
-    let mut words = row.split_whitespace();
-    let mut source = source_of(alloc, "abcde", words.next(), words.next())?;
-    for _ in 0..number(words.next()).unwrap_or(0) {
-        add_read(&mut text, &mut source)?;
+/// Adds what so many reads give, how many bytes are left, and how many reads failed.
+fn add_reads_of(
+    line: &mut String,
+    source: &mut MemorySource,
+    count: u64,
+) -> Result<(), AllocError> {
+    for _ in 0..count {
+        add_read(line, source)?;
     }
-    let (left, faults) = (source.left().len(), source.faults());
-    write!(text, "{left} left, {faults} failed")?;
-    Ok(text)
+    add(line, "left", &(source.left().len(), source.faults()))
+}
+
+/// Adds what becomes of a row.
+pub fn add_reads(alloc: Global, line: &mut String, row: &str) -> Result<(), AllocError> {
+    let mut words = row.split_whitespace();
+    match source_of(alloc, "abcde", words.next(), words.next()) {
+        Ok(mut source) => add_reads_of(line, &mut source, number(words.next())),
+        Err(error) => Err(error),
+    }
 }
 
 #[test]
 fn a_source_gives_bytes_and_fails_where_it_is_to(rt: HostRuntime) -> Result<(), Fail> {
-    for row in READS.lines() {
-        if let Some((row, want)) = row.split_once(" => ") {
-            assert_eq!(rt; told_reads(rt.alloc(), row)?.as_str(), want);
-        }
-    }
-    Ok(())
+    expect_rows(&rt, rt.alloc(), Asked::Reads, READS)
 }
 
-/// How many bytes a read gives at most, which read fails, and the most bytes that are read: what is read of five.
-const WHOLE_INPUTS: &str = "1 - 5 => abcde, 0 failed
-9 - 5 => abcde, 0 failed
-1 9 6 => abcde, 0 failed
-2 1 5 => Failed, 1 failed
-2 0 5 => Failed, 1 failed
-5 1 5 => Failed, 1 failed
-1 - 4 => TooLong, 0 failed
-9 - 0 => TooLong, 0 failed";
+/// How many bytes a read gives at most, which read fails, and the most bytes that are read: what is read of five, of which
+/// `a` is 97, and how many reads failed.
+const WHOLE_INPUTS: &str = "
+1 - 5 => whole (Ok([97, 98, 99, 100, 101]), 0)
+9 - 5 => whole (Ok([97, 98, 99, 100, 101]), 0)
+1 9 6 => whole (Ok([97, 98, 99, 100, 101]), 0)
+2 1 5 => whole (Err(Failed), 1)
+2 0 5 => whole (Err(Failed), 1)
+5 1 5 => whole (Err(Failed), 1)
+1 - 4 => whole (Err(TooLong), 0)
+9 - 0 => whole (Err(TooLong), 0)
+";
 
-/// What becomes of a row.
-fn told_whole(alloc: Global, row: &str) -> Result<String, AllocError> {
+/// Adds what becomes of a row.
+pub fn add_whole(alloc: Global, line: &mut String, row: &str) -> Result<(), AllocError> {
     let mut words = row.split_whitespace();
-    let mut source = source_of(alloc, "abcde", words.next(), words.next())?;
-    let result = read_all(alloc, &mut source, number(words.next()).unwrap_or(0));
-    let faults = source.faults();
-    match result {
-        Ok(bytes) => {
-            let text = str::from_utf8(&bytes).unwrap_or("no text");
-            format!(in alloc; "{text}, {faults} failed")
+    match source_of(alloc, "abcde", words.next(), words.next()) {
+        Ok(mut source) => {
+            let result = read_all(alloc, &mut source, number(words.next()));
+            add(line, "whole", &(result, source.faults()))
         }
-        Err(error) => format!(in alloc; "{error:?}, {faults} failed"),
+        Err(error) => Err(error),
     }
 }
 
 #[test]
 fn short_reads_are_not_the_end_and_failures_are_told(rt: HostRuntime) -> Result<(), Fail> {
-    for row in WHOLE_INPUTS.lines() {
-        if let Some((row, want)) = row.split_once(" => ") {
-            assert_eq!(rt; told_whole(rt.alloc(), row)?.as_str(), want, "{row}");
-        }
-    }
-    Ok(())
+    expect_rows(&rt, rt.alloc(), Asked::Whole, WHOLE_INPUTS)
 }
 
+/// How many bytes there are: whether they are read under a limit of as many, under the greatest, and under one less (or 0).
+const HELD: &str = "
+0 => held (true, true, true)
+1 => held (true, true, false)
+6 => held (true, true, false)
+65535 => held (true, true, false)
+65536 => held (true, true, false)
+200000 => held (true, true, false)
+";
+
 /// Whether so many bytes are read whole under this limit.
-fn is_held(alloc: Global, length: usize, limit: u64) -> Result<bool, AllocError> {
-    let text = vec![in alloc; 7u8; length]?;
+fn is_held(alloc: Global, length: u64, limit: u64) -> Result<bool, AllocError> {
+    let text = vec![in alloc; 7u8; length as usize]?;
     let mut source = SureSource::new(text.clone()?);
-    match read_all(alloc, &mut source, limit) {
-        Ok(bytes) => Ok(bytes == text),
-        Err(error) => Ok(error != ReadAllError::TooLong),
-    }
+    Ok(read_all(alloc, &mut source, limit) == Ok(text))
+}
+
+/// Adds what becomes of a row.
+pub fn add_held(alloc: Global, line: &mut String, row: &str) -> Result<(), AllocError> {
+    let length = number(Some(row));
+    let exact = is_held(alloc, length, length)?;
+    let greatest = is_held(alloc, length, u64::MAX)?;
+    let less = is_held(alloc, length, length.saturating_sub(1))?;
+    add(line, "held", &(exact, greatest, less))
 }
 
 #[test]
 fn inputs_are_read_up_to_the_limit(rt: HostRuntime) -> Result<(), Fail> {
-    for length in [0, 1, 6, 65_535, 65_536, 200_000] {
-        assert!(rt; is_held(rt.alloc(), length, length as u64)?, "{length}");
-        assert!(rt; is_held(rt.alloc(), length, u64::MAX)?, "{length}");
-        assert!(rt;
-            length == 0 || !is_held(rt.alloc(), length, length as u64 - 1)?,
-            "{length}"
-        );
-    }
-    Ok(())
+    expect_rows(&rt, rt.alloc(), Asked::Held, HELD)
 }
 
 // Sinks
 
 /// Whether pieces are written once or whole; the room, how many bytes a write takes at most, and which write fails; the
 /// pieces, of which a dash has no bytes: how each ends, what was taken, and how many writes failed.
-const WRITES: &str = "whole 99 10 1 abcdefghijklm => failed [abcdefghij] 1 failed
-whole 99 10 1 abcdefghijklm klm - => failed taken taken [abcdefghijklm] 1 failed
-whole 5 3 - abcd efg - => taken failed taken [abcde] 1 failed
-whole 99 0 - - a => taken failed [] 1 failed
-once 99 0 - - a - b => 0 0 0 0 [] 2 failed
-once 5 3 1 abcd e ef gh i => 3 failed 2 0 0 [abcef] 3 failed";
+const WRITES: &str = r#"
+whole 99 10 1 abcdefghijklm => whole Err(Failed) taken (Ok("abcdefghij"), 1)
+whole 99 10 1 abcdefghijklm klm - => whole Err(Failed) whole Ok(()) whole Ok(()) taken (Ok("abcdefghijklm"), 1)
+whole 5 3 - abcd efg - => whole Ok(()) whole Err(Failed) whole Ok(()) taken (Ok("abcde"), 1)
+whole 99 0 - - a => whole Ok(()) whole Err(Failed) taken (Ok(""), 1)
+once 99 0 - - a - b => once Ok(0) once Ok(0) once Ok(0) once Ok(0) taken (Ok(""), 2)
+once 5 3 1 abcd e ef gh i => once Ok(3) once Err(Failed) once Ok(2) once Ok(0) once Ok(0) taken (Ok("abcef"), 3)
+"#;
 
 /// Adds how the write of a piece ends.
 fn add_write(
-    text: &mut String,
+    line: &mut String,
     sink: &mut MemorySink,
-    whole: bool,
+    how: &str,
     piece: &str,
 ) -> Result<(), AllocError> {
     let piece = if piece == "-" { "" } else { piece };
-    if whole {
-        return match write_all(sink, piece.as_bytes()) {
-            Ok(()) => text.push_str("taken "),
-            Err(Failed) => text.push_str("failed "),
-        };
-    }
-    match sink.write(piece.as_bytes()) {
-        Ok(count) => write!(text, "{count} "),
-        Err(Failed) => text.push_str("failed "),
+    if how == "whole" {
+        add(line, how, &write_all(sink, piece.as_bytes()))
+    } else {
+        add(line, how, &sink.write(piece.as_bytes()))
     }
 }
 
-/// What becomes of a row.
-fn told_writes(alloc: Global, row: &str) -> Result<String, AllocError> {
-    let mut text = String::new(alloc);
-    let mut words = row.split_whitespace();
-    let whole = words.next() == Some("whole");
-    let mut sink = sink_of(alloc, words.next(), words.next(), words.next())?;
-    for piece in words {
-        add_write(&mut text, &mut sink, whole, piece)?;
+/// Adds how the writes of the pieces of a row end, what was taken, and how many failed.
+fn add_pieces(line: &mut String, sink: &mut MemorySink, row: &str) -> Result<(), AllocError> {
+    let (how, _) = row.split_once(' ').unwrap_or((row, ""));
+    for piece in row.split_whitespace().skip(4) {
+        add_write(line, sink, how, piece)?;
     }
-    let (taken, faults) = (
-        str::from_utf8(sink.written()).unwrap_or("no text"),
-        sink.faults(),
-    );
-    write!(text, "[{taken}] {faults} failed")?;
-    Ok(text)
+    add(
+        line,
+        "taken",
+        &(str::from_utf8(sink.written()), sink.faults()),
+    )
+}
+
+/// Adds what becomes of a row.
+pub fn add_writes(alloc: Global, line: &mut String, row: &str) -> Result<(), AllocError> {
+    let mut words = row.split_whitespace().skip(1);
+    match sink_of(alloc, words.next(), words.next(), words.next()) {
+        Ok(mut sink) => add_pieces(line, &mut sink, row),
+        Err(error) => Err(error),
+    }
 }
 
 #[test]
 fn a_sink_takes_bytes_and_fails_where_it_is_to(rt: HostRuntime) -> Result<(), Fail> {
-    for row in WRITES.lines() {
-        if let Some((row, want)) = row.split_once(" => ") {
-            assert_eq!(rt; told_writes(rt.alloc(), row)?.as_str(), want, "{row}");
-        }
-    }
-    Ok(())
+    expect_rows(&rt, rt.alloc(), Asked::Writes, WRITES)
 }
 
 #[test]
-fn a_sure_sink_takes_everything(rt: HostRuntime) {
+fn a_sure_sink_takes_everything(rt: HostRuntime) -> Result<(), Fail> {
+    let mut line = String::new(rt.alloc());
     let mut sink = SureSink::new();
     for piece in ["abc", "", "de"] {
-        assert_eq!(rt; write_all(&mut sink, piece.as_bytes()), Ok(()));
+        add(&mut line, "piece", &write_all(&mut sink, piece.as_bytes()))?;
     }
-    assert_eq!(rt; sink.count(), 5);
+    add(&mut line, "count", &sink.count())?;
+    expect_text(
+        &rt,
+        line.as_str(),
+        "piece Ok(()) piece Ok(()) piece Ok(()) count 5",
+    );
+    Ok(())
 }
 
 // Readers and writers
@@ -266,88 +272,130 @@ impl Write for Odd {
     }
 }
 
-/// What two reads of such a reader and two writes to such a writer give, and how many failed.
-fn told_odd(alloc: Global, interrupted: u32, fails: bool) -> Result<String, AllocError> {
-    let mut text = String::new(alloc);
+/// How many calls are interrupted, and whether the others fail: what two reads and two writes give, and how many failed.
+const CALLS: &str = "
+0 fails => call (Err(Failed), Err(Failed)) call (Err(Failed), Err(Failed)) failed (2, 2)
+3 moves => call (Ok(0), Ok(0)) call (Ok(0), Ok(0)) failed (0, 0)
+4294967295 moves => call (Err(Failed), Err(Failed)) call (Err(Failed), Err(Failed)) failed (2, 2)
+";
+
+/// Adds what two reads and two writes give, and how many failed.
+fn add_calls_of(
+    line: &mut String,
+    input: &mut StandardInput<Odd>,
+    output: &mut StandardOutput<Odd>,
+) -> Result<(), AllocError> {
+    for _ in 0..2 {
+        add(
+            line,
+            "call",
+            &(input.read(&mut [0u8; 4]), output.write(b"")),
+        )?;
+    }
+    add(line, "failed", &(input.failures(), output.failures()))
+}
+
+/// Adds what becomes of a row.
+pub fn add_calls(line: &mut String, row: &str) -> Result<(), AllocError> {
+    let (count, how) = row.split_once(' ').unwrap_or((row, ""));
+    let (interrupted, fails) = (count.parse::<u32>().unwrap_or(0), how == "fails");
     let mut input = StandardInput::new(Odd { interrupted, fails });
     let mut output = StandardOutput::new(Odd { interrupted, fails });
-    for _ in 0..2 {
-        let (read, written) = (input.read(&mut [0u8; 4]), output.write(b""));
-        write!(text, "{read:?} {written:?} ")?;
-    }
-    let (reads, writes) = (input.failures(), output.failures());
-    write!(text, "{reads} {writes}")?;
-    Ok(text)
+    add_calls_of(line, &mut input, &mut output)
 }
 
 #[test]
 fn failures_are_counted_and_interrupted_calls_tried_again(rt: HostRuntime) -> Result<(), Fail> {
-    let broken = told_odd(rt.alloc(), 0, true)?;
-    assert_eq!(rt;
-        broken.as_str(),
-        "Err(Failed) Err(Failed) Err(Failed) Err(Failed) 2 2"
-    );
-    let interrupted = told_odd(rt.alloc(), 3, false)?;
-    assert_eq!(rt; interrupted.as_str(), "Ok(0) Ok(0) Ok(0) Ok(0) 0 0");
-    let forever = told_odd(rt.alloc(), u32::MAX, false)?;
-    assert_eq!(rt;
-        forever.as_str(),
-        "Err(Failed) Err(Failed) Err(Failed) Err(Failed) 2 2"
-    );
+    expect_rows(&rt, rt.alloc(), Asked::Calls, CALLS)
+}
+
+#[test]
+fn readers_pass_bytes_on(rt: HostRuntime) -> Result<(), Fail> {
+    let mut line = String::new(rt.alloc());
+    let mut whole = StandardInput::new(b"abc".as_slice());
+    add(&mut line, "whole", &read_all(rt.alloc(), &mut whole, 3))?;
+    let mut input = StandardInput::new(rt.reader());
+    add(&mut line, "none", &input.read(&mut []))?;
+    expect_text(&rt, line.as_str(), "whole Ok([97, 98, 99]) none Ok(0)");
     Ok(())
 }
 
 #[test]
-fn readers_and_writers_pass_bytes_on(rt: HostRuntime) {
-    let mut whole = StandardInput::new(b"abc".as_slice());
-    match read_all(rt.alloc(), &mut whole, 3) {
-        Ok(bytes) => assert_eq!(rt; bytes.as_slice(), b"abc".as_slice()),
-        Err(error) => assert!(rt; false, "{error:?}"),
-    }
-    let mut input = StandardInput::new(rt.reader());
-    assert_eq!(rt; input.read(&mut []), Ok(0));
+fn writers_pass_bytes_on(rt: HostRuntime) -> Result<(), Fail> {
+    let mut line = String::new(rt.alloc());
     let mut output = StandardOutput::new(io::writer(&rt));
-    assert_eq!(rt; write_all(&mut output, b"abc\n"), Ok(()));
-    let mut closed = StandardOutput::new(Odd {
-        interrupted: 0,
-        fails: false,
-    });
-    assert_eq!(rt; write_all(&mut closed, b"abc"), Err(Failed));
-    assert_eq!(rt; closed.failures(), 1);
+    add(&mut line, "open", &write_all(&mut output, b"abc\n"))?;
+    let (interrupted, fails) = (0, false);
+    let mut closed = StandardOutput::new(Odd { interrupted, fails });
+    add(&mut line, "closed", &write_all(&mut closed, b"abc"))?;
+    add(&mut line, "failed", &closed.failures())?;
+    expect_text(
+        &rt,
+        line.as_str(),
+        "open Ok(()) closed Err(Failed) failed 1",
+    );
+    Ok(())
 }
 
 // Runs
 
-/// Which read and which write fails: how a run over the smallest description ends, and what was taken.
-const RUNS: &str = "- - => LaidOut 19
-1 - => ReadFault 0
-- 0 => WriteFault 0
-- 1 => WriteFault 10
-0 0 => ReadFault 0";
+/// Which read and which write fails: how a run over the smallest description ends, and how many bytes were taken.
+const RUNS: &str = "
+- - => run (LaidOut, 19)
+1 - => run (ReadFault, 0)
+- 0 => run (WriteFault, 0)
+- 1 => run (WriteFault, 10)
+0 0 => run (ReadFault, 0)
+";
 
-/// What becomes of a row.
-fn told_run(
+/// Adds how a run over these devices ends, and how many bytes were taken.
+fn add_run_over(
     rt: &(impl Threads + Wait + Sync),
     alloc: Global,
+    line: &mut String,
+    source: &mut MemorySource,
+    sink: &mut MemorySink,
+) -> Result<(), AllocError> {
+    match words_of(alloc, "layout 0") {
+        Ok(words) => {
+            let status = run(rt, alloc, &words, source, sink, &NoGate);
+            add(line, "run", &(status, sink.written().len()))
+        }
+        Err(error) => Err(error),
+    }
+}
+
+/// Adds how a run from this source ends.
+fn add_run_from(
+    rt: &(impl Threads + Wait + Sync),
+    alloc: Global,
+    line: &mut String,
+    source: &mut MemorySource,
+    failing: Vec<u64>,
+) -> Result<(), AllocError> {
+    match MemorySink::new(alloc, ROOM, 10, failing) {
+        Ok(mut sink) => add_run_over(rt, alloc, line, source, &mut sink),
+        Err(error) => Err(error),
+    }
+}
+
+/// Adds what becomes of a row.
+pub fn add_run(
+    rt: &(impl Threads + Wait + Sync),
+    alloc: Global,
+    line: &mut String,
     row: &str,
-) -> Result<String, AllocError> {
+) -> Result<(), AllocError> {
     let input = r#"{"plan":{"page":4096},"groups":[[{"kind":"prelude"}]]}"#;
-    let mut ends = row.split_whitespace();
-    let mut source = source_of(alloc, input, Some("20"), ends.next())?;
-    let failing = failing_of(alloc, ends.next())?;
-    let mut sink = MemorySink::new(alloc, ROOM, 10, failing)?;
-    let words = words_of(alloc, "layout 0")?;
-    let ended = run(rt, alloc, &words, &mut source, &mut sink, &NoGate);
-    let taken = sink.written().len();
-    format!(in alloc; "{ended:?} {taken}")
+    let (reads, writes) = row.split_once(' ').unwrap_or((row, ""));
+    let failing = failing_of(alloc, Some(writes))?;
+    match source_of(alloc, input, Some("20"), Some(reads)) {
+        Ok(mut source) => add_run_from(rt, alloc, line, &mut source, failing),
+        Err(error) => Err(error),
+    }
 }
 
 #[test]
 fn faults_of_devices_are_named(rt: HostRuntime) -> Result<(), Fail> {
-    for row in RUNS.lines() {
-        if let Some((row, want)) = row.split_once(" => ") {
-            assert_eq!(rt; told_run(&rt, rt.alloc(), row)?.as_str(), want, "{row}");
-        }
-    }
-    Ok(())
+    expect_rows(&rt, rt.alloc(), Asked::FaultyRun, RUNS)
 }

@@ -1,15 +1,14 @@
 //! Layouts: what is reported, refused, and not carried yet.
 
-ghost use Rattle.std.specs.Prelude.{◌<◌};
+ghost use Rattle.std.specs.Prelude.{◌≡◌, ◌≤◌, true};
 
-use crate::rows::{Asked, expect_rows};
+use crate::rows::{Asked, add, expect_rows};
 use crate::runs::expect_reports;
-use lk_input::read_link;
+use lk_layout::Small64Arch;
 use lk_layout::compute::compute;
-use lk_layout::{LayoutError, Small64Arch};
 use lk_link::{Gate, LinkInput, NoGate, Small64};
 use lk_run::report::report_text;
-use std::alloc::Global;
+use std::alloc::{AllocError, Global};
 use std::sync::Wait;
 use std::test::Fail;
 use std::thread::Threads;
@@ -17,13 +16,13 @@ use std::thread::Threads;
 /// Descriptions with their reports.
 const REPORTED: &str = r#"# The smallest.
 {"plan":{"page":4096},"groups":[[{"kind":"prelude"}]]}
-layout
+0 layout
 entry -
 end
 
 # Three sections in one segment.
 {"plan":{"page":4096,"base":["num",4096],"sections":[{"name":"A","attrs":1,"parts":[[8,false]]},{"name":"B","attrs":1,"parts":[[1,false]]},{"name":"C","attrs":17,"parts":[[16,false]]}],"segments":[{"kind":"load"}],"events":[["seg",0],["sec",0],["sec",1],["sec",2],["endseg",0]]},"groups":[[{"kind":"prelude"}],[{"kind":"object","name":"a.o","sections":[{"slot":"must","part":0,"size":8},{"slot":"must","part":1,"size":7},{"slot":"must","part":2,"size":16}]}]]}
-layout
+0 layout
 section 0 index 0 mem 0x1000 8 file 0x0 8 align 8 lma 0x1000 attrs 1
 section 1 index 1 mem 0x1008 7 file 0x8 7 align 1 lma 0x1008 attrs 1
 section 2 index 2 mem 0x1010 16 file 0xf 0 align 16 lma 0x1010 attrs 17
@@ -39,7 +38,7 @@ end
 
 # The same with much that changes nothing yet.
 {"options":{"gc":false,"error_objects":false,"error_dynamics":false,"export_all":true,"export_list":["a"],"restrictive":true,"strip_all":true,"discard":"all","strip_names":["b"],"identity":"c","stack":9,"branch_range":4194304,"bucket_limit":1,"merge_group":1},"plan":{"page":4096,"base":["num",4096],"sections":[{"name":"A","attrs":1,"parts":[[8,false]],"top":true},{"name":"B","attrs":1,"parts":[[1,true]],"counters":true},{"name":"C","attrs":17,"parts":[[16,false]],"emit":"auto"}],"segments":[{"kind":"load","always":true}],"events":[["seg",0],["sec",0],["sec",1],["sec",2],["endseg",0]]},"groups":[[{"kind":"prelude","candidates":[]}],[{"kind":"object","name":"a.o","archive":true,"export":true,"check":true,"sections":[{"name":"x","slot":"must","part":0,"size":8},{"slot":"must","part":1,"size":7,"relax":[]},{"slot":"must","part":2,"size":16,"strings":true}]}]]}
-layout
+0 layout
 section 0 index 0 mem 0x1000 8 file 0x0 8 align 8 lma 0x1000 attrs 1
 section 1 index 1 mem 0x1008 7 file 0x8 7 align 1 lma 0x1008 attrs 1
 section 2 index 2 mem 0x1010 16 file 0xf 0 align 16 lma 0x1010 attrs 17
@@ -55,7 +54,7 @@ end
 
 # A second load segment.
 {"plan":{"page":4096,"base":["num",4096],"sections":[{"name":"A","attrs":1,"parts":[[8,false]]},{"name":"B","attrs":1,"parts":[[1,false]]}],"segments":[{"kind":"load"},{"kind":"load"}],"events":[["seg",0],["sec",0],["endseg",0],["seg",1],["sec",1],["endseg",1]]},"groups":[[{"kind":"prelude"}],[{"kind":"object","name":"a.o","sections":[{"slot":"must","part":0,"size":8},{"slot":"must","part":1,"size":7}]}]]}
-layout
+0 layout
 section 0 index 0 mem 0x1000 8 file 0x0 8 align 8 lma 0x1000 attrs 1
 section 1 index 1 mem 0x2008 7 file 0x8 7 align 1 lma 0x2008 attrs 1
 part 0 mem 0x1000 8 file 0x0 8 align 8
@@ -69,7 +68,7 @@ end
 
 # An empty section behind one of a byte: it is aligned at 1, and not at its part's alignment.
 {"plan":{"page":16,"sections":[{"attrs":1,"parts":[[1,false]]},{"attrs":1,"parts":[[64,false]]}],"segments":[{"kind":"load"}],"events":[["seg",0],["sec",0],["sec",1],["endseg",0]]},"groups":[[{"kind":"prelude"}],[{"kind":"object","sections":[{"slot":"must","part":0,"size":1}]}]]}
-layout
+0 layout
 section 0 index 0 mem 0x0 1 file 0x0 1 align 1 lma 0x0 attrs 1
 section 1 index - mem 0x1 0 file 0x1 0 align 1 lma 0x1 attrs 1
 part 0 mem 0x0 1 file 0x0 1 align 1
@@ -81,7 +80,7 @@ end
 
 # An unallocated section inside a segment: it counts from 0, and the segment's hull begins there.
 {"plan":{"page":16,"sections":[{"attrs":1,"parts":[[1,false]]},{"attrs":0,"parts":[[1,false]]}],"segments":[{"kind":"load"}],"events":[["seg",0],["sec",0],["sec",1],["endseg",0]],"base":["num",4096]},"groups":[[{"kind":"prelude"}],[{"kind":"object","sections":[{"slot":"must","part":0,"size":4},{"slot":"must","part":1,"size":4}]}]]}
-layout
+0 layout
 section 0 index 0 mem 0x1000 4 file 0x0 4 align 1 lma 0x1000 attrs 1
 section 1 index 1 mem 0x0 4 file 0x4 4 align 1 lma 0x0 attrs 0
 part 0 mem 0x1000 4 file 0x0 4 align 1
@@ -94,7 +93,7 @@ end
 
 # An input section as long as memory, but for a byte.
 {"plan":{"page":1,"base":["num",0],"sections":[{"attrs":1,"parts":[[1,false]]}],"segments":[{"kind":"load"}],"events":[["seg",0],["sec",0],["endseg",0]]},"groups":[[{"kind":"prelude"}],[{"kind":"object","sections":[{"slot":"must","size":18446744073709551615}]}]]}
-layout
+0 layout
 section 0 index 0 mem 0x0 18446744073709551615 file 0x0 18446744073709551615 align 1 lma 0x0 attrs 1
 part 0 mem 0x0 18446744073709551615 file 0x0 18446744073709551615 align 1
 segment 0 mem 0x0 18446744073709551615 file 0x0 18446744073709551615 align 1
@@ -104,7 +103,7 @@ end
 
 # Sections with an alignment of their own: with bytes
 {"options":{"stack":7},"plan":{"page":16,"sections":[{"attrs":1,"parts":[[1,false]]},{"attrs":1,"align":64,"parts":[[8,false],[1,false]]}],"segments":[{"kind":"load"}],"events":[["seg",0],["sec",0],["sec",1],["endseg",0]]},"groups":[[{"kind":"prelude"}],[{"kind":"object","sections":[{"slot":"must","size":1},{"slot":"must","part":1,"size":8},{"slot":"must","part":2,"size":3}]}]]}
-layout
+0 layout
 section 0 index 0 mem 0x0 1 file 0x0 1 align 1 lma 0x0 attrs 1
 section 1 index 1 mem 0x40 11 file 0x40 11 align 64 lma 0x40 attrs 1
 part 0 mem 0x0 1 file 0x0 1 align 1
@@ -119,7 +118,7 @@ end
 
 # and without.
 {"options":{"stack":7},"plan":{"page":16,"sections":[{"attrs":1,"parts":[[1,false]]},{"attrs":1,"align":64,"parts":[[1,false]]},{"attrs":1,"parts":[[1,false]]}],"segments":[{"kind":"load"}],"events":[["seg",0],["sec",0],["sec",1],["sec",2],["endseg",0]]},"groups":[[{"kind":"prelude"}],[{"kind":"object","sections":[{"slot":"must","size":1},{"slot":"must","part":2,"size":1}]}]]}
-layout
+0 layout
 section 0 index 0 mem 0x0 1 file 0x0 1 align 1 lma 0x0 attrs 1
 section 1 index - mem 0x40 0 file 0x40 0 align 64 lma 0x40 attrs 1
 section 2 index 1 mem 0x40 1 file 0x40 1 align 1 lma 0x40 attrs 1
@@ -134,7 +133,7 @@ end
 
 # Input sections whose sizes are rounded up to the part's alignment,
 {"options":{"stack":7},"plan":{"page":16,"sections":[{"attrs":1,"parts":[[8,false]]}],"segments":[{"kind":"load"}],"events":[["seg",0],["sec",0],["endseg",0]]},"groups":[[{"kind":"prelude"}],[{"kind":"object","sections":[{"slot":"must","size":7},{"slot":"must"},{"slot":"must","size":8}]}]]}
-layout
+0 layout
 section 0 index 0 mem 0x0 16 file 0x0 16 align 8 lma 0x0 attrs 1
 part 0 mem 0x0 16 file 0x0 16 align 8
 segment 0 mem 0x0 16 file 0x0 16 align 8
@@ -146,7 +145,7 @@ end
 
 # and such as are packed.
 {"options":{"stack":7},"plan":{"page":16,"sections":[{"attrs":1,"parts":[[8,true]]}],"segments":[{"kind":"load"}],"events":[["seg",0],["sec",0],["endseg",0]]},"groups":[[{"kind":"prelude"}],[{"kind":"object","sections":[{"slot":"must","size":7},{"slot":"must","size":8}]}]]}
-layout
+0 layout
 section 0 index 0 mem 0x0 15 file 0x0 15 align 8 lma 0x0 attrs 1
 part 0 mem 0x0 15 file 0x0 15 align 8
 segment 0 mem 0x0 15 file 0x0 15 align 8
@@ -157,7 +156,7 @@ end
 
 # A section that is never emitted, with bytes
 {"options":{"stack":7},"plan":{"page":16,"sections":[{"attrs":1,"parts":[[1,false]],"emit":"never"},{"attrs":1,"parts":[[1,false]]}],"segments":[{"kind":"load"}],"events":[["seg",0],["sec",0],["sec",1],["endseg",0]]},"groups":[[{"kind":"prelude"}],[{"kind":"object","sections":[{"slot":"must","size":3},{"slot":"must","part":1,"size":2}]}]]}
-layout
+0 layout
 section 0 index - mem 0x0 3 file 0x0 3 align 1 lma 0x0 attrs 1
 section 1 index 0 mem 0x3 2 file 0x3 2 align 1 lma 0x3 attrs 1
 part 0 mem 0x0 3 file 0x0 3 align 1
@@ -170,7 +169,7 @@ end
 
 # and without.
 {"options":{"stack":7},"plan":{"page":16,"sections":[{"attrs":1,"parts":[[1,false]],"emit":"never"},{"attrs":1,"parts":[[1,false]]}],"segments":[{"kind":"load"}],"events":[["sec",0],["seg",0],["sec",1],["endseg",0]]},"groups":[[{"kind":"prelude"}],[{"kind":"object","sections":[{"slot":"must"},{"slot":"must","part":1,"size":2}]}]]}
-layout
+0 layout
 section 0 index - mem 0x0 0 file 0x0 0 align 1 lma 0x0 attrs 1
 section 1 index 0 mem 0x0 2 file 0x0 2 align 1 lma 0x0 attrs 1
 part 0 mem 0x0 0 file 0x0 0 align 1
@@ -183,7 +182,7 @@ end
 
 # One that always is, without bytes.
 {"options":{"stack":7},"plan":{"page":16,"sections":[{"attrs":1,"parts":[[8,false]],"emit":"always"}],"segments":[{"kind":"load"}],"events":[["seg",0],["sec",0],["endseg",0]]},"groups":[[{"kind":"prelude"}],[{"kind":"object","sections":[]}]]}
-layout
+0 layout
 section 0 index 0 mem 0x0 0 file 0x0 0 align 1 lma 0x0 attrs 1
 part 0 mem 0x0 0 file 0x0 0 align 1
 segment 0 mem 0x0 0 file 0x0 0 align 1
@@ -192,7 +191,7 @@ end
 
 # One for an input section without bytes.
 {"options":{"stack":7},"plan":{"page":16,"sections":[{"attrs":1,"parts":[[8,false]]}],"segments":[{"kind":"load"}],"events":[["seg",0],["sec",0],["endseg",0]]},"groups":[[{"kind":"prelude"}],[{"kind":"object","sections":[{"slot":"must"}]}]]}
-layout
+0 layout
 section 0 index 0 mem 0x0 0 file 0x0 0 align 1 lma 0x0 attrs 1
 part 0 mem 0x0 0 file 0x0 0 align 1
 segment 0 mem 0x0 0 file 0x0 0 align 1
@@ -202,7 +201,7 @@ end
 
 # A stack segment around a section, and one that always is active.
 {"options":{"stack":7},"plan":{"page":16,"sections":[{"attrs":1,"parts":[[64,false]]}],"segments":[{"kind":"stack"},{"kind":"other","always":true}],"events":[["seg",0],["sec",0],["endseg",0],["seg",1],["endseg",1]]},"groups":[[{"kind":"prelude"}],[{"kind":"object","sections":[{"slot":"must","size":3}]}]]}
-layout
+0 layout
 section 0 index 0 mem 0x0 64 file 0x0 64 align 64 lma 0x0 attrs 1
 part 0 mem 0x0 64 file 0x0 64 align 64
 segment 0 mem 0x0 7 file 0x0 0 align 1
@@ -213,7 +212,7 @@ end
 
 # One without an emitted section.
 {"options":{"stack":7},"plan":{"page":16,"sections":[{"attrs":1,"parts":[[1,false]],"emit":"never"}],"segments":[{"kind":"other"}],"events":[["seg",0],["sec",0],["endseg",0]]},"groups":[[{"kind":"prelude"}],[{"kind":"object","sections":[{"slot":"must","size":3}]}]]}
-layout
+0 layout
 section 0 index - mem 0x0 3 file 0x0 3 align 1 lma 0x0 attrs 1
 part 0 mem 0x0 3 file 0x0 3 align 1
 live 1 0 0 0x0 3
@@ -222,7 +221,7 @@ end
 
 # One that moves no memory.
 {"options":{"stack":7},"plan":{"page":16,"sections":[{"attrs":1,"parts":[[8,false]]},{"attrs":1,"parts":[[1,false]]}],"segments":[{"kind":"load"},{"kind":"other"}],"events":[["seg",0],["sec",0],["endseg",0],["seg",1],["sec",1],["endseg",1]]},"groups":[[{"kind":"prelude"}],[{"kind":"object","sections":[{"slot":"must","size":8},{"slot":"must","part":1,"size":7}]}]]}
-layout
+0 layout
 section 0 index 0 mem 0x0 8 file 0x0 8 align 8 lma 0x0 attrs 1
 section 1 index 1 mem 0x8 7 file 0x8 7 align 1 lma 0x8 attrs 1
 part 0 mem 0x0 8 file 0x0 8 align 8
@@ -236,7 +235,7 @@ end
 
 # Written data and code in one output section, and written data in another.
 {"options":{"stack":7},"plan":{"page":16,"sections":[{"attrs":1,"parts":[[8,false],[1,false]]},{"attrs":17,"parts":[[1,false]]}],"segments":[{"kind":"load"}],"events":[["seg",0],["sec",0],["sec",1],["endseg",0]]},"groups":[[{"kind":"prelude"}],[{"kind":"object","sections":[{"slot":"must","size":8,"attrs":2},{"slot":"must","part":1,"attrs":4},{"slot":"must","part":2,"size":2,"attrs":2}]}]]}
-layout
+0 layout
 section 0 index 0 mem 0x0 8 file 0x0 8 align 8 lma 0x0 attrs 7
 section 1 index 1 mem 0x8 2 file 0x8 0 align 1 lma 0x8 attrs 19
 part 0 mem 0x0 8 file 0x0 8 align 8
@@ -264,6 +263,10 @@ const REFUSED: &str = r#"
 {"plan":{"page":1},"groups":[[],[{"kind":"prelude"}]]} => 1 bad link: rule 9, file 0 0
 {"options":{"stack":7},"plan":{"page":16,"sections":[{"attrs":1,"parts":[[1,false]],"emit":"never"},{"attrs":1,"parts":[[1,false]]}],"segments":[{"kind":"load"}],"events":[["sec",0],["seg",0],["sec",1],["endseg",0]]},"groups":[[{"kind":"prelude"}],[{"kind":"object","sections":[{"slot":"must","size":3},{"slot":"must","part":1,"size":2}]}]]} => 1 section 0 is in no segment
 {"options":{"stack":7},"plan":{"page":16,"sections":[{"attrs":1,"parts":[[8,false]],"emit":"always"}],"segments":[],"events":[["sec",0]]},"groups":[[{"kind":"prelude"}],[{"kind":"object","sections":[]}]]} => 1 section 0 is in no segment
+# One output section too many, the third section of an object out of its part, and the fourth part past the greatest.
+{"plan":{"page":1,"sections":[«65537 of {}»]}} => 1 too many output sections: 65537, limit 65279
+{"plan":{"page":1,"sections":[{"parts":[[1,false]]}],"events":[["sec",0]]},"groups":[[{"kind":"prelude"}],[{"kind":"object","sections":[{"slot":"must"},{"slot":"must"},{"slot":"must","part":1}]}]]} => 1 bad link: rule 11, input 1 0 2
+{"plan":{"page":1,"sections":[{"attrs":1,"parts":[[8,false],[4,false],[2,false],[1,false]]}],"segments":[{"kind":"load"}],"events":[["seg",0],["sec",0],["endseg",0]]},"groups":[[{"kind":"prelude"}],[{"kind":"object","sections":[{"slot":"must","part":3,"size":18446744073709551615},{"slot":"must","part":3,"size":1}]}]]} => 1 address overflow: part 3
 # What is not carried: from the options to the symbols of the prelude,
 @ {"plan":{"page":16,"sections":[{"parts":[[1,false]]}],"events":[["sec",0]]},"options":{...]}]]}
 "output":"dynamic"},"groups":[[{"kind":"prelude","symbols":[ => 1 not carried: output
@@ -327,64 +330,55 @@ fn refusals_are_told(rt: HostRuntime) -> Result<(), Fail> {
     expect_rows(&rt, rt.alloc(), Asked::Run, REFUSED)
 }
 
-/// Two sections in segments of their own.
-const TWO_SEGMENTS: &str =
-    r#"{"plan":{"page":4096,"base":["num",4096],"sections":[{"attrs":1,"parts":[[8,false]]},{"attrs":1,"parts":[[1,false]]}],"segments":[{"kind":"load"},{"kind":"load"}],"events":[["seg",0],["sec",0],["endseg",0],["seg",1],["sec",1],["endseg",1]]},"groups":[[{"kind":"prelude"}],[{"kind":"object","sections":[{"slot":"must","size":8},{"slot":"must","part":1,"size":7}]}]]}"#;
+/// Two sections in segments of their own: the report of as many workers as are told, and of one behind a gate that it may
+/// not enter.
+const TWO_SEGMENTS: &str = r#"
+{"plan":{"page":4096,"base":["num",4096],"sections":[{"attrs":1,"parts":[[8,false]]},{"attrs":1,"parts":[[1,false]]}],"segments":[{"kind":"load"},{"kind":"load"}],"events":[["seg",0],["sec",0],["endseg",0],["seg",1],["sec",1],["endseg",1]]},"groups":[[{"kind":"prelude"}],[{"kind":"object","sections":[{"slot":"must","size":8},{"slot":"must","part":1,"size":7}]}]]} => none "layout\nsection 0 index 0 mem 0x1000 8 file 0x0 8 align 8 lma 0x1000 attrs 1\nsection 1 index 1 mem 0x2008 7 file 0x8 7 align 1 lma 0x2008 attrs 1\npart 0 mem 0x1000 8 file 0x0 8 align 8\npart 1 mem 0x2008 7 file 0x8 7 align 1\nsegment 0 mem 0x1000 8 file 0x0 8 align 8\nsegment 1 mem 0x2008 7 file 0x8 7 align 1\nlive 1 0 0 0x1000 8\nlive 1 0 1 0x2008 7\nentry -\nend\n" one "layout\nsection 0 index 0 mem 0x1000 8 file 0x0 8 align 8 lma 0x1000 attrs 1\nsection 1 index 1 mem 0x2008 7 file 0x8 7 align 1 lma 0x2008 attrs 1\npart 0 mem 0x1000 8 file 0x0 8 align 8\npart 1 mem 0x2008 7 file 0x8 7 align 1\nsegment 0 mem 0x1000 8 file 0x0 8 align 8\nsegment 1 mem 0x2008 7 file 0x8 7 align 1\nlive 1 0 0 0x1000 8\nlive 1 0 1 0x2008 7\nentry -\nend\n" eight "layout\nsection 0 index 0 mem 0x1000 8 file 0x0 8 align 8 lma 0x1000 attrs 1\nsection 1 index 1 mem 0x2008 7 file 0x8 7 align 1 lma 0x2008 attrs 1\npart 0 mem 0x1000 8 file 0x0 8 align 8\npart 1 mem 0x2008 7 file 0x8 7 align 1\nsegment 0 mem 0x1000 8 file 0x0 8 align 8\nsegment 1 mem 0x2008 7 file 0x8 7 align 1\nlive 1 0 0 0x1000 8\nlive 1 0 1 0x2008 7\nentry -\nend\n" alone "layout\nsection 0 index 0 mem 0x1000 8 file 0x0 8 align 8 lma 0x1000 attrs 1\nsection 1 index 1 mem 0x2008 7 file 0x8 7 align 1 lma 0x2008 attrs 1\npart 0 mem 0x1000 8 file 0x0 8 align 8\npart 1 mem 0x2008 7 file 0x8 7 align 1\nsegment 0 mem 0x1000 8 file 0x0 8 align 8\nsegment 1 mem 0x2008 7 file 0x8 7 align 1\nlive 1 0 0 0x1000 8\nlive 1 0 1 0x2008 7\nentry -\nend\n"
+"#;
 
-const TWO_SEGMENTS_REPORT: &str = "layout\n\
-    section 0 index 0 mem 0x1000 8 file 0x0 8 align 8 lma 0x1000 attrs 1\n\
-    section 1 index 1 mem 0x2008 7 file 0x8 7 align 1 lma 0x2008 attrs 1\n\
-    part 0 mem 0x1000 8 file 0x0 8 align 8\n\
-    part 1 mem 0x2008 7 file 0x8 7 align 1\n\
-    segment 0 mem 0x1000 8 file 0x0 8 align 8\n\
-    segment 1 mem 0x2008 7 file 0x8 7 align 1\n\
-    live 1 0 0 0x1000 8\n\
-    live 1 0 1 0x2008 7\n\
-    entry -\n\
-    end\n";
-
-/// A gate that nobody may enter.
+/// A gate that may be entered while it is open.
 #[derive(Drop)]
-struct Shut;
+struct Door {
+    is_open: bool,
+}
 
-impl Gate for Shut {
-    ghost may_enter = { λ _. ⊥ };
+impl Gate for Door {
+    ghost may_enter = { λ door. door.is_open ≡ true };
 
     fn enter(&self, _group: u32) {}
 }
 
-/// The report of the layout that at most one worker makes.
-fn told_alone(
-    rt: &(impl Threads + Wait + Sync),
+/// The report of the layout that so many workers make, behind a gate that two or more of them may enter.
+fn told_layout<R: Threads + Wait + Sync, G: Gate + Sync>(
+    rt: &R,
     alloc: Global,
     link: &LinkInput,
     workers: u32,
-) -> Result<String, LayoutError>
-    requires { workers < 2 }
+    gate: &G,
+) -> Result<String, AllocError>
+    requires { 2 ≤ workers → G.may_enter gate.now }
 {
-    let layout = compute(rt, alloc, link, &Small64, &Small64Arch, workers, &Shut)?;
-    Ok(report_text(alloc, link, &layout)?)
+    match compute(rt, alloc, link, &Small64, &Small64Arch, workers, gate) {
+        Ok(layout) => report_text(alloc, link, &layout),
+        Err(error) => format!(in alloc; "{error:?}"),
+    }
 }
 
-/// The report of the layout that so many workers make.
-fn told_layout(
+/// Adds the reports that workers make.
+pub fn add_workers(
     rt: &(impl Threads + Wait + Sync),
     alloc: Global,
+    line: &mut String,
     link: &LinkInput,
-    workers: u32,
-) -> Result<String, LayoutError> {
-    let layout = compute(rt, alloc, link, &Small64, &Small64Arch, workers, &NoGate)?;
-    Ok(report_text(alloc, link, &layout)?)
+) -> Result<(), AllocError> {
+    for (word, workers) in [("none", 0), ("one", 1), ("eight", 8)] {
+        add(line, word, &told_layout(rt, alloc, link, workers, &NoGate)?)?;
+    }
+    let shut = Door { is_open: false };
+    add(line, "alone", &told_layout(rt, alloc, link, 1, &shut)?)
 }
 
 #[test]
 fn every_number_of_workers_lays_out(rt: HostRuntime) -> Result<(), Fail> {
-    let link = read_link(rt.alloc(), TWO_SEGMENTS.as_bytes())?;
-    for workers in [0, 1, 8] {
-        let report = told_layout(&rt, rt.alloc(), &link, workers)?;
-        assert_eq!(rt; report.as_str(), TWO_SEGMENTS_REPORT);
-    }
-    let alone = told_alone(&rt, rt.alloc(), &link, 1)?;
-    assert_eq!(rt; alone.as_str(), TWO_SEGMENTS_REPORT);
-    Ok(())
+    expect_rows(&rt, rt.alloc(), Asked::Workers, TWO_SEGMENTS)
 }

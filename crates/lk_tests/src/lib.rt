@@ -20,6 +20,8 @@ mod rows;
 #[cfg(test)]
 mod runs;
 #[cfg(test)]
+mod shown;
+#[cfg(test)]
 mod sizes;
 #[cfg(test)]
 mod texts;

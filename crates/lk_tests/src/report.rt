@@ -1,16 +1,18 @@
 //! The report of a layout with gaps, built by hand.
 
-use lk_input::read_link;
+use crate::rows::{Asked, add, expect_rows};
+use crate::shown::Shown;
 use lk_layout::{Layout, LiveSection};
-use lk_link::{Alignment, FileId, List, SegmentId};
+use lk_link::{Alignment, FileId, LinkInput, List, SegmentId};
 use lk_place::{OutputRecordLayout, SegmentLayout};
 use lk_run::report::report_text;
 use std::alloc::{AllocError, Global};
 use std::test::Fail;
 
 /// Sections of two, three, no and two parts.
-const MANY: &str =
-    r#"{"plan":{"page":16,"sections":[{"parts":[[2,false],[1,false]]},{"parts":[[4,false],[2,false],[1,false]]},{},{"parts":[[2,false],[1,false]]}]},"groups":[]}"#;
+const MANY: &str = r#"
+{"plan":{"page":16,"sections":[{"parts":[[2,false],[1,false]]},{"parts":[[4,false],[2,false],[1,false]]},{},{"parts":[[2,false],[1,false]]}]},"groups":[]} => report "layout\nsection 0 index - mem 0x0 0 file 0x0 0 align 1 lma 0x0 attrs 1\nsection 1 index 0 mem 0xabcd 3 file 0xa 3 align 1 lma 0xabcd attrs 3\npart 0 mem 0x0 0 file 0x0 0 align 1\npart 3 mem 0xabcd 3 file 0xa 3 align 1\nsegment 7 mem 0xabcd 3 file 0xa 3 align 1\nlive 1 0 2 0x1010 16\nentry -\nend\n"
+"#;
 
 /// The record of three bytes at an address and an offset, or of nothing.
 fn record_of(is_some: bool) -> OutputRecordLayout {
@@ -25,13 +27,9 @@ fn record_of(is_some: bool) -> OutputRecordLayout {
     }
 }
 
-/// A record for each sign: `+` has bytes, another has none.
-fn records_of(alloc: Global, signs: &str) -> Result<List<OutputRecordLayout>, AllocError> {
-    let mut records = Vec::new(alloc);
-    for sign in signs.chars() {
-        records.push(record_of(sign == '+'))?;
-    }
-    Ok(List::from_vec(records))
+/// A list of these.
+fn list_of<T: Copy>(alloc: Global, items: &[T]) -> Result<List<T>, AllocError> {
+    Ok(List::from_vec(Vec::from_slice(alloc, items)?))
 }
 
 /// A segment over the record with bytes.
@@ -52,37 +50,55 @@ fn live_section() -> LiveSection {
     }
 }
 
-/// A layout of three sections and five parts, with attributes of two sections, a segment, and a live section.
-fn short_layout(alloc: Global) -> Result<Layout, AllocError> {
-    Ok(Layout {
-        section_layouts: records_of(alloc, "-+-")?,
-        section_part_layouts: records_of(alloc, "---+-")?,
-        section_attributes: List::from_vec(Vec::from_slice(alloc, &[1, 3])?),
-        output_section_indexes: List::from_vec(Vec::from_slice(alloc, &[None, Some(0), None])?),
-        segment_layouts: List::from_vec(vec![in alloc; segment(); 1]?),
-        live_sections: List::from_vec(vec![in alloc; live_section(); 1]?),
-    })
+/// A layout of nothing.
+fn empty_layout(alloc: Global) -> Layout {
+    Layout {
+        section_layouts: List::new(alloc),
+        section_part_layouts: List::new(alloc),
+        section_attributes: List::new(alloc),
+        output_section_indexes: List::new(alloc),
+        segment_layouts: List::new(alloc),
+        live_sections: List::new(alloc),
+    }
 }
 
-/// The report of a link and a layout that isn't its own.
-fn report_of(alloc: Global, link: &str, layout: &Layout) -> Result<String, Fail> {
-    let link = read_link(alloc, link.as_bytes())?;
-    Ok(report_text(alloc, &link, layout)?)
+/// Gives a layout the records of three sections and five parts, and attributes and indexes of sections.
+fn fill_sections(alloc: Global, layout: &mut Layout) -> Result<(), AllocError> {
+    let (none, some) = (record_of(false), record_of(true));
+    layout.section_layouts = list_of(alloc, &[none, some, none])?;
+    layout.section_part_layouts = list_of(alloc, &[none, none, none, some, none])?;
+    layout.section_attributes = list_of(alloc, &[1, 3])?;
+    layout.output_section_indexes = list_of(alloc, &[None, Some(0), None])?;
+    Ok(())
+}
+
+/// Gives a layout a segment and a live section.
+fn fill_others(alloc: Global, layout: &mut Layout) -> Result<(), AllocError> {
+    layout.segment_layouts = list_of(alloc, &[segment()])?;
+    layout.live_sections = list_of(alloc, &[live_section()])?;
+    Ok(())
+}
+
+/// Adds the report of that layout over a link.
+fn add_layout(
+    alloc: Global,
+    line: &mut String,
+    link: &LinkInput,
+    layout: &mut Layout,
+) -> Result<(), AllocError> {
+    fill_sections(alloc, layout)?;
+    fill_others(alloc, layout)?;
+    add(line, "report", &report_text(alloc, link, layout)?)
+}
+
+/// Adds the report of a layout that isn't the link's own: of three sections and five parts, with attributes of two sections,
+/// a segment, and a live section.
+pub fn add_report(alloc: Global, line: &mut String, link: &LinkInput) -> Result<(), AllocError> {
+    let mut layout = empty_layout(alloc);
+    add_layout(alloc, line, link, &mut layout)
 }
 
 #[test]
 fn parts_without_bytes_and_missing_records(rt: HostRuntime) -> Result<(), Fail> {
-    let layout = short_layout(rt.alloc())?;
-    let text = report_of(rt.alloc(), MANY, &layout)?;
-    let want = "layout\n\
-        section 0 index - mem 0x0 0 file 0x0 0 align 1 lma 0x0 attrs 1\n\
-        section 1 index 0 mem 0xabcd 3 file 0xa 3 align 1 lma 0xabcd attrs 3\n\
-        part 0 mem 0x0 0 file 0x0 0 align 1\n\
-        part 3 mem 0xabcd 3 file 0xa 3 align 1\n\
-        segment 7 mem 0xabcd 3 file 0xa 3 align 1\n\
-        live 1 0 2 0x1010 16\n\
-        entry -\n\
-        end\n";
-    assert_eq!(rt; text.as_str(), want);
-    Ok(())
+    expect_rows(&rt, rt.alloc(), Asked::Of(Shown::Report), MANY)
 }

@@ -1,12 +1,17 @@
 //! Runs over devices in memory.
 
+use crate::rows::{add, expect_text};
+use lk_link::NoGate;
 use lk_run::memory::{MemorySink, MemorySource};
-use lk_run::run::run_alone;
+use lk_run::run::{run, run_alone};
 use lk_run::status::Status;
+use lk_run::words::read_words;
 use std::alloc::{AllocError, Global};
 use std::process::Abort;
 use std::str;
+use std::sync::Wait;
 use std::test::Fail;
+use std::thread::Threads;
 
 /// More than any text here takes.
 pub const ROOM: usize = 65536;
@@ -20,44 +25,80 @@ pub fn words_of(alloc: Global, line: &str) -> Result<Vec<String>, AllocError> {
     Ok(words)
 }
 
-/// The status with which the words end over an input that is read by 100 bytes, and the text that the sink has taken,
-/// seven bytes at a time.
-pub fn told(alloc: Global, line: &str, input: &str) -> Result<String, AllocError> {
-    let words = words_of(alloc, line)?;
+/// The status of a run, and the text that its sink has taken, without the end of its last line.
+fn told_end(
+    alloc: Global,
+    status: Option<Status>,
+    sink: &MemorySink,
+) -> Result<String, AllocError> {
+    let text = str::from_utf8(sink.written()).unwrap_or("no text");
+    let text = text.strip_suffix('\n').unwrap_or("no line");
+    match status {
+        Some(status) => format!(in alloc; "{code} {text}", code = status.code()),
+        None => format!(in alloc; "no end"),
+    }
+}
+
+/// The status with which the words end over an input that is read by 100 bytes, and the text that the sink has taken, seven
+/// bytes at a time, without the end of its last line.
+fn told(alloc: Global, words: &[String], input: &str) -> Result<String, AllocError> {
     let mut source = MemorySource::new(input.as_bytes().to_vec(alloc)?, 100, Vec::new(alloc));
     let mut sink = MemorySink::new(alloc, ROOM, 7, Vec::new(alloc))?;
-    let Some(status) = run_alone(alloc, &words, &mut source, &mut sink) else {
-        return format!(in alloc; "no end");
-    };
-    let code = status.code();
-    match str::from_utf8(sink.written()) {
-        Ok(text) => format!(in alloc; "{code} {text}"),
-        Err(_) => format!(in alloc; "{code} and no text"),
+    let status = run_alone(alloc, words, &mut source, &mut sink);
+    told_end(alloc, status, &sink)
+}
+
+/// The same of a run by as many workers as the words ask for.
+pub fn told_by_workers(
+    rt: &(impl Threads + Wait + Sync),
+    alloc: Global,
+    words: &[String],
+    input: &str,
+) -> Result<String, AllocError> {
+    let mut source = MemorySource::new(input.as_bytes().to_vec(alloc)?, 100, Vec::new(alloc));
+    let mut sink = MemorySink::new(alloc, ROOM, 7, Vec::new(alloc))?;
+    let status = run(rt, alloc, words, &mut source, &mut sink, &NoGate);
+    told_end(alloc, Some(status), &sink)
+}
+
+/// How `layout 0` ends over an input.
+fn ended(alloc: Global, input: &str) -> Result<String, AllocError> {
+    told(alloc, &words_of(alloc, "layout 0")?, input)
+}
+
+/// Adds how `layout 0` ends over an input.
+pub fn add_end(alloc: Global, line: &mut String, input: &str) -> Result<(), AllocError> {
+    line.push_str(ended(alloc, input)?.as_str())
+}
+
+/// Adds the command that the words of a row are, and how they end over `{}`.
+pub fn add_words(alloc: Global, line: &mut String, row: &str) -> Result<(), AllocError> {
+    let words = words_of(alloc, row)?;
+    add(line, "command", &read_words(&words))?;
+    add(line, "ends", &told(alloc, &words, "{}")?)
+}
+
+/// A block without the remark above it.
+fn without_remark(block: &'static str) -> &'static str {
+    match block.split_once('\n') {
+        Some((remark, rest)) if remark.starts_with('#') => rest,
+        _ => block,
     }
 }
 
-/// The same of `layout 0`, where the text is a line, without its end.
-pub fn ended(alloc: Global, input: &str) -> Result<String, AllocError> {
-    let text = told(alloc, "layout 0", input)?;
-    match text.as_str().strip_suffix('\n') {
-        Some(line) => String::from_str(alloc, line),
-        None => format!(in alloc; "no line: {text}"),
-    }
+/// A block as it is to be: its description, and below it how a run over that ends.
+fn told_block(alloc: Global, block: &str) -> Result<String, AllocError> {
+    let (input, _) = block.split_once('\n').unwrap_or((block, ""));
+    let told = ended(alloc, input)?;
+    format!(in alloc; "{input}\n{told}")
 }
 
-/// Wants a report of each description of a text. Below the line of a description stand the lines of its report, and
-/// behind them an empty line; above it may stand a remark.
+/// Wants how a run over each description of a text ends. Below the line of a description stand the status and the lines of
+/// its report, and behind them an empty line; above it may stand a remark.
 pub fn expect_reports(rt: &impl Abort, alloc: Global, blocks: &'static str) -> Result<(), Fail> {
     for block in blocks.split("\n\n") {
-        let block = match block.split_once('\n') {
-            Some((remark, rest)) if remark.starts_with('#') => rest,
-            _ => block,
-        };
-        let Some((input, report)) = block.split_once('\n') else {
-            panic!(rt; "no report in {block}");
-        };
-        let want = format!(in alloc; "0 {report}\n")?;
-        assert_eq!(rt; told(alloc, "layout 0", input)?.as_str(), want.as_str());
+        let block = without_remark(block);
+        expect_text(rt, told_block(alloc, block)?.as_str(), block);
     }
     Ok(())
 }

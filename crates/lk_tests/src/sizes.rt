@@ -1,120 +1,165 @@
 //! What is live, what that brings to the parts, and which sections and segments are told.
 
-ghost use Rattle.std.specs.Prelude.{IfSome};
+ghost use Rattle.std.specs.Prelude.{◌≡◌, length};
+ghost use Rattle.lk_link.specs.Parts.{all_parts};
 ghost use Rattle.lk_link.specs.WellFormed.{IsWellFormed};
+ghost use Rattle.lk_gc.specs.Reach.{AreLive};
 
-use crate::checking::hand_made_link;
+use crate::rows::{Asked, add, expect_rows};
+use crate::shown::Shown;
 use lk_check::check_link;
-use lk_gc::traverse_alone;
-use lk_input::read_link;
-use lk_layout::{Uncarried, first_uncarried};
-use lk_link::{FileKind, LinkInput};
-use lk_sizes::{determine_header_sizes, part_contents, part_sizes, propagate_section_attributes};
+use lk_gc::{Live, traverse_alone};
+use lk_link::LinkInput;
+use lk_sizes::{
+    HeaderInfo, PartContents, determine_header_sizes, part_contents, part_sizes,
+    propagate_section_attributes,
+};
 use std::alloc::{AllocError, Global};
 use std::test::Fail;
 
-/// A link that is well formed, or none.
-fn well_formed(link: LinkInput) -> Option<LinkInput>
-    ensures { IfSome result IsWellFormed }
-{
-    match check_link(&link) {
-        Ok(()) => Some(link),
-        Err(_) => None,
+/// One section of one part in a segment, and one of another in none; to the first go three sections of an object.
+const LIVE: &str = r#"
+{"plan":{"page":16,"sections":[{"attrs":1,"parts":[[8,false]]},{"attrs":16,"parts":[[4,true]]}],"segments":[{"kind":"load"},{"kind":"other"}],"events":[["sec",1],["seg",0],["sec",0],["endseg",0],["seg",1],["endseg",1]]},"groups":[[{"kind":"prelude"},{"kind":"object","sections":[{"slot":"must","size":7,"attrs":2},{"slot":"must"},{"slot":"must","size":8,"attrs":4}]}]]} => live (FileId { group: 0, file: 1 }, 0, 7) live (FileId { group: 0, file: 1 }, 1, 0) live (FileId { group: 0, file: 1 }, 2, 8)
+"#;
+
+/// What the three sections bring to each part, and what is told of sections and segments.
+const SIZES: &str = r#"
+{"plan":{"page":16,"sections":[{"attrs":1,"parts":[[8,false]]},{"attrs":16,"parts":[[4,true]]}],"segments":[{"kind":"load"},{"kind":"other"}],"events":[["sec",1],["seg",0],["sec",0],["endseg",0],["seg",1],["endseg",1]]},"groups":[[{"kind":"prelude"},{"kind":"object","sections":[{"slot":"must","size":7,"attrs":2},{"slot":"must"},{"slot":"must","size":8,"attrs":4}]}]]} => parts [PartContents { bytes: 16, has_empty: true, attrs: 6 }, PartContents { bytes: 0, has_empty: false, attrs: 0 }] attributes [7, 16] sizes [16, 0] headers ([true, false], [Some(0), None], [SegmentId { number: 0 }])
+"#;
+
+/// Sections of a prelude, an object and a dynamic file.
+const OTHER_FILES: &str = "
+p00 o00 d00 => live (FileId { group: 1, file: 0 }, 0, 0) live (FileId { group: 1, file: 0 }, 1, 0)
+";
+
+/// What isn't carried.
+const UNCARRIED: &str = r#"
+{"options":{"relax":true},"plan":{"page":16},"groups":[[{"kind":"prelude"}]]} => first Some(Relax)
+"#;
+
+/// Adds file, index and size of each live section of groups and files that aren't too many.
+fn add_inputs(line: &mut String, link: &LinkInput, live: &Live) -> Result<(), AllocError> {
+    if link.groups.len() <= 65535 && link.groups.file_count() <= 16777216 {
+        for input in live.inputs(link) {
+            add(line, "live", &(input.file, input.index, input.section.size))?;
+        }
+    }
+    Ok(())
+}
+
+/// Adds what is live, of a link that is well formed.
+pub fn add_live(alloc: Global, line: &mut String, link: &LinkInput) -> Result<(), AllocError> {
+    if check_link(link).is_err() {
+        return Ok(());
+    }
+    match traverse_alone(alloc, link) {
+        Ok(live) => add_inputs(line, link, &live),
+        Err(_) => Ok(()),
     }
 }
 
-/// File, index and size of each live section.
-fn told_live(alloc: Global, link: &LinkInput) -> Result<String, AllocError>
+/// Adds which sections and segments are told, by what is brought to the parts and their sizes.
+fn add_headers(
+    alloc: Global,
+    line: &mut String,
+    link: &LinkInput,
+    contents: &[PartContents],
+    sizes: &[u64],
+) -> Result<(), AllocError>
+    requires good { IsWellFormed link.now }
+    requires count { length contents.now ≡ length (all_parts link.now.plan.sections) }
+    requires sizes { length sizes.now ≡ length (all_parts link.now.plan.sections) }
+{
+    let HeaderInfo {
+        emitted,
+        output_section_indexes,
+        active_segment_ids,
+    } = determine_header_sizes(alloc, link, contents, sizes)?;
+    let (indexes, active) = (
+        output_section_indexes.as_slice(),
+        active_segment_ids.as_slice(),
+    );
+    add(line, "headers", &(emitted.as_slice(), indexes, active))
+}
+
+/// Adds what is brought to each part, the sizes, and what that makes of sections and segments.
+fn add_counted(
+    alloc: Global,
+    line: &mut String,
+    link: &LinkInput,
+    contents: &[PartContents],
+) -> Result<(), AllocError>
+    requires good { IsWellFormed link.now }
+    requires count { length contents.now ≡ length (all_parts link.now.plan.sections) }
+{
+    add(line, "parts", &contents)?;
+    let attributes = propagate_section_attributes(alloc, link, contents)?;
+    add(line, "attributes", &attributes)?;
+    let sizes = part_sizes(alloc, contents)?;
+    add(line, "sizes", &sizes)?;
+    add_headers(alloc, line, link, contents, &sizes)
+}
+
+/// The same, where there are contents for each part.
+fn add_contents(
+    alloc: Global,
+    line: &mut String,
+    link: &LinkInput,
+    contents: &[PartContents],
+) -> Result<(), AllocError>
     requires { IsWellFormed link.now }
 {
-    let mut text = String::new(alloc);
-    let Ok(live) = traverse_alone(alloc, link) else {
-        return Ok(text);
-    };
-    for input in live.inputs(link) {
-        let (file, index, size) = (input.file, input.index, input.section.size);
-        write!(text, "{file}: {index} of {size}\n")?;
+    if contents.len() == link.plan.sections.parts().len() {
+        add_counted(alloc, line, link, contents)
+    } else {
+        Ok(())
     }
-    Ok(text)
 }
 
-/// One section of one part in a segment, and one of another in none; to the first go three sections of an object.
-const SMALL: &[u8] =
-    br#"{"plan":{"page":16,"sections":[{"attrs":1,"parts":[[8,false]]},{"attrs":16,"parts":[[4,true]]}],"segments":[{"kind":"load"},{"kind":"other"}],"events":[["sec",1],["seg",0],["sec",0],["endseg",0],["seg",1],["endseg",1]]},"groups":[[{"kind":"prelude"},{"kind":"object","sections":[{"slot":"must","size":7,"attrs":2},{"slot":"must"},{"slot":"must","size":8,"attrs":4}]}]]}"#;
+/// Adds what live sections bring to each part, and what that makes of sections and segments.
+fn add_brought(
+    alloc: Global,
+    line: &mut String,
+    link: &LinkInput,
+    live: &Live,
+) -> Result<(), AllocError>
+    requires good { IsWellFormed link.now }
+    requires live { AreLive link.now live.now }
+{
+    match part_contents(alloc, link, live) {
+        Ok(contents) => add_contents(alloc, line, link, contents.as_slice()),
+        Err(_) => Ok(()),
+    }
+}
+
+/// Adds what live sections bring to each part, and what that makes of sections and segments, of a link that is well formed
+/// and whose sizes aren't refused.
+pub fn add_sizes(alloc: Global, line: &mut String, link: &LinkInput) -> Result<(), AllocError> {
+    if check_link(link).is_err() {
+        return Ok(());
+    }
+    match traverse_alone(alloc, link) {
+        Ok(live) => add_brought(alloc, line, link, &live),
+        Err(_) => Ok(()),
+    }
+}
 
 #[test]
 fn sections_of_objects_are_live(rt: HostRuntime) -> Result<(), Fail> {
-    let small = read_link(rt.alloc(), SMALL)?;
-    let Some(link) = well_formed(small) else {
-        panic!(rt; "not well formed");
-    };
-    let found = told_live(rt.alloc(), &link)?;
-    assert_eq!(rt; found.as_str(), "0.1: 0 of 7\n0.1: 1 of 0\n0.1: 2 of 8\n");
-    Ok(())
+    expect_rows(&rt, rt.alloc(), Asked::Of(Shown::Live), LIVE)
 }
 
 #[test]
 fn sections_of_other_files_are_not_live(rt: HostRuntime) -> Result<(), Fail> {
-    let kinds = [FileKind::Prelude, FileKind::Object, FileKind::Dynamic];
-    let Some(link) = well_formed(hand_made_link(rt.alloc(), &kinds, "00 00 00")?) else {
-        panic!(rt; "not well formed");
-    };
-    let found = told_live(rt.alloc(), &link)?;
-    assert_eq!(rt; found.as_str(), "1.0: 0 of 0\n1.0: 1 of 0\n");
-    Ok(())
-}
-
-/// What the live sections bring to each part, and what is told of sections and segments; nothing where the sizes are
-/// refused.
-fn told_sizes(alloc: Global, link: &LinkInput) -> Result<String, AllocError>
-    requires { IsWellFormed link.now }
-{
-    let mut text = String::new(alloc);
-    let Ok(live) = traverse_alone(alloc, link) else {
-        return Ok(text);
-    };
-    let Ok(contents) = part_contents(alloc, link, &live) else {
-        return Ok(text);
-    };
-    for part in contents.as_slice() {
-        let (bytes, empty, attrs) = (part.bytes, part.has_empty, part.attrs);
-        write!(text, "part {bytes} {empty} {attrs}\n")?;
-    }
-    let sizes = part_sizes(alloc, contents.as_slice())?;
-    let attributes = propagate_section_attributes(alloc, link, contents.as_slice())?;
-    let (sizes, attributes) = (sizes.as_slice(), attributes.as_slice());
-    write!(text, "sizes {sizes:?} attributes {attributes:?}\n")?;
-    let headers = determine_header_sizes(alloc, link, contents.as_slice(), sizes)?;
-    let emitted = headers.emitted.as_slice();
-    let indexes = headers.output_section_indexes.as_slice();
-    write!(text, "emitted {emitted:?} {indexes:?} active")?;
-    for segment in headers.active_segment_ids.as_slice() {
-        write!(text, " {number}", number = segment.as_u32())?;
-    }
-    Ok(text)
+    expect_rows(&rt, rt.alloc(), Asked::OfHandMade(Shown::Live), OTHER_FILES)
 }
 
 #[test]
 fn parts_have_contents_and_sections_indexes(rt: HostRuntime) -> Result<(), Fail> {
-    let small = read_link(rt.alloc(), SMALL)?;
-    let Some(link) = well_formed(small) else {
-        panic!(rt; "not well formed");
-    };
-    let found = told_sizes(rt.alloc(), &link)?;
-    assert_eq!(rt;
-        found.as_str(),
-        "part 16 true 6\n\
-        part 0 false 0\n\
-        sizes [16, 0] attributes [7, 16]\n\
-        emitted [true, false] [Some(0), None] active 0"
-    );
-    Ok(())
+    expect_rows(&rt, rt.alloc(), Asked::Of(Shown::Sizes), SIZES)
 }
 
 #[test]
 fn what_is_not_carried_is_found(rt: HostRuntime) -> Result<(), Fail> {
-    let text = br#"{"options":{"relax":true},"plan":{"page":16},"groups":[[{"kind":"prelude"}]]}"#;
-    let link = read_link(rt.alloc(), text)?;
-    assert_eq!(rt; first_uncarried(&link), Some(Uncarried::Relax));
-    Ok(())
+    expect_rows(&rt, rt.alloc(), Asked::Of(Shown::Uncarried), UNCARRIED)
 }

@@ -1,142 +1,240 @@
 //! Fixed lists: each is read with the items of its form, and with no more and no fewer.
 
-use super::tries::{NOWHERE, Place, place_of, try_at, try_text};
-use std::alloc::{AllocError, Global};
+use crate::rows::{Asked, expect_rows};
 use std::test::Fail;
 
-/// Places of fixed lists, and the forms that are read there: items between spaces.
+/// Places of fixed lists: values that are none; and for each form that is read there its first items, of which the next is
+/// missing and at fault; all of them; and one more, where the list itself is at fault.
 const LISTS: &str = r#"
-/plan/base @ {"plan":{"page":1,"base":...}}
-"num" 0
-"sym" 0
-"dot"
-"add" ["dot"] ["dot"]
-"sub" ["dot"] ["dot"]
-"mul" ["dot"] ["dot"]
-"div" ["dot"] ["dot"]
-"align" ["dot"] ["dot"]
-"max" ["dot"] ["dot"]
-"min" ["dot"] ["dot"]
-"addr" 0
-"sizeof" 0
-"origin" 0
-"length" 0
-"headers"
-/plan/events/0 @ {"plan":{"page":1,"events":[...]}}
-"seg" 0
-"endseg" 0
-"sec" 0
-"loc" ["dot"]
-"locrel" ["dot"] 0
-"addr" ["dot"]
-/plan/sections/0/parts/0 @ {"plan":{"page":1,"sections":[{"parts":[...]}]}}
-1 true
-/groups/0/0/candidates/0 @ {"plan":{"page":1},"groups":[[{"kind":"object","candidates":[...]}]]}
-0 0 0 0
-/groups/0/0/symbols/0/at @ {"plan":{"page":1},"groups":[[{"kind":"dynamic","symbols":[{"at":...}]}]]}
-"sec" 0 0
-"common" 0 0
-"abs" 0
-"undef"
-"dyn"
-"undefined"
-"force"
-"start" 0
-"end" 0
-"groupend" 0
-"tlsend"
-"loadbase"
-"redirect" ["dot"] ["none"] false
-/groups/0/0/symbols/0/at/2 @ {"plan":{"page":1},"groups":[[{"kind":"script","symbols":[{"at":["redirect",["dot"],...,true]}]}]]}
-"none"
-"start" 0
-"end" 0
-"counter" 0
-/groups/0/0/sections/0/relocs/0 @ {"plan":{"page":1},"groups":[[{"kind":"object","sections":[{"slot":"must","relocs":[...]}]}]]}
-0 "Absolute" 0 0 false
-/groups/0/0/sections/0/relax/0 @ {"plan":{"page":1},"groups":[[{"kind":"object","sections":[{"slot":"must","relax":[...]}]}]]}
-0 0 0 0
+@ {"plan":{"page":1,"base":...}}
+null => at /plan/base
+0 => at /plan/base
+"num" => at /plan/base
+true => at /plan/base
+{} => at /plan/base
+[] => at /plan/base/0
+["num"] => at /plan/base/1
+["num",0] => read
+["num",0,0] => at /plan/base
+[] => at /plan/base/0
+["sym"] => at /plan/base/1
+["sym",0] => read
+["sym",0,0] => at /plan/base
+[] => at /plan/base/0
+["dot"] => read
+["dot",0] => at /plan/base
+[] => at /plan/base/0
+["add"] => at /plan/base/1
+["add",["dot"]] => at /plan/base/2
+["add",["dot"],["dot"]] => read
+["add",["dot"],["dot"],0] => at /plan/base
+[] => at /plan/base/0
+["sub"] => at /plan/base/1
+["sub",["dot"]] => at /plan/base/2
+["sub",["dot"],["dot"]] => read
+["sub",["dot"],["dot"],0] => at /plan/base
+[] => at /plan/base/0
+["mul"] => at /plan/base/1
+["mul",["dot"]] => at /plan/base/2
+["mul",["dot"],["dot"]] => read
+["mul",["dot"],["dot"],0] => at /plan/base
+[] => at /plan/base/0
+["div"] => at /plan/base/1
+["div",["dot"]] => at /plan/base/2
+["div",["dot"],["dot"]] => read
+["div",["dot"],["dot"],0] => at /plan/base
+[] => at /plan/base/0
+["align"] => at /plan/base/1
+["align",["dot"]] => at /plan/base/2
+["align",["dot"],["dot"]] => read
+["align",["dot"],["dot"],0] => at /plan/base
+[] => at /plan/base/0
+["max"] => at /plan/base/1
+["max",["dot"]] => at /plan/base/2
+["max",["dot"],["dot"]] => read
+["max",["dot"],["dot"],0] => at /plan/base
+[] => at /plan/base/0
+["min"] => at /plan/base/1
+["min",["dot"]] => at /plan/base/2
+["min",["dot"],["dot"]] => read
+["min",["dot"],["dot"],0] => at /plan/base
+[] => at /plan/base/0
+["addr"] => at /plan/base/1
+["addr",0] => read
+["addr",0,0] => at /plan/base
+[] => at /plan/base/0
+["sizeof"] => at /plan/base/1
+["sizeof",0] => read
+["sizeof",0,0] => at /plan/base
+[] => at /plan/base/0
+["origin"] => at /plan/base/1
+["origin",0] => read
+["origin",0,0] => at /plan/base
+[] => at /plan/base/0
+["length"] => at /plan/base/1
+["length",0] => read
+["length",0,0] => at /plan/base
+[] => at /plan/base/0
+["headers"] => read
+["headers",0] => at /plan/base
+@ {"plan":{"page":1,"events":[...]}}
+null => at /plan/events/0
+0 => at /plan/events/0
+"num" => at /plan/events/0
+true => at /plan/events/0
+{} => at /plan/events/0
+[] => at /plan/events/0/0
+["seg"] => at /plan/events/0/1
+["seg",0] => read
+["seg",0,0] => at /plan/events/0
+[] => at /plan/events/0/0
+["endseg"] => at /plan/events/0/1
+["endseg",0] => read
+["endseg",0,0] => at /plan/events/0
+[] => at /plan/events/0/0
+["sec"] => at /plan/events/0/1
+["sec",0] => read
+["sec",0,0] => at /plan/events/0
+[] => at /plan/events/0/0
+["loc"] => at /plan/events/0/1
+["loc",["dot"]] => read
+["loc",["dot"],0] => at /plan/events/0
+[] => at /plan/events/0/0
+["locrel"] => at /plan/events/0/1
+["locrel",["dot"]] => at /plan/events/0/2
+["locrel",["dot"],0] => read
+["locrel",["dot"],0,0] => at /plan/events/0
+[] => at /plan/events/0/0
+["addr"] => at /plan/events/0/1
+["addr",["dot"]] => read
+["addr",["dot"],0] => at /plan/events/0
+@ {"plan":{"page":1,"sections":[{"parts":[...]}]}}
+null => at /plan/sections/0/parts/0
+0 => at /plan/sections/0/parts/0
+"num" => at /plan/sections/0/parts/0
+true => at /plan/sections/0/parts/0
+{} => at /plan/sections/0/parts/0
+[] => at /plan/sections/0/parts/0/0
+[1] => at /plan/sections/0/parts/0/1
+[1,true] => read
+[1,true,0] => at /plan/sections/0/parts/0
+@ {"plan":{"page":1},"groups":[[{"kind":"object","candidates":[...]}]]}
+null => at /groups/0/0/candidates/0
+0 => at /groups/0/0/candidates/0
+"num" => at /groups/0/0/candidates/0
+true => at /groups/0/0/candidates/0
+{} => at /groups/0/0/candidates/0
+[] => at /groups/0/0/candidates/0/0
+[0] => at /groups/0/0/candidates/0/1
+[0,0] => at /groups/0/0/candidates/0/2
+[0,0,0] => at /groups/0/0/candidates/0/3
+[0,0,0,0] => read
+[0,0,0,0,0] => at /groups/0/0/candidates/0
+@ {"plan":{"page":1},"groups":[[{"kind":"dynamic","symbols":[{"at":...}]}]]}
+null => at /groups/0/0/symbols/0/at
+0 => at /groups/0/0/symbols/0/at
+"num" => at /groups/0/0/symbols/0/at
+true => at /groups/0/0/symbols/0/at
+{} => at /groups/0/0/symbols/0/at
+[] => at /groups/0/0/symbols/0/at/0
+["sec"] => at /groups/0/0/symbols/0/at/1
+["sec",0] => at /groups/0/0/symbols/0/at/2
+["sec",0,0] => read
+["sec",0,0,0] => at /groups/0/0/symbols/0/at
+[] => at /groups/0/0/symbols/0/at/0
+["common"] => at /groups/0/0/symbols/0/at/1
+["common",0] => at /groups/0/0/symbols/0/at/2
+["common",0,0] => read
+["common",0,0,0] => at /groups/0/0/symbols/0/at
+[] => at /groups/0/0/symbols/0/at/0
+["abs"] => at /groups/0/0/symbols/0/at/1
+["abs",0] => read
+["abs",0,0] => at /groups/0/0/symbols/0/at
+[] => at /groups/0/0/symbols/0/at/0
+["undef"] => read
+["undef",0] => at /groups/0/0/symbols/0/at
+[] => at /groups/0/0/symbols/0/at/0
+["dyn"] => read
+["dyn",0] => at /groups/0/0/symbols/0/at
+[] => at /groups/0/0/symbols/0/at/0
+["undefined"] => read
+["undefined",0] => at /groups/0/0/symbols/0/at
+[] => at /groups/0/0/symbols/0/at/0
+["force"] => read
+["force",0] => at /groups/0/0/symbols/0/at
+[] => at /groups/0/0/symbols/0/at/0
+["start"] => at /groups/0/0/symbols/0/at/1
+["start",0] => read
+["start",0,0] => at /groups/0/0/symbols/0/at
+[] => at /groups/0/0/symbols/0/at/0
+["end"] => at /groups/0/0/symbols/0/at/1
+["end",0] => read
+["end",0,0] => at /groups/0/0/symbols/0/at
+[] => at /groups/0/0/symbols/0/at/0
+["groupend"] => at /groups/0/0/symbols/0/at/1
+["groupend",0] => read
+["groupend",0,0] => at /groups/0/0/symbols/0/at
+[] => at /groups/0/0/symbols/0/at/0
+["tlsend"] => read
+["tlsend",0] => at /groups/0/0/symbols/0/at
+[] => at /groups/0/0/symbols/0/at/0
+["loadbase"] => read
+["loadbase",0] => at /groups/0/0/symbols/0/at
+[] => at /groups/0/0/symbols/0/at/0
+["redirect"] => at /groups/0/0/symbols/0/at/1
+["redirect",["dot"]] => at /groups/0/0/symbols/0/at/2
+["redirect",["dot"],["none"]] => at /groups/0/0/symbols/0/at/3
+["redirect",["dot"],["none"],false] => read
+["redirect",["dot"],["none"],false,0] => at /groups/0/0/symbols/0/at
+@ {"plan":{"page":1},"groups":[[{"kind":"script","symbols":[{"at":["redirect",["dot"],...,true]}]}]]}
+null => at /groups/0/0/symbols/0/at/2
+0 => at /groups/0/0/symbols/0/at/2
+"num" => at /groups/0/0/symbols/0/at/2
+true => at /groups/0/0/symbols/0/at/2
+{} => at /groups/0/0/symbols/0/at/2
+[] => at /groups/0/0/symbols/0/at/2/0
+["none"] => read
+["none",0] => at /groups/0/0/symbols/0/at/2
+[] => at /groups/0/0/symbols/0/at/2/0
+["start"] => at /groups/0/0/symbols/0/at/2/1
+["start",0] => read
+["start",0,0] => at /groups/0/0/symbols/0/at/2
+[] => at /groups/0/0/symbols/0/at/2/0
+["end"] => at /groups/0/0/symbols/0/at/2/1
+["end",0] => read
+["end",0,0] => at /groups/0/0/symbols/0/at/2
+[] => at /groups/0/0/symbols/0/at/2/0
+["counter"] => at /groups/0/0/symbols/0/at/2/1
+["counter",0] => read
+["counter",0,0] => at /groups/0/0/symbols/0/at/2
+@ {"plan":{"page":1},"groups":[[{"kind":"object","sections":[{"slot":"must","relocs":[...]}]}]]}
+null => at /groups/0/0/sections/0/relocs/0
+0 => at /groups/0/0/sections/0/relocs/0
+"num" => at /groups/0/0/sections/0/relocs/0
+true => at /groups/0/0/sections/0/relocs/0
+{} => at /groups/0/0/sections/0/relocs/0
+[] => at /groups/0/0/sections/0/relocs/0/0
+[0] => at /groups/0/0/sections/0/relocs/0/1
+[0,"Absolute"] => at /groups/0/0/sections/0/relocs/0/2
+[0,"Absolute",0] => at /groups/0/0/sections/0/relocs/0/3
+[0,"Absolute",0,0] => at /groups/0/0/sections/0/relocs/0/4
+[0,"Absolute",0,0,false] => read
+[0,"Absolute",0,0,false,0] => at /groups/0/0/sections/0/relocs/0
+@ {"plan":{"page":1},"groups":[[{"kind":"object","sections":[{"slot":"must","relax":[...]}]}]]}
+null => at /groups/0/0/sections/0/relax/0
+0 => at /groups/0/0/sections/0/relax/0
+"num" => at /groups/0/0/sections/0/relax/0
+true => at /groups/0/0/sections/0/relax/0
+{} => at /groups/0/0/sections/0/relax/0
+[] => at /groups/0/0/sections/0/relax/0/0
+[0] => at /groups/0/0/sections/0/relax/0/1
+[0,0] => at /groups/0/0/sections/0/relax/0/2
+[0,0,0] => at /groups/0/0/sections/0/relax/0/3
+[0,0,0,0] => read
+[0,0,0,0,0] => at /groups/0/0/sections/0/relax/0
 "#;
-
-/// The first few of some items, as a list.
-fn list_of(alloc: Global, items: &str, count: usize) -> Result<String, AllocError> {
-    let mut list = String::new(alloc);
-    list.push('[')?;
-    for (i, item) in items.split_whitespace().enumerate() {
-        if i < count {
-            if i > 0 {
-                list.push(',')?;
-            }
-            list.push_str(item)?;
-        }
-    }
-    list.push(']')?;
-    Ok(list)
-}
-
-/// Tries the list of so many of the items at a place.
-fn try_list(
-    alloc: Global,
-    odd: &mut String,
-    place: Place,
-    list: &str,
-    want: &str,
-) -> Result<(), AllocError> {
-    let (before, after) = (place.before, place.after);
-    let text = format!(in alloc; "{before}{list}{after}")?;
-    try_text(alloc, odd, text.as_str(), want)
-}
-
-/// Tries the first items at a place, but not all: the first that is missing is at fault.
-fn try_fewer(
-    alloc: Global,
-    odd: &mut String,
-    place: Place,
-    items: &'static str,
-) -> Result<(), AllocError> {
-    let path = place.path;
-    for (few, _) in items.split_whitespace().enumerate() {
-        let list = list_of(alloc, items, few)?;
-        let fault = format!(in alloc; "at {path}/{few}")?;
-        try_list(alloc, odd, place, list.as_str(), fault.as_str())?;
-    }
-    Ok(())
-}
-
-/// Tries all items at a place, and one more: the list itself is at fault.
-fn try_more(
-    alloc: Global,
-    odd: &mut String,
-    place: Place,
-    items: &'static str,
-) -> Result<(), AllocError> {
-    let list = list_of(alloc, items, usize::MAX)?;
-    try_list(alloc, odd, place, list.as_str(), "read")?;
-    let items = format!(in alloc; "{items} 0")?;
-    let list = list_of(alloc, items.as_str(), usize::MAX)?;
-    let fault = format!(in alloc; "at {path}", path = place.path)?;
-    try_list(alloc, odd, place, list.as_str(), fault.as_str())
-}
 
 #[test]
 fn fixed_lists(rt: HostRuntime) -> Result<(), Fail> {
-    let mut odd = String::new(rt.alloc());
-    let mut place = NOWHERE;
-    for row in LISTS.lines() {
-        if let Some(next) = place_of(row) {
-            place = next;
-            try_at(
-                rt.alloc(),
-                &mut odd,
-                place,
-                r#"null 0 "num" true {}"#,
-                false,
-            )?;
-        } else if !row.is_empty() {
-            try_fewer(rt.alloc(), &mut odd, place, row)?;
-            try_more(rt.alloc(), &mut odd, place, row)?;
-        }
-    }
-    assert_eq!(rt; odd.as_str(), "");
-    Ok(())
+    expect_rows(&rt, rt.alloc(), Asked::Outcome, LISTS)
 }
