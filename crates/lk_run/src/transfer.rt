@@ -1,4 +1,19 @@
 //! Whole inputs and whole outputs, over the calls of a source and a sink.
+//!
+//! An input is read to its end before anything is made of it, since a description says nothing before it is whole. How
+//! many bytes a call gives says nothing either: a source may give fewer than there is room for and have more. Only a call
+//! that gives none is the end. So one buffer is made, reads go into it one after the other, and what each gave is put
+//! behind what there is. A read asks for at most one byte more than the limit leaves. An input of the very length of the
+//! limit is thus read to its end, and a longer one shows by one byte: it is refused there, and what follows is neither read
+//! nor held.
+//!
+//! An output is one text that is there before the first byte is written, so that nothing but the sink can fail while it is
+//! written; writing takes no memory. A sink may take a part of a piece, and is then handed the rest of it, until nothing is
+//! left. One that takes none of some bytes could be asked for ever: that is a failure. What was taken isn't taken back, so
+//! after a failure the sink has a prefix of the text.
+//!
+//! The first call that fails ends the reading or the writing. The device has counted it, which is how a caller's contract
+//! tells a failure that happened from one that was made up.
 
 ghost use Rattle.std.specs.Prelude.{◌≡◌, ◌+◌, ◌≤◌, ◌<◌, [], drop, length, take, vec_len, IfOk, IfSome, OnErr, OnOk, IsErrOf};
 ghost use Rattle.std.specs.Io.KnownBytes.{Consumes, IsAtEnd};
