@@ -3,6 +3,8 @@ pub mod Buckets
 pub mod Hash
 pub mod Image
 pub mod Inputs
+pub mod LinkInputTables
+pub mod LinkInputs
 pub mod MergedTables
 pub mod Merging
 pub mod MergingTables
