@@ -1,6 +1,6 @@
 -- What a bucket answers, by its table.
-use Rattle.std.proofs.Common.{◌≡◌, ℕ, ◌+◌, ◌-◌, ◌^◌, ◌<◌, ◌≤◌, Bool, true, false, cond, ◌||◌, List, [], ◌∷◌, ◌++◌, length, map, None, Some, Ok, Err, refl, sym, ap, ◌∙◌, arith, leb}
-use Rattle.std.specs.List.{concat}
+use Rattle.std.proofs.Common.{◌≡◌, ℕ, ◌+◌, ◌-◌, ◌^◌, ◌<◌, ◌≤◌, Bool, true, false, cond, ◌||◌, List, [], ◌∷◌, ◌++◌, length, map, None, Some, Ok, Err, inl, inr, refl, sym, ap, subst, ◌∙◌, arith, leb, suc, length-append}
+use Rattle.std.specs.List.{concat, slice_get}
 use Rattle.std.specs.Map.{keys_of, lookup}
 use Rattle.std.proofs.lemmas.Bool.{le-leb, lt-leb}
 use Rattle.std.proofs.lemmas.List.{map-append}
@@ -11,6 +11,7 @@ use Rattle.lk_merge.specs.BucketTables.{piece_of, placed_from, IsTable}
 use Rattle.lk_merge.specs.Image.{is_among, place_in}
 use Rattle.lk_merge.specs.Pieces.{Piece}
 use Rattle.lk_merge.proofs.AmongLemmas.{place_within}
+use Rattle.lk_merge.proofs.InputLemmas.{push_at}
 use Rattle.lk_merge.proofs.TableLemmas.{is_key, lookup_there, lookup_absent, placed-push, concat-push, place_behind}
 
 -- the pieces of a table
@@ -90,8 +91,8 @@ module _ (section number limit next : ℕ) (entries : List (MergeString × ℕ))
   more_stored : stored more ≡ stored entries ++ s.bytes.now ∷ []
   more_stored = ap (map piece_of) more_keys ∙ map-append piece_of (keys_of entries) (s ∷ [])
 
-  pub table_more : length s.bytes.now ≤ limit - next → IsTable number limit (next + length s.bytes.now) more
-  table_more short = record {
+  pub table_more : length s.bytes.now ≤ limit - next → 0 < length s.bytes.now → IsTable number limit (next + length s.bytes.now) more
+  table_more short has = record {
     numbered = table.numbered;
     limited = table.limited;
     within = omega (arith, table.within);
@@ -100,6 +101,10 @@ module _ (section number limit next : ℕ) (entries : List (MergeString × ℕ))
         let at : next ≡ 0 + length (concat (stored entries)) = omega (arith, table.ends) in
         ap (λ es. es ++ (s, next) ∷ []) table.places ∙ ap (λ n. placed_from 0 (keys_of entries) ++ (s, n) ∷ []) at
         ∙ sym (placed-push 0 (keys_of entries) s) ∙ ap (placed_from 0) (sym more_keys);
+    some = λ k r there. elim (push_at (keys_of entries) s r k (ap (λ l. slice_get l k) (sym more_keys) ∙ there)) [
+      | inl a ↦ table.some k r a
+      | inr b ↦ subst (λ (x : MergeString). 0 < length x.bytes.now) b.1 has
+    ];
   }
 
   pub bucket_more : lookup (is_key s.bytes.now) entries ≡ None
@@ -109,3 +114,16 @@ module _ (section number limit next : ℕ) (entries : List (MergeString × ℕ))
       let fresh = absent section number limit next entries table s.bytes.now h in
       ap (λ ps. record bucket { pieces = ps }) more_stored
       ∙ ap (λ t. record bucket { pieces = cond t (stored entries) (stored entries ++ s.bytes.now ∷ []) }) (sym fresh)
+
+-- a bucket has at most as many pieces as bytes
+fewer : (ss : List MergeString) → ((k : ℕ) (s : MergeString) → slice_get ss k ≡ Some s → 0 < length s.bytes.now) → length ss ≤ length (concat (map piece_of ss))
+fewer [] h = omega arith
+fewer (s ∷ ss) h =
+    let rest = fewer ss (λ k r e. h (suc k) r e) in
+    let one = h 0 s refl in
+    let more : length (s.bytes.now ++ concat (map piece_of ss)) ≡ length s.bytes.now + length (concat (map piece_of ss))
+    = length-append s.bytes.now (concat (map piece_of ss)) in
+    omega (arith, rest, one, more)
+
+pub few_strings : (number limit next : ℕ) (entries : List (MergeString × ℕ)) → IsTable number limit next entries → length (keys_of entries) ≤ 2 ^ 28
+few_strings number limit next entries h = let n = fewer (keys_of entries) h.some in omega (arith, n, h.ends, h.within, h.limited)

@@ -2,6 +2,7 @@ pub mod AmongLemmas
 pub mod Beginning
 pub mod BucketLemmas
 pub mod Constants
+pub mod Counting
 pub mod Finding
 pub mod FindingSteps
 pub mod Gathering

@@ -35,7 +35,7 @@ sum_flat g f (x ∷ xs) =
     let more = sum_by-cons (λ y. sum_by g (f y)) x xs in
     omega (arith, both, rest, more)
 
-sum_map : {X Y : Type 0} (g : Y → ℕ) (f : X → Y) (xs : List X) → sum_by g (map f xs) ≡ sum_by (λ x. g (f x)) xs
+pub sum_map : {X Y : Type 0} (g : Y → ℕ) (f : X → Y) (xs : List X) → sum_by g (map f xs) ≡ sum_by (λ x. g (f x)) xs
 sum_map g f [] = refl
 sum_map g f (x ∷ xs) =
     let left = sum_by-cons g (f x) (map f xs) in

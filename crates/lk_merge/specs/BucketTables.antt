@@ -1,5 +1,5 @@
 -- Of the insides of a bucket: the table of its pieces. Cited by private parts alone.
-use Rattle.std.specs.Prelude.{◌≡◌, ℕ, ◌+◌, ◌^◌, ◌<◌, ◌≤◌, List, [], ◌∷◌, length, map}
+use Rattle.std.specs.Prelude.{◌≡◌, ℕ, ◌+◌, ◌^◌, ◌<◌, ◌≤◌, List, [], ◌∷◌, Some, length, map, slice_get}
 use Rattle.std.specs.List.{concat}
 use Rattle.std.specs.Map.{keys_of}
 use Rattle.lk_merge.specs.declared.string.MergeString.{MergeString}
@@ -21,3 +21,4 @@ pub record IsTable (number limit next : ℕ) (entries : List (MergeString × ℕ
   pub within : next ≤ limit
   pub ends : next ≡ length (concat (map piece_of (keys_of entries)))
   pub places : entries ≡ placed_from 0 (keys_of entries)
+  pub some : (k : ℕ) (s : MergeString) → slice_get (keys_of entries) k ≡ Some s → 0 < length s.bytes.now

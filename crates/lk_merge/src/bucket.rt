@@ -99,7 +99,8 @@ impl<'data> MergeStringsSectionBucket<'data> {
 
     /// The pieces that it keeps, in order (libwild: its field `strings`).
     pub fn strings(&self) -> &[MergeString<'data>]
-        ensures { map piece_of result.now ≡ self.now.pieces }
+        ensures pieces { map piece_of result.now ≡ self.now.pieces }
+        ensures few { length result.now ≤ 2 ^ 28 }
     {
         self.strings.keys().as_slice()
     }

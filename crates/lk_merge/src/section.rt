@@ -72,6 +72,39 @@ impl<'data> MergedStringsSection<'data> {
         self.buckets.as_slice()
     }
 
+    /// The bytes of the image: of all distinct pieces together (libwild: `MergedStringsSection::len`).
+    pub fn len(&self) -> u64
+        ensures { result ≡ length (image fnv64 (all_pieces self.now)) }
+    {
+        let mut len = 0;
+        for bucket in self.buckets.as_slice() {
+            len += bucket.len() as u64;
+        }
+        len
+    }
+
+    /// How many distinct pieces there are (libwild: `MergedStringsSection::string_count`).
+    pub fn string_count(&self) -> usize
+        ensures { result ≡ length (image_pieces fnv64 (all_pieces self.now)) }
+    {
+        let mut count = 0;
+        for bucket in self.buckets.as_slice() {
+            count += bucket.strings().len();
+        }
+        count
+    }
+
+    /// The bytes of all pieces of the inputs (libwild: `MergedStringsSection::input_string_byte_size`).
+    pub fn input_string_byte_size(&self) -> usize
+        ensures { result ≡ length (concat (all_pieces self.now)) }
+    {
+        let mut size = 0;
+        for input in self.inputs.as_slice() {
+            size += input.section_data.len();
+        }
+        size
+    }
+
     /// How many pieces the inputs have (libwild: `MergedStringsSection::input_string_count`).
     pub fn input_string_count(&self) -> usize
         ensures { result ≡ length (all_pieces self.now) }

@@ -45,7 +45,7 @@ invariant_of-self-2 c =
     let entries = c.in_ok-insert.ensures.entries ∙ insert_entry-new _ i.strings s i.next_offset (sym c.in_default.ensures.value) in
     subst (λ n. IsTable i.number i.limit (i.next_offset + n) c.insert.new.self.entries) same
     (subst (IsTable i.number i.limit (i.next_offset + length s.bytes.now)) (sym entries)
-    (table_more i.section i.number i.limit i.next_offset i.strings.entries c.self.invariant s short))
+    (table_more i.section i.number i.limit i.next_offset i.strings.entries c.self.invariant s short c.requires))
 
 pub returns : goal.returns
 returns c =
