@@ -150,7 +150,7 @@ place-append_out (x ∷ xs) ys p h = by (place-append_out xs ys p) (bytes_eq p x
         let n : length (x ++ concat xs) ≡ length x + length (concat xs) = length-append x (concat xs) in
         place_step x (xs ++ ys) p false e ∙ omega (arith, rest there, n)
 
-dropped : (xs ys : List ℕ) (n : ℕ) → drop (length xs + n) (xs ++ ys) ≡ drop n ys
+pub dropped : (xs ys : List ℕ) (n : ℕ) → drop (length xs + n) (xs ++ ys) ≡ drop n ys
 dropped [] ys n = ap (λ k. drop k ys) (omega arith)
 dropped (x ∷ xs) ys n =
     let more : length (x ∷ xs) + n ≡ suc (length xs + n) = omega arith in

@@ -16,6 +16,7 @@ pub mod LocatedLemmas
 pub mod MergeBytes
 pub mod MergedLemmas
 pub mod PieceLemmas
+pub mod PlaceLemmas
 pub mod Refusals
 pub mod Refusing
 pub mod Strings

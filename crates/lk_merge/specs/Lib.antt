@@ -10,3 +10,4 @@ pub mod Merging
 pub mod MergingTables
 pub mod OffsetMaps
 pub mod Pieces
+pub mod Places

@@ -1,0 +1,26 @@
+-- Laws on places: what the image shows there, and which places there are.
+use Rattle.std.specs.Prelude.{◌≡◌, ℕ, ◌+◌, ◌-◌, ◌<◌, ◌≤◌, ◌⊎◌, ◌≢◌, List, length, None, Some, take, drop, true, slice_get}
+use Rattle.lk_merge.specs.Image.{all_pieces, image, image_place, is_among, piece_at}
+use Rattle.lk_merge.specs.Merging.{place_at}
+use Rattle.lk_merge.specs.Pieces.{Piece, MergeInput, is_terminated, pieces_of}
+
+-- the image shows each piece at its place; the places of different pieces are apart
+pub record PiecesHavePlaces : Type 0 where
+  pub shown : (hash : Piece → ℕ) (pieces : List Piece) (p : Piece) → is_among pieces p ≡ true
+      → take (length p) (drop (image_place hash pieces p) (image hash pieces)) ≡ p
+  pub within : (hash : Piece → ℕ) (pieces : List Piece) (p : Piece) → is_among pieces p ≡ true
+      → image_place hash pieces p + length p ≤ length (image hash pieces)
+  pub apart : (hash : Piece → ℕ) (pieces : List Piece) (p q : Piece) → is_among pieces p ≡ true → is_among pieces q ≡ true → p ≢ q
+      → (image_place hash pieces p + length p ≤ image_place hash pieces q) ⊎ (image_place hash pieces q + length q ≤ image_place hash pieces p)
+  pub one : (hash : Piece → ℕ) (pieces : List Piece) (p q : Piece) → is_among pieces p ≡ true → is_among pieces q ≡ true → 0 < length p → 0 < length q
+      → image_place hash pieces p ≡ image_place hash pieces q → p ≡ q
+
+-- an offset of an input has a place exactly within the data, and the image shows there what the input has up to its piece's end
+pub record OffsetsHavePlaces : Type 0 where
+  pub inside : (x : MergeInput) (offset : ℕ) → is_terminated x ≡ true → offset < length x.bytes
+      → (p : Piece) × (d : ℕ) × (piece_at (pieces_of x) offset ≡ Some (p, d))
+  pub outside : (hash : Piece → ℕ) (inputs : List MergeInput) (x : MergeInput) (offset : ℕ) → is_terminated x ≡ true → length x.bytes ≤ offset
+      → place_at hash inputs x offset ≡ None
+  pub shown : (hash : Piece → ℕ) (inputs : List MergeInput) (k : ℕ) (x : MergeInput) (offset : ℕ) (p : Piece) (d : ℕ)
+      → slice_get inputs k ≡ Some x → is_terminated x ≡ true → piece_at (pieces_of x) offset ≡ Some (p, d)
+      → take (length p - d) (drop (image_place hash (all_pieces inputs) p + d) (image hash (all_pieces inputs))) ≡ take (length p - d) (drop offset x.bytes)
