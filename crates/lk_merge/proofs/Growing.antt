@@ -4,7 +4,7 @@ use Rattle.std.specs.List.{slice_get}
 use Rattle.std.specs.Option.{option_to_list}
 use Rattle.std.specs.Str.{bytes_eq}
 use Rattle.std.proofs.Math.Nat.{mod-lt}
-use Rattle.std.proofs.lemmas.Bool.{eqb-false, eq-eqb, ne_eqb}
+use Rattle.std.proofs.lemmas.Bool.{eqb-true, eqb-false, eq-eqb, ne_eqb}
 use Rattle.std.proofs.lemmas.Bool.Decides.{eqb_tells}
 use Rattle.std.proofs.lemmas.List.{map-append, length-set}
 use Rattle.std.proofs.lemmas.List.Elements.{filter-append}
@@ -44,6 +44,16 @@ among-in_bucket hash (p ∷ ps) q = by (among-in_bucket hash ps q) (eqb (hash p 
 
 pub among_bucket_list : (hash : Piece → ℕ) (ps : List Piece) (q : Piece) → is_among (bucket_list hash ps (hash q % 16)) q ≡ is_among ps q
 among_bucket_list hash ps q = among-firsts (in_bucket hash (hash q % 16) ps) q ∙ among-in_bucket hash ps q
+
+-- and in no other
+pub not_in_bucket : (hash : Piece → ℕ) (b : ℕ) (ps : List Piece) (q : Piece) → hash q % 16 ≢ b → is_among (in_bucket hash b ps) q ≡ false
+not_in_bucket hash b [] q other = refl
+not_in_bucket hash b (p ∷ ps) q other = by (not_in_bucket hash b ps q other) (eqb (hash p % 16) b) refl (bytes_eq q p) refl
+  where
+    by : is_among (in_bucket hash b ps) q ≡ false → (t : Bool) → eqb (hash p % 16) b ≡ t → (u : Bool) → bytes_eq q p ≡ u → is_among (in_bucket hash b (p ∷ ps)) q ≡ false
+    by rest false e u f = ap (λ l. is_among l q) (bucket_step hash b p ps false e) ∙ rest
+    by rest true e true f = absurd (other (ap (λ r. hash r % 16) (same_piece q p f) ∙ eqb-true _ _ e))
+    by rest true e false f = ap (λ l. is_among l q) (bucket_step hash b p ps true e) ∙ ap (λ c. c || is_among (in_bucket hash b ps) q) f ∙ rest
 
 -- a place stays, whatever pieces come later
 pub place_stays : (hash : Piece → ℕ) (ps more : List Piece) (q : Piece) → is_among ps q ≡ true → place_of hash ps q ≡ place_of hash (ps ++ more) q

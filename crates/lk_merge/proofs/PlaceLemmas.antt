@@ -1,16 +1,16 @@
 -- What the image shows at places.
-use Rattle.std.proofs.Common.{◌≡◌, ℕ, zero, suc, ◌+◌, ◌-◌, ◌%◌, ◌<◌, ◌≤◌, Bool, true, false, ◌||◌, eqb, ltb, List, [], ◌∷◌, ◌++◌, length, take, drop, None, Some, option_map, refl, sym, ap, ◌∙◌, inl, inr, arith}
+use Rattle.std.proofs.Common.{◌≡◌, ℕ, zero, suc, ◌+◌, ◌-◌, ◌%◌, ◌<◌, ◌≤◌, Bool, true, false, ◌||◌, eqb, ltb, List, [], ◌∷◌, ◌++◌, length, take, drop, None, Some, option_map, refl, sym, ap, ◌∙◌, inl, inr, arith, length-append}
 use Rattle.std.specs.List.{concat, flat_map, range_with_len, slice_get}
 use Rattle.std.specs.Str.{bytes_eq}
 use Rattle.std.proofs.lemmas.Bool.{eqb-true, eqb-false, ltb-true, ltb-false}
 use Rattle.std.proofs.lemmas.List.{take_at, drop-take, drop-drop, drop-append-le, length-drop}
-use Rattle.lk_merge.specs.Image.{all_buckets, all_pieces, bucket_list, image, image_pieces, image_place, is_among, piece_at, place_in}
+use Rattle.lk_merge.specs.Image.{all_buckets, all_pieces, bucket_list, in_bucket, image, image_pieces, image_place, is_among, piece_at, place_in}
 use Rattle.lk_merge.specs.Merging.{place_of}
 use Rattle.lk_merge.specs.Pieces.{Piece, MergeInput, pieces_of}
-use Rattle.lk_merge.specs.Places.{PiecesHavePlaces, OffsetsHavePlaces}
-use Rattle.lk_merge.proofs.AmongLemmas.{among-append, bytes_at_place, dropped, equal_piece, other_piece, place_within, places_apart, same_piece}
+use Rattle.lk_merge.specs.Places.{BucketsStart, bucket_start, PiecesHavePlaces, OffsetsHavePlaces}
+use Rattle.lk_merge.proofs.AmongLemmas.{among-append, among-firsts, concat-append, place-append_in, place-append_out, bytes_at_place, dropped, equal_piece, other_piece, place_within, places_apart, same_piece}
 use Rattle.lk_merge.proofs.GoodPieces.{concat_pieces, piece_at_past, piece_at_some}
-use Rattle.lk_merge.proofs.Growing.{among_bucket_list}
+use Rattle.lk_merge.proofs.Growing.{among_bucket_list, not_in_bucket}
 use Rattle.lk_merge.proofs.LocatedLemmas.{piece_at_none, piece_at_step}
 
 -- ---- the image has each piece
@@ -37,6 +37,35 @@ among_range f p a (suc n) b low high h = by (eqb a b) refl (among_range f p (a +
 in_image : (hash : Piece → ℕ) (pieces : List Piece) (p : Piece) → is_among pieces p ≡ true → is_among (image_pieces hash pieces) p ≡ true
 unfolding all_buckets
 in_image hash pieces p h = among_range (bucket_list hash pieces) p 0 16 (hash p % 16) (omega arith) (omega arith) (among_bucket_list hash pieces p ∙ h)
+
+-- ---- where buckets start
+
+place_range : (f : ℕ → List Piece) (p : Piece) (a n m : ℕ) → m < n → is_among (f (a + m)) p ≡ true → ((k : ℕ) → k < a + m → is_among (f k) p ≡ false)
+    → place_in (flat_map f (range_with_len a n)) p ≡ length (concat (flat_map f (range_with_len a m))) + place_in (f (a + m)) p
+place_range f p a zero m below h none = absurd (omega arith)
+place_range f p a (suc n) zero below h none =
+    let here : a ≡ a + 0 = omega arith in
+    let first = place-append_in (f a) (flat_map f (range_with_len (a + 1) n)) p (ap (λ k. is_among (f k) p) here ∙ h) in
+    let same : place_in (f a) p ≡ place_in (f (a + 0)) p = ap (λ k. place_in (f k) p) here in
+    omega (arith, first, same)
+place_range f p a (suc n) (suc m) below h none =
+    let there : a + suc m ≡ (a + 1) + m = omega arith in
+    let rest = place_range f p (a + 1) n m (omega (arith, below)) (ap (λ k. is_among (f k) p) (sym there) ∙ h) (λ k low. none k (omega (arith, low))) in
+    let first = place-append_out (f a) (flat_map f (range_with_len (a + 1) n)) p (none a (omega arith)) in
+    let both : length (concat (f a ++ flat_map f (range_with_len (a + 1) m))) ≡ length (concat (f a)) + length (concat (flat_map f (range_with_len (a + 1) m)))
+    = ap length (concat-append (f a) (flat_map f (range_with_len (a + 1) m))) ∙ length-append (concat (f a)) (concat (flat_map f (range_with_len (a + 1) m))) in
+    let same : place_in (f (a + suc m)) p ≡ place_in (f ((a + 1) + m)) p = ap (λ k. place_in (f k) p) there in
+    omega (arith, rest, first, both, same)
+
+pub buckets_start : BucketsStart
+unfolding all_buckets
+buckets_start hash pieces p h =
+    let b : ℕ = hash p % 16 in
+    let here : 0 + b ≡ b = omega arith in
+    let among : is_among (bucket_list hash pieces (0 + b)) p ≡ true = ap (λ k. is_among (bucket_list hash pieces k) p) here ∙ among_bucket_list hash pieces p ∙ h in
+    let others : (k : ℕ) → k < 0 + b → is_among (bucket_list hash pieces k) p ≡ false
+    = λ k low. among-firsts (in_bucket hash k pieces) p ∙ not_in_bucket hash k pieces p (λ same. absurd (omega (arith, same, low))) in
+    place_range (bucket_list hash pieces) p 0 16 b (omega arith) among others ∙ ap (λ k. bucket_start hash pieces b + place_in (bucket_list hash pieces k) p) here
 
 one_place : (qs : List Piece) (p q : Piece) → is_among qs p ≡ true → is_among qs q ≡ true → 0 < length p → 0 < length q → place_in qs p ≡ place_in qs q → p ≡ q
 one_place qs p q h k some more same = by (bytes_eq p q) refl

@@ -1,6 +1,7 @@
 -- Laws on places: what the image shows there, and which places there are.
-use Rattle.std.specs.Prelude.{◌≡◌, ℕ, ◌+◌, ◌-◌, ◌<◌, ◌≤◌, ◌⊎◌, ◌≢◌, List, length, None, Some, take, drop, true, slice_get}
-use Rattle.lk_merge.specs.Image.{all_pieces, image, image_place, is_among, piece_at}
+use Rattle.std.specs.Prelude.{◌≡◌, ℕ, ◌+◌, ◌-◌, ◌%◌, ◌<◌, ◌≤◌, ◌⊎◌, ◌≢◌, List, length, None, Some, take, drop, true, slice_get}
+use Rattle.std.specs.List.{concat, flat_map, range_with_len}
+use Rattle.lk_merge.specs.Image.{all_pieces, bucket_list, image, image_place, is_among, piece_at, place_in}
 use Rattle.lk_merge.specs.Merging.{place_at}
 use Rattle.lk_merge.specs.Pieces.{Piece, MergeInput, is_terminated, pieces_of}
 
@@ -24,3 +25,12 @@ pub record OffsetsHavePlaces : Type 0 where
   pub shown : (hash : Piece → ℕ) (inputs : List MergeInput) (k : ℕ) (x : MergeInput) (offset : ℕ) (p : Piece) (d : ℕ)
       → slice_get inputs k ≡ Some x → is_terminated x ≡ true → piece_at (pieces_of x) offset ≡ Some (p, d)
       → take (length p - d) (drop (image_place hash (all_pieces inputs) p + d) (image hash (all_pieces inputs))) ≡ take (length p - d) (drop offset x.bytes)
+
+-- where a bucket starts in the image: behind all that the buckets before it keep
+abbrev pub bucket_start : (Piece → ℕ) → List Piece → ℕ → ℕ
+bucket_start hash pieces b = length (concat (flat_map (bucket_list hash pieces) (range_with_len 0 b)))
+
+-- a piece stands in the image where its bucket starts, and as far behind as in the bucket
+abbrev pub BucketsStart : Type 0
+BucketsStart = (hash : Piece → ℕ) (pieces : List Piece) (p : Piece) → is_among pieces p ≡ true
+    → image_place hash pieces p ≡ bucket_start hash pieces (hash p % 16) + place_in (bucket_list hash pieces (hash p % 16)) p

@@ -2,7 +2,7 @@
 
 ghost use Rattle.lk_merge.specs.Image.{BucketsGrow};
 ghost use Rattle.lk_merge.specs.Pieces.{PiecesAreOne};
-ghost use Rattle.lk_merge.specs.Places.{OffsetsHavePlaces, PiecesHavePlaces};
+ghost use Rattle.lk_merge.specs.Places.{BucketsStart, OffsetsHavePlaces, PiecesHavePlaces};
 
 /// A law: an input has pieces exactly where it is terminated, and they are the ones that are found.
 pub fn pieces_are_one()
@@ -25,4 +25,9 @@ pub fn pieces_have_places()
 /// from the offset to its piece's end.
 pub fn offsets_have_places()
     ensures { OffsetsHavePlaces }
+{}
+
+/// A law: a piece stands in the image where its bucket starts, and as far behind as in the bucket.
+pub fn buckets_start()
+    ensures { BucketsStart }
 {}
