@@ -97,10 +97,17 @@ impl<'data> MergeStringsSectionBucket<'data> {
         self.next_offset as usize
     }
 
+    /// How many pieces it keeps.
+    pub(crate) fn count(&self) -> usize
+        ensures pieces { result ≡ length self.now.pieces }
+        ensures few { result ≤ 2 ^ 28 }
+    {
+        self.strings.len()
+    }
+
     /// The pieces that it keeps, in order (libwild: its field `strings`).
     pub fn strings(&self) -> &[MergeString<'data>]
-        ensures pieces { map piece_of result.now ≡ self.now.pieces }
-        ensures few { length result.now ≤ 2 ^ 28 }
+        ensures { map piece_of result.now ≡ self.now.pieces }
     {
         self.strings.keys().as_slice()
     }

@@ -89,7 +89,7 @@ impl<'data> MergedStringsSection<'data> {
     {
         let mut count = 0;
         for bucket in self.buckets.as_slice() {
-            count += bucket.strings().len();
+            count += bucket.count();
         }
         count
     }

@@ -12,7 +12,7 @@ overflow_add-count c =
     let i = c.self.inside in
     let few = few_buckets i.inputs i.buckets.items i.string_offsets c.self.invariant in
     let same = ap (λ (ks : List Bucket). length ks) c.as_slice-bucket-items.ensures.value in
-    omega (arith, few, same, c.loop-bucket.invariant.1, c.loop-bucket-test.true, c.strings.ensures.few)
+    omega (arith, few, same, c.loop-bucket.invariant.1, c.loop-bucket-test.true, c.count-count.ensures.few)
 
 pub returns : goal.returns
 returns c =
