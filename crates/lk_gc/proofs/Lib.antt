@@ -1,5 +1,9 @@
 pub mod Among
 pub mod LiveWalk
+pub mod Living
+pub mod MarkLemmas
 pub mod Marks
 pub mod Numbered
 pub mod Reaching
+pub mod UnitLemmas
+pub mod WordLemmas

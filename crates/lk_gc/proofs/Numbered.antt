@@ -22,19 +22,19 @@ are_numbered link h =
 -- ---- files
 
 -- the files of a group with its number
-abbrev files_of : ℕ × List InputFile → List NumberedFile
+abbrev pub files_of : ℕ × List InputFile → List NumberedFile
 files_of q = group_files q.0 0 q.1
 
 -- the place of a file among all files
-abbrev file_place : List (List InputFile) → FileId → ℕ
+abbrev pub file_place : List (List InputFile) → FileId → ℕ
 file_place groups id = length (flat_map files_of (take id.group (enumerate_from 0 groups))) + id.file
 
 -- where a file stands among all files, and in its group
-record IsFileAt (groups : List (List InputFile)) (k : ℕ) (f : NumberedFile) : Type 0 where
-  place : k ≡ file_place groups f.id
-  there : file_in groups f.id ≡ Some f.file
+pub record IsFileAt (groups : List (List InputFile)) (k : ℕ) (f : NumberedFile) : Type 0 where
+  pub place : k ≡ file_place groups f.id
+  pub there : file_in groups f.id ≡ Some f.file
 
-file_at : (groups : List (List InputFile)) (k : ℕ) (f : NumberedFile) → slice_get (numbered_files groups) k ≡ Some f → IsFileAt groups k f
+pub file_at : (groups : List (List InputFile)) (k : ℕ) (f : NumberedFile) → slice_get (numbered_files groups) k ≡ Some f → IsFileAt groups k f
 file_at groups k f h =
     let at = joined_at files_of (enumerate_from 0 groups) k f h in
     let group = numbered_at 0 groups at.outer at.from at.there in

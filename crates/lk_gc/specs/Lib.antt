@@ -1,2 +1,5 @@
+pub mod Faults
+pub mod Laws
+pub mod Marks
 pub mod Reach
 pub mod Units

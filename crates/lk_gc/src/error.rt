@@ -1,10 +1,23 @@
 //! Why it isn't told what is live.
 
+use lk_link::{FileId, List, SymbolId};
 use std::alloc::{AllocError, AllocFailed};
 
-/// Why it isn't told what is live.
+/// A reference that can't be met.
 #[derive(Clone, Copy, Debug, PartialEq, Eq)]
+pub enum ReferenceFault {
+    /// A section that is reached is left out, whatever refers to it: its file and its index there.
+    Discarded(FileId, u32),
+    /// A relocation needs a symbol that is defined nowhere: the symbol that stands for its own, the relocation's file, the
+    /// section's index there, and the relocation's index in the section.
+    Undefined(SymbolId, FileId, u32, u32),
+}
+
+/// Why it isn't told what is live.
+#[derive(Drop)]
 pub enum GcError {
+    /// These references can't be met, by file, section and relocation.
+    References(List<ReferenceFault>),
     /// There was no memory for the marks.
     NoMemory,
 }

@@ -2,11 +2,13 @@
 #![tactic(auto)]
 
 pub mod error;
+pub mod laws;
 pub mod live;
 pub mod traverse;
 pub mod units;
 
-pub use error::GcError;
-pub use live::{Live, LiveInputs, live_exists, live_is_one};
+pub use error::{GcError, ReferenceFault};
+pub use laws::{live_exists, live_is_one};
+pub use live::{Live, LiveInputs};
 pub use traverse::traverse_alone;
 pub use units::{Ask, Unit};

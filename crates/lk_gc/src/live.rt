@@ -3,9 +3,9 @@
 ghost use Rattle.std.specs.Prelude.{◌≡◌};
 ghost use Rattle.std.specs.Iterator.{YieldsFirstBy, item_count};
 ghost use Rattle.lk_link.specs.Files.{AreNumbered};
-ghost use Rattle.lk_gc.specs.Reach.{LiveExists, LiveIsOne, live_inputs};
+ghost use Rattle.lk_gc.specs.Reach.{live_inputs};
 
-use lk_link::{InputRef, Inputs, LinkInput, List};
+use lk_link::{InputRef, Inputs, LinkInput, List, ValueFlags};
 use std::marker::Model;
 
 /// What is live of a link (libwild: the slots of `GraphResources`).
@@ -13,6 +13,10 @@ use std::marker::Model;
 pub struct Live {
     /// For each input section, by its number over all files, whether it is live.
     pub marks: List<bool>,
+    /// For each symbol its flags: those handed in, and those that roots and reached units set.
+    pub flags: List<ValueFlags>,
+    /// For each output section whether a live section without bytes keeps it.
+    pub kept: List<bool>,
 }
 
 impl Live {
@@ -70,13 +74,3 @@ impl<'a> Iterator for LiveInputs<'a> {
         None
     }
 }
-
-/// A law: every link has its live sections.
-pub fn live_exists()
-    ensures { LiveExists }
-{}
-
-/// A law: what is live of a link is one.
-pub fn live_is_one()
-    ensures { LiveIsOne }
-{}
