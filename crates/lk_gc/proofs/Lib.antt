@@ -1,4 +1,3 @@
-pub mod Among
 pub mod LiveWalk
 pub mod Living
 pub mod MarkLemmas

@@ -17,7 +17,7 @@ use Rattle.lk_gc.specs.Laws.{ClosedMarksHoldReach, LiveWasAskedFor, MarksAreReac
 use Rattle.lk_gc.specs.Marks.{Asking, IsClosed, IsHit, IsInside, IsJoined, IsMarked, IsUnit, asked, asked_from, asking, flag_words, handed_in, join_all, reached_marks, symbols_in_all, unit_at, unit_number, word_of}
 use Rattle.lk_gc.specs.Reach.{HasFlag, IsHandedIn, IsLive, IsPath, IsReached, IsSetByUnit}
 use Rattle.lk_gc.specs.Units.{AskFlag, AskFor, AsksFor, IsRoot, flags_of, follows, roots, target_of, unit_of}
-use Rattle.lk_gc.proofs.Among.{at_index}
+use Rattle.lk_link.proofs.Elements.{at_index}
 use Rattle.lk_gc.proofs.MarkLemmas.{AreTargetsBelow, IsMarkClosed, IsTargetBelow, all_left, all_right, from_marked, of_marked, reached_closed, reached_only}
 use Rattle.lk_gc.proofs.UnitLemmas.{asks_are_inside, number_of, symbols_length}
 use Rattle.lk_gc.proofs.WordLemmas.{HasBit, IsWordBelow, SetsOnly, bit_within, join_all_joins, join_all_keeps, join_all_only}

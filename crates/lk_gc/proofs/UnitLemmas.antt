@@ -25,7 +25,7 @@ use Rattle.lk_link.specs.Files.{file_in}
 use Rattle.lk_link.specs.FileKinds.{is_object}
 use Rattle.lk_link.specs.InputRules.{IsGoodInput}
 use Rattle.lk_link.specs.Inputs.{Input, NumberedFile, all_inputs, input_number, inputs_from, numbered_files}
-use Rattle.lk_link.specs.InputSlots.{is_discarded, is_plain}
+use Rattle.lk_link.specs.InputSlots.{is_discarded, is_regular}
 use Rattle.lk_link.specs.Relocations.{resolution_flags}
 use Rattle.lk_link.specs.SymbolRules.{IsGoodSymbol, IsPlacementThere}
 use Rattle.lk_link.specs.Symbols.{all_files, all_symbols, definition_of, first_symbol, symbol_at, symbol_count}
@@ -41,7 +41,7 @@ use Rattle.lk_gc.specs.declared.units.Unit.TheVariants.{Sym, Sec}
 use Rattle.lk_gc.specs.Laws.{AsksAreInside}
 use Rattle.lk_gc.specs.Marks.{IsInside, IsUnit, all_units, asking, symbols_in_all, unit_at, unit_number}
 use Rattle.lk_gc.specs.Units.{ask_for, entry_asks, file_roots, flags_of, follows, is_primary_section, is_root, kind_roots, local_definition, numbered_symbols, range_mark, reference, relocation_asks, roots, section_asks, section_of, section_roots, symbol_asks, symbols_of, target_of, unit_of}
-use Rattle.lk_gc.proofs.Among.{append_at, append_left, append_right, at_index, joined_at, map_at, map_in}
+use Rattle.lk_link.proofs.Elements.{append_at, append_left, append_right, at_index, flat_map_at, map_at, map_in}
 use Rattle.lk_gc.proofs.Numbered.{IsFileAt, IsSectionOf, file_at, file_of_input, one_place, sections_of}
 use Rattle.lk_gc.proofs.Numbered as numbered
 
@@ -183,7 +183,7 @@ relocation_inside link id file primary r wf at_file lt =
     (unless_inside groups (resolution_flags r.kind == 0) _ (reference_inside groups _ _ (local_within link id file r.symbol wf at_file lt)))
     (option_inside groups (primary && r.thunkable) _ (mark_inside groups _ _ (omega (arith, symbols_within groups id file at_file))))
 
-plain_kept : (s : InputSlot) → is_plain s ≡ true → is_discarded s ≡ false
+plain_kept : (s : InputSlot) → is_regular s ≡ true → is_discarded s ≡ false
 plain_kept slot.Discard h = absurd (cc)
 plain_kept slot.Unloaded h = refl
 plain_kept slot.MustLoad h = refl
@@ -195,7 +195,7 @@ section_asks_inside : (link : LinkInput) (id : FileId) (file : InputFile) (i : �
     → All (IsInside link.groups) (section_asks link id file section)
 section_asks_inside link id file i section wf at_file at_i =
     let groups : List (List InputFile) = link.groups in
-    either_inside groups (is_plain section.slot) _ []
+    either_inside groups (is_regular section.slot) _ []
     (λ plain.
     let good : IsGoodInput link.plan (length file.symbols) section = inputs_are_good link id i file section wf at_file at_i (plain_kept section.slot plain) in
     all_joined (IsInside groups) (relocation_asks (is_primary_section link section) (first_symbol groups id) file.symbols) section.relocs
@@ -212,7 +212,7 @@ pub record IsNumberedSymbol (groups : List (List InputFile)) (q : NumberedFile �
 
 pub symbol_stands : (groups : List (List InputFile)) (s : ℕ) (q : NumberedFile × InputSymbol) → slice_get (numbered_symbols groups) s ≡ Some q → IsNumberedSymbol groups q
 symbol_stands groups s q h =
-    let at = joined_at symbols_of (numbered_files groups) s q h in
+    let at = flat_map_at symbols_of (numbered_files groups) s q h in
     let f : NumberedFile = at.from in
     let pair : InputSymbol → NumberedFile × InputSymbol = λ x. (f, x) in
     let x = map_at pair f.file.symbols at.inner q at.gives in

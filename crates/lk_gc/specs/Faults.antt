@@ -10,7 +10,7 @@ use Rattle.lk_link.specs.declared.symbol.InputSymbol.{InputSymbol}
 use Rattle.lk_link.specs.declared.symbol.SymbolPlacement.{SymbolPlacement}
 use Rattle.lk_link.specs.declared.symbol.SymbolPlacement.TheVariants as at
 use Rattle.lk_link.specs.Inputs.{Input, NumberedFile, inputs_from, numbered_files}
-use Rattle.lk_link.specs.InputSlots.{is_discarded, is_plain}
+use Rattle.lk_link.specs.InputSlots.{is_discarded, is_regular}
 use Rattle.lk_link.specs.Relocations.{resolution_flags}
 use Rattle.lk_link.specs.Symbols.{first_symbol, symbol_at}
 use Rattle.lk_gc.specs.declared.error.ReferenceFault.{ReferenceFault}
@@ -50,7 +50,7 @@ relocation_fault groups f section q =
 abbrev pub section_faults : LinkInput → NumberedFile → Input → List ReferenceFault
 section_faults link f x =
     if is_discarded x.section.slot then Discarded f.id x.index ∷ []
-    else if is_plain x.section.slot && link.options.error_objects
+    else if is_regular x.section.slot && link.options.error_objects
     then filter_map (relocation_fault link.groups f x.index) (enumerate_from 0 x.section.relocs)
     else []
 

@@ -20,7 +20,7 @@ use Rattle.lk_link.specs.declared.symbol.SymbolPlacement.TheVariants as at
 use Rattle.lk_link.specs.FileKinds.{is_object}
 use Rattle.lk_link.specs.Files.{file_in}
 use Rattle.lk_link.specs.Inputs.{Input, NumberedFile, inputs_from, numbered_files}
-use Rattle.lk_link.specs.InputSlots.{is_plain}
+use Rattle.lk_link.specs.InputSlots.{is_regular}
 use Rattle.lk_link.specs.PartRules.{is_part}
 use Rattle.lk_link.specs.Relocations.{resolution_flags}
 use Rattle.lk_link.specs.Symbols.{definition_of, first_symbol}
@@ -82,7 +82,7 @@ is_primary_section link s = is_part s.part link.plan.named.primary
 -- (libwild: `handle_section_load_request`)
 abbrev pub section_asks : LinkInput → FileId → InputFile → InputSection → List Ask
 section_asks link id file s =
-    if is_plain s.slot then flat_map (relocation_asks (is_primary_section link s) (first_symbol link.groups id) file.symbols) s.relocs
+    if is_regular s.slot then flat_map (relocation_asks (is_primary_section link s) (first_symbol link.groups id) file.symbols) s.relocs
     else []
 
 -- ---- symbols
