@@ -3,6 +3,9 @@ pub mod Living
 pub mod MarkLemmas
 pub mod Marks
 pub mod Numbered
-pub mod Reaching
+pub mod ReachLemmas
+pub mod SuccessorLemmas
+pub mod SymbolNumbers
 pub mod UnitLemmas
+pub mod WalkLemmas
 pub mod WordLemmas

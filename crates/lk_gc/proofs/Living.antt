@@ -30,7 +30,7 @@ use Rattle.lk_gc.specs.Reach.{AreLive, HasFlag, IsKept, IsLive, keeps_output, ke
 use Rattle.lk_gc.specs.Units.{ask_for, file_roots, flags_from, is_root, kind_roots, roots, section_roots, unit_of}
 use Rattle.lk_link.proofs.Elements.{at_index, contains_at, filter_in, flat_map_at, flat_map_in, map_at, map_in}
 use Rattle.lk_gc.proofs.Numbered.{IsSectionOf, file_at, section_of, sections_of}
-use Rattle.lk_gc.proofs.Reaching.{handed_length, marks_are_reached, reach_root, words_are_flags}
+use Rattle.lk_gc.proofs.ReachLemmas.{handed_length, marks_are_reached, reach_root, words_are_flags}
 use Rattle.lk_gc.proofs.UnitLemmas.{input_place, input_unit, symbols_length}
 use Rattle.lk_gc.proofs.WordLemmas.{join_all_length, same_flags}
 

@@ -6,6 +6,7 @@ use Rattle.std.proofs.lemmas.Bool.{cases_eq, cases_lt}
 use Rattle.std.proofs.lemmas.List.{get_or_append_left, length-set, get_or-set_same, get_or-set_other, get_or-append-add, get_or-replicate, get_or_past, length-append, length-replicate, set_past}
 use Rattle.std.proofs.lemmas.List.Elements.{All-append, All-cons, All-head, All-nil, All-tail}
 use Rattle.lk_gc.specs.declared.units.Ask.{Ask}
+use Rattle.lk_gc.specs.Walking.{unmarked}
 use Rattle.lk_gc.specs.Marks.{Asking, IsHit, IsMarked, asked, asked_from, mark_all, mark_target, marks_of, rounds}
 
 -- ---- two lists
@@ -59,11 +60,6 @@ marked_or_not (false ∷ marks) zero = inr refl
 marked_or_not (m ∷ marks) (suc u) = marked_or_not marks u
 
 -- ---- how many are unmarked
-
-unfoldable pub unmarked : List Bool → ℕ
-unmarked [] = 0
-unmarked (true ∷ marks) = unmarked marks
-unmarked (false ∷ marks) = suc (unmarked marks)
 
 pub unmarked_fewer : (marks : List Bool) (u : ℕ) → u < length marks → slice_index_or marks u false ≡ false → suc (unmarked (slice_set marks u true)) ≡ unmarked marks
 unfolding unmarked
@@ -284,7 +280,7 @@ rounds_only g R root step (suc k) marks h u is =
 
 -- ---- all that is reached
 
-none_marked : (n u : ℕ) → IsMarked (replicate n false) u → ⊥
+pub none_marked : (n u : ℕ) → IsMarked (replicate n false) u → ⊥
 none_marked zero u h = absurd (cc)
 none_marked (suc n) zero h = absurd (cc)
 none_marked (suc n) (suc u) h = none_marked n u h

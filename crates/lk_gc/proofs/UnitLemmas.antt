@@ -183,13 +183,13 @@ relocation_inside link id file primary r wf at_file lt =
     (unless_inside groups (resolution_flags r.kind == 0) _ (reference_inside groups _ _ (local_within link id file r.symbol wf at_file lt)))
     (option_inside groups (primary && r.thunkable) _ (mark_inside groups _ _ (omega (arith, symbols_within groups id file at_file))))
 
-plain_kept : (s : InputSlot) → is_regular s ≡ true → is_discarded s ≡ false
-plain_kept slot.Discard h = absurd (cc)
-plain_kept slot.Unloaded h = refl
-plain_kept slot.MustLoad h = refl
-plain_kept slot.DebugInfo h = refl
-plain_kept slot.MustLoadDebugInfo h = refl
-plain_kept slot.Merge h = refl
+pub regular_kept : (s : InputSlot) → is_regular s ≡ true → is_discarded s ≡ false
+regular_kept slot.Discard h = absurd (cc)
+regular_kept slot.Unloaded h = refl
+regular_kept slot.MustLoad h = refl
+regular_kept slot.DebugInfo h = refl
+regular_kept slot.MustLoadDebugInfo h = refl
+regular_kept slot.Merge h = refl
 
 section_asks_inside : (link : LinkInput) (id : FileId) (file : InputFile) (i : ℕ) (section : InputSection) → IsWellFormed link → file_in link.groups id ≡ Some file → slice_get file.sections i ≡ Some section
     → All (IsInside link.groups) (section_asks link id file section)
@@ -197,7 +197,7 @@ section_asks_inside link id file i section wf at_file at_i =
     let groups : List (List InputFile) = link.groups in
     either_inside groups (is_regular section.slot) _ []
     (λ plain.
-    let good : IsGoodInput link.plan (length file.symbols) section = inputs_are_good link id i file section wf at_file at_i (plain_kept section.slot plain) in
+    let good : IsGoodInput link.plan (length file.symbols) section = inputs_are_good link id i file section wf at_file at_i (regular_kept section.slot plain) in
     all_joined (IsInside groups) (relocation_asks (is_primary_section link section) (first_symbol groups id) file.symbols) section.relocs
     (λ k r there. relocation_inside link id file (is_primary_section link section) r wf at_file (good.in_relocs k r there).1))
     (λ e. All-nil (IsInside groups))
@@ -278,6 +278,10 @@ kind_inside link f kind.Dynamic wf there = All-nil (IsInside link.groups)
 kind_inside link f kind.NotLoaded wf there = All-nil (IsInside link.groups)
 kind_inside link f kind.SyntheticSymbols wf there = All-nil (IsInside link.groups)
 kind_inside link f kind.LinkerScript wf there = All-nil (IsInside link.groups)
+
+-- what one file asks for is there
+pub file_inside : (link : LinkInput) (f : NumberedFile) → IsWellFormed link → file_in link.groups f.id ≡ Some f.file → All (IsInside link.groups) (file_roots link f)
+file_inside link f wf there = kind_inside link f f.file.kind wf there
 
 roots_inside : (link : LinkInput) → IsWellFormed link → All (IsInside link.groups) (roots link)
 roots_inside link wf = all_joined (IsInside link.groups) (file_roots link) (numbered_files link.groups) (λ k f there. kind_inside link f f.file.kind wf (file_at link.groups k f there).there)

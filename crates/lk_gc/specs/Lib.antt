@@ -3,3 +3,4 @@ pub mod Laws
 pub mod Marks
 pub mod Reach
 pub mod Units
+pub mod Walking

@@ -100,9 +100,13 @@ abbrev pub section_of : SymbolPlacement → Option ℕ
 section_of (at.Section index offset) = Some index
 section_of _ = None
 
--- what a symbol asks for: in an object its section, if it has one (libwild: `load_symbol`)
+-- what a symbol of a file asks for: in an object its section, if it has one
+abbrev pub placement_asks : FileId → FileKind → SymbolPlacement → List Ask
+placement_asks id kind p = if is_object kind then option_to_list (option_map (Section id) (section_of p)) else []
+
+-- the same, for a symbol with its file (libwild: `load_symbol`)
 abbrev pub symbol_asks : NumberedFile × InputSymbol → List Ask
-symbol_asks q = if is_object q.0.file.kind then option_to_list (option_map (Section q.0.id) (section_of q.1.at)) else []
+symbol_asks q = placement_asks q.0.id q.0.file.kind q.1.at
 
 -- ---- units
 

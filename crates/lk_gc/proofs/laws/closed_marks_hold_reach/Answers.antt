@@ -1,4 +1,4 @@
-use Rattle.lk_gc.proofs.Reaching.{closed_marks_hold_reach}
+use Rattle.lk_gc.proofs.ReachLemmas.{closed_marks_hold_reach}
 use Rattle.lk_gc.proofs.laws.closed_marks_hold_reach.Goals as goal
 
 pub returns : goal.returns

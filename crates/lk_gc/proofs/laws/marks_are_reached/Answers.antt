@@ -1,4 +1,4 @@
-use Rattle.lk_gc.proofs.Reaching.{marks_are_reached}
+use Rattle.lk_gc.proofs.ReachLemmas.{marks_are_reached}
 use Rattle.lk_gc.proofs.laws.marks_are_reached.Goals as goal
 
 pub returns : goal.returns

@@ -1,4 +1,4 @@
-use Rattle.lk_gc.proofs.Reaching.{reach_is_closed}
+use Rattle.lk_gc.proofs.ReachLemmas.{reach_is_closed}
 use Rattle.lk_gc.proofs.laws.reach_is_closed.Goals as goal
 
 pub returns : goal.returns

@@ -1,4 +1,4 @@
-use Rattle.lk_gc.proofs.Reaching.{words_are_flags}
+use Rattle.lk_gc.proofs.ReachLemmas.{words_are_flags}
 use Rattle.lk_gc.proofs.laws.words_are_flags.Goals as goal
 
 pub returns : goal.returns

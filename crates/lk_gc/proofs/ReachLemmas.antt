@@ -25,12 +25,12 @@ use Rattle.lk_gc.proofs.WordLemmas.{HasBit, IsWordBelow, SetsOnly, bit_within, j
 -- ---- targets by number
 
 -- the unit that an ask reaches, from its number
-target_unit : (groups : List (List InputFile)) (o : Option LinkUnit) (n : ℕ) → option_map (unit_number groups) o ≡ Some n → (u : LinkUnit) × (o ≡ Some u) × (unit_number groups u ≡ n)
+pub target_unit : (groups : List (List InputFile)) (o : Option LinkUnit) (n : ℕ) → option_map (unit_number groups) o ≡ Some n → (u : LinkUnit) × (o ≡ Some u) × (unit_number groups u ≡ n)
 target_unit groups None n h = absurd (cc)
 target_unit groups (Some u) n h = (u, refl, cc)
 
 -- what a unit asks for, by its number
-follows_at : (link : LinkInput) (n : ℕ) (u : LinkUnit) → unit_at link.groups n ≡ Some u → (asking link).follows n ≡ follows link u
+pub follows_at : (link : LinkInput) (n : ℕ) (u : LinkUnit) → unit_at link.groups n ≡ Some u → (asking link).follows n ≡ follows link u
 follows_at link n u h = ap (λ o. option_map_or (follows link) o []) h
 
 inside_below : (link : LinkInput) (asks : List Ask) → All (IsInside link.groups) asks → All (IsTargetBelow (asking link) (asking link).count) asks
@@ -162,6 +162,10 @@ asked_inside : (link : LinkInput) (marks : List Bool) → IsWellFormed link → 
 asked_inside link marks wf =
     All-append (IsInside link.groups) (roots link) (asked_from (asking link).follows 0 marks) (asks_are_inside.by_roots link wf)
     (from_marked (IsInside link.groups) (asking link).follows 0 marks (λ v m. unit_asks_inside link (0 + v) (unit_at link.groups (0 + v)) wf))
+
+-- flags that are handed in stay
+pub handed_in_words : (link : LinkInput) (n i : ℕ) → HasBit (handed_in link) n i → HasBit (flag_words link) n i
+handed_in_words link n i bit = join_all_keeps (handed_in link) (asked (asking link) (reached_marks link)) n i bit
 
 -- all that is asked for is joined
 pub all_joined : (link : LinkInput) → IsWellFormed link → All (IsJoined (flag_words link)) (asked (asking link) (reached_marks link))
