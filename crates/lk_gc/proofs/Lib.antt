@@ -1,3 +1,4 @@
+pub mod FaultLemmas
 pub mod LiveWalk
 pub mod Living
 pub mod MarkLemmas

@@ -14,7 +14,7 @@ use Rattle.lk_link.specs.WellFormed.{IsWellFormed}
 use Rattle.lk_gc.specs.declared.units.Ask.{Ask}
 use Rattle.lk_gc.specs.declared.units.Unit.{Unit as LinkUnit}
 use Rattle.lk_gc.specs.Laws.{ClosedMarksHoldReach, LiveWasAskedFor, MarksAreReached, MoreRootsReachMore, ReachIsClosed, WordsAreFlags}
-use Rattle.lk_gc.specs.Marks.{Asking, IsClosed, IsHit, IsInside, IsJoined, IsMarked, IsUnit, asked, asked_from, asking, flag_words, handed_in, join_all, reached_marks, symbols_in_all, unit_at, unit_number, word_of}
+use Rattle.lk_gc.specs.Marks.{Asking, IsClosed, IsHit, IsInside, IsJoined, IsMarked, IsUnit, asked, asked_from, asking, flag_words, flags_handed_in, handed_in, join_all, reached_marks, symbols_in_all, unit_at, unit_number, word_of}
 use Rattle.lk_gc.specs.Reach.{HasFlag, IsHandedIn, IsLive, IsPath, IsReached, IsSetByUnit}
 use Rattle.lk_gc.specs.Units.{AskFlag, AskFor, AsksFor, IsRoot, flags_of, follows, roots, target_of, unit_of}
 use Rattle.lk_link.proofs.Elements.{at_index}
@@ -153,7 +153,7 @@ reached_unit link u wf r = path_unit link r.first r.rest u wf (inside_unit link.
 -- ---- flags
 
 pub handed_length : (link : LinkInput) → length (handed_in link) ≡ 1 + symbols_in_all link.groups
-handed_length link = omega (arith, length-map (all_symbols link.groups) (λ (s : InputSymbol). s.flags.0), symbols_length link.groups)
+handed_length link = omega (arith, length-map (all_symbols link.groups) flags_handed_in, symbols_length link.groups)
 
 words_below : (link : LinkInput) (asks : List Ask) → All (IsInside link.groups) asks → All (IsWordBelow (length (handed_in link))) asks
 words_below link asks h k d lt p e = omega (arith, handed_length link, (h k d lt).symbol p e)
@@ -193,7 +193,7 @@ reach_is_closed link wf =
 handed_meant : (link : LinkInput) (n i : ℕ) → HasBit (handed_in link) n i → (s : ℕ) → word_of s ≡ n → HasFlag link s i
 handed_meant link n i bit s e =
     let symbols = all_symbols link.groups in
-    let flags : InputSymbol → ℕ = λ s. s.flags.0 in
+    let flags : InputSymbol → ℕ = flags_handed_in in
     let same : n ≡ suc s = omega arith in
     let own : HasBit (handed_in link) (suc s) i = subst (λ m. HasBit (handed_in link) m i) same bit in
     let within : s < length symbols = omega (arith, bit_within (handed_in link) (suc s) i own, length-map symbols flags) in
@@ -226,7 +226,7 @@ ask_set words asks s i h f = All-contains (IsJoined words) asks f.ask h f.among 
 handed_set : (link : LinkInput) (s i : ℕ) → IsHandedIn link s i → HasBit (handed_in link) (word_of s) i
 handed_set link s i h =
     let symbols = all_symbols link.groups in
-    let flags : InputSymbol → ℕ = λ s. s.flags.0 in
+    let flags : InputSymbol → ℕ = flags_handed_in in
     let within = slice_get_within symbols s h.symbol h.there in
     let read : slice_index (map flags symbols) s ≡ flags h.symbol = get_or-map flags symbols s h.symbol 0 within ∙ ap flags (get_or_from_slice_get symbols s h.symbol h.symbol h.there) in
     let same : suc s ≡ word_of s = omega arith in

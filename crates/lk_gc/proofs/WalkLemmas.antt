@@ -1,29 +1,33 @@
 -- What asks do to a walk, and what holds in the middle of it and at its end.
-use Rattle.std.proofs.Common.{◌≡◌, ℕ, zero, suc, ◌+◌, ◌<◌, ◌≤◌, Bool, true, false, cond, if◌then◌else◌, List, [], ◌∷◌, ◌++◌, length, map, get_or, Option, Some, None, refl, sym, ap, ◌∙◌, subst, inl, inr, ◌⊎◌, arith, append_assoc, length-append, replicate}
+use Rattle.std.proofs.Common.{◌≡◌, ℕ, zero, suc, ◌+◌, ◌<◌, ◌≤◌, ◌^◌, Bool, true, false, cond, if◌then◌else◌, List, [], ◌∷◌, ◌++◌, length, map, get_or, Option, Some, None, refl, sym, ap, ◌∙◌, subst, inl, inr, ◌⊎◌, arith, append_assoc, length-append, replicate}
 use Rattle.std.specs.Int.{bit_at}
 use Rattle.std.specs.List.{All, Contains, flat_map, slice_get, slice_index}
 use Rattle.std.specs.Iterator.{Yields, YieldsFirst, YieldsFirstBy}
 use Rattle.std.specs.Option.{ForSome, option_map_or}
 use Rattle.std.proofs.lemmas.Bool.{cases_Bool}
 use Rattle.std.proofs.lemmas.Iterator.Consumers.{YieldsList-end, YieldsList-from_first, YieldsList-turn}
-use Rattle.std.proofs.lemmas.List.{ext_get_or, flat_map_more, length-replicate, length_push, map_push}
-use Rattle.std.proofs.lemmas.Option.{slice_get-get_or}
+use Rattle.std.proofs.lemmas.List.{ext_get_or, flat_map_more, get_or-map, length-map, length-replicate, length_push, map-append, map_push}
+use Rattle.std.proofs.lemmas.Option.{get_or_from_slice_get, slice_get-get_or}
 use Rattle.std.proofs.lemmas.List.Elements.{All-append, All-contains, All-nil, All-push, Contains-append_left, Contains-push, Contains-push_cases}
 use Rattle.lk_link.specs.declared.file.InputFile.{InputFile}
 use Rattle.lk_link.specs.declared.ids.FileId.{FileId}
 use Rattle.lk_link.specs.declared.link.LinkInput.{LinkInput}
 use Rattle.lk_link.specs.Files.{file_in}
 use Rattle.lk_link.specs.declared.walks.FileRef.{FileRef}
-use Rattle.lk_link.specs.Inputs.{NumberedFile}
+use Rattle.lk_link.specs.Inputs.{NumberedFile, numbered_files}
+use Rattle.lk_link.proofs.InputLemmas.{files_from_are}
 use Rattle.lk_link.specs.Marks.{is_marked}
 use Rattle.lk_link.specs.Walks.{file_of}
 use Rattle.lk_link.specs.WellFormed.{IsWellFormed}
 use Rattle.lk_gc.specs.declared.units.Ask.{Ask}
 use Rattle.lk_gc.specs.declared.units.Unit.{Unit as LinkUnit}
 use Rattle.lk_gc.specs.declared.walk.Walk.{Walk}
-use Rattle.lk_gc.specs.Marks.{Asking, IsClosed, IsHit, IsInside, IsJoined, IsMarked, all_units, asked, asked_from, asking, flag_words, handed_in, join_all, join_flags, mark_all, mark_target, reached_marks, unit_at}
+use Rattle.lk_link.specs.Symbols.{all_symbols}
+use Rattle.lk_link.proofs.Elements.{at_index}
+use Rattle.lk_link.proofs.GoodSymbols.{numbered_symbol}
+use Rattle.lk_gc.specs.Marks.{Asking, IsClosed, IsHit, IsInside, IsJoined, IsMarked, all_units, asked, asked_from, asking, flag_words, flags_handed_in, handed_in, join_all, join_flags, mark_all, mark_target, reached_marks, unit_at}
 use Rattle.lk_gc.specs.Units.{flags_of, follows, roots, target_of}
-use Rattle.lk_gc.specs.Walking.{Adds, IsDone, IsSized, IsWalking, Takes, stack_after, unmarked}
+use Rattle.lk_gc.specs.Walking.{Adds, IsDone, AreFew, IsSized, IsStart, IsWalked, IsWalking, Takes, stack_after, unmarked}
 use Rattle.lk_gc.proofs.MarkLemmas.{all_left, from_marked, hit_keeps, mark_again, mark_all_hits, mark_all_keeps, mark_all_length, mark_all_only, mark_cases, mark_hits, mark_keeps, none_marked, reached_length, reached_only, unmarked_fewer}
 use Rattle.lk_gc.proofs.ReachLemmas.{follows_at, handed_in_words, handed_length, reach_is_closed, target_unit}
 use Rattle.lk_gc.proofs.SymbolNumbers.{unit_within}
@@ -44,7 +48,7 @@ join_all-append words (a ∷ asks) more = join_all-append (join_flags words (fla
 
 pub adds_none : (link : LinkInput) (w : Walk) → Adds link [] w w
 unfolding mark_all join_all
-adds_none link w = record { marked = refl; joined = refl; fresh = λ u h. inl h; kept = λ u h. h; on_stack = λ h. h; measure = refl }
+adds_none link w = record { marked = refl; joined = refl; fresh = λ u h. inl h; kept = λ u h. h; few = λ h. h; on_stack = λ h. h; measure = refl }
 
 pub adds_more : (link : LinkInput) (asks more : List Ask) (a b c : Walk) → Adds link asks a b → Adds link more b c → Adds link (asks ++ more) a c
 adds_more link asks more a b c h k = record {
@@ -55,6 +59,7 @@ adds_more link asks more a b c h k = record {
     | inl before ↦ elim (h.fresh u before) [ inl first ↦ inl first | inr waits ↦ inr (k.kept u waits) ]
   ];
   kept = λ u waits. k.kept u (h.kept u waits);
+  few = λ all. k.few (h.few all);
   on_stack = λ all. k.on_stack (h.on_stack all);
   measure = k.measure ∙ h.measure;
 }
@@ -106,6 +111,7 @@ adds_one link a old new below t =
       joined = t.joined;
       fresh = λ u is. elim (s.fresh u (subst (λ ms. IsMarked ms u) t.marked is)) [ inl before ↦ inl before | inr new_one ↦ inr (subst (λ st. Contains st u) (sym t.stack) new_one) ];
       kept = λ u waits. subst (λ st. Contains st u) (sym t.stack) (s.kept u waits);
+      few = t.few;
       on_stack = λ all.
           subst (λ st. All (IsMarked new.marks.items) st) (sym t.stack)
           (subst (λ ms. All (IsMarked ms) (stack_after old.marks.items old.stack.items ((asking link).target a))) (sym t.marked) (s.on_stack all));
@@ -188,17 +194,22 @@ adds_within link asks old new h within marks words = (
   λ n i bit. join_all_only (HasBit (flag_words link)) old.words.items asks words within.flags n i (subst (λ ws. HasBit ws n i) h.joined bit),
 )
 
--- the start of a walk: nothing is marked, and no flags but those handed in are there
-pub record IsStart (link : LinkInput) (w : Walk) : Type 0 where
-  pub marks : w.marks.items ≡ replicate (length (all_units link.groups)) false
-  pub words : w.words.items ≡ handed_in link
-  pub stack : w.stack.items ≡ []
-
 pub start_sized : (link : LinkInput) (w : Walk) → IsStart link w → IsSized link w
 start_sized link w h = record {
   marks = ap length h.marks ∙ length-replicate (length (all_units link.groups)) false;
   words = omega (arith, ap length h.words, handed_length link);
 }
+
+-- flags that are handed in are few
+handed_few : (link : LinkInput) → IsWellFormed link → AreFew (handed_in link)
+handed_few link wf zero d lt = omega arith
+handed_few link wf (suc k) d lt =
+    let symbols = all_symbols link.groups in
+    let within : k < length symbols = omega (arith, length-map symbols flags_handed_in) in
+    let x = at_index symbols k within in
+    let good = (numbered_symbol link k x.0 wf x.1).2 in
+    let read : get_or (map flags_handed_in symbols) k d ≡ flags_handed_in x.0 = get_or-map flags_handed_in symbols k x.0 d within ∙ ap flags_handed_in (get_or_from_slice_get symbols k x.0 x.0 x.1) in
+    omega (arith, read, good.few_flags)
 
 -- after the roots the walk is on its way
 pub walking_from : (link : LinkInput) (first w : Walk) → IsWellFormed link → IsStart link first → Adds link (roots link) first w → IsWalking link w
@@ -212,6 +223,7 @@ walking_from link first w wf start h =
       size = sized_more link (roots link) first w size h;
       by_roots = adds_done link (roots link) first w (asks_are_inside.by_roots link wf) size h;
       by_units = λ u is. elim (h.fresh u is) [ inl before ↦ absurd (none u before) | inr waits ↦ inl waits ];
+      few = h.few (subst AreFew (sym start.words) (handed_few link wf));
       on_stack = h.on_stack (subst (All (IsMarked first.marks.items)) (sym start.stack) (All-nil (IsMarked first.marks.items)));
       reached = inside.0;
       handed = λ n i bit. subst (λ ws. HasBit ws n i) (sym h.joined) (join_all_keeps first.words.items (roots link) n i (subst (λ ws. HasBit ws n i) (sym start.words) bit));
@@ -274,6 +286,7 @@ walking_next link old mid new n u wf walk pop at h =
           ]
         ]
       ];
+      few = h.few (subst AreFew (sym pop.words) walk.few);
       on_stack = h.on_stack (λ k d lt. subst (λ ms. IsMarked ms (get_or mid.stack.items k d)) (sym pop.marks) (popped_marked old mid n walk.on_stack pop k d lt));
       reached = stays.0;
       handed = λ m i bit. subst (λ ws. HasBit ws m i) (sym h.joined) (join_all_keeps mid.words.items asks m i (subst (λ ws. HasBit ws m i) (sym pop.words) (walk.handed m i bit)));
@@ -295,6 +308,7 @@ walking_past link old new n walk pop at =
           | inr same ↦ inr (subst (λ m. All (IsDone link new) ((asking link).follows m)) same (subst (All (IsDone link new)) (sym none) (All-nil (IsDone link new))))
         ]
       ];
+      few = subst AreFew (sym pop.words) walk.few;
       on_stack = λ k d lt. subst (λ ms. IsMarked ms (get_or new.stack.items k d)) (sym pop.marks) (popped_marked old new n walk.on_stack pop k d lt);
       reached = λ v is. walk.reached v (subst (λ ms. IsMarked ms v) pop.marks is);
       handed = λ m i bit. subst (λ ws. HasBit ws m i) (sym pop.words) (walk.handed m i bit);
@@ -344,3 +358,17 @@ walk_words link w walk empty =
     = λ n i bit. join_all_only (HasBit words) (handed_in link) (asked g (reached_marks link)) walk.handed joined n i bit in
     let size : length words ≡ length (flag_words link) = omega (arith, walk.size.words, join_all_length (handed_in link) (asked g (reached_marks link)), handed_length link) in
     same_words words (flag_words link) size walk.flags holds
+
+pub walked : (link : LinkInput) (w : Walk) → IsWalking link w → w.stack.items ≡ [] → IsWalked link w
+walked link w walk empty = record { marks = walk_marks link w walk empty; words = walk_words link w walk empty; few = walk.few }
+
+-- ---- what is handed in
+
+pub all_handed_in : (fs : List NumberedFile) → flat_map (λ f. map flags_handed_in f.file.symbols) fs ≡ map flags_handed_in (flat_map (λ f. f.symbols) (map (λ x. x.file) fs))
+all_handed_in [] = refl
+all_handed_in (f ∷ fs) =
+    ap (λ xs. map flags_handed_in f.file.symbols ++ xs) (all_handed_in fs)
+    ∙ sym (map-append flags_handed_in f.file.symbols (flat_map (λ (g : InputFile). g.symbols) (map (λ (x : NumberedFile). x.file) fs)))
+
+pub handed_in_whole : (link : LinkInput) → flat_map (λ f. map flags_handed_in f.file.symbols) (numbered_files link.groups) ≡ map flags_handed_in (all_symbols link.groups)
+handed_in_whole link = all_handed_in (numbered_files link.groups) ∙ ap (λ fs. map flags_handed_in (flat_map (λ (f : InputFile). f.symbols) fs)) (files_from_are 0 link.groups)

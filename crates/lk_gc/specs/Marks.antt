@@ -5,6 +5,7 @@ use Rattle.std.specs.List.{range_with_len}
 use Rattle.std.specs.Option.{ForSome, option_map_or}
 use Rattle.lk_link.specs.declared.file.InputFile.{InputFile}
 use Rattle.lk_link.specs.declared.link.LinkInput.{LinkInput}
+use Rattle.lk_link.specs.declared.symbol.InputSymbol.{InputSymbol}
 use Rattle.lk_link.specs.Inputs.{all_inputs, input_number}
 use Rattle.lk_link.specs.Symbols.{all_files, all_symbols, symbol_count}
 use Rattle.lk_gc.specs.declared.units.Ask.{Ask}
@@ -118,9 +119,13 @@ unfoldable pub join_all : List ℕ → List Ask → List ℕ
 join_all words [] = words
 join_all words (a ∷ asks) = join_all (join_flags words (flags_of a)) asks
 
+-- the flags that are handed in with a symbol
+abbrev pub flags_handed_in : InputSymbol → ℕ
+flags_handed_in s = s.flags.0
+
 -- the flags that are handed in, behind a spare word
 abbrev pub handed_in : LinkInput → List ℕ
-handed_in link = 0 ∷ map (λ s. s.flags.0) (all_symbols link.groups)
+handed_in link = 0 ∷ map flags_handed_in (all_symbols link.groups)
 
 -- the flags of all symbols: those handed in, and those of what roots and reached units ask for
 abbrev pub flag_words : LinkInput → List ℕ

@@ -249,7 +249,7 @@ fn reference(first: u32, symbols: &[InputSymbol], relocation: Relocation) -> Opt
 }
 
 /// What stands for a symbol of a file, by its index there: its definition, else itself.
-fn local_definition(first: u32, symbols: &[InputSymbol], index: u32) -> SymbolId
+pub(crate) fn local_definition(first: u32, symbols: &[InputSymbol], index: u32) -> SymbolId
     requires { first + index < 2 ^ 32 }
     ensures { result ≡ local_definition first symbols.now index }
 {

@@ -3,6 +3,7 @@
 
 pub mod asks;
 pub mod error;
+mod faults;
 pub mod laws;
 pub mod live;
 pub mod reaching;

@@ -5,19 +5,18 @@
 //! at once. The walk begins with what files ask for by themselves, and ends when the stack is empty: then all that a marked unit
 //! asks for is marked and joined, and nothing else ever was.
 
-ghost use Rattle.std.specs.Prelude.{◌≡◌, [], ◌<◌, ◌^◌, All, IsSome, OnOk, IfOk, Some, SomeIff, length};
+ghost use Rattle.std.specs.Prelude.{◌≡◌, [], ◌++◌, ◌<◌, ◌^◌, All, IsSome, OnOk, IfOk, Some, SomeIff, false, length, map, replicate};
 ghost use Rattle.lk_link.specs.Files.{file_in};
-ghost use Rattle.lk_link.specs.Inputs.{all_inputs};
 ghost use Rattle.lk_link.specs.WellFormed.{IsWellFormed};
-ghost use Rattle.lk_gc.specs.Marks.{IsInside, asking, flag_words, handed_in, join_flags, mark_target, reached_marks, unit_at, unit_number, word_of};
+ghost use Rattle.lk_gc.specs.Marks.{IsInside, flags_handed_in, handed_in, join_flags, mark_target, unit_at, unit_number, word_of};
 ghost use Rattle.lk_gc.specs.declared.units.Unit.TheVariants.{Sec};
 ghost use Rattle.lk_gc.specs.Units.{roots};
-ghost use Rattle.lk_gc.specs.Walking.{Adds, IsSized, IsWalking, Takes, files_of_inputs, stack_after};
+ghost use Rattle.lk_gc.specs.Walking.{Adds, AreFew, IsSized, IsStart, IsWalked, IsWalking, Takes, files_of_inputs, stack_after};
 
 use crate::asks::Successors;
 use crate::reaching::{file_roots, successors};
 use crate::units::{Ask, Unit};
-use lk_link::{FileId, LinkInput, SymbolId, ValueFlags};
+use lk_link::{FileId, InputSymbol, LinkInput, SymbolId, ValueFlags};
 use std::alloc::{AllocError, Global};
 
 /// What is reached so far.
@@ -32,6 +31,33 @@ pub(crate) struct Walk {
 }
 
 impl Walk {
+    /// What is reached of a link: the marks of its units, and the words of its symbols' flags (libwild:
+    /// `traverse_reference_graph`).
+    pub(crate) fn over(alloc: Global, link: &LinkInput) -> Result<Walk, AllocError>
+        requires { IsWellFormed link.now }
+        ensures { IfOk result (IsWalked link.now) }
+    {
+        let files = files_of_inputs(alloc, link)?;
+        let mut walk = Walk::new(alloc, link)?;
+        walk.take_roots(link)?;
+        walk.take_stack(link, files.as_slice())?;
+        Ok(walk)
+    }
+
+    /// A walk at its start: nothing is asked for, and symbols have the flags that are handed in.
+    fn new(alloc: Global, link: &LinkInput) -> Result<Walk, AllocError>
+        requires { IsWellFormed link.now }
+        ensures { IfOk result (IsStart link.now) }
+    {
+        let symbols = link.groups.symbol_count() as usize;
+        let inputs = link.groups.input_count() as usize;
+        Ok(Walk {
+            marks: unmarked(alloc, symbols + inputs)?,
+            words: handed_in(alloc, link)?,
+            stack: Vec::new(alloc),
+        })
+    }
+
     /// Takes an ask: marks what it reaches, and joins its flags.
     fn take(&mut self, link: &LinkInput, ask: Ask) -> Result<(), AllocError>
         requires well_formed { IsWellFormed link.now }
@@ -116,13 +142,14 @@ impl Walk {
         ensures marks { self.new.marks.items ≡ self.old.marks.items }
         ensures words { self.new.words.items ≡ join_flags self.old.words.items (Some (symbol, flags.0)) }
         ensures stack { self.new.stack.items ≡ self.old.stack.items }
+        ensures few { AreFew self.old.words.items → AreFew self.new.words.items }
     {
         self.words[symbol.as_usize() + 1] |= u64::from(flags.0);
     }
 }
 
 /// The number of an input section among all units, if its file is there.
-fn section_number(link: &LinkInput, file: FileId, index: u32) -> Option<usize>
+pub(crate) fn section_number(link: &LinkInput, file: FileId, index: u32) -> Option<usize>
     requires { IsWellFormed link.now }
     ensures { SomeIff result (IsSome (file_in link.now.groups file)) (unit_number link.now.groups (Sec file index)) }
 {
@@ -144,4 +171,46 @@ fn unit_at(link: &LinkInput, files: &[FileId], number: usize) -> Option<Unit>
     let file = *files.get(place)?;
     let start = link.groups.input_start(file)?;
     Some(Unit::Sec(file, (place - start) as u32))
+}
+
+/// So many marks, none of them set.
+fn unmarked(alloc: Global, count: usize) -> Result<Vec<bool>, AllocError>
+    ensures { IfOk result (λ marks. marks.items ≡ replicate count false) }
+{
+    vec![in alloc; false; count]
+}
+
+/// The file of each input section, by its number.
+fn files_of_inputs(alloc: Global, link: &LinkInput) -> Result<Vec<FileId>, AllocError>
+    requires { IsWellFormed link.now }
+    ensures { IfOk result (λ files. files.items ≡ files_of_inputs link.now) }
+{
+    let mut files = Vec::with_capacity(alloc, link.groups.input_count() as usize)?;
+    for input in link.groups.inputs() {
+        files.push(input.file)?;
+    }
+    Ok(files)
+}
+
+/// The flags that are handed in, behind a spare word.
+fn handed_in(alloc: Global, link: &LinkInput) -> Result<Vec<u64>, AllocError>
+    requires { IsWellFormed link.now }
+    ensures { IfOk result (λ words. words.items ≡ handed_in link.now) }
+{
+    let mut words = Vec::with_capacity(alloc, link.groups.symbol_count() as usize + 1)?;
+    words.push(0)?;
+    for file in link.groups.files() {
+        push_flags(&mut words, file.file.symbols.as_slice())?;
+    }
+    Ok(words)
+}
+
+/// Adds the flags of symbols.
+fn push_flags(words: &mut Vec<u64>, symbols: &[InputSymbol]) -> Result<(), AllocError>
+    ensures { OnOk result (words.new.items ≡ words.old.items ++ map flags_handed_in symbols.now) }
+{
+    for symbol in symbols {
+        words.push(u64::from(symbol.flags.0))?;
+    }
+    Ok(())
 }
