@@ -1,5 +1,5 @@
 -- What is live of a link: what marks and words tell is, and only that.
-use Rattle.std.proofs.Common.{◌≡◌, ℕ, zero, suc, ◌+◌, ◌-◌, ◌<◌, ◌≤◌, Bool, true, false, cond, ◌&&◌, ◌||◌, not, List, [], ◌∷◌, length, map, drop, Some, refl, sym, ap, ◌∙◌, subst, inl, inr, ◌⊎◌, arith, get_or, length-drop}
+use Rattle.std.proofs.Common.{◌≡◌, ℕ, zero, suc, ◌+◌, ◌<◌, Bool, true, false, ◌&&◌, ◌||◌, List, [], ◌∷◌, length, map, drop, Some, refl, sym, ap, ◌∙◌, subst, inl, inr, arith, length-drop}
 use Rattle.std.specs.Int.{bit_at}
 use Rattle.std.specs.List.{enumerate_from, filter, list_any, slice_get, slice_index, slice_index_or}
 use Rattle.std.proofs.lemmas.Bool.{and_from, and_parts, cases_Bool, or_left, or_right}
@@ -23,10 +23,9 @@ use Rattle.lk_link.specs.WellFormed.{IsWellFormed}
 use Rattle.lk_link.proofs.InputLemmas.{numbered_get}
 use Rattle.lk_link.proofs.Numbers.{length-made, made_at}
 use Rattle.lk_gc.specs.declared.live.Live.{Live}
-use Rattle.lk_gc.specs.declared.units.Ask.{Ask}
 use Rattle.lk_gc.specs.Laws.{LiveExists, LiveIsOne, RootsAreLive}
 use Rattle.lk_gc.specs.Marks.{IsMarked, IsUnit, asked, asking, flag_words, handed_in, reached_marks, symbols_in_all, unit_at, unit_number, word_of}
-use Rattle.lk_gc.specs.Reach.{AreLive, HasFlag, IsKept, IsLive, keeps_output, kept_marks, live_by, live_marks, marked}
+use Rattle.lk_gc.specs.Reach.{AreLive, IsLive, keeps_output, kept_marks, live_by, live_marks, marked}
 use Rattle.lk_gc.specs.Units.{ask_for, file_roots, flags_from, is_root, kind_roots, roots, section_roots, unit_of}
 use Rattle.lk_link.proofs.Elements.{at_index, contains_at, filter_in, flat_map_at, flat_map_in, map_at, map_in}
 use Rattle.lk_gc.proofs.Numbered.{IsSectionOf, file_at, section_of, sections_of}
@@ -134,11 +133,12 @@ are_live link wf =
           (λ bit. law.0 (ap (λ w. bit_at w i) (sym same) ∙ bit), λ flag. ap (λ w. bit_at w i) same ∙ law.1 flag);
       sections = length-made (λ n. list_any (keeps_output link n) (marked marks inputs)) link.plan.sections 0;
       kept = λ o lt.
-          let at = kept_at link marks o lt in
-          (λ set.
-          let r = any_marked (keeps_output link o) marks inputs (sym at ∙ set) in
-          record { input = r.1; number = r.0; there = r.2; live = marked_live link r.0 r.1 wf r.2 r.3; keeps = r.4 },
-          λ kept. at ∙ marked_any (keeps_output link o) marks inputs kept.number kept.input kept.there (live_marked link kept.number kept.input wf kept.there kept.live) kept.keeps);
+          let at = kept_at link marks o lt in (
+            λ set.
+                let r = any_marked (keeps_output link o) marks inputs (sym at ∙ set) in
+                record { input = r.1; number = r.0; there = r.2; live = marked_live link r.0 r.1 wf r.2 r.3; keeps = r.4 },
+            λ kept. at ∙ marked_any (keeps_output link o) marks inputs kept.number kept.input kept.there (live_marked link kept.number kept.input wf kept.there kept.live) kept.keeps,
+          );
     }
 
 pub live_exists : LiveExists

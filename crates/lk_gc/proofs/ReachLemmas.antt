@@ -1,7 +1,7 @@
 -- What is reached by paths, and by rounds of marking: the same units and flags.
-use Rattle.std.proofs.Common.{◌≡◌, ℕ, zero, suc, ◌+◌, ◌<◌, ◌≤◌, Bool, true, false, List, [], ◌∷◌, ◌++◌, length, map, Option, Some, None, refl, sym, ap, ◌∙◌, subst, inl, inr, ◌⊎◌, arith, get_or, option_map}
+use Rattle.std.proofs.Common.{◌≡◌, ℕ, suc, ◌+◌, ◌<◌, Bool, List, [], ◌∷◌, ◌++◌, length, map, Option, Some, None, refl, sym, ap, ◌∙◌, subst, inl, inr, ◌⊎◌, arith, get_or, option_map}
 use Rattle.std.specs.Int.{bit_at}
-use Rattle.std.specs.List.{All, Contains, slice_get, slice_index}
+use Rattle.std.specs.List.{All, Contains, slice_index}
 use Rattle.std.specs.Option.{ForSome, option_map_or}
 use Rattle.std.proofs.lemmas.List.{length-map, get_or-map}
 use Rattle.std.proofs.lemmas.List.Elements.{All-append, All-contains, Contains-get_or}
@@ -14,12 +14,12 @@ use Rattle.lk_link.specs.WellFormed.{IsWellFormed}
 use Rattle.lk_gc.specs.declared.units.Ask.{Ask}
 use Rattle.lk_gc.specs.declared.units.Unit.{Unit as LinkUnit}
 use Rattle.lk_gc.specs.Laws.{ClosedMarksHoldReach, LiveWasAskedFor, MarksAreReached, MoreRootsReachMore, ReachIsClosed, WordsAreFlags}
-use Rattle.lk_gc.specs.Marks.{Asking, IsClosed, IsHit, IsInside, IsJoined, IsMarked, IsUnit, asked, asked_from, asking, flag_words, flags_handed_in, handed_in, join_all, reached_marks, symbols_in_all, unit_at, unit_number, word_of}
-use Rattle.lk_gc.specs.Reach.{HasFlag, IsHandedIn, IsLive, IsPath, IsReached, IsSetByUnit}
-use Rattle.lk_gc.specs.Units.{AskFlag, AskFor, AsksFor, IsRoot, flags_of, follows, roots, target_of, unit_of}
+use Rattle.lk_gc.specs.Marks.{Asking, IsClosed, IsHit, IsInside, IsJoined, IsMarked, IsUnit, asked, asked_from, asking, flag_words, flags_handed_in, handed_in, reached_marks, symbols_in_all, unit_at, unit_number, word_of}
+use Rattle.lk_gc.specs.Reach.{HasFlag, IsHandedIn, IsPath, IsReached}
+use Rattle.lk_gc.specs.Units.{AskFlag, AskFor, AsksFor, IsRoot, follows, roots, target_of, unit_of}
 use Rattle.lk_link.proofs.Elements.{at_index}
 use Rattle.lk_gc.proofs.MarkLemmas.{AreTargetsBelow, IsMarkClosed, IsTargetBelow, all_left, all_right, from_marked, of_marked, reached_closed, reached_only}
-use Rattle.lk_gc.proofs.UnitLemmas.{asks_are_inside, number_of, symbols_length}
+use Rattle.lk_gc.proofs.UnitLemmas.{asks_are_inside, symbols_length}
 use Rattle.lk_gc.proofs.WordLemmas.{HasBit, IsWordBelow, SetsOnly, bit_within, join_all_joins, join_all_keeps, join_all_only}
 
 -- ---- targets by number

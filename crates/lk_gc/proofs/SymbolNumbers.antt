@@ -1,5 +1,5 @@
 -- Symbols by their numbers, each with its file.
-use Rattle.std.proofs.Common.{◌≡◌, ℕ, zero, suc, ◌+◌, ◌-◌, ◌^◌, ◌<◌, ◌≤◌, true, get_or, List, [], ◌∷◌, length, map, take, Option, Some, None, sum_by, refl, sym, ap, ◌∙◌, subst, inl, inr, arith, is_some, ltb}
+use Rattle.std.proofs.Common.{◌≡◌, ℕ, ◌+◌, ◌-◌, ◌^◌, ◌<◌, ◌≤◌, true, get_or, List, [], length, map, take, Option, Some, None, sum_by, sym, ap, ◌∙◌, subst, inl, inr, arith, is_some, ltb}
 use Rattle.std.specs.List.{All, flat_map, range_with_len, slice_get}
 use Rattle.std.specs.Option.{IsSome, option_map_or}
 use Rattle.std.proofs.lemmas.Bool.{ltb-true}

@@ -1,12 +1,11 @@
 -- Laws on what is reached, and on what is live.
-use Rattle.std.specs.Prelude.{◌≡◌, ◌↔◌, ◌⊎◌, ℕ, ◌<◌, Bool, true, false, List, Some, All, Contains, slice_get, slice_index}
+use Rattle.std.specs.Prelude.{◌≡◌, ◌↔◌, ◌⊎◌, ℕ, ◌<◌, Bool, true, List, Some, All, Contains, slice_get, slice_index}
 use Rattle.std.specs.Int.{bit_at}
 use Rattle.lk_link.specs.declared.file.InputFile.{InputFile}
 use Rattle.lk_link.specs.declared.link.LinkInput.{LinkInput}
 use Rattle.lk_link.specs.FileKinds.{is_object}
 use Rattle.lk_link.specs.Files.{file_in}
 use Rattle.lk_link.specs.Inputs.{Input, all_inputs}
-use Rattle.lk_link.specs.InputSlots.{can_be_kept, is_must}
 use Rattle.lk_link.specs.WellFormed.{IsWellFormed}
 use Rattle.lk_gc.specs.declared.live.Live.{Live}
 use Rattle.lk_gc.specs.declared.units.Unit.{Unit as LinkUnit}
@@ -58,7 +57,8 @@ MoreRootsReachMore = (a b : LinkInput) (unit : LinkUnit) → All (Contains (root
 -- a section of an object that its file asks for is live: one that is kept in any case, and without collection any that can be
 abbrev pub RootsAreLive : Type 0
 RootsAreLive = (link : LinkInput) (k : ℕ) (x : Input) (file : InputFile) → slice_get (all_inputs link.groups) k ≡ Some x
-    → file_in link.groups x.file ≡ Some file → is_object file.kind ≡ true → is_root link.options.gc x.section.slot ≡ true → IsLive link x
+    → file_in link.groups x.file ≡ Some file → is_object file.kind ≡ true
+    → is_root link.options.gc x.section.slot ≡ true → IsLive link x
 
 -- what is live was asked for, by a root or by a unit that is reached
 abbrev pub LiveWasAskedFor : Type 0

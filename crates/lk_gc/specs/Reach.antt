@@ -7,6 +7,7 @@ use Rattle.lk_link.specs.declared.link.LinkInput.{LinkInput}
 use Rattle.lk_link.specs.declared.symbol.InputSymbol.{InputSymbol}
 use Rattle.lk_link.specs.Inputs.{Input, all_inputs}
 use Rattle.lk_link.specs.InputSlots.{can_be_kept, is_debug}
+use Rattle.lk_link.specs.Marks.{is_marked}
 use Rattle.lk_link.specs.PartRules.{is_part_of}
 use Rattle.lk_link.specs.Symbols.{all_symbols, symbol_at}
 use Rattle.lk_gc.specs.declared.error.GcError.{GcError}
@@ -72,7 +73,8 @@ pub record IsKept (link : LinkInput) (o : ℕ) : Type 0 where
 -- output section a mark, set exactly where a live section without bytes keeps it
 pub record AreLive (link : LinkInput) (live : Live) : Type 0 where
   pub count : length live.marks ≡ length (all_inputs link.groups)
-  pub marks : (k : ℕ) (x : Input) → slice_get (all_inputs link.groups) k ≡ Some x → slice_index_or live.marks k false ≡ true ↔ IsLive link x
+  pub marks : (k : ℕ) (x : Input) → slice_get (all_inputs link.groups) k ≡ Some x
+      → slice_index_or live.marks k false ≡ true ↔ IsLive link x
   pub symbols : length live.flags ≡ length (all_symbols link.groups)
   pub flags : (s : ℕ) (f : ValueFlags) → slice_get live.flags s ≡ Some f → (i : ℕ) → (bit_at f.0 i ≡ 1) ↔ HasFlag link s i
   pub sections : length live.kept ≡ length link.plan.sections
@@ -90,14 +92,18 @@ live_inputs link live = marked live.marks (all_inputs link.groups)
 
 -- ---- live, by marks of units and words of flags
 
--- for each input section whether its unit is marked and its slot lets it be kept
+-- whether the unit of an input section with its number is marked, and its slot lets it be kept
+abbrev pub live_mark : LinkInput → List Bool → ℕ × Input → Bool
+live_mark link marks q = is_marked marks (symbols_in_all link.groups + q.0) && can_be_kept q.1.section.slot
+
+-- the same for each input section
 abbrev pub live_marks : LinkInput → List Bool → List Bool
-live_marks link marks =
-    map (λ q. slice_index_or marks (symbols_in_all link.groups + q.0) false && can_be_kept q.1.section.slot) (enumerate_from 0 (all_inputs link.groups))
+live_marks link marks = map (live_mark link marks) (enumerate_from 0 (all_inputs link.groups))
 
 -- for each output section whether a live section without bytes keeps it
 abbrev pub kept_marks : LinkInput → List Bool → List Bool
-kept_marks link live = map (λ q. list_any (keeps_output link q.0) (marked live (all_inputs link.groups))) (enumerate_from 0 link.plan.sections)
+kept_marks link live =
+    map (λ q. list_any (keeps_output link q.0) (marked live (all_inputs link.groups))) (enumerate_from 0 link.plan.sections)
 
 -- what is live
 abbrev pub live_by : LinkInput → List Bool → List ℕ → Live

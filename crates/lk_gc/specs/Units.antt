@@ -1,5 +1,5 @@
 -- What can be kept, and what asks for it.
-use Rattle.std.specs.Prelude.{◌≡◌, ℕ, ◌+◌, ◌==◌, ◌&&◌, not, Bool, true, false, if◌then◌else◌, List, [], ◌∷◌, ◌++◌, Option, Some, None, Contains, map, filter, option_and_then, option_map, slice_get, unwrap_or}
+use Rattle.std.specs.Prelude.{◌≡◌, ℕ, ◌+◌, ◌==◌, ◌&&◌, not, Bool, true, false, if◌then◌else◌, List, [], ◌++◌, Option, Some, None, Contains, map, filter, option_and_then, option_map, slice_get, unwrap_or}
 use Rattle.std.specs.Int.{bit_at}
 use Rattle.std.specs.List.{flat_map}
 use Rattle.std.specs.Option.{option_map_or, option_to_list}
@@ -113,7 +113,8 @@ symbol_asks q = placement_asks q.0.id q.0.file.kind q.1.at
 -- what a unit asks for
 abbrev pub follows : LinkInput → LinkUnit → List Ask
 follows link (Sym s) = option_map_or symbol_asks (slice_get (numbered_symbols link.groups) s) []
-follows link (Sec id i) = option_map_or (λ f. option_map_or (section_asks link id f) (slice_get f.sections i) []) (file_in link.groups id) []
+follows link (Sec id i) =
+    option_map_or (λ f. option_map_or (section_asks link id f) (slice_get f.sections i) []) (file_in link.groups id) []
 
 -- ---- roots
 
@@ -128,7 +129,8 @@ is_root gc slot.Merge = false
 
 -- the entry, as the prelude refers to it: what stands for it, directly
 abbrev pub entry_asks : LinkInput → List Ask
-entry_asks link = option_to_list (option_map (λ s. Reference s flag.DIRECT) (option_and_then (definition_of link.groups) link.options.entry))
+entry_asks link =
+    option_to_list (option_map (λ s. Reference s flag.DIRECT) (option_and_then (definition_of link.groups) link.options.entry))
 
 -- the sections that an object asks for
 abbrev pub section_roots : Bool → FileId → ℕ → List InputSection → List Ask

@@ -1,13 +1,18 @@
 -- Words of private contracts: a walk over what is reached, with marks, words and a stack of unit numbers.
-use Rattle.std.specs.Prelude.{◌≡◌, ◌⊎◌, ℕ, suc, ◌+◌, ◌<◌, ◌^◌, Bool, true, false, if◌then◌else◌, List, [], ◌∷◌, ◌++◌, Option, Some, None, All, Contains, length, map, replicate, slice_index}
+use Rattle.std.specs.Prelude.{◌≡◌, ◌⊎◌, ℕ, suc, ◌+◌, ◌<◌, ◌^◌, ◌==◌, ◌&&◌, not, Bool, true, false, if◌then◌else◌, List, [], ◌∷◌, ◌++◌, Option, Some, None, All, Contains, length, map, replicate, slice_index}
 use Rattle.std.specs.Int.{bit_at}
+use Rattle.std.specs.List.{list_any}
 use Rattle.lk_link.specs.declared.ids.FileId.{FileId}
 use Rattle.lk_link.specs.declared.link.LinkInput.{LinkInput}
+use Rattle.lk_link.specs.declared.section.InputSection.{InputSection}
 use Rattle.lk_link.specs.Inputs.{all_inputs}
+use Rattle.lk_link.specs.InputSlots.{is_debug}
 use Rattle.lk_link.specs.Marks.{is_marked}
+use Rattle.lk_link.specs.Parts.{all_parts}
 use Rattle.lk_gc.specs.declared.units.Ask.{Ask}
 use Rattle.lk_gc.specs.declared.walk.Walk.{Walk}
-use Rattle.lk_gc.specs.Marks.{Asking, IsHit, IsJoined, IsMarked, all_units, asking, flag_words, handed_in, join_all, join_flags, mark_all, mark_target, reached_marks, symbols_in_all}
+use Rattle.lk_gc.specs.Marks.{IsHit, IsJoined, IsMarked, all_units, asking, flag_words, handed_in, join_all, join_flags, mark_all, mark_target, reached_marks, symbols_in_all}
+use Rattle.lk_gc.specs.Reach.{marked}
 use Rattle.lk_gc.specs.Units.{flags_of, roots}
 
 -- how many units have no mark
@@ -79,3 +84,13 @@ pub record IsWalked (link : LinkInput) (w : Walk) : Type 0 where
   pub marks : w.marks.items ≡ reached_marks link
   pub words : w.words.items ≡ flag_words link
   pub few : AreFew w.words.items
+
+-- whether a section without bytes, that isn't debug data, goes to a part
+abbrev pub keeps_part : ℕ → InputSection → Bool
+keeps_part p s = s.size == 0 && not (is_debug s.slot) && s.part == p
+
+-- a mark for each part, set exactly where such a section that is live goes to it
+pub record AreKeptParts (link : LinkInput) (live parts : List Bool) : Type 0 where
+  pub count : length parts ≡ length (all_parts link.plan.sections)
+  pub marks : (p : ℕ) → p < length parts
+      → is_marked parts p ≡ list_any (λ x. keeps_part p x.section) (marked live (all_inputs link.groups))

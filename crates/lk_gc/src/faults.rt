@@ -112,7 +112,14 @@ fn push_section_faults(
     } else if section.slot.is_regular() && link.options.error_objects {
         if let Some(symbols) = link.groups.symbol_id_range(file.id) {
             let first = symbols.start().as_u32();
-            push_relocation_faults(faults, undefined, first, file, index, section.relocs.as_slice())?;
+            push_relocation_faults(
+                faults,
+                undefined,
+                first,
+                file,
+                index,
+                section.relocs.as_slice(),
+            )?;
         }
     }
     Ok(())
@@ -130,7 +137,8 @@ fn push_relocation_faults(
     requires numbers { All (λ (r : Relocation). first + r.symbol < 2 ^ 32) relocs.now }
     requires few { length relocs.now < 2 ^ 32 }
     ensures { OnOk result
-        (faults.new.items ≡ faults.old.items ++ filter_map (relocation_fault undefined.now first (file_of file.entry) section) (enumerate_from 0 relocs.now)) }
+        (faults.new.items
+        ≡ faults.old.items ++ filter_map (relocation_fault undefined.now first (file_of file.entry) section) (enumerate_from 0 relocs.now)) }
 {
     for (number, relocation) in relocs.iter().enumerate() {
         let fault = relocation_fault(undefined, first, file, section, number as u32, *relocation);
@@ -140,7 +148,10 @@ fn push_relocation_faults(
 }
 
 /// Adds a fault, if there is one.
-fn push_fault(faults: &mut Vec<ReferenceFault>, fault: Option<ReferenceFault>) -> Result<(), AllocError>
+fn push_fault(
+    faults: &mut Vec<ReferenceFault>,
+    fault: Option<ReferenceFault>,
+) -> Result<(), AllocError>
     ensures { OnOk result (faults.new.items ≡ faults.old.items ++ option_to_list fault) }
 {
     if let Some(fault) = fault {

@@ -4,6 +4,7 @@
 pub mod asks;
 pub mod error;
 mod faults;
+mod keep;
 pub mod laws;
 pub mod live;
 pub mod reaching;

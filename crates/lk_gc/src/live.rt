@@ -26,10 +26,7 @@ impl Live {
         requires { AreNumbered link.now.groups }
         ensures { result ≡ live_inputs link.now self.now }
     {
-        LiveInputs {
-            marks: self.marks.as_slice(),
-            inputs: link.groups.inputs(),
-        }
+        LiveInputs::new(self.marks.as_slice(), link.groups.inputs())
     }
 }
 
@@ -51,6 +48,17 @@ impl<'a> Model for LiveInputs<'a> {
     ghost use Rattle.lk_gc.specs.Reach.{marked};
 
     ghost view = { λ a. marked a.marks.now a.inputs };
+}
+
+impl<'a> LiveInputs<'a> {
+    ghost use Rattle.lk_gc.specs.Reach.{marked};
+
+    /// The walk over those of these sections that have a mark.
+    pub(crate) fn new(marks: &'a [bool], inputs: Inputs<'a>) -> LiveInputs<'a>
+        ensures { result ≡ marked marks.now inputs.entry }
+    {
+        LiveInputs { marks, inputs }
+    }
 }
 
 impl<'a> Iterator for LiveInputs<'a> {

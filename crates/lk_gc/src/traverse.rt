@@ -1,17 +1,28 @@
 //! The traversal of a link on the caller's own thread.
 
+ghost use Rattle.std.specs.Prelude.{◌≡◌};
 ghost use Rattle.lk_link.specs.WellFormed.{IsWellFormed};
 ghost use Rattle.lk_gc.specs.Reach.{GivesLive};
 
 use crate::error::GcError;
+use crate::faults::reference_faults;
+use crate::keep::live_after;
 use crate::live::Live;
-use lk_link::LinkInput;
+use crate::walk::Walk;
+use lk_link::{LinkInput, List};
 use std::alloc::Global;
 
-/// stub
+/// What is live of a link, where no reference is at fault; else all that are, by file, section and relocation; unless memory
+/// runs out. Looks once at each unit that is reached and at each of its relocations, and takes a mark for each unit and a word
+/// for each symbol (libwild: `traverse_reference_graph`).
 pub fn traverse_alone(alloc: Global, link: &LinkInput) -> Result<Live, GcError>
     requires { IsWellFormed link.now }
     ensures { GivesLive link.now result }
 {
-    Err(GcError::NoMemory)
+    let walk = Walk::over(alloc, link)?;
+    let faults = reference_faults(alloc, link, walk.marks.as_slice())?;
+    if !faults.is_empty() {
+        return Err(GcError::References(List::from_vec(faults)));
+    }
+    Ok(live_after(alloc, link, &walk)?)
 }

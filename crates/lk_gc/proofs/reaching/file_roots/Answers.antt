@@ -1,4 +1,4 @@
-use Rattle.std.proofs.Common.{◌<◌, ◌^◌, length, ap, arith}
+use Rattle.std.proofs.Common.{length, ap, arith}
 use Rattle.lk_gc.proofs.SymbolNumbers.{sections_few}
 use Rattle.lk_gc.proofs.reaching.file_roots.Goals as goal
 

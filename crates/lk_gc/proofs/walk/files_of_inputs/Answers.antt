@@ -1,4 +1,4 @@
-use Rattle.std.proofs.Common.{◌≡◌, map, ap, ◌∙◌}
+use Rattle.std.proofs.Common.{map, ap, ◌∙◌}
 use Rattle.lk_link.specs.Inputs.{Input, all_inputs}
 use Rattle.lk_gc.proofs.LiveWalk.{finish}
 use Rattle.lk_gc.proofs.Numbered.{are_numbered}

@@ -1,4 +1,4 @@
-use Rattle.std.proofs.Common.{◌≡◌, ◌+◌, ◌<◌, ◌≤◌, ◌^◌, arith}
+use Rattle.std.proofs.Common.{arith}
 use Rattle.lk_gc.proofs.SymbolNumbers.{first_within, inputs_few, symbols_few}
 use Rattle.lk_gc.proofs.walk.section_number.Goals as goal
 

@@ -1,4 +1,4 @@
-use Rattle.std.proofs.Common.{◌≡◌, ℕ, ◌+◌, ◌<◌, ◌^◌, List, None, sym, ◌∙◌}
+use Rattle.std.proofs.Common.{◌≡◌, ◌+◌, ◌<◌, ◌^◌, None, sym, ◌∙◌}
 use Rattle.std.proofs.lemmas.List.Elements.{All-rest}
 use Rattle.lk_link.specs.declared.relocation.Relocation.{Relocation}
 use Rattle.lk_gc.specs.Units.{range_mark, reference}
@@ -20,11 +20,10 @@ loop-relocation-preserved c =
     let self = c.loop-relocation.self-inside in
     let r : Relocation = c.in-Some-split_first.relocation.now in
     let no_reference : reference self.first self.symbols.now r ≡ None = sym c.reference.ensures ∙ c.in_default-reference.is in
-    let no_mark : range_mark self.primary self.first r ≡ None = sym c.range_mark-mark.ensures ∙ none_from c.range_mark-mark.result (sym c.is_some.ensures ∙ c.if-is_some.false) in
-    (
+    let no_mark : range_mark self.primary self.first r ≡ None = sym c.range_mark-mark.ensures ∙ none_from c.range_mark-mark.result (sym c.is_some.ensures ∙ c.if-is_some.false) in (
       c.loop-relocation.invariant.0,
       passed_over self.primary self.first self.symbols.now r self.relocs.now c.in-Some-split_first.relocs.now _ c.in-Some-split_first.ensures.cases.0 no_reference no_mark
-      c.loop-relocation.invariant.1,
+          c.loop-relocation.invariant.1,
       All-rest (λ (r : Relocation). self.first + r.symbol < 2 ^ 32) r c.in-Some-split_first.relocs.now self.relocs.now c.in-Some-split_first.ensures.cases.0
-      c.loop-relocation.invariant.2,
+          c.loop-relocation.invariant.2,
     )

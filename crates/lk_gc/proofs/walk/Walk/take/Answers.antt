@@ -1,6 +1,4 @@
-use Rattle.std.proofs.Common.{◌≡◌, ◌+◌, ◌<◌, ◌^◌, length, Some, ap, ◌∙◌, arith}
-use Rattle.std.specs.Option.{IsSome}
-use Rattle.lk_link.specs.Files.{file_in}
+use Rattle.std.proofs.Common.{length, ap, arith}
 use Rattle.lk_gc.specs.declared.units.Unit.TheVariants.{Sec, Sym}
 use Rattle.lk_gc.specs.Marks.{IsUnit}
 use Rattle.lk_gc.specs.Units.{flags_of, target_of}

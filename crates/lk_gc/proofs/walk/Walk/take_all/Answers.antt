@@ -1,4 +1,3 @@
-use Rattle.std.proofs.Common.{◌≡◌}
 use Rattle.lk_gc.specs.Marks.{IsInside}
 use Rattle.lk_gc.proofs.WalkLemmas.{adds_next, adds_none, ask_turn, sized_more}
 use Rattle.lk_gc.proofs.walk.Walk.take_all.Goals as goal

@@ -1,8 +1,7 @@
-use Rattle.std.proofs.Common.{◌≡◌, List, ◌++◌, ◌∷◌, [], map, ap, sym, ◌∙◌, subst}
+use Rattle.std.proofs.Common.{◌≡◌, List, ◌++◌, map, ap, sym, ◌∙◌, subst}
 use Rattle.std.specs.List.{All, flat_map}
 use Rattle.lk_link.specs.declared.walks.FileRef.{FileRef}
-use Rattle.lk_link.specs.Files.{file_in}
-use Rattle.lk_link.specs.Inputs.{NumberedFile, numbered_files}
+use Rattle.lk_link.specs.Inputs.{numbered_files}
 use Rattle.lk_link.specs.Walks.{file_of}
 use Rattle.lk_gc.specs.declared.units.Ask.{Ask}
 use Rattle.lk_gc.specs.Marks.{IsInside}
@@ -10,7 +9,7 @@ use Rattle.lk_gc.specs.Units.{file_roots}
 use Rattle.lk_gc.specs.Walking.{Adds}
 use Rattle.lk_gc.proofs.Numbered.{are_numbered, file_at}
 use Rattle.lk_gc.proofs.UnitLemmas.{file_inside}
-use Rattle.lk_gc.proofs.WalkLemmas.{adds_more, adds_none, all_files_done, file_turn, one_file_more, sized_more}
+use Rattle.lk_gc.proofs.WalkLemmas.{adds_more, adds_none, file_turn, one_file_more, sized_more}
 use Rattle.lk_gc.proofs.walk.Walk.take_roots.Goals as goal
 
 pub files-file-items-requires : goal.files-file-items-requires

@@ -1,4 +1,4 @@
-use Rattle.std.proofs.Common.{◌≡◌, List, ◌++◌, ◌∷◌, [], refl, sym, ◌∙◌, subst}
+use Rattle.std.proofs.Common.{◌≡◌, List, refl, sym, ◌∙◌, subst}
 use Rattle.std.specs.List.{All}
 use Rattle.lk_gc.specs.declared.units.Ask.{Ask}
 use Rattle.lk_gc.specs.declared.walk.Walk.{Walk}
