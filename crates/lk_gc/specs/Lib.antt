@@ -2,5 +2,6 @@ pub mod Faults
 pub mod Laws
 pub mod Marks
 pub mod Reach
+pub mod Texts
 pub mod Units
 pub mod Walking
