@@ -3,6 +3,7 @@
 ghost use Rattle.std.specs.Prelude.{◌≡◌, List, [], Some};
 ghost use Rattle.std.specs.Option.{option_map_or, option_to_list};
 ghost use Rattle.lk_link.specs.Files.{file_in};
+ghost use Rattle.lk_link.specs.InputSlots.{is_regular};
 ghost use Rattle.lk_link.specs.Walks.{file_of};
 ghost use Rattle.lk_link.specs.WellFormed.{IsWellFormed};
 ghost use Rattle.lk_gc.specs.declared.units.Ask.{Ask};
@@ -12,7 +13,7 @@ ghost use Rattle.lk_gc.specs.Units.{entry_asks, file_roots, follows, is_primary_
 use crate::asks::{RelocationAsks, SectionRoots, Successors};
 use crate::units::{Ask, Unit};
 use lk_link::{
-    FileId, FileKind, FileRef, InputSection, LinkInput, SymbolId, SymbolPlacement, ValueFlags,
+    FileId, FileKind, FileRef, InputSection, InputSlot, LinkInput, SymbolId, SymbolPlacement, ValueFlags,
 };
 
 /// What a unit asks for, in order (libwild: `handle_section_load_request`, `load_symbol`).
@@ -64,7 +65,7 @@ fn section_relocations<'a>(
     let file = link.groups.file(id)?;
     let section = file.sections.get(index as usize)?;
     let symbols = link.groups.symbol_id_range(id)?;
-    if !section.slot.is_regular() {
+    if !is_followed(section.slot) {
         return None;
     }
     Some(RelocationAsks {
@@ -74,6 +75,13 @@ fn section_relocations<'a>(
         first: symbols.start().as_u32(),
         primary: is_primary_section(link, section),
     })
+}
+
+/// Whether the relocations of a section are followed: where it is loaded for what it holds.
+fn is_followed(slot: InputSlot) -> bool
+    ensures { result ≡ is_regular slot }
+{
+    slot.is_regular()
 }
 
 /// Whether a section goes to the primary part.
