@@ -3,9 +3,15 @@
 ghost use Rattle.std.specs.Prelude.{◌≡◌};
 ghost use Rattle.std.specs.Iterator.{YieldsFirstBy, item_count};
 ghost use Rattle.lk_link.specs.Files.{AreNumbered};
+ghost use Rattle.lk_link.specs.WellFormed.{IsWellFormed};
 ghost use Rattle.lk_gc.specs.Reach.{live_inputs};
+ghost use Rattle.lk_gc.specs.Slots.{live_slot, slot_after};
 
-use lk_link::{InputRef, Inputs, LinkInput, List, ValueFlags};
+use lk_link::marks::is_marked;
+use lk_link::{
+    FileId, InputRef, InputSection, InputSlot, Inputs, LinkInput, List, Section, SectionSlot,
+    UnloadedSection, ValueFlags,
+};
 use std::marker::Model;
 
 /// What is live of a link (libwild: the slots of `GraphResources`).
@@ -27,6 +33,38 @@ impl Live {
         ensures { result ≡ live_inputs link.now self.now }
     {
         LiveInputs::new(self.marks.as_slice(), link.groups.inputs())
+    }
+
+    /// What became of the input section of a file with this index, if there is one. Takes constant time (libwild:
+    /// `SectionSlot`).
+    pub fn slot(&self, link: &LinkInput, file: FileId, index: usize) -> Option<SectionSlot>
+        requires { IsWellFormed link.now }
+        ensures { result ≡ live_slot link.now self.now file index }
+    {
+        let section = link.groups.file(file)?.sections.get(index)?;
+        let number = link.groups.input_start(file)? + index;
+        Some(slot_after(is_marked(self.marks.as_slice(), number), section))
+    }
+}
+
+/// What becomes of a section, which is live or isn't.
+fn slot_after(live: bool, section: &InputSection) -> SectionSlot
+    ensures { result ≡ slot_after live section.now }
+{
+    let kept = Section { size: section.size };
+    let waiting = UnloadedSection {
+        needs_sorting: section.sorted,
+    };
+    match section.slot {
+        InputSlot::Discard => SectionSlot::Discard,
+        InputSlot::Merge => SectionSlot::MergeStrings,
+        InputSlot::Unloaded if !live => SectionSlot::Unloaded(waiting),
+        InputSlot::MustLoad if !live => SectionSlot::MustLoad(waiting),
+        InputSlot::DebugInfo if !live => SectionSlot::UnloadedDebugInfo { must_load: false },
+        InputSlot::MustLoadDebugInfo if !live => SectionSlot::UnloadedDebugInfo { must_load: true },
+        InputSlot::DebugInfo | InputSlot::MustLoadDebugInfo => SectionSlot::LoadedDebugInfo(kept),
+        InputSlot::Unloaded | InputSlot::MustLoad if section.sorted => SectionSlot::Sorted(kept),
+        InputSlot::Unloaded | InputSlot::MustLoad => SectionSlot::Loaded(kept),
     }
 }
 
