@@ -5,6 +5,7 @@ pub mod Living
 pub mod MarkLemmas
 pub mod Marks
 pub mod Numbered
+pub mod PrimaryLemmas
 pub mod ReachLemmas
 pub mod SuccessorLemmas
 pub mod SymbolNumbers

@@ -36,7 +36,7 @@ many : (f : NumberedFile) → length (symbols_of f) ≡ symbols_in f.file
 many f = length-map f.file.symbols (λ s. (f, s))
 
 -- as many as all files have
-numbered_count : (groups : List (List InputFile)) → length (numbered_symbols groups) ≡ symbol_count (all_files groups)
+pub numbered_count : (groups : List (List InputFile)) → length (numbered_symbols groups) ≡ symbol_count (all_files groups)
 numbered_count groups =
     length-flat_map symbols_of (numbered_files groups)
     ∙ sum_mapped (λ f. length (symbols_of f)) symbols_in (λ f. f.file) many (numbered_files groups)

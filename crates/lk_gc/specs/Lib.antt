@@ -1,6 +1,7 @@
 pub mod Faults
 pub mod Laws
 pub mod Marks
+pub mod Primary
 pub mod Reach
 pub mod Slots
 pub mod Texts

@@ -85,7 +85,7 @@ fn is_followed(slot: InputSlot) -> bool
 }
 
 /// Whether a section goes to the primary part.
-fn is_primary_section(link: &LinkInput, section: &InputSection) -> bool
+pub(crate) fn is_primary_section(link: &LinkInput, section: &InputSection) -> bool
     ensures { result ≡ is_primary_section link.now section.now }
 {
     match link.plan.named.primary {

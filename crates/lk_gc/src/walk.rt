@@ -174,7 +174,7 @@ fn unit_at(link: &LinkInput, files: &[FileId], number: usize) -> Option<Unit>
 }
 
 /// So many marks, none of them set.
-fn unmarked(alloc: Global, count: usize) -> Result<Vec<bool>, AllocError>
+pub(crate) fn unmarked(alloc: Global, count: usize) -> Result<Vec<bool>, AllocError>
     ensures { IfOk result (λ marks. marks.items ≡ replicate count false) }
 {
     vec![in alloc; false; count]
