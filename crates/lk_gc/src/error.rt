@@ -51,7 +51,10 @@ impl fmt::Display for ReferenceFault {
             ReferenceFault::Undefined(symbol, file, section, relocation) => {
                 let symbol = symbol.as_u32();
                 let input = InputAt { file, section };
-                write!(f, "undefined: symbol {symbol} from {input} relocation {relocation}")
+                write!(
+                    f,
+                    "undefined: symbol {symbol} from {input} relocation {relocation}"
+                )
             }
         }
     }

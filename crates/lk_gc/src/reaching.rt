@@ -13,7 +13,8 @@ ghost use Rattle.lk_gc.specs.Units.{entry_asks, file_roots, follows, is_primary_
 use crate::asks::{RelocationAsks, SectionRoots, Successors};
 use crate::units::{Ask, Unit};
 use lk_link::{
-    FileId, FileKind, FileRef, InputSection, InputSlot, LinkInput, SymbolId, SymbolPlacement, ValueFlags,
+    FileId, FileKind, FileRef, InputSection, InputSlot, LinkInput, SymbolId, SymbolPlacement,
+    ValueFlags,
 };
 
 /// What a unit asks for, in order (libwild: `handle_section_load_request`, `load_symbol`).
