@@ -17,7 +17,8 @@ use Rattle.lk_gc.specs.Units.{is_primary_section, local_definition, numbered_sym
 
 -- whether a symbol of a file stands in a section of the primary part
 abbrev pub is_primary_symbol : LinkInput → InputFile → InputSymbol → Bool
-is_primary_symbol link f x = option_map_or (λ i. option_map_or (is_primary_section link) (slice_get f.sections i) false) (section_of x.at) false
+is_primary_symbol link f x =
+    option_map_or (λ i. option_map_or (is_primary_section link) (slice_get f.sections i) false) (section_of x.at) false
 
 -- the same for each symbol
 abbrev pub primary_symbols : LinkInput → List Bool

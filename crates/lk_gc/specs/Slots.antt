@@ -40,4 +40,5 @@ slot_after live s = slot_by live s s.slot
 -- what becomes of the section of a file with an index, if there is one (libwild: `SectionSlot`)
 abbrev pub live_slot : LinkInput → Live → FileId → ℕ → Option SectionSlot
 live_slot link live id i =
-    option_map (slot_after (is_marked live.marks (input_number link.groups id i))) (option_and_then (λ f. slice_get f.sections i) (file_in link.groups id))
+    option_map (slot_after (is_marked live.marks (input_number link.groups id i)))
+    (option_and_then (λ f. slice_get f.sections i) (file_in link.groups id))

@@ -14,4 +14,5 @@ input_text id section = joined (decimal id.group ∷ codes " " ∷ decimal id.fi
 abbrev pub reference_text : ReferenceFault → List ℕ
 reference_text (Discarded id section) = joined (codes "discarded: " ∷ input_text id section ∷ [])
 reference_text (Undefined symbol id section relocation) =
-    joined (codes "undefined: symbol " ∷ decimal symbol ∷ codes " from " ∷ input_text id section ∷ codes " relocation " ∷ decimal relocation ∷ [])
+    joined (codes "undefined: symbol " ∷ decimal symbol ∷ codes " from " ∷ input_text id section
+    ∷ codes " relocation " ∷ decimal relocation ∷ [])

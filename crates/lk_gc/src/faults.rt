@@ -138,7 +138,8 @@ fn push_relocation_faults(
     requires few { length relocs.now < 2 ^ 32 }
     ensures { OnOk result
         (faults.new.items
-        ≡ faults.old.items ++ filter_map (relocation_fault undefined.now first (file_of file.entry) section) (enumerate_from 0 relocs.now)) }
+        ≡ faults.old.items
+        ++ filter_map (relocation_fault undefined.now first (file_of file.entry) section) (enumerate_from 0 relocs.now)) }
 {
     for (number, relocation) in relocs.iter().enumerate() {
         let fault = relocation_fault(undefined, first, file, section, number as u32, *relocation);

@@ -106,7 +106,8 @@ fn mark_relocations(
     requires { All (λ (r : Relocation). first + r.symbol < 2 ^ 32) relocs.now }
     ensures count { length marks.new.items ≡ length marks.old.items }
     ensures marks { (s : ℕ) → s < length marks.old.items
-        → is_marked marks.new.items s ≡ (is_marked marks.old.items s || list_any (names_symbol primary.now first symbols.now s) relocs.now) }
+        → is_marked marks.new.items s
+        ≡ (is_marked marks.old.items s || list_any (names_symbol primary.now first symbols.now s) relocs.now) }
 {
     for relocation in relocs {
         mark_symbol(marks, primary, first, symbols, *relocation);
