@@ -1,5 +1,14 @@
-pub mod Among
+pub mod FaultLemmas
+pub mod KeepLemmas
 pub mod LiveWalk
+pub mod Living
+pub mod MarkLemmas
 pub mod Marks
 pub mod Numbered
-pub mod Reaching
+pub mod PrimaryLemmas
+pub mod ReachLemmas
+pub mod SuccessorLemmas
+pub mod SymbolNumbers
+pub mod UnitLemmas
+pub mod WalkLemmas
+pub mod WordLemmas

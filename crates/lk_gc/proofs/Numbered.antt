@@ -9,7 +9,7 @@ use Rattle.lk_link.specs.Files.{AreNumbered, file_in}
 use Rattle.lk_link.specs.Inputs.{Input, NumberedFile, all_inputs, group_files, inputs_from, numbered_file, numbered_files, numbered_section}
 use Rattle.lk_link.specs.Limits.{counted, limit_of}
 use Rattle.lk_link.specs.WellFormed.{IsWellFormed}
-use Rattle.lk_gc.proofs.Among.{joined_at, map_at, numbered_at}
+use Rattle.lk_link.proofs.Elements.{flat_map_at, map_at, numbered_at}
 
 -- groups and files are few
 pub are_numbered : (link : LinkInput) → IsWellFormed link → AreNumbered link.groups
@@ -22,21 +22,21 @@ are_numbered link h =
 -- ---- files
 
 -- the files of a group with its number
-abbrev files_of : ℕ × List InputFile → List NumberedFile
+abbrev pub files_of : ℕ × List InputFile → List NumberedFile
 files_of q = group_files q.0 0 q.1
 
 -- the place of a file among all files
-abbrev file_place : List (List InputFile) → FileId → ℕ
+abbrev pub file_place : List (List InputFile) → FileId → ℕ
 file_place groups id = length (flat_map files_of (take id.group (enumerate_from 0 groups))) + id.file
 
 -- where a file stands among all files, and in its group
-record IsFileAt (groups : List (List InputFile)) (k : ℕ) (f : NumberedFile) : Type 0 where
-  place : k ≡ file_place groups f.id
-  there : file_in groups f.id ≡ Some f.file
+pub record IsFileAt (groups : List (List InputFile)) (k : ℕ) (f : NumberedFile) : Type 0 where
+  pub place : k ≡ file_place groups f.id
+  pub there : file_in groups f.id ≡ Some f.file
 
-file_at : (groups : List (List InputFile)) (k : ℕ) (f : NumberedFile) → slice_get (numbered_files groups) k ≡ Some f → IsFileAt groups k f
+pub file_at : (groups : List (List InputFile)) (k : ℕ) (f : NumberedFile) → slice_get (numbered_files groups) k ≡ Some f → IsFileAt groups k f
 file_at groups k f h =
-    let at = joined_at files_of (enumerate_from 0 groups) k f h in
+    let at = flat_map_at files_of (enumerate_from 0 groups) k f h in
     let group = numbered_at 0 groups at.outer at.from at.there in
     let file = map_at (numbered_file at.from.0) (enumerate_from 0 at.from.1) at.inner f at.gives in
     let index = numbered_at 0 at.from.1 at.inner file.0 file.1 in
@@ -101,7 +101,7 @@ input_place groups id index = length (flat_map sections_of (take (file_place gro
 pub input_at : (groups : List (List InputFile)) (k : ℕ) (x : Input) → slice_get (all_inputs groups) k ≡ Some x → k ≡ input_place groups x.file x.index
 input_at groups k x h =
     let files : List NumberedFile = numbered_files groups in
-    let at = joined_at sections_of files k x h in
+    let at = flat_map_at sections_of files k x h in
     let is = section_of at.from at.inner x at.gives in
     let before : ℕ → ℕ = λ n. length (flat_map sections_of (take n files)) in
     let outer : at.outer ≡ file_place groups x.file = (file_at groups at.outer at.from at.there).place ∙ ap (file_place groups) (sym is.1.id) in
@@ -118,6 +118,6 @@ one_place groups j k x y at_j at_k file index =
 pub file_of_input : (groups : List (List InputFile)) (k : ℕ) (x : Input) → slice_get (all_inputs groups) k ≡ Some x
     → (file : InputFile) × (file_in groups x.file ≡ Some file) × (slice_get file.sections x.index ≡ Some x.section)
 file_of_input groups k x h =
-    let at = joined_at sections_of (numbered_files groups) k x h in
+    let at = flat_map_at sections_of (numbered_files groups) k x h in
     let is = section_of at.from at.inner x at.gives in
     (at.from.file, ap (file_in groups) is.1.id ∙ (file_at groups at.outer at.from at.there).there, is.1.there)

@@ -1,2 +1,9 @@
+pub mod Faults
+pub mod Laws
+pub mod Marks
+pub mod Primary
 pub mod Reach
+pub mod Slots
+pub mod Texts
 pub mod Units
+pub mod Walking

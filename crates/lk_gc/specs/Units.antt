@@ -1,19 +1,47 @@
 -- What can be kept, and what asks for it.
-use Rattle.std.specs.Prelude.{◌≡◌, ◌&&◌, Bool, List, [], Option, Some, Contains, map, filter}
+use Rattle.std.specs.Prelude.{◌≡◌, ℕ, ◌+◌, ◌==◌, ◌&&◌, not, Bool, true, false, if◌then◌else◌, List, [], ◌++◌, Option, Some, None, Contains, map, filter, option_and_then, option_map, slice_get, unwrap_or}
+use Rattle.std.specs.Int.{bit_at}
 use Rattle.std.specs.List.{flat_map}
+use Rattle.std.specs.Option.{option_map_or, option_to_list}
+use Rattle.lk_link.specs.declared.file.FileKind.{FileKind}
+use Rattle.lk_link.specs.declared.file.FileKind.TheVariants as kind
+use Rattle.lk_link.specs.declared.file.InputFile.{InputFile}
+use Rattle.lk_link.specs.declared.flags.TheConstants.ValueFlags as flag
+use Rattle.lk_link.specs.declared.flags.ValueFlags.{ValueFlags}
+use Rattle.lk_link.specs.declared.ids.FileId.{FileId}
 use Rattle.lk_link.specs.declared.link.LinkInput.{LinkInput}
+use Rattle.lk_link.specs.declared.relocation.Relocation.{Relocation}
 use Rattle.lk_link.specs.declared.section.InputSection.{InputSection}
+use Rattle.lk_link.specs.declared.section.InputSlot.{InputSlot}
+use Rattle.lk_link.specs.declared.section.InputSlot.TheVariants as slot
+use Rattle.lk_link.specs.declared.symbol.InputSymbol.{InputSymbol}
+use Rattle.lk_link.specs.declared.symbol.SymbolPlacement.{SymbolPlacement}
+use Rattle.lk_link.specs.declared.symbol.SymbolPlacement.TheVariants as at
 use Rattle.lk_link.specs.FileKinds.{is_object}
+use Rattle.lk_link.specs.Files.{file_in}
 use Rattle.lk_link.specs.Inputs.{Input, NumberedFile, inputs_from, numbered_files}
-use Rattle.lk_link.specs.InputSlots.{is_must}
+use Rattle.lk_link.specs.InputSlots.{is_regular}
+use Rattle.lk_link.specs.PartRules.{is_part}
+use Rattle.lk_link.specs.Relocations.{resolution_flags}
+use Rattle.lk_link.specs.Symbols.{definition_of, first_symbol}
 use Rattle.lk_gc.specs.declared.units.Ask.{Ask}
-use Rattle.lk_gc.specs.declared.units.Ask.TheVariants.{Section}
+use Rattle.lk_gc.specs.declared.units.Ask.TheVariants.{Reference, Section, Mark}
 use Rattle.lk_gc.specs.declared.units.Unit.{Unit as LinkUnit}
-use Rattle.lk_gc.specs.declared.units.Unit.TheVariants.{Sec}
+use Rattle.lk_gc.specs.declared.units.Unit.TheVariants.{Sym, Sec}
+
+-- ---- asks
 
 -- the unit that an ask reaches, if it reaches one
 abbrev pub target_of : Ask → Option LinkUnit
+target_of (Reference symbol flags) = Some (Sym symbol)
 target_of (Section file index) = Some (Sec file index)
+target_of (Mark symbol flags) = None
+
+-- the symbol of which an ask sets flags, and those flags
+abbrev pub flags_of : Ask → Option (ℕ × ℕ)
+flags_of (Reference symbol flags) = Some (symbol, flags.0)
+flags_of (Section file index) = None
+flags_of (Mark symbol flags) = Some (symbol, flags.0)
 
 -- an input section as a unit, and as what is asked for
 abbrev pub unit_of : Input → LinkUnit
@@ -22,27 +50,120 @@ unit_of x = Sec x.file x.index
 abbrev pub ask_for : Input → Ask
 ask_for x = Section x.file x.index
 
--- whether a file, which is an object or isn't, asks for this section of it: an object for those that are kept in any case
-abbrev pub is_root : Bool → InputSection → Bool
-is_root object s = object && is_must s.slot
+-- ---- sections
 
--- what a file asks for by itself (libwild: `activate`)
-abbrev pub file_roots : NumberedFile → List Ask
-file_roots f = map ask_for (filter (λ x. is_root (is_object f.file.kind) x.section) (inputs_from f.id 0 f.file.sections))
+-- what stands for a symbol of a file, by its index there and the number of the file's first symbol: its definition, else itself
+abbrev pub local_definition : ℕ → List InputSymbol → ℕ → ℕ
+local_definition first symbols i = option_map_or (λ s. unwrap_or s.def (first + i)) (slice_get symbols i) (first + i)
+
+-- a set of flags by its number
+abbrev pub flags_from : ℕ → ValueFlags
+flags_from n = record { 0 = n }
+
+-- a relocation refers to what stands for its symbol, with the flags that its kind wants, unless it wants none
+abbrev pub reference : ℕ → List InputSymbol → Relocation → Option Ask
+reference first symbols r =
+    if resolution_flags r.kind == 0 then None
+    else Some (Reference (local_definition first symbols r.symbol) (flags_from (resolution_flags r.kind)))
+
+-- in the primary part one that a thunk may stand in for marks its own symbol
+abbrev pub range_mark : Bool → ℕ → Relocation → Option Ask
+range_mark primary first r = if primary && r.thunkable then Some (Mark (first + r.symbol) flag.HAS_RANGE_LIMITED_REL) else None
+
+-- what a relocation asks for: its reference, then its mark
+abbrev pub relocation_asks : Bool → ℕ → List InputSymbol → Relocation → List Ask
+relocation_asks primary first symbols r = option_to_list (reference first symbols r) ++ option_to_list (range_mark primary first r)
+
+-- whether a section goes to the primary part
+abbrev pub is_primary_section : LinkInput → InputSection → Bool
+is_primary_section link s = is_part s.part link.plan.named.primary
+
+-- what a section of a file asks for: what its relocations do, where it is loaded for what it holds
+-- (libwild: `handle_section_load_request`)
+abbrev pub section_asks : LinkInput → FileId → InputFile → InputSection → List Ask
+section_asks link id file s =
+    if is_regular s.slot then flat_map (relocation_asks (is_primary_section link s) (first_symbol link.groups id) file.symbols) s.relocs
+    else []
+
+-- ---- symbols
+
+-- the symbols of a file, each with the file
+abbrev pub symbols_of : NumberedFile → List (NumberedFile × InputSymbol)
+symbols_of f = map (λ s. (f, s)) f.file.symbols
+
+-- all symbols, by their numbers
+abbrev pub numbered_symbols : List (List InputFile) → List (NumberedFile × InputSymbol)
+numbered_symbols groups = flat_map symbols_of (numbered_files groups)
+
+-- the section that a placement is in
+abbrev pub section_of : SymbolPlacement → Option ℕ
+section_of (at.Section index offset) = Some index
+section_of _ = None
+
+-- what a symbol of a file asks for: in an object its section, if it has one
+abbrev pub placement_asks : FileId → FileKind → SymbolPlacement → List Ask
+placement_asks id kind p = if is_object kind then option_to_list (option_map (Section id) (section_of p)) else []
+
+-- the same, for a symbol with its file (libwild: `load_symbol`)
+abbrev pub symbol_asks : NumberedFile × InputSymbol → List Ask
+symbol_asks q = placement_asks q.0.id q.0.file.kind q.1.at
+
+-- ---- units
+
+-- what a unit asks for
+abbrev pub follows : LinkInput → LinkUnit → List Ask
+follows link (Sym s) = option_map_or symbol_asks (slice_get (numbered_symbols link.groups) s) []
+follows link (Sec id i) =
+    option_map_or (λ f. option_map_or (section_asks link id f) (slice_get f.sections i) []) (file_in link.groups id) []
+
+-- ---- roots
+
+-- whether a section is asked for by its own file: one that is kept in any case is, and without collection any that can be kept
+abbrev pub is_root : Bool → InputSlot → Bool
+is_root gc slot.MustLoad = true
+is_root gc slot.MustLoadDebugInfo = true
+is_root gc slot.Unloaded = not gc
+is_root gc slot.DebugInfo = not gc
+is_root gc slot.Discard = false
+is_root gc slot.Merge = false
+
+-- the entry, as the prelude refers to it: what stands for it, directly
+abbrev pub entry_asks : LinkInput → List Ask
+entry_asks link =
+    option_to_list (option_map (λ s. Reference s flag.DIRECT) (option_and_then (definition_of link.groups) link.options.entry))
+
+-- the sections that an object asks for
+abbrev pub section_roots : Bool → FileId → ℕ → List InputSection → List Ask
+section_roots gc id i sections = map ask_for (filter (λ x. is_root gc x.section.slot) (inputs_from id i sections))
+
+-- what a file of a kind asks for by itself (libwild: `activate`)
+abbrev pub kind_roots : LinkInput → NumberedFile → FileKind → List Ask
+kind_roots link f kind.Prelude = entry_asks link
+kind_roots link f kind.Object = section_roots link.options.gc f.id 0 f.file.sections
+kind_roots link f _ = []
+
+abbrev pub file_roots : LinkInput → NumberedFile → List Ask
+file_roots link f = kind_roots link f f.file.kind
 
 -- what the files of a link ask for by themselves, file by file
 abbrev pub roots : LinkInput → List Ask
-roots link = flat_map file_roots (numbered_files link.groups)
+roots link = flat_map (file_roots link) (numbered_files link.groups)
 
--- what a unit asks for: a section that refers to nothing asks for nothing (libwild: `handle_section_load_request`)
-abbrev pub follows : LinkInput → LinkUnit → List Ask
-follows link unit = []
+-- ---- who asks
 
 -- one of these asks has the unit as its target
 pub record AskFor (asks : List Ask) (unit : LinkUnit) : Type 0 where
   pub ask : Ask
   pub among : Contains asks ask
   pub target : target_of ask ≡ Some unit
+
+-- one of these asks sets this bit of a symbol's flags
+pub record AskFlag (asks : List Ask) (s i : ℕ) : Type 0 where
+  pub ask : Ask
+  pub among : Contains asks ask
+  pub flags : ℕ
+  pub sets : flags_of ask ≡ Some (s, flags)
+  pub bit : bit_at flags i ≡ 1
 
 -- a root asks for the unit
 abbrev pub IsRoot : LinkInput → LinkUnit → Type 0

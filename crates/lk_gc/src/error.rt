@@ -1,10 +1,70 @@
 //! Why it isn't told what is live.
 
+use lk_link::{FileId, List, SymbolId};
 use std::alloc::{AllocError, AllocFailed};
+use std::fmt;
+
+/// A reference that can't be met.
+#[derive(Clone, Copy, Debug, PartialEq, Eq)]
+pub enum ReferenceFault {
+    /// A section that is reached is left out, whatever refers to it: its file and its index there.
+    Discarded(FileId, u32),
+    /// A relocation needs a symbol that is defined nowhere: the symbol that stands for its own, the relocation's file, the
+    /// section's index there, and the relocation's index in the section.
+    Undefined(SymbolId, FileId, u32, u32),
+}
+
+/// An input section, by its file and its index there.
+#[derive(Clone, Copy)]
+struct InputAt {
+    file: FileId,
+    section: u32,
+}
+
+/// As `1 0 2`: group, file and section.
+impl fmt::Display for InputAt {
+    ghost use Rattle.std.specs.Prelude.{Some};
+    ghost use Rattle.lk_gc.specs.Texts.{input_text};
+
+    ghost output = { λ input. Some (input_text input.file input.section) };
+
+    fn fmt<W: fmt::Write>(&self, f: &mut fmt::Formatter<W>) -> fmt::Result {
+        let FileId { group, file } = self.file;
+        let section = self.section;
+        write!(f, "{group} {file} {section}")
+    }
+}
+
+/// As `discarded: 1 0 2` or `undefined: symbol 5 from 1 0 2 relocation 0`, with file and section as three numbers.
+impl fmt::Display for ReferenceFault {
+    ghost use Rattle.std.specs.Prelude.{Some};
+    ghost use Rattle.lk_gc.specs.Texts.{reference_text};
+
+    ghost output = { λ fault. Some (reference_text fault) };
+
+    fn fmt<W: fmt::Write>(&self, f: &mut fmt::Formatter<W>) -> fmt::Result {
+        match *self {
+            ReferenceFault::Discarded(file, section) => {
+                let input = InputAt { file, section };
+                write!(f, "discarded: {input}")
+            }
+            ReferenceFault::Undefined(symbol, file, section, relocation) => {
+                let symbol = symbol.as_u32();
+                let input = InputAt { file, section };
+                write!(
+                    f,
+                    "undefined: symbol {symbol} from {input} relocation {relocation}"
+                )
+            }
+        }
+    }
+}
 
 /// Why it isn't told what is live.
-#[derive(Clone, Copy, Debug, PartialEq, Eq)]
+#[derive(Drop)]
 pub enum GcError {
+    /// These references can't be met, by file, section and relocation.
+    References(List<ReferenceFault>),
     /// There was no memory for the marks.
     NoMemory,
 }

@@ -1,12 +1,23 @@
 //! What is kept of a link: what is reached from its roots.
 #![tactic(auto)]
 
+pub mod asks;
 pub mod error;
+mod faults;
+mod keep;
+pub mod laws;
 pub mod live;
+pub mod primary;
+pub mod reaching;
 pub mod traverse;
 pub mod units;
+mod walk;
 
-pub use error::GcError;
-pub use live::{Live, LiveInputs, live_exists, live_is_one};
+pub use asks::Successors;
+pub use error::{GcError, ReferenceFault};
+pub use laws::{live_exists, live_is_one};
+pub use live::{Live, LiveInputs};
+pub use primary::primary_references;
+pub use reaching::{file_roots, successors};
 pub use traverse::traverse_alone;
 pub use units::{Ask, Unit};

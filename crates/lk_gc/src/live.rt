@@ -3,9 +3,15 @@
 ghost use Rattle.std.specs.Prelude.{◌≡◌};
 ghost use Rattle.std.specs.Iterator.{YieldsFirstBy, item_count};
 ghost use Rattle.lk_link.specs.Files.{AreNumbered};
-ghost use Rattle.lk_gc.specs.Reach.{LiveExists, LiveIsOne, live_inputs};
+ghost use Rattle.lk_link.specs.WellFormed.{IsWellFormed};
+ghost use Rattle.lk_gc.specs.Reach.{live_inputs};
+ghost use Rattle.lk_gc.specs.Slots.{live_slot, slot_after};
 
-use lk_link::{InputRef, Inputs, LinkInput, List};
+use lk_link::marks::is_marked;
+use lk_link::{
+    FileId, InputRef, InputSection, InputSlot, Inputs, LinkInput, List, Section, SectionSlot,
+    UnloadedSection, ValueFlags,
+};
 use std::marker::Model;
 
 /// What is live of a link (libwild: the slots of `GraphResources`).
@@ -13,6 +19,10 @@ use std::marker::Model;
 pub struct Live {
     /// For each input section, by its number over all files, whether it is live.
     pub marks: List<bool>,
+    /// For each symbol its flags: those handed in, and those that roots and reached units set.
+    pub flags: List<ValueFlags>,
+    /// For each output section whether a live section without bytes keeps it.
+    pub kept: List<bool>,
 }
 
 impl Live {
@@ -22,10 +32,39 @@ impl Live {
         requires { AreNumbered link.now.groups }
         ensures { result ≡ live_inputs link.now self.now }
     {
-        LiveInputs {
-            marks: self.marks.as_slice(),
-            inputs: link.groups.inputs(),
-        }
+        LiveInputs::new(self.marks.as_slice(), link.groups.inputs())
+    }
+
+    /// What became of the input section of a file with this index, if there is one. Takes constant time (libwild:
+    /// `SectionSlot`).
+    pub fn slot(&self, link: &LinkInput, file: FileId, index: usize) -> Option<SectionSlot>
+        requires { IsWellFormed link.now }
+        ensures { result ≡ live_slot link.now self.now file index }
+    {
+        let section = link.groups.file(file)?.sections.get(index)?;
+        let number = link.groups.input_start(file)? + index;
+        Some(slot_after(is_marked(self.marks.as_slice(), number), section))
+    }
+}
+
+/// What becomes of a section, which is live or isn't.
+fn slot_after(live: bool, section: &InputSection) -> SectionSlot
+    ensures { result ≡ slot_after live section.now }
+{
+    let kept = Section { size: section.size };
+    let waiting = UnloadedSection {
+        needs_sorting: section.sorted,
+    };
+    match section.slot {
+        InputSlot::Discard => SectionSlot::Discard,
+        InputSlot::Merge => SectionSlot::MergeStrings,
+        InputSlot::Unloaded if !live => SectionSlot::Unloaded(waiting),
+        InputSlot::MustLoad if !live => SectionSlot::MustLoad(waiting),
+        InputSlot::DebugInfo if !live => SectionSlot::UnloadedDebugInfo { must_load: false },
+        InputSlot::MustLoadDebugInfo if !live => SectionSlot::UnloadedDebugInfo { must_load: true },
+        InputSlot::DebugInfo | InputSlot::MustLoadDebugInfo => SectionSlot::LoadedDebugInfo(kept),
+        InputSlot::Unloaded | InputSlot::MustLoad if section.sorted => SectionSlot::Sorted(kept),
+        InputSlot::Unloaded | InputSlot::MustLoad => SectionSlot::Loaded(kept),
     }
 }
 
@@ -49,6 +88,17 @@ impl<'a> Model for LiveInputs<'a> {
     ghost view = { λ a. marked a.marks.now a.inputs };
 }
 
+impl<'a> LiveInputs<'a> {
+    ghost use Rattle.lk_gc.specs.Reach.{marked};
+
+    /// The walk over those of these sections that have a mark.
+    pub(crate) fn new(marks: &'a [bool], inputs: Inputs<'a>) -> LiveInputs<'a>
+        ensures { result ≡ marked marks.now inputs.entry }
+    {
+        LiveInputs { marks, inputs }
+    }
+}
+
 impl<'a> Iterator for LiveInputs<'a> {
     type Item = InputRef<'a>;
 
@@ -70,13 +120,3 @@ impl<'a> Iterator for LiveInputs<'a> {
         None
     }
 }
-
-/// A law: every link has its live sections.
-pub fn live_exists()
-    ensures { LiveExists }
-{}
-
-/// A law: what is live of a link is one.
-pub fn live_is_one()
-    ensures { LiveIsOne }
-{}

@@ -1,0 +1,98 @@
+-- Live sections, flags and kept output sections, one more at a time.
+use Rattle.std.proofs.Common.{◌≡◌, ℕ, suc, ◌+◌, ◌-◌, ◌<◌, ◌≤◌, Bool, true, false, ◌&&◌, ◌||◌, ◌==◌, not, List, [], ◌∷◌, ◌++◌, length, map, refl, sym, ap, ◌∙◌, arith, get_or, nat_le, nat_lt}
+use Rattle.std.specs.List.{enumerate_from, list_any, range_with_len}
+use Rattle.std.proofs.lemmas.Bool.{and_from, and_parts, eq-eqb, eqb-true, le-leb, leb-true, lt-ltb, ltb-true}
+use Rattle.std.proofs.lemmas.List.{length-map, map_push}
+use Rattle.std.proofs.lemmas.List.Folds.{Any-from_list_any, list_any-append, list_any-from_Any, list_any_at}
+use Rattle.std.proofs.lemmas.List.FromFn.{get_or-range_with_len, length-enumerate_from, length-range_with_len}
+use Rattle.lk_link.specs.declared.link.LinkInput.{LinkInput}
+use Rattle.lk_link.specs.declared.plan.PlanSection.{PlanSection}
+use Rattle.lk_link.specs.declared.walks.InputRef.{InputRef}
+use Rattle.lk_link.specs.Inputs.{Input, all_inputs}
+use Rattle.lk_link.specs.InputSlots.{is_debug}
+use Rattle.lk_link.specs.Marks.{is_marked}
+use Rattle.lk_link.specs.Parts.{first_part}
+use Rattle.lk_link.specs.Walks.{input_of}
+use Rattle.lk_link.proofs.PartNumbers.{first_part-le}
+use Rattle.lk_gc.specs.Reach.{keeps_output, marked}
+use Rattle.lk_gc.specs.Walking.{AreKeptParts, keeps_part}
+
+-- ---- live sections
+
+-- one element more, with its number
+numbered_push : {X : Type 0} (o : ℕ) (xs : List X) (x : X) → enumerate_from o (xs ++ x ∷ []) ≡ enumerate_from o xs ++ (o + length xs, x) ∷ []
+numbered_push o [] x = let e : o ≡ o + 0 = omega arith in ap (λ n. (n, x) ∷ []) e
+numbered_push o (y ∷ xs) x =
+    let e : o + 1 + length xs ≡ o + suc (length xs) = omega arith in
+    ap (λ ys. (o, y) ∷ ys) (numbered_push (o + 1) xs x ∙ ap (λ n. enumerate_from (o + 1) xs ++ (n, x) ∷ []) e)
+
+-- one section's mark more
+pub live_next : (f : ℕ × Input → Bool) (done : List InputRef) (x : InputRef) (live new : List Bool) → live ≡ map f (enumerate_from 0 (map input_of done)) → new ≡ live ++ f (length live, input_of x) ∷ []
+    → new ≡ map f (enumerate_from 0 (map input_of (done ++ x ∷ [])))
+live_next f done x live new so_far step =
+    let before : List Input = map input_of done in
+    let many : length live ≡ 0 + length before = omega (arith, ap length so_far, length-map (enumerate_from 0 before) f, length-enumerate_from 0 before) in
+    step ∙ ap (λ n. live ++ f (n, input_of x) ∷ []) many ∙ ap (λ ys. ys ++ f (0 + length before, input_of x) ∷ []) so_far
+    ∙ sym (map_push f (enumerate_from 0 before) (0 + length before, input_of x)) ∙ ap (map f) (sym (numbered_push 0 before (input_of x)))
+    ∙ ap (λ xs. map f (enumerate_from 0 xs)) (sym (map_push input_of done x))
+
+-- ---- parts
+
+or_last : (b : Bool) → (b || false) ≡ b
+or_last true = refl
+or_last false = refl
+
+-- one section more that may keep a part
+pub part_next : (p : ℕ) (done : List InputRef) (x : InputRef) (old new : Bool) → old ≡ list_any (λ y. keeps_part p y.section) (map input_of done) → new ≡ (old || keeps_part p x.section.now)
+    → new ≡ list_any (λ y. keeps_part p y.section) (map input_of (done ++ x ∷ []))
+part_next p done x old new so_far step =
+    let test : Input → Bool = λ y. keeps_part p y.section in
+    step ∙ ap (λ b. b || keeps_part p x.section.now) so_far
+    ∙ ap (λ b. list_any test (map input_of done) || b) (sym (or_last (keeps_part p x.section.now)))
+    ∙ sym (list_any-append test (map input_of done) (input_of x ∷ [])) ∙ ap (list_any test) (sym (map_push input_of done x))
+
+-- ---- output sections
+
+same_mark : (a b : Bool) → (a ≡ true → b ≡ true) → (b ≡ true → a ≡ true) → a ≡ b
+same_mark true b f g = sym (f refl)
+same_mark false true f g = g refl
+same_mark false false f g = refl
+
+-- a part of an output section is kept exactly where a section goes to one of its parts
+pub kept_same : (link : LinkInput) (o : ℕ) (live parts : List Bool) (first behind : ℕ) → AreKeptParts link live parts → first ≡ first_part link.plan.sections o → behind ≡ first_part link.plan.sections (o + 1)
+    → list_any (is_marked parts) (range_with_len first (behind - first)) ≡ list_any (keeps_output link o) (marked live (all_inputs link.groups))
+kept_same link o live parts first behind kept at_first at_behind =
+    let inputs : List Input = marked live (all_inputs link.groups) in
+    let sections : List PlanSection = link.plan.sections in
+    let few = first_part-le sections (o + 1) in
+    same_mark (list_any (is_marked parts) (range_with_len first (behind - first))) (list_any (keeps_output link o) inputs)
+    (λ set.
+    let p = Any-from_list_any (is_marked parts) (range_with_len first (behind - first)) set in
+    let number : p.1 ≡ first + p.0 = sym p.3 ∙ get_or-range_with_len first (behind - first) p.0 p.1 (omega (arith, p.2, length-range_with_len first (behind - first))) in
+    let inside : p.1 < length parts = omega (arith, p.2, length-range_with_len first (behind - first), number, few, kept.count, at_behind) in
+    let x = Any-from_list_any (λ (y : Input). keeps_part p.1 y.section) inputs (sym (kept.marks p.1 inside) ∙ p.4) in
+    let whole = and_parts (x.1.section.size == 0 && not (is_debug x.1.section.slot)) (x.1.section.part == p.1) x.4 in
+    let part : x.1.section.part ≡ p.1 = eqb-true x.1.section.part p.1 whole.1 in
+    let low : first_part sections o ≤ x.1.section.part = omega (arith, part, number, at_first) in
+    let high : x.1.section.part < first_part sections (o + 1) = omega (arith, part, number, p.2, length-range_with_len first (behind - first), at_behind) in
+    let goes = and_from (nat_le (first_part sections o) x.1.section.part) (nat_lt x.1.section.part (first_part sections (o + 1)))
+    (le-leb (first_part sections o) x.1.section.part low) (lt-ltb x.1.section.part (first_part sections (o + 1)) high) in
+    list_any-from_Any (keeps_output link o) inputs (x.0, x.1, x.2, x.3, and_from (x.1.section.size == 0 && not (is_debug x.1.section.slot)) _ whole.0 goes))
+    (λ set.
+    let x = Any-from_list_any (keeps_output link o) inputs set in
+    let q = x.1.section.part in
+    let whole = and_parts (x.1.section.size == 0 && not (is_debug x.1.section.slot)) (nat_le (first_part sections o) q && nat_lt q (first_part sections (o + 1))) x.4 in
+    let goes = and_parts (nat_le (first_part sections o) q) (nat_lt q (first_part sections (o + 1))) whole.1 in
+    let low = leb-true (first_part sections o) q goes.0 in
+    let high = ltb-true q (first_part sections (o + 1)) goes.1 in
+    let inside : q < length parts = omega (arith, few, kept.count, high) in
+    let keeps = list_any-from_Any (λ (y : Input). keeps_part q y.section) inputs (x.0, x.1, x.2, x.3, and_from (x.1.section.size == 0 && not (is_debug x.1.section.slot)) (q == q) whole.0 (eq-eqb q q refl)) in
+    let is : is_marked parts q ≡ true = kept.marks q inside ∙ keeps in
+    let index : q - first < behind - first = omega (arith, low, high, at_first, at_behind) in
+    let read : get_or (range_with_len first (behind - first)) (q - first) 0 ≡ q = get_or-range_with_len first (behind - first) (q - first) 0 index ∙ omega (arith, low, at_first) in
+    list_any_at (is_marked parts) (range_with_len first (behind - first)) (q - first) 0 (omega (arith, index, length-range_with_len first (behind - first))) (ap (is_marked parts) read ∙ is))
+
+-- numbers as a range, and beside the elements
+pub by_number : {X Y : Type 0} (f : ℕ → Y) (o : ℕ) (xs : List X) → map f (range_with_len o (length xs)) ≡ map (λ q. f q.0) (enumerate_from o xs)
+by_number f o [] = refl
+by_number f o (x ∷ xs) = ap (λ ys. f o ∷ ys) (by_number f (o + 1) xs)

@@ -1,0 +1,96 @@
+-- Words of private contracts: a walk over what is reached, with marks, words and a stack of unit numbers.
+use Rattle.std.specs.Prelude.{◌≡◌, ◌⊎◌, ℕ, suc, ◌+◌, ◌<◌, ◌^◌, ◌==◌, ◌&&◌, not, Bool, true, false, if◌then◌else◌, List, [], ◌∷◌, ◌++◌, Option, Some, None, All, Contains, length, map, replicate, slice_index}
+use Rattle.std.specs.Int.{bit_at}
+use Rattle.std.specs.List.{list_any}
+use Rattle.lk_link.specs.declared.ids.FileId.{FileId}
+use Rattle.lk_link.specs.declared.link.LinkInput.{LinkInput}
+use Rattle.lk_link.specs.declared.section.InputSection.{InputSection}
+use Rattle.lk_link.specs.Inputs.{all_inputs}
+use Rattle.lk_link.specs.InputSlots.{is_debug}
+use Rattle.lk_link.specs.Marks.{is_marked}
+use Rattle.lk_link.specs.Parts.{all_parts}
+use Rattle.lk_gc.specs.declared.units.Ask.{Ask}
+use Rattle.lk_gc.specs.declared.walk.Walk.{Walk}
+use Rattle.lk_gc.specs.Marks.{IsHit, IsJoined, IsMarked, all_units, asking, flag_words, handed_in, join_all, join_flags, mark_all, mark_target, reached_marks, symbols_in_all}
+use Rattle.lk_gc.specs.Reach.{marked}
+use Rattle.lk_gc.specs.Units.{flags_of, roots}
+
+-- how many units have no mark
+unfoldable pub unmarked : List Bool → ℕ
+unmarked [] = 0
+unmarked (true ∷ marks) = unmarked marks
+unmarked (false ∷ marks) = suc (unmarked marks)
+
+-- a unit that is asked for goes onto the stack, unless it was marked
+abbrev pub stack_after : List Bool → List ℕ → Option ℕ → List ℕ
+stack_after marks stack None = stack
+stack_after marks stack (Some u) = if is_marked marks u then stack else stack ++ u ∷ []
+
+-- a walk has a mark for each unit, a word for each symbol and a spare one
+pub record IsSized (link : LinkInput) (w : Walk) : Type 0 where
+  pub marks : length w.marks.items ≡ length (all_units link.groups)
+  pub words : length w.words.items ≡ symbols_in_all link.groups + 1
+
+-- words hold 32 bits each
+abbrev pub AreFew : List ℕ → Type 0
+AreFew words = All (λ w. w < 2 ^ 32) words
+
+-- what one ask does to a walk
+pub record Takes (link : LinkInput) (a : Ask) (old new : Walk) : Type 0 where
+  pub marked : new.marks.items ≡ mark_target old.marks.items ((asking link).target a)
+  pub joined : new.words.items ≡ join_flags old.words.items (flags_of a)
+  pub stack : new.stack.items ≡ stack_after old.marks.items old.stack.items ((asking link).target a)
+  pub few : AreFew old.words.items → AreFew new.words.items
+
+-- what asks do to a walk: their targets are marked and their flags joined, and what is newly marked is on the stack, and all that
+-- is on it is marked
+pub record Adds (link : LinkInput) (asks : List Ask) (old new : Walk) : Type 0 where
+  pub marked : new.marks.items ≡ mark_all (asking link) old.marks.items asks
+  pub joined : new.words.items ≡ join_all old.words.items asks
+  pub fresh : (u : ℕ) → IsMarked new.marks.items u → IsMarked old.marks.items u ⊎ Contains new.stack.items u
+  pub kept : (u : ℕ) → Contains old.stack.items u → Contains new.stack.items u
+  pub few : AreFew old.words.items → AreFew new.words.items
+  pub on_stack : All (IsMarked old.marks.items) old.stack.items → All (IsMarked new.marks.items) new.stack.items
+  pub measure : unmarked new.marks.items + length new.stack.items ≡ unmarked old.marks.items + length old.stack.items
+
+-- the start of a walk: nothing is marked, and no flags but those handed in are there
+pub record IsStart (link : LinkInput) (w : Walk) : Type 0 where
+  pub marks : w.marks.items ≡ replicate (length (all_units link.groups)) false
+  pub words : w.words.items ≡ handed_in link
+  pub stack : w.stack.items ≡ []
+
+-- an ask's target is marked, and its flags are joined
+abbrev pub IsDone : LinkInput → Walk → Ask → Type 0
+IsDone link w a = IsHit (asking link) w.marks.items a × IsJoined w.words.items a
+
+-- in the middle of a walk: roots are done, and so is each marked unit that isn't on the stack; what is marked is reached, and what
+-- is joined are flags
+pub record IsWalking (link : LinkInput) (w : Walk) : Type 0 where
+  pub size : IsSized link w
+  pub by_roots : All (IsDone link w) (roots link)
+  pub by_units : (u : ℕ) → IsMarked w.marks.items u → Contains w.stack.items u ⊎ All (IsDone link w) ((asking link).follows u)
+  pub few : AreFew w.words.items
+  pub on_stack : All (IsMarked w.marks.items) w.stack.items
+  pub reached : (u : ℕ) → IsMarked w.marks.items u → IsMarked (reached_marks link) u
+  pub handed : (n i : ℕ) → bit_at (slice_index (handed_in link) n) i ≡ 1 → bit_at (slice_index w.words.items n) i ≡ 1
+  pub flags : (n i : ℕ) → bit_at (slice_index w.words.items n) i ≡ 1 → bit_at (slice_index (flag_words link) n) i ≡ 1
+
+-- the file of each input section, by its number
+abbrev pub files_of_inputs : LinkInput → List FileId
+files_of_inputs link = map (λ x. x.file) (all_inputs link.groups)
+
+-- a finished walk: the marks of all that is reached, and the words of its flags
+pub record IsWalked (link : LinkInput) (w : Walk) : Type 0 where
+  pub marks : w.marks.items ≡ reached_marks link
+  pub words : w.words.items ≡ flag_words link
+  pub few : AreFew w.words.items
+
+-- whether a section without bytes, that isn't debug data, goes to a part
+abbrev pub keeps_part : ℕ → InputSection → Bool
+keeps_part p s = s.size == 0 && not (is_debug s.slot) && s.part == p
+
+-- a mark for each part, set exactly where such a section that is live goes to it
+pub record AreKeptParts (link : LinkInput) (live parts : List Bool) : Type 0 where
+  pub count : length parts ≡ length (all_parts link.plan.sections)
+  pub marks : (p : ℕ) → p < length parts
+      → is_marked parts p ≡ list_any (λ x. keeps_part p x.section) (marked live (all_inputs link.groups))

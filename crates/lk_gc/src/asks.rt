@@ -1,0 +1,274 @@
+//! The asks that are left of a unit or a file, one after the other. All that walks over asks drives this one iterator; it
+//! takes no memory, and a relocation costs constant time: what stands for its symbol is read off the file's own symbols.
+
+ghost use Rattle.std.specs.Prelude.{◌≡◌, [], ◌+◌, ◌<◌, ◌^◌};
+ghost use Rattle.std.specs.Iterator.{YieldsFirst, item_count};
+ghost use Rattle.std.specs.Option.{option_to_list};
+ghost use Rattle.lk_gc.specs.Units.{is_root, local_definition, range_mark, reference};
+
+use crate::units::Ask;
+use lk_link::relocation::resolution_flags;
+use lk_link::{FileId, InputSection, InputSlot, InputSymbol, Relocation, SymbolId, ValueFlags};
+use std::marker::Model;
+
+/// What is left of the asks of a section's relocations. Contracts see the list of them.
+#[derive(Drop)]
+pub(crate) struct RelocationAsks<'a> {
+    /// The mark of the relocation before, where it is still to come.
+    pub(crate) mark: Option<Ask>,
+    /// The relocations that are left.
+    pub(crate) relocs: &'a [Relocation],
+    /// The symbols of their file.
+    pub(crate) symbols: &'a [InputSymbol],
+    /// The number of the first of these.
+    pub(crate) first: u32,
+    /// Whether the section goes to the primary part.
+    pub(crate) primary: bool,
+}
+
+impl<'a> Model for RelocationAsks<'a> {
+    ghost use Rattle.std.specs.Prelude.{◌++◌, ◌+◌, ◌<◌, ◌^◌, List, All};
+    ghost use Rattle.std.specs.List.{flat_map};
+    ghost use Rattle.std.specs.Option.{option_to_list};
+    ghost use Rattle.std.specs.Coded.{codes};
+    ghost use Rattle.lk_link.specs.contracts.expression.Expression as expression;
+    ghost use Rattle.lk_link.specs.declared.relocation.Relocation.{Relocation};
+    ghost use Rattle.lk_gc.specs.declared.units.Ask.{Ask};
+
+    ghost Value = { List Ask };
+
+    ghost coded = { Prim.hlevel (codes, expression.the_row.coded) };
+
+    ghost use Rattle.lk_gc.specs.Units.{relocation_asks};
+
+    ghost view = { λ a. option_to_list a.mark ++ flat_map (relocation_asks a.primary a.first a.symbols.now) a.relocs.now };
+
+    ghost invariant = { λ a. All (λ (r : Relocation). a.first + r.symbol < 2 ^ 32) a.relocs.now };
+}
+
+impl<'a> Iterator for RelocationAsks<'a> {
+    type Item = Ask;
+
+    ghost next_gives = { YieldsFirst (λ left. left) };
+
+    ghost remaining = { item_count (λ left. left) };
+
+    fn next(&mut self) -> Option<Ask> {
+        if let Some(mark) = self.mark.take() {
+            return Some(mark);
+        }
+        while let Some((relocation, relocs)) = self.relocs.split_first() {
+            self.relocs = relocs;
+            let mark = range_mark(self.primary, self.first, *relocation);
+            if let Some(reference) = reference(self.first, self.symbols, *relocation) {
+                self.mark = mark;
+                return Some(reference);
+            }
+            if mark.is_some() {
+                return mark;
+            }
+        }
+        None
+    }
+}
+
+/// What is left of the sections that an object asks for by itself. Contracts see the list of the asks.
+#[derive(Drop)]
+pub(crate) struct SectionRoots<'a> {
+    /// Whether only sections that are kept in any case are asked for.
+    pub(crate) gc: bool,
+    pub(crate) file: FileId,
+    /// The index of the first section that is left.
+    pub(crate) index: u32,
+    /// The sections that are left.
+    pub(crate) sections: &'a [InputSection],
+}
+
+impl<'a> Model for SectionRoots<'a> {
+    ghost use Rattle.std.specs.Prelude.{◌+◌, ◌<◌, ◌^◌, List, length};
+    ghost use Rattle.lk_gc.specs.declared.units.Ask.{Ask};
+
+    ghost Value = { List Ask };
+
+    ghost use Rattle.lk_gc.specs.Units.{section_roots};
+
+    ghost view = { λ a. section_roots a.gc a.file a.index a.sections.now };
+
+    ghost invariant = { λ a. a.index + length a.sections.now < 2 ^ 32 };
+}
+
+impl<'a> Iterator for SectionRoots<'a> {
+    type Item = Ask;
+
+    ghost next_gives = { YieldsFirst (λ left. left) };
+
+    ghost remaining = { item_count (λ left. left) };
+
+    fn next(&mut self) -> Option<Ask> {
+        while let Some((section, sections)) = self.sections.split_first() {
+            let index = self.index;
+            self.index += 1;
+            self.sections = sections;
+            if is_root(self.gc, section.slot) {
+                return Some(Ask::Section(self.file, index));
+            }
+        }
+        None
+    }
+}
+
+/// What is left of what a unit or a file asks for, in order. Contracts see the list of the asks.
+#[derive(Drop)]
+pub struct Successors<'a> {
+    /// An ask that comes before all others: a symbol's section, or the entry.
+    first: Option<Ask>,
+    relocations: RelocationAsks<'a>,
+    sections: SectionRoots<'a>,
+}
+
+impl<'a> Model for Successors<'a> {
+    ghost use Rattle.std.specs.Prelude.{◌++◌, List};
+    ghost use Rattle.std.specs.Option.{option_to_list};
+    ghost use Rattle.std.specs.Coded.{codes};
+    ghost use Rattle.lk_link.specs.contracts.expression.Expression as expression;
+    ghost use Rattle.lk_gc.specs.declared.units.Ask.{Ask};
+
+    ghost Value = { List Ask };
+
+    ghost coded = { Prim.hlevel (codes, expression.the_row.coded) };
+
+    ghost view = { λ a. option_to_list a.first ++ (a.relocations ++ a.sections) };
+}
+
+impl<'a> Iterator for Successors<'a> {
+    type Item = Ask;
+
+    ghost next_gives = { YieldsFirst (λ left. left) };
+
+    ghost remaining = { item_count (λ left. left) };
+
+    fn next(&mut self) -> Option<Ask> {
+        if let Some(ask) = self.first.take() {
+            return Some(ask);
+        }
+        if let Some(ask) = self.relocations.next() {
+            return Some(ask);
+        }
+        self.sections.next()
+    }
+}
+
+impl<'a> RelocationAsks<'a> {
+    /// No asks.
+    fn none() -> RelocationAsks<'a>
+        ensures { result ≡ [] }
+    {
+        RelocationAsks {
+            mark: None,
+            relocs: &[],
+            symbols: &[],
+            first: 0,
+            primary: false,
+        }
+    }
+}
+
+impl<'a> SectionRoots<'a> {
+    /// No asks.
+    fn none() -> SectionRoots<'a>
+        ensures { result ≡ [] }
+    {
+        SectionRoots {
+            gc: false,
+            file: FileId { group: 0, file: 0 },
+            index: 0,
+            sections: &[],
+        }
+    }
+}
+
+impl<'a> Successors<'a> {
+    /// This ask alone, if there is one.
+    pub(crate) fn from_ask(ask: Option<Ask>) -> Successors<'a>
+        ensures { result ≡ option_to_list ask }
+    {
+        Successors {
+            first: ask,
+            relocations: RelocationAsks::none(),
+            sections: SectionRoots::none(),
+        }
+    }
+
+    /// The asks of relocations.
+    pub(crate) fn from_relocations(relocations: RelocationAsks<'a>) -> Successors<'a>
+        ensures { result ≡ relocations.entry }
+    {
+        Successors {
+            first: None,
+            relocations,
+            sections: SectionRoots::none(),
+        }
+    }
+
+    /// The asks for sections.
+    pub(crate) fn from_sections(sections: SectionRoots<'a>) -> Successors<'a>
+        ensures { result ≡ sections.entry }
+    {
+        Successors {
+            first: None,
+            relocations: RelocationAsks::none(),
+            sections,
+        }
+    }
+}
+
+/// Whether a section is asked for by its own file: one that is kept in any case is, and without collection any that can be
+/// kept.
+fn is_root(gc: bool, slot: InputSlot) -> bool
+    ensures { result ≡ is_root gc slot }
+{
+    match slot {
+        InputSlot::MustLoad | InputSlot::MustLoadDebugInfo => true,
+        InputSlot::Unloaded | InputSlot::DebugInfo => !gc,
+        InputSlot::Discard | InputSlot::Merge => false,
+    }
+}
+
+/// What a relocation refers to: what stands for its symbol, with the flags that its kind wants, unless it wants none.
+/// `first` is the number of the first of the file's symbols.
+fn reference(first: u32, symbols: &[InputSymbol], relocation: Relocation) -> Option<Ask>
+    requires { first + relocation.symbol < 2 ^ 32 }
+    ensures { result ≡ reference first symbols.now relocation }
+{
+    let flags = resolution_flags(relocation.kind);
+    if flags.0 == 0 {
+        return None;
+    }
+    let symbol = local_definition(first, symbols, relocation.symbol);
+    Some(Ask::Reference(symbol, flags))
+}
+
+/// What stands for a symbol of a file, by its index there: its definition, else itself.
+pub(crate) fn local_definition(first: u32, symbols: &[InputSymbol], index: u32) -> SymbolId
+    requires { first + index < 2 ^ 32 }
+    ensures { result ≡ local_definition first symbols.now index }
+{
+    let own = SymbolId::from_u32(first + index);
+    match symbols.get(index as usize) {
+        Some(symbol) => symbol.def.unwrap_or(own),
+        None => own,
+    }
+}
+
+/// What a relocation marks: its own symbol, where a thunk may stand in for it and the section goes to the primary part.
+fn range_mark(primary: bool, first: u32, relocation: Relocation) -> Option<Ask>
+    requires { first + relocation.symbol < 2 ^ 32 }
+    ensures { result ≡ range_mark primary first relocation }
+{
+    if primary && relocation.thunkable {
+        let symbol = SymbolId::from_u32(first + relocation.symbol);
+        Some(Ask::Mark(symbol, ValueFlags::HAS_RANGE_LIMITED_REL))
+    } else {
+        None
+    }
+}

@@ -1,0 +1,131 @@
+//! What is live, by the marks of units and the words of flags that a walk left.
+
+ghost use Rattle.std.specs.Prelude.{◌≡◌, ◌-◌, ◌≤◌, ◌<◌, ◌&&◌, ◌||◌, ℕ, IfOk, drop, false, length, map, replicate};
+ghost use Rattle.std.specs.List.{list_any, range_with_len};
+ghost use Rattle.lk_link.specs.InputSlots.{can_be_kept};
+ghost use Rattle.lk_link.specs.Marks.{is_marked};
+ghost use Rattle.lk_link.specs.WellFormed.{IsWellFormed};
+ghost use Rattle.lk_gc.specs.Reach.{kept_marks, live_by, live_marks};
+ghost use Rattle.lk_gc.specs.Units.{flags_from};
+ghost use Rattle.lk_gc.specs.Walking.{AreFew, AreKeptParts, keeps_part};
+
+use crate::live::{Live, LiveInputs};
+use crate::walk::Walk;
+use lk_link::marks::is_marked;
+use lk_link::{InputSection, InputSlot, LinkInput, List, ValueFlags};
+use std::alloc::{AllocError, Global};
+
+/// What is live after a walk.
+pub(crate) fn live_after(alloc: Global, link: &LinkInput, walk: &Walk) -> Result<Live, AllocError>
+    requires well_formed { IsWellFormed link.now }
+    requires few { AreFew walk.now.words.items }
+    ensures { IfOk result (λ live. live ≡ live_by link.now walk.now.marks.items walk.now.words.items) }
+{
+    let marks = live_marks(alloc, link, walk.marks.as_slice())?;
+    let flags = symbol_flags(alloc, walk.words.as_slice())?;
+    let kept = kept_marks(alloc, link, marks.as_slice())?;
+    Ok(Live {
+        marks: List::from_vec(marks),
+        flags: List::from_vec(flags),
+        kept: List::from_vec(kept),
+    })
+}
+
+/// For each input section whether its unit is marked and its slot lets it be kept.
+fn live_marks(alloc: Global, link: &LinkInput, marks: &[bool]) -> Result<Vec<bool>, AllocError>
+    requires { IsWellFormed link.now }
+    ensures { IfOk result (λ live. live.items ≡ live_marks link.now marks.now) }
+{
+    let symbols = link.groups.symbol_count() as usize;
+    let mut live = Vec::with_capacity(alloc, link.groups.input_count() as usize)?;
+    for input in link.groups.inputs() {
+        let unit = symbols + live.len();
+        live.push(is_live(marks, unit, input.section.slot))?;
+    }
+    Ok(live)
+}
+
+/// Whether a unit is marked, and its slot lets it be kept.
+fn is_live(marks: &[bool], unit: usize, slot: InputSlot) -> bool
+    ensures { result ≡ (is_marked marks.now unit && can_be_kept slot) }
+{
+    is_marked(marks, unit) && slot.can_be_kept()
+}
+
+/// The flags of each symbol, from the words behind the spare one.
+fn symbol_flags(alloc: Global, words: &[u64]) -> Result<Vec<ValueFlags>, AllocError>
+    requires { AreFew words.now }
+    ensures { IfOk result (λ flags. flags.items ≡ map flags_from (drop 1 words.now)) }
+{
+    match words.split_first() {
+        Some((_, words)) => flags_of(alloc, words),
+        None => Ok(Vec::new(alloc)),
+    }
+}
+
+/// Words of flags as flags.
+fn flags_of(alloc: Global, words: &[u64]) -> Result<Vec<ValueFlags>, AllocError>
+    requires { AreFew words.now }
+    ensures { IfOk result (λ flags. flags.items ≡ map flags_from words.now) }
+{
+    let mut flags = Vec::with_capacity(alloc, words.len())?;
+    for word in words {
+        flags.push(ValueFlags(*word as u32))?;
+    }
+    Ok(flags)
+}
+
+/// For each output section whether a live section without bytes keeps it.
+fn kept_marks(alloc: Global, link: &LinkInput, live: &[bool]) -> Result<Vec<bool>, AllocError>
+    requires { IsWellFormed link.now }
+    ensures { IfOk result (λ kept. kept.items ≡ kept_marks link.now live.now) }
+{
+    let parts = kept_parts(alloc, link, live)?;
+    let sections = link.plan.sections.len();
+    let mut kept = Vec::with_capacity(alloc, sections)?;
+    for section in 0..sections {
+        let (first, behind) = link.plan.sections.part_range(section);
+        kept.push(any_marked(parts.as_slice(), first, behind))?;
+    }
+    Ok(kept)
+}
+
+/// Whether one of the numbers from the first on has a mark, the last left out.
+fn any_marked(marks: &[bool], first: usize, behind: usize) -> bool
+    requires { first ≤ behind }
+    ensures { result ≡ list_any (is_marked marks.now) (range_with_len first (behind - first)) }
+{
+    (first..behind).any(|number| is_marked(marks, number))
+}
+
+/// For each part whether a live section without bytes, that isn't debug data, goes to it.
+fn kept_parts(alloc: Global, link: &LinkInput, live: &[bool]) -> Result<Vec<bool>, AllocError>
+    requires { IsWellFormed link.now }
+    ensures { IfOk result (λ parts. AreKeptParts link.now live.now parts.items) }
+{
+    let mut parts = no_parts(alloc, link.plan.sections.parts().len())?;
+    let inputs = LiveInputs::new(live, link.groups.inputs());
+    for input in inputs {
+        keep_part(&mut parts, input.section);
+    }
+    Ok(parts)
+}
+
+/// So many parts, none of them kept.
+fn no_parts(alloc: Global, count: usize) -> Result<Vec<bool>, AllocError>
+    ensures { IfOk result (λ parts. parts.items ≡ replicate count false) }
+{
+    vec![in alloc; false; count]
+}
+
+/// Keeps the part of a section, if the section has no bytes and isn't debug data.
+fn keep_part(parts: &mut Vec<bool>, section: &InputSection)
+    ensures count { length parts.new.items ≡ length parts.old.items }
+    ensures marks { (p : ℕ) → p < length parts.old.items
+        → is_marked parts.new.items p ≡ (is_marked parts.old.items p || keeps_part p section.now) }
+{
+    let part = section.part.as_usize();
+    if section.size == 0 && !section.slot.is_debug() && part < parts.len() {
+        parts[part] = true;
+    }
+}

@@ -1,0 +1,53 @@
+//! Laws on what is reached, and on what is live.
+
+ghost use Rattle.lk_gc.specs.Laws.{AsksAreInside, ClosedMarksHoldReach, LiveExists, LiveIsOne, LiveWasAskedFor, MarksAreReached, MoreRootsReachMore, ReachIsClosed, RootsAreLive, WordsAreFlags};
+
+/// A law: what roots and units of a well-formed link ask for is there: units that have numbers, and symbols of the link.
+pub fn asks_are_inside()
+    ensures { AsksAreInside }
+{}
+
+/// A law: a unit of a well-formed link is reached by a path exactly where rounds of marking mark it.
+pub fn marks_are_reached()
+    ensures { MarksAreReached }
+{}
+
+/// A law: a bit of a symbol's joined word is set exactly where it was handed in, or a root or a reached unit sets it.
+pub fn words_are_flags()
+    ensures { WordsAreFlags }
+{}
+
+/// A law: what is reached and its flags are closed: nothing that is marked asks for anything that isn't there.
+pub fn reach_is_closed()
+    ensures { ReachIsClosed }
+{}
+
+/// A law: marks that are closed hold all that is reached.
+pub fn closed_marks_hold_reach()
+    ensures { ClosedMarksHoldReach }
+{}
+
+/// A law: every well-formed link has its live sections.
+pub fn live_exists()
+    ensures { LiveExists }
+{}
+
+/// A law: what is live of a link is one.
+pub fn live_is_one()
+    ensures { LiveIsOne }
+{}
+
+/// A law: where units ask for the same, more roots reach no less.
+pub fn more_roots_reach_more()
+    ensures { MoreRootsReachMore }
+{}
+
+/// A law: a section that its object asks for is live: one that is kept in any case, and without collection any that can be.
+pub fn roots_are_live()
+    ensures { RootsAreLive }
+{}
+
+/// A law: what is live was asked for by a root or by a unit that is reached.
+pub fn live_was_asked_for()
+    ensures { LiveWasAskedFor }
+{}

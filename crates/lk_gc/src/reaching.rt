@@ -1,0 +1,123 @@
+//! What units and files of a link ask for.
+
+ghost use Rattle.std.specs.Prelude.{◌≡◌, List, [], Some};
+ghost use Rattle.std.specs.Option.{option_map_or, option_to_list};
+ghost use Rattle.lk_link.specs.Files.{file_in};
+ghost use Rattle.lk_link.specs.InputSlots.{is_regular};
+ghost use Rattle.lk_link.specs.Walks.{file_of};
+ghost use Rattle.lk_link.specs.WellFormed.{IsWellFormed};
+ghost use Rattle.lk_gc.specs.declared.units.Ask.{Ask};
+ghost use Rattle.lk_gc.specs.declared.units.Unit.TheVariants.{Sym, Sec};
+ghost use Rattle.lk_gc.specs.Units.{entry_asks, file_roots, follows, is_primary_section, placement_asks};
+
+use crate::asks::{RelocationAsks, SectionRoots, Successors};
+use crate::units::{Ask, Unit};
+use lk_link::{
+    FileId, FileKind, FileRef, InputSection, InputSlot, LinkInput, SymbolId, SymbolPlacement,
+    ValueFlags,
+};
+
+/// What a unit asks for, in order (libwild: `handle_section_load_request`, `load_symbol`).
+pub fn successors<'a>(link: &'a LinkInput, unit: Unit) -> Successors<'a>
+    requires { IsWellFormed link.now }
+    ensures { result ≡ follows link.now unit }
+{
+    match unit {
+        Unit::Sym(symbol) => Successors::from_ask(symbol_section(link, symbol)),
+        Unit::Sec(file, index) => match section_relocations(link, file, index) {
+            Some(relocations) => Successors::from_relocations(relocations),
+            None => Successors::from_ask(None),
+        },
+    }
+}
+
+/// The section of a symbol, if it has one in an object.
+fn symbol_section(link: &LinkInput, symbol: SymbolId) -> Option<Ask>
+    requires { IsWellFormed link.now }
+    ensures { option_to_list result ≡ follows link.now (Sym symbol) }
+{
+    let id = link.groups.file_of_symbol(symbol)?;
+    let file = link.groups.file(id)?;
+    let own = link.groups.symbol(symbol)?;
+    placed_section(id, file.kind, &own.at)
+}
+
+/// The section that a symbol of a file with this number and kind is placed in, if it is an object.
+fn placed_section(id: FileId, kind: FileKind, at: &SymbolPlacement) -> Option<Ask>
+    ensures { option_to_list result ≡ placement_asks id kind at.now }
+{
+    match at {
+        SymbolPlacement::Section { index, .. } if kind.is_object() => {
+            Some(Ask::Section(id, *index))
+        }
+        _ => None,
+    }
+}
+
+/// What the relocations of a section ask for, where there is such a section and it is loaded for what it holds.
+fn section_relocations<'a>(
+    link: &'a LinkInput,
+    id: FileId,
+    index: u32,
+) -> Option<RelocationAsks<'a>>
+    requires { IsWellFormed link.now }
+    ensures { option_map_or (λ (asks : List Ask). asks) result [] ≡ follows link.now (Sec id index) }
+{
+    let file = link.groups.file(id)?;
+    let section = file.sections.get(index as usize)?;
+    let symbols = link.groups.symbol_id_range(id)?;
+    if !is_followed(section.slot) {
+        return None;
+    }
+    Some(RelocationAsks {
+        mark: None,
+        relocs: section.relocs.as_slice(),
+        symbols: file.symbols.as_slice(),
+        first: symbols.start().as_u32(),
+        primary: is_primary_section(link, section),
+    })
+}
+
+/// Whether the relocations of a section are followed: where it is loaded for what it holds.
+fn is_followed(slot: InputSlot) -> bool
+    ensures { result ≡ is_regular slot }
+{
+    slot.is_regular()
+}
+
+/// Whether a section goes to the primary part.
+pub(crate) fn is_primary_section(link: &LinkInput, section: &InputSection) -> bool
+    ensures { result ≡ is_primary_section link.now section.now }
+{
+    match link.plan.named.primary {
+        Some(part) => part.as_u32() == section.part.as_u32(),
+        None => false,
+    }
+}
+
+/// What a file of a link asks for by itself (libwild: `activate`).
+pub fn file_roots<'a>(link: &'a LinkInput, file: FileRef<'a>) -> Successors<'a>
+    requires well_formed { IsWellFormed link.now }
+    requires there { file_in link.now.groups file.id ≡ Some file.file.now }
+    ensures { result ≡ file_roots link.now (file_of file.entry) }
+{
+    match file.file.kind {
+        FileKind::Prelude => Successors::from_ask(entry_ask(link)),
+        FileKind::Object => Successors::from_sections(SectionRoots {
+            gc: link.options.gc,
+            file: file.id,
+            index: 0,
+            sections: file.file.sections.as_slice(),
+        }),
+        _ => Successors::from_ask(None),
+    }
+}
+
+/// The entry, if there is one: what stands for it, directly.
+fn entry_ask(link: &LinkInput) -> Option<Ask>
+    ensures { option_to_list result ≡ entry_asks link.now }
+{
+    let entry = link.options.entry?;
+    let symbol = link.groups.definition(entry)?;
+    Some(Ask::Reference(symbol, ValueFlags::DIRECT))
+}

@@ -1,0 +1,216 @@
+//! The walk over all that is reached, on one thread.
+//!
+//! Units go by their numbers: a mark for each unit that was asked for, a word of flags for each symbol, and a stack of the units
+//! whose own asks are still to come. A unit is marked when it is first asked for, and goes onto the stack then, so each is looked
+//! at once. The walk begins with what files ask for by themselves, and ends when the stack is empty: then all that a marked unit
+//! asks for is marked and joined, and nothing else ever was.
+
+ghost use Rattle.std.specs.Prelude.{◌≡◌, [], ◌++◌, ◌<◌, ◌^◌, All, IsSome, OnOk, IfOk, Some, SomeIff, false, length, map, replicate};
+ghost use Rattle.lk_link.specs.Files.{file_in};
+ghost use Rattle.lk_link.specs.WellFormed.{IsWellFormed};
+ghost use Rattle.lk_gc.specs.Marks.{IsInside, flags_handed_in, handed_in, join_flags, mark_target, unit_at, unit_number, word_of};
+ghost use Rattle.lk_gc.specs.declared.units.Unit.TheVariants.{Sec};
+ghost use Rattle.lk_gc.specs.Units.{roots};
+ghost use Rattle.lk_gc.specs.Walking.{Adds, AreFew, IsSized, IsStart, IsWalked, IsWalking, Takes, files_of_inputs, stack_after};
+
+use crate::asks::Successors;
+use crate::reaching::{file_roots, successors};
+use crate::units::{Ask, Unit};
+use lk_link::{FileId, InputSymbol, LinkInput, SymbolId, ValueFlags};
+use std::alloc::{AllocError, Global};
+
+/// What is reached so far.
+#[derive(Drop)]
+pub(crate) struct Walk {
+    /// For each unit whether it was asked for.
+    pub(crate) marks: Vec<bool>,
+    /// Behind a spare word the flags of each symbol.
+    pub(crate) words: Vec<u64>,
+    /// The units that were asked for and whose own asks are still to come.
+    stack: Vec<u32>,
+}
+
+impl Walk {
+    /// What is reached of a link: the marks of its units, and the words of its symbols' flags (libwild:
+    /// `traverse_reference_graph`).
+    pub(crate) fn over(alloc: Global, link: &LinkInput) -> Result<Walk, AllocError>
+        requires { IsWellFormed link.now }
+        ensures { IfOk result (IsWalked link.now) }
+    {
+        let files = files_of_inputs(alloc, link)?;
+        let mut walk = Walk::new(alloc, link)?;
+        walk.take_roots(link)?;
+        walk.take_stack(link, files.as_slice())?;
+        Ok(walk)
+    }
+
+    /// A walk at its start: nothing is asked for, and symbols have the flags that are handed in.
+    fn new(alloc: Global, link: &LinkInput) -> Result<Walk, AllocError>
+        requires { IsWellFormed link.now }
+        ensures { IfOk result (IsStart link.now) }
+    {
+        let symbols = link.groups.symbol_count() as usize;
+        let inputs = link.groups.input_count() as usize;
+        Ok(Walk {
+            marks: unmarked(alloc, symbols + inputs)?,
+            words: handed_in(alloc, link)?,
+            stack: Vec::new(alloc),
+        })
+    }
+
+    /// Takes an ask: marks what it reaches, and joins its flags.
+    fn take(&mut self, link: &LinkInput, ask: Ask) -> Result<(), AllocError>
+        requires well_formed { IsWellFormed link.now }
+        requires inside { IsInside link.now.groups ask }
+        requires sized { IsSized link.now self.old }
+        ensures { OnOk result (Takes link.now ask self.old self.new) }
+    {
+        match ask {
+            Ask::Reference(symbol, flags) => {
+                self.join(symbol, flags);
+                self.mark(symbol.as_usize())
+            }
+            Ask::Section(file, index) => match section_number(link, file, index) {
+                Some(number) => self.mark(number),
+                None => Ok(()),
+            },
+            Ask::Mark(symbol, flags) => {
+                self.join(symbol, flags);
+                Ok(())
+            }
+        }
+    }
+
+    /// Takes asks, one after the other.
+    fn take_all(&mut self, link: &LinkInput, asks: Successors<'_>) -> Result<(), AllocError>
+        requires well_formed { IsWellFormed link.now }
+        requires inside { All (IsInside link.now.groups) asks }
+        requires sized { IsSized link.now self.old }
+        ensures { OnOk result (Adds link.now asks.entry self.old self.new) }
+    {
+        for ask in asks {
+            self.take(link, ask)?;
+        }
+        Ok(())
+    }
+
+    /// Takes what all files ask for by themselves.
+    fn take_roots(&mut self, link: &LinkInput) -> Result<(), AllocError>
+        requires well_formed { IsWellFormed link.now }
+        requires sized { IsSized link.now self.old }
+        ensures { OnOk result (Adds link.now (roots link.now) self.old self.new) }
+    {
+        for file in link.groups.files() {
+            self.take_all(link, file_roots(link, file))?;
+        }
+        Ok(())
+    }
+
+    /// Takes what the units on the stack ask for, until none is left. `files` has the file of each input section.
+    fn take_stack(&mut self, link: &LinkInput, files: &[FileId]) -> Result<(), AllocError>
+        requires well_formed { IsWellFormed link.now }
+        requires files { files.now ≡ files_of_inputs link.now }
+        requires walking { IsWalking link.now self.old }
+        ensures { OnOk result (IsWalking link.now self.new × (self.new.stack.items ≡ [])) }
+    {
+        while let Some(number) = self.stack.pop() {
+            if let Some(unit) = unit_at(link, files, number as usize) {
+                self.take_all(link, successors(link, unit))?;
+            }
+        }
+        Ok(())
+    }
+
+    /// Marks a unit, which goes onto the stack unless it was marked before.
+    fn mark(&mut self, number: usize) -> Result<(), AllocError>
+        requires there { number < length self.old.marks.items }
+        requires few { number < 2 ^ 32 }
+        ensures marks { OnOk result (self.new.marks.items ≡ mark_target self.old.marks.items (Some number)) }
+        ensures words { self.new.words.items ≡ self.old.words.items }
+        ensures stack { OnOk result (self.new.stack.items ≡ stack_after self.old.marks.items self.old.stack.items (Some number)) }
+    {
+        if !self.marks[number] {
+            self.marks[number] = true;
+            self.stack.push(number as u32)?;
+        }
+        Ok(())
+    }
+
+    /// Joins flags into the word of a symbol.
+    fn join(&mut self, symbol: SymbolId, flags: ValueFlags)
+        requires { word_of symbol < length self.old.words.items }
+        ensures marks { self.new.marks.items ≡ self.old.marks.items }
+        ensures words { self.new.words.items ≡ join_flags self.old.words.items (Some (symbol, flags.0)) }
+        ensures stack { self.new.stack.items ≡ self.old.stack.items }
+        ensures few { AreFew self.old.words.items → AreFew self.new.words.items }
+    {
+        self.words[symbol.as_usize() + 1] |= u64::from(flags.0);
+    }
+}
+
+/// The number of an input section among all units, if its file is there.
+pub(crate) fn section_number(link: &LinkInput, file: FileId, index: u32) -> Option<usize>
+    requires { IsWellFormed link.now }
+    ensures { SomeIff result (IsSome (file_in link.now.groups file)) (unit_number link.now.groups (Sec file index)) }
+{
+    let start = link.groups.input_start(file)?;
+    Some(link.groups.symbol_count() as usize + start + index as usize)
+}
+
+/// The unit with a number, if there is one. `files` has the file of each input section.
+fn unit_at(link: &LinkInput, files: &[FileId], number: usize) -> Option<Unit>
+    requires well_formed { IsWellFormed link.now }
+    requires files { files.now ≡ files_of_inputs link.now }
+    ensures { result ≡ unit_at link.now.groups number }
+{
+    let symbols = link.groups.symbol_count() as usize;
+    if number < symbols {
+        return Some(Unit::Sym(SymbolId::from_u32(number as u32)));
+    }
+    let place = number - symbols;
+    let file = *files.get(place)?;
+    let start = link.groups.input_start(file)?;
+    Some(Unit::Sec(file, (place - start) as u32))
+}
+
+/// So many marks, none of them set.
+pub(crate) fn unmarked(alloc: Global, count: usize) -> Result<Vec<bool>, AllocError>
+    ensures { IfOk result (λ marks. marks.items ≡ replicate count false) }
+{
+    vec![in alloc; false; count]
+}
+
+/// The file of each input section, by its number.
+fn files_of_inputs(alloc: Global, link: &LinkInput) -> Result<Vec<FileId>, AllocError>
+    requires { IsWellFormed link.now }
+    ensures { IfOk result (λ files. files.items ≡ files_of_inputs link.now) }
+{
+    let mut files = Vec::with_capacity(alloc, link.groups.input_count() as usize)?;
+    for input in link.groups.inputs() {
+        files.push(input.file)?;
+    }
+    Ok(files)
+}
+
+/// The flags that are handed in, behind a spare word.
+fn handed_in(alloc: Global, link: &LinkInput) -> Result<Vec<u64>, AllocError>
+    requires { IsWellFormed link.now }
+    ensures { IfOk result (λ words. words.items ≡ handed_in link.now) }
+{
+    let mut words = Vec::with_capacity(alloc, link.groups.symbol_count() as usize + 1)?;
+    words.push(0)?;
+    for file in link.groups.files() {
+        push_flags(&mut words, file.file.symbols.as_slice())?;
+    }
+    Ok(words)
+}
+
+/// Adds the flags of symbols.
+fn push_flags(words: &mut Vec<u64>, symbols: &[InputSymbol]) -> Result<(), AllocError>
+    ensures { OnOk result (words.new.items ≡ words.old.items ++ map flags_handed_in symbols.now) }
+{
+    for symbol in symbols {
+        words.push(u64::from(symbol.flags.0))?;
+    }
+    Ok(())
+}
