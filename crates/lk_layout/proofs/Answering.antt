@@ -7,7 +7,7 @@ use Rattle.lk_link.specs.declared.fault.LinkFault.{LinkFault}
 use Rattle.lk_link.specs.declared.link.LinkInput.{LinkInput}
 use Rattle.lk_link.specs.Target.{Target}
 use Rattle.lk_layout.specs.declared.error.LayoutError.{LayoutError}
-use Rattle.lk_layout.specs.declared.error.LayoutError.TheVariants.{NoMemory, TooMany, BadLink, NotCarried, AddressOverflow, SectionOutsideSegments}
+use Rattle.lk_layout.specs.declared.error.LayoutError.TheVariants.{NoMemory, TooMany, BadLink, NotCarried, References, AddressOverflow, SectionOutsideSegments}
 use Rattle.lk_layout.specs.declared.error.Uncarried.{Uncarried}
 use Rattle.lk_layout.specs.declared.layout.Layout.{Layout}
 use Rattle.lk_layout.specs.Carried.{IsCarried, first_uncarried}
@@ -39,6 +39,7 @@ with_error P NoMemory h = tt
 with_error P (TooMany what count limit) h = h (λ is. cc)
 with_error P (BadLink rule place) h = h (λ is. cc)
 with_error P (NotCarried what) h = h (λ is. cc)
+with_error P (References faults) h = h (λ is. cc)
 with_error P (AddressOverflow place) h = h (λ is. cc)
 with_error P (SectionOutsideSegments s) h = h (λ is. cc)
 
@@ -47,6 +48,7 @@ error_with P NoMemory h memory = absurd (memory refl)
 error_with P (TooMany what count limit) h memory = h
 error_with P (BadLink rule place) h memory = h
 error_with P (NotCarried what) h memory = h
+error_with P (References faults) h memory = h
 error_with P (AddressOverflow place) h memory = h
 error_with P (SectionOutsideSegments s) h memory = h
 

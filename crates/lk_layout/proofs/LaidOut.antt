@@ -1,7 +1,9 @@
 -- What stands behind a defined layout.
-use Rattle.std.proofs.Common.{◌≡◌, List, Option, Some, None, Ok, refl}
+use Rattle.std.proofs.Common.{◌≡◌, List, [], ◌∷◌, Option, Some, None, Ok, refl}
 use Rattle.lk_check.specs.FirstFault.{WellFormedExactlyUnfaulted}
+use Rattle.lk_gc.specs.declared.error.ReferenceFault.{ReferenceFault}
 use Rattle.lk_gc.specs.declared.live.Live.{Live}
+use Rattle.lk_gc.specs.Faults.{reference_faults}
 use Rattle.lk_gc.specs.Reach.{AreLive}
 use Rattle.lk_link.specs.declared.link.LinkInput.{LinkInput}
 use Rattle.lk_link.specs.Target.{Target}
@@ -12,7 +14,7 @@ use Rattle.lk_place.specs.Records.{Record}
 use Rattle.lk_layout.specs.declared.error.LayoutError.{LayoutError}
 use Rattle.lk_layout.specs.declared.layout.Layout.{Layout}
 use Rattle.lk_layout.specs.Carried.{IsCarried, first_uncarried}
-use Rattle.lk_layout.specs.Defined.{IsDefined, Unless, fault_refusal, layout_of, not_carried, segment_refusal, setting, sizes_refusal, uncarried_refusal, walk_refusal}
+use Rattle.lk_layout.specs.Defined.{IsDefined, Unless, references_error, references_refusal, fault_refusal, layout_of, not_carried, segment_refusal, setting, sizes_refusal, uncarried_refusal, walk_refusal}
 use Rattle.lk_layout.specs.Errors.{place_error}
 use Rattle.lk_layout.proofs.OneAnswer.{none_of, unrefused}
 
@@ -22,6 +24,7 @@ pub record IsLaidOut (target : Target) (link : LinkInput) (layout : Layout) : Ty
   pub carried : IsCarried link
   pub live : Live
   pub are_live : AreLive link live
+  pub met : reference_faults link ≡ []
   pub states : List Cursors
   pub records : List Record
   pub is : IsPlaced (setting target link live) states records
@@ -33,23 +36,31 @@ passed : (refusal : Option LayoutError) (layout : Layout) (P : Type 0) → Unles
 passed None layout P h = (refl, h)
 passed (Some e) layout P h = absurd (cc)
 
+-- where none is refused, all references are met
+all_met : (faults : List ReferenceFault) → references_error faults ≡ None → faults ≡ []
+all_met [] h = refl
+all_met (fault ∷ faults) h = absurd (cc)
+
 pub laid_out : WellFormedExactlyUnfaulted → (target : Target) (link : LinkInput) (layout : Layout) → IsDefined target link (Ok layout) → IsLaidOut target link layout
 laid_out exactly target link layout defined =
     let fault = passed (fault_refusal link) layout _ defined in
     let all = passed (uncarried_refusal link) layout _ fault.1 in
-    let sizes = passed (sizes_refusal link all.1.0) layout _ all.1.2 in
+    let met = passed (references_refusal link) layout _ all.1 in
+    let reached = met.1 in
+    let sizes = passed (sizes_refusal link reached.0) layout _ reached.2 in
     let placed = sizes.1 in
-    let walk = passed (walk_refusal target link all.1.0 placed.0) layout _ placed.3 in
-    let segments = passed (segment_refusal link all.1.0 placed.1) layout _ walk.1 in
-    let is : layout ≡ layout_of link all.1.0 placed.1 = let given : Ok layout ≡ Ok (layout_of link all.1.0 placed.1) = segments.1 in cc in
+    let walk = passed (walk_refusal target link reached.0 placed.0) layout _ placed.3 in
+    let segments = passed (segment_refusal link reached.0 placed.1) layout _ walk.1 in
+    let is : layout ≡ layout_of link reached.0 placed.1 = let given : Ok layout ≡ Ok (layout_of link reached.0 placed.1) = segments.1 in cc in
     record {
       good = unrefused exactly link fault.0;
       carried = none_of not_carried (first_uncarried link) all.0;
-      live = all.1.0;
-      are_live = all.1.1;
+      live = reached.0;
+      are_live = reached.1;
+      met = all_met (reference_faults link) met.0;
       states = placed.0;
       records = placed.1;
       is = placed.2;
-      unrefused = none_of place_error (placement_refusal (setting target link all.1.0) placed.0) walk.0;
+      unrefused = none_of place_error (placement_refusal (setting target link reached.0) placed.0) walk.0;
       same = is;
     }

@@ -5,3 +5,4 @@ mod OneAnswer
 mod PartStarts
 mod Settings
 mod Soundness
+mod Spreading

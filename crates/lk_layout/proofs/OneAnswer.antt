@@ -3,7 +3,8 @@ use Rattle.std.proofs.Common.{◌≡◌, List, Option, Some, None, Result, Ok, E
 use Rattle.std.specs.Prelude.{option_map}
 use Rattle.lk_check.specs.FirstFault.{first_fault, WellFormedExactlyUnfaulted}
 use Rattle.lk_gc.specs.declared.live.Live.{Live}
-use Rattle.lk_gc.specs.Reach.{LiveExists, LiveIsOne}
+use Rattle.lk_gc.specs.Laws.{LiveExists, LiveIsOne}
+use Rattle.lk_gc.specs.Reach.{AreLive}
 use Rattle.lk_link.specs.declared.link.LinkInput.{LinkInput}
 use Rattle.lk_link.specs.Target.{Target}
 use Rattle.lk_link.specs.WellFormed.{IsWellFormed}
@@ -13,7 +14,7 @@ use Rattle.lk_place.specs.Records.{Record}
 use Rattle.lk_layout.specs.declared.error.LayoutError.{LayoutError}
 use Rattle.lk_layout.specs.declared.layout.Layout.{Layout}
 use Rattle.lk_layout.specs.Carried.{IsCarried, first_uncarried}
-use Rattle.lk_layout.specs.Defined.{IsCarriedAnswer, IsPlacedAnswer, IsSizedAnswer, Unless, fault_refusal, layout_of, not_carried, segment_refusal, setting, sizes_refusal, uncarried_refusal, walk_refusal}
+use Rattle.lk_layout.specs.Defined.{IsCarriedAnswer, IsLiveAnswer, references_refusal, IsPlacedAnswer, IsSizedAnswer, Unless, fault_refusal, layout_of, not_carried, segment_refusal, setting, sizes_refusal, uncarried_refusal, walk_refusal}
 use Rattle.lk_layout.specs.Errors.{fault_error}
 use Rattle.lk_layout.specs.Laws.{DefinedAnswerExists, DefinedAnswerIsOne}
 use Rattle.lk_layout.proofs.CarriedPlans.{placeable}
@@ -48,9 +49,10 @@ sized_exists placement target link live good carried =
 
 carried_exists : LiveExists → PlacementExists → (target : Target) (link : LinkInput) → IsWellFormed link → IsCarried link → (answer : Result Layout LayoutError) × IsCarriedAnswer target link answer
 carried_exists live placement target link good carried =
-    let l = live link in
+    unless_exists (references_refusal link) (λ a. (l : Live) × AreLive link l × IsLiveAnswer target link l a) (λ none.
+    let l = live link good in
     let rest = unless_exists (sizes_refusal link l.0) (IsSizedAnswer target link l.0) (λ none. sized_exists placement target link l.0 good carried) in
-    (rest.0, (l.0, l.1, rest.1))
+    (rest.0, (l.0, l.1, rest.1)))
 
 pub answer_exists : WellFormedExactlyUnfaulted → LiveExists → PlacementExists → DefinedAnswerExists
 answer_exists exactly live placement target link =
@@ -83,9 +85,10 @@ sized_one placement target link live a b good h g =
 carried_one : LiveIsOne → PlacementIsOne → (target : Target) (link : LinkInput) (a b : Result Layout LayoutError) → IsWellFormed link
     → IsCarriedAnswer target link a → IsCarriedAnswer target link b → a ≡ b
 carried_one live placement target link a b good h g =
-    let one : h.0 ≡ g.0 = live link h.0 g.0 h.1 g.1 in
-    let there = subst (λ l. Unless (sizes_refusal link l) a (IsSizedAnswer target link l a)) one h.2 in
-    unless_one (sizes_refusal link g.0) a b _ _ there g.2 (λ none x y. sized_one placement target link g.0 a b good x y)
+    unless_one (references_refusal link) a b _ _ h g (λ met x y.
+    let one : x.0 ≡ y.0 = live link x.0 y.0 x.1 y.1 in
+    let there : IsLiveAnswer target link y.0 a = subst (λ l. IsLiveAnswer target link l a) one x.2 in
+    unless_one (sizes_refusal link y.0) a b _ _ there y.2 (λ none u v. sized_one placement target link y.0 a b good u v))
 
 pub answer_one : WellFormedExactlyUnfaulted → LiveIsOne → PlacementIsOne → DefinedAnswerIsOne
 answer_one exactly live placement target link a b h g =

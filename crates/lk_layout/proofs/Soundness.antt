@@ -197,6 +197,7 @@ is_sound : OwnersTileTheirPart → OwnersAreAligned → LiveSectionsAreOwners �
 is_sound tile aligned owners mass file memory in_step keep target link layout laid lawful =
     let records : List Record = layout.section_part_layouts in
     record {
+      met = laid.met;
       reached = laid.are_live;
       shown = shown target link layout laid;
       aligned = sections_aligned tile aligned owners target link layout laid;

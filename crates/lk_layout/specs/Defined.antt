@@ -1,9 +1,11 @@
 -- The one answer of a link: the first refusal, in the order in which they are looked for, else the layout.
-use Rattle.std.specs.Prelude.{◌≡◌, ℕ, List, Option, Some, None, map, option_map, Result, Ok, Err}
+use Rattle.std.specs.Prelude.{◌≡◌, ℕ, List, [], ◌∷◌, Option, Some, None, map, option_map, Result, Ok, Err}
 use Rattle.lk_link.specs.declared.link.LinkInput.{LinkInput}
 use Rattle.lk_link.specs.Target.{Target}
 use Rattle.lk_check.specs.FirstFault.{first_fault}
+use Rattle.lk_gc.specs.declared.error.ReferenceFault.{ReferenceFault}
 use Rattle.lk_gc.specs.declared.live.Live.{Live}
+use Rattle.lk_gc.specs.Faults.{reference_faults}
 use Rattle.lk_gc.specs.Reach.{AreLive}
 use Rattle.lk_place.specs.declared.cursors.Cursors.{Cursors}
 use Rattle.lk_place.specs.Placement.{IsPlaced, placement_refusal}
@@ -16,7 +18,7 @@ use Rattle.lk_sizes.specs.Emitted.{active_segments, is_emitted, output_index}
 use Rattle.lk_sizes.specs.LiveSections.{live_sections}
 use Rattle.lk_sizes.specs.Owners.{part_sizes}
 use Rattle.lk_layout.specs.declared.error.LayoutError.{LayoutError}
-use Rattle.lk_layout.specs.declared.error.LayoutError.TheVariants.{NoMemory, NotCarried}
+use Rattle.lk_layout.specs.declared.error.LayoutError.TheVariants.{NoMemory, NotCarried, References}
 use Rattle.lk_layout.specs.declared.error.Uncarried.{Uncarried}
 use Rattle.lk_layout.specs.declared.layout.Layout.{Layout}
 use Rattle.lk_layout.specs.Carried.{first_uncarried}
@@ -39,6 +41,14 @@ not_carried what = NotCarried what
 -- what isn't laid out yet
 abbrev pub uncarried_refusal : LinkInput → Option LayoutError
 uncarried_refusal link = option_map not_carried (first_uncarried link)
+
+-- references that can't be met, if there are any
+abbrev pub references_error : List ReferenceFault → Option LayoutError
+references_error [] = None
+references_error (fault ∷ faults) = Some (References (fault ∷ faults))
+
+abbrev pub references_refusal : LinkInput → Option LayoutError
+references_refusal link = references_error (reference_faults link)
 
 -- sizes past 64 bits
 abbrev pub sizes_refusal : LinkInput → Live → Option LayoutError
@@ -91,10 +101,15 @@ IsSizedAnswer target link live answer =
     (states : List Cursors) × (records : List Record) × IsPlaced (setting target link live) states records
     × Unless (walk_refusal target link live states) answer (IsPlacedAnswer link live records answer)
 
--- of a link of which all is laid out: the part that overflows, and then
+-- of what is live: the part that overflows, and then
+abbrev pub IsLiveAnswer : Target → LinkInput → Live → Result Layout LayoutError → Type 0
+IsLiveAnswer target link live answer = Unless (sizes_refusal link live) answer (IsSizedAnswer target link live answer)
+
+-- of a link of which all is laid out: all references that can't be met, and then
 abbrev pub IsCarriedAnswer : Target → LinkInput → Result Layout LayoutError → Type 0
 IsCarriedAnswer target link answer =
-    (live : Live) × AreLive link live × Unless (sizes_refusal link live) answer (IsSizedAnswer target link live answer)
+    Unless (references_refusal link) answer
+    ((live : Live) × AreLive link live × IsLiveAnswer target link live answer)
 
 -- the answer of a link: its first fault; else the first thing that isn't laid out yet; and then (libwild: `compute`)
 abbrev pub IsDefined : Target → LinkInput → Result Layout LayoutError → Type 0

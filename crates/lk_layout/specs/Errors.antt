@@ -8,7 +8,8 @@ use Rattle.lk_place.specs.declared.error.PlaceError.TheVariants as place
 use Rattle.lk_sizes.specs.declared.error.SizeError.{SizeError}
 use Rattle.lk_sizes.specs.declared.error.SizeError.TheVariants as size
 use Rattle.lk_layout.specs.declared.error.LayoutError.{LayoutError}
-use Rattle.lk_layout.specs.declared.error.LayoutError.TheVariants.{NoMemory, TooMany, BadLink, AddressOverflow, SectionOutsideSegments}
+use Rattle.lk_layout.specs.declared.error.LayoutError.TheVariants.{NoMemory, TooMany, BadLink, References}
+use Rattle.lk_layout.specs.declared.error.LayoutError.TheVariants.{AddressOverflow, SectionOutsideSegments}
 
 -- for a fault of the link
 abbrev pub fault_error : LinkFault → LayoutError
@@ -17,6 +18,7 @@ fault_error (fault.BadLink rule place) = BadLink rule place
 
 -- for what the traversal refuses
 abbrev pub gc_error : GcError → LayoutError
+gc_error (gc.References faults) = References faults
 gc_error gc.NoMemory = NoMemory
 
 -- for sizes past 64 bits

@@ -1,11 +1,12 @@
 -- What a layout keeps apart, and what it keeps in step.
-use Rattle.std.specs.Prelude.{◌≡◌, ◌≢◌, ℕ, ◌+◌, ◌%◌, ◌<◌, ◌≤◌, true, false, Some, length, slice_get}
+use Rattle.std.specs.Prelude.{◌≡◌, ◌≢◌, [], ℕ, ◌+◌, ◌%◌, ◌<◌, ◌≤◌, true, false, Some, length, slice_get}
 use Rattle.std.specs.Int.{◌∣◌}
 use Rattle.lk_link.specs.declared.link.LinkInput.{LinkInput}
 use Rattle.lk_link.specs.Inputs.{Input}
 use Rattle.lk_link.specs.Parts.{all_parts, part_at}
 use Rattle.lk_link.specs.PlanSections.{is_file_backed}
 use Rattle.lk_gc.specs.declared.live.Live.{Live}
+use Rattle.lk_gc.specs.Faults.{reference_faults}
 use Rattle.lk_gc.specs.Reach.{AreLive, live_inputs}
 use Rattle.lk_place.specs.Plain.{IsPlain, PlacesInLoad}
 use Rattle.lk_place.specs.Ranges.{FileIsDisjoint, HasPart, MemoryIsDisjoint, TakesMemory}
@@ -63,9 +64,11 @@ pub record IsSoundInMemory (link : LinkInput) (live : Live) (layout : Layout) : 
   pub apart : LiveSectionsAreApart link live layout
   pub congruent : MemoryIsCongruent link layout
 
--- a sound layout: its live sections are those that are reached, each where its part's owners let it stand, aligned; each byte of
--- a part has one owner; no two parts share a byte of the file; and under a plain plan the same holds of memory
+-- a sound layout: all references are met; the live sections are those that are reached, each where its part's owners let it
+-- stand, aligned; each byte of a part has one owner; no two parts share a byte of the file; and under a plain plan the same
+-- holds of memory
 pub record IsSound (link : LinkInput) (live : Live) (layout : Layout) : Type 0 where
+  pub met : reference_faults link ≡ []
   pub reached : AreLive link live
   pub shown : layout.live_sections ≡ live_sections link live (starts_of layout.section_part_layouts)
   pub aligned : LiveSectionsAreAligned link live layout

@@ -1,6 +1,9 @@
 -- How it is told why a link isn't laid out.
-use Rattle.std.specs.Prelude.{ℕ, List, [], ◌∷◌, codes}
+use Rattle.std.specs.Prelude.{ℕ, List, [], ◌∷◌, ◌++◌, codes}
 use Rattle.std.specs.Fmt.{decimal}
+use Rattle.std.specs.List.{flat_map}
+use Rattle.lk_gc.specs.declared.error.ReferenceFault.{ReferenceFault}
+use Rattle.lk_gc.specs.Texts.{reference_text}
 use Rattle.lk_link.specs.declared.fault.LinkFault.TheVariants as fault
 use Rattle.lk_link.specs.Texts.{joined, link_fault_text, place_text}
 use Rattle.lk_layout.specs.declared.error.LayoutError.{LayoutError}
@@ -24,11 +27,21 @@ uncarried_text uncarried.Relax = codes "relax"
 uncarried_text uncarried.Symbol = codes "symbol"
 uncarried_text uncarried.Reach = codes "reach"
 
+-- references that can't be met, each on a line of its own behind another line
+abbrev pub further_lines : List ReferenceFault → List ℕ
+further_lines faults = flat_map (λ fault. codes "\n" ++ reference_text fault) faults
+
+-- the same, a line for each
+abbrev pub references_text : List ReferenceFault → List ℕ
+references_text [] = []
+references_text (fault ∷ faults) = reference_text fault ++ further_lines faults
+
 -- why a link isn't laid out: a fault as lk_link tells it; want of memory has no text
 abbrev pub error_text : LayoutError → List ℕ
 error_text layout.NoMemory = []
 error_text (layout.TooMany what count limit) = link_fault_text (fault.TooMany what count limit)
 error_text (layout.BadLink rule place) = link_fault_text (fault.BadLink rule place)
 error_text (layout.NotCarried what) = joined (codes "not carried: " ∷ uncarried_text what ∷ [])
+error_text (layout.References faults) = references_text faults
 error_text (layout.AddressOverflow place) = joined (codes "address overflow: " ∷ place_text place ∷ [])
 error_text (layout.SectionOutsideSegments section) = joined (codes "section " ∷ decimal section ∷ codes " is in no segment" ∷ [])

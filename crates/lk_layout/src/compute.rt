@@ -14,7 +14,7 @@ ghost use Rattle.lk_link.specs.Target.{platform_target};
 ghost use Rattle.lk_sizes.specs.Contents.{AreBrought};
 ghost use Rattle.lk_sizes.specs.Owners.{part_size};
 ghost use Rattle.lk_layout.specs.Carried.{IsCarried};
-ghost use Rattle.lk_layout.specs.Defined.{Gives, IsCarriedAnswer, IsPlacedAnswer, WithMemory, starts_of};
+ghost use Rattle.lk_layout.specs.Defined.{Gives, IsCarriedAnswer, IsLiveAnswer, IsPlacedAnswer, WithMemory, starts_of};
 
 use crate::arch::Arch;
 use crate::carried::first_uncarried;
@@ -54,7 +54,7 @@ pub fn compute_alone<P: Platform, A: Arch>(
     }
 }
 
-/// The layout of a link of which all is laid out: what is live, with its sizes, placed.
+/// The layout of a link of which all is laid out: that of what is live, where all references are met.
 fn lay_out<P: Platform>(
     alloc: Global,
     link: &LinkInput,
@@ -65,13 +65,28 @@ fn lay_out<P: Platform>(
     ensures { WithMemory (IsCarriedAnswer (platform_target (P.segment_start platform.now)) link.now) result }
 {
     let live = traverse_alone(alloc, link)?;
-    let contents = part_contents(alloc, link, &live)?;
+    lay_out_live(alloc, link, &live, platform)
+}
+
+/// The layout of what is live of a link: its sizes, placed.
+fn lay_out_live<P: Platform>(
+    alloc: Global,
+    link: &LinkInput,
+    live: &Live,
+    platform: &P,
+) -> Result<Layout, LayoutError>
+    requires good { IsWellFormed link.now }
+    requires carried { IsCarried link.now }
+    requires live { AreLive link.now live.now }
+    ensures { WithMemory (IsLiveAnswer (platform_target (P.segment_start platform.now)) link.now live.now) result }
+{
+    let contents = part_contents(alloc, link, live)?;
     let sizes = part_sizes(alloc, contents.as_slice())?;
     let placed = compute_layout_sections(alloc, link, &sizes, platform)?;
     // Laws, which do nothing: the parts end where their owners do, and the sizes so far are those that tell what is emitted.
     parts_take_their_bytes();
     first_sizes_are_sizes();
-    lay_out_placed(alloc, link, &live, contents.as_slice(), &sizes, placed)
+    lay_out_placed(alloc, link, live, contents.as_slice(), &sizes, placed)
 }
 
 /// The layout of a link that is placed, by the first sizes of its parts: headers, segments, attributes and the addresses of

@@ -3,9 +3,11 @@
 ghost use Rattle.std.specs.Prelude.{◌≡◌};
 ghost use Rattle.lk_layout.specs.Texts.{uncarried_text};
 
-use lk_gc::GcError;
+use crate::references::FurtherLines;
+use lk_gc::{GcError, ReferenceFault};
 use lk_link::fault::{Limited, LinkFault, Place, Rule};
 use lk_link::ids::OutputSectionId;
+use lk_link::list::List;
 use lk_place::PlaceError;
 use lk_sizes::SizeError;
 use std::alloc::{AllocError, AllocFailed};
@@ -45,7 +47,7 @@ pub enum Uncarried {
 
 /// Why a link isn't laid out: the first refusal, in the order in which they are looked for, or want of memory
 /// (libwild reports texts).
-#[derive(Clone, Copy, Debug, PartialEq, Eq)]
+#[derive(Drop)]
 pub enum LayoutError {
     NoMemory,
     /// A list of the description is too long.
@@ -61,6 +63,8 @@ pub enum LayoutError {
     },
     /// The description has something that isn't laid out yet.
     NotCarried(Uncarried),
+    /// These references can't be met: all of them, by file, section and relocation.
+    References(List<ReferenceFault>),
     /// A size or an address passes 2^64 - 1, first at this part or event.
     AddressOverflow {
         place: Place,
@@ -108,7 +112,7 @@ impl fmt::Display for Uncarried {
     }
 }
 
-/// As `section 3 is in no segment`; nothing for want of memory.
+/// As `section 3 is in no segment`; of references that can't be met a line for each; nothing for want of memory.
 impl fmt::Display for LayoutError {
     ghost use Rattle.std.specs.Prelude.{Some};
     ghost use Rattle.lk_layout.specs.Texts.{error_text};
@@ -116,23 +120,39 @@ impl fmt::Display for LayoutError {
     ghost output = { λ error. Some (error_text error) };
 
     fn fmt<W: fmt::Write>(&self, f: &mut fmt::Formatter<W>) -> fmt::Result {
-        match *self {
+        match self {
             LayoutError::NoMemory => Ok(()),
             LayoutError::TooMany { what, count, limit } => {
+                let (what, count, limit) = (*what, *count, *limit);
                 let fault = LinkFault::TooMany { what, count, limit };
                 write!(f, "{fault}")
             }
             LayoutError::BadLink { rule, place } => {
+                let (rule, place) = (*rule, *place);
                 let fault = LinkFault::BadLink { rule, place };
                 write!(f, "{fault}")
             }
             LayoutError::NotCarried(what) => write!(f, "not carried: {what}"),
+            LayoutError::References(faults) => match faults.as_slice().split_first() {
+                Some((first, faults)) => {
+                    let further = FurtherLines { faults };
+                    write!(f, "{first}{further}")
+                }
+                None => Ok(()),
+            },
             LayoutError::AddressOverflow { place } => write!(f, "address overflow: {place}"),
             LayoutError::SectionOutsideSegments { section } => {
                 let section = section.as_u32();
                 write!(f, "section {section} is in no segment")
             }
         }
+    }
+}
+
+/// As it is displayed.
+impl fmt::Debug for LayoutError {
+    fn fmt<W: fmt::Write>(&self, f: &mut fmt::Formatter<W>) -> fmt::Result {
+        write!(f, "{self}")
     }
 }
 
@@ -184,6 +204,7 @@ impl From<GcError> for LayoutError {
 
     fn from(error: GcError) -> LayoutError {
         match error {
+            GcError::References(faults) => LayoutError::References(faults),
             GcError::NoMemory => LayoutError::NoMemory,
         }
     }

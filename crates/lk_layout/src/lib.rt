@@ -7,9 +7,12 @@ pub mod compute;
 pub mod error;
 pub mod laws;
 pub mod layout;
+mod references;
+pub mod resolution;
 
 pub use crate::arch::{Arch, Small64Arch};
 pub use crate::carried::first_uncarried;
 pub use crate::error::{LayoutError, Uncarried};
 pub use crate::layout::Layout;
+pub use lk_gc::ReferenceFault;
 pub use lk_sizes::LiveSection;

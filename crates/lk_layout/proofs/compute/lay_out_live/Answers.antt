@@ -7,12 +7,12 @@ use Rattle.lk_sizes.specs.Owners.{part_size, part_sizes}
 use Rattle.lk_layout.specs.Defined.{setting}
 use Rattle.lk_layout.proofs.CarriedPlans.{keeps_sizes, placeable}
 use Rattle.lk_layout.proofs.Settings.{length-by_part, takes}
-use Rattle.lk_layout.proofs.compute.lay_out.Goals as goal
+use Rattle.lk_layout.proofs.compute.lay_out_live.Goals as goal
 
 pub compute_layout_sections-requires-clause-each : goal.compute_layout_sections-requires-clause-each
 compute_layout_sections-requires-clause-each g c =
     let link = c.args.link.now in
-    let live : Live = c.in_ok-live.live in
+    let live : Live = c.args.live.now in
     let contents : c.as_slice.result.now ≡ part_contents link live = c.as_slice.ensures ∙ c.in_ok-contents.ensures.1 in
     ap length (c.deref.ensures.value ∙ c.in_ok-sizes.ensures.sizes link live contents) ∙ length-by_part (part_size link live) link
 
@@ -22,7 +22,7 @@ compute_layout_sections-requires-clause-placeable g c = placeable c.args.link.no
 pub lay_out_placed-requires-clause-brought : goal.lay_out_placed-requires-clause-brought
 lay_out_placed-requires-clause-brought g c =
     let link = c.args.link.now in
-    let live : Live = c.in_ok-live.live in
+    let live : Live = c.args.live.now in
     let contents : c.as_slice-2.result.now ≡ part_contents link live = c.as_slice-2.ensures ∙ c.in_ok-contents.ensures.1 in
     let sizes = c.in_ok-sizes.ensures.sizes link live (c.as_slice.ensures ∙ c.in_ok-contents.ensures.1) in
     record { contents = contents; first = c.deref-2.ensures.value ∙ sizes ∙ sym (c.first_sizes_are_sizes.ensures link live (keeps_sizes link c.requires.carried)) }
@@ -31,7 +31,7 @@ pub lay_out_placed-requires-clause-takes : goal.lay_out_placed-requires-clause-t
 lay_out_placed-requires-clause-takes g c =
     let target = platform_target (g.P.Platform.segment_start c.args.platform.now) in
     let link = c.args.link.now in
-    let live : Live = c.in_ok-live.live in
+    let live : Live = c.args.live.now in
     let contents : c.as_slice.result.now ≡ part_contents link live = c.as_slice.ensures ∙ c.in_ok-contents.ensures.1 in
     let sizes : c.deref.result.now ≡ part_sizes link live = c.deref.ensures.value ∙ c.in_ok-sizes.ensures.sizes link live contents in
     let are : ArePlaced (setting target link live) c.in_ok-placed.placed = rw sizes at c.in_ok-placed.ensures in
