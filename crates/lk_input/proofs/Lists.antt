@@ -15,7 +15,7 @@ use Rattle.lk_input.proofs.Tokens.{and_next, items_at-next, items_at-over, data_
 
 -- ---- what is no list
 
-map_twice : {A B C : Type 0} (f : B → C) (g : A → B) (o : Option (A × List Token)) → parse_map f (parse_map g o) ≡ parse_map (λ a. f (g a)) o
+pub map_twice : {A B C : Type 0} (f : B → C) (g : A → B) (o : Option (A × List Token)) → parse_map f (parse_map g o) ≡ parse_map (λ a. f (g a)) o
 map_twice f g None = refl
 map_twice f g (Some p) = refl
 
@@ -60,7 +60,7 @@ pub ruleset lists = (list-opened, list-too_deep, list-nothing, no_list)
 
 -- ---- a turn, whatever is made of the items
 
-parse_map-same : {A B : Type 0} (f g : A → B) (o : Option (A × List Token)) → ((a : A) → f a ≡ g a) → parse_map f o ≡ parse_map g o
+pub parse_map-same : {A B : Type 0} (f g : A → B) (o : Option (A × List Token)) → ((a : A) → f a ≡ g a) → parse_map f o ≡ parse_map g o
 parse_map-same f g None same = refl
 parse_map-same f g (Some p) same = ap (λ b. Some (b, p.1)) (same p.0)
 

@@ -1,50 +1,45 @@
 -- Values in the order in which they are read.
-use Rattle.std.proofs.Common.{◌≡◌, ℕ, List, [], ◌∷◌, ◌++◌, Option, Some, None, Result, Err, Bool as Truth, String as Text, Global, string_bytes, refl, ap, ◌∙◌, sym, rules}
+use Rattle.std.proofs.Common.{◌≡◌, ℕ, List, [], ◌∷◌, ◌++◌, Option, Some, None, Result, Err, Bool as Truth, String as Text, Global, string_bytes, string_cmp, refl, ap, ◌∙◌, rules}
 use Rattle.json.specs.Token.{Token}
-use Rattle.json.specs.Json.{parse_map, after_end_array}
-use Rattle.serde_json.specs.Data.{null, boolean, number, string, Items, no_items, item}
-use Rattle.serde_json.specs.View.{view, number_view, items_view}
+use Rattle.json.specs.Json.{parse_map}
+use Rattle.std.specs.BTreeMap.{insert_entry}
+use Rattle.serde_json.specs.Data.{null, boolean, number, string, Items, no_items, item, put}
+use Rattle.serde_json.specs.View.{view, number_view, items_view, members_view}
+use Rattle.serde_json.proofs.Views.{Entry, members_view-insert_entry}
 use Rattle.serde_json.specs.declared.number.Number.{Number as Numeral}
 use Rattle.serde_json.specs.declared.value.Value.{Value, Null, Bool, Number, String, the_lemmas}
 use Rattle.lk_input.specs.declared.read.fail.Fail.{Fail}
 use Rattle.lk_input.specs.declared.read.fail.Fail.TheVariants.{NotJson, NoMemory}
-use Rattle.lk_input.specs.Tokens.{data_at, items_at, Lacks, Stands}
-use Rattle.lk_input.proofs.Tokens.{items_at-next, items_at-over}
+use Rattle.lk_input.specs.Tokens.{Lacks, Stands}
+use Rattle.lk_input.proofs.Lists.{map_twice, parse_map-same}
 
--- these values, and then those
-abbrev pub items_before : List Value → Items → Items
-items_before [] rest = rest
-items_before (v ∷ vs) rest = item (view v) (items_before vs rest)
+-- ---- the items that were read, and the others
 
-items_before-over : (vs : List Value) → items_before vs no_items ≡ items_view vs
-items_before-over [] = refl
-items_before-over (v ∷ vs) = ap (item (view v)) (items_before-over vs)
+-- the one list behind the other
+abbrev pub joined : Items → Items → Items
+joined no_items more = more
+joined (item d ds) more = item d (joined ds more)
 
-items_before-push : (vs : List Value) (v : Value) (rest : Items) → items_before (vs ++ v ∷ []) rest ≡ items_before vs (item (view v) rest)
-items_before-push [] v rest = refl
-items_before-push (w ∷ vs) v rest = ap (item (view w)) (items_before-push vs v rest)
+joined-nothing : (ds : Items) → joined ds no_items ≡ ds
+joined-nothing no_items = refl
+joined-nothing (item d ds) = ap (item d) (joined-nothing ds)
 
-pushed : (vs : List Value) (v : Value) (r : Option (Items × List Token)) → parse_map (items_before vs) (parse_map (item (view v)) r) ≡ parse_map (items_before (vs ++ v ∷ [])) r
-pushed vs v None = refl
-pushed vs v (Some p) = ap (λ ds. Some (ds, p.1)) (sym (items_before-push vs v p.0))
+-- an item passes from those that follow to those that were read
+joined-passes : (vs : List Value) (v : Value) (more : Items) → joined (items_view vs) (item (view v) more) ≡ joined (items_view (vs ++ v ∷ [])) more
+joined-passes [] v more = refl
+joined-passes (w ∷ vs) v more = ap (item (view w)) (joined-passes vs v more)
 
--- nothing was read yet
-pub items-init : (r : Option (Items × List Token)) → r ≡ parse_map (items_before []) r
-items-init None = refl
-items-init (Some p) = refl
+pub joined-more : (vs : List Value) (v : Value) (o : Option (Items × List Token)) → parse_map (joined (items_view vs)) (parse_map (item (view v)) o) ≡ parse_map (joined (items_view (vs ++ v ∷ []))) o
+joined-more vs v o = map_twice (joined (items_view vs)) (item (view v)) o ∙ parse_map-same (λ ds. joined (items_view vs) (item (view v) ds)) (joined (items_view (vs ++ v ∷ []))) o (joined-passes vs v)
 
--- one more was read
-pub items-more : (depth : ℕ) (vs : List Value) (v : Value) (ts r : List Token) → after_end_array ts ≡ None → data_at depth ts ≡ Some (view v, r)
-    → parse_map (items_before vs) (items_at depth ts) ≡ parse_map (items_before (vs ++ v ∷ [])) (items_at depth r)
-items-more depth vs v ts r going e = ap (parse_map (items_before vs)) (items_at-next depth ts going) ∙ rw e (pushed vs v (items_at depth r))
+pub joined-over : (ds : Items) (r : List Token) → parse_map (joined ds) (Some (no_items, r)) ≡ Some (ds, r)
+joined-over ds r = ap (λ all. Some (all, r)) (joined-nothing ds)
 
--- the next is none
-pub items-fail : (depth : ℕ) (vs : List Value) (ts : List Token) → after_end_array ts ≡ None → data_at depth ts ≡ None → parse_map (items_before vs) (items_at depth ts) ≡ None
-items-fail depth vs ts going e = ap (parse_map (items_before vs)) (items_at-next depth ts going) ∙ rw e refl
+-- ---- the members that were read
 
--- all were read
-pub items-over : (depth : ℕ) (vs : List Value) (ts r : List Token) → after_end_array ts ≡ Some r → parse_map (items_before vs) (items_at depth ts) ≡ Some (items_view vs, r)
-items-over depth vs ts r e = ap (parse_map (items_before vs)) (items_at-over depth ts r e) ∙ ap (λ ds. Some (ds, r)) (items_before-over vs)
+-- what goes in by a copy of its key is put
+pub put-copied : (es : List Entry) (copy : Text Global) (key : List ℕ) (v : Value) → string_bytes copy ≡ key → members_view (insert_entry string_cmp es copy v) ≡ put key (view v) (members_view es)
+put-copied es copy key v same = rw (← same) (members_view-insert_entry es copy v)
 
 -- ---- what fails passes on
 

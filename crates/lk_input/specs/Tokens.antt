@@ -1,9 +1,11 @@
 -- What stands at a place among the tokens of a JSON text: the words of private contracts.
-use Rattle.std.specs.Prelude.{◌≡◌, ℕ, ◌+◌, List, length, Option, Some, None, Result, Ok, Err, ⊤}
+use Rattle.std.specs.Prelude.{◌≡◌, ℕ, ◌+◌, ◌<◌, List, length, Option, Some, None, Result, Ok, Err, ⊤}
 use Rattle.json.specs.Token.{Token}
-use Rattle.json.specs.Json.{items, members, value}
-use Rattle.serde_json.specs.Data.{Data, Items, Members}
+use Rattle.json.specs.Json.{items, members, value, parse_map}
+use Rattle.serde_json.specs.Data.{Data, Items, no_items, item, Members, put}
 use Rattle.serde_json.specs.Read.{of_json, of_items, of_members, converted}
+use Rattle.serde_json.specs.View.{view}
+use Rattle.serde_json.specs.declared.value.Value.{Value}
 use Rattle.lk_input.specs.declared.read.error.InputError.{InputError}
 use Rattle.lk_input.specs.declared.read.error.InputError.TheVariants as error
 use Rattle.lk_input.specs.declared.read.fail.Fail.{Fail}
@@ -31,6 +33,19 @@ Lacks NoMemory read = Unit {0}
 abbrev pub Stands : {A B : Type 0} → (A → B) → Result A Fail → Option (B × List Token) → List Token → Type 0
 Stands seen (Ok x) read left = read ≡ Some (seen x, left)
 Stands seen (Err e) read left = Lacks e read
+
+-- of a list, this item was read and others follow, or the end
+abbrev pub ItemNext : ℕ → List Token → Result (Option Value) Fail → List Token → Type 0
+ItemNext depth old (Ok (Some v)) new = (items_at depth old ≡ parse_map (item (view v)) (items_at depth new)) × (length new < length old)
+ItemNext depth old (Ok None) new = items_at depth old ≡ Some (no_items, new)
+ItemNext depth old (Err e) new = Lacks e (items_at depth old)
+
+-- of an object, whatever was found before, this member was read and others follow, or the end
+abbrev pub MemberNext : {K : Type 0} → (K → List ℕ) → ℕ → List Token → Result (Option (K × Value)) Fail → List Token → Type 0
+MemberNext text depth old (Ok (Some (key, v))) new =
+    ((ms : Members) → members_at ms depth old ≡ members_at (put (text key) (view v) ms) depth new) × (length new < length old)
+MemberNext text depth old (Ok None) new = (ms : Members) → members_at ms depth old ≡ Some (ms, new)
+MemberNext text depth old (Err e) new = (ms : Members) → Lacks e (members_at ms depth old)
 
 -- the depth that is left one level further in
 abbrev pub IsDeeper : ℕ → Result ℕ Fail → Type 0

@@ -1,10 +1,12 @@
 //! A link description from JSON.
 //!
-//! Bytes are first read as a JSON value, and that is then read type by type: each type says which members or items it
-//! has, in the order of the format, and reads them by a few common steps (a member that must be there, one with a
-//! default, an item of a fixed list, a list, one of these texts). The first value of a wrong shape, in that order, refuses
-//! the description. Its path is put together on the way out, one step at each level, so that a good description pays
-//! nothing for it.
+//! The tokens of the text are read one after the other. What may be large (groups, files, sections and their parts) is
+//! made where it stands, so that no value of it is held beside it. The other members of an object are kept as one small JSON
+//! value, and that is then read type by type: each type says which members or items it has, in the order of the format,
+//! and reads them by a few common steps (a member that must be there, one with a default, an item of a fixed list, a list,
+//! one of these texts). The first value of a wrong shape, in that order, refuses the description, once the text is known
+//! to be JSON to its end. Its path is put together on the way out, one step at each level, so that a good description
+//! pays nothing for it.
 
 ghost use Rattle.std.specs.Prelude.{◌≡◌, ◌∷◌};
 ghost use Rattle.json.specs.Json.{parse_map};

@@ -1,13 +1,15 @@
 //! What can be read from a JSON value, and the plain values that are.
 //!
 //! A type that can be read says in its definition what it reads from a value, and its code does just that, unless memory
-//! runs out. So reading a type that is made of others needs no loop and no proof of its own; only lists have a loop, which
-//! reads the items one after the other into a list that has room for all of them.
+//! runs out. Values are read so that are small; what may be large is read where it stands among the tokens, and only its
+//! small members are read from a value. A list of values has a loop, which reads the items one after the other into a
+//! list that has room for all of them.
 
 ghost use Rattle.std.specs.Prelude.{◌≡◌, Result, option_map, List as Items, ℕ};
 ghost use Rattle.serde_json.specs.Data.{Data};
 ghost use Rattle.serde_json.specs.View.{view, items_view};
-ghost use Rattle.lk_input.specs.ReadingSteps.{Reads, step_text, wanted, number_of, index_of, signed_of, truth_of, text_of, found_by, below, read_items, list_of, word_of, one_of};
+ghost use Rattle.lk_input.specs.ReadingSteps.{Reads, step_text, wanted, number_of, index_of, signed_of, truth_of};
+ghost use Rattle.lk_input.specs.ReadingSteps.{text_of, found_by, below, read_items, list_of, word_of, one_of};
 
 use crate::read::error::InputError;
 use crate::read::word::{Step, Word};
@@ -22,6 +24,7 @@ pub(crate) trait Described: Sized + Drop {
     /// What is read of a value, or the path of the first value of a wrong shape.
     ghost described: { Data → Result Self (Items ℕ) };
 
+    /// Reads the value. Refused is one of a wrong shape, with the path of the first in it; other faults are want of memory.
     fn read(alloc: Global, value: &Value) -> Result<Self, InputError>
         ensures { Reads result (described (view value.now)) };
 }

@@ -7,7 +7,8 @@
 
 ghost use Rattle.std.specs.Prelude.{◌≡◌};
 ghost use Rattle.serde_json.specs.View.{view};
-ghost use Rattle.lk_input.specs.ReadingExpressions.{operand_text, operator_text, form_text, all_forms, operand_of, expression_of, AddsTokens};
+ghost use Rattle.lk_input.specs.ReadingExpressions.{operand_text, operator_text, form_text, all_forms};
+ghost use Rattle.lk_input.specs.ReadingExpressions.{operand_of, expression_of, AddsTokens};
 ghost use Rattle.lk_input.specs.ReadingSteps.{Reads, element, one_of};
 
 use crate::read::described::{Described, one_of};

@@ -5,7 +5,8 @@ ghost use Rattle.json.specs.Json.{parse_map};
 ghost use Rattle.json.specs.Reads.{token_of};
 ghost use Rattle.serde_json.specs.View.{view};
 ghost use Rattle.lk_input.specs.LargeMembers.{file_large, file_kept, kept_sections, file_from};
-ghost use Rattle.lk_input.specs.ReadingFiles.{file_key_text, file_kind_text, all_file_kinds, candidate_of, file_candidates_of, input_file_of, groups_of};
+ghost use Rattle.lk_input.specs.ReadingFiles.{file_key_text, file_kind_text, all_file_kinds, candidate_of};
+ghost use Rattle.lk_input.specs.ReadingFiles.{file_candidates_of, input_file_of, groups_of};
 ghost use Rattle.lk_input.specs.ReadingSteps.{Reads, one_of};
 ghost use Rattle.lk_input.specs.Tokens.{data_at, Stands, as_is};
 

@@ -16,7 +16,7 @@ ghost use Rattle.lk_input.specs.Large.{Taken, Rereads, Adds, Splits, kept_or};
 use crate::read::error::InputError;
 use crate::read::fail::Fail;
 use crate::read::stream::Streamed;
-use crate::read::tokens::value_at;
+use crate::read::tokens::{put_member, value_at};
 use crate::read::word::{Step, Word};
 use json::Reader;
 use lk_link::text::Text;
@@ -76,9 +76,8 @@ fn stream_member<L: Large>(
     if large.take(alloc, key, reader, depth)? {
         return Ok(());
     }
-    let key = String::from_str(alloc, key)?;
     let member = value_at(alloc, reader, depth)?;
-    drop(others.insert(key, member)?);
+    put_member(alloc, others, key, member)?;
     Ok(())
 }
 

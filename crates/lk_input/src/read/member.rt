@@ -2,7 +2,8 @@
 
 ghost use Rattle.std.specs.Prelude.{◌≡◌};
 ghost use Rattle.serde_json.specs.View.{view};
-ghost use Rattle.lk_input.specs.ReadingSteps.{Reads, object, required, defaulted, optional, object_or_empty, fixed_list, element, at_most, alone, single, double};
+ghost use Rattle.lk_input.specs.ReadingSteps.{Reads, object, required, defaulted, optional, object_or_empty};
+ghost use Rattle.lk_input.specs.ReadingSteps.{fixed_list, element, at_most, alone, single, double};
 
 use crate::read::described::{Described, read_at};
 use crate::read::error::InputError;

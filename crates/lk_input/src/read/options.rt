@@ -1,6 +1,7 @@
 //! The options from JSON.
 
-ghost use Rattle.lk_input.specs.ReadingOptions.{option_key_text, output_text, all_outputs, discard_text, all_discards, names_of, options_of};
+ghost use Rattle.lk_input.specs.ReadingOptions.{option_key_text, output_text, all_outputs, discard_text};
+ghost use Rattle.lk_input.specs.ReadingOptions.{all_discards, names_of, options_of};
 ghost use Rattle.lk_input.specs.ReadingSteps.{one_of};
 
 use crate::read::described::{Described, one_of};

@@ -5,7 +5,8 @@ ghost use Rattle.json.specs.Json.{parse_map};
 ghost use Rattle.json.specs.Reads.{token_of};
 ghost use Rattle.serde_json.specs.View.{view};
 ghost use Rattle.lk_input.specs.LargeMembers.{section_large, section_kept, section_from};
-ghost use Rattle.lk_input.specs.ReadingSections.{input_section_key_text, slot_text, all_slots, hex_bytes, data_in, size_in, input_section_of, input_sections_of};
+ghost use Rattle.lk_input.specs.ReadingSections.{input_section_key_text, slot_text, all_slots, hex_bytes};
+ghost use Rattle.lk_input.specs.ReadingSections.{data_in, size_in, input_section_of, input_sections_of};
 ghost use Rattle.lk_input.specs.ReadingSteps.{Reads, one_of};
 ghost use Rattle.lk_input.specs.Tokens.{data_at, Stands, as_is};
 

@@ -1,6 +1,7 @@
 //! Segments and memory regions from JSON.
 
-ghost use Rattle.lk_input.specs.ReadingSegments.{segment_key_text, segment_kind_text, all_segment_kinds, plan_segment_of, region_key_text, region_of};
+ghost use Rattle.lk_input.specs.ReadingSegments.{segment_key_text, segment_kind_text, all_segment_kinds};
+ghost use Rattle.lk_input.specs.ReadingSegments.{plan_segment_of, region_key_text, region_of};
 ghost use Rattle.lk_input.specs.ReadingSteps.{one_of};
 
 use crate::read::described::{Described, one_of};

@@ -22,6 +22,8 @@ pub(crate) trait Streamed: Sized + Drop {
     /// What is read of a value, or the path of the first value of a wrong shape.
     ghost streamed: { Data → Result Self (Items ℕ) };
 
+    /// Reads the value that stands next, nested no deeper than `depth`, to its end, even if its shape is wrong: then the path
+    /// of the first wrong shape in it is answered. Refused are tokens that are none of a JSON text, and want of memory.
     fn stream(
         alloc: Global,
         reader: &mut Reader<'_>,

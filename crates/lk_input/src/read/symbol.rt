@@ -2,7 +2,8 @@
 
 ghost use Rattle.std.specs.Prelude.{◌≡◌};
 ghost use Rattle.serde_json.specs.View.{view};
-ghost use Rattle.lk_input.specs.ReadingSymbols.{symbol_key_text, loc_text, all_locs, loc_in, symbol_loc_of, placement_text, all_placements, redirect_of, placement_in, symbol_placement_of, input_symbol_of};
+ghost use Rattle.lk_input.specs.ReadingSymbols.{symbol_key_text, loc_text, all_locs, loc_in, symbol_loc_of, placement_text, all_placements};
+ghost use Rattle.lk_input.specs.ReadingSymbols.{redirect_of, placement_in, symbol_placement_of, input_symbol_of};
 ghost use Rattle.lk_input.specs.ReadingSteps.{Reads, one_of};
 
 use crate::read::described::{Described, one_of};

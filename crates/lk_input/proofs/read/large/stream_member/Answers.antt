@@ -1,7 +1,4 @@
-use Rattle.std.proofs.Common.{◌≡◌, string_bytes, ap, ◌∙◌, rules}
-use Rattle.serde_json.specs.Data.{put}
 use Rattle.serde_json.specs.View.{view, members_view}
-use Rattle.serde_json.proofs.Views.{members_view-insert_entry}
 use Rattle.lk_input.proofs.Objects.{split-large, split-other}
 use Rattle.lk_input.proofs.read.large.stream_member.Goals as goal
 
@@ -14,12 +11,9 @@ pub returns : goal.returns
 returns g c =
     let left = rw c.if-branch.false at c.in_ok-take.ensures in
     let v = c.in_ok-member.member in
-    let name = c.args.key.now in
-    let copied : string_bytes c.in_ok-key.key ≡ name = search rules in
-    let inserted : members_view c.insert.new.self.entries ≡ put name (view v) (members_view c.args.others.now.entries) =
-    ap members_view c.in_ok-insert.ensures.entries ∙ members_view-insert_entry c.args.others.now.entries c.in_ok-key.key v ∙ ap (λ k. put k (view v) (members_view c.args.others.now.entries)) copied in (
+    let name = c.args.key.now in (
       view v,
       rw left.1 at c.in_ok-member.ensures,
       λ ms h.
-          rw (inserted, left.2) (split-other g.L.Large.is_large g.L.Large.kept name (view v) ms (members_view c.args.others.now.entries) c.args.large.now (left.3 ms (view v)) h),
+          rw (c.in_ok-put_member.ensures, left.2) (split-other g.L.Large.is_large g.L.Large.kept name (view v) ms (members_view c.args.others.now.entries) c.args.large.now (left.3 ms (view v)) h),
     )

@@ -1,14 +1,14 @@
-use Rattle.std.proofs.Common.{◌≡◌, ◌<◌, ◌∷◌, length, Some, None, Err, string_bytes, refl, sym, ap, ◌∙◌, arith, rules}
+use Rattle.std.proofs.Common.{◌≡◌, ◌∷◌, Some, None, Err, refl, sym, ap, ◌∙◌, arith}
 use Rattle.json.specs.Json.{parse_map, after_end_array, read_key}
 use Rattle.json.specs.Reads.{token_of}
 use Rattle.json.proofs.Grammar.{read_key-shorter}
-use Rattle.serde_json.specs.Data.{string, array, object, no_members, put}
-use Rattle.serde_json.specs.View.{view, members_view}
-use Rattle.serde_json.proofs.Views.{view-Array, view-Object, members_view-insert_entry}
+use Rattle.serde_json.specs.Data.{string, array, object, no_members}
+use Rattle.serde_json.specs.View.{view, items_view}
+use Rattle.serde_json.proofs.Views.{view-Array, view-Object}
 use Rattle.lk_input.specs.declared.read.fail.Fail.TheVariants.{NotJson}
 use Rattle.lk_input.specs.Tokens.{data_at, items_at, members_at}
-use Rattle.lk_input.proofs.Tokens.{data_at-null, data_at-boolean, data_at-number, data_at-string, data_at-array, data_at-object, data_at-shorter, members_at-next, members_at-over, members_at-no_key}
-use Rattle.lk_input.proofs.Values.{items_before, items-more, items-fail, items-over, fails-so, view-Null, view-Bool, view-Number, view-String}
+use Rattle.lk_input.proofs.Tokens.{data_at-null, data_at-boolean, data_at-number, data_at-string, data_at-array, data_at-object, data_at-shorter, items_at-next, items_at-over, members_at-next, members_at-over, members_at-no_key}
+use Rattle.lk_input.proofs.Values.{joined, joined-more, joined-over, lacks-so, fails-so, view-Null, view-Bool, view-Number, view-String}
 use Rattle.lk_input.proofs.read.tokens.+value.Goals as goal
 
 -- ---- a value
@@ -69,64 +69,57 @@ value_from-returns-in_err-members_from-in-BeginObject t c =
 
 -- ---- a list
 
-pub items_from-items-smaller : goal.items_from-items-smaller
-items_from-items-smaller t c =
-    let going : (after_end_array c.items.reader ≡ None) × (c.take_end_array.new.self ≡ c.items.reader) = grind arith in
-    let less : length c.value_at.new.reader < length c.items.reader = rw (← going.1) (data_at-shorter _ _ _ _ c.in_ok-item.ensures) in
-    omega (arith, less)
+pub next_item-returns-then-take_end_array : goal.next_item-returns-then-take_end_array
+next_item-returns-then-take_end_array t c = items_at-over _ _ _ (grind arith)
 
-pub items_from-items-preserved : goal.items_from-items-preserved
-items_from-items-preserved t c =
-    let l = c.items in
-    let r = c.value_at.new.reader in
-    let going : (after_end_array l.reader ≡ None) × (c.take_end_array.new.self ≡ l.reader) = grind arith in
-    l.invariant ∙ items-more c.args.depth l.items.items c.in_ok-item.item l.reader r going.0 (rw (← going.1) c.in_ok-item.ensures)
-    ∙ ap (λ vs. parse_map (items_before vs) (items_at c.args.depth r)) (sym c.in_ok-push.ensures.items)
+pub next_item-returns-in_ok-value_at : goal.next_item-returns-in_ok-value_at
+next_item-returns-in_ok-value_at t c =
+    let ts = c.args.reader.now in
+    let going : (after_end_array ts ≡ None) × (c.take_end_array.new.self ≡ ts) = grind arith in
+    let stands = rw (going.1) at c.in_ok-value_at.ensures in
+    (items_at-next c.args.depth ts going.0 ∙ rw stands refl, data_at-shorter _ _ _ _ stands)
+
+pub next_item-returns-in_err-value_at : goal.next_item-returns-in_err-value_at
+next_item-returns-in_err-value_at t c =
+    let ts = c.args.reader.now in
+    let gone : c.from_residual.result ≡ Err c.in_err-value_at.field-0.0 = grind arith in
+    let going : (after_end_array ts ≡ None) × (c.take_end_array.new.self ≡ ts) = grind arith in
+    rw gone (lacks-so _ (data_at c.args.depth c.take_end_array.new.self) _ c.in_err-value_at.ensures (λ none. items_at-next c.args.depth ts going.0 ∙ rw (← going.1, none) refl))
+
+pub items_from-loop-items-preserved : goal.items_from-loop-items-preserved
+items_from-loop-items-preserved t c =
+    let l = c.loop-items in
+    let vs = l.items.items in
+    let next = rw c.in-Some.is at c.in_ok-item.ensures in
+    l.invariant ∙ ap (parse_map (joined (items_view vs))) next.0 ∙ joined-more vs c.in-Some.item (items_at c.args.depth c.next_item.new.reader)
+    ∙ ap (λ all. parse_map (joined (items_view all)) (items_at c.args.depth c.next_item.new.reader)) (sym c.in_ok-push.ensures.items)
 
 pub items_from-returns : goal.items_from-returns
-items_from-returns t c = c.items.invariant ∙ items-over c.args.depth c.items.items.items c.items.reader c.take_end_array.new.self (grind arith)
-
-pub items_from-returns-in_err-item : goal.items_from-returns-in_err-item
-items_from-returns-in_err-item t c =
-    let l = c.items in
-    let gone : c.from_residual.result ≡ Err c.in_err-item.field-0.0 = grind arith in
-    let going : (after_end_array l.reader ≡ None) × (c.take_end_array.new.self ≡ l.reader) = grind arith in
-    fails-so _ _ _ (data_at c.args.depth c.take_end_array.new.self) _ _ gone c.in_err-item.ensures (λ none. l.invariant ∙ items-fail c.args.depth l.items.items l.reader going.0 (rw (← going.1) none))
+items_from-returns t c =
+    let l = c.loop-items in
+    let over = rw c.in_default.is at c.in_ok-item.ensures in
+    l.invariant ∙ ap (parse_map (joined (items_view l.items.items))) over ∙ joined-over (items_view l.items.items) c.next_item.new.reader
 
 -- ---- an object
 
-pub members_from-returns-in_err-key : goal.members_from-returns-in_err-key
-members_from-returns-in_err-key t c =
+pub next_member-returns-in_err-key : goal.next_member-returns-in_err-key
+next_member-returns-in_err-key t c =
     let gone : c.from_residual.result ≡ Err NotJson = grind arith in
-    rw gone (c.members.invariant ∙ members_at-no_key _ c.args.depth c.members.reader c.in_err-key.ensures.value)
+    rw gone (λ ms. members_at-no_key ms c.args.depth c.args.reader.now c.in_err-key.ensures.value)
 
-pub members_from-returns-in_err-member : goal.members_from-returns-in_err-member
-members_from-returns-in_err-member t c =
-    let l = c.members in
-    let gone : c.from_residual-in_err-member.result ≡ Err c.in_err-member.field-0.0 = grind arith in
-    let key : read_key l.reader ≡ Some (Some c.in-Some.key.now, c.next_key.new.self) = grind arith in
-    fails-so _ _ _ (data_at c.args.depth c.next_key.new.self) _ _ gone c.in_err-member.ensures (λ none. l.invariant ∙ members_at-next _ c.args.depth l.reader _ _ key ∙ rw none refl)
+pub next_member-returns-in_err-value_at-in-Some : goal.next_member-returns-in_err-value_at-in-Some
+next_member-returns-in_err-value_at-in-Some t c =
+    let key : read_key c.args.reader.now ≡ Some (Some c.in-Some.key.now, c.next_key.new.self) = grind arith in
+    let gone : c.from_residual-in_err-value_at-in-Some.result ≡ Err c.in_err-value_at-in-Some.field-0.0 = grind arith in
+    rw gone (λ ms. lacks-so _ (data_at c.args.depth c.next_key.new.self) _ c.in_err-value_at-in-Some.ensures (λ none. members_at-next ms c.args.depth c.args.reader.now _ _ key ∙ rw none refl))
 
-pub members_from-members-smaller : goal.members_from-members-smaller
-members_from-members-smaller t c =
-    let key : read_key c.members.reader ≡ Some (Some c.in-Some.key.now, c.next_key.new.self) = grind arith in
-    let less = read_key-shorter c.members.reader _ _ key in
-    let lesser = data_at-shorter _ _ _ _ c.in_ok-member.ensures in
-    omega (arith, less, lesser)
+pub next_member-returns-in_ok-value_at-in-Some : goal.next_member-returns-in_ok-value_at-in-Some
+next_member-returns-in_ok-value_at-in-Some t c =
+    let key : read_key c.args.reader.now ≡ Some (Some c.in-Some.key.now, c.next_key.new.self) = grind arith in
+    let stands = c.in_ok-value_at-in-Some.ensures in
+    let less = read_key-shorter c.args.reader.now _ _ key in
+    let lesser = data_at-shorter _ _ _ _ stands in
+    (λ ms. members_at-next ms c.args.depth c.args.reader.now _ _ key ∙ rw stands refl, omega (arith, less, lesser))
 
-pub members_from-members-preserved : goal.members_from-members-preserved
-members_from-members-preserved t c =
-    let l = c.members in
-    let k = c.in-Some.key.now in
-    let s = c.next_key.new.self in
-    let r = c.value_at.new.reader in
-    let v = c.in_ok-member.member in
-    let found = members_view l.members.entries in
-    let key : read_key l.reader ≡ Some (Some k, s) = grind arith in
-    let copied : string_bytes c.in_ok-key-2.key ≡ k = search rules in
-    let inserted : members_view c.insert.new.self.entries ≡ put k (view v) found =
-    ap members_view c.in_ok-insert.ensures.entries ∙ members_view-insert_entry l.members.entries c.in_ok-key-2.key v ∙ ap (λ name. put name (view v) found) copied in
-    l.invariant ∙ members_at-next found c.args.depth l.reader k s key ∙ rw c.in_ok-member.ensures (ap (λ ms. members_at ms c.args.depth r) (sym inserted))
-
-pub members_from-returns : goal.members_from-returns
-members_from-returns t c = c.members.invariant ∙ members_at-over _ c.args.depth c.members.reader c.next_key.new.self (grind arith)
+pub next_member-returns-in-None : goal.next_member-returns-in-None
+next_member-returns-in-None t c = λ ms. members_at-over ms c.args.depth c.args.reader.now c.next_key.new.self (grind arith)
