@@ -34,6 +34,8 @@ def kind_of(status, text):
     """A short name of an answer, for the counts at the end."""
     if status == LAID_OUT:
         return "laid out"
+    if text.startswith((b"discarded:", b"undefined:")):
+        return "references that can't be met"
     line = re.sub("description:.*", "description", shown(text).strip())
     line = re.sub("(link: rule [0-9]+|overflow: [a-z]+|too many [a-z ]+).*", r"\1", line)
     return re.sub("section [0-9]+", "section", line)

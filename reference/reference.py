@@ -37,7 +37,7 @@ def answer(words, data):
     try:
         status, lines = LAID_OUT, lines_of(words, data)
     except Refusal as refusal:
-        status, lines = refusal.status, [refusal.line]
+        status, lines = refusal.status, refusal.lines
     return status, "".join(line + "\n" for line in lines).encode()
 
 

@@ -5,6 +5,7 @@ import copy
 from rules import listed
 
 from . import richer
+from .references import length_of
 from .values import all_files, all_inputs, all_parts, all_symbols, objects
 
 ODD_ALIGNMENTS = (0, 3, 6, 65535, 65536, 65537, 131072, 2**63, 2**64 - 1)
@@ -133,7 +134,7 @@ def object_placements(rng, description, file):
     held = file.get("sections", []) if file["kind"] == "object" else []
     if held:
         index = rng.randrange(len(held))
-        length = richer.length_of(held[index])
+        length = length_of(held[index])
         yield ["sec", index, min(length + rng.choice((0, 1, 1)), 2**64 - 1)]
         yield ["sec", len(held), 0]
     yield ["sec", rng.choice((0, 2**32 - 1)), 0]
@@ -226,7 +227,7 @@ def break_references(rng, description, entry):
         richer.add_symbols(rng, description, file)
     count = len(file.get("symbols", []))
     symbol = rng.choice((0, 0, max(count - 1, 0), count, 2**32 - 1))
-    length = richer.length_of(entry)
+    length = length_of(entry)
     if rng.random() < 0.5:
         offset = rng.choice((0, max(length - 1, 0), length, 2**64 - 1))
         entry.setdefault("relocs", []).append([offset, "Relative", symbol, 0, False])

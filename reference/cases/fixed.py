@@ -74,6 +74,39 @@ def chained_definitions(count):
     return object_text('"symbols":[%s]' % symbols)
 
 
+def one_part_link(symbols, sections):
+    """An object of these symbols and sections, which go to the only part."""
+    plan = plan_text('{"parts":[[1,false]]}', "", '["sec",0]')
+    return plan[: -len("]}")] + ',[{"kind":"object","symbols":[%s],"sections":[%s]}]]}' % (symbols, sections)
+
+
+def linked_sections(count, target):
+    """So many sections of which the first is kept, and each refers to the one that `target` tells."""
+    sections = [
+        '{"slot":"%s","size":1,"relocs":[[0,"Relative",%d,0,false]]}'
+        % ("must" if number == 0 else "unloaded", target(number))
+        for number in range(count)
+    ]
+    return one_part_link(counted('{"at":["sec",%d,0]}', count), ",".join(sections))
+
+
+def missed_symbol(count):
+    """So many relocations of a kept section, all with one symbol that is defined nowhere."""
+    relocations = repeated('[0,"Relative",0,0,false]', count)
+    return one_part_link('{"at":["undef"]}', '{"slot":"must","size":1,"relocs":[%s]}' % relocations)
+
+
+def reach_texts():
+    """Long ways from what is kept, and many references to one symbol."""
+    count = 20_000
+    return {
+        "a chain of sections": linked_sections(count, lambda number: min(number + 1, count - 1)),
+        "a chain of sections that goes back": linked_sections(count, lambda number: (number - 1) % count),
+        "sections that all refer to the first": linked_sections(count, lambda number: 0),
+        "relocations that miss their symbol": missed_symbol(count),
+    }
+
+
 def whole_texts():
     """Whole texts that are odd, or nested deeply."""
     return {
@@ -131,5 +164,5 @@ def long_texts():
 
 def fixed_cases():
     """Names and bytes of the descriptions."""
-    texts = {**whole_texts(), **segment_texts(), **long_texts()}
+    texts = {**whole_texts(), **segment_texts(), **long_texts(), **reach_texts()}
     return {name: text.encode() for name, text in texts.items()}

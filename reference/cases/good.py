@@ -5,7 +5,8 @@ import json
 import reference
 from rules import listed
 
-from .values import ALIGNMENTS, ATTRIBUTES, BASES, NAMES, PAGES, TRUTHS, all_inputs, pick
+from .references import add_references
+from .values import ALIGNMENTS, ATTRIBUTES, BASES, NAMES, PAGES, TRUTHS, all_inputs, optional
 
 OPTIONS = {
     "output": ("static",),
@@ -21,12 +22,7 @@ OPTIONS = {
     "bucket_limit": (0, 1, 268_435_456),
     "merge_group": (1, 140_000, 4_294_967_296),
 }
-
-
-def optional(rng, fields, name, share, values):
-    """Gives an object that field in some share of the cases."""
-    if rng.random() < share:
-        fields[name] = pick(rng, values)
+REFERRING_SHARE = 0.7
 
 
 def random_size(rng):
@@ -167,6 +163,8 @@ def good_description(rng):
     description = {"plan": plan, "groups": groups}
     if rng.random() < 0.4:
         description["options"] = random_options(rng)
+    if rng.random() < REFERRING_SHARE:
+        add_references(rng, description)
     return description
 
 

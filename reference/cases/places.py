@@ -4,8 +4,9 @@ import json
 
 from .texts import NUMBER_TEXTS, STRAY_BYTES
 
-# One is laid out, one has symbols, and one has members of a wrong shape. Keys stand in another order than
-# the format's, beside unknown ones with numbers.
+# One is laid out, one has symbols, one has members of a wrong shape, one has sections that refer to each
+# other, and one what stands in sections and files beside that. Keys stand in another order than the
+# format's, beside unknown ones with numbers.
 DESCRIPTIONS = (
     {
         "groups": [
@@ -33,6 +34,40 @@ DESCRIPTIONS = (
             [{"kind": "notloaded", "sections": 7, "symbols": [{"at": ["undef"], "def": 0}]}],
         ],
         "plan": {"page": 1},
+    },
+    {
+        "options": {"entry": 1},
+        "plan": {"page": 1, "sections": [{"parts": [[1, False]]}], "events": [["sec", 0]]},
+        "groups": [
+            [
+                {"kind": "prelude"},
+                {
+                    "kind": "object",
+                    "sections": [
+                        {"relocs": [[1, "Relative", 0, -4, True]], "size": 9, "slot": "unloaded"},
+                        {"size": 2, "slot": "unloaded"},
+                    ],
+                    "symbols": [{"at": ["undef"], "def": 2}, {"at": ["sec", 0, 8]}, {"at": ["sec", 1, 0]}],
+                },
+            ],
+        ],
+    },
+    {
+        "plan": {"page": 1, "sections": [{"parts": [[1, False]]}], "events": [["sec", 0]]},
+        "groups": [
+            [
+                {"kind": "prelude"},
+                {
+                    "kind": "object",
+                    "candidates": [[0, 0, 1, 0]],
+                    "symbols": [{"at": ["abs", 1]}],
+                    "sections": [
+                        {"slot": "must", "size": 4, "relax": [[0, 0, 8, 1], [2, 0, 8, 2]]},
+                        {"data": "6aFf00", "slot": "merge"},
+                    ],
+                },
+            ],
+        ],
     },
 )
 WRONG_TEXTS = ("7", '"x"', "[]", "{}", "null", "[{}]", "[[{}]]", '[{"kind":7}]', "1e999")

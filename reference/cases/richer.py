@@ -2,10 +2,16 @@
 
 from rules import listed
 
-from .good import optional, random_marks, random_parts
-from .values import NAMES, TRUTHS, all_files, all_parts, all_symbols, free_parts, objects
-
-ADDENDS = (0, 0, -4, 1, 2**63 - 1, -(2**63))
+from .good import random_marks, random_parts
+from .references import (
+    add_relocations,
+    connect,
+    mark_symbol,
+    object_placement,
+    put_section,
+    put_symbols,
+)
+from .values import NAMES, TRUTHS, all_files, all_parts, free_parts, objects, optional
 
 
 def random_expression(rng, section_count, depth=0):
@@ -74,28 +80,11 @@ def add_input(rng, description, **fields):
         entry["size"] = rng.choice((0, 1, 4, 8, 100))
     optional(rng, entry, "attrs", 0.2, (2, 4, 6))
     optional(rng, entry, "name", 0.3, NAMES)
-    listed = an_object(rng, description).setdefault("sections", [])
-    listed.insert(rng.randrange(len(listed) + 1), entry)
+    put_section(rng, an_object(rng, description), entry)
     return entry
 
 
-def length_of(entry):
-    """The bytes of an input section."""
-    return len(entry.get("data", "")) // 2 if entry["slot"] == "merge" else entry.get("size", 0)
-
-
 # Symbols
-
-
-def object_placement(rng, file):
-    held = file.get("sections", [])
-    if held and rng.random() < 0.6:
-        index = rng.randrange(len(held))
-        length = length_of(held[index])
-        if held[index]["slot"] == "merge":
-            return ["sec", index, rng.choice((0, length, 1000, 2**64 - 1))]
-        return ["sec", index, rng.choice((0, length // 2, length))]
-    return rng.choice((["abs", 0], ["abs", 2**64 - 1], ["undef"]))
 
 
 def internal_placement(rng, description):
@@ -113,6 +102,7 @@ def internal_placement(rng, description):
 
 def add_symbols(rng, description, file):
     """Symbols of the file's kind."""
+    symbols = []
     for _ in range(rng.choice((1, 1, 2, 4))):
         if file["kind"] == "object":
             placement = object_placement(rng, file)
@@ -120,52 +110,8 @@ def add_symbols(rng, description, file):
             placement = [rng.choice(("dyn", "undef"))]
         else:
             placement = internal_placement(rng, description)
-        symbol = {"at": placement}
-        optional(rng, symbol, "name", 0.6, NAMES)
-        optional(rng, symbol, "flags", 0.3, (0, 1, 2, 8, 63))
-        for mark in ("local", "weak", "hidden"):
-            optional(rng, symbol, mark, 0.2, TRUTHS)
-        file.setdefault("symbols", []).append(symbol)
-
-
-def connect(rng, description):
-    """Definitions, an entry, relocations and relaxations between what is there."""
-    symbols = all_symbols(description)
-    if not symbols:
-        return
-    standing = [number for number in range(len(symbols)) if rng.random() < 0.6] or [0]
-    for number, symbol in enumerate(symbols):
-        if number not in standing:
-            symbol["def"] = rng.choice(standing)
-        elif rng.random() < 0.2:
-            symbol["def"] = number
-    if rng.random() < 0.3:
-        description.setdefault("options", {})["entry"] = rng.randrange(len(symbols))
-    for file in objects(description):
-        for entry in file.get("sections", []):
-            if file.get("symbols") and length_of(entry) > 0 and rng.random() < 0.4:
-                add_references(rng, entry, len(file["symbols"]), listed.PLAIN_RELOCATIONS)
-
-
-def add_references(rng, entry, symbol_count, kinds):
-    length = length_of(entry)
-    entry["relocs"] = [
-        [
-            rng.choice((0, length // 2, length - 1)),
-            rng.choice(kinds),
-            rng.randrange(symbol_count),
-            rng.choice(ADDENDS),
-            rng.random() < 0.3,
-        ]
-        for _ in range(rng.choice((1, 2, 5)))
-    ]
-    if length >= 4 and rng.random() < 0.5:
-        starts = sorted(rng.sample(range(min(length, 50)), rng.choice((1, 2, 3))))
-        ends = [*starts[1:], length]
-        entry["relax"] = [
-            [start, rng.randrange(symbol_count), rng.choice((0, 100, 2**64 - 1)), end - start]
-            for start, end in zip(starts, ends)
-        ]
+        symbols.append(mark_symbol(rng, {"at": placement}))
+    put_symbols(description, file, symbols)
 
 
 # What isn't laid out yet
@@ -187,7 +133,7 @@ def add_group(rng, description):
 def add_common(rng, description):
     parts = free_parts(description) or [add_section(description, [[8, False]])]
     placement = ["common", rng.choice(parts), rng.choice((0, 1, 64, 2**64 - 1))]
-    an_object(rng, description).setdefault("symbols", []).append({"at": placement})
+    put_symbols(description, an_object(rng, description), [{"at": placement}])
 
 
 def add_file(rng, description):
@@ -195,10 +141,10 @@ def add_file(rng, description):
     optional(rng, file, "name", 0.5, NAMES)
     optional(rng, file, "sections", 0.1, (7, [], [{}]))
     random_marks(rng, file)
-    if rng.random() < 0.6:
-        add_symbols(rng, description, file)
     group = rng.choice(description["groups"])
     group.insert(rng.randrange(1, len(group) + 1) if group else 0, file)
+    if rng.random() < 0.6:
+        add_symbols(rng, description, file)
 
 
 def add_location(rng, description):
@@ -208,9 +154,9 @@ def add_location(rng, description):
     event = rng.choice((["loc", expression], ["locrel", expression, number]))
     add_event(rng, description, event)
     script = {"kind": "script"}
+    description["groups"].append([script])
     if rng.random() < 0.5:
         add_symbols(rng, description, script)
-    description["groups"].append([script])
 
 
 def add_event(rng, description, event):
@@ -239,7 +185,7 @@ def add_table_relocation(rng, description):
     for file in objects(description):
         if any(entry is other for other in file.get("sections", [])):
             add_symbols(rng, description, file)
-            add_references(rng, entry, len(file["symbols"]), listed.TABLE_RELOCATIONS)
+            add_relocations(rng, entry, len(file["symbols"]), listed.TABLE_RELOCATIONS)
 
 
 def set_plan(rng, description):
@@ -299,24 +245,11 @@ def add_prelude_symbol(rng, description):
     add_symbols(rng, description, all_files(description)[0])
 
 
-def add_object_symbol(rng, description):
-    add_symbols(rng, description, an_object(rng, description))
-
-
-def add_unkept(rng, description):
-    entry = add_input(rng, description, slot=rng.choice(("unloaded", "discard")))
-    if entry["slot"] == "discard":
-        entry["part"] = rng.choice((entry["part"], 2**32 - 1))
-        optional(rng, entry, "attrs", 0.3, (1, 2**32 - 1))
-        optional(rng, entry, "relax", 0.3, ([[9, 9, 9, 0], [0, 0, 0, 99]],))
-        optional(rng, entry, "relocs", 0.3, ([[2**64 - 1, "None", 77, 0, True]],))
-
-
 ADDITIONS = (
     *(add_merge, add_debug, add_group, add_common, add_file, add_location, set_output),
     *(add_table, add_comment, add_table_relocation, set_plan, set_plan, set_plan),
     *(add_thread_local_segment, set_partial, add_sorted, set_primary, set_relax),
-    *(add_prelude_symbol, add_object_symbol, add_object_symbol, add_unkept, add_unkept),
+    add_prelude_symbol,
 )
 
 

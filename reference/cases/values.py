@@ -24,6 +24,12 @@ def pick(rng, values):
     return copy.deepcopy(rng.choice(values))
 
 
+def optional(rng, fields, name, share, values):
+    """Gives an object that field in some share of the cases."""
+    if rng.random() < share:
+        fields[name] = pick(rng, values)
+
+
 def all_files(description):
     return [file for group in description["groups"] for file in group]
 

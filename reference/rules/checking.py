@@ -298,7 +298,6 @@ def uncarried(link):
     yield "primary", plan.named["primary"] is not None
     yield "relax", link.options.relax
     yield "symbol", owners.intersection(listed.OWN_FILES)
-    yield "reach", "object" in owners or slots & {"unloaded", "discard"}
 
 
 def check_carried(link):

@@ -1,7 +1,8 @@
-"""The layout of a checked description: sizes, places, segments, and the lines of the report."""
+"""The layout of a checked description: sizes, places, segments, symbols, and the lines of the report."""
 
-from .links import inputs_of, parts_of, section_order, segments_inside
-from .listed import ALLOCATED, ZERO_FILL
+from .links import parts_of, section_order, segments_inside
+from .listed import ALLOCATED, FLAGS, HAS_RESOLUTION, ZERO_FILL
+from .reach import reach_of
 from .refusal import address_overflow, in_no_segment
 
 LARGEST_ADDRESS = 2**64 - 1
@@ -17,13 +18,13 @@ def fitting(number, place):
     return number
 
 
-def place_inputs(link, parts):
-    """The bytes of each part, and the place of each input section in its part."""
+def place_inputs(live, parts):
+    """The bytes of each part, and the place of each live section in its part."""
     sizes = [0] * len(parts)
-    places = []
-    for _, _, entry in inputs_of(link):
+    places = {}
+    for place, _, entry in live:
         _, alignment, packed = parts[entry.part]
-        places.append(sizes[entry.part])
+        places[place] = sizes[entry.part]
         sizes[entry.part] += entry.size if packed else align_up(entry.size, alignment)
     total = 0
     for part, size in enumerate(sizes):
@@ -122,9 +123,9 @@ class Walk:
         self.section_records[section] = hull([self.part_records[part] for part in walked])
 
 
-def emitted_sections(link, parts):
-    """The output index of each section that something stands in or that is always emitted."""
-    used = {parts[entry.part][0] for _, _, entry in inputs_of(link)}
+def emitted_sections(link, live, parts):
+    """The output index of each section that something live stands in or that is always emitted."""
+    used = {parts[entry.part][0] for _, _, entry in live}
     emits = [section.emit for section in link.plan.sections]
     emitted = [
         section
@@ -158,10 +159,10 @@ def segment_records(link, walk, emitted):
 # The report
 
 
-def joined_attributes(link, parts):
-    """The attributes of each output section, with those of its input sections."""
+def joined_attributes(link, live, parts):
+    """The attributes of each output section, with those of its live sections."""
     attributes = [section.attrs for section in link.plan.sections]
-    for _, _, entry in inputs_of(link):
+    for _, _, entry in live:
         attributes[parts[entry.part][0]] |= entry.attrs
     return attributes
 
@@ -184,25 +185,60 @@ def part_lines(walk):
             yield "part %d %s" % (part, record.line())
 
 
-def live_lines(link, walk, places):
-    for ((group, number, index), _, entry), place in zip(inputs_of(link), places):
-        address = walk.part_records[entry.part].memory + place
-        yield "live %d %d %d 0x%x %d" % (group, number, index, address, entry.size)
+def live_lines(live, addresses):
+    for place, _, entry in live:
+        yield "live %d %d %d 0x%x %d" % (*place, addresses[place], entry.size)
+
+
+# Symbols
+
+
+def symbol_values(reach, addresses):
+    """The value of each symbol that stands for itself and is needed, by its number."""
+    values = {}
+    for number, (file, symbol) in enumerate(reach.symbols):
+        if reach.definitions[number] == number and reach.flags[number] & HAS_RESOLUTION:
+            kind, *operands = symbol.at
+            values[number] = 0
+            if kind == "sec":
+                values[number] = addresses[(*reach.places[id(file)], operands[0])] + operands[1]
+            elif kind == "abs":
+                values[number] = operands[0]
+    return values
+
+
+def entry_text(reach, values):
+    """The address of the entry, or why it has none."""
+    if reach.link.options.entry is None:
+        return "-"
+    number = reach.definitions[reach.link.options.entry]
+    if number not in values:
+        return "not loaded"
+    if reach.flags[number] & FLAGS["DYNAMIC"] and not reach.flags[number] & FLAGS["ABSOLUTE"]:
+        return "not an address"
+    return "0x%x" % values[number]
 
 
 def report(link):
-    """The lines of the layout of a link whose input sections are all kept."""
+    """The lines of the layout of a link."""
+    reach = reach_of(link)
     parts = parts_of(link)
-    sizes, places = place_inputs(link, parts)
+    sizes, places = place_inputs(reach.live, parts)
     walk = Walk(link, parts, sizes)
     walk.run()
-    emitted = emitted_sections(link, parts)
+    emitted = emitted_sections(link, reach.live, parts)
     segments = segment_records(link, walk, emitted)
+    addresses = {
+        place: walk.part_records[entry.part].memory + places[place] for place, _, entry in reach.live
+    }
+    values = symbol_values(reach, addresses)
     yield "layout"
-    yield from section_lines(walk, emitted, joined_attributes(link, parts))
+    yield from section_lines(walk, emitted, joined_attributes(link, reach.live, parts))
     yield from part_lines(walk)
     for segment, record in segments.items():
         yield "segment %d %s" % (segment, record.line())
-    yield from live_lines(link, walk, places)
-    yield "entry -"
+    yield from live_lines(reach.live, addresses)
+    for number, value in values.items():
+        yield "symbol %d 0x%x %d got - plt - dyn -" % (number, value, reach.flags[number])
+    yield "entry " + entry_text(reach, values)
     yield "end"

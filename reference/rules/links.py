@@ -20,6 +20,23 @@ def inputs_of(link):
             yield (group, number, index), file, entry
 
 
+def definitions_of(link):
+    """For each symbol, by its number, the number of the one that stands for it."""
+    return [
+        number if symbol.definition is None else symbol.definition
+        for number, (_, symbol) in enumerate(symbols_of(link))
+    ]
+
+
+def first_symbols(link):
+    """For each file, by its group and its number there, the number of its first symbol."""
+    first, numbers = 0, {}
+    for group, number, file in files_of(link):
+        numbers[group, number] = first
+        first += len(file.symbols)
+    return numbers
+
+
 def parts_of(link):
     """All parts by number: the output section, the alignment and whether it is packed."""
     return [

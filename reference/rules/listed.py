@@ -5,8 +5,15 @@ ALLOCATED, WRITABLE, EXECUTABLE, THREAD_LOCAL, ZERO_FILL = 1, 2, 4, 8, 16
 ALL_ATTRIBUTES = 31
 INPUT_ATTRIBUTES = WRITABLE | EXECUTABLE
 
-# A set of flags of a symbol is below this.
-HANDED_IN_FLAGS = 64
+# Flags of symbols: those that are handed in, those that references give, and the sets of them.
+HANDED_IN = ("ABSOLUTE", "DYNAMIC", "IFUNC", "DOWNGRADE_LOCAL", "GROUP_SIGNATURE", "INTERPOSABLE")
+RESOLVED = (
+    *("DIRECT", "GOT", "PLT", "GOT_TLS_OFFSET", "GOT_TLS_MODULE", "GOT_TLS_DESCRIPTOR"),
+    *("SYMBOL_SIZE", "EXPORT_DYNAMIC"),
+)
+FLAGS = {name: 1 << bit for bit, name in enumerate((*HANDED_IN, *RESOLVED))}
+# A set of flags that are handed in is below this.
+HANDED_IN_FLAGS = 1 << len(HANDED_IN)
 
 OUTPUTS = ("static", "dynamic", "shared", "partial")
 DISCARDS = ("default", "all", "none")
@@ -90,6 +97,14 @@ def want_entries(wanted):
     return any(flag.startswith(("PLT", "GOT")) for flag in wanted)
 
 
+def joined_flags(names):
+    """The flags of a symbol with these names; what has another name is no flag of a symbol."""
+    return sum(FLAGS.get(name, 0) for name in names)
+
+
 RELOCATIONS = relocations_that(lambda wanted: True)
 TABLE_RELOCATIONS = relocations_that(want_entries)
 PLAIN_RELOCATIONS = relocations_that(lambda wanted: not want_entries(wanted))
+# For each kind the flags that it gives to its symbol, if any.
+FLAGS_OF = {kind: joined_flags(wanted) for wanted, kinds in WANTED.items() for kind in kinds}
+HAS_RESOLUTION = joined_flags(RESOLVED)

@@ -4,12 +4,12 @@ LAID_OUT, REFUSED, USAGE, UNREADABLE = 0, 1, 2, 3
 
 
 class Refusal(Exception):
-    """A status with the line that explains it."""
+    """A status with the lines that explain it, which is one, but for references."""
 
-    def __init__(self, status, line):
-        super().__init__(line)
+    def __init__(self, status, *lines):
+        super().__init__(*lines)
         self.status = status
-        self.line = line
+        self.lines = lines
 
 
 def not_json():
@@ -30,6 +30,10 @@ def bad_link(rule, place):
 
 def not_carried(what):
     return Refusal(REFUSED, "not carried: " + what)
+
+
+def references(lines):
+    return Refusal(REFUSED, *lines)
 
 
 def address_overflow(place):
