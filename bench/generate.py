@@ -10,7 +10,10 @@ file of it is held at a time. SHAPE says what the bytes go to:
     plan      as many output sections as fit, up to the limit, then objects
     files     objects without sections
     single    one object with all input sections
-    whole     objects with symbols, relocations, names, section groups and merge data
+    linked    objects with symbols, relocations and names, from which dead code leaves
+    chain     objects of sections of which each refers to the next, over all objects
+    star      objects of sections that all refer to one symbol, eight times each
+    whole     linked ones with section groups, merge data, debug data and tables
 
 The last shape isn't laid out yet, but read and checked; the others are laid out.
 """
@@ -20,6 +23,8 @@ import random
 import sys
 
 from attributes import ALLOCATED, EXECUTABLE, WRITABLE, ZERO_FILL
+from forms import LINKED, WHOLE
+from ways import put_ways
 from whole import put_whole_link
 
 PAGE = 4096
@@ -27,7 +32,9 @@ BASE = 4194304
 MOST_BYTES = 500_000_000
 MOST_OUTPUT_SECTIONS = 65_000
 MOST_SEGMENTS = 8
-SHAPES = ("objects", "plan", "files", "single", "whole")
+FORMS = {"linked": LINKED, "whole": WHOLE}
+WAYS = ("chain", "star")
+SHAPES = ("objects", "plan", "files", "single", *WAYS, *FORMS)
 
 # Share of the output sections, attributes, name, and alignments to choose from. The order is the
 # order in memory: within a segment nothing with file bytes follows a zero-filled section.
@@ -165,8 +172,11 @@ def generate(stream, total, seed, shape):
     """The whole description."""
     rng = random.Random(seed)
     writer = Writer(stream)
-    if shape == "whole":
-        put_whole_link(writer, rng, total, files_of_group(total, shape), PAGE, BASE)
+    if shape in FORMS:
+        put_whole_link(writer, rng, total, files_of_group(total, shape), PAGE, BASE, FORMS[shape])
+        return
+    if shape in WAYS:
+        put_ways(writer, total, files_of_group(total, shape), PAGE, BASE, shape)
         return
     parts = put_plan(writer, rng, output_section_count(total, shape))
     writer.put('"groups":[\n[{"kind":"prelude"}]')

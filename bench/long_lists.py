@@ -17,7 +17,7 @@ ONE_SECTION = (
 EMPTY_PLAN = '{"plan":{"page":1},"groups":[[{"kind":"prelude"}],['
 PRELUDE = '"groups":[[{"kind":"prelude"}]]}'
 OBJECT = '{"kind":"object",'
-REACH = "not carried: reach\n"
+ONE_RELOCATED = ONE_SECTION + OBJECT + '"symbols":[{"at":["undef"]%s}],"sections":[{"slot":"must","size":1,"relocs":['
 
 LONG_LISTS = (
     LongList("values", '{"unknown":[', "0", 10 * MILLION, '],"plan":{"page":1},' + PRELUDE, "layout\n"),
@@ -55,20 +55,44 @@ LONG_LISTS = (
         "not carried: slot\n",
     ),
     LongList(
+        "discarded",
+        ONE_SECTION + OBJECT + '"sections":[',
+        '{"slot":"discard","part":9}',
+        MILLION,
+        "]}]]}",
+        "layout\n",
+    ),
+    LongList(
         "symbols",
         EMPTY_PLAN + OBJECT + '"symbols":[',
         '{"at":["undef"],"def":0}',
         MILLION,
         "]}]]}",
-        REACH,
+        "layout\n",
     ),
     LongList(
         "relocations",
-        ONE_SECTION + OBJECT + '"symbols":[{"at":["undef"]}],"sections":[{"slot":"must","size":1,"relocs":[',
+        ONE_RELOCATED % "",
         '[0,"None",0,0,false]',
         MILLION,
         "]}]}]]}",
-        REACH,
+        "layout\n",
+    ),
+    LongList(
+        "references",
+        ONE_RELOCATED % ',"weak":true',
+        '[0,"Absolute",0,0,false]',
+        MILLION,
+        "]}]}]]}",
+        "layout\n",
+    ),
+    LongList(
+        "not met",
+        ONE_RELOCATED % "",
+        '[0,"Absolute",0,0,false]',
+        MILLION,
+        "]}]}]]}",
+        "undefined: symbol 0 from 1 0 0 relocation 0\nundefined: symbol 0 from 1 0 0 relocation 1\n",
     ),
     LongList(
         "candidates",

@@ -5,10 +5,11 @@ usage: run.py [PROGRAM [MEGABYTES..]]
        run.py --long [PROGRAM]
 
 PROGRAM is crates/lk_program/out/lk_program unless given, the sizes are 1, 10 and 100 MB. Each
-description is given to the program in two forms, several times: with a value of a wrong shape that is
-the last to be read, so that it is read and no more; and as it is. The run fails where an answer isn't of
-the kind that is wanted or two runs over the same bytes differ. Seconds are processor seconds, the least
-of the runs. None of them is judged: each is set against others of the same run.
+description is given to the program in three forms, several times: with a value of a wrong shape that is
+the last to be read, so that it is read and no more; as it is; and whole as a member that isn't known, so
+that it is parsed and let go. The run fails where an answer isn't of the kind that is wanted or two runs
+over the same bytes differ. Seconds are processor seconds, the least of the runs. None of them is judged:
+each is set against others of the same run.
 
 With --long, each description has one list that is as long as it may be, or millions long. The run fails
 where the program crashes, runs out of its stack of 8 MB or answers something else.
@@ -28,18 +29,24 @@ HERE = os.path.dirname(os.path.abspath(__file__))
 DEFAULT_PROGRAM = os.path.join(HERE, "..", "crates", "lk_program", "out", "lk_program")
 DEFAULT_MEGABYTES = (1, 10, 100)
 SHAPE_MEGABYTES = (1, 4)
-SHAPES = ("plan", "files", "single")
+LARGE_SHAPES = ("objects", "linked", "chain", "star")
+SMALL_SHAPES = ("plan", "files", "single")
 RUNS, MOST_RUNS, SMALL_BYTES = 3, 7, 5_000_000
 BLOCK = 1 << 20
 ENDING = b"\n]}\n"
 LONGEST_START = 100
 STACK_BYTES = 8 << 20
 
-# The end of each form, in place of the ending of the description, and what the answer begins with.
-FORMS = {
-    "read": (b',[{"kind":"prelude","candidates":7}]\n]}\n', b"not a link description: /groups/"),
-    "whole": (ENDING, (b"layout\n", b"not carried: ")),
-}
+# The end of a description that is read and no more, in place of its ending, and how its answer begins.
+READ_ENDING = b',[{"kind":"prelude","candidates":7}]\n]}\n'
+READ_ANSWER = b"not a link description: /groups/"
+WHOLE_ANSWERS = (b"layout\n", b"not carried: ")
+# What stands round a description that is parsed and let go.
+PARSED_START = b'{"unknown":'
+PARSED_ENDING = b',"plan":{"page":1},"groups":[[{"kind":"prelude"}]]}'
+PARSED_ANSWER = b"layout\nentry -\nend\n"
+# What a layout may take after reading, beside its report.
+BYTES_OF_SECTION, BYTES_OF_SYMBOL = 16, 24
 
 FIRST_COLUMN = ("description", -16)
 LAID_OUT_COLUMNS = (
@@ -49,6 +56,16 @@ LAID_OUT_COLUMNS = (
 LAID_OUT_LEGEND = """\
 growth: the power of the size by which the seconds grow, 1 is linear; read, the rest: parts of the
 seconds; peak and output: multiples of the size
+"""
+REST_COLUMNS = (
+    *(("parse", 7), ("growth", 7), ("read/parse", 11), ("rest", 7), ("growth", 7), ("rest/parse", 11)),
+    *(("sections", 9), ("symbols", 9), ("room", 7), ("of 16+24", 9)),
+)
+REST_LEGEND = """\
+parse: ms/MB of making one JSON value of the whole text; rest: ms/MB of all after reading; growth: the powers
+of the size by which they grow; room: how far the peak is above that of reading and the report, in MB, and
+as a part of 16 bytes for each section and 24 for each symbol. Aim: rest/parse at most 0.25, of 16+24 at
+most 1.
 """
 CHECKED_COLUMNS = (
     *(("ms/MB", 7), ("x wc -l", 8), ("read", 7), ("check", 6), ("growth", 11), ("peak", 8)),
@@ -113,6 +130,25 @@ def generate(path, total, shape):
         subprocess.run(command, stdout=file, check=True)
 
 
+def surround(path, start, ending, target):
+    """Writes a file with something before it and behind it."""
+    with open(path, "rb") as source, open(target, "wb") as sink:
+        sink.write(start)
+        while block := source.read(BLOCK):
+            sink.write(block)
+        sink.write(ending)
+
+
+def count_texts(path, *texts):
+    """How often each of these texts stands in a file, of which no line is long."""
+    with open(path, "rb") as file:
+        counts = [0] * len(texts)
+        for line in file:
+            for place, text in enumerate(texts):
+                counts[place] += line.count(text)
+    return counts
+
+
 def set_ending(path, size, ending):
     """Puts an ending in place of that of a description of this size."""
     with open(path, "r+b") as file:
@@ -132,17 +168,26 @@ class Stages:
     """The processor seconds of what the program does with one description, one stage after the other."""
 
     def __init__(self, series, megabytes):
-        program, path, output = series.program, series.path, series.output
+        path, output = series.path, series.output
+        command = [series.program, "layout", "0"]
         generate(path, megabytes * 1_000_000, series.shape)
         self.size = os.path.getsize(path)
+        self.sections, self.symbols = count_texts(path, b'"slot":', b'"at":')
         self.lines = best(["wc", "-l"], path, output, b"")
-        forms = {}
-        for name, (ending, wanted) in FORMS.items():
-            set_ending(path, self.size, ending)
-            forms[name] = best([program, "layout", "0"], path, output, wanted)
-        self.whole, self.read = forms["whole"], forms["read"]
+        self.whole = best(command, path, output, WHOLE_ANSWERS)
+        around = path + ".around"
+        surround(path, PARSED_START, PARSED_ENDING, around)
+        self.parsed = best(command, around, output, PARSED_ANSWER)
+        os.remove(around)
+        set_ending(path, self.size, READ_ENDING)
+        self.read = best(command, path, output, READ_ANSWER)
         self.reading = self.read.seconds
         self.rest = self.whole.seconds - self.reading
+        self.room = self.whole.peak - self.read.peak - self.whole.written
+
+    def allowed_room(self):
+        """The bytes that a layout may take after reading, beside its report."""
+        return BYTES_OF_SECTION * self.sections + BYTES_OF_SYMBOL * self.symbols
 
 
 class Series:
@@ -180,6 +225,21 @@ class Series:
             "%.2f" % (stages.whole.written / stages.size),
         )
 
+    def rest_row(self, stages):
+        parsing = stages.parsed.seconds
+        return (
+            "%.1f" % (parsing * 1e9 / stages.size),
+            self.growth(stages, lambda of: of.parsed.seconds),
+            "%.2f" % (stages.reading / parsing),
+            "%.1f" % (stages.rest * 1e9 / stages.size),
+            self.growth(stages, lambda of: of.rest),
+            "%.2f" % (stages.rest / parsing),
+            stages.sections,
+            stages.symbols,
+            "%.1f" % (stages.room / 1e6),
+            "%.2f" % (stages.room / stages.allowed_room()) if stages.allowed_room() else "-",
+        )
+
     def checked_row(self, stages):
         seconds = stages.whole.seconds
         return (
@@ -205,14 +265,22 @@ def print_line(columns, words):
     print(" ".join("%*s" % pair for pair in zip(widths, words)), flush=True)
 
 
-def print_table(columns, legend, series, sizes_of, row):
-    """A line for each size of each series."""
+def print_headings(columns):
     print_line(columns, [heading for heading, _ in (FIRST_COLUMN, *columns)])
+
+
+def print_table(columns, legend, series, sizes_of, row, *later_rows):
+    """A line for each size of each series; answers the lines of other tables on the same runs."""
+    print_headings(columns)
+    later = [[] for _ in later_rows]
     for one in series:
         for stages in one.stages(sizes_of(one.shape)):
             name = "%s %d MB" % (one.shape, round(stages.size / 1e6))
             print_line(columns, (name, *row(one, stages)))
+            for lines, later_row in zip(later, later_rows):
+                lines.append((name, *later_row(one, stages)))
     print(legend)
+    return later
 
 
 def long_row(program, path, output, long_list):
@@ -235,7 +303,7 @@ def long_row(program, path, output, long_list):
 
 def measure_long_lists(program, folder):
     path, output = os.path.join(folder, "description"), os.path.join(folder, "output")
-    print_line(LONG_COLUMNS, [heading for heading, _ in (FIRST_COLUMN, *LONG_COLUMNS)])
+    print_headings(LONG_COLUMNS)
     for long_list in long_lists.LONG_LISTS:
         print_line(LONG_COLUMNS, (long_list.name, *long_row(program, path, output, long_list)))
 
@@ -249,11 +317,16 @@ def main(words):
     sizes = sorted(map(int, words[1:])) or DEFAULT_MEGABYTES
 
     def sizes_of(shape):
-        return SHAPE_MEGABYTES if shape in SHAPES else sizes
+        return SHAPE_MEGABYTES if shape in SMALL_SHAPES else sizes
 
     with tempfile.TemporaryDirectory() as folder:
-        laid_out = [Series(program, folder, shape) for shape in ("objects", *SHAPES)]
-        print_table(LAID_OUT_COLUMNS, LAID_OUT_LEGEND, laid_out, sizes_of, Series.laid_out_row)
+        laid_out = [Series(program, folder, shape) for shape in (*LARGE_SHAPES, *SMALL_SHAPES)]
+        rows = Series.laid_out_row, Series.rest_row
+        (rest,) = print_table(LAID_OUT_COLUMNS, LAID_OUT_LEGEND, laid_out, sizes_of, *rows)
+        print_headings(REST_COLUMNS)
+        for line in rest:
+            print_line(REST_COLUMNS, line)
+        print(REST_LEGEND)
         checked = [Series(program, folder, "whole")]
         print_table(CHECKED_COLUMNS, CHECKED_LEGEND, checked, sizes_of, Series.checked_row)
 

@@ -1,89 +1,16 @@
-"""The groups and the plan of a whole link: symbols, relocations, names, section groups, merge data.
+"""The groups and the plan of a whole link: symbols, relocations, names; section groups and merge data in one form.
 
 Per object some 25 sections, with about 3 symbols and 8 relocations for each, and names of some 30
 bytes. The link keeps every rule. What an object refers to stands in it or in a file before it.
 """
 
-from attributes import ALLOCATED, EXECUTABLE, THREAD_LOCAL, WRITABLE, ZERO_FILL
+from forms import WHOLE
 
-# The output sections: name, attributes, alignments of the parts, and the fields that name those parts.
-OUTPUTS = (
-    (".headers", ALLOCATED, (8, 4), ("file_header", "program_headers")),
-    (".dynsym", ALLOCATED, (8,), ("dynsym",)),
-    (".dynstr", ALLOCATED, (1,), ("dynstr",)),
-    (".rodata", ALLOCATED, (32, 16, 8, 4, 1), ()),
-    (".rodata.str", ALLOCATED, (1,), ()),
-    (".eh_frame", ALLOCATED, (8,), ()),
-    (".init", ALLOCATED | EXECUTABLE, (4,), ()),
-    (".plt", ALLOCATED | EXECUTABLE, (16,), ("plt",)),
-    (".text", ALLOCATED | EXECUTABLE, (64, 32, 16, 8, 4, 2, 1), ()),
-    (".tdata", ALLOCATED | WRITABLE | THREAD_LOCAL, (8,), ()),
-    (".tbss", ALLOCATED | WRITABLE | THREAD_LOCAL | ZERO_FILL, (8,), ()),
-    (".init_array", ALLOCATED | WRITABLE, (8,), ()),
-    (".data.rel.ro", ALLOCATED | WRITABLE, (32, 8), ()),
-    (".got", ALLOCATED | WRITABLE, (8,), ("got",)),
-    (".data", ALLOCATED | WRITABLE, (32, 16, 8, 4, 1), ()),
-    (".bss", ALLOCATED | WRITABLE | ZERO_FILL, (64, 32, 8, 1), ()),
-    (".comment", 0, (1,), ("comment",)),
-    (".debug_info", 0, (1,), ()),
-    (".debug_line", 0, (1,), ()),
-    (".debug_str", 0, (1,), ()),
-    (".symtab", 0, (8, 4), ("symtab_local", "symtab_global")),
-    (".strtab", 0, (1,), ("strtab",)),
-    (".shstrtab", 0, (1,), ("shstrtab",)),
-    (".section_headers", 0, (8,), ("section_headers",)),
-)
-NUMBERS = {name: number for number, (name, _, _, _) in enumerate(OUTPUTS)}
-FIRST_PARTS = {
-    name: sum(len(alignments) for _, _, alignments, _ in OUTPUTS[:number])
-    for name, number in NUMBERS.items()
-}
-PART_COUNTS = {name: len(alignments) for name, _, alignments, _ in OUTPUTS}
-
-# Segments: the kind, and the first and the last output section inside.
-SEGMENTS = (
-    ("load", ".headers", ".eh_frame"),
-    ("load", ".init", ".text"),
-    ("load", ".tdata", ".bss"),
-    ("other", ".tdata", ".got"),
-    ("tls", ".tdata", ".tbss"),
-    ("stack", None, None),
-)
-
-# Input sections: weight, slot, output section, attributes, greatest size, relocations on average.
-INPUTS = (
-    (42, "unloaded", ".text", EXECUTABLE, 700, 10),
-    (11, "unloaded", ".rodata", 0, 300, 3),
-    (7, "unloaded", ".data.rel.ro", WRITABLE, 200, 8),
-    (4, "unloaded", ".data", WRITABLE, 200, 3),
-    (4, "unloaded", ".bss", WRITABLE, 4000, 0),
-    (1, "unloaded", ".tdata", WRITABLE, 32, 0),
-    (2, "must", ".init_array", WRITABLE, 8, 1),
-    (7, "must", ".eh_frame", 0, 900, 12),
-    (5, "debug", ".debug_info", 0, 4000, 24),
-    (4, "debug", ".debug_line", 0, 2000, 12),
-    (6, "merge", ".rodata.str", 0, 160, 0),
-    (3, "merge", ".debug_str", 0, 300, 0),
-    (1, "merge", ".comment", 0, 40, 0),
-    (3, "discard", ".text", EXECUTABLE, 100, 4),
-)
-WEIGHTED_INPUTS = [line[1:] for line in INPUTS for _ in range(line[0])]
-KINDS = (
-    *("Relative",) * 24,
-    *("PltRelative",) * 16,
-    *("Absolute",) * 12,
-    *("GotRelative",) * 6,
-    *("AbsoluteAddition", "AbsoluteSubtraction", "GotTpOff", "TlsGd", "DtpOff", "None"),
-)
 ADDENDS = (-4, -4, -4, 0, 0, 0, 8, 16)
 WORDS = (
     *("alloc", "borrow", "buffer", "cursor", "decode", "encode", "filter", "format", "header"),
     *("insert", "layout", "memory", "number", "output", "parse", "query", "record", "report"),
     *("section", "shared", "signal", "source", "stream", "string", "symbol", "table", "value"),
-)
-OPTIONS = (
-    '{"output":"dynamic","gc":true,"export_list":["plugin_init","plugin_exit"],"discard":"default",'
-    '"strip_names":["__unused_start","__unused_end"],"identity":"measured","stack":8388608,"entry":%d}'
 )
 DYNAMIC_FILES, DYNAMIC_SYMBOLS = 2, 60
 UNDEFINED_SHARE, LOCAL_SHARE, GROUP_SHARE, RELAX_SHARE = 0.4, 0.25, 0.15, 0.03
@@ -113,59 +40,59 @@ def name_text(rng, start=""):
 # The plan, and the files before the objects
 
 
-def events():
+def events(form):
     """Each output section, and round its own sections each segment."""
-    for segment, (_, first, _) in enumerate(SEGMENTS):
+    for segment, (_, first, _) in enumerate(form.segments):
         if first is None:
             yield from ('["seg",%d]' % segment, '["endseg",%d]' % segment)
-    for number, (name, _, _, _) in enumerate(OUTPUTS):
-        for segment, (_, first, _) in enumerate(SEGMENTS):
+    for number, (name, _, _, _) in enumerate(form.outputs):
+        for segment, (_, first, _) in enumerate(form.segments):
             if first == name:
                 yield '["seg",%d]' % segment
         yield '["sec",%d]' % number
-        for segment, (_, _, last) in enumerate(SEGMENTS):
+        for segment, (_, _, last) in enumerate(form.segments):
             if last == name:
                 yield '["endseg",%d]' % segment
 
 
-def plan_text(page, base):
+def plan_text(form, page, base):
     sections = joined(
         '\n{"name":"%s","attrs":%d,"parts":[%s]}'
         % (name, attributes, joined("[%d,false]" % alignment for alignment in alignments))
-        for name, attributes, alignments, _ in OUTPUTS
+        for name, attributes, alignments, _ in form.outputs
     )
     named = joined(
         '"%s":%d' % (field, part)
-        for name, _, _, fields in OUTPUTS
-        for part, field in enumerate(fields, FIRST_PARTS[name])
+        for name, _, _, fields in form.outputs
+        for part, field in enumerate(fields, form.first_parts[name])
     )
-    return '{"page":%d,"base":["num",%d],"sections":[%s],\n"segments":[%s],\n"events":[%s],\n%s}' % (
+    return '{"page":%d,"base":["num",%d],"sections":[%s],\n"segments":[%s],\n"events":[%s]%s}' % (
         page,
         base,
         sections,
-        joined('{"kind":"%s"}' % kind for kind, _, _ in SEGMENTS),
-        joined(events()),
-        named,
+        joined('{"kind":"%s"}' % kind for kind, _, _ in form.segments),
+        joined(events(form)),
+        ",\n" + named if named else "",
     )
 
 
 PRELUDE_SYMBOLS = (
     ("__executable_start", '["loadbase"]'),
-    ("__ehdr_start", '["start",%d]' % NUMBERS[".headers"]),
-    ("__bss_start", '["start",%d]' % NUMBERS[".bss"]),
-    ("_edata", '["end",%d]' % NUMBERS[".data"]),
-    ("_end", '["groupend",%d]' % NUMBERS[".bss"]),
+    ("__ehdr_start", '["start",%d]' % WHOLE.numbers[".headers"]),
+    ("__bss_start", '["start",%d]' % WHOLE.numbers[".bss"]),
+    ("_edata", '["end",%d]' % WHOLE.numbers[".data"]),
+    ("_end", '["groupend",%d]' % WHOLE.numbers[".bss"]),
     ("__tls_end", '["tlsend"]'),
-    ("_etext", '["end",%d]' % NUMBERS[".text"]),
-    ("__heap_start", '["redirect",["align",["dot"],["num",4096]],["end",%d],true]' % NUMBERS[".bss"]),
+    ("_etext", '["end",%d]' % WHOLE.numbers[".text"]),
+    ("__heap_start", '["redirect",["align",["dot"],["num",4096]],["end",%d],true]' % WHOLE.numbers[".bss"]),
 )
 
 
 class Link:
     """What is kept of a link while it is written."""
 
-    def __init__(self, writer, rng):
-        self.writer, self.rng = writer, rng
+    def __init__(self, writer, rng, form):
+        self.writer, self.rng, self.form = writer, rng, form
         self.symbols = 0  # symbols so far, over all files
         self.files = 0  # objects so far
         self.known = []  # some symbols of files so far that stand for themselves
@@ -180,6 +107,9 @@ class Link:
 
     def put_first_files(self):
         """The prelude; a script and the dynamic files."""
+        if not self.form.has_more:
+            self.writer.put('[{"kind":"prelude"}]')
+            return
         prelude = joined('{"name":"%s","at":%s}' % symbol for symbol in PRELUDE_SYMBOLS)
         script = '{"name":"heap_size","at":["redirect",["num",65536],["none"],true]}'
         self.writer.put('[{"kind":"prelude","symbols":[%s]}],\n' % prelude)
@@ -195,7 +125,9 @@ class Link:
 
     def put_last_file(self):
         """A synthetic file, with sections that its symbols keep."""
-        number = NUMBERS[".init_array"]
+        if not self.form.has_more:
+            return
+        number = WHOLE.numbers[".init_array"]
         symbols = '{"name":"__start_array","at":["start",%d]},{"name":"__stop_array","at":["end",%d]}'
         candidates = joined("[%d,%d,%d,%d]" % ((number, *place)) for place in self.candidates)
         self.writer.put(
@@ -213,9 +145,9 @@ FIRST_OBJECT_SYMBOL = len(PRELUDE_SYMBOLS) + 1 + DYNAMIC_FILES * DYNAMIC_SYMBOLS
 class Section:
     """An input section: its number in the object, what kind it is, its bytes."""
 
-    def __init__(self, rng, index):
+    def __init__(self, rng, form, index):
         # The first one of an object is code, so that the link has an entry.
-        line = WEIGHTED_INPUTS[0] if index == 0 else rng.choice(WEIGHTED_INPUTS)
+        line = form.inputs[0] if index == 0 else rng.choice(form.inputs)
         self.index = index
         self.slot, self.output, self.attributes, largest, relocations = line
         self.data = self.merge_data(rng, largest) if self.slot == "merge" else None
@@ -236,7 +168,8 @@ class Object:
 
     def __init__(self, link, sections):
         self.link, self.rng = link, link.rng
-        self.sections = [Section(self.rng, index) for index in range(sections)]
+        self.form = link.form
+        self.sections = [Section(self.rng, self.form, index) for index in range(sections)]
         self.symbol_texts = []
         self.targets = []  # symbols to refer to, each with its greatest addend, if any
         self.choose_groups()
@@ -244,6 +177,8 @@ class Object:
 
     def choose_groups(self):
         """Some pairs of neighbours, the second with what the first needs."""
+        if not self.form.has_more:
+            return
         for first, second in zip(self.sections, self.sections[1:]):
             grouped = first.slot == "unloaded" and second.slot in ("unloaded", "debug")
             if grouped and first.group is None and chance(self.rng, GROUP_SHARE):
@@ -260,7 +195,7 @@ class Object:
         for section in self.sections:
             self.name_section(section)
             for _ in range(self.rng.randrange(1, 4)):
-                if chance(self.rng, UNDEFINED_SHARE):
+                if chance(self.rng, UNDEFINED_SHARE) and self.link.known:
                     self.refer_outside()
                 else:
                     self.name_place(section)
@@ -299,14 +234,14 @@ class Object:
         for number in range(section.relocations):
             bits = self.rng.getrandbits(32)
             symbol, most = self.targets[(bits >> 9) % len(self.targets)]
-            kind = KINDS[bits % len(KINDS)]
+            kind, thunkable = self.form.kinds[bits % len(self.form.kinds)]
             addend = ADDENDS[bits >> 6 & 7] if most is None else (bits >> 9) % (most + 1)
             yield '[%d,"%s",%d,%d,%s]' % (
                 number * section.size // section.relocations,
                 kind,
                 symbol,
                 addend,
-                truth(kind == "PltRelative"),
+                truth(thunkable),
             )
 
     def relaxation_texts(self, section):
@@ -315,13 +250,14 @@ class Object:
 
     def section_fields(self, section):
         yield '{"name":"%s","slot":"%s"' % (name_text(self.rng, section.output + "."), section.slot)
-        part = FIRST_PARTS[section.output] + self.rng.randrange(PART_COUNTS[section.output])
+        parts = self.form.part_counts[section.output]
+        part = self.form.first_parts[section.output] + self.rng.randrange(parts)
         yield ',"part":%d' % part
         if section.slot == "merge":
             yield ',"data":"%s","strings":true' % section.data
         else:
             yield ',"size":%d' % section.size
-        if section.output == ".init_array" and chance(self.rng, 0.5):
+        if self.form.has_more and section.output == ".init_array" and chance(self.rng, 0.5):
             yield ',"sorted":true'
         if section.attributes:
             yield ',"attrs":%d' % section.attributes
@@ -365,12 +301,13 @@ def put_objects(link, total, group_files, first_group):
         group += 1
 
 
-def put_whole_link(writer, rng, total, group_files, page, base):
+def put_whole_link(writer, rng, total, group_files, page, base, form):
     """The whole description."""
-    link = Link(writer, rng)
-    writer.put('{"options":%s,\n"plan":%s,\n' % (OPTIONS % FIRST_OBJECT_SYMBOL, plan_text(page, base)))
+    link = Link(writer, rng, form)
+    options = form.options % (FIRST_OBJECT_SYMBOL if form.has_more else 0)
+    writer.put('{"options":%s,\n"plan":%s,\n' % (options, plan_text(form, page, base)))
     writer.put('"groups":[\n')
     link.put_first_files()
-    put_objects(link, total, group_files, 2)
+    put_objects(link, total, group_files, 2 if form.has_more else 1)
     link.put_last_file()
     writer.put("\n]}\n")

@@ -1,0 +1,64 @@
+"""Links in which much depends on a few symbols: a way that leads through all sections, and one symbol that all name."""
+
+SECTIONS = 25  # of an object
+REFERENCES = 8  # of a section to the one symbol
+RELOCATION = '[%d,"%s",%d,%d,false]'
+LAST_BYTES = 8_000
+
+
+def plan_text(page, base):
+    """One section of code in a load segment."""
+    return (
+        '{"page":%d,"base":["num",%d],"sections":[{"name":".text","attrs":5,"parts":[[16,false]]}],'
+        '"segments":[{"kind":"load"}],"events":[["seg",0],["sec",0],["endseg",0]]}' % (page, base)
+    )
+
+
+def object_text(number, symbols, sections):
+    name = "lib/unit_%04d/source_%07d.o" % (number // 64 % 10000, number)
+    return '{"kind":"object","name":"%s","symbols":[%s],\n"sections":[%s]}\n' % (
+        name,
+        ",".join(symbols),
+        ",".join(sections),
+    )
+
+
+def section_text(slot, relocations):
+    return '{"slot":"%s","size":64,"attrs":4,"relocs":[%s]}' % (slot, ",".join(relocations))
+
+
+def chain_object(number, is_last):
+    """Each section refers to the next one; the last one to the first of the next object, if there is one."""
+    symbols = ['{"at":["sec",%d,0]}' % index for index in range(SECTIONS)]
+    if not is_last:
+        symbols.append('{"at":["undef"],"def":%d}' % ((number + 1) * (SECTIONS + 1)))
+    sections = []
+    for index in range(SECTIONS):
+        # The last section of all refers to itself.
+        target = min(index + 1, len(symbols) - 1)
+        slot = "must" if number == index == 0 else "unloaded"
+        sections.append(section_text(slot, [RELOCATION % (8, "Relative", target, -4)]))
+    return object_text(number, symbols, sections)
+
+
+def star_object(number, _):
+    """Each section refers to the first symbol of all, eight times."""
+    symbol = '{"at":["sec",0,0]}' if number == 0 else '{"at":["undef"],"def":0}'
+    relocations = [RELOCATION % (7 * place, "Absolute", 0, place) for place in range(REFERENCES)]
+    return object_text(number, [symbol], [section_text("must", relocations)] * SECTIONS)
+
+
+OBJECTS = {"chain": chain_object, "star": star_object}
+
+
+def put_ways(writer, total, group_files, page, base, shape):
+    """The whole description."""
+    writer.put('{"plan":%s,\n"groups":[\n[{"kind":"prelude"}]' % plan_text(page, base))
+    number, is_last = 0, False
+    while not is_last:
+        is_last = writer.written >= total - LAST_BYTES
+        start = ",\n[" if number % group_files == 0 else ","
+        end = "]" if is_last or number % group_files == group_files - 1 else ""
+        writer.put(start + OBJECTS[shape](number, is_last) + end)
+        number += 1
+    writer.put("\n]}\n")
