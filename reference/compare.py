@@ -3,13 +3,15 @@
 
 usage: compare.py PROGRAM COUNT [SEED [FIRST]]
        compare.py PROGRAM --places
+       compare.py PROGRAM --small
 
 Runs PROGRAM on the random descriptions of the numbers FIRST to FIRST + COUNT - 1, and where FIRST is
 0 on the fixed ones too, and shows each one on which status or bytes differ from the reference's. Ends
 with 1 if there was one. The same SEED and number give the same description.
 
 With --places, the descriptions are some small ones, changed at every place of their text: cut there, with
-a stray byte there, with another number, with a member doubled, escaped, left out or moved.
+a stray byte there, with another number, with a member doubled, escaped, left out or moved. With --small, they
+are all links of two sections that may refer to each other and to what is undefined.
 """
 
 import collections
@@ -19,11 +21,13 @@ import sys
 import cases
 import reference
 from cases.places import changed_at_every_place
+from cases.small import every_small_link
 from program import program_answer
 from rules.refusal import LAID_OUT
 
 WORDS = ["layout", "0"]
 MOST_SHOWN = 2000
+LISTED = {"--places": changed_at_every_place, "--small": every_small_link}
 
 
 def shown(text):
@@ -67,20 +71,20 @@ class Comparison:
         print("%d cases, %d mismatches" % (sum(self.kinds.values()), self.mismatches))
 
 
-def compare_places(program):
+def compare_listed(program, kind):
     comparison = Comparison(program)
-    for number, data in enumerate(changed_at_every_place()):
-        comparison.compare("place %d" % number, data)
+    for number, data in enumerate(LISTED[kind]()):
+        comparison.compare("%s %d" % (kind, number), data)
     return comparison
 
 
 def main(words):
-    if len(words) == 2 and words[1] == "--places":
-        comparison = compare_places(words[0])
+    if len(words) == 2 and words[1] in LISTED:
+        comparison = compare_listed(*words)
         comparison.summary()
         sys.exit(1 if comparison.mismatches else 0)
     if not 2 <= len(words) <= 4 or not all(word.isdigit() for word in words[1:]):
-        sys.exit("usage: compare.py PROGRAM COUNT [SEED [FIRST]], or compare.py PROGRAM --places")
+        sys.exit("usage: compare.py PROGRAM COUNT [SEED [FIRST]], or compare.py PROGRAM --places|--small")
     count, seed, first = (list(map(int, words[1:])) + [0, 0])[:3]
     comparison = Comparison(words[0])
     if first == 0:
