@@ -10,6 +10,7 @@ use Rattle.lk_layout.specs.declared.error.LayoutError.{LayoutError}
 use Rattle.lk_layout.specs.declared.error.LayoutError.TheVariants.{NoMemory, TooMany, BadLink, NotCarried, References, AddressOverflow, SectionOutsideSegments}
 use Rattle.lk_layout.specs.declared.error.Uncarried.{Uncarried}
 use Rattle.lk_layout.specs.declared.layout.Layout.{Layout}
+use Rattle.lk_layout.specs.declared.resolution.Resolution.{Resolution}
 use Rattle.lk_layout.specs.Carried.{IsCarried, first_uncarried}
 use Rattle.lk_layout.specs.Defined.{Gives, IsCarriedAnswer, IsDefined, Unless, WithMemory, fault_refusal, not_carried, uncarried_refusal, IsPlacedAnswer, layout_of, segment_refusal}
 use Rattle.lk_layout.specs.Errors.{fault_error, place_error}
@@ -98,7 +99,8 @@ told link live records layout inside is =
     unless_none (segment_refusal link live records) (Ok layout) _ (ap (λ (o : Option ℕ). option_map place_error (outside_refusal o)) inside) (ap (λ (x : Layout). Ok x) is)
 
 -- layouts with the same lists are the same
-pub same_layout : (s s' r : List Record) (t t' : List ℕ) (i i' : List (Option ℕ)) (g g' : List SegmentLayout) (l l' : List LiveSection) → s ≡ s' → t ≡ t' → i ≡ i' → g ≡ g' → l ≡ l'
-    → ◌≡◌ {A = Layout} (record { section_layouts = s; section_part_layouts = r; section_attributes = t; output_section_indexes = i; segment_layouts = g; live_sections = l })
-    (record { section_layouts = s'; section_part_layouts = r; section_attributes = t'; output_section_indexes = i'; segment_layouts = g'; live_sections = l' })
-same_layout s s' r t t' i i' g g' l l' es et ei eg el = cc
+pub same_layout : (s s' r : List Record) (t t' : List ℕ) (i i' : List (Option ℕ)) (g g' : List SegmentLayout) (l l' : List LiveSection) (v v' : List (Option Resolution)) (e e' : Option ℕ)
+    → s ≡ s' → t ≡ t' → i ≡ i' → g ≡ g' → l ≡ l' → v ≡ v' → e ≡ e'
+    → ◌≡◌ {A = Layout} (record { section_layouts = s; section_part_layouts = r; section_attributes = t; output_section_indexes = i; segment_layouts = g; live_sections = l; symbol_resolutions = v; entry_symbol_id = e })
+    (record { section_layouts = s'; section_part_layouts = r; section_attributes = t'; output_section_indexes = i'; segment_layouts = g'; live_sections = l'; symbol_resolutions = v'; entry_symbol_id = e' })
+same_layout s s' r t t' i i' g g' l l' v v' e e' es et ei eg el ev ee = cc

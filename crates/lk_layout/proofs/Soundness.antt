@@ -31,10 +31,12 @@ use Rattle.lk_sizes.proofs.LiveOnes.{Differ, Pairwise, live_differ, live_goes, l
 use Rattle.lk_layout.specs.declared.layout.Layout.{Layout}
 use Rattle.lk_layout.specs.Defined.{setting, starts_of}
 use Rattle.lk_layout.specs.Laws.{DefinedLayoutsAreSound, LaidOutMemoryIsDisjoint, LaidOutSectionsAreApart}
+use Rattle.lk_layout.specs.Resolutions.{symbol_resolutions}
 use Rattle.lk_layout.specs.Sound.{IsInSection, IsSharedOut, IsSound, IsTold, LiveSectionsAreAligned, LiveSectionsAreApart, MemoryIsCongruent, part_record}
 use Rattle.lk_layout.proofs.CarriedPlans.{no_zero_fill}
 use Rattle.lk_layout.proofs.LaidOut.{IsLaidOut, laid_out}
 use Rattle.lk_layout.proofs.PartStarts.{part_starts}
+use Rattle.lk_layout.proofs.Placing.{size-le}
 use Rattle.lk_layout.proofs.Settings.{ready, size_of, takes}
 use Rattle.lk_link.proofs.Elements.{contains_at, map_in}
 
@@ -46,6 +48,12 @@ parts_are target link layout laid = ap (λ (l : Layout). l.section_part_layouts)
 shown : (target : Target) (link : LinkInput) (layout : Layout) (laid : IsLaidOut target link layout) → layout.live_sections ≡ live_sections link laid.live (starts_of layout.section_part_layouts)
 shown target link layout laid =
     ap (λ (l : Layout). l.live_sections) laid.same ∙ ap (λ (rs : List Record). live_sections link laid.live (starts_of rs)) (sym (parts_are target link layout laid))
+
+resolved : (target : Target) (link : LinkInput) (layout : Layout) (laid : IsLaidOut target link layout)
+    → layout.symbol_resolutions ≡ symbol_resolutions link laid.live (starts_of layout.section_part_layouts)
+resolved target link layout laid =
+    ap (λ (l : Layout). l.symbol_resolutions) laid.same
+    ∙ ap (λ (rs : List Record). symbol_resolutions link laid.live (starts_of rs)) (sym (parts_are target link layout laid))
 
 -- the owners of each part share it out
 shared_out : OwnersTileTheirPart → PartsTakeTheirBytes → (target : Target) (link : LinkInput) (layout : Layout) (laid : IsLaidOut target link layout) (p : ℕ) → p < length (all_parts link.plan.sections)
@@ -78,14 +86,6 @@ stands owners link live layout a x l is told =
       size = ap (λ (m : LiveSection). m.size) same;
       owner = owners link live x (contains_at (live_inputs link live) a x told.there);
     }
-
--- no size is above its capacity
-size-le : (part : PlanPart) (size : ℕ) → size ≤ capacity part size
-size-le part size =
-    elim part.packed as (λ b. size ≤ cond b size (next_multiple_of size part.alignment)) [
-      | true ↦ omega arith
-      | false ↦ omega arith
-    ]
 
 -- the bytes of a live section are its owner's
 has_byte : (link : LinkInput) (live : Live) (layout : Layout) (x : Input) (l : LiveSection) (address : ℕ) → Stands link live layout x l → IsInSection address l
@@ -200,6 +200,8 @@ is_sound tile aligned owners mass file memory in_step keep target link layout la
       met = laid.met;
       reached = laid.are_live;
       shown = shown target link layout laid;
+      resolved = resolved target link layout laid;
+      entered = ap (λ (l : Layout). l.entry_symbol_id) laid.same;
       aligned = sections_aligned tile aligned owners target link layout laid;
       shared = shared_out tile mass target link layout laid;
       file = subst (λ rs. FileIsDisjoint rs) (sym (parts_are target link layout laid))

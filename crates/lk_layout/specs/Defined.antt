@@ -23,6 +23,7 @@ use Rattle.lk_layout.specs.declared.error.Uncarried.{Uncarried}
 use Rattle.lk_layout.specs.declared.layout.Layout.{Layout}
 use Rattle.lk_layout.specs.Carried.{first_uncarried}
 use Rattle.lk_layout.specs.Errors.{fault_error, size_error, place_error}
+use Rattle.lk_layout.specs.Resolutions.{entry_symbol, symbol_resolutions}
 
 -- the answer is this refusal, if there is one, else P holds of it
 abbrev pub Unless : Option LayoutError → Result Layout LayoutError → Type 0 → Type 0
@@ -85,6 +86,8 @@ layout_of link live records =
       output_section_indexes = by_section (output_index link live) link;
       segment_layouts = segment_layouts link.plan link.options.stack sections (is_emitted link live) (active_segments link live);
       live_sections = live_sections link live (starts_of records);
+      symbol_resolutions = symbol_resolutions link live (starts_of records);
+      entry_symbol_id = entry_symbol link;
     }
 
 -- ---- the answer

@@ -2,6 +2,7 @@ pub mod Carried
 pub mod Defined
 pub mod Errors
 pub mod Laws
+pub mod Layouts
 pub mod Resolutions
 pub mod Sound
 pub mod Spread

@@ -18,6 +18,7 @@ use Rattle.lk_sizes.specs.Owners.{bytes_of, owners_of}
 use Rattle.lk_sizes.specs.Tiles.{IsTiled}
 use Rattle.lk_layout.specs.declared.layout.Layout.{Layout}
 use Rattle.lk_layout.specs.Defined.{starts_of}
+use Rattle.lk_layout.specs.Resolutions.{entry_symbol, symbol_resolutions}
 
 -- the record of the part with this number over all sections
 abbrev pub part_record : Layout → ℕ → Record
@@ -65,12 +66,14 @@ pub record IsSoundInMemory (link : LinkInput) (live : Live) (layout : Layout) : 
   pub congruent : MemoryIsCongruent link layout
 
 -- a sound layout: all references are met; the live sections are those that are reached, each where its part's owners let it
--- stand, aligned; each byte of a part has one owner; no two parts share a byte of the file; and under a plain plan the same
--- holds of memory
+-- stand, aligned; each symbol that is asked for stands for a place in them, or for a number; each byte of a part has one owner;
+-- no two parts share a byte of the file; and under a plain plan the same holds of memory
 pub record IsSound (link : LinkInput) (live : Live) (layout : Layout) : Type 0 where
   pub met : reference_faults link ≡ []
   pub reached : AreLive link live
   pub shown : layout.live_sections ≡ live_sections link live (starts_of layout.section_part_layouts)
+  pub resolved : layout.symbol_resolutions ≡ symbol_resolutions link live (starts_of layout.section_part_layouts)
+  pub entered : layout.entry_symbol_id ≡ entry_symbol link
   pub aligned : LiveSectionsAreAligned link live layout
   pub shared : (p : ℕ) → p < length (all_parts link.plan.sections) → IsSharedOut link live layout p
   pub file : FileIsDisjoint layout.section_part_layouts

@@ -4,7 +4,7 @@
 //! part, where the parts stand, which sections and segments are told, what those span, and at last the address of each live
 //! section. A step that refuses ends the computation, so that the answer is the first refusal in this order, or the layout.
 
-ghost use Rattle.std.specs.Prelude.{◌≡◌, ◌+◌, ◌<◌, ◌≤◌, ◌^◌, ℕ, IfOk, length, slice_index};
+ghost use Rattle.std.specs.Prelude.{◌≡◌, ◌<◌, ◌≤◌, ℕ, length};
 ghost use Rattle.lk_gc.specs.Reach.{AreLive};
 ghost use Rattle.lk_link.specs.Parts.{all_parts};
 ghost use Rattle.lk_link.specs.WellFormed.{IsWellFormed};
@@ -14,12 +14,14 @@ ghost use Rattle.lk_link.specs.Target.{platform_target};
 ghost use Rattle.lk_sizes.specs.Contents.{AreBrought};
 ghost use Rattle.lk_sizes.specs.Owners.{part_size};
 ghost use Rattle.lk_layout.specs.Carried.{IsCarried};
-ghost use Rattle.lk_layout.specs.Defined.{Gives, IsCarriedAnswer, IsLiveAnswer, IsPlacedAnswer, WithMemory, starts_of};
+ghost use Rattle.lk_layout.specs.Defined.{Gives, IsCarriedAnswer, IsLiveAnswer, IsPlacedAnswer, WithMemory};
 
+use crate::addresses::addresses_of;
 use crate::arch::Arch;
 use crate::carried::first_uncarried;
 use crate::error::LayoutError;
 use crate::layout::Layout;
+use crate::resolution::entry_symbol;
 use lk_check::check_link;
 use lk_gc::{Live, traverse_alone};
 use lk_link::gate::Gate;
@@ -27,13 +29,12 @@ use lk_link::link::LinkInput;
 use lk_link::list::List;
 use lk_link::platform::Platform;
 use lk_place::laws::parts_take_their_bytes;
-use lk_place::{OutputRecordLayout, Placed, compute_layout_sections, compute_segment_layout};
+use lk_place::{Placed, compute_layout_sections, compute_segment_layout};
 use lk_sizes::laws::first_sizes_are_sizes;
 use lk_sizes::{
-    PartContents, determine_header_sizes, live_sections, part_contents, part_sizes,
-    propagate_section_attributes,
+    PartContents, determine_header_sizes, part_contents, part_sizes, propagate_section_attributes,
 };
-use std::alloc::{AllocError, Global};
+use std::alloc::Global;
 use std::sync::Wait;
 use std::thread::Threads;
 
@@ -100,6 +101,7 @@ fn lay_out_placed(
     placed: Placed,
 ) -> Result<Layout, LayoutError>
     requires good { IsWellFormed link.now }
+    requires carried { IsCarried link.now }
     requires live { AreLive link.now live.now }
     requires brought { AreBrought link.now live.now contents.now sizes.now }
     requires sections { placed.sections ≡ section_records link.now.plan.sections placed.parts }
@@ -116,31 +118,17 @@ fn lay_out_placed(
         headers.active_segment_ids.as_slice(),
     )?;
     let attributes = propagate_section_attributes(alloc, link, contents)?;
-    let starts = starts_of(alloc, placed.parts.as_slice())?;
-    let live = live_sections(alloc, link, live, starts)?;
+    let addresses = addresses_of(alloc, link, live, placed.parts.as_slice())?;
     Ok(Layout {
         section_layouts: placed.sections,
         section_part_layouts: placed.parts,
         section_attributes: List::from_vec(attributes),
         output_section_indexes: headers.output_section_indexes,
         segment_layouts: List::from_vec(segments),
-        live_sections: List::from_vec(live),
+        live_sections: List::from_vec(addresses.sections),
+        symbol_resolutions: List::from_vec(addresses.resolutions),
+        entry_symbol_id: entry_symbol(link),
     })
-}
-
-/// Where parts with these records start in memory.
-fn starts_of(alloc: Global, parts: &[OutputRecordLayout]) -> Result<Vec<u64>, AllocError>
-    ensures value { IfOk result (λ starts. starts.items ≡ starts_of parts.now) }
-    ensures fit { IfOk result (λ starts. (p : ℕ) → p < length parts.now
-        → slice_index starts.items p + (record_at parts.now p).mem_size < 2 ^ 64) }
-{
-    let mut starts = Vec::with_capacity(alloc, parts.len())?;
-    for part in parts {
-        // Its contract says that the part ends below 2^64, for the addresses inside.
-        let _end = part.mem_end();
-        starts.push(part.mem_offset)?;
-    }
-    Ok(starts)
 }
 
 /// The layout of a link: the defined answer, unless memory runs out (libwild: `layout::compute`). With 0 or 1 workers it

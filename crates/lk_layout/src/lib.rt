@@ -1,6 +1,7 @@
 //! Lays out a link: which input sections are kept, and the address and file range of every part, section and segment.
 #![tactic(auto)]
 
+mod addresses;
 pub mod arch;
 pub mod carried;
 pub mod compute;
@@ -14,5 +15,6 @@ pub use crate::arch::{Arch, Small64Arch};
 pub use crate::carried::first_uncarried;
 pub use crate::error::{LayoutError, Uncarried};
 pub use crate::layout::Layout;
+pub use crate::resolution::{EntryFault, Resolution};
 pub use lk_gc::ReferenceFault;
 pub use lk_sizes::LiveSection;

@@ -4,13 +4,18 @@
 //! file, gives each that stands for itself and is asked for its value: a place in a section is the section's address and the
 //! offset there, a number stays, and what is defined nowhere is 0. A symbol takes constant time.
 
-ghost use Rattle.std.specs.Prelude.{◌≡◌, ◌+◌, ◌<◌, ◌^◌, ◌++◌, ℕ, IfOk, OnOk, Some, if◌then◌else◌, map, length, slice_get};
-ghost use Rattle.std.specs.List.{enumerate_from, slice_index_or};
-ghost use Rattle.lk_layout.specs.Resolutions.{entry_value, placed_value, resolution_of};
-ghost use Rattle.lk_layout.specs.Spread.{spread};
+ghost use Rattle.std.specs.Prelude.{◌≡◌, ◌+◌, ◌<◌, ◌^◌, ◌++◌, ℕ, All, IfOk, OnOk, Some, None, true, if◌then◌else◌, map, length, slice_get};
+ghost use Rattle.std.specs.List.{enumerate_from, flat_map, slice_index_or};
+ghost use Rattle.lk_link.specs.Files.{file_in};
+ghost use Rattle.lk_link.specs.Inputs.{numbered_files};
+ghost use Rattle.lk_link.specs.Marks.{is_marked};
+ghost use Rattle.lk_link.specs.Walks.{file_of};
+ghost use Rattle.lk_link.specs.WellFormed.{IsWellFormed};
+ghost use Rattle.lk_layout.specs.Resolutions.{entry_symbol, entry_value, file_resolutions, resolution_at, resolution_of, symbol_value};
+ghost use Rattle.lk_layout.specs.Spread.{HasRoom, HaveRoom, place_in, spread};
 
-use lk_gc::Live;
-use lk_link::{InputSymbol, SymbolPlacement, ValueFlags};
+use lk_link::marks::is_marked;
+use lk_link::{FileRef, InputSymbol, LinkInput, SymbolId, SymbolPlacement, ValueFlags};
 use lk_sizes::LiveSection;
 use std::alloc::{AllocError, Global};
 
@@ -43,8 +48,28 @@ pub(crate) fn entry_value(resolution: Option<Resolution>) -> Result<Option<u64>,
     Ok(Some(resolution.raw_value))
 }
 
+/// The symbol that stands for the entry, if the options name one.
+pub(crate) fn entry_symbol(link: &LinkInput) -> Option<SymbolId>
+    ensures { result ≡ entry_symbol link.now }
+{
+    link.groups.definition(link.options.entry?)
+}
+
+/// The resolution of a symbol, by its number, if it has one.
+pub(crate) fn resolution_at(
+    resolutions: &[Option<Resolution>],
+    symbol: SymbolId,
+) -> Option<Resolution>
+    ensures { result ≡ resolution_at resolutions.now symbol }
+{
+    match resolutions.get(symbol.as_usize()) {
+        Some(resolution) => *resolution,
+        None => None,
+    }
+}
+
 /// For each input section, by its number, its address where it is live; else 0. `sections` are the live ones.
-fn input_addresses(
+pub(crate) fn input_addresses(
     alloc: Global,
     marks: &[bool],
     sections: &[LiveSection],
@@ -72,35 +97,111 @@ fn told_address(sections: &[LiveSection], number: usize, is_live: bool) -> u64
     }
 }
 
-/// The value of an object's symbol, by the addresses of input sections and the number of the object's first one.
-fn placed_value(addresses: &[u64], first: usize, at: &SymbolPlacement) -> u64
-    requires few { (i offset : ℕ) → at.now ≡ SymbolPlacement.Section i offset → first + i < 2 ^ 64 }
-    requires fits { placed_value (λ k. slice_index_or addresses.now k 0) first at.now < 2 ^ 64 }
-    ensures { result ≡ placed_value (λ k. slice_index_or addresses.now k 0) first at.now }
+/// What is known by number.
+#[derive(Clone, Copy)]
+pub(crate) struct Tables<'a> {
+    /// Of each input section whether it is live.
+    pub(crate) marks: &'a [bool],
+    /// Of each live one its address.
+    pub(crate) addresses: &'a [u64],
+    /// Of each symbol its flags.
+    pub(crate) flags: &'a [ValueFlags],
+}
+
+/// For each symbol of a link its resolution, if it has one.
+pub(crate) fn resolve_all(
+    alloc: Global,
+    link: &LinkInput,
+    tables: Tables<'_>,
+) -> Result<Vec<Option<Resolution>>, AllocError>
+    requires good { IsWellFormed link.now }
+    requires room { HaveRoom tables.marks.now tables.addresses.now link.now.groups }
+    ensures { IfOk result (λ resolutions. resolutions.items
+        ≡ flat_map (file_resolutions (place_in tables.entry.marks.now tables.entry.addresses.now) tables.entry.flags.now link.now.groups)
+        (numbered_files link.now.groups)) }
 {
-    match at {
-        SymbolPlacement::Section { index, offset } => {
-            let address = addresses.get(first + *index as usize).copied().unwrap_or(0);
-            address + *offset
-        }
-        SymbolPlacement::Absolute(value) => *value,
-        _ => 0,
+    let mut resolutions = Vec::with_capacity(alloc, link.groups.symbol_count() as usize)?;
+    for file in link.groups.files() {
+        push_file_resolutions(&mut resolutions, link, tables, file)?;
     }
+    Ok(resolutions)
+}
+
+/// Adds for each symbol of a file its resolution, if it has one.
+fn push_file_resolutions(
+    resolutions: &mut Vec<Option<Resolution>>,
+    link: &LinkInput,
+    tables: Tables<'_>,
+    file: FileRef<'_>,
+) -> Result<(), AllocError>
+    requires good { IsWellFormed link.now }
+    requires there { file_in link.now.groups file.id ≡ Some file.file.now }
+    requires room { HaveRoom tables.marks.now tables.addresses.now link.now.groups }
+    ensures { OnOk result (resolutions.new.items ≡ resolutions.old.items
+        ++ file_resolutions (place_in tables.entry.marks.now tables.entry.addresses.now) tables.entry.flags.now link.now.groups (file_of file.entry)) }
+{
+    let symbols = file.file.symbols.as_slice();
+    if !file.file.kind.is_object() {
+        return push_unresolved(resolutions, symbols);
+    }
+    if let Some(first) = link.groups.input_start(file.id) {
+        if let Some(numbers) = link.groups.symbol_id_range(file.id) {
+            let number = numbers.start().as_u32();
+            push_resolutions(resolutions, tables, first, number, symbols)?;
+        }
+    }
+    Ok(())
+}
+
+/// Adds for each of some symbols that it has no resolution.
+fn push_unresolved(
+    resolutions: &mut Vec<Option<Resolution>>,
+    symbols: &[InputSymbol],
+) -> Result<(), AllocError>
+    ensures { OnOk result (resolutions.new.items ≡ resolutions.old.items ++ map (λ _. None) symbols.now) }
+{
+    for _symbol in symbols {
+        resolutions.push(None)?;
+    }
+    Ok(())
+}
+
+/// Adds for each symbol of an object its resolution, if it has one. `first` is the number of the object's first input section,
+/// `number` that of its first symbol.
+fn push_resolutions(
+    resolutions: &mut Vec<Option<Resolution>>,
+    tables: Tables<'_>,
+    first: usize,
+    number: u32,
+    symbols: &[InputSymbol],
+) -> Result<(), AllocError>
+    requires few { first < 2 ^ 32 }
+    requires numbers { number + length symbols.now < 2 ^ 32 }
+    requires room { All (λ x. HasRoom tables.marks.now tables.addresses.now first x.at) symbols.now }
+    ensures { OnOk result (resolutions.new.items ≡ resolutions.old.items
+        ++ map (resolution_of (place_in tables.entry.marks.now tables.entry.addresses.now) tables.entry.flags.now first)
+        (enumerate_from number symbols.now)) }
+{
+    let mut next = number;
+    for symbol in symbols {
+        resolutions.push(resolve(tables, first, next, symbol))?;
+        next += 1;
+    }
+    Ok(())
 }
 
 /// The resolution of an object's symbol with this number, if it has one.
 fn resolve(
-    addresses: &[u64],
-    flags: &[ValueFlags],
+    tables: Tables<'_>,
     first: usize,
     number: u32,
     symbol: &InputSymbol,
 ) -> Option<Resolution>
-    requires few { (i offset : ℕ) → symbol.now.at ≡ SymbolPlacement.Section i offset → first + i < 2 ^ 64 }
-    requires fits { placed_value (λ k. slice_index_or addresses.now k 0) first symbol.now.at < 2 ^ 64 }
-    ensures { result ≡ resolution_of (λ k. slice_index_or addresses.now k 0) flags.now first (number, symbol.now) }
+    requires few { first < 2 ^ 32 }
+    requires room { HasRoom tables.marks.now tables.addresses.now first symbol.now.at }
+    ensures { result ≡ resolution_of (place_in tables.entry.marks.now tables.entry.addresses.now) tables.entry.flags.now first (number, symbol.now) }
 {
-    let flags = flags.get(number as usize).copied()?;
+    let flags = tables.flags.get(number as usize).copied()?;
     let is_definition = match symbol.def {
         Some(definition) => definition.as_u32() == number,
         None => true,
@@ -108,6 +209,33 @@ fn resolve(
     if !is_definition || !flags.has_resolution() {
         return None;
     }
-    let raw_value = placed_value(addresses, first, &symbol.at);
+    let raw_value = symbol_value(tables, first, symbol);
     Some(Resolution { raw_value, flags })
+}
+
+/// The value of an object's symbol.
+fn symbol_value(tables: Tables<'_>, first: usize, symbol: &InputSymbol) -> u64
+    requires few { first < 2 ^ 32 }
+    requires room { HasRoom tables.marks.now tables.addresses.now first symbol.now.at }
+    ensures { result ≡ symbol_value (place_in tables.entry.marks.now tables.entry.addresses.now) first symbol.now }
+{
+    match &symbol.at {
+        SymbolPlacement::Section { index, offset } => {
+            address_at(tables, first + *index as usize, *offset).unwrap_or(0)
+        }
+        SymbolPlacement::Absolute(value) => *value,
+        _ => 0,
+    }
+}
+
+/// The address at an offset of an input section, by its number; none where the section isn't live.
+fn address_at(tables: Tables<'_>, number: usize, offset: u64) -> Option<u64>
+    requires room { is_marked tables.marks.now number ≡ true → slice_index_or tables.addresses.now number 0 + offset < 2 ^ 64 }
+    ensures { result ≡ place_in tables.entry.marks.now tables.entry.addresses.now number offset }
+{
+    if !is_marked(tables.marks, number) {
+        return None;
+    }
+    let address = tables.addresses.get(number).copied().unwrap_or(0);
+    Some(address + offset)
 }

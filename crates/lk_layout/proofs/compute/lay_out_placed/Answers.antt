@@ -12,6 +12,7 @@ use Rattle.lk_sizes.specs.declared.header.HeaderInfo.{HeaderInfo}
 use Rattle.lk_sizes.specs.Emitted.{active_segments, is_emitted}
 use Rattle.lk_sizes.specs.LiveSections.{live_sections}
 use Rattle.lk_layout.specs.Defined.{starts_of}
+use Rattle.lk_layout.specs.Resolutions.{symbol_resolutions}
 use Rattle.lk_layout.proofs.Answering.{same_layout, told}
 use Rattle.lk_link.specs.Marks.{is_marked}
 
@@ -37,20 +38,6 @@ compute_segment_layout-requires-clause-there c =
     let There : List ℕ → Type 0 = All (λ i. i < length link.plan.segments) in
     subst There (sym active) (active_there link live)
 
-pub live_sections-requires-clause-starts : goal.live_sections-requires-clause-starts
-live_sections-requires-clause-starts c =
-    ap length c.in_ok-starts.ensures.value ∙ length-map c.as_slice-4.result.now (λ (r : Record). r.mem_offset) ∙ ap length c.as_slice-4.ensures ∙ c.requires.each
-
-pub live_sections-requires-clause-fit : goal.live_sections-requires-clause-fit
-live_sections-requires-clause-fit c = λ p below.
-    let link = c.args.link.now in
-    let read : List Record = c.as_slice-4.result.now in
-    let parts : read ≡ c.args.placed.parts = c.as_slice-4.ensures in
-    let count : length c.in_ok-starts.starts.items ≡ length read = ap length c.in_ok-starts.ensures.value ∙ length-map read (λ (r : Record). r.mem_offset) in
-    let mass : (record_at read p).mem_size ≡ part_size link c.args.live.now p
-    = ap (λ (rs : List Record). (record_at rs p).mem_size) parts ∙ c.requires.takes p (omega (arith, below, count, ap length parts)) in
-    omega (arith, c.in_ok-starts.ensures.fit p (omega (arith, below, count)), mass)
-
 pub returns : goal.returns
 returns c =
     let link = c.args.link.now in
@@ -61,10 +48,12 @@ returns c =
     let marks : is_marked c.as_slice-2.result.now ≡ is_emitted link live
     = ap is_marked c.as_slice-2.ensures ∙ c.in_ok-headers.ensures.marks live c.requires.brought in
     let active : c.as_slice-3.result.now ≡ active_segments link live = c.as_slice-3.ensures ∙ ap (λ (h : HeaderInfo). h.active_segment_ids) headers in
-    let starts : c.in_ok-starts.starts.items ≡ starts_of records = c.in_ok-starts.ensures.value ∙ ap starts_of c.as_slice-4.ensures in
+    let read : c.as_slice-4.result.now ≡ records = c.as_slice-4.ensures in
     told link live records _ (rw (sections, marks) at c.in_ok-segments.ensures.inside)
-    (same_layout _ _ records _ _ _ _ _ _ _ _ c.requires.sections
+    (same_layout _ _ records _ _ _ _ _ _ _ _ _ _ _ _ c.requires.sections
     (c.from_vec.ensures ∙ c.in_ok-attributes.ensures live c.requires.brought.contents)
     (ap (λ (h : HeaderInfo). h.output_section_indexes) headers)
     (c.from_vec-2.ensures ∙ (rw (sections, marks, active) at c.in_ok-segments.ensures.layouts))
-    (c.from_vec-3.ensures ∙ c.in_ok-live.ensures ∙ ap (live_sections link live) starts))
+    (c.from_vec-3.ensures ∙ c.in_ok-addresses.ensures.sections ∙ ap (λ (rs : List Record). live_sections link live (starts_of rs)) read)
+    (c.from_vec-4.ensures ∙ c.in_ok-addresses.ensures.resolutions ∙ ap (λ (rs : List Record). symbol_resolutions link live (starts_of rs)) read)
+    c.entry_symbol.ensures)

@@ -1,0 +1,194 @@
+-- Places in live input sections: their addresses by a table, and the room behind them.
+use Rattle.std.proofs.Common.{◌≡◌, ℕ, zero, suc, ◌+◌, ◌<◌, ◌≤◌, ◌^◌, Bool, true, false, cond, List, [], ◌∷◌, ◌++◌, length, map, take, Option, Some, None, refl, sym, ap, subst, ◌∙◌, inl, inr, arith, get_or}
+use Rattle.std.specs.Prelude.{All, if◌then◌else◌, option_map, slice_get}
+use Rattle.std.specs.Int.{next_multiple_of}
+use Rattle.std.specs.List.{flat_map, slice_index, slice_index_or}
+use Rattle.std.proofs.Math.Path.{fun_ext}
+use Rattle.std.proofs.lemmas.Bool.{cases_lt}
+use Rattle.std.proofs.lemmas.List.{get_or_past, length-map}
+use Rattle.std.proofs.lemmas.Option.{slice_get-get_or}
+use Rattle.lk_link.specs.declared.file.InputFile.{InputFile}
+use Rattle.lk_link.specs.declared.flags.ValueFlags.{ValueFlags}
+use Rattle.lk_link.specs.declared.ids.FileId.{FileId}
+use Rattle.lk_link.specs.declared.link.LinkInput.{LinkInput}
+use Rattle.lk_link.specs.declared.plan.PlanPart.{PlanPart}
+use Rattle.lk_link.specs.declared.symbol.InputSymbol.{InputSymbol}
+use Rattle.lk_link.specs.declared.symbol.SymbolPlacement.{SymbolPlacement}
+use Rattle.lk_link.specs.declared.symbol.SymbolPlacement.TheVariants as at
+use Rattle.lk_link.specs.Files.{file_in}
+use Rattle.lk_link.specs.Inputs.{Input, all_inputs, first_input, numbered_files}
+use Rattle.lk_link.specs.Marks.{is_marked}
+use Rattle.lk_link.specs.Parts.{all_parts, part_at}
+use Rattle.lk_link.specs.Sizes.{capacity}
+use Rattle.lk_link.specs.SymbolRules.{IsPlacementThere}
+use Rattle.lk_link.specs.WellFormed.{IsWellFormed}
+use Rattle.lk_link.proofs.Elements.{at_index}
+use Rattle.lk_link.proofs.GoodSymbols.{symbol_of}
+use Rattle.lk_link.proofs.InputLemmas.{inputs_follow}
+use Rattle.lk_gc.specs.declared.live.Live.{Live}
+use Rattle.lk_gc.specs.Reach.{AreLive, live_inputs, marked}
+use Rattle.lk_gc.proofs.LiveWalk.{split_at}
+use Rattle.lk_place.specs.Records.{Record, record_at}
+use Rattle.lk_sizes.specs.declared.addresses.LiveSection.{LiveSection}
+use Rattle.lk_sizes.specs.LiveSections.{live_section, live_sections}
+use Rattle.lk_sizes.specs.Owners.{EndsFit, live_address, part_size}
+use Rattle.lk_sizes.proofs.Adding.{bytes_into, bytes_into-append, bytes_into_here}
+use Rattle.lk_sizes.proofs.Addressing.{address_behind}
+use Rattle.lk_sizes.proofs.LiveOnes.{live_goes}
+use Rattle.lk_layout.specs.Carried.{IsCarried}
+use Rattle.lk_layout.specs.declared.resolution.Resolution.{Resolution}
+use Rattle.lk_layout.specs.Defined.{starts_of}
+use Rattle.lk_layout.specs.Resolutions.{address_at, file_resolutions, symbol_resolutions}
+use Rattle.lk_layout.specs.Spread.{HasRoom, HaveRoom, place_in, spread}
+use Rattle.lk_layout.proofs.CarriedPlans.{not_merged}
+use Rattle.lk_layout.proofs.Spreading.{spread_at}
+
+-- ---- the table
+
+-- the addresses of live sections, spread over all
+abbrev pub table : LinkInput → Live → List ℕ → List ℕ
+table link live starts = spread (map (λ l. l.address) (live_sections link live starts)) 0 live.marks
+
+told_live : (link : LinkInput) (live : Live) (starts : List ℕ) (xs : List Input)
+    → map (λ (l : LiveSection). l.address) (map (live_section link live starts) xs) ≡ map (live_address link live starts) xs
+told_live link live starts [] = refl
+told_live link live starts (x ∷ xs) = ap (λ ns. live_address link live starts x ∷ ns) (told_live link live starts xs)
+
+-- it has the address of each live one
+table_at : (link : LinkInput) (live : Live) (starts : List ℕ) (k : ℕ) (x : Input) → slice_get (all_inputs link.groups) k ≡ Some x → is_marked live.marks k ≡ true
+    → slice_index_or (table link live starts) k 0 ≡ live_address link live starts x
+table_at link live starts k x there set =
+    spread_at (live_address link live starts) (map (λ (l : LiveSection). l.address) (live_sections link live starts)) 0 live.marks (all_inputs link.groups) k x
+    (told_live link live starts (live_inputs link live)) there set
+
+-- what is marked is there
+marked_there : (link : LinkInput) (live : Live) (k : ℕ) → AreLive link live → is_marked live.marks k ≡ true → (x : Input) × (slice_get (all_inputs link.groups) k ≡ Some x)
+marked_there link live k are set =
+    elim (cases_lt k (length live.marks)) [
+      | inl below ↦ at_index (all_inputs link.groups) k (omega (arith, are.count, below))
+      | inr past ↦ absurd (let none : slice_index_or live.marks k false ≡ false = get_or_past live.marks k false past in cc)
+    ]
+
+place_at : (link : LinkInput) (live : Live) (starts : List ℕ) (k offset : ℕ) → AreLive link live → place_in live.marks (table link live starts) k offset ≡ address_at link live starts k offset
+place_at link live starts k offset are =
+    let place : Input → ℕ = λ x. live_address link live starts x + offset in
+    elim (is_marked live.marks k) as (λ b. is_marked live.marks k ≡ b → (if b then Some (slice_index_or (table link live starts) k 0 + offset) else None)
+    ≡ (if b then option_map place (slice_get (all_inputs link.groups) k) else None)) [
+      | true ↦ λ set.
+          let x = marked_there link live k are set in
+          ap (λ n. Some (n + offset)) (table_at link live starts k x.0 x.1 set) ∙ ap (option_map place) (sym x.1)
+      | false ↦ λ set. refl
+    ] refl
+
+-- by the table, places are where they are defined to be
+pub places_are : (link : LinkInput) (live : Live) (starts : List ℕ) → AreLive link live → place_in live.marks (table link live starts) ≡ address_at link live starts
+places_are link live starts are = fun_ext (λ k. fun_ext (λ offset. place_at link live starts k offset are))
+
+-- ---- room
+
+marked_in : {X : Type 0} (marks : List Bool) (xs : List X) (k : ℕ) (x : X) → slice_get xs k ≡ Some x → slice_index_or marks k false ≡ true → (j : ℕ) × (slice_get (marked marks xs) j ≡ Some x)
+marked_in [] xs k x there set = absurd (cc)
+marked_in (m ∷ marks) [] k x there set = absurd (cc)
+marked_in (true ∷ marks) (y ∷ xs) zero x there set = (0, there)
+marked_in (true ∷ marks) (y ∷ xs) (suc k) x there set = let r = marked_in marks xs k x there set in (suc r.0, r.1)
+marked_in (false ∷ marks) (y ∷ xs) zero x there set = absurd (cc)
+marked_in (false ∷ marks) (y ∷ xs) (suc k) x there set = marked_in marks xs k x there set
+
+-- no size is above its capacity
+pub size-le : (part : PlanPart) (size : ℕ) → size ≤ capacity part size
+size-le part size =
+    elim part.packed as (λ b. size ≤ cond b size (next_multiple_of size part.alignment)) [
+      | true ↦ omega arith
+      | false ↦ omega arith
+    ]
+
+-- a live section ends below 2^64
+ends : (link : LinkInput) (live : Live) (starts : List ℕ) (front : List Input) (x : Input) (rest : List Input) → live_inputs link live ≡ front ++ x ∷ rest → EndsFit link live starts
+    → x.section.part < length starts → live_address link live starts x + x.section.size < 2 ^ 64
+ends link live starts front x rest all fit within =
+    let p : ℕ = x.section.part in
+    let part : PlanPart = part_at link.plan.sections p in
+    omega (
+      arith,
+      address_behind link live starts front x rest all,
+      fit p within,
+      ap (bytes_into part p) all,
+      bytes_into-append part p front (x ∷ rest),
+      bytes_into-append part p (x ∷ []) rest,
+      bytes_into_here part p x refl,
+      size-le part x.section.size,
+    )
+
+-- a place in one lies there
+record IsSetting (link : LinkInput) (live : Live) (starts : List ℕ) : Type 0 where
+  good : IsWellFormed link
+  carried : IsCarried link
+  are_live : AreLive link live
+  count : length starts ≡ length (all_parts link.plan.sections)
+  fit : EndsFit link live starts
+
+section_room : (link : LinkInput) (live : Live) (starts : List ℕ) (id : FileId) (file : InputFile) (i offset : ℕ) → IsSetting link live starts → file_in link.groups id ≡ Some file
+    → IsPlacementThere link.plan file.sections (at.Section i offset) → HasRoom live.marks (table link live starts) (first_input link.groups id) (at.Section i offset)
+section_room link live starts id file i offset is there h = λ set.
+    let x : Input = record { file = id; index = i; section = h.0 } in
+    let k : ℕ = first_input link.groups id + i in
+    let at_k : slice_get (all_inputs link.groups) k ≡ Some x = inputs_follow.at link.groups id file i h.0 there h.1 in
+    let among = marked_in live.marks (all_inputs link.groups) k x at_k set in
+    let split = split_at (live_inputs link live) among.0 x among.1 in
+    let goes : x.section.part < length (all_parts link.plan.sections) = live_goes link live among.0 x is.good is.are_live among.1 in
+    let end = ends link live starts (take among.0 (live_inputs link live)) x split.0 split.1 is.fit (omega (arith, goes, is.count)) in
+    let inside : offset ≤ x.section.size = h.2 (not_merged link id file i h.0 is.carried there h.1) in
+    omega (arith, table_at link live starts k x at_k set, end, inside)
+
+placement_room : (link : LinkInput) (live : Live) (starts : List ℕ) (id : FileId) (file : InputFile) (p : SymbolPlacement) → IsSetting link live starts → file_in link.groups id ≡ Some file
+    → IsPlacementThere link.plan file.sections p → HasRoom live.marks (table link live starts) (first_input link.groups id) p
+placement_room link live starts id file (at.Section i offset) is there h = section_room link live starts id file i offset is there h
+placement_room link live starts id file (at.Common p n) is there h = tt
+placement_room link live starts id file (at.Absolute n) is there h = tt
+placement_room link live starts id file at.Undef is there h = tt
+placement_room link live starts id file at.Dynamic is there h = tt
+placement_room link live starts id file at.Undefined is there h = tt
+placement_room link live starts id file at.ForceUndefined is there h = tt
+placement_room link live starts id file (at.SectionStart s) is there h = tt
+placement_room link live starts id file (at.SectionEnd s) is there h = tt
+placement_room link live starts id file (at.SectionGroupEnd s) is there h = tt
+placement_room link live starts id file at.TlsEnd is there h = tt
+placement_room link live starts id file at.LoadBaseAddress is there h = tt
+placement_room link live starts id file (at.Redirect e l provide) is there h = tt
+
+-- so do the places of all symbols
+pub have_room : (link : LinkInput) (live : Live) (starts : List ℕ) → IsWellFormed link → IsCarried link → AreLive link live → length starts ≡ length (all_parts link.plan.sections)
+    → EndsFit link live starts → HaveRoom live.marks (table link live starts) link.groups
+have_room link live starts good carried are count fit = λ id file there k d lt.
+    let x : InputSymbol = get_or file.symbols k d in
+    let is : IsSetting link live starts = record { good = good; carried = carried; are_live = are; count = count; fit = fit } in
+    placement_room link live starts id file x.at is there (symbol_of link id k file x good there (slice_get-get_or file.symbols k d lt)).there
+
+-- ---- what a computation of them has
+
+-- parts that take the bytes of their owners, and end below 2^64, have owners that do
+pub ends_fit : (link : LinkInput) (live : Live) (records : List Record) (starts : List ℕ) → starts ≡ starts_of records
+    → ((p : ℕ) → p < length records → slice_index starts p + (record_at records p).mem_size < 2 ^ 64)
+    → ((p : ℕ) → p < length records → (record_at records p).mem_size ≡ part_size link live p) → EndsFit link live starts
+ends_fit link live records starts is fit takes p below =
+    let within : p < length records = omega (arith, below, ap length is, length-map records (λ (r : Record). r.mem_offset)) in
+    omega (arith, fit p within, takes p within)
+
+pub starts_count : (link : LinkInput) (records : List Record) (starts : List ℕ) → starts ≡ starts_of records → length records ≡ length (all_parts link.plan.sections)
+    → length starts ≡ length (all_parts link.plan.sections)
+starts_count link records starts is each = ap length is ∙ length-map records (λ (r : Record). r.mem_offset) ∙ each
+
+-- the same room by tables that are read
+pub room_by : (marks read : List Bool) (addresses table : List ℕ) (groups : List (List InputFile)) → read ≡ marks → table ≡ addresses → HaveRoom marks addresses groups → HaveRoom read table groups
+room_by marks read addresses table groups is_marks is_table h =
+    subst (λ (ms : List Bool). HaveRoom ms table groups) (sym is_marks) (subst (λ (ns : List ℕ). HaveRoom marks ns groups) (sym is_table) h)
+
+-- and the same resolutions
+pub resolutions_by : (link : LinkInput) (live : Live) (starts wanted : List ℕ) (marks : List Bool) (addresses : List ℕ) (flags : List ValueFlags) (items : List (Option Resolution)) → AreLive link live
+    → marks ≡ live.marks → addresses ≡ table link live starts → flags ≡ live.flags → starts ≡ wanted
+    → items ≡ flat_map (file_resolutions (place_in marks addresses) flags link.groups) (numbered_files link.groups) → items ≡ symbol_resolutions link live wanted
+resolutions_by link live starts wanted marks addresses flags items are is_marks is_table is_flags is_starts made =
+    let all : (ℕ → ℕ → Option ℕ) → List ValueFlags → List (Option Resolution) = λ place fs. flat_map (file_resolutions place fs link.groups) (numbered_files link.groups) in
+    let place : place_in marks addresses ≡ address_at link live wanted
+    = ap (λ (ms : List Bool). place_in ms addresses) is_marks ∙ ap (place_in live.marks) is_table ∙ places_are link live starts are ∙ ap (address_at link live) is_starts in
+    made ∙ ap (λ at. all at flags) place ∙ ap (all (address_at link live wanted)) is_flags

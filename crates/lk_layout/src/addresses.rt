@@ -1,0 +1,75 @@
+//! What has an address in the output: live sections, and symbols.
+
+ghost use Rattle.std.specs.Prelude.{◌≡◌, ◌+◌, ◌<◌, ◌^◌, ℕ, IfOk, length, slice_index};
+ghost use Rattle.lk_gc.specs.Reach.{AreLive};
+ghost use Rattle.lk_link.specs.Parts.{all_parts};
+ghost use Rattle.lk_link.specs.WellFormed.{IsWellFormed};
+ghost use Rattle.lk_place.specs.Records.{record_at};
+ghost use Rattle.lk_sizes.specs.LiveSections.{live_sections};
+ghost use Rattle.lk_sizes.specs.Owners.{part_size};
+ghost use Rattle.lk_layout.specs.Carried.{IsCarried};
+ghost use Rattle.lk_layout.specs.Defined.{starts_of};
+ghost use Rattle.lk_layout.specs.Resolutions.{symbol_resolutions};
+
+use crate::resolution::{Resolution, Tables, input_addresses, resolve_all};
+use lk_gc::Live;
+use lk_link::LinkInput;
+use lk_place::OutputRecordLayout;
+use lk_sizes::{LiveSection, live_sections};
+use std::alloc::{AllocError, Global};
+
+/// The addresses of a layout.
+#[derive(Drop)]
+pub(crate) struct Addresses {
+    /// Of each live section, by file and index.
+    pub(crate) sections: Vec<LiveSection>,
+    /// Of each symbol, by number, what it stands for; none where it has no resolution.
+    pub(crate) resolutions: Vec<Option<Resolution>>,
+}
+
+/// The addresses of live sections and what symbols stand for, by the records of all parts. Looks at each input section and each
+/// symbol once.
+pub(crate) fn addresses_of(
+    alloc: Global,
+    link: &LinkInput,
+    live: &Live,
+    parts: &[OutputRecordLayout],
+) -> Result<Addresses, AllocError>
+    requires good { IsWellFormed link.now }
+    requires carried { IsCarried link.now }
+    requires live { AreLive link.now live.now }
+    requires each { length parts.now ≡ length (all_parts link.now.plan.sections) }
+    requires takes { (p : ℕ) → p < length parts.now → (record_at parts.now p).mem_size ≡ part_size link.now live.now p }
+    ensures sections { IfOk result (λ told. told.sections.items ≡ live_sections link.now live.now (starts_of parts.now)) }
+    ensures resolutions { IfOk result (λ told. told.resolutions.items ≡ symbol_resolutions link.now live.now (starts_of parts.now)) }
+{
+    let starts = starts_of(alloc, parts)?;
+    let sections = live_sections(alloc, link, live, starts)?;
+    let marks = live.marks.as_slice();
+    let addresses = input_addresses(alloc, marks, sections.as_slice())?;
+    let tables = Tables {
+        marks,
+        addresses: addresses.as_slice(),
+        flags: live.flags.as_slice(),
+    };
+    let resolutions = resolve_all(alloc, link, tables)?;
+    Ok(Addresses {
+        sections,
+        resolutions,
+    })
+}
+
+/// Where parts with these records start in memory.
+fn starts_of(alloc: Global, parts: &[OutputRecordLayout]) -> Result<Vec<u64>, AllocError>
+    ensures value { IfOk result (λ starts. starts.items ≡ starts_of parts.now) }
+    ensures fit { IfOk result (λ starts. (p : ℕ) → p < length parts.now
+        → slice_index starts.items p + (record_at parts.now p).mem_size < 2 ^ 64) }
+{
+    let mut starts = Vec::with_capacity(alloc, parts.len())?;
+    for part in parts {
+        // Its contract says that the part ends below 2^64, for the addresses inside.
+        let _end = part.mem_end();
+        starts.push(part.mem_offset)?;
+    }
+    Ok(starts)
+}
