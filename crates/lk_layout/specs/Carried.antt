@@ -8,7 +8,7 @@ use Rattle.lk_link.specs.declared.plan.PlanSection.{PlanSection}
 use Rattle.lk_link.specs.declared.plan.attributes.TheConstants.{TLS}
 use Rattle.lk_link.specs.Expressions.{as_number}
 use Rattle.lk_link.specs.FileKinds.{is_internal, is_object, is_prelude}
-use Rattle.lk_link.specs.InputSlots.{is_debug, is_merge, is_must}
+use Rattle.lk_link.specs.InputSlots.{is_debug, is_merge}
 use Rattle.lk_link.specs.OutputKinds.{is_loaded_dynamically, is_partial}
 use Rattle.lk_link.specs.PartRules.{names_table}
 use Rattle.lk_link.specs.PlanSections.{is_set}
@@ -51,7 +51,6 @@ file_has uncarried.File f = not (is_prelude f.kind || is_object f.kind)
 file_has uncarried.Table f = list_any (λ s. list_any (λ r. wants_entry r.kind) s.relocs) f.sections
 file_has uncarried.Sorted f = list_any (λ s. s.sorted) f.sections
 file_has uncarried.Symbol f = is_internal f.kind && has_symbols f
-file_has uncarried.Reach f = (is_object f.kind && has_symbols f) || list_any (λ s. not (is_must s.slot)) f.sections
 file_has _ f = false
 
 -- the description has it
@@ -68,7 +67,7 @@ has link what = any_file (file_has what) link
 abbrev pub all_uncarried : List Uncarried
 all_uncarried =
     uncarried.Merge ∷ uncarried.Slot ∷ uncarried.Common ∷ uncarried.File ∷ uncarried.Output ∷ uncarried.Table ∷ uncarried.Plan
-    ∷ uncarried.Partial ∷ uncarried.Sorted ∷ uncarried.Primary ∷ uncarried.Relax ∷ uncarried.Symbol ∷ uncarried.Reach ∷ []
+    ∷ uncarried.Partial ∷ uncarried.Sorted ∷ uncarried.Primary ∷ uncarried.Relax ∷ uncarried.Symbol ∷ []
 
 -- what is found first
 unfoldable pub first_uncarried : LinkInput → Option Uncarried

@@ -25,7 +25,6 @@ uncarried_text uncarried.Sorted = codes "sorted"
 uncarried_text uncarried.Primary = codes "primary"
 uncarried_text uncarried.Relax = codes "relax"
 uncarried_text uncarried.Symbol = codes "symbol"
-uncarried_text uncarried.Reach = codes "reach"
 
 -- references that can't be met, each on a line of its own behind another line
 abbrev pub further_lines : List ReferenceFault → List ℕ

@@ -3,9 +3,9 @@
 //! Each thing is looked for by itself, in a fixed order, so that a description with several of them is always told by the
 //! same one. What comes later takes a line away here.
 
-ghost use Rattle.std.specs.Prelude.{◌≡◌, ◌||◌, not, is_some};
+ghost use Rattle.std.specs.Prelude.{◌≡◌, ◌||◌, is_some};
 ghost use Rattle.std.specs.List.{list_any};
-ghost use Rattle.lk_link.specs.InputSlots.{is_debug, is_merge, is_must};
+ghost use Rattle.lk_link.specs.InputSlots.{is_debug, is_merge};
 ghost use Rattle.lk_link.specs.OutputKinds.{is_loaded_dynamically, is_partial};
 ghost use Rattle.lk_link.specs.PartRules.{names_table};
 ghost use Rattle.lk_link.specs.Relocations.{wants_entry};
@@ -21,7 +21,7 @@ use lk_link::plan::{OrderEvent, Plan, PlanSection, PlanSegment, attributes};
 use lk_link::section::InputSection;
 
 /// What is looked for, in this order.
-const ALL_UNCARRIED: [Uncarried; 13] = [
+const ALL_UNCARRIED: [Uncarried; 12] = [
     Uncarried::Merge,
     Uncarried::Slot,
     Uncarried::Common,
@@ -34,7 +34,6 @@ const ALL_UNCARRIED: [Uncarried; 13] = [
     Uncarried::Primary,
     Uncarried::Relax,
     Uncarried::Symbol,
-    Uncarried::Reach,
 ];
 
 /// The first thing that the description has and that isn't laid out yet; none where all is.
@@ -130,9 +129,6 @@ fn file_has(file: &InputFile, what: Uncarried) -> bool
         Uncarried::Table => has_entry(file),
         Uncarried::Sorted => has_sorted(file),
         Uncarried::Symbol => file.kind.is_internal() && !file.symbols.is_empty(),
-        Uncarried::Reach => {
-            (file.kind.is_object() && !file.symbols.is_empty()) || has_not_kept(file)
-        }
         _ => false,
     }
 }
@@ -191,14 +187,4 @@ fn has_sorted(file: &InputFile) -> bool
         .as_slice()
         .iter()
         .any(|section| section.sorted)
-}
-
-/// Whether a section isn't kept in any case.
-fn has_not_kept(file: &InputFile) -> bool
-    ensures { result ≡ list_any (λ s. not (is_must s.slot)) file.now.sections }
-{
-    file.sections
-        .as_slice()
-        .iter()
-        .any(|section| !section.slot.is_must())
 }

@@ -41,8 +41,6 @@ pub enum Uncarried {
     Relax,
     /// A symbol of the prelude, of a synthetic file or of a script.
     Symbol,
-    /// A symbol of an object, or a section that isn't kept in any case.
-    Reach,
 }
 
 /// Why a link isn't laid out: the first refusal, in the order in which they are looked for, or want of memory
@@ -94,7 +92,6 @@ impl Uncarried {
             Uncarried::Primary => "primary",
             Uncarried::Relax => "relax",
             Uncarried::Symbol => "symbol",
-            Uncarried::Reach => "reach",
         }
     }
 }
