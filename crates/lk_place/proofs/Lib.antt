@@ -4,6 +4,7 @@ mod Checked
 mod Computing
 mod CongruenceLaws
 mod Congruent
+mod Evaluations
 mod InsideLaws
 mod Insides
 mod KeptAlignments

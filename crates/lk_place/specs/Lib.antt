@@ -1,5 +1,9 @@
 pub mod Alignments
 pub mod Answers
+pub mod Evaluation
+pub mod ExpressionTexts
+pub mod Expressions
+pub mod KnownThen
 pub mod Laws
 pub mod Placement
 pub mod PlacementLaws
@@ -11,4 +15,5 @@ pub mod Records
 pub mod Segments
 pub mod Setting
 pub mod Spans
+pub mod Surroundings
 pub mod Walk

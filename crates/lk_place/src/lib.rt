@@ -4,6 +4,7 @@
 pub mod alignments;
 pub mod cursors;
 pub mod error;
+pub mod expressions;
 pub mod hulls;
 pub mod laws;
 mod placement;
@@ -15,6 +16,10 @@ pub mod walk;
 pub use crate::alignments::compute_segment_alignments;
 pub use crate::cursors::Cursors;
 pub use crate::error::{PlaceError, Refusal};
+pub use crate::expressions::{
+    NoValue, SymbolPosition, SymbolPositions, evaluate_const, evaluate_early_expression,
+    evaluate_expression,
+};
 pub use crate::hulls::layout_section_from_part_layouts;
 pub use crate::plain::is_plain;
 pub use crate::record::OutputRecordLayout;

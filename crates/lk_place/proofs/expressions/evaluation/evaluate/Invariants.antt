@@ -1,0 +1,11 @@
+use Rattle.std.proofs.Common.{◌≡◌, drop, length}
+use Rattle.lk_place.specs.Evaluation.{HaveRoom, run}
+use Rattle.lk_place.specs.Expressions.{expression_value}
+use Rattle.lk_place.proofs.expressions.evaluation.evaluate.Given as goal
+
+-- what is left finds room, and gives the value of the whole
+abbrev pub invariant-loop-token : goal.invariant-loop-token
+invariant-loop-token g l =
+    HaveRoom (drop l.token-index l.tokens) (length l.stack)
+    × (run (g.S.Surroundings.worth l.surroundings) (drop l.token-index l.tokens) l.stack
+    ≡ expression_value (g.S.Surroundings.worth l.surroundings) l.expression)
