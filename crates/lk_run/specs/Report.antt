@@ -1,6 +1,6 @@
 -- The report: the lines that tell where everything of a link stands.
 use Rattle.std.specs.Prelude.{ℕ, suc, ◌+◌, ◌==◌, ◌&&◌, ◌||◌, not, nat_lt, Bool, false, if◌then◌else◌, List, [], ◌∷◌, ◌++◌, Option, Some}
-use Rattle.std.specs.Prelude.{None, codes, slice_get, slice_range}
+use Rattle.std.specs.Prelude.{None, Result, Ok, Err, codes, slice_get, slice_range}
 use Rattle.std.specs.List.{list_any}
 use Rattle.std.specs.Fmt.{decimal, digits}
 use Rattle.lk_link.specs.declared.link.LinkInput.{LinkInput}
@@ -8,6 +8,10 @@ use Rattle.lk_link.specs.declared.plan.PlanSection.{PlanSection}
 use Rattle.lk_link.specs.Parts.{first_part}
 use Rattle.lk_link.specs.Texts.{joined}
 use Rattle.lk_layout.specs.declared.layout.Layout.{Layout}
+use Rattle.lk_layout.specs.declared.resolution.EntryFault.{EntryFault}
+use Rattle.lk_layout.specs.declared.resolution.EntryFault.TheVariants.{NotAnAddress, NotLoaded}
+use Rattle.lk_layout.specs.declared.resolution.Resolution.{Resolution}
+use Rattle.lk_layout.specs.Layouts.{resolved_entry}
 use Rattle.lk_sizes.specs.declared.addresses.LiveSection.{LiveSection}
 use Rattle.lk_place.specs.declared.segments.SegmentLayout.{SegmentLayout}
 use Rattle.lk_place.specs.Records.{Record}
@@ -17,6 +21,11 @@ use Rattle.lk_place.specs.Records.{Record}
 -- a number behind `0x`
 abbrev pub hexadecimal : ℕ → List ℕ
 hexadecimal n = digits 16 false n
+
+-- an address behind `0x`, or `-` where there is none
+abbrev pub address_text : Option ℕ → List ℕ
+address_text None = codes "-"
+address_text (Some address) = codes "0x" ++ hexadecimal address
 
 -- where something stands in memory and in the file, and its alignment
 unfoldable pub range_text : Record → List ℕ
@@ -104,14 +113,46 @@ live_line live = joined (
 abbrev pub live_lines : List LiveSection → List ℕ
 live_lines live = each (λ _ section. live_line section) 0 live
 
+-- ---- symbols and the entry
+
+-- the line of a symbol with this resolution, whose entries stand at these places in got and plt, and which has this number
+-- among dynamic symbols
+unfoldable pub symbol_line : ℕ → Resolution → Option ℕ → Option ℕ → Option ℕ → List ℕ
+symbol_line s r got plt dynamic = joined (
+    codes "symbol " ∷ decimal s ∷ codes " 0x" ∷ hexadecimal r.raw_value ∷ codes " " ∷ decimal r.flags.0 ∷
+    codes " got " ∷ address_text got ∷ codes " plt " ∷ address_text plt ∷ codes " dyn " ∷ index_text dynamic ∷ codes "\n" ∷ [])
+
+-- the same, where the symbol has a resolution; else nothing. No symbol has entries in tables yet
+unfoldable pub symbol_text : ℕ → Option Resolution → List ℕ
+symbol_text s None = []
+symbol_text s (Some r) = symbol_line s r None None None
+
+-- the lines of all symbols with a resolution, by number
+abbrev pub symbol_lines : List (Option Resolution) → List ℕ
+symbol_lines resolutions = each symbol_text 0 resolutions
+
+-- the line of the entry: its address, or that there is none, or why it has none
+unfoldable pub entry_line : Result (Option ℕ) EntryFault → List ℕ
+entry_line (Ok (Some address)) = joined (codes "entry 0x" ∷ hexadecimal address ∷ codes "\n" ∷ [])
+entry_line (Ok None) = codes "entry -\n"
+entry_line (Err NotLoaded) = codes "entry not loaded\n"
+entry_line (Err NotAnAddress) = codes "entry not an address\n"
+
 -- ---- the report
+
+-- the lines of sections, parts and segments
+abbrev pub record_lines : LinkInput → Layout → List ℕ
+record_lines link layout = joined (
+    section_lines link.plan.sections layout ∷
+    part_lines link.plan.sections layout.section_part_layouts ∷
+    segment_lines layout.segment_layouts ∷ [])
 
 -- the report of a link's layout; a section or a part that the layout has no record of is left out
 abbrev pub report : LinkInput → Layout → List ℕ
 report link layout = joined (
     codes "layout\n" ∷
-    section_lines link.plan.sections layout ∷
-    part_lines link.plan.sections layout.section_part_layouts ∷
-    segment_lines layout.segment_layouts ∷
+    record_lines link layout ∷
     live_lines layout.live_sections ∷
-    codes "entry -\nend\n" ∷ [])
+    symbol_lines layout.symbol_resolutions ∷
+    entry_line (resolved_entry layout) ∷
+    codes "end\n" ∷ [])

@@ -2,10 +2,12 @@
 
 ghost use Rattle.std.specs.Prelude.{◌≡◌, ◌+◌, ◌^◌, ◌<◌, ◌++◌, string_bytes, slice_range, length, Option, slice_get, IfOk};
 ghost use Rattle.std.specs.List.{list_any};
-ghost use Rattle.lk_run.specs.Report.{report, range_text, index_text, section_line, section_text, laid_out_text, section_lines};
+ghost use Rattle.lk_run.specs.Report.{report, address_text, range_text, index_text, section_line, section_text, laid_out_text, section_lines};
 ghost use Rattle.lk_run.specs.Report.{takes_memory, part_line, part_text, told_lines, section_part_lines, part_lines};
-ghost use Rattle.lk_run.specs.Report.{segment_line, segment_lines, live_line, live_lines};
+ghost use Rattle.lk_run.specs.Report.{segment_line, segment_lines, record_lines, live_line, live_lines};
+ghost use Rattle.lk_run.specs.Report.{symbol_line, symbol_text, symbol_lines, entry_line};
 
+use lk_layout::resolution::{EntryFault, Resolution};
 use lk_layout::{Layout, LiveSection};
 use lk_link::link::LinkInput;
 use lk_link::plan::{PlanSection, PlanSections};
@@ -18,6 +20,9 @@ const RECORD_LINE: usize = 112;
 
 /// Bytes that a live section's line mostly has room in.
 const LIVE_LINE: usize = 48;
+
+/// Bytes that a symbol's line mostly has room in.
+const SYMBOL_LINE: usize = 56;
 
 /// A record as it is printed.
 #[derive(Clone, Copy)]
@@ -65,22 +70,39 @@ impl fmt::Display for IndexText {
     }
 }
 
+/// An address as it is printed.
+#[derive(Clone, Copy)]
+struct AddressText {
+    address: Option<u64>,
+}
+
+/// As `0x1000`, or `-` for none.
+impl fmt::Display for AddressText {
+    ghost use Rattle.std.specs.Prelude.{Some};
+
+    ghost output = { λ shown. Some (address_text shown.address) };
+
+    fn fmt<W: fmt::Write>(&self, f: &mut fmt::Formatter<W>) -> fmt::Result {
+        match self.address {
+            None => write!(f, "-"),
+            Some(address) => write!(f, "0x{address:x}"),
+        }
+    }
+}
+
 /// The report of a link's layout: a line for each output section, each part that has bytes or is the first of a section
-/// without bytes, each active segment and each live section. What the layout has no record of is left out.
+/// without bytes, each active segment, each live section and each symbol with a resolution, and one for the entry. What the
+/// layout has no record of is left out.
 pub fn report_text(alloc: Global, link: &LinkInput, layout: &Layout) -> Result<String, AllocError>
     ensures { IfOk result (λ text. string_bytes text ≡ report link.now layout.now) }
 {
     let mut text = String::with_capacity(alloc, room_of(layout))?;
     text.push_str("layout\n")?;
-    write_sections(&mut text, link.plan.sections.as_slice(), layout)?;
-    write_parts(
-        &mut text,
-        &link.plan.sections,
-        layout.section_part_layouts.as_slice(),
-    )?;
-    write_segments(&mut text, layout.segment_layouts.as_slice())?;
+    write_records(&mut text, link, layout)?;
     write_live_sections(&mut text, layout.live_sections.as_slice())?;
-    text.push_str("entry -\nend\n")?;
+    write_symbols(&mut text, layout.symbol_resolutions.as_slice())?;
+    write_entry(&mut text, layout.resolved_entry_symbol_address())?;
+    text.push_str("end\n")?;
     Ok(text)
 }
 
@@ -95,6 +117,23 @@ fn room_of(layout: &Layout) -> usize {
     records
         .saturating_mul(RECORD_LINE)
         .saturating_add(layout.live_sections.len().saturating_mul(LIVE_LINE))
+        .saturating_add(count_resolved(layout).saturating_mul(SYMBOL_LINE))
+}
+
+/// How many symbols have a resolution.
+fn count_resolved(layout: &Layout) -> usize {
+    let resolutions = layout.symbol_resolutions.as_slice();
+    resolutions.iter().flatten().count()
+}
+
+/// The lines of sections, parts and segments.
+fn write_records(text: &mut String, link: &LinkInput, layout: &Layout) -> Result<(), AllocError>
+    ensures { IfOk result (λ _. string_bytes text.new ≡ string_bytes text.old ++ record_lines link.now layout.now) }
+{
+    let sections = &link.plan.sections;
+    write_sections(text, sections.as_slice(), layout)?;
+    write_parts(text, sections, layout.section_part_layouts.as_slice())?;
+    write_segments(text, layout.segment_layouts.as_slice())
 }
 
 /// The lines of the output sections.
@@ -281,4 +320,66 @@ fn write_live_section(text: &mut String, section: &LiveSection) -> Result<(), Al
     let address = section.address;
     let size = section.size;
     write!(text, "live {group} {file} {index} 0x{address:x} {size}\n")
+}
+
+/// The lines of the symbols with a resolution, by number.
+fn write_symbols(text: &mut String, resolutions: &[Option<Resolution>]) -> Result<(), AllocError>
+    ensures { IfOk result (λ _. string_bytes text.new ≡ string_bytes text.old ++ symbol_lines resolutions.now) }
+{
+    for (number, resolution) in resolutions.iter().enumerate() {
+        write_symbol(text, number, *resolution)?;
+    }
+    Ok(())
+}
+
+/// The line of a symbol that has a resolution. No symbol has entries in tables yet.
+#[tactic(auto, unfolding(crate::specs::Report::symbol_text))]
+fn write_symbol(
+    text: &mut String,
+    number: usize,
+    resolution: Option<Resolution>,
+) -> Result<(), AllocError>
+    ensures { IfOk result (λ _. string_bytes text.new ≡ string_bytes text.old ++ symbol_text number resolution) }
+{
+    match resolution {
+        Some(resolution) => write_symbol_line(text, number, resolution, None, None, None),
+        None => Ok(()),
+    }
+}
+
+/// The line of a symbol with this resolution, whose entries stand at these places in the GOT and the PLT, and which has this
+/// number among dynamic symbols.
+#[tactic(auto, unfolding(crate::specs::Report::symbol_line))]
+fn write_symbol_line(
+    text: &mut String,
+    number: usize,
+    resolution: Resolution,
+    got: Option<u64>,
+    plt: Option<u64>,
+    dynamic: Option<u32>,
+) -> Result<(), AllocError>
+    ensures { IfOk result (λ _. string_bytes text.new ≡ string_bytes text.old ++ symbol_line number resolution got plt dynamic) }
+{
+    let value = resolution.raw_value;
+    let flags = resolution.flags.0;
+    let got = AddressText { address: got };
+    let plt = AddressText { address: plt };
+    let dynamic = IndexText { index: dynamic };
+    write!(
+        text,
+        "symbol {number} 0x{value:x} {flags} got {got} plt {plt} dyn {dynamic}\n"
+    )
+}
+
+/// The line of the entry: its address, or that there is none, or why it has none.
+#[tactic(auto, unfolding(crate::specs::Report::entry_line))]
+fn write_entry(text: &mut String, entry: Result<Option<u64>, EntryFault>) -> Result<(), AllocError>
+    ensures { IfOk result (λ _. string_bytes text.new ≡ string_bytes text.old ++ entry_line entry) }
+{
+    match entry {
+        Ok(Some(address)) => write!(text, "entry 0x{address:x}\n"),
+        Ok(None) => text.push_str("entry -\n"),
+        Err(EntryFault::NotLoaded) => text.push_str("entry not loaded\n"),
+        Err(EntryFault::NotAnAddress) => text.push_str("entry not an address\n"),
+    }
 }

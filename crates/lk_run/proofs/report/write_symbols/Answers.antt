@@ -1,0 +1,15 @@
+use Rattle.std.proofs.Common.{get_or, None, arith}
+use Rattle.std.proofs.lemmas.List.{get_or_default}
+use Rattle.lk_run.specs.Report.{symbol_text}
+use Rattle.lk_run.proofs.Lines.{goes_on, ends}
+use Rattle.lk_run.proofs.report.write_symbols.Goals as goal
+
+pub loop-number-preserved : goal.loop-number-preserved
+loop-number-preserved c =
+    let resolutions = c.args.resolutions.now in
+    let i = c.loop-number.number in
+    let x = get_or resolutions i None in
+    goes_on symbol_text _ resolutions i x _ _ _ (omega arith) (get_or_default resolutions i None x (omega arith)) c.loop-number.invariant c.in_ok-write_symbol.ensures
+
+pub returns : goal.returns
+returns c = ends symbol_text _ c.args.resolutions.now _ _ _ (omega arith) c.loop-number.invariant
