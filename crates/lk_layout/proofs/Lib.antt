@@ -3,6 +3,7 @@ mod CarriedPlans
 mod LaidOut
 mod OneAnswer
 mod PartStarts
+mod Resolved
 mod Placing
 mod Settings
 mod Soundness

@@ -22,7 +22,8 @@ place_in marks addresses k offset = if is_marked marks k then Some (slice_index_
 
 -- a place in a marked section lies below 2^64; `first` is the number of the file's first section
 abbrev pub HasRoom : List Bool → List ℕ → ℕ → SymbolPlacement → Type 0
-HasRoom marks addresses first (at.Section i offset) = is_marked marks (first + i) ≡ true → slice_index_or addresses (first + i) 0 + offset < 2 ^ 64
+HasRoom marks addresses first (at.Section i offset) = is_marked marks (first + i) ≡ true
+    → slice_index_or addresses (first + i) 0 + offset < 2 ^ 64
 HasRoom marks addresses first _ = Unit {0}
 
 -- so does the place of each symbol

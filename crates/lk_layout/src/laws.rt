@@ -1,7 +1,7 @@
 //! Laws on the answer, each proved as the contract of a function that does nothing.
 
 ghost use Rattle.lk_layout.specs.Laws.{CarriedPlansArePlaceable, CarriedPlansArePlain, DefinedAnswerExists, DefinedAnswerIsOne};
-ghost use Rattle.lk_layout.specs.Laws.{DefinedLayoutsAreSound, LaidOutMemoryIsDisjoint, LaidOutSectionsAreApart};
+ghost use Rattle.lk_layout.specs.Laws.{DefinedLayoutsAreSound, LaidOutMemoryIsDisjoint, LaidOutSectionsAreApart, ResolvedSectionsAreLive};
 
 use lk_check::well_formed_exactly_unfaulted;
 use lk_gc::{live_exists, live_is_one};
@@ -71,4 +71,10 @@ pub fn carried_plans_are_placeable()
 /// allocated, and what takes bytes of the file comes before what takes none.
 pub fn carried_plans_are_plain()
     ensures { CarriedPlansArePlain }
+{}
+
+/// A law: where references are met, a symbol of an object that has a resolution, and stands for a place in a section, stands in a
+/// live one, unless the section is merged.
+pub fn resolved_sections_are_live()
+    ensures { ResolvedSectionsAreLive }
 {}

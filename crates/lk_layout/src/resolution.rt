@@ -138,7 +138,8 @@ fn push_file_resolutions(
     requires there { file_in link.now.groups file.id ≡ Some file.file.now }
     requires room { HaveRoom tables.marks.now tables.addresses.now link.now.groups }
     ensures { OnOk result (resolutions.new.items ≡ resolutions.old.items
-        ++ file_resolutions (place_in tables.entry.marks.now tables.entry.addresses.now) tables.entry.flags.now link.now.groups (file_of file.entry)) }
+        ++ file_resolutions (place_in tables.entry.marks.now tables.entry.addresses.now) tables.entry.flags.now link.now.groups
+        (file_of file.entry)) }
 {
     let symbols = file.file.symbols.as_slice();
     if !file.file.kind.is_object() {
@@ -199,7 +200,8 @@ fn resolve(
 ) -> Option<Resolution>
     requires few { first < 2 ^ 32 }
     requires room { HasRoom tables.marks.now tables.addresses.now first symbol.now.at }
-    ensures { result ≡ resolution_of (place_in tables.entry.marks.now tables.entry.addresses.now) tables.entry.flags.now first (number, symbol.now) }
+    ensures { result
+        ≡ resolution_of (place_in tables.entry.marks.now tables.entry.addresses.now) tables.entry.flags.now first (number, symbol.now) }
 {
     let flags = tables.flags.get(number as usize).copied()?;
     let is_definition = match symbol.def {

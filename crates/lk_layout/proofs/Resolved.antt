@@ -1,0 +1,276 @@
+-- Where references are met, a symbol that has a resolution, and stands for a place in a section, stands in a live one.
+use Rattle.std.proofs.Common.{◌≡◌, ℕ, zero, suc, ◌+◌, ◌/◌, ◌%◌, ◌^◌, ◌<◌, ◌≤◌, Bool, true, false, ◌&&◌, if◌then◌else◌, List, [], ◌∷◌, length, Option, Some, None, filter, min, sym, ap, ◌∙◌, subst, inl, inr, arith}
+use Rattle.std.specs.Prelude.{◌==◌, bit_and, not, option_map, refl}
+use Rattle.std.specs.Int.{bit_at}
+use Rattle.std.specs.List.{Contains, enumerate_from, flat_map, slice_get}
+use Rattle.std.specs.Option.{option_map_or, option_to_list}
+use Rattle.std.proofs.lemmas.Bool.{and_parts, cases_eq, cases_lt, false_from_ne_true}
+use Rattle.std.proofs.lemmas.List.Sums.{sum_by_more}
+use Rattle.std.proofs.lemmas.Nat.Bits.{bit_at-lt, bit_at-pow_other, bit_at-suc, bit_at_above, bit_at_and, bit_at_lowest, bit_at_mask_above, bit_at_mask_below}
+use Rattle.std.proofs.lemmas.Option.{get_or_from_slice_get, slice_get-get_or, slice_get_within}
+use Rattle.lk_link.specs.declared.file.FileKind.{FileKind}
+use Rattle.lk_link.specs.declared.file.FileKind.TheVariants as kind
+use Rattle.lk_link.specs.declared.file.InputFile.{InputFile}
+use Rattle.lk_link.specs.declared.flags.TheConstants.ValueFlags as flag
+use Rattle.lk_link.specs.declared.flags.ValueFlags.{ValueFlags}
+use Rattle.lk_link.specs.declared.ids.FileId.{FileId}
+use Rattle.lk_link.specs.declared.link.LinkInput.{LinkInput}
+use Rattle.lk_link.specs.declared.relocation.Relocation.{Relocation}
+use Rattle.lk_link.specs.declared.section.InputSection.{InputSection}
+use Rattle.lk_link.specs.declared.section.InputSlot.{InputSlot}
+use Rattle.lk_link.specs.declared.section.InputSlot.TheVariants as slot
+use Rattle.lk_link.specs.declared.symbol.InputSymbol.{InputSymbol}
+use Rattle.lk_link.specs.Files.{file_in}
+use Rattle.lk_link.specs.FileKinds.{is_object}
+use Rattle.lk_link.specs.Flags.{has_resolution, resolution}
+use Rattle.lk_link.specs.Inputs.{Input, NumberedFile, all_inputs, input_number, inputs_from, numbered_files}
+use Rattle.lk_link.specs.InputSlots.{can_be_kept, is_discarded, is_merge, is_regular}
+use Rattle.lk_link.specs.Marks.{is_marked}
+use Rattle.lk_link.specs.Relocations.{resolution_flags}
+use Rattle.lk_link.specs.Symbols.{IsSymbolIn, all_files, all_symbols, file_number, first_symbol, symbol_at, symbols_before, symbols_in}
+use Rattle.lk_link.specs.WellFormed.{IsWellFormed}
+use Rattle.lk_link.proofs.Elements.{append_at, at_contained, contains_at, flat_map_at, flat_map_in, map_at}
+use Rattle.lk_link.proofs.GoodSymbols.{numbered_symbol}
+use Rattle.lk_link.proofs.InputLemmas.{file_stands, inputs_follow, numbered_get}
+use Rattle.lk_link.proofs.SymbolLemmas.{files_have_numbers, symbols_follow}
+use Rattle.lk_gc.specs.declared.error.ReferenceFault.{ReferenceFault}
+use Rattle.lk_gc.specs.declared.error.ReferenceFault.TheVariants.{Discarded}
+use Rattle.lk_gc.specs.declared.live.Live.{Live}
+use Rattle.lk_gc.specs.declared.units.Ask.{Ask}
+use Rattle.lk_gc.specs.declared.units.Ask.TheVariants.{Reference, Section, Mark}
+use Rattle.lk_gc.specs.declared.units.Unit.{Unit as LinkUnit}
+use Rattle.lk_gc.specs.declared.units.Unit.TheVariants.{Sym, Sec}
+use Rattle.lk_gc.specs.Faults.{file_faults, marked_faults, reference_faults, relocation_faults, section_faults}
+use Rattle.lk_gc.specs.Marks.{reached_marks, unit_number}
+use Rattle.lk_gc.specs.Reach.{AreLive, HasFlag, IsLive, IsReached}
+use Rattle.lk_gc.specs.Units.{AskFlag, AskFor, ask_for, file_roots, flags_from, flags_of, follows, is_primary_section, is_root, kind_roots, local_definition, numbered_symbols, range_mark, reference, relocation_asks, roots, section_asks, section_of, symbol_asks}
+use Rattle.lk_gc.proofs.ReachLemmas.{marks_are_reached, reach_more, reach_root}
+use Rattle.lk_gc.proofs.SymbolNumbers.{symbol_follows}
+use Rattle.lk_gc.proofs.UnitLemmas.{section_unit}
+use Rattle.lk_layout.specs.Laws.{IsResolvedIn, ResolvedSectionsAreLive}
+use Rattle.lk_layout.specs.Resolutions.{flags_at}
+
+-- ---- bits
+
+-- a number that isn't 0 has a bit
+some_bit : (fuel n : ℕ) → n ≤ fuel → 0 < n → (i : ℕ) × (bit_at n i ≡ 1)
+some_bit zero n few some = absurd (omega arith)
+some_bit (suc fuel) n few some =
+    elim (cases_eq (n % 2) 1) [
+      | inl odd ↦ (0, bit_at_lowest n ∙ odd)
+      | inr even ↦
+          let r = some_bit fuel (n / 2) (omega arith) (omega (arith, even)) in
+          (suc r.0, bit_at-suc n r.0 ∙ r.1)
+    ]
+
+-- a bit among those for which a symbol gets a resolution
+record HasAskedBit (flags : ℕ) : Type 0 where
+  place : ℕ
+  set : bit_at flags place ≡ 1
+  from : 6 ≤ place
+  below : place < 14
+
+asked_bit : (flags : ℕ) → not (bit_and flags resolution == 0) ≡ true → HasAskedBit flags
+asked_bit flags h =
+    let some : 0 < bit_and flags resolution = elim (cases_eq (bit_and flags resolution) 0) [
+      | inl none ↦ absurd (let none_set : not (bit_and flags resolution == 0) ≡ false = ap (λ n. not (n == 0)) none in cc)
+      | inr other ↦ omega (arith, other)
+    ] in
+    let found = some_bit (bit_and flags resolution) (bit_and flags resolution) (omega arith) some in
+    let both : min (bit_at flags found.0) (bit_at resolution found.0) ≡ 1 = sym (bit_at_and flags resolution found.0) ∙ found.1 in
+    let asked : bit_at resolution found.0 ≡ 1 = omega (arith, both, bit_at-lt flags found.0, bit_at-lt resolution found.0) in
+    record {
+      place = found.0;
+      set = omega (arith, both, bit_at-lt flags found.0, bit_at-lt resolution found.0);
+      from = elim (cases_lt found.0 6) [
+        | inl low ↦ absurd (omega (arith, asked, bit_at_mask_below 6 14 found.0 low))
+        | inr high ↦ high
+      ];
+      below = elim (cases_lt found.0 14) [
+        | inl low ↦ low
+        | inr high ↦ absurd (omega (arith, asked, bit_at_mask_above 6 14 found.0 high))
+      ];
+    }
+
+-- ---- marks set one flag, which is none of these
+
+abbrev IsPlainAsk : Ask → Type 0
+IsPlainAsk (Reference s f) = Unit {0}
+IsPlainAsk (Section id i) = Unit {0}
+IsPlainAsk (Mark s f) = f.0 ≡ 2 ^ 14
+
+plain_if : (b : Bool) (x : Ask) (k : ℕ) (a : Ask) → IsPlainAsk x → slice_get (option_to_list (if b then Some x else None)) k ≡ Some a → IsPlainAsk a
+plain_if true x zero a plain h = let same : x ≡ a = cc in subst IsPlainAsk same plain
+plain_if true x (suc k) a plain h = absurd (cc)
+plain_if false x k a plain h = absurd (cc)
+
+plain_unless : (b : Bool) (x : Ask) (k : ℕ) (a : Ask) → IsPlainAsk x → slice_get (option_to_list (if b then None else Some x)) k ≡ Some a → IsPlainAsk a
+plain_unless false x zero a plain h = let same : x ≡ a = cc in subst IsPlainAsk same plain
+plain_unless false x (suc k) a plain h = absurd (cc)
+plain_unless true x k a plain h = absurd (cc)
+
+relocation_plain : (primary : Bool) (first : ℕ) (symbols : List InputSymbol) (r : Relocation) (k : ℕ) (a : Ask) → slice_get (relocation_asks primary first symbols r) k ≡ Some a → IsPlainAsk a
+relocation_plain primary first symbols r k a h =
+    elim (append_at (option_to_list (reference first symbols r)) (option_to_list (range_mark primary first r)) k a h) [
+      | inl refers ↦ plain_unless (resolution_flags r.kind == 0) (Reference (local_definition first symbols r.symbol) (flags_from (resolution_flags r.kind))) k a tt refers
+      | inr marks ↦ plain_if (primary && r.thunkable) (Mark (first + r.symbol) flag.HAS_RANGE_LIMITED_REL) marks.0 a refl marks.2
+    ]
+
+section_plain : (link : LinkInput) (id : FileId) (file : InputFile) (s : InputSection) (k : ℕ) (a : Ask) → slice_get (section_asks link id file s) k ≡ Some a → IsPlainAsk a
+section_plain link id file s k a h =
+    let asks : Relocation → List Ask = relocation_asks (is_primary_section link s) (first_symbol link.groups id) file.symbols in
+    elim (is_regular s.slot) as (λ b. slice_get (if b then flat_map asks s.relocs else []) k ≡ Some a → IsPlainAsk a) [
+      | true ↦ λ among. let at = flat_map_at asks s.relocs k a among in relocation_plain (is_primary_section link s) (first_symbol link.groups id) file.symbols at.from at.inner a at.gives
+      | false ↦ λ among. absurd (cc)
+    ] h
+
+placed_plain : (id : FileId) (o : Option ℕ) (k : ℕ) (a : Ask) → slice_get (option_to_list (option_map (Section id) o)) k ≡ Some a → IsPlainAsk a
+placed_plain id None k a h = absurd (cc)
+placed_plain id (Some i) zero a h = let same : Section id i ≡ a = cc in subst IsPlainAsk same tt
+placed_plain id (Some i) (suc k) a h = absurd (cc)
+
+symbol_plain : (o : Option (NumberedFile × InputSymbol)) (k : ℕ) (a : Ask) → slice_get (option_map_or symbol_asks o []) k ≡ Some a → IsPlainAsk a
+symbol_plain None k a h = absurd (cc)
+symbol_plain (Some q) k a h =
+    elim (is_object q.0.file.kind) as (λ b. slice_get (if b then option_to_list (option_map (Section q.0.id) (section_of q.1.at)) else []) k ≡ Some a → IsPlainAsk a) [
+      | true ↦ λ among. placed_plain q.0.id (section_of q.1.at) k a among
+      | false ↦ λ among. absurd (cc)
+    ] h
+
+held_plain : (link : LinkInput) (id : FileId) (file : InputFile) (o : Option InputSection) (k : ℕ) (a : Ask) → slice_get (option_map_or (section_asks link id file) o []) k ≡ Some a → IsPlainAsk a
+held_plain link id file None k a h = absurd (cc)
+held_plain link id file (Some s) k a h = section_plain link id file s k a h
+
+filed_plain : (link : LinkInput) (id : FileId) (i : ℕ) (o : Option InputFile) (k : ℕ) (a : Ask)
+    → slice_get (option_map_or (λ f. option_map_or (section_asks link id f) (slice_get f.sections i) []) o []) k ≡ Some a → IsPlainAsk a
+filed_plain link id i None k a h = absurd (cc)
+filed_plain link id i (Some f) k a h = held_plain link id f (slice_get f.sections i) k a h
+
+follows_plain : (link : LinkInput) (u : LinkUnit) (k : ℕ) (a : Ask) → slice_get (follows link u) k ≡ Some a → IsPlainAsk a
+follows_plain link (Sym s) k a h = symbol_plain (slice_get (numbered_symbols link.groups) s) k a h
+follows_plain link (Sec id i) k a h = filed_plain link id i (file_in link.groups id) k a h
+
+entry_plain : (o : Option ℕ) (k : ℕ) (a : Ask) → slice_get (option_to_list (option_map (λ s. Reference s flag.DIRECT) o)) k ≡ Some a → IsPlainAsk a
+entry_plain None k a h = absurd (cc)
+entry_plain (Some s) zero a h = let same : Reference s flag.DIRECT ≡ a = cc in subst IsPlainAsk same tt
+entry_plain (Some s) (suc k) a h = absurd (cc)
+
+kind_plain : (link : LinkInput) (f : NumberedFile) (of : FileKind) (k : ℕ) (a : Ask) → slice_get (kind_roots link f of) k ≡ Some a → IsPlainAsk a
+kind_plain link f kind.Prelude k a h = entry_plain _ k a h
+kind_plain link f kind.Object k a h =
+    let x = map_at ask_for (filter (λ (x : Input). is_root link.options.gc x.section.slot) (inputs_from f.id 0 f.file.sections)) k a h in
+    subst IsPlainAsk x.2 tt
+kind_plain link f kind.Dynamic k a h = absurd (cc)
+kind_plain link f kind.NotLoaded k a h = absurd (cc)
+kind_plain link f kind.SyntheticSymbols k a h = absurd (cc)
+kind_plain link f kind.LinkerScript k a h = absurd (cc)
+
+roots_plain : (link : LinkInput) (k : ℕ) (a : Ask) → slice_get (roots link) k ≡ Some a → IsPlainAsk a
+roots_plain link k a h =
+    let at = flat_map_at (file_roots link) (numbered_files link.groups) k a h in
+    kind_plain link at.from at.from.file.kind at.inner a at.gives
+
+-- ---- a symbol that has a resolution is reached
+
+-- what sets such a bit refers to the symbol
+refers : (asks : List Ask) (s i : ℕ) (a : Ask) (flags : ℕ) → i < 14 → IsPlainAsk a → Contains asks a → flags_of a ≡ Some (s, flags) → bit_at flags i ≡ 1 → AskFor asks (Sym s)
+refers asks s i (Reference t f) flags below plain among sets bit =
+    let given : ℕ × ℕ = (t, f.0) in
+    let wanted : ℕ × ℕ = (s, flags) in
+    let pair : given ≡ wanted = cc in
+    record { ask = Reference t f; among = among; target = ap (λ (p : ℕ × ℕ). Some (Sym p.0)) pair }
+refers asks s i (Section id j) flags below plain among sets bit = absurd (cc)
+refers asks s i (Mark t f) flags below plain among sets bit =
+    let given : ℕ × ℕ = (t, f.0) in
+    let wanted : ℕ × ℕ = (s, flags) in
+    let pair : given ≡ wanted = cc in
+    let same : bit_at (2 ^ 14) i ≡ bit_at flags i = ap (λ n. bit_at n i) (sym plain ∙ ap (λ (p : ℕ × ℕ). p.1) pair) in
+    absurd (omega (arith, same, bit, bit_at-pow_other 14 i (λ is. omega (arith, is, below))))
+
+asked_for : (asks : List Ask) (s i : ℕ) → i < 14 → ((k : ℕ) (a : Ask) → slice_get asks k ≡ Some a → IsPlainAsk a) → AskFlag asks s i → AskFor asks (Sym s)
+asked_for asks s i below plain h =
+    let at = at_contained asks h.ask h.among in
+    refers asks s i h.ask h.flags below (plain at.0 h.ask at.1) h.among h.sets h.bit
+
+symbol_reached : (link : LinkInput) (s i : ℕ) → IsWellFormed link → 6 ≤ i → i < 14 → HasFlag link s i → IsReached link (Sym s)
+symbol_reached link s i wf from below h = elim h [
+  | inl handed ↦
+      let few = (numbered_symbol link s handed.symbol wf handed.there).2.few_flags in
+      absurd (omega (arith, handed.bit, bit_at_above handed.symbol.flags.0 6 i few from))
+  | inr set ↦ elim set [
+    | inl root ↦ reach_root link (Sym s) (asked_for (roots link) s i below (roots_plain link) root)
+    | inr unit ↦ reach_more link unit.unit (Sym s) unit.reached (asked_for (follows link unit.unit) s i below (follows_plain link unit.unit) unit.asks)
+  ]
+]
+
+-- ---- and so is its section
+
+in_file : (groups : List (List InputFile)) (id : FileId) (file : InputFile) (k : ℕ) → file_in groups id ≡ Some file → k < length file.symbols → IsSymbolIn groups id (first_symbol groups id + k)
+in_file groups id file k h lt =
+    let n = file_number groups id in
+    let at_n = files_have_numbers groups id file h in
+    let within = slice_get_within (all_files groups) n file at_n in
+    let more = sum_by_more symbols_in (all_files groups) n file within in
+    let same = ap symbols_in (get_or_from_slice_get (all_files groups) n file file at_n) in
+    record { file = file; there = h; symbol = record { there = within; from = omega arith; below = omega (arith, lt, more, same) } }
+
+section_reached : (link : LinkInput) (id : FileId) (file : InputFile) (i k : ℕ) (x : InputSymbol) → file_in link.groups id ≡ Some file → slice_get file.symbols k ≡ Some x → is_object file.kind ≡ true
+    → section_of x.at ≡ Some i → IsReached link (Sym (first_symbol link.groups id + k)) → IsReached link (Sec id i)
+section_reached link id file i k x there at_k object placed reached =
+    let s : ℕ = first_symbol link.groups id + k in
+    let lt = slice_get_within file.symbols k x at_k in
+    let at_s : symbol_at link.groups s ≡ Some x = symbols_follow link.groups id file k there lt ∙ at_k in
+    let asks : follows link (Sym s) ≡ Section id i ∷ []
+    = symbol_follows link id s file x (in_file link.groups id file k there lt) there at_s
+    ∙ ap (λ b. if b then option_to_list (option_map (Section id) (section_of x.at)) else []) object
+    ∙ ap (λ o. option_to_list (option_map (Section id) o)) placed in
+    reach_more link (Sym s) (Sec id i) reached
+    (record { ask = Section id i; among = contains_at (follows link (Sym s)) 0 (Section id i) (ap (λ (xs : List Ask). slice_get xs 0) asks); target = refl })
+
+-- ---- which isn't left out
+
+discarded_fault : (link : LinkInput) (id : FileId) (file : InputFile) (i : ℕ) (section : InputSection) → IsWellFormed link → file_in link.groups id ≡ Some file → slice_get file.sections i ≡ Some section
+    → IsReached link (Sec id i) → is_discarded section.slot ≡ true → (n : ℕ) × (slice_get (reference_faults link) n ≡ Some (Discarded id i))
+discarded_fault link id file i section wf there at_i reached discarded =
+    let marks : List Bool = reached_marks link in
+    let f : NumberedFile = record { id = id; file = file } in
+    let q : ℕ × InputSection = (i, section) in
+    let mark : is_marked marks (unit_number link.groups (Sec id i)) ≡ true = (marks_are_reached link (Sec id i) wf (section_unit link.groups id file i section there at_i)).1 reached in
+    let rest : List ReferenceFault = if is_regular section.slot && link.options.error_objects then relocation_faults link.groups f i section.relocs else [] in
+    let here : slice_get (marked_faults link marks f q) 0 ≡ Some (Discarded id i)
+    = ap (λ b. slice_get (if b then section_faults link f q else []) 0) mark ∙ ap (λ b. slice_get (if b then Discarded id i ∷ [] else rest) 0) discarded in
+    let shown : ℕ → Option (ℕ × InputSection) = λ n. Some (n, section) in
+    let zero_more : 0 + i ≡ i = omega arith in
+    let numbered : slice_get (enumerate_from 0 file.sections) i ≡ Some q = numbered_get 0 file.sections i section at_i ∙ ap shown zero_more in
+    let of_file = flat_map_in (marked_faults link marks f) (enumerate_from 0 file.sections) i 0 q (Discarded id i) numbered here in
+    flat_map_in (file_faults link marks) (numbered_files link.groups) (file_number link.groups id) of_file.0 f (Discarded id i) (file_stands link.groups id file there) of_file.1
+
+no_faults : (faults : List ReferenceFault) (n : ℕ) (fault : ReferenceFault) → faults ≡ [] → slice_get faults n ≡ Some fault → ⊥
+no_faults [] n fault is h = absurd (cc)
+no_faults (x ∷ faults) n fault is h = absurd (cc)
+
+can_keep : (s : InputSlot) → is_discarded s ≡ false → is_merge s ≡ false → can_be_kept s ≡ true
+can_keep slot.Discard h g = absurd (cc)
+can_keep slot.Unloaded h g = refl
+can_keep slot.MustLoad h g = refl
+can_keep slot.DebugInfo h g = refl
+can_keep slot.MustLoadDebugInfo h g = refl
+can_keep slot.Merge h g = absurd (cc)
+
+pub resolved_sections_are_live : ResolvedSectionsAreLive
+resolved_sections_are_live link live id file i section wf are met there r at_i unmerged =
+    let s : ℕ = first_symbol link.groups id + r.index in
+    let f : ValueFlags = flags_at live.flags s in
+    let lt = slice_get_within file.symbols r.index r.symbol r.there in
+    let at_s : symbol_at link.groups s ≡ Some r.symbol = symbols_follow link.groups id file r.index there lt ∙ r.there in
+    let few : s < length live.flags = omega (arith, are.symbols, slice_get_within (all_symbols link.groups) s r.symbol at_s) in
+    let bit = asked_bit f.0 (and_parts _ (has_resolution f.0) r.resolved).1 in
+    let flag_is = (are.flags s f (slice_get-get_or live.flags s (flags_from 0) few) bit.place).0 bit.set in
+    let reached = section_reached link id file i r.index r.symbol there r.there r.object r.at (symbol_reached link s bit.place wf bit.from bit.below flag_is) in
+    let kept = false_from_ne_true (is_discarded section.slot) (λ discarded.
+    let fault = discarded_fault link id file i section wf there at_i reached discarded in
+    no_faults (reference_faults link) fault.0 (Discarded id i) met fault.1) in
+    let x : Input = record { file = id; index = i; section = section } in
+    let at_x : slice_get (all_inputs link.groups) (input_number link.groups id i) ≡ Some x = inputs_follow.at link.groups id file i section there at_i in
+    let lives : IsLive link x = record { reached = reached; slot = can_keep section.slot kept unmerged } in
+    (are.marks (input_number link.groups id i) x at_x).1 lives
