@@ -12,6 +12,7 @@ mod MassLaws
 mod Moves
 mod Multiples
 mod OpenSegments
+mod OperandTests
 mod PlacedParts
 mod PlacedSections
 mod PlainLaws

@@ -1,7 +1,13 @@
 -- What the code knows when it evaluates expressions, as definitions see it.
+use Rattle.lk_place.specs.declared.expressions.constants.Known.{Known}
 use Rattle.lk_place.specs.declared.expressions.early.EarlySurroundings.{EarlySurroundings}
 use Rattle.lk_place.specs.declared.expressions.late.LateSurroundings.{LateSurroundings}
+use Rattle.lk_place.specs.Constants.{Before}
 use Rattle.lk_place.specs.Surroundings.{Early, Late}
+
+-- before anything is placed
+abbrev pub before_of : Known → Before
+before_of known = record { groups = known.link.now.groups; headers = known.headers; regions = known.regions.now }
 
 -- while sections are placed
 abbrev pub early_of : EarlySurroundings → Early

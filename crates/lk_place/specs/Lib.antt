@@ -1,5 +1,6 @@
 pub mod Alignments
 pub mod Answers
+pub mod Constants
 pub mod Evaluation
 pub mod ExpressionTexts
 pub mod Expressions

@@ -8,6 +8,7 @@ ghost use Rattle.std.specs.Prelude.{◌≡◌};
 ghost use Rattle.lk_place.specs.Expressions.{IsShallow, expression_value};
 ghost use Rattle.lk_place.specs.Surroundings.{early_operand, late_operand, number_alone};
 
+mod constants;
 mod early;
 mod evaluation;
 mod known;
@@ -19,6 +20,7 @@ mod positions;
 mod stack;
 
 use crate::record::OutputRecordLayout;
+pub use constants::{Constant, constant_redirects};
 use early::EarlySurroundings;
 use evaluation::evaluate;
 use late::LateSurroundings;

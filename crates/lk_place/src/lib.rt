@@ -17,8 +17,8 @@ pub use crate::alignments::compute_segment_alignments;
 pub use crate::cursors::Cursors;
 pub use crate::error::{PlaceError, Refusal};
 pub use crate::expressions::{
-    NoValue, SymbolPosition, SymbolPositions, evaluate_const, evaluate_early_expression,
-    evaluate_expression,
+    Constant, NoValue, SymbolPosition, SymbolPositions, constant_redirects, evaluate_const,
+    evaluate_early_expression, evaluate_expression,
 };
 pub use crate::hulls::layout_section_from_part_layouts;
 pub use crate::plain::is_plain;
