@@ -1,10 +1,12 @@
 -- How much is kept of inputs, and how much they have.
-use Rattle.std.proofs.Common.{◌≡◌, ℕ, suc, ◌+◌, ◌<◌, ◌≤◌, ◌^◌, List, [], ◌∷◌, ◌++◌, length, map, take, get_or, Some, true, sum_by, refl, sym, ap, ◌∙◌, arith, length-append}
-use Rattle.std.specs.List.{concat, flat_map, list_all, slice_get}
+use Rattle.std.proofs.Common.{◌≡◌, ℕ, suc, ◌+◌, ◌<◌, ◌≤◌, ◌^◌, List, [], ◌∷◌, ◌++◌, length, map, take, get_or, option_map, None, Some, true, sum_by, refl, sym, ap, ◌∙◌, arith, length-append}
+use Rattle.std.specs.List.{concat, flat_map, list_all, range_with_len, slice_get}
 use Rattle.std.proofs.lemmas.List.{length-map}
 use Rattle.std.proofs.lemmas.List.Concat.{length-flat_map}
-use Rattle.std.proofs.lemmas.List.FromFn.{length-map-range_with_len}
+use Rattle.std.proofs.lemmas.List.FromFn.{get_or-map-range_with_len, length-map-range_with_len}
 use Rattle.std.proofs.lemmas.List.Sums.{sum_by-cons, sum_by-le-sum_by, sum_by_more_le}
+use Rattle.std.proofs.lemmas.Option.{get_or_from_slice_get, slice_get-map}
+use Rattle.lk_link.proofs.Elements.{at_index}
 use Rattle.lk_merge.specs.declared.inputs.StringMergeInputSection.{StringMergeInputSection}
 use Rattle.lk_merge.specs.declared.offset_map.PieceEntry.{PieceEntry}
 use Rattle.lk_merge.specs.Buckets.{Bucket}
@@ -29,7 +31,7 @@ no_sum f h (x ∷ xs) =
     let rest = no_sum f h xs in
     omega (arith, more, rest, h x)
 
-length_concat_flat : {X : Type 0} (f : X → List Piece) (xs : List X) → length (concat (flat_map f xs)) ≡ sum_by (λ x. length (concat (f x))) xs
+pub length_concat_flat : {X : Type 0} (f : X → List Piece) (xs : List X) → length (concat (flat_map f xs)) ≡ sum_by (λ x. length (concat (f x))) xs
 length_concat_flat f [] = refl
 length_concat_flat f (x ∷ xs) =
     let both : length (concat (f x ++ flat_map f xs)) ≡ length (concat (f x)) + length (concat (flat_map f xs))
@@ -79,6 +81,35 @@ few_buckets inputs buckets entries h =
     let count : length buckets ≡ length (kept_lists fnv64 inputs) = sym (length-map buckets (λ (k : Bucket). k.pieces)) ∙ ap length h.kept in
     let few = few_lists inputs in
     omega (arith, count, few)
+
+-- a bucket keeps the list of the definition
+kept_in : (xs : List MergeInput) (b : ℕ) (ps : List Piece) → b < 16 → slice_get (kept_lists fnv64 xs) b ≡ Some ps → ps ≡ bucket_list fnv64 (all_pieces xs) b
+unfolding all_buckets
+kept_in [] b ps below none = absurd (cc)
+kept_in (x ∷ xs) b ps below some =
+    sym (get_or_from_slice_get (map (bucket_list fnv64 (all_pieces (x ∷ xs))) (range_with_len 0 16)) b ps [] some)
+    ∙ get_or-map-range_with_len (bucket_list fnv64 (all_pieces (x ∷ xs))) 0 16 b b [] below (omega arith)
+
+pub kept_at : (inputs : List MergeInput) (buckets : List Bucket) (entries : List PieceEntry) → IsMerged inputs buckets entries → (b : ℕ) (k : Bucket) → b < 16
+    → slice_get buckets b ≡ Some k → k.pieces ≡ bucket_list fnv64 (all_pieces inputs) b
+kept_at inputs buckets entries h b k below there =
+    kept_in inputs b k.pieces below
+    (ap (λ l. slice_get l b) (sym h.kept) ∙ slice_get-map (λ (z : Bucket). z.pieces) buckets b ∙ ap (option_map (λ (z : Bucket). z.pieces)) there)
+
+none_in : (xs : List MergeInput) (buckets : List Bucket) (b : ℕ) → b < 16 → slice_get buckets b ≡ None → map (λ (z : Bucket). z.pieces) buckets ≡ kept_lists fnv64 xs
+    → [] ≡ bucket_list fnv64 (all_pieces xs) b
+unfolding all_buckets
+none_in [] buckets b below none kept = sym (no_list b)
+none_in (x ∷ xs) buckets b below none kept =
+    let many = length-map-range_with_len (bucket_list fnv64 (all_pieces (x ∷ xs))) 0 16 in
+    let count : length buckets ≡ length (map (bucket_list fnv64 (all_pieces (x ∷ xs))) (range_with_len 0 16))
+    = sym (length-map buckets (λ (z : Bucket). z.pieces)) ∙ ap length kept in
+    let there = at_index buckets b (omega (arith, count, many, below)) in
+    absurd (let both : None ≡ Some there.0 = sym none ∙ there.1 in cc)
+
+pub kept_none : (inputs : List MergeInput) (buckets : List Bucket) (entries : List PieceEntry) → IsMerged inputs buckets entries → (b : ℕ) → b < 16
+    → slice_get buckets b ≡ None → [] ≡ bucket_list fnv64 (all_pieces inputs) b
+kept_none inputs buckets entries h b below none = none_in inputs buckets b below none h.kept
 
 -- ---- what the inputs have
 

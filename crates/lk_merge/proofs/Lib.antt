@@ -1,3 +1,4 @@
+pub mod AddressLemmas
 pub mod AmongLemmas
 pub mod Beginning
 pub mod BucketLemmas
@@ -7,6 +8,7 @@ pub mod Finding
 pub mod FindingSteps
 pub mod Gathering
 pub mod GoodPieces
+pub mod Grouping
 pub mod Growing
 pub mod Halving
 pub mod InputLemmas
@@ -15,11 +17,15 @@ pub mod LaidOut
 pub mod LocatedLemmas
 pub mod MergeBytes
 pub mod MergedLemmas
+pub mod Numbers
+pub mod OutputSections
 pub mod PieceLemmas
+pub mod PlaceInInput
 pub mod PlaceLemmas
 pub mod Refusals
 pub mod Refusing
 pub mod Strings
+pub mod SymbolPlaces
 pub mod TableLemmas
 pub mod Taking
 pub mod TooLong

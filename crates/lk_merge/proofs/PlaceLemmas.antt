@@ -34,7 +34,7 @@ among_range f p a (suc n) b low high h = by (eqb a b) refl (among_range f p (a +
     by true e rest = both ∙ or_left _ _ (ap (λ k. is_among (f k) p) (eqb-true a b e) ∙ h)
     by false e rest = let other = eqb-false a b e in both ∙ or_right _ _ (rest (omega (arith, low, other)) (omega (arith, high)) h)
 
-in_image : (hash : Piece → ℕ) (pieces : List Piece) (p : Piece) → is_among pieces p ≡ true → is_among (image_pieces hash pieces) p ≡ true
+pub in_image : (hash : Piece → ℕ) (pieces : List Piece) (p : Piece) → is_among pieces p ≡ true → is_among (image_pieces hash pieces) p ≡ true
 unfolding all_buckets
 in_image hash pieces p h = among_range (bucket_list hash pieces) p 0 16 (hash p % 16) (omega arith) (omega arith) (among_bucket_list hash pieces p ∙ h)
 
@@ -88,15 +88,15 @@ pieces_have_places = record {
 -- ---- offsets
 
 -- the piece of an offset holds what stands there
-record HoldsAt (ps : List Piece) (offset : ℕ) (p : Piece) (d : ℕ) : Type 0 where
-  among : is_among ps p ≡ true
-  inside : d < length p
-  bytes : take (length p - d) (drop offset (concat ps)) ≡ drop d p
+pub record HoldsAt (ps : List Piece) (offset : ℕ) (p : Piece) (d : ℕ) : Type 0 where
+  pub among : is_among ps p ≡ true
+  pub inside : d < length p
+  pub bytes : take (length p - d) (drop offset (concat ps)) ≡ drop d p
 
 some_pair : (a b : Piece × ℕ) → Some a ≡ Some b → a ≡ b
 some_pair a b e = cc
 
-holds_at : (ps : List Piece) (offset : ℕ) (p : Piece) (d : ℕ) → piece_at ps offset ≡ Some (p, d) → HoldsAt ps offset p d
+pub holds_at : (ps : List Piece) (offset : ℕ) (p : Piece) (d : ℕ) → piece_at ps offset ≡ Some (p, d) → HoldsAt ps offset p d
 holds_at [] offset p d h = absurd (let none : None ≡ Some (p, d) = sym (piece_at_none offset) ∙ h in cc)
 holds_at (q ∷ ps) offset p d h = by (ltb offset (length q)) refl (holds_at ps (offset - length q) p d)
   where
@@ -126,7 +126,7 @@ holds_at (q ∷ ps) offset p d h = by (ltb offset (length q)) refl (holds_at ps 
           bytes = ap (λ n. take (length p - d) (drop n (q ++ concat ps))) split ∙ ap (take (length p - d)) (dropped q (concat ps) (offset - length q)) ∙ later.bytes;
         }
 
-among_all : (inputs : List MergeInput) (k : ℕ) (x : MergeInput) (p : Piece) → slice_get inputs k ≡ Some x → is_among (pieces_of x) p ≡ true → is_among (all_pieces inputs) p ≡ true
+pub among_all : (inputs : List MergeInput) (k : ℕ) (x : MergeInput) (p : Piece) → slice_get inputs k ≡ Some x → is_among (pieces_of x) p ≡ true → is_among (all_pieces inputs) p ≡ true
 among_all [] k x p there h = absurd (cc)
 among_all (y ∷ ys) zero x p there h =
     let same : y ≡ x = cc in

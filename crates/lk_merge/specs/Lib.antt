@@ -1,5 +1,8 @@
+pub mod Addresses
 pub mod BucketTables
 pub mod Buckets
+pub mod GroupTables
+pub mod Groups
 pub mod Hash
 pub mod Image
 pub mod Inputs
@@ -9,5 +12,7 @@ pub mod MergedTables
 pub mod Merging
 pub mod MergingTables
 pub mod OffsetMaps
+pub mod OutputAddresses
+pub mod OutputAddressTables
 pub mod Pieces
 pub mod Places

@@ -1,6 +1,6 @@
 //! The input sections that are merged, by the output section that they go to.
 
-ghost use Rattle.std.specs.Prelude.{◌≡◌, ◌+◌, ◌^◌, ◌<◌, ◌∷◌, ◌++◌, [], Bool, ℕ, Some, IfOk, OnOk, OnErr, length, map, slice_get, sum_by};
+ghost use Rattle.std.specs.Prelude.{◌≡◌, ◌≢◌, ◌+◌, ◌^◌, ◌<◌, ◌∷◌, ◌++◌, [], Bool, ℕ, Some, IfOk, OnOk, OnErr, MatchOption, length, map, slice_get, sum_by};
 ghost use Rattle.lk_merge.specs.Inputs.{AreInputs, input_of, padded_len, padded_total};
 ghost use Rattle.lk_merge.specs.Pieces.{MergeInput, is_terminated};
 
@@ -81,6 +81,30 @@ impl<'data> StringMergeInputSections<'data> {
         ensures places { AreInputs (padded_total self.now) result.now }
     {
         self.sections.as_slice()
+    }
+
+    /// The index of the input with this number over all input sections, if it is one of these. Takes logarithmic time.
+    pub(crate) fn index_of(&self, number: u32) -> Option<usize>
+        ensures { MatchOption result ((k : ℕ) (x : MergeInput) → slice_get self.now k ≡ Some x → x.number ≢ number)
+            (λ k. (x : MergeInput) × (slice_get self.now k ≡ Some x) × (x.number ≡ number)) }
+    {
+        let sections = self.sections.as_slice();
+        let mut low = 0;
+        let mut high = sections.len();
+        while low < high {
+            let middle = low + (high - low) / 2;
+            if sections[middle].number < number {
+                low = middle + 1;
+            } else {
+                high = middle;
+            }
+        }
+        let found = sections.get(low)?;
+        if found.number == number {
+            Some(low)
+        } else {
+            None
+        }
     }
 
     /// The same inputs once more.

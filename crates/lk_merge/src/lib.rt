@@ -2,8 +2,10 @@
 //! holds one.
 #![tactic(auto)]
 
+pub mod addresses;
 pub mod bucket;
 pub mod error;
+pub mod groups;
 pub mod hash;
 pub mod inputs;
 pub mod laws;
@@ -12,16 +14,20 @@ pub mod merge;
 mod merging;
 pub mod offset;
 pub mod offset_map;
+pub mod output_address;
 pub mod section;
 pub mod string;
 
+pub use addresses::MergedStringStartAddresses;
 pub use bucket::MergeStringsSectionBucket;
 pub use error::MergeError;
+pub use groups::{SectionGroup, split_sections};
 pub use hash::{Fnv64, PieceHash};
 pub use inputs::{StringMergeInputSection, StringMergeInputSections, total_input_size};
 pub use link_inputs::StringMergeInputs;
 pub use merge::{merge_strings, merge_strings_alone};
 pub use offset::{BucketOffset, LinearInputOffset};
 pub use offset_map::OffsetMap;
+pub use output_address::{OffsetPastEnd, get_merged_string_output_address};
 pub use section::{MergedStringsSection, find_string};
 pub use string::MergeString;

@@ -1,11 +1,13 @@
 //! Merged output sections.
 
-ghost use Rattle.std.specs.Prelude.{◌≡◌, [], length, map};
+ghost use Rattle.std.specs.Prelude.{◌≡◌, ◌<◌, ℕ, [], MatchOption, Some, length, map, slice_get};
 ghost use Rattle.std.specs.List.{concat};
 ghost use Rattle.lk_merge.specs.Hash.{fnv64};
-ghost use Rattle.lk_merge.specs.Image.{all_pieces, image, image_pieces};
+ghost use Rattle.lk_merge.specs.Image.{all_pieces, bucket_list, image, image_pieces};
 ghost use Rattle.lk_merge.specs.MergedTables.{IsMerged};
 ghost use Rattle.lk_merge.specs.Merging.{found_place, kept_lists};
+ghost use Rattle.lk_merge.specs.OutputAddressTables.{IsPlaceAt};
+ghost use Rattle.lk_merge.specs.Pieces.{MergeInput};
 
 use crate::bucket::MergeStringsSectionBucket;
 use crate::inputs::StringMergeInputSections;
@@ -83,6 +85,17 @@ impl<'data> MergedStringsSection<'data> {
         len
     }
 
+    /// The bytes of a bucket, by its number; none without inputs.
+    pub(crate) fn bucket_len(&self, bucket: usize) -> u64
+        requires { bucket < 16 }
+        ensures { result ≡ length (concat (bucket_list fnv64 (all_pieces self.now) bucket)) }
+    {
+        match self.buckets.as_slice().get(bucket) {
+            Some(bucket) => bucket.len() as u64,
+            None => 0,
+        }
+    }
+
     /// How many distinct pieces there are (libwild: `MergedStringsSection::string_count`).
     pub fn string_count(&self) -> usize
         ensures { result ≡ length (image_pieces fnv64 (all_pieces self.now)) }
@@ -110,6 +123,19 @@ impl<'data> MergedStringsSection<'data> {
         ensures { result ≡ length (all_pieces self.now) }
     {
         self.string_offsets.len()
+    }
+}
+
+impl<'data> MergedStringsSection<'data> {
+    /// Where an offset of an input stands in the buckets, by the number of the input over all input sections. Several inputs may
+    /// start at one place, of which the last alone has bytes; so the offset is to be inside the data. Takes logarithmic time.
+    pub(crate) fn place_in_input(&self, number: u32, offset: u64) -> Option<BucketOffset>
+        ensures { (k : ℕ) (x : MergeInput) → slice_get self.now k ≡ Some x → x.number ≡ number → offset < length x.bytes
+            → MatchOption result ⊥ (IsPlaceAt self.now x offset) }
+    {
+        let input = self.inputs.index_of(number)?;
+        let start = self.inputs.as_slice()[input].start_input_offset;
+        find_string(self, start, offset)
     }
 }
 
