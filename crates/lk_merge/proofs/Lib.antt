@@ -4,6 +4,8 @@ pub mod Beginning
 pub mod BucketLemmas
 pub mod Constants
 pub mod Counting
+pub mod Covering
+pub mod DistinctLemmas
 pub mod Finding
 pub mod FindingSteps
 pub mod Gathering
@@ -24,6 +26,7 @@ pub mod PlaceInInput
 pub mod PlaceLemmas
 pub mod Refusals
 pub mod Refusing
+pub mod Showing
 pub mod Strings
 pub mod SymbolPlaces
 pub mod TableLemmas

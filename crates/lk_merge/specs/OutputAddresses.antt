@@ -1,7 +1,7 @@
 -- The addresses of what symbols refer to in merged sections.
-use Rattle.std.specs.Prelude.{ℕ, ℤ, ◌+◌, ◌%◌, ◌^◌, ◌==◌, not, Bool, List, Option, None, Some, Result, Ok, Err, if◌then◌else◌, length, map, nat_lt, option_and_then, slice_get, slice_index}
+use Rattle.std.specs.Prelude.{◌≡◌, ℕ, ℤ, ◌+◌, ◌-◌, ◌%◌, ◌^◌, ◌<◌, ◌≤◌, ◌==◌, not, Bool, true, List, Option, None, Some, Result, Ok, Err, if◌then◌else◌, length, drop, map, nat_lt, option_and_then, slice_get, slice_index, take}
 use Rattle.std.specs.Int.{cast_unsigned, w64}
-use Rattle.std.specs.List.{flat_map}
+use Rattle.std.specs.List.{flat_map, list_all}
 use Rattle.std.specs.Option.{option_map_or}
 use Rattle.lk_link.specs.declared.file.InputFile.{InputFile}
 use Rattle.lk_link.specs.declared.link.LinkInput.{LinkInput}
@@ -13,9 +13,9 @@ use Rattle.lk_link.specs.InputSlots.{is_merge}
 use Rattle.lk_link.specs.Inputs.{NumberedFile, input_number, numbered_files}
 use Rattle.lk_merge.specs.declared.output_address.OffsetPastEnd.{OffsetPastEnd}
 use Rattle.lk_merge.specs.Hash.{fnv64}
-use Rattle.lk_merge.specs.Image.{all_pieces, image_place, piece_at}
+use Rattle.lk_merge.specs.Image.{all_pieces, image, image_place, piece_at}
 use Rattle.lk_merge.specs.LinkInputs.{merge_input, merge_inputs, part_sections}
-use Rattle.lk_merge.specs.Pieces.{Piece, MergeInput, pieces_of}
+use Rattle.lk_merge.specs.Pieces.{Piece, MergeInput, is_terminated, pieces_of}
 
 -- ---- places in merged sections
 
@@ -83,3 +83,22 @@ reference_address link starts addend zero_unnamed place =
 abbrev pub merged_address : LinkInput → (ℕ → ℕ) → ℕ → ℤ → Bool → Result (Option ℕ) OffsetPastEnd
 merged_address link starts s addend zero_unnamed =
     option_map_or (reference_address link starts addend zero_unnamed) (symbol_place link.groups s) (Ok None)
+
+-- ---- what stands there
+
+-- from a place on the image shows what an input has from an offset to its piece's end
+pub record Shows (inputs : List MergeInput) (x : MergeInput) (offset place : ℕ) : Type 0 where
+  pub piece : Piece
+  pub distance : ℕ
+  pub covers : piece_at (pieces_of x) offset ≡ Some (piece, distance)
+  pub inside : distance < length piece
+  pub within : place + (length piece - distance) ≤ length (image fnv64 (all_pieces inputs))
+  pub bytes : take (length piece - distance) (drop place (image fnv64 (all_pieces inputs))) ≡ take (length piece - distance) (drop offset x.bytes)
+
+-- the address of an offset of a merged section shows what the section has there
+abbrev pub MergedAddressesShow : Type 0
+MergedAddressesShow = (link : LinkInput) (starts : ℕ → ℕ) (place : MergePlace) (k offset address : ℕ)
+    → slice_get (merge_inputs link (output_of link place.section)) k ≡ Some (merge_input place.number place.section)
+    → list_all is_terminated (merge_inputs link (output_of link place.section)) ≡ true → address_in link starts place offset ≡ Some address
+    → (n : ℕ) × (address ≡ starts (output_of link place.section) + n)
+    × Shows (merge_inputs link (output_of link place.section)) (merge_input place.number place.section) offset n

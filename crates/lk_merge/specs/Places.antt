@@ -1,7 +1,7 @@
 -- Laws on places: what the image shows there, and which places there are.
-use Rattle.std.specs.Prelude.{◌≡◌, ℕ, ◌+◌, ◌-◌, ◌%◌, ◌<◌, ◌≤◌, ◌⊎◌, ◌≢◌, List, length, None, Some, take, drop, true, slice_get}
+use Rattle.std.specs.Prelude.{◌≡◌, ℕ, ◌+◌, ◌-◌, ◌%◌, ◌<◌, ◌≤◌, ◌⊎◌, ◌≢◌, List, length, None, Some, take, drop, true, slice_get, sum_by}
 use Rattle.std.specs.List.{concat, flat_map, range_with_len}
-use Rattle.lk_merge.specs.Image.{all_pieces, bucket_list, image, image_place, is_among, piece_at, place_in}
+use Rattle.lk_merge.specs.Image.{all_pieces, bucket_list, image, image_pieces, image_place, is_among, piece_at, place_in}
 use Rattle.lk_merge.specs.Merging.{place_at}
 use Rattle.lk_merge.specs.Pieces.{Piece, MergeInput, is_terminated, pieces_of}
 
@@ -34,3 +34,12 @@ bucket_start hash pieces b = length (concat (flat_map (bucket_list hash pieces) 
 abbrev pub BucketsStart : Type 0
 BucketsStart = (hash : Piece → ℕ) (pieces : List Piece) (p : Piece) → is_among pieces p ≡ true
     → image_place hash pieces p ≡ bucket_start hash pieces (hash p % 16) + place_in (bucket_list hash pieces (hash p % 16)) p
+
+-- the image holds each piece once, and nothing else: it is as long as they are together, and each starts where the ones before it end
+pub record ImageIsDistinct : Type 0 where
+  pub each : (hash : Piece → ℕ) (pieces : List Piece) (p : Piece) → is_among (image_pieces hash pieces) p ≡ is_among pieces p
+  pub once : (hash : Piece → ℕ) (pieces : List Piece) (j k : ℕ) (p q : Piece) → j < k → slice_get (image_pieces hash pieces) j ≡ Some p
+      → slice_get (image_pieces hash pieces) k ≡ Some q → p ≢ q
+  pub len : (hash : Piece → ℕ) (pieces : List Piece) → length (image hash pieces) ≡ sum_by length (image_pieces hash pieces)
+  pub places : (hash : Piece → ℕ) (pieces : List Piece) (k : ℕ) (p : Piece) → slice_get (image_pieces hash pieces) k ≡ Some p
+      → image_place hash pieces p ≡ length (concat (take k (image_pieces hash pieces)))

@@ -1,8 +1,10 @@
 //! Laws on pieces and on images.
 
+ghost use Rattle.lk_merge.specs.Groups.{GroupsCover};
 ghost use Rattle.lk_merge.specs.Image.{BucketsGrow};
+ghost use Rattle.lk_merge.specs.OutputAddresses.{MergedAddressesShow};
 ghost use Rattle.lk_merge.specs.Pieces.{PiecesAreOne};
-ghost use Rattle.lk_merge.specs.Places.{BucketsStart, OffsetsHavePlaces, PiecesHavePlaces};
+ghost use Rattle.lk_merge.specs.Places.{BucketsStart, ImageIsDistinct, OffsetsHavePlaces, PiecesHavePlaces};
 
 /// A law: an input has pieces exactly where it is terminated, and they are the ones that are found.
 pub fn pieces_are_one()
@@ -30,4 +32,20 @@ pub fn offsets_have_places()
 /// A law: a piece stands in the image where its bucket starts, and as far behind as in the bucket.
 pub fn buckets_start()
     ensures { BucketsStart }
+{}
+
+/// A law: the image holds each piece of the inputs once, and nothing else; so it is as long as its distinct pieces together.
+pub fn image_is_distinct()
+    ensures { ImageIsDistinct }
+{}
+
+/// A law: the groups into which inputs are cut hold each padded offset once, in order; none is empty, and none cuts a constant;
+/// each piece is in the group in which it starts.
+pub fn groups_cover()
+    ensures { GroupsCover }
+{}
+
+/// A law: at the address of a reference the image shows what the input has, from the chosen offset to its piece's end.
+pub fn merged_addresses_show()
+    ensures { MergedAddressesShow }
 {}
