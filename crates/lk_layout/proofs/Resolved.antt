@@ -27,7 +27,7 @@ use Rattle.lk_link.specs.Inputs.{Input, NumberedFile, all_inputs, input_number, 
 use Rattle.lk_link.specs.InputSlots.{can_be_kept, is_discarded, is_merge, is_regular}
 use Rattle.lk_link.specs.Marks.{is_marked}
 use Rattle.lk_link.specs.Relocations.{resolution_flags}
-use Rattle.lk_link.specs.Symbols.{IsSymbolIn, all_files, all_symbols, file_number, first_symbol, symbol_at, symbols_before, symbols_in}
+use Rattle.lk_link.specs.Symbols.{IsSymbolIn, all_files, all_symbols, file_number, first_symbol, symbol_at, symbols_in}
 use Rattle.lk_link.specs.WellFormed.{IsWellFormed}
 use Rattle.lk_link.proofs.Elements.{append_at, at_contained, contains_at, flat_map_at, flat_map_in, map_at}
 use Rattle.lk_link.proofs.GoodSymbols.{numbered_symbol}
@@ -35,19 +35,18 @@ use Rattle.lk_link.proofs.InputLemmas.{file_stands, inputs_follow, numbered_get}
 use Rattle.lk_link.proofs.SymbolLemmas.{files_have_numbers, symbols_follow}
 use Rattle.lk_gc.specs.declared.error.ReferenceFault.{ReferenceFault}
 use Rattle.lk_gc.specs.declared.error.ReferenceFault.TheVariants.{Discarded}
-use Rattle.lk_gc.specs.declared.live.Live.{Live}
 use Rattle.lk_gc.specs.declared.units.Ask.{Ask}
 use Rattle.lk_gc.specs.declared.units.Ask.TheVariants.{Reference, Section, Mark}
 use Rattle.lk_gc.specs.declared.units.Unit.{Unit as LinkUnit}
 use Rattle.lk_gc.specs.declared.units.Unit.TheVariants.{Sym, Sec}
 use Rattle.lk_gc.specs.Faults.{file_faults, marked_faults, reference_faults, relocation_faults, section_faults}
 use Rattle.lk_gc.specs.Marks.{reached_marks, unit_number}
-use Rattle.lk_gc.specs.Reach.{AreLive, HasFlag, IsLive, IsReached}
+use Rattle.lk_gc.specs.Reach.{HasFlag, IsLive, IsReached}
 use Rattle.lk_gc.specs.Units.{AskFlag, AskFor, ask_for, file_roots, flags_from, flags_of, follows, is_primary_section, is_root, kind_roots, local_definition, numbered_symbols, range_mark, reference, relocation_asks, roots, section_asks, section_of, symbol_asks}
 use Rattle.lk_gc.proofs.ReachLemmas.{marks_are_reached, reach_more, reach_root}
 use Rattle.lk_gc.proofs.SymbolNumbers.{symbol_follows}
 use Rattle.lk_gc.proofs.UnitLemmas.{section_unit}
-use Rattle.lk_layout.specs.Laws.{IsResolvedIn, ResolvedSectionsAreLive}
+use Rattle.lk_layout.specs.Laws.{ResolvedSectionsAreLive}
 use Rattle.lk_layout.specs.Resolutions.{flags_at}
 
 -- ---- bits

@@ -2,7 +2,6 @@
 use Rattle.std.specs.Prelude.{ℕ, ◌+◌, ◌==◌, ◌&&◌, not, if◌then◌else◌, List, Option, Some}
 use Rattle.std.specs.Prelude.{None, Result, Ok, Err, map, option_and_then, option_map, slice_get, unwrap_or, Bool}
 use Rattle.std.specs.List.{enumerate_from, flat_map, slice_index_or}
-use Rattle.std.specs.Option.{option_map_or}
 use Rattle.lk_link.specs.declared.file.InputFile.{InputFile}
 use Rattle.lk_link.specs.declared.flags.TheConstants.ValueFlags as flag
 use Rattle.lk_link.specs.declared.flags.ValueFlags.{ValueFlags}

@@ -4,7 +4,7 @@
 //! file, gives each that stands for itself and is asked for its value: a place in a section is the section's address and the
 //! offset there, a number stays, and what is defined nowhere is 0. A symbol takes constant time.
 
-ghost use Rattle.std.specs.Prelude.{◌≡◌, ◌+◌, ◌<◌, ◌^◌, ◌++◌, ℕ, All, IfOk, OnOk, Some, None, true, if◌then◌else◌, map, length, slice_get};
+ghost use Rattle.std.specs.Prelude.{◌≡◌, ◌+◌, ◌<◌, ◌^◌, ◌++◌, All, IfOk, OnOk, Some, None, true, if◌then◌else◌, map, length};
 ghost use Rattle.std.specs.List.{enumerate_from, flat_map, slice_index_or};
 ghost use Rattle.lk_link.specs.Files.{file_in};
 ghost use Rattle.lk_link.specs.Inputs.{numbered_files};

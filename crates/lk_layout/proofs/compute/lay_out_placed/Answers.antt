@@ -1,10 +1,9 @@
-use Rattle.std.proofs.Common.{◌≡◌, ◌<◌, ℕ, List, length, sym, ap, subst, ◌∙◌, arith}
+use Rattle.std.proofs.Common.{◌≡◌, ◌<◌, ℕ, List, length, sym, ap, subst, ◌∙◌}
 use Rattle.std.specs.Prelude.{All}
-use Rattle.std.proofs.lemmas.List.{length-map}
-use Rattle.lk_place.specs.Records.{Record, record_at}
+use Rattle.lk_place.specs.Records.{Record}
 use Rattle.lk_sizes.specs.Contents.{contents_of}
 use Rattle.lk_sizes.specs.Header.{header_info}
-use Rattle.lk_sizes.specs.Owners.{first_size, part_size}
+use Rattle.lk_sizes.specs.Owners.{first_size}
 use Rattle.lk_layout.proofs.Settings.{active_there, length-by_part, length-section_records}
 use Rattle.lk_layout.proofs.compute.lay_out_placed.Goals as goal
 use Rattle.lk_place.specs.Segments.{section_records}

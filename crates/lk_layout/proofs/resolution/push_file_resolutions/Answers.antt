@@ -1,5 +1,4 @@
 use Rattle.std.proofs.Common.{◌≡◌, Some, length, sym, ap, ◌∙◌, arith}
-use Rattle.std.proofs.lemmas.Option.{MatchOption-at_some}
 use Rattle.lk_link.specs.declared.file.InputFile.{InputFile}
 use Rattle.lk_link.specs.Symbols.{AreSymbolsOf}
 use Rattle.lk_gc.proofs.SymbolNumbers.{first_within, inputs_few, symbols_few}
