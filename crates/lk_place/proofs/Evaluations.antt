@@ -66,7 +66,8 @@ deep (Leaf o) = omega arith
 deep (Node o l r) = omega arith
 
 -- the tokens of an expression that isn't deeper than the room find room
-room_for : (t : Term) (ts : List Token) (height : ℕ) → height + depth t ≤ MOST_DEPTH → HaveRoom ts (height + 1) → HaveRoom (postfix t ++ ts) height
+room_for : (t : Term) (ts : List Token) (height : ℕ) → height + depth t ≤ MOST_DEPTH → HaveRoom ts (height + 1)
+    → HaveRoom (postfix t ++ ts) height
 unfolding depth HaveRoom
 room_for (Leaf o) ts height fits rest = (omega arith, rest)
 room_for (Node o l r) ts height fits rest =
@@ -92,8 +93,8 @@ higher (Ok n) stack next h = let e : n ∷ stack ≡ next = cc in omega (arith, 
 higher (Err cause) stack next h = absurd (cc)
 
 -- how high the stack is behind a step
-pub stepped_height : (given : Operand → Valued) (t : Token) (stack next : List ℕ) → HasRoom t (length stack) → stepped given t stack ≡ Ok next
-    → length next ≡ height_behind t (length stack)
+pub stepped_height : (given : Operand → Valued) (t : Token) (stack next : List ℕ) → HasRoom t (length stack)
+    → stepped given t stack ≡ Ok next → length next ≡ height_behind t (length stack)
 stepped_height given (token.Operand o) stack next room h = higher (given o) stack next h
 stepped_height given (token.Operator o) (r ∷ l ∷ stack) next room h = omega (arith, higher (applied o l r) stack next h)
 stepped_height given (token.Operator o) (r ∷ []) next room h = absurd (omega (arith, room.0))

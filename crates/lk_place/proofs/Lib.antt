@@ -4,6 +4,7 @@ mod Checked
 mod Computing
 mod CongruenceLaws
 mod Congruent
+mod ConstantLaws
 mod Evaluations
 mod InsideLaws
 mod Insides

@@ -25,4 +25,5 @@ all_tokens test (Node o l r) =
     list_all-append p (postfix l ++ postfix r) (token.Operator o ∷ [])
     ∙ with_true (list_all p (postfix l ++ postfix r))
     ∙ list_all-append p (postfix l) (postfix r)
-    ∙ both (list_all p (postfix l)) (all_operands test l) (list_all p (postfix r)) (all_operands test r) (all_tokens test l) (all_tokens test r)
+    ∙ both (list_all p (postfix l)) (all_operands test l) (list_all p (postfix r)) (all_operands test r)
+    (all_tokens test l) (all_tokens test r)

@@ -2,6 +2,7 @@ pub mod Alignments
 pub mod Answers
 pub mod Constants
 pub mod Evaluation
+pub mod ExpressionLaws
 pub mod ExpressionTexts
 pub mod Expressions
 pub mod KnownThen

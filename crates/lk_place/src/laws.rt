@@ -1,5 +1,6 @@
 //! Laws of placement, each proved as the contract of a function that does nothing.
 
+ghost use Rattle.lk_place.specs.ExpressionLaws.{ConstantsGoByThoseBefore};
 ghost use Rattle.lk_place.specs.Laws.{FileRangesAreDisjoint, InsideIsPlaced, MemoryRangesAreDisjoint, OneLoadSegmentIsPlain};
 ghost use Rattle.lk_place.specs.Laws.{PlainMemoryIsCongruent, PlainMemoryIsDisjoint, RecordsKeepAlignments};
 ghost use Rattle.lk_place.specs.PlacementLaws.{PartsTakeTheirBytes, PlacementExists, PlacementIsOne, RefusedExactlyPast};
@@ -63,4 +64,9 @@ pub fn inside_is_placed()
 /// memory and take bytes of the file.
 pub fn one_load_segment_is_plain()
     ensures { OneLoadSegmentIsPlain }
+{}
+
+/// A law: each symbol has its place among the constants, and what stands there goes by the constants of the symbols before it.
+pub fn constants_go_by_those_before()
+    ensures { ConstantsGoByThoseBefore }
 {}
