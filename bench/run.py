@@ -3,6 +3,7 @@
 
 usage: run.py [PROGRAM [MEGABYTES..]]
        run.py --long [PROGRAM]
+       run.py --memory [PROGRAM]
 
 PROGRAM is crates/lk_program/out/lk_program unless given, the sizes are 1, 10 and 100 MB. Each
 description is given to the program in three forms, several times: with a value of a wrong shape that is
@@ -13,6 +14,8 @@ each is set against others of the same run.
 
 With --long, each description has one list that is as long as it may be, or millions long. The run fails
 where the program crashes, runs out of its stack of 8 MB or answers something else.
+
+With --memory, glibc counts what the program holds of memory over some descriptions of 10 MB.
 """
 
 import hashlib
@@ -24,6 +27,7 @@ import sys
 import tempfile
 
 import long_lists
+import memory
 
 HERE = os.path.dirname(os.path.abspath(__file__))
 DEFAULT_PROGRAM = os.path.join(HERE, "..", "crates", "lk_program", "out", "lk_program")
@@ -59,14 +63,22 @@ seconds; peak and output: multiples of the size
 """
 REST_COLUMNS = (
     *(("parse", 7), ("growth", 7), ("read/parse", 11), ("rest", 7), ("growth", 7), ("rest/parse", 11)),
-    *(("sections", 9), ("symbols", 9), ("room", 7), ("of 16+24", 9)),
 )
 REST_LEGEND = """\
 parse: ms/MB of making one JSON value of the whole text; rest: ms/MB of all after reading; growth: the powers
-of the size by which they grow; room: how far the peak is above that of reading and the report, in MB, and
-as a part of 16 bytes for each section and 24 for each symbol. Aim: rest/parse at most 0.25, of 16+24 at
-most 1.
+of the size by which they grow. Aim: rest/parse at most 0.25.
 """
+MEMORY_COLUMNS = (
+    *(("MB", 6), ("sections", 9), ("symbols", 9), ("reading", 8), ("read", 6), ("after", 7)),
+    *(("of 16+24", 9), ("room", 6), ("peak", 6)),
+)
+MEMORY_LEGEND = """\
+reading, read, peak: the most that is held while reading, the description, and the most of all, as multiples
+of the size; after: what is held beside the description before the report is made, in MB, and as a part of 16
+bytes for each section and 24 for each symbol; room: that of the report, as a multiple of it. Aim: of 16+24
+at most 1.
+"""
+MEMORY_BYTES = 10_000_000
 CHECKED_COLUMNS = (
     *(("ms/MB", 7), ("x wc -l", 8), ("read", 7), ("check", 6), ("growth", 11), ("peak", 8)),
     ("read peak", 10),
@@ -172,7 +184,6 @@ class Stages:
         command = [series.program, "layout", "0"]
         generate(path, megabytes * 1_000_000, series.shape)
         self.size = os.path.getsize(path)
-        self.sections, self.symbols = count_texts(path, b'"slot":', b'"at":')
         self.lines = best(["wc", "-l"], path, output, b"")
         self.whole = best(command, path, output, WHOLE_ANSWERS)
         around = path + ".around"
@@ -183,11 +194,6 @@ class Stages:
         self.read = best(command, path, output, READ_ANSWER)
         self.reading = self.read.seconds
         self.rest = self.whole.seconds - self.reading
-        self.room = self.whole.peak - self.read.peak - self.whole.written
-
-    def allowed_room(self):
-        """The bytes that a layout may take after reading, beside its report."""
-        return BYTES_OF_SECTION * self.sections + BYTES_OF_SYMBOL * self.symbols
 
 
 class Series:
@@ -234,10 +240,6 @@ class Series:
             "%.1f" % (stages.rest * 1e9 / stages.size),
             self.growth(stages, lambda of: of.rest),
             "%.2f" % (stages.rest / parsing),
-            stages.sections,
-            stages.symbols,
-            "%.1f" % (stages.room / 1e6),
-            "%.2f" % (stages.room / stages.allowed_room()) if stages.allowed_room() else "-",
         )
 
     def checked_row(self, stages):
@@ -308,10 +310,40 @@ def measure_long_lists(program, folder):
         print_line(LONG_COLUMNS, (long_list.name, *long_row(program, path, output, long_list)))
 
 
+def memory_row(program, folder, shape):
+    """What the program holds over one description."""
+    path, output = os.path.join(folder, "description"), os.path.join(folder, "output")
+    generate(path, MEMORY_BYTES, shape)
+    size = os.path.getsize(path)
+    sections, symbols = count_texts(path, b'"slot":', b'"at":')
+    held = memory.held([program, "layout", "0"], path, output, os.path.join(folder, "trace"))
+    return (
+        "%.1f" % (size / 1e6),
+        sections,
+        symbols,
+        "%.2f" % (held.reading / size),
+        "%.2f" % (held.description / size),
+        "%.2f" % (held.before_report / 1e6),
+        "%.2f" % (held.before_report / (BYTES_OF_SECTION * sections + BYTES_OF_SYMBOL * symbols)),
+        "%.1f" % (held.report / os.path.getsize(output)),
+        "%.2f" % (held.all / size),
+    )
+
+
+def measure_memory(program, folder):
+    print_headings(MEMORY_COLUMNS)
+    for shape in LARGE_SHAPES:
+        print_line(MEMORY_COLUMNS, (shape, *memory_row(program, folder, shape)))
+    print(MEMORY_LEGEND)
+
+
+OTHER_MEASURES = {"--long": measure_long_lists, "--memory": measure_memory}
+
+
 def main(words):
-    if words[:1] == ["--long"]:
+    if words and words[0] in OTHER_MEASURES:
         with tempfile.TemporaryDirectory() as folder:
-            measure_long_lists(os.path.abspath((words + [DEFAULT_PROGRAM])[1]), folder)
+            OTHER_MEASURES[words[0]](os.path.abspath((words + [DEFAULT_PROGRAM])[1]), folder)
         return
     program = os.path.abspath(words[0] if words else DEFAULT_PROGRAM)
     sizes = sorted(map(int, words[1:])) or DEFAULT_MEGABYTES

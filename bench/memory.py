@@ -1,0 +1,47 @@
+"""What the program holds in memory, allocation by allocation, as glibc's own counter tells it.
+
+The counter is the library libmemusage.so of glibc. It writes an entry of 24 bytes for each allocation and each
+release, behind two entries of its own; an entry begins with the bytes that are held then.
+"""
+
+import array
+import os
+import subprocess
+
+LIBRARY = "libmemusage.so"
+ENTRY_WORDS, OWN_ENTRIES = 3, 2
+
+
+class Held:
+    """The bytes that a run holds: at most, when all is read, and from then on."""
+
+    def __init__(self, levels):
+        falls = [after - before for before, after in zip(levels, levels[1:])]
+        # The greatest release is that of the input, when all is read.
+        end = min(range(len(falls)), key=falls.__getitem__) + 1
+        self.description = levels[end]
+        self.reading = max(levels[: end + 1])
+        # The greatest allocation after that is the room of the report, which is made when all else is there.
+        rises = [after - before for before, after in zip(levels[end:], levels[end + 1 :])]
+        report = max(range(len(rises)), key=rises.__getitem__)
+        self.report = rises[report]
+        self.before_report = max(levels[end : end + report + 1]) - self.description
+        self.all = max(levels)
+
+
+def held(command, path, output, trace):
+    """What a command holds over a file; its output goes to another one."""
+    counter = {"LD_PRELOAD": LIBRARY, "MEMUSAGE_OUTPUT": trace, "MEMUSAGE_NO_TIMER": "1"}
+    with open(path, "rb") as source, open(output, "wb") as sink:
+        subprocess.run(
+            command,
+            stdin=source,
+            stdout=sink,
+            stderr=subprocess.DEVNULL,
+            env={**os.environ, **counter},
+            check=True,
+        )
+    words = array.array("Q")
+    with open(trace, "rb") as file:
+        words.frombytes(file.read())
+    return Held(words[OWN_ENTRIES * ENTRY_WORDS :: ENTRY_WORDS])
