@@ -99,3 +99,6 @@ stepped_height given (token.Operand o) stack next room h = higher (given o) stac
 stepped_height given (token.Operator o) (r ∷ l ∷ stack) next room h = omega (arith, higher (applied o l r) stack next h)
 stepped_height given (token.Operator o) (r ∷ []) next room h = absurd (omega (arith, room.0))
 stepped_height given (token.Operator o) [] next room h = absurd (omega (arith, room.0))
+
+-- what the walk over an expression's tokens goes by
+pub ruleset evaluating = (run_all, room_for_all, stepped_height)

@@ -46,7 +46,7 @@ fn step<S: Surroundings>(surroundings: &S, token: Token, stack: &mut Stack) -> R
 
 /// The value of an expression in its surroundings, or the first cause, from left to right, that it has none. Takes time for each
 /// token, and no memory.
-#[tactic(auto, using(crate::proofs::Evaluations::run_all, crate::proofs::Evaluations::room_for_all, crate::proofs::Evaluations::stepped_height), unfolding(crate::specs::Evaluation::run, crate::specs::Evaluation::HaveRoom))]
+#[tactic(auto, using(crate::proofs::Evaluations::evaluating), unfolding(crate::specs::Evaluation::run, crate::specs::Evaluation::HaveRoom))]
 pub(super) fn evaluate<S: Surroundings>(
     surroundings: &S,
     expression: &Expression,
