@@ -21,12 +21,15 @@ use Rattle.lk_merge.specs.MergingTables.{AllFit, GivesFitting, HasMerged, entry_
 use Rattle.lk_merge.specs.Pieces.{Piece, MergeInput, is_terminated}
 use Rattle.lk_merge.proofs.TooLong.{fits_from_none, none_first, some_first, unrefused_list}
 use Rattle.lk_merge.proofs.Beginning.{no_list}
+use Rattle.lk_link.proofs.Elements.{map_at}
 use Rattle.lk_merge.proofs.InputLemmas.{located_none, pieces_located_from}
+use Rattle.lk_merge.proofs.LocatedLemmas.{slice_within}
 
 pub no_merged : IsMerged [] [] []
 no_merged = record {
   terminated = refl;
   kept = refl;
+  numbered = λ b k there. absurd (cc);
   small = λ b h. let n : length (concat (bucket_list fnv64 [] b)) ≡ 0 = ap (λ l. length (concat l)) (no_list b) in omega (arith, n);
   offsets = ap (map (entry_of [])) (sym (located_none 0 0));
 }
@@ -93,6 +96,12 @@ is_merged section limit inputs merging buckets entries small h terminated some n
       kept =
           ap (map (λ (k : Bucket). k.pieces)) are ∙ kept_are section limit (located inputs) merging h fit
           ∙ ap (λ ps. map (bucket_list fnv64 ps) all_buckets) all ∙ sym (kept_lists_some inputs some);
+      numbered = λ b k there.
+          let bucket_of : BucketState → Bucket = λ s. s.bucket in
+          let from = map_at bucket_of merging.buckets.items b k (ap (λ (l : List Bucket). slice_get l b) (sym are) ∙ there) in
+          let within = slice_within merging.buckets.items b from.0 from.1 in
+          let holds = (h.buckets b from.0 from.1).holds (fit b (omega (arith, within, h.count))) in
+          ap (λ (z : Bucket). z.number) (sym from.2 ∙ holds);
       small = λ b below. subst (λ ps. length (concat (bucket_list fnv64 ps b)) ≤ 2 ^ 28) all (lists_small section limit (located inputs) merging h small fit b below);
       offsets = is ∙ h.entries fit ∙ ap (λ ps. map (entry_of ps) (located inputs)) all;
     }

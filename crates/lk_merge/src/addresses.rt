@@ -5,12 +5,10 @@ ghost use Rattle.lk_merge.specs.Addresses.{AreStartsOf, ImagesFit, bucket_addres
 ghost use Rattle.lk_merge.specs.Hash.{fnv64};
 ghost use Rattle.lk_merge.specs.Image.{all_pieces, image};
 
+use crate::bucket::BUCKETS;
 use crate::section::MergedStringsSection;
 use std::alloc::{AllocError, Global};
 use std::marker::Model;
-
-/// How many buckets an output section has.
-const BUCKETS: usize = 16;
 
 /// The addresses of the buckets of all output sections, sixteen for each (libwild: `MergedStringStartAddresses`). Contracts
 /// see the list of them.
@@ -28,8 +26,8 @@ impl Model for MergedStringStartAddresses {
 }
 
 impl MergedStringStartAddresses {
-    /// The addresses of the buckets of merged sections, whose images start at these addresses. Takes constant time for each
-    /// section.
+    /// The addresses of the buckets of merged sections, whose images start at these addresses: of a section without inputs all
+    /// are where its image, which is empty, starts. Takes constant time for each section.
     pub fn compute(
         alloc: Global,
         merged: &[MergedStringsSection<'_>],

@@ -16,6 +16,9 @@ use lk_link::OutputSectionId;
 use std::alloc::Global;
 use std::marker::Model;
 
+/// How many buckets an output section has.
+pub(crate) const BUCKETS: usize = 16;
+
 /// A bucket of an output section (libwild: `MergeStringsSectionBucket`).
 #[derive(Drop)]
 pub struct MergeStringsSectionBucket<'data> {

@@ -15,7 +15,7 @@ ghost use Rattle.lk_merge.specs.MergingTables.{GivesFitting, HasMerged, HasMerge
 ghost use Rattle.lk_merge.specs.Pieces.{Piece, cut, is_terminated, pieces_of};
 ghost use Rattle.lk_merge.specs.declared.merging.BucketState.{BucketState};
 
-use crate::bucket::MergeStringsSectionBucket;
+use crate::bucket::{BUCKETS, MergeStringsSectionBucket};
 use crate::error::MergeError;
 use crate::inputs::{StringMergeInputSection, StringMergeInputSections};
 use crate::offset::BucketOffset;
@@ -24,9 +24,6 @@ use crate::section::MergedStringsSection;
 use crate::string::MergeString;
 use lk_link::OutputSectionId;
 use std::alloc::{AllocError, Global};
-
-/// How many buckets an output section has.
-const BUCKETS: usize = 16;
 
 /// A bucket while pieces are added, and why it has stopped.
 #[derive(Drop)]

@@ -2,6 +2,7 @@
 
 ghost use Rattle.std.specs.Prelude.{◌≡◌, ◌<◌, ℕ, [], MatchOption, Some, length, map, slice_get};
 ghost use Rattle.std.specs.List.{concat};
+ghost use Rattle.lk_merge.specs.Buckets.{Bucket};
 ghost use Rattle.lk_merge.specs.Hash.{fnv64};
 ghost use Rattle.lk_merge.specs.Image.{all_pieces, bucket_list, image, image_pieces};
 ghost use Rattle.lk_merge.specs.MergedTables.{IsMerged};
@@ -69,7 +70,8 @@ impl<'data> MergedStringsSection<'data> {
 
     /// The buckets, in order: none without inputs, else 16 (libwild: its field `buckets`).
     pub fn buckets(&self) -> &[MergeStringsSectionBucket<'data>]
-        ensures { map (λ k. k.pieces) result.now ≡ kept_lists fnv64 self.now }
+        ensures kept { map (λ k. k.pieces) result.now ≡ kept_lists fnv64 self.now }
+        ensures numbered { (b : ℕ) (k : Bucket) → slice_get result.now b ≡ Some k → k.number ≡ b }
     {
         self.buckets.as_slice()
     }
