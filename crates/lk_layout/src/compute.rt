@@ -2,7 +2,8 @@
 //!
 //! Each step looks at what the ones before it made, and none goes back: what is live, what the live sections bring to each
 //! part, where the parts stand, which sections and segments are told, what those span, and at last the address of each live
-//! section. A step that refuses ends the computation, so that the answer is the first refusal in this order, or the layout.
+//! section and what each symbol stands for. A step that refuses ends the computation, so that the answer is the first refusal in
+//! this order, or the layout.
 
 ghost use Rattle.std.specs.Prelude.{◌≡◌, ◌<◌, ◌≤◌, ℕ, length};
 ghost use Rattle.lk_gc.specs.Reach.{AreLive};
@@ -90,8 +91,8 @@ fn lay_out_live<P: Platform>(
     lay_out_placed(alloc, link, live, contents.as_slice(), &sizes, placed)
 }
 
-/// The layout of a link that is placed, by the first sizes of its parts: headers, segments, attributes and the addresses of
-/// live sections.
+/// The layout of a link that is placed, by the first sizes of its parts: headers, segments, attributes, the addresses of live
+/// sections, and what symbols stand for.
 fn lay_out_placed(
     alloc: Global,
     link: &LinkInput,
