@@ -1,13 +1,12 @@
 -- The groups of inputs hold each offset and each piece once.
-use Rattle.std.proofs.Common.{◌≡◌, ℕ, zero, suc, ◌+◌, ◌<◌, ◌≤◌, Bool, true, false, cond, ◌&&◌, leb, ltb, List, [], ◌∷◌, ◌++◌, length, map, filter, Some, refl, sym, ap, ◌∙◌, subst, arith, inl, inr, ◌⊎◌, ⊎_elim}
-use Rattle.std.specs.List.{flat_map, list_all, slice_get}
-use Rattle.std.proofs.lemmas.Bool.{cases_lt, le-leb, le-ltb, leb-true, lt-leb, lt-ltb, ltb-true}
+use Rattle.std.proofs.Common.{◌≡◌, ℕ, zero, suc, ◌<◌, ◌≤◌, Bool, true, false, cond, ◌&&◌, leb, ltb, List, [], ◌∷◌, ◌++◌, map, filter, Some, refl, sym, ap, ◌∙◌, subst, arith, inl, inr, ⊎_elim}
+use Rattle.std.specs.List.{flat_map, slice_get}
+use Rattle.std.proofs.lemmas.Bool.{cases_lt, le-leb, le-ltb, lt-leb, lt-ltb}
 use Rattle.std.proofs.lemmas.List.{map-append}
 use Rattle.lk_merge.specs.declared.groups.SectionGroup.{SectionGroup}
-use Rattle.lk_merge.specs.Groups.{AreGroups, CutsNoConstant, GroupsCover, IsGroupEnd, IsWholeOrOutside, group_pieces, input_start}
-use Rattle.lk_merge.specs.Image.{all_pieces}
-use Rattle.lk_merge.specs.Inputs.{Located, located, padded_len, padded_total}
-use Rattle.lk_merge.specs.Pieces.{Piece, MergeInput, is_terminated}
+use Rattle.lk_merge.specs.Groups.{AreGroups, CutsNoConstant, GroupsCover, IsGroupEnd, IsWholeOrOutside, group_pieces}
+use Rattle.lk_merge.specs.Inputs.{Located, located, padded_total}
+use Rattle.lk_merge.specs.Pieces.{Piece, MergeInput}
 use Rattle.lk_merge.proofs.GoodPieces.{good_pieces}
 use Rattle.lk_merge.proofs.InputLemmas.{pieces_located_from}
 use Rattle.lk_merge.proofs.LocatedLemmas.{Rise, between_from, rise_from}

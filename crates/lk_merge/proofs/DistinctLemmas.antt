@@ -1,11 +1,11 @@
 -- The image holds each piece once.
-use Rattle.std.proofs.Common.{◌≡◌, ◌≢◌, ℕ, zero, suc, ◌+◌, ◌%◌, ◌<◌, ◌≤◌, Bool, true, false, cond, ◌||◌, eqb, List, [], ◌∷◌, ◌++◌, length, take, Some, sum_by, refl, sym, ap, ◌∙◌, subst, arith, inl, inr, ⊎_elim, length-append}
+use Rattle.std.proofs.Common.{◌≡◌, ◌≢◌, ℕ, zero, suc, ◌+◌, ◌%◌, ◌<◌, ◌≤◌, Bool, true, false, ◌||◌, eqb, List, [], ◌∷◌, ◌++◌, length, take, Some, sum_by, refl, sym, ap, ◌∙◌, subst, arith, inl, inr, length-append}
 use Rattle.std.specs.List.{concat, flat_map, range_with_len, slice_get}
 use Rattle.std.specs.Str.{bytes_eq}
-use Rattle.std.proofs.lemmas.Bool.{both_ways, cases_lt, eqb-true, eqb-false, true≢false}
+use Rattle.std.proofs.lemmas.Bool.{eqb-true, eqb-false, true≢false}
 use Rattle.std.proofs.lemmas.List.Sums.{sum_by-cons}
 use Rattle.lk_link.proofs.Elements.{append_at}
-use Rattle.lk_merge.specs.Image.{all_buckets, bucket_list, firsts_behind, image, image_pieces, image_place, in_bucket, is_among, place_in}
+use Rattle.lk_merge.specs.Image.{all_buckets, bucket_list, firsts_behind, image_pieces, in_bucket, is_among, place_in}
 use Rattle.lk_merge.specs.Pieces.{Piece}
 use Rattle.lk_merge.specs.Places.{ImageIsDistinct}
 use Rattle.lk_merge.proofs.AmongLemmas.{among-append, among-firsts, equal_piece, firsts_step, place_step, same_piece}

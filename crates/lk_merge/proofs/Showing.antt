@@ -1,13 +1,12 @@
 -- What stands at the addresses of merged sections.
-use Rattle.std.proofs.Common.{◌≡◌, ℕ, ◌+◌, ◌-◌, ◌<◌, ◌≤◌, Bool, true, false, cond, List, Option, None, Some, length, take, drop, ltb, refl, sym, ap, ◌∙◌, arith}
-use Rattle.std.specs.List.{concat, list_all, slice_get}
+use Rattle.std.proofs.Common.{◌≡◌, ℕ, ◌+◌, ◌-◌, ◌<◌, Bool, true, false, cond, List, Option, None, Some, length, take, drop, ltb, refl, sym, ap, ◌∙◌, arith}
+use Rattle.std.specs.List.{list_all, slice_get}
 use Rattle.std.specs.Option.{option_map_or}
 use Rattle.std.proofs.lemmas.Bool.{ltb-true}
-use Rattle.lk_link.specs.declared.link.LinkInput.{LinkInput}
 use Rattle.lk_merge.specs.Hash.{fnv64}
-use Rattle.lk_merge.specs.Image.{all_pieces, image, image_place, piece_at}
+use Rattle.lk_merge.specs.Image.{all_pieces, image, image_place}
 use Rattle.lk_merge.specs.LinkInputs.{merge_input, merge_inputs}
-use Rattle.lk_merge.specs.OutputAddresses.{MergePlace, MergedAddressesShow, Shows, address_in, offset_place, output_of}
+use Rattle.lk_merge.specs.OutputAddresses.{MergedAddressesShow, Shows, address_in, offset_place, output_of}
 use Rattle.lk_merge.specs.Pieces.{Piece, MergeInput, is_terminated, pieces_of}
 use Rattle.lk_merge.proofs.GoodPieces.{terminated_at}
 use Rattle.lk_merge.proofs.PlaceLemmas.{among_all, holds_at, offsets_have_places, pieces_have_places}
