@@ -257,7 +257,7 @@ can_keep slot.MustLoadDebugInfo h g = refl
 can_keep slot.Merge h g = absurd (cc)
 
 pub resolved_sections_are_live : ResolvedSectionsAreLive
-resolved_sections_are_live link live id file i section wf are met there r at_i unmerged =
+resolved_sections_are_live link live wf are met id file i section there r at_i unmerged =
     let s : ℕ = first_symbol link.groups id + r.index in
     let f : ValueFlags = flags_at live.flags s in
     let lt = slice_get_within file.symbols r.index r.symbol r.there in

@@ -36,6 +36,7 @@ use Rattle.lk_layout.proofs.CarriedPlans.{no_zero_fill}
 use Rattle.lk_layout.proofs.LaidOut.{IsLaidOut, laid_out}
 use Rattle.lk_layout.proofs.PartStarts.{part_starts}
 use Rattle.lk_layout.proofs.Placing.{size-le}
+use Rattle.lk_layout.proofs.Resolved.{resolved_sections_are_live}
 use Rattle.lk_layout.proofs.Settings.{ready, size_of, takes}
 use Rattle.lk_link.proofs.Elements.{contains_at, map_in}
 
@@ -200,6 +201,7 @@ is_sound tile aligned owners mass file memory in_step keep target link layout la
       reached = laid.are_live;
       shown = shown target link layout laid;
       resolved = resolved target link layout laid;
+      placed = resolved_sections_are_live link laid.live laid.good laid.are_live laid.met;
       entered = ap (λ (l : Layout). l.entry_symbol_id) laid.same;
       aligned = sections_aligned tile aligned owners target link layout laid;
       shared = shared_out tile mass target link layout laid;

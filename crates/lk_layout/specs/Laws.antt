@@ -1,24 +1,13 @@
 -- Laws: every link has one defined answer, a defined layout is sound, and what symbols stand for is live.
-use Rattle.std.specs.Prelude.{◌≡◌, ℕ, ◌+◌, ◌<◌, true, false, [], Some, Result, Ok, slice_get, take}
+use Rattle.std.specs.Prelude.{◌≡◌, ℕ, ◌<◌, true, false, [], Result, Ok, take}
 use Rattle.lk_link.specs.declared.link.LinkInput.{LinkInput}
 use Rattle.lk_link.specs.Inside.{is_open}
 use Rattle.lk_link.specs.PlanSections.{is_allocated, is_file_backed}
 use Rattle.lk_link.specs.Target.{IsLawful, Target}
-use Rattle.lk_link.specs.declared.file.InputFile.{InputFile}
-use Rattle.lk_link.specs.declared.ids.FileId.{FileId}
-use Rattle.lk_link.specs.declared.section.InputSection.{InputSection}
-use Rattle.lk_link.specs.declared.symbol.InputSymbol.{InputSymbol}
-use Rattle.lk_link.specs.FileKinds.{is_object}
-use Rattle.lk_link.specs.Files.{file_in}
-use Rattle.lk_link.specs.InputSlots.{is_merge}
-use Rattle.lk_link.specs.Inputs.{input_number}
-use Rattle.lk_link.specs.Marks.{is_marked}
-use Rattle.lk_link.specs.Symbols.{first_symbol}
 use Rattle.lk_link.specs.WellFormed.{IsWellFormed}
 use Rattle.lk_gc.specs.declared.live.Live.{Live}
 use Rattle.lk_gc.specs.Faults.{reference_faults}
 use Rattle.lk_gc.specs.Reach.{AreLive}
-use Rattle.lk_gc.specs.Units.{section_of}
 use Rattle.lk_place.specs.Plain.{IsLoadSegment, IsPlain, OpensLoad, PlacesInLoad}
 use Rattle.lk_place.specs.Plans.{IsPlaceable}
 use Rattle.lk_place.specs.Ranges.{MemoryIsDisjoint}
@@ -26,8 +15,7 @@ use Rattle.lk_layout.specs.declared.error.LayoutError.{LayoutError}
 use Rattle.lk_layout.specs.declared.layout.Layout.{Layout}
 use Rattle.lk_layout.specs.Carried.{IsCarried}
 use Rattle.lk_layout.specs.Defined.{IsDefined}
-use Rattle.lk_layout.specs.Resolutions.{flags_at, is_resolved}
-use Rattle.lk_layout.specs.Sound.{IsSound, LiveSectionsAreApart}
+use Rattle.lk_layout.specs.Sound.{IsSound, LiveSectionsAreApart, SymbolsStandInLiveSections}
 
 -- every link has a defined answer
 abbrev pub DefinedAnswerExists : Type 0
@@ -70,18 +58,7 @@ pub record HasPlainLoads (link : LinkInput) : Type 0 where
 abbrev pub CarriedPlansArePlain : Type 0
 CarriedPlansArePlain = (link : LinkInput) → IsCarried link → HasPlainLoads link → IsPlain link.plan link.options.output
 
--- a symbol of an object has a resolution, and stands for a place in the section with this index
-pub record IsResolvedIn (link : LinkInput) (live : Live) (id : FileId) (file : InputFile) (i : ℕ) : Type 0 where
-  pub index : ℕ
-  pub symbol : InputSymbol
-  pub object : is_object file.kind ≡ true
-  pub there : slice_get file.symbols index ≡ Some symbol
-  pub at : section_of symbol.at ≡ Some i
-  pub resolved : is_resolved (first_symbol link.groups id + index) symbol (flags_at live.flags (first_symbol link.groups id + index)) ≡ true
-
--- where references are met, that section is live, unless its data is merged
+-- where references are met, a symbol that has a resolution stands in a live section
 abbrev pub ResolvedSectionsAreLive : Type 0
-ResolvedSectionsAreLive = (link : LinkInput) (live : Live) (id : FileId) (file : InputFile) (i : ℕ) (section : InputSection)
-    → IsWellFormed link → AreLive link live → reference_faults link ≡ [] → file_in link.groups id ≡ Some file
-    → IsResolvedIn link live id file i → slice_get file.sections i ≡ Some section → is_merge section.slot ≡ false
-    → is_marked live.marks (input_number link.groups id i) ≡ true
+ResolvedSectionsAreLive = (link : LinkInput) (live : Live) → IsWellFormed link → AreLive link live → reference_faults link ≡ []
+    → SymbolsStandInLiveSections link live

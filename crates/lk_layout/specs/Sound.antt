@@ -1,13 +1,23 @@
 -- What a layout keeps apart, and what it keeps in step.
 use Rattle.std.specs.Prelude.{◌≡◌, ◌≢◌, [], ℕ, ◌+◌, ◌%◌, ◌<◌, ◌≤◌, true, false, Some, length, slice_get}
 use Rattle.std.specs.Int.{◌∣◌}
+use Rattle.lk_link.specs.declared.file.InputFile.{InputFile}
+use Rattle.lk_link.specs.declared.ids.FileId.{FileId}
 use Rattle.lk_link.specs.declared.link.LinkInput.{LinkInput}
-use Rattle.lk_link.specs.Inputs.{Input}
+use Rattle.lk_link.specs.declared.section.InputSection.{InputSection}
+use Rattle.lk_link.specs.declared.symbol.InputSymbol.{InputSymbol}
+use Rattle.lk_link.specs.FileKinds.{is_object}
+use Rattle.lk_link.specs.Files.{file_in}
+use Rattle.lk_link.specs.Inputs.{Input, input_number}
+use Rattle.lk_link.specs.InputSlots.{is_merge}
+use Rattle.lk_link.specs.Marks.{is_marked}
 use Rattle.lk_link.specs.Parts.{all_parts, part_at}
 use Rattle.lk_link.specs.PlanSections.{is_file_backed}
+use Rattle.lk_link.specs.Symbols.{first_symbol}
 use Rattle.lk_gc.specs.declared.live.Live.{Live}
 use Rattle.lk_gc.specs.Faults.{reference_faults}
 use Rattle.lk_gc.specs.Reach.{AreLive, live_inputs}
+use Rattle.lk_gc.specs.Units.{section_of}
 use Rattle.lk_place.specs.Plain.{IsPlain, PlacesInLoad}
 use Rattle.lk_place.specs.Ranges.{FileIsDisjoint, HasPart, MemoryIsDisjoint, TakesMemory}
 use Rattle.lk_place.specs.Records.{Record, record_at}
@@ -18,7 +28,7 @@ use Rattle.lk_sizes.specs.Owners.{bytes_of, owners_of}
 use Rattle.lk_sizes.specs.Tiles.{IsTiled}
 use Rattle.lk_layout.specs.declared.layout.Layout.{Layout}
 use Rattle.lk_layout.specs.Defined.{starts_of}
-use Rattle.lk_layout.specs.Resolutions.{entry_symbol, symbol_resolutions}
+use Rattle.lk_layout.specs.Resolutions.{entry_symbol, flags_at, is_resolved, symbol_resolutions}
 
 -- the record of the part with this number over all sections
 abbrev pub part_record : Layout → ℕ → Record
@@ -58,6 +68,21 @@ abbrev pub LiveSectionsAreAligned : LinkInput → Live → Layout → Type 0
 LiveSectionsAreAligned link live layout = (a : ℕ) (x : Input) (l : LiveSection) → IsTold link live layout a x l → 0 < l.size
     → (part_at link.plan.sections x.section.part).packed ≡ false → (part_at link.plan.sections x.section.part).alignment ∣ l.address
 
+-- a symbol of an object has a resolution, and stands for a place in the section with this index
+pub record IsResolvedIn (link : LinkInput) (live : Live) (id : FileId) (file : InputFile) (i : ℕ) : Type 0 where
+  pub index : ℕ
+  pub symbol : InputSymbol
+  pub object : is_object file.kind ≡ true
+  pub there : slice_get file.symbols index ≡ Some symbol
+  pub at : section_of symbol.at ≡ Some i
+  pub resolved : is_resolved (first_symbol link.groups id + index) symbol (flags_at live.flags (first_symbol link.groups id + index)) ≡ true
+
+-- that section is live, unless its data is merged
+abbrev pub SymbolsStandInLiveSections : LinkInput → Live → Type 0
+SymbolsStandInLiveSections link live = (id : FileId) (file : InputFile) (i : ℕ) (section : InputSection)
+    → file_in link.groups id ≡ Some file → IsResolvedIn link live id file i → slice_get file.sections i ≡ Some section
+    → is_merge section.slot ≡ false → is_marked live.marks (input_number link.groups id i) ≡ true
+
 -- what holds of the memory of a layout under a plain plan: no two parts share an address, nor do two live sections; and memory
 -- goes along the file
 pub record IsSoundInMemory (link : LinkInput) (live : Live) (layout : Layout) : Type 0 where
@@ -73,6 +98,7 @@ pub record IsSound (link : LinkInput) (live : Live) (layout : Layout) : Type 0 w
   pub reached : AreLive link live
   pub shown : layout.live_sections ≡ live_sections link live (starts_of layout.section_part_layouts)
   pub resolved : layout.symbol_resolutions ≡ symbol_resolutions link live (starts_of layout.section_part_layouts)
+  pub placed : SymbolsStandInLiveSections link live
   pub entered : layout.entry_symbol_id ≡ entry_symbol link
   pub aligned : LiveSectionsAreAligned link live layout
   pub shared : (p : ℕ) → p < length (all_parts link.plan.sections) → IsSharedOut link live layout p

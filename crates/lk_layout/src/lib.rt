@@ -1,4 +1,5 @@
-//! Lays out a link: which input sections are kept, and the address and file range of every part, section and segment.
+//! Lays out a link: which input sections are kept, the address and file range of every part, section and segment, and what symbols
+//! stand for.
 #![tactic(auto)]
 
 mod addresses;
