@@ -20,6 +20,7 @@ use Rattle.lk_place.specs.declared.segments.SegmentLayout.{SegmentLayout}
 use Rattle.lk_place.specs.Segments.{first_outside, outside_refusal, section_records}
 use Rattle.lk_sizes.specs.declared.addresses.LiveSection.{LiveSection}
 use Rattle.lk_sizes.specs.Emitted.{is_emitted}
+use Rattle.lk_layout.specs.OutputContent.{output_content}
 
 -- the exit of a `?`: what holds of each error that may come through it
 pub err_exit : {X : Type 0} (Q : Result X LayoutError → Type 0) (P : LayoutError → Type 0) (r : Result X LayoutError) → IsErrAnd r P → ((e : LayoutError) → P e → Q (Err e)) → Q r
@@ -93,7 +94,7 @@ carried target link answer good all given =
 -- ---- behind the placement
 
 -- what is told, where no section stands outside the segments
-pub told : (link : LinkInput) (live : Live) (records : List Record) (layout : Layout) → first_outside link (section_records link.plan.sections records) (is_emitted link live) ≡ None
+pub told : (link : LinkInput) (live : Live) (records : List Record) (layout : Layout) → first_outside link (section_records link.plan.sections records) (is_emitted link (output_content link live)) ≡ None
     → layout ≡ layout_of link live records → IsPlacedAnswer link live records (Ok layout)
 told link live records layout inside is =
     unless_none (segment_refusal link live records) (Ok layout) _ (ap (λ (o : Option ℕ). option_map place_error (outside_refusal o)) inside) (ap (λ (x : Layout). Ok x) is)

@@ -26,6 +26,7 @@ use Rattle.lk_gc.specs.declared.live.Live.{Live}
 use Rattle.lk_link.specs.Target.{Target}
 use Rattle.lk_sizes.specs.Owners.{part_sizes}
 use Rattle.lk_layout.specs.Defined.{setting}
+use Rattle.lk_layout.specs.OutputContent.{output_content}
 
 -- ---- alignments
 
@@ -72,7 +73,7 @@ section_in (x ∷ xs) p h =
 
 pub part_starts : (target : Target) (link : LinkInput) (live : Live) (states : List Cursors) (records : List Record) (p : ℕ) → IsWellFormed link
     → IsPlaced (setting target link live) states records → placement_refusal (setting target link live) states ≡ None
-    → p < length (all_parts link.plan.sections) → 0 < size_at (part_sizes link live) p
+    → p < length (all_parts link.plan.sections) → 0 < size_at (part_sizes link (output_content link live)) p
     → (part_at link.plan.sections p).alignment ∣ (record_at records p).mem_offset
 part_starts target link live states records p good is unrefused within some =
     let s : Setting = setting target link live in

@@ -35,6 +35,7 @@ use Rattle.lk_sizes.specs.Owners.{EndsFit, live_address, part_size}
 use Rattle.lk_sizes.proofs.Adding.{bytes_into, bytes_into-append, bytes_into_here}
 use Rattle.lk_sizes.proofs.Addressing.{address_behind}
 use Rattle.lk_sizes.proofs.LiveOnes.{live_goes}
+use Rattle.lk_sizes.proofs.Walking.{all_fit}
 use Rattle.lk_layout.specs.Carried.{IsCarried}
 use Rattle.lk_layout.specs.declared.resolution.Resolution.{Resolution}
 use Rattle.lk_layout.specs.Defined.{starts_of}
@@ -42,23 +43,24 @@ use Rattle.lk_layout.specs.Resolutions.{address_at, file_resolutions, symbol_res
 use Rattle.lk_layout.specs.Spread.{HasRoom, HaveRoom, place_in, spread}
 use Rattle.lk_layout.proofs.CarriedPlans.{not_merged}
 use Rattle.lk_layout.proofs.Spreading.{spread_at}
+use Rattle.lk_layout.specs.OutputContent.{output_content}
 
 -- ---- the table
 
 -- the addresses of live sections, spread over all
 abbrev pub table : LinkInput → Live → List ℕ → List ℕ
-table link live starts = spread (map (λ l. l.address) (live_sections link live starts)) 0 live.marks
+table link live starts = spread (map (λ l. l.address) (live_sections link (output_content link live) starts)) 0 live.marks
 
 told_live : (link : LinkInput) (live : Live) (starts : List ℕ) (xs : List Input)
-    → map (λ (l : LiveSection). l.address) (map (live_section link live starts) xs) ≡ map (live_address link live starts) xs
+    → map (λ (l : LiveSection). l.address) (map (live_section link (output_content link live) starts) xs) ≡ map (live_address link (output_content link live) starts) xs
 told_live link live starts [] = refl
-told_live link live starts (x ∷ xs) = ap (λ ns. live_address link live starts x ∷ ns) (told_live link live starts xs)
+told_live link live starts (x ∷ xs) = ap (λ ns. live_address link (output_content link live) starts x ∷ ns) (told_live link live starts xs)
 
 -- it has the address of each live one
 table_at : (link : LinkInput) (live : Live) (starts : List ℕ) (k : ℕ) (x : Input) → slice_get (all_inputs link.groups) k ≡ Some x → is_marked live.marks k ≡ true
-    → slice_index_or (table link live starts) k 0 ≡ live_address link live starts x
+    → slice_index_or (table link live starts) k 0 ≡ live_address link (output_content link live) starts x
 table_at link live starts k x there set =
-    spread_at (live_address link live starts) (map (λ (l : LiveSection). l.address) (live_sections link live starts)) 0 live.marks (all_inputs link.groups) k x
+    spread_at (live_address link (output_content link live) starts) (map (λ (l : LiveSection). l.address) (live_sections link (output_content link live) starts)) 0 live.marks (all_inputs link.groups) k x
     (told_live link live starts (live_inputs link live)) there set
 
 -- what is marked is there
@@ -71,7 +73,7 @@ marked_there link live k are set =
 
 place_at : (link : LinkInput) (live : Live) (starts : List ℕ) (k offset : ℕ) → AreLive link live → place_in live.marks (table link live starts) k offset ≡ address_at link live starts k offset
 place_at link live starts k offset are =
-    let place : Input → ℕ = λ x. live_address link live starts x + offset in
+    let place : Input → ℕ = λ x. live_address link (output_content link live) starts x + offset in
     elim (is_marked live.marks k) as (λ b. is_marked live.marks k ≡ b → (if b then Some (slice_index_or (table link live starts) k 0 + offset) else None)
     ≡ (if b then option_map place (slice_get (all_inputs link.groups) k) else None)) [
       | true ↦ λ set.
@@ -103,15 +105,15 @@ size-le part size =
     ]
 
 -- a live section ends below 2^64
-ends : (link : LinkInput) (live : Live) (starts : List ℕ) (front : List Input) (x : Input) (rest : List Input) → live_inputs link live ≡ front ++ x ∷ rest → EndsFit link live starts
-    → x.section.part < length starts → live_address link live starts x + x.section.size < 2 ^ 64
+ends : (link : LinkInput) (live : Live) (starts : List ℕ) (front : List Input) (x : Input) (rest : List Input) → live_inputs link live ≡ front ++ x ∷ rest → EndsFit link (output_content link live) starts
+    → x.section.part < length starts → live_address link (output_content link live) starts x + x.section.size < 2 ^ 64
 ends link live starts front x rest all fit within =
     let p : ℕ = x.section.part in
     let part : PlanPart = part_at link.plan.sections p in
     omega (
       arith,
-      address_behind link live starts front x rest all,
-      fit p within,
+      address_behind link (output_content link live) starts front x rest all,
+      all_fit link (output_content link live) starts p fit within,
       ap (bytes_into part p) all,
       bytes_into-append part p front (x ∷ rest),
       bytes_into-append part p (x ∷ []) rest,
@@ -125,7 +127,7 @@ record IsSetting (link : LinkInput) (live : Live) (starts : List ℕ) : Type 0 w
   carried : IsCarried link
   are_live : AreLive link live
   count : length starts ≡ length (all_parts link.plan.sections)
-  fit : EndsFit link live starts
+  fit : EndsFit link (output_content link live) starts
 
 section_room : (link : LinkInput) (live : Live) (starts : List ℕ) (id : FileId) (file : InputFile) (i offset : ℕ) → IsSetting link live starts → file_in link.groups id ≡ Some file
     → IsPlacementThere link.plan file.sections (at.Section i offset) → HasRoom live.marks (table link live starts) (first_input link.groups id) (at.Section i offset)
@@ -158,7 +160,7 @@ placement_room link live starts id file (at.Redirect e l provide) is there h = t
 
 -- so do the places of all symbols
 pub have_room : (link : LinkInput) (live : Live) (starts : List ℕ) → IsWellFormed link → IsCarried link → AreLive link live → length starts ≡ length (all_parts link.plan.sections)
-    → EndsFit link live starts → HaveRoom live.marks (table link live starts) link.groups
+    → EndsFit link (output_content link live) starts → HaveRoom live.marks (table link live starts) link.groups
 have_room link live starts good carried are count fit = λ id file there k d lt.
     let x : InputSymbol = get_or file.symbols k d in
     let is : IsSetting link live starts = record { good = good; carried = carried; are_live = are; count = count; fit = fit } in
@@ -169,7 +171,7 @@ have_room link live starts good carried are count fit = λ id file there k d lt.
 -- parts that take the bytes of their owners, and end below 2^64, have owners that do
 pub ends_fit : (link : LinkInput) (live : Live) (records : List Record) (starts : List ℕ) → starts ≡ starts_of records
     → ((p : ℕ) → p < length records → slice_index starts p + (record_at records p).mem_size < 2 ^ 64)
-    → ((p : ℕ) → p < length records → (record_at records p).mem_size ≡ part_size link live p) → EndsFit link live starts
+    → ((p : ℕ) → p < length records → (record_at records p).mem_size ≡ part_size link (output_content link live) p) → EndsFit link (output_content link live) starts
 ends_fit link live records starts is fit takes p below =
     let within : p < length records = omega (arith, below, ap length is, length-map records (λ (r : Record). r.mem_offset)) in
     omega (arith, fit p within, takes p within)

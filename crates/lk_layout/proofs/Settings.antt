@@ -22,6 +22,7 @@ use Rattle.lk_place.specs.Setting.{IsReady}
 use Rattle.lk_sizes.specs.Emitted.{active_segments, is_active}
 use Rattle.lk_sizes.specs.Owners.{by_part, part_size, part_sizes}
 use Rattle.lk_layout.specs.Defined.{setting}
+use Rattle.lk_layout.specs.OutputContent.{output_content}
 
 -- what is made by part, there is for each part
 pub length-by_part : {X : Type 0} (f : ℕ → X) (link : LinkInput) → length (by_part f link) ≡ length (all_parts link.plan.sections)
@@ -35,24 +36,24 @@ length-section_records sections parts =
 
 -- its plan can be walked
 pub ready : (target : Target) (link : LinkInput) (live : Live) → IsWellFormed link → IsReady (setting target link live)
-ready target link live good = record { events = good.events; sections = good.sections; sizes = length-by_part (part_size link live) link }
+ready target link live good = record { events = good.events; sections = good.sections; sizes = length-by_part (part_size link (output_content link live)) link }
 
 -- the size of a part, by its number
-pub size_of : (link : LinkInput) (live : Live) (p : ℕ) → p < length (all_parts link.plan.sections) → slice_index_or (part_sizes link live) p 0 ≡ part_size link live p
+pub size_of : (link : LinkInput) (live : Live) (p : ℕ) → p < length (all_parts link.plan.sections) → slice_index_or (part_sizes link (output_content link live)) p 0 ≡ part_size link (output_content link live) p
 size_of link live p within =
     let parts : List PlanPart = all_parts link.plan.sections in
     let none : PlanPart = record { alignment = 1; packed = false } in
-    let size : ℕ × PlanPart → ℕ = λ q. part_size link live q.0 in
+    let size : ℕ × PlanPart → ℕ = λ q. part_size link (output_content link live) q.0 in
     get_or-map size (enumerate_from 0 parts) p (0, none) 0 (omega (arith, within, length-enumerate_from 0 parts))
     ∙ ap size (get_or-enumerate_from 0 parts p (0, none) within)
-    ∙ ap (part_size link live) (zero-add p)
+    ∙ ap (part_size link (output_content link live)) (zero-add p)
 
 -- each part that is placed takes the bytes of its owners
 pub takes : PartsTakeTheirBytes → (target : Target) (link : LinkInput) (live : Live) (states : List Cursors) (records : List Record) → IsWellFormed link
     → IsPlaced (setting target link live) states records → placement_refusal (setting target link live) states ≡ None
-    → (p : ℕ) → p < length records → (record_at records p).mem_size ≡ part_size link live p
+    → (p : ℕ) → p < length records → (record_at records p).mem_size ≡ part_size link (output_content link live) p
 takes law target link live states records good is unrefused p below =
-    let all : map (λ r. r.mem_size) records ≡ part_sizes link live = law (setting target link live) states records (ready target link live good) is unrefused in
+    let all : map (λ r. r.mem_size) records ≡ part_sizes link (output_content link live) = law (setting target link live) states records (ready target link live good) is unrefused in
     sym (get_or-map (λ (r : Record). r.mem_size) records p nowhere 0 below)
     ∙ ap (λ (sizes : List ℕ). slice_index_or sizes p 0) all
     ∙ size_of link live p (omega (arith, is.each))
@@ -67,7 +68,7 @@ below p o n (x ∷ xs) h =
     elim (p o) as (λ b. AllByRecursion (λ i. i < n) (cond b (o ∷ rest) rest)) [ true ↦ (omega arith, later) | false ↦ later ]
 
 -- they are there
-pub active_there : (link : LinkInput) (live : Live) → All (λ i. i < length link.plan.segments) (active_segments link live)
+pub active_there : (link : LinkInput) (live : Live) → All (λ i. i < length link.plan.segments) (active_segments link (output_content link live))
 active_there link live =
-    All-from_recursion (λ i. i < length link.plan.segments) (active_segments link live)
-    (below (is_active link live) 0 (length link.plan.segments) link.plan.segments (omega arith))
+    All-from_recursion (λ i. i < length link.plan.segments) (active_segments link (output_content link live))
+    (below (is_active link (output_content link live)) 0 (length link.plan.segments) link.plan.segments (omega arith))

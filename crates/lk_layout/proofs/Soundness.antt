@@ -39,15 +39,16 @@ use Rattle.lk_layout.proofs.Placing.{size-le}
 use Rattle.lk_layout.proofs.Resolved.{resolved_sections_are_live}
 use Rattle.lk_layout.proofs.Settings.{ready, size_of, takes}
 use Rattle.lk_link.proofs.Elements.{contains_at, map_in}
+use Rattle.lk_layout.specs.OutputContent.{output_content}
 
 -- ---- the layout and its records
 
 parts_are : (target : Target) (link : LinkInput) (layout : Layout) (laid : IsLaidOut target link layout) → layout.section_part_layouts ≡ laid.records
 parts_are target link layout laid = ap (λ (l : Layout). l.section_part_layouts) laid.same
 
-shown : (target : Target) (link : LinkInput) (layout : Layout) (laid : IsLaidOut target link layout) → layout.live_sections ≡ live_sections link laid.live (starts_of layout.section_part_layouts)
+shown : (target : Target) (link : LinkInput) (layout : Layout) (laid : IsLaidOut target link layout) → layout.live_sections ≡ live_sections link (output_content link laid.live) (starts_of layout.section_part_layouts)
 shown target link layout laid =
-    ap (λ (l : Layout). l.live_sections) laid.same ∙ ap (λ (rs : List Record). live_sections link laid.live (starts_of rs)) (sym (parts_are target link layout laid))
+    ap (λ (l : Layout). l.live_sections) laid.same ∙ ap (λ (rs : List Record). live_sections link (output_content link laid.live) (starts_of rs)) (sym (parts_are target link layout laid))
 
 resolved : (target : Target) (link : LinkInput) (layout : Layout) (laid : IsLaidOut target link layout)
     → layout.symbol_resolutions ≡ symbol_resolutions link laid.live (starts_of layout.section_part_layouts)
@@ -61,35 +62,35 @@ shared_out : OwnersTileTheirPart → PartsTakeTheirBytes → (target : Target) (
 shared_out tile mass target link layout laid p within = record {
   whole = ap (λ rs. (record_at rs p).mem_size) (parts_are target link layout laid)
       ∙ takes mass target link laid.live laid.states laid.records laid.good laid.is laid.unrefused p (omega (arith, within, laid.is.each));
-  tiled = tile link laid.live p (part_record layout p).mem_offset;
+  tiled = tile link (output_content link laid.live) p (part_record layout p).mem_offset;
 }
 
 -- ---- one live section
 
 -- a live section that is told stands among the owners of its part
 record Stands (link : LinkInput) (live : Live) (layout : Layout) (x : Input) (l : LiveSection) : Type 0 where
-  address : l.address ≡ owner_address (part_record layout x.section.part).mem_offset (part_at link.plan.sections x.section.part) (owners_of link live x.section.part) (owner_number link live x)
+  address : l.address ≡ owner_address (part_record layout x.section.part).mem_offset (part_at link.plan.sections x.section.part) (owners_of link (output_content link live) x.section.part) (owner_number link (output_content link live) x)
   size : l.size ≡ x.section.size
-  owner : slice_get (owners_of link live x.section.part) (owner_number link live x) ≡ Some (SectionOwner x)
+  owner : slice_get (owners_of link (output_content link live) x.section.part) (owner_number link (output_content link live) x) ≡ Some (SectionOwner x)
 
 stands : LiveSectionsAreOwners → (link : LinkInput) (live : Live) (layout : Layout) (a : ℕ) (x : Input) (l : LiveSection)
-    → layout.live_sections ≡ live_sections link live (starts_of layout.section_part_layouts) → IsTold link live layout a x l → Stands link live layout x l
+    → layout.live_sections ≡ live_sections link (output_content link live) (starts_of layout.section_part_layouts) → IsTold link live layout a x l → Stands link live layout x l
 stands owners link live layout a x l is told =
     let records : List Record = layout.section_part_layouts in
-    let made : slice_get (live_sections link live (starts_of records)) a ≡ Some (live_section link live (starts_of records) x) = map_in (live_section link live (starts_of records)) (live_inputs link live) a x told.there in
-    let here : Some l ≡ Some (live_section link live (starts_of records) x) = sym told.told ∙ ap (λ (ls : List LiveSection). slice_get ls a) is ∙ made in
-    let same : l ≡ live_section link live (starts_of records) x = cc in
+    let made : slice_get (live_sections link (output_content link live) (starts_of records)) a ≡ Some (live_section link (output_content link live) (starts_of records) x) = map_in (live_section link (output_content link live) (starts_of records)) (live_inputs link live) a x told.there in
+    let here : Some l ≡ Some (live_section link (output_content link live) (starts_of records) x) = sym told.told ∙ ap (λ (ls : List LiveSection). slice_get ls a) is ∙ made in
+    let same : l ≡ live_section link (output_content link live) (starts_of records) x = cc in
     let start : slice_index (starts_of records) x.section.part ≡ (record_at records x.section.part).mem_offset = lists.get_or-map (λ (r : Record). r.mem_offset) records x.section.part nowhere in
     record {
       address = ap (λ (m : LiveSection). m.address) same
-          ∙ ap (λ (n : ℕ). owner_address n (part_at link.plan.sections x.section.part) (owners_of link live x.section.part) (owner_number link live x)) start;
+          ∙ ap (λ (n : ℕ). owner_address n (part_at link.plan.sections x.section.part) (owners_of link (output_content link live) x.section.part) (owner_number link (output_content link live) x)) start;
       size = ap (λ (m : LiveSection). m.size) same;
-      owner = owners link live x (contains_at (live_inputs link live) a x told.there);
+      owner = owners link (output_content link live) x (contains_at (live_inputs link live) a x told.there);
     }
 
 -- the bytes of a live section are its owner's
 has_byte : (link : LinkInput) (live : Live) (layout : Layout) (x : Input) (l : LiveSection) (address : ℕ) → Stands link live layout x l → IsInSection address l
-    → HasByte (part_record layout x.section.part).mem_offset (part_at link.plan.sections x.section.part) (owners_of link live x.section.part) (owner_number link live x) address
+    → HasByte (part_record layout x.section.part).mem_offset (part_at link.plan.sections x.section.part) (owners_of link (output_content link live) x.section.part) (owner_number link (output_content link live) x) address
 has_byte link live layout x l address s here = record {
   owner = SectionOwner x;
   there = s.owner;
@@ -120,7 +121,7 @@ one_owner link live a b x y other at_a at_b same =
     ]
 
 sections_apart : LiveSectionsAreOwners → (link : LinkInput) (live : Live) (layout : Layout) → IsWellFormed link → AreLive link live
-    → layout.live_sections ≡ live_sections link live (starts_of layout.section_part_layouts)
+    → layout.live_sections ≡ live_sections link (output_content link live) (starts_of layout.section_part_layouts)
     → ((p : ℕ) → p < length (all_parts link.plan.sections) → IsSharedOut link live layout p)
     → MemoryIsDisjoint link.plan layout.section_part_layouts → LiveSectionsAreApart link live layout
 sections_apart owners link live layout good are_live is shared memory a b address x y l m other told_a told_b memory_a memory_b here there =
@@ -130,19 +131,19 @@ sections_apart owners link live layout good are_live is shared memory a b addres
     let second = has_byte link live layout y m address (stands owners link live layout b y m is told_b) there in
     let of_p = shared p (live_goes link live a x good are_live told_a.there) in
     let of_q = shared q (live_goes link live b y good are_live told_b.there) in
-    let in_p = of_p.tiled.inside (owner_number link live x) address first in
-    let in_q = of_q.tiled.inside (owner_number link live y) address second in
+    let in_p = of_p.tiled.inside (owner_number link (output_content link live) x) address first in
+    let in_q = of_q.tiled.inside (owner_number link (output_content link live) y) address second in
     elim (eqb_tells p q) [
       | inr miss ↦ memory p q address miss.1 memory_a memory_b
           (record { begins = in_p.0; ends = omega (arith, in_p.1, of_p.whole) }) (record { begins = in_q.0; ends = omega (arith, in_q.1, of_q.whole) })
       | inl hit ↦
-          let owned : ℕ → ℕ → Type 0 = λ r k. HasByte (part_record layout r).mem_offset (part_at link.plan.sections r) (owners_of link live r) k address in
-          let beside : owned p (owner_number link live y) = subst (λ r. owned r (owner_number link live y)) (sym hit.1) second in
-          let number : owner_number link live x ≡ owner_number link live y = of_p.tiled.apart (owner_number link live x) (owner_number link live y) address first beside in
-          let mine : slice_get (owners_of link live p) (owner_number link live x) ≡ Some (SectionOwner x) = (stands owners link live layout a x l is told_a).owner in
-          let yours : slice_get (owners_of link live q) (owner_number link live y) ≡ Some (SectionOwner y) = (stands owners link live layout b y m is told_b).owner in
+          let owned : ℕ → ℕ → Type 0 = λ r k. HasByte (part_record layout r).mem_offset (part_at link.plan.sections r) (owners_of link (output_content link live) r) k address in
+          let beside : owned p (owner_number link (output_content link live) y) = subst (λ r. owned r (owner_number link (output_content link live) y)) (sym hit.1) second in
+          let number : owner_number link (output_content link live) x ≡ owner_number link (output_content link live) y = of_p.tiled.apart (owner_number link (output_content link live) x) (owner_number link (output_content link live) y) address first beside in
+          let mine : slice_get (owners_of link (output_content link live) p) (owner_number link (output_content link live) x) ≡ Some (SectionOwner x) = (stands owners link live layout a x l is told_a).owner in
+          let yours : slice_get (owners_of link (output_content link live) q) (owner_number link (output_content link live) y) ≡ Some (SectionOwner y) = (stands owners link live layout b y m is told_b).owner in
           let both : Some (SectionOwner x) ≡ Some (SectionOwner y)
-          = sym mine ∙ ap (λ (r : ℕ). slice_get (owners_of link live r) (owner_number link live x)) hit.1 ∙ ap (slice_get (owners_of link live q)) number ∙ yours in
+          = sym mine ∙ ap (λ (r : ℕ). slice_get (owners_of link (output_content link live) r) (owner_number link (output_content link live) x)) hit.1 ∙ ap (slice_get (owners_of link (output_content link live) q)) number ∙ yours in
           let same : x ≡ y = cc in
           one_owner link live a b x y other told_a.there told_b.there same
     ]
@@ -163,13 +164,13 @@ sections_aligned tile aligned owners target link layout laid a x l told some unp
     let s : Stands link live layout x l = stands owners link live layout a x l (shown target link layout laid) told in
     let within : p < length (all_parts link.plan.sections) = live_goes link live a x laid.good laid.are_live told.there in
     let byte = has_byte link live layout x l l.address s (record { begins = omega arith; ends = omega (arith, some) }) in
-    let bytes : 0 < part_size link live p = owner_within (part_at link.plan.sections p) (part_record layout p).mem_offset (owners_of link live p) (owner_number link live x) l.address (tile link live p (part_record layout p).mem_offset) byte in
-    let size : slice_index_or (setting target link live).sizes p 0 ≡ part_size link live p = size_of link live p within in
+    let bytes : 0 < part_size link (output_content link live) p = owner_within (part_at link.plan.sections p) (part_record layout p).mem_offset (owners_of link (output_content link live) p) (owner_number link (output_content link live) x) l.address (tile link (output_content link live) p (part_record layout p).mem_offset) byte in
+    let size : slice_index_or (setting target link live).sizes p 0 ≡ part_size link (output_content link live) p = size_of link live p within in
     let begins : (part_at link.plan.sections p).alignment ∣ (record_at laid.records p).mem_offset
     = part_starts target link live laid.states laid.records p laid.good laid.is laid.unrefused within (omega (arith, bytes, size)) in
     let record_is : (record_at laid.records p).mem_offset ≡ (part_record layout p).mem_offset = ap (λ rs. (record_at rs p).mem_offset) (sym (parts_are target link layout laid)) in
     subst (λ n. (part_at link.plan.sections p).alignment ∣ n) (sym s.address)
-    (dvd-add (part_at link.plan.sections p).alignment (subst (λ n. (part_at link.plan.sections p).alignment ∣ n) record_is begins) (aligned link live p (owner_number link live x) laid.good (live_good link live a x laid.good laid.are_live told.there).1.to_no_table unpacked))
+    (dvd-add (part_at link.plan.sections p).alignment (subst (λ n. (part_at link.plan.sections p).alignment ∣ n) record_is begins) (aligned link (output_content link live) p (owner_number link (output_content link live) x) laid.good (live_good link live a x laid.good laid.are_live told.there).1.to_no_table unpacked))
 
 -- ---- the laws
 

@@ -24,6 +24,7 @@ use Rattle.lk_layout.specs.declared.layout.Layout.{Layout}
 use Rattle.lk_layout.specs.Carried.{first_uncarried}
 use Rattle.lk_layout.specs.Errors.{fault_error, size_error, place_error}
 use Rattle.lk_layout.specs.Resolutions.{entry_symbol, symbol_resolutions}
+use Rattle.lk_layout.specs.OutputContent.{output_content}
 
 -- the answer is this refusal, if there is one, else P holds of it
 abbrev pub Unless : Option LayoutError → Result Layout LayoutError → Type 0 → Type 0
@@ -53,11 +54,11 @@ references_refusal link = references_error (reference_faults link)
 
 -- sizes past 64 bits
 abbrev pub sizes_refusal : LinkInput → Live → Option LayoutError
-sizes_refusal link live = option_map size_error (size_refusal link live)
+sizes_refusal link live = option_map size_error (size_refusal link (output_content link live))
 
 -- what is placed, for which machine, with the bytes of the parts
 abbrev pub setting : Target → LinkInput → Live → Setting
-setting target link live = setting_of link target (part_sizes link live)
+setting target link live = setting_of link target (part_sizes link (output_content link live))
 
 -- an event that can't be carried out
 abbrev pub walk_refusal : Target → LinkInput → Live → List Cursors → Option LayoutError
@@ -67,7 +68,7 @@ walk_refusal target link live states = option_map place_error (placement_refusal
 abbrev pub segment_refusal : LinkInput → Live → List Record → Option LayoutError
 segment_refusal link live records =
     let sections = section_records link.plan.sections records in
-    option_map place_error (outside_refusal (first_outside link sections (is_emitted link live)))
+    option_map place_error (outside_refusal (first_outside link sections (is_emitted link (output_content link live))))
 
 -- ---- the layout
 
@@ -79,13 +80,14 @@ starts_of records = map (λ r. r.mem_offset) records
 abbrev pub layout_of : LinkInput → Live → List Record → Layout
 layout_of link live records =
     let sections = section_records link.plan.sections records in
+    let content = output_content link live in
     record {
       section_layouts = sections;
       section_part_layouts = records;
       section_attributes = all_section_attributes link live;
-      output_section_indexes = by_section (output_index link live) link;
-      segment_layouts = segment_layouts link.plan link.options.stack sections (is_emitted link live) (active_segments link live);
-      live_sections = live_sections link live (starts_of records);
+      output_section_indexes = by_section (output_index link content) link;
+      segment_layouts = segment_layouts link.plan link.options.stack sections (is_emitted link content) (active_segments link content);
+      live_sections = live_sections link content (starts_of records);
       symbol_resolutions = symbol_resolutions link live (starts_of records);
       entry_symbol_id = entry_symbol link;
     }

@@ -3,6 +3,7 @@ pub mod Defined
 pub mod Errors
 pub mod Laws
 pub mod Layouts
+pub mod OutputContent
 pub mod Resolutions
 pub mod Sound
 pub mod Spread

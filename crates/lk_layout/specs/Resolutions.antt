@@ -19,13 +19,15 @@ use Rattle.lk_sizes.specs.Owners.{live_address}
 use Rattle.lk_layout.specs.declared.resolution.EntryFault.{EntryFault}
 use Rattle.lk_layout.specs.declared.resolution.EntryFault.TheVariants.{NotAnAddress, NotLoaded}
 use Rattle.lk_layout.specs.declared.resolution.Resolution.{Resolution}
+use Rattle.lk_layout.specs.OutputContent.{output_content}
 
 -- ---- places in input sections
 
 -- the address at an offset of an input section, by its number and where the parts start; none where the section isn't live
 abbrev pub address_at : LinkInput → Live → List ℕ → ℕ → ℕ → Option ℕ
 address_at link live starts k offset =
-    if is_marked live.marks k then option_map (λ x. live_address link live starts x + offset) (slice_get (all_inputs link.groups) k)
+    if is_marked live.marks k
+    then option_map (λ x. live_address link (output_content link live) starts x + offset) (slice_get (all_inputs link.groups) k)
     else None
 
 -- ---- values

@@ -29,6 +29,7 @@ use Rattle.lk_sizes.specs.Tiles.{IsTiled}
 use Rattle.lk_layout.specs.declared.layout.Layout.{Layout}
 use Rattle.lk_layout.specs.Defined.{starts_of}
 use Rattle.lk_layout.specs.Resolutions.{entry_symbol, flags_at, is_resolved, symbol_resolutions}
+use Rattle.lk_layout.specs.OutputContent.{output_content}
 
 -- the record of the part with this number over all sections
 abbrev pub part_record : Layout → ℕ → Record
@@ -43,8 +44,8 @@ MemoryIsCongruent link layout = (i s k p : ℕ) → PlacesInLoad link.plan i s k
 
 -- the owners of a part share out its memory
 pub record IsSharedOut (link : LinkInput) (live : Live) (layout : Layout) (p : ℕ) : Type 0 where
-  pub whole : (part_record layout p).mem_size ≡ bytes_of (part_at link.plan.sections p) (owners_of link live p)
-  pub tiled : IsTiled (part_record layout p).mem_offset (part_at link.plan.sections p) (owners_of link live p)
+  pub whole : (part_record layout p).mem_size ≡ bytes_of (part_at link.plan.sections p) (owners_of link (output_content link live) p)
+  pub tiled : IsTiled (part_record layout p).mem_offset (part_at link.plan.sections p) (owners_of link (output_content link live) p)
 
 -- x is live section a, and l is told of it
 pub record IsTold (link : LinkInput) (live : Live) (layout : Layout) (a : ℕ) (x : Input) (l : LiveSection) : Type 0 where
@@ -96,7 +97,7 @@ pub record IsSoundInMemory (link : LinkInput) (live : Live) (layout : Layout) : 
 pub record IsSound (link : LinkInput) (live : Live) (layout : Layout) : Type 0 where
   pub met : reference_faults link ≡ []
   pub reached : AreLive link live
-  pub shown : layout.live_sections ≡ live_sections link live (starts_of layout.section_part_layouts)
+  pub shown : layout.live_sections ≡ live_sections link (output_content link live) (starts_of layout.section_part_layouts)
   pub resolved : layout.symbol_resolutions ≡ symbol_resolutions link live (starts_of layout.section_part_layouts)
   pub placed : SymbolsStandInLiveSections link live
   pub entered : layout.entry_symbol_id ≡ entry_symbol link

@@ -6,7 +6,9 @@ ghost use Rattle.lk_link.specs.Parts.{all_parts};
 ghost use Rattle.lk_link.specs.WellFormed.{IsWellFormed};
 ghost use Rattle.lk_place.specs.Records.{record_at};
 ghost use Rattle.lk_sizes.specs.LiveSections.{live_sections};
+ghost use Rattle.lk_sizes.specs.Contents.{part_contents};
 ghost use Rattle.lk_sizes.specs.Owners.{part_size};
+ghost use Rattle.lk_layout.specs.OutputContent.{output_content};
 ghost use Rattle.lk_layout.specs.Carried.{IsCarried};
 ghost use Rattle.lk_layout.specs.Defined.{starts_of};
 ghost use Rattle.lk_layout.specs.Resolutions.{symbol_resolutions};
@@ -15,7 +17,7 @@ use crate::resolution::{Resolution, Tables, input_addresses, resolve_all};
 use lk_gc::Live;
 use lk_link::LinkInput;
 use lk_place::OutputRecordLayout;
-use lk_sizes::{LiveSection, live_sections};
+use lk_sizes::{LiveSection, PartContents, live_sections};
 use std::alloc::{AllocError, Global};
 
 /// The addresses of a layout.
@@ -33,18 +35,22 @@ pub(crate) fn addresses_of(
     alloc: Global,
     link: &LinkInput,
     live: &Live,
+    contents: &[PartContents],
     parts: &[OutputRecordLayout],
 ) -> Result<Addresses, AllocError>
     requires good { IsWellFormed link.now }
     requires carried { IsCarried link.now }
     requires live { AreLive link.now live.now }
+    requires contents { contents.now ≡ part_contents link.now (output_content link.now live.now) }
     requires each { length parts.now ≡ length (all_parts link.now.plan.sections) }
-    requires takes { (p : ℕ) → p < length parts.now → (record_at parts.now p).mem_size ≡ part_size link.now live.now p }
-    ensures sections { IfOk result (λ told. told.sections.items ≡ live_sections link.now live.now (starts_of parts.now)) }
+    requires takes { (p : ℕ) → p < length parts.now
+        → (record_at parts.now p).mem_size ≡ part_size link.now (output_content link.now live.now) p }
+    ensures sections { IfOk result (λ told. told.sections.items
+        ≡ live_sections link.now (output_content link.now live.now) (starts_of parts.now)) }
     ensures resolutions { IfOk result (λ told. told.resolutions.items ≡ symbol_resolutions link.now live.now (starts_of parts.now)) }
 {
     let starts = starts_of(alloc, parts)?;
-    let sections = live_sections(alloc, link, live, starts)?;
+    let sections = live_sections(alloc, link, live, &[], contents, &starts)?;
     let marks = live.marks.as_slice();
     let addresses = input_addresses(alloc, marks, sections.as_slice())?;
     let tables = Tables {

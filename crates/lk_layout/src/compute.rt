@@ -12,8 +12,9 @@ ghost use Rattle.lk_link.specs.WellFormed.{IsWellFormed};
 ghost use Rattle.lk_place.specs.Records.{record_at};
 ghost use Rattle.lk_place.specs.Segments.{section_records};
 ghost use Rattle.lk_link.specs.Target.{platform_target};
-ghost use Rattle.lk_sizes.specs.Contents.{AreBrought};
-ghost use Rattle.lk_sizes.specs.Owners.{part_size};
+ghost use Rattle.lk_sizes.specs.Contents.{part_contents};
+ghost use Rattle.lk_sizes.specs.Owners.{AreFirstSizes, part_size};
+ghost use Rattle.lk_layout.specs.OutputContent.{output_content};
 ghost use Rattle.lk_layout.specs.Carried.{IsCarried};
 ghost use Rattle.lk_layout.specs.Defined.{Gives, IsCarriedAnswer, IsLiveAnswer, IsPlacedAnswer, WithMemory};
 
@@ -82,7 +83,7 @@ fn lay_out_live<P: Platform>(
     requires live { AreLive link.now live.now }
     ensures { WithMemory (IsLiveAnswer (platform_target (P.segment_start platform.now)) link.now live.now) result }
 {
-    let contents = part_contents(alloc, link, live)?;
+    let contents = part_contents(alloc, link, live, &[])?;
     let sizes = part_sizes(alloc, contents.as_slice())?;
     let placed = compute_layout_sections(alloc, link, &sizes, platform)?;
     // Laws, which do nothing: the parts end where their owners do, and the sizes so far are those that tell what is emitted.
@@ -104,13 +105,15 @@ fn lay_out_placed(
     requires good { IsWellFormed link.now }
     requires carried { IsCarried link.now }
     requires live { AreLive link.now live.now }
-    requires brought { AreBrought link.now live.now contents.now sizes.now }
+    requires contents { contents.now ≡ part_contents link.now (output_content link.now live.now) }
+    requires first { AreFirstSizes link.now (output_content link.now live.now) sizes.now }
     requires sections { placed.sections ≡ section_records link.now.plan.sections placed.parts }
     requires each { length placed.parts ≡ length (all_parts link.now.plan.sections) }
-    requires takes { (p : ℕ) → p < length placed.parts → (record_at placed.parts p).mem_size ≡ part_size link.now live.now p }
+    requires takes { (p : ℕ) → p < length placed.parts
+        → (record_at placed.parts p).mem_size ≡ part_size link.now (output_content link.now live.now) p }
     ensures { WithMemory (IsPlacedAnswer link.now live.now placed.parts) result }
 {
-    let headers = determine_header_sizes(alloc, link, contents, sizes)?;
+    let headers = determine_header_sizes(alloc, link, live, sizes)?;
     let segments = compute_segment_layout(
         alloc,
         link,
@@ -119,7 +122,7 @@ fn lay_out_placed(
         headers.active_segment_ids.as_slice(),
     )?;
     let attributes = propagate_section_attributes(alloc, link, contents)?;
-    let addresses = addresses_of(alloc, link, live, placed.parts.as_slice())?;
+    let addresses = addresses_of(alloc, link, live, contents, placed.parts.as_slice())?;
     Ok(Layout {
         section_layouts: placed.sections,
         section_part_layouts: placed.parts,

@@ -1,6 +1,6 @@
 -- What live sections bring to a part, one after the other.
-use Rattle.std.proofs.Common.{◌≡◌, ℕ, ◌+◌, ◌-◌, ◌<◌, ◌==◌, ◌||◌, ◌^◌, Bool, false, cond, min, List, [], ◌∷◌, ◌++◌, length, map, fold, replicate, set, Some, refl, sym, ap, ◌∙◌, subst, arith, inl, inr}
-use Rattle.std.specs.Prelude.{bit_or}
+use Rattle.std.proofs.Common.{◌≡◌, ℕ, ◌+◌, ◌-◌, ◌<◌, ◌==◌, ◌||◌, ◌^◌, Bool, true, false, cond, min, List, [], ◌∷◌, ◌++◌, length, map, fold, replicate, set, Some, refl, sym, ap, ◌∙◌, subst, arith, inl, inr}
+use Rattle.std.specs.Prelude.{bit_or, filter, not}
 use Rattle.std.specs.List.{list_any, slice_get, slice_index_or}
 use Rattle.std.proofs.Math.Bool.{or-false}
 use Rattle.std.proofs.lemmas.Bool.Decides.{eqb_tells}
@@ -15,8 +15,7 @@ use Rattle.lk_link.specs.Inputs.{Input}
 use Rattle.lk_link.specs.Parts.{all_parts, part_at}
 use Rattle.lk_link.specs.Sizes.{capacity}
 use Rattle.lk_sizes.specs.declared.owners.Total.{Total}
-use Rattle.lk_sizes.specs.Contents.{keeps_empty}
-use Rattle.lk_sizes.specs.Owners.{SectionOwner, bytes_of, into, owner_bytes}
+use Rattle.lk_sizes.specs.Owners.{SectionOwner, bytes_of, into, is_merged, owner_bytes}
 
 pub into-append : (p : ℕ) (xs ys : List Input) → into p (xs ++ ys) ≡ into p xs ++ into p ys
 into-append p xs ys = filter-append (λ x. x.section.part == p) xs ys
@@ -39,9 +38,13 @@ into_other p x xs h =
 abbrev pub bytes_into : PlanPart → ℕ → List Input → ℕ
 bytes_into part p xs = bytes_of part (map SectionOwner (into p xs))
 
--- whether one of those that go to it keeps its section without bytes
-abbrev pub empty_into : ℕ → List Input → Bool
-empty_into p xs = list_any keeps_empty (into p xs)
+-- whether one of those that go to it is merged
+abbrev pub merged_into : ℕ → List Input → Bool
+merged_into p xs = list_any is_merged (into p xs)
+
+-- those that aren't merged
+abbrev pub unmerged : List Input → List Input
+unmerged xs = filter (λ x. not (is_merged x)) xs
 
 -- the attributes of those that go to it
 abbrev pub attrs_into : ℕ → List Input → List ℕ
@@ -59,12 +62,26 @@ bytes_into_here part p x h = ap (λ (zs : List Input). bytes_of part (map Sectio
 pub bytes_into_other : (part : PlanPart) (p : ℕ) (x : Input) → (x.section.part ≡ p → ⊥) → bytes_into part p (x ∷ []) ≡ 0
 bytes_into_other part p x h = ap (λ (zs : List Input). bytes_of part (map SectionOwner zs)) (into_other p x [] h)
 
+-- with one section more
+pub unmerged_more : (part : PlanPart) (p : ℕ) (done : List Input) (x : Input) (b : Bool) → is_merged x ≡ b
+    → bytes_into part p (unmerged (done ++ x ∷ [])) ≡ bytes_into part p (unmerged done) + cond b 0 (bytes_into part p (x ∷ []))
+unmerged_more part p done x true merged =
+    let none : unmerged (x ∷ []) ≡ [] = ap (λ b. cond (not b) (x ∷ []) []) merged in
+    let same : unmerged (done ++ x ∷ []) ≡ unmerged done =
+    filter-append (λ (y : Input). not (is_merged y)) done (x ∷ []) ∙ ap (λ zs. unmerged done ++ zs) none ∙ append-nil (unmerged done) in
+    omega (arith, ap (bytes_into part p) same)
+unmerged_more part p done x false merged =
+    let one : unmerged (x ∷ []) ≡ x ∷ [] = ap (λ b. cond (not b) (x ∷ []) []) merged in
+    let more : unmerged (done ++ x ∷ []) ≡ unmerged done ++ x ∷ [] =
+    filter-append (λ (y : Input). not (is_merged y)) done (x ∷ []) ∙ ap (λ zs. unmerged done ++ zs) one in
+    omega (arith, ap (bytes_into part p) more, bytes_into-append part p (unmerged done) (x ∷ []))
+
 -- ---- totals
 
 -- what these sections bring to a part; sums are told apart below 2^64
 pub record IsTotal (part : PlanPart) (p : ℕ) (done : List Input) (total : Total) : Type 0 where
-  pub bytes : min total.bytes (2 ^ 64) ≡ min (bytes_into part p done) (2 ^ 64)
-  pub empty : total.has_empty ≡ empty_into p done
+  pub bytes : min total.bytes (2 ^ 64) ≡ min (bytes_into part p (unmerged done)) (2 ^ 64)
+  pub image : total.has_image ≡ merged_into p done
   pub attrs : total.attrs ≡ fold bit_or 0 (attrs_into p done)
 
 -- what they bring to each part
@@ -72,27 +89,37 @@ pub record AreTotals (link : LinkInput) (done : List Input) (totals : List Total
   pub count : length totals ≡ length (all_parts link.plan.sections)
   pub each : (p : ℕ) (d : Total) → p < length (all_parts link.plan.sections) → IsTotal (part_at link.plan.sections p) p done (slice_index_or totals p d)
 
-pub no_totals : (link : LinkInput) (none : Total) → none ≡ record { bytes = 0; has_empty = false; attrs = 0 }
+pub no_totals : (link : LinkInput) (none : Total) → none ≡ record { bytes = 0; has_image = false; attrs = 0 }
     → AreTotals link [] (replicate (length (all_parts link.plan.sections)) none)
 no_totals link none is = record {
   count = length-replicate (length (all_parts link.plan.sections)) none;
   each = λ p d below. subst (λ (t : Total). IsTotal (part_at link.plan.sections p) p [] t)
       (sym (get_or-replicate (length (all_parts link.plan.sections)) p none d below ∙ is))
-      (record { bytes = refl; empty = refl; attrs = refl });
+      (record { bytes = refl; image = refl; attrs = refl });
 }
+
+-- the bytes with one more section
+abbrev pub bytes_with : PlanPart → Input → ℕ → ℕ
+bytes_with part x bytes = cond (is_merged x) bytes (min (bytes + capacity part x.section.size) (2 ^ 128 - 1))
+
+more_bytes : (part : PlanPart) (p : ℕ) (done : List Input) (x : Input) (old : ℕ) (b : Bool) → is_merged x ≡ b → x.section.part ≡ p
+    → min old (2 ^ 64) ≡ min (bytes_into part p (unmerged done)) (2 ^ 64)
+    → min (cond b old (min (old + capacity part x.section.size) (2 ^ 128 - 1))) (2 ^ 64) ≡ min (bytes_into part p (unmerged (done ++ x ∷ []))) (2 ^ 64)
+more_bytes part p done x old true merged here h = omega (arith, h, unmerged_more part p done x true merged)
+more_bytes part p done x old false merged here h = omega (arith, h, unmerged_more part p done x false merged, bytes_into_here part p x here)
 
 -- with one more section
 one_more : (part : PlanPart) (p : ℕ) (done : List Input) (x : Input) (old new : Total) → x.section.part ≡ p → IsTotal part p done old
-    → new.bytes ≡ min (old.bytes + capacity part x.section.size) (2 ^ 128 - 1) → new.has_empty ≡ (old.has_empty || keeps_empty x) → new.attrs ≡ bit_or old.attrs x.section.attrs
+    → new.bytes ≡ bytes_with part x old.bytes → new.has_image ≡ (old.has_image || is_merged x) → new.attrs ≡ bit_or old.attrs x.section.attrs
     → IsTotal part p (done ++ x ∷ []) new
-one_more part p done x old new here h bytes empty attrs =
+one_more part p done x old new here h bytes image attrs =
     let joined : into p (done ++ x ∷ []) ≡ into p done ++ x ∷ [] = into-append p done (x ∷ []) ∙ ap (λ zs. into p done ++ zs) (into_here p x [] here) in
     record {
-      bytes = omega (arith, h.bytes, bytes, bytes_into-append part p done (x ∷ []), bytes_into_here part p x here);
-      empty =
-          empty
-          ∙ ap (λ b. b || keeps_empty x) h.empty
-          ∙ sym (ap (list_any keeps_empty) joined ∙ list_any-append keeps_empty (into p done) (x ∷ []) ∙ ap (λ b. empty_into p done || b) (or-false (keeps_empty x)));
+      bytes = ap (λ n. min n (2 ^ 64)) bytes ∙ more_bytes part p done x old.bytes (is_merged x) refl here h.bytes;
+      image =
+          image
+          ∙ ap (λ b. b || is_merged x) h.image
+          ∙ sym (ap (list_any is_merged) joined ∙ list_any-append is_merged (into p done) (x ∷ []) ∙ ap (λ b. merged_into p done || b) (or-false (is_merged x)));
       attrs =
           attrs
           ∙ ap (λ (a : ℕ). bit_or a x.section.attrs) h.attrs
@@ -101,28 +128,33 @@ one_more part p done x old new here h bytes empty attrs =
           ∙ fold-append bit_or 0 (attrs_into p done) (x.section.attrs ∷ []));
     }
 
+elsewhere_bytes : (part : PlanPart) (p : ℕ) (done : List Input) (x : Input) (b : Bool) → is_merged x ≡ b → (x.section.part ≡ p → ⊥)
+    → bytes_into part p (unmerged (done ++ x ∷ [])) ≡ bytes_into part p (unmerged done)
+elsewhere_bytes part p done x true merged other = omega (arith, unmerged_more part p done x true merged)
+elsewhere_bytes part p done x false merged other = omega (arith, unmerged_more part p done x false merged, bytes_into_other part p x other)
+
 -- a section that goes elsewhere changes nothing
 one_elsewhere : (part : PlanPart) (p : ℕ) (done : List Input) (x : Input) (total : Total) → (x.section.part ≡ p → ⊥) → IsTotal part p done total → IsTotal part p (done ++ x ∷ []) total
 one_elsewhere part p done x total other h =
     let same : into p (done ++ x ∷ []) ≡ into p done = into-append p done (x ∷ []) ∙ ap (λ zs. into p done ++ zs) (into_other p x [] other) ∙ append-nil (into p done) in
     record {
-      bytes = h.bytes ∙ ap (λ (zs : List Input). min (bytes_of part (map SectionOwner zs)) (2 ^ 64)) (sym same);
-      empty = h.empty ∙ ap (list_any keeps_empty) (sym same);
+      bytes = h.bytes ∙ ap (λ n. min n (2 ^ 64)) (sym (elsewhere_bytes part p done x (is_merged x) refl other));
+      image = h.image ∙ ap (list_any is_merged) (sym same);
       attrs = h.attrs ∙ ap (λ (zs : List Input). fold bit_or 0 (map (λ (y : Input). y.section.attrs) zs)) (sym same);
     }
 
 pub add_one : (link : LinkInput) (done : List Input) (x : Input) (totals : List Total) (at : ℕ) (read d : Total) (part : PlanPart) (new : Total)
     → AreTotals link done totals → at ≡ x.section.part → at < length (all_parts link.plan.sections) → read ≡ slice_index_or totals at d → part ≡ part_at link.plan.sections at
-    → new.bytes ≡ min (read.bytes + capacity part x.section.size) (2 ^ 128 - 1) → new.has_empty ≡ (read.has_empty || keeps_empty x) → new.attrs ≡ bit_or read.attrs x.section.attrs
+    → new.bytes ≡ bytes_with part x read.bytes → new.has_image ≡ (read.has_image || is_merged x) → new.attrs ≡ bit_or read.attrs x.section.attrs
     → AreTotals link (done ++ x ∷ []) (set totals at new)
-add_one link done x totals at read d part new h here within is of bytes empty attrs = record {
+add_one link done x totals at read d part new h here within is of bytes image attrs = record {
   count = length-set totals at new ∙ h.count;
   each = λ p e below. elim (eqb_tells at p) [
     | inl hit ↦ subst (λ (q : ℕ). IsTotal (part_at link.plan.sections q) q (done ++ x ∷ []) (slice_index_or (set totals at new) q e)) hit.1
         (subst (λ (t : Total). IsTotal (part_at link.plan.sections at) at (done ++ x ∷ []) t) (sym (get_or-set_same totals at new e (omega (arith, h.count))))
         (one_more (part_at link.plan.sections at) at done x read new (sym here)
         (subst (λ (t : Total). IsTotal (part_at link.plan.sections at) at done t) (sym is) (h.each at d within))
-        (bytes ∙ ap (λ (q : PlanPart). min (read.bytes + capacity q x.section.size) (2 ^ 128 - 1)) of) empty attrs))
+        (bytes ∙ ap (λ (q : PlanPart). bytes_with q x read.bytes) of) image attrs))
     | inr miss ↦
         let other : p ≡ at → ⊥ = λ same. miss.1 (sym same) in
         subst (λ (t : Total). IsTotal (part_at link.plan.sections p) p (done ++ x ∷ []) t) (sym (get_or-set_other totals at p new e other))

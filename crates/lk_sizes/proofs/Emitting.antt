@@ -1,4 +1,4 @@
--- Which sections are emitted, from what the live sections bring to their parts.
+-- Which sections are emitted, from what is live and the first sizes of parts; and attributes, from what comes into the parts.
 use Rattle.std.proofs.Common.{◌≡◌, ℕ, ◌+◌, ◌<◌, ◌≤◌, ◌==◌, ◌&&◌, ◌||◌, Bool, false, cond, List, [], ◌∷◌, ◌++◌, get_or, length, map, take, Some, None, Option, unwrap_or, refl, sym, ap, ◌∙◌, arith, inl, inr}
 use Rattle.std.specs.Prelude.{bit_or, fold, if◌then◌else◌, nat_lt, not}
 use Rattle.std.specs.List.{enumerate_from, filter, list_any, position_from, range_with_len, slice_get, slice_index_or}
@@ -19,14 +19,13 @@ use Rattle.lk_link.specs.PlanSections.{is_singletons, own_attributes, primary_of
 use Rattle.lk_link.specs.SegmentKinds.{is_stack, segment_at}
 use Rattle.lk_link.specs.WellFormed.{IsWellFormed}
 use Rattle.lk_link.proofs.Numbers.{length-made, made_at, made_of_or}
-use Rattle.lk_gc.specs.declared.live.Live.{Live}
 use Rattle.lk_sizes.specs.declared.header.HeaderInfo.{HeaderInfo}
 use Rattle.lk_sizes.specs.declared.owners.PartContents.{PartContents}
 use Rattle.lk_sizes.specs.Attributes.{all_section_attributes, by_section, part_attributes, parts_of, section_attributes}
-use Rattle.lk_sizes.specs.Contents.{contents_of, has_empty, part_contents}
+use Rattle.lk_sizes.specs.Contents.{contents_of, part_contents}
 use Rattle.lk_sizes.specs.Emitted.{active_segments, can_be_emitted, event_sections, is_active, is_emitted, is_kept, output_index}
-use Rattle.lk_sizes.specs.Owners.{first_size, first_sizes}
-use Rattle.lk_sizes.proofs.Made.{any_map, any_or, any_same, filter_alike, made_range, made_same_below, made_whole, map_id, map_map}
+use Rattle.lk_sizes.specs.Owners.{Content, first_size, first_sizes}
+use Rattle.lk_sizes.proofs.Made.{any_map, any_same, filter_alike, made_range, made_same_below, made_whole, map_id, map_map}
 use Rattle.lk_link.proofs.PartNumbers.{first_part-le, first_part-rises}
 use Rattle.lk_link.specs.Marks.{is_marked}
 use Rattle.lk_link.specs.EmitKinds.{is_always}
@@ -38,57 +37,51 @@ use Rattle.lk_sizes.specs.Tables.{active_by, in_section}
 abbrev pub attributes_by : Plan → List PartContents → ℕ → ℕ
 attributes_by plan contents s = if is_singletons plan s then 0 else fold bit_or (own_attributes plan s) (map (λ c. c.attrs) (in_section plan.sections s contents))
 
-abbrev pub kept_by : Plan → List PartContents → List ℕ → ℕ → Bool
-kept_by plan contents sizes s =
-    is_always (section_at plan.sections s).emit || (list_any (λ n. nat_lt 0 n) (in_section plan.sections s sizes) || list_any (λ c. c.has_empty) (in_section plan.sections s contents))
+abbrev pub kept_by : Plan → List Bool → List ℕ → ℕ → Bool
+kept_by plan kept sizes s = is_always (section_at plan.sections s).emit || is_marked kept s || list_any (λ n. nat_lt 0 n) (in_section plan.sections s sizes)
 
 abbrev pub left_by : Plan → List Bool → ℕ → Bool
 left_by plan marks s = is_marked marks s && can_be_emitted plan s
 
-contents_are : (link : LinkInput) (live : Live) (s : ℕ) → s < length link.plan.sections
-    → in_section link.plan.sections s (part_contents link live) ≡ map (contents_of link live) (parts_of link.plan.sections s)
-contents_are link live s below =
-    made_range (contents_of link live) (all_parts link.plan.sections) (first_part link.plan.sections s) (first_part link.plan.sections (s + 1))
+pub contents_are : (link : LinkInput) (content : Content) (s : ℕ) → s < length link.plan.sections
+    → in_section link.plan.sections s (part_contents link content) ≡ map (contents_of link content) (parts_of link.plan.sections s)
+contents_are link content s below =
+    made_range (contents_of link content) (all_parts link.plan.sections) (first_part link.plan.sections s) (first_part link.plan.sections (s + 1))
     (first_part-rises link.plan.sections s) (first_part-le link.plan.sections (s + 1))
 
-attributes_are : (link : LinkInput) (live : Live) (s : ℕ) → s < length link.plan.sections → attributes_by link.plan (part_contents link live) s ≡ section_attributes link live s
-attributes_are link live s below =
-    let all : map (λ c. c.attrs) (in_section link.plan.sections s (part_contents link live)) ≡ map (part_attributes link live) (parts_of link.plan.sections s) =
-    ap (map (λ (c : PartContents). c.attrs)) (contents_are link live s below) ∙ map_map (λ (c : PartContents). c.attrs) (contents_of link live) (parts_of link.plan.sections s) in
+attributes_are : (link : LinkInput) (content : Content) (s : ℕ) → s < length link.plan.sections → attributes_by link.plan (part_contents link content) s ≡ section_attributes link content.live s
+attributes_are link content s below =
+    let all : map (λ c. c.attrs) (in_section link.plan.sections s (part_contents link content)) ≡ map (part_attributes link content.live) (parts_of link.plan.sections s) =
+    ap (map (λ (c : PartContents). c.attrs)) (contents_are link content s below) ∙ map_map (λ (c : PartContents). c.attrs) (contents_of link content) (parts_of link.plan.sections s) in
     ap (λ (attrs : List ℕ). cond (is_singletons link.plan s) 0 (fold bit_or (own_attributes link.plan s) attrs)) all
 
-sizes_are : (link : LinkInput) (live : Live) (s : ℕ) → s < length link.plan.sections
-    → in_section link.plan.sections s (first_sizes link live) ≡ map (first_size link live) (parts_of link.plan.sections s)
-sizes_are link live s below =
-    made_range (first_size link live) (all_parts link.plan.sections) (first_part link.plan.sections s) (first_part link.plan.sections (s + 1))
+sizes_are : (link : LinkInput) (content : Content) (s : ℕ) → s < length link.plan.sections
+    → in_section link.plan.sections s (first_sizes link content) ≡ map (first_size link content) (parts_of link.plan.sections s)
+sizes_are link content s below =
+    made_range (first_size link content) (all_parts link.plan.sections) (first_part link.plan.sections s) (first_part link.plan.sections (s + 1))
     (first_part-rises link.plan.sections s) (first_part-le link.plan.sections (s + 1))
 
-kept_are : (link : LinkInput) (live : Live) (s : ℕ) → s < length link.plan.sections → kept_by link.plan (part_contents link live) (first_sizes link live) s ≡ is_kept link live s
-kept_are link live s below =
-    let parts : List ℕ = parts_of link.plan.sections s in
-    let bytes : list_any (λ n. nat_lt 0 n) (in_section link.plan.sections s (first_sizes link live)) ≡ list_any (λ p. nat_lt 0 (first_size link live p)) parts =
-    ap (list_any (λ (n : ℕ). nat_lt 0 n)) (sizes_are link live s below) ∙ any_map (λ (n : ℕ). nat_lt 0 n) (first_size link live) parts in
-    let empty : list_any (λ c. c.has_empty) (in_section link.plan.sections s (part_contents link live)) ≡ list_any (has_empty link live) parts =
-    ap (list_any (λ (c : PartContents). c.has_empty)) (contents_are link live s below) ∙ any_map (λ (c : PartContents). c.has_empty) (contents_of link live) parts in
-    ap (λ b. is_always (section_at link.plan.sections s).emit || (b || list_any (λ (c : PartContents). c.has_empty) (in_section link.plan.sections s (part_contents link live)))) bytes
-    ∙ ap (λ b. is_always (section_at link.plan.sections s).emit || (list_any (λ p. nat_lt 0 (first_size link live p)) parts || b)) empty
-    ∙ ap (λ b. is_always (section_at link.plan.sections s).emit || b) (sym (any_or (λ p. nat_lt 0 (first_size link live p)) (has_empty link live) parts))
+kept_are : (link : LinkInput) (content : Content) (s : ℕ) → s < length link.plan.sections → kept_by link.plan content.live.kept (first_sizes link content) s ≡ is_kept link content s
+kept_are link content s below =
+    let bytes : list_any (λ n. nat_lt 0 n) (in_section link.plan.sections s (first_sizes link content)) ≡ list_any (λ p. nat_lt 0 (first_size link content p)) (parts_of link.plan.sections s) =
+    ap (list_any (λ (n : ℕ). nat_lt 0 n)) (sizes_are link content s below) ∙ any_map (λ (n : ℕ). nat_lt 0 n) (first_size link content) (parts_of link.plan.sections s) in
+    ap (λ b. is_always (section_at link.plan.sections s).emit || is_marked content.live.kept s || b) bytes
 
 -- what a pass over all sections makes, by number
 pub whole : {X Y : Type 0} (f : ℕ → Y) (xs : List X) (n : ℕ) → n ≡ length xs → map f (range_with_len 0 n) ≡ map (λ q. f q.0) (enumerate_from 0 xs)
 whole f xs n h = ap (λ k. map f (range_with_len 0 k)) h ∙ made_whole f xs 0
 
-pub all_attributes : (link : LinkInput) (live : Live) (n : ℕ) → n ≡ length link.plan.sections
-    → map (attributes_by link.plan (part_contents link live)) (range_with_len 0 n) ≡ all_section_attributes link live
-all_attributes link live n h =
-    whole (attributes_by link.plan (part_contents link live)) link.plan.sections n h
-    ∙ made_same_below (attributes_by link.plan (part_contents link live)) (section_attributes link live) link.plan.sections 0 (λ p below. attributes_are link live p (omega (arith, below)))
+pub all_attributes : (link : LinkInput) (content : Content) (n : ℕ) → n ≡ length link.plan.sections
+    → map (attributes_by link.plan (part_contents link content)) (range_with_len 0 n) ≡ all_section_attributes link content.live
+all_attributes link content n h =
+    whole (attributes_by link.plan (part_contents link content)) link.plan.sections n h
+    ∙ made_same_below (attributes_by link.plan (part_contents link content)) (section_attributes link content.live) link.plan.sections 0 (λ p below. attributes_are link content p (omega (arith, below)))
 
-pub all_kept : (link : LinkInput) (live : Live) (n : ℕ) → n ≡ length link.plan.sections
-    → map (kept_by link.plan (part_contents link live) (first_sizes link live)) (range_with_len 0 n) ≡ by_section (is_kept link live) link
-all_kept link live n h =
-    whole (kept_by link.plan (part_contents link live) (first_sizes link live)) link.plan.sections n h
-    ∙ made_same_below (kept_by link.plan (part_contents link live) (first_sizes link live)) (is_kept link live) link.plan.sections 0 (λ p below. kept_are link live p (omega (arith, below)))
+pub all_kept : (link : LinkInput) (content : Content) (n : ℕ) → n ≡ length link.plan.sections
+    → map (kept_by link.plan content.live.kept (first_sizes link content)) (range_with_len 0 n) ≡ by_section (is_kept link content) link
+all_kept link content n h =
+    whole (kept_by link.plan content.live.kept (first_sizes link content)) link.plan.sections n h
+    ∙ made_same_below (kept_by link.plan content.live.kept (first_sizes link content)) (is_kept link content) link.plan.sections 0 (λ p below. kept_are link content p (omega (arith, below)))
 
 -- ---- primaries
 
@@ -126,18 +119,18 @@ any_numbered p q (x ∷ xs) o h =
     ap (λ b. b || list_any (λ y. p y.0) (enumerate_from (o + 1) xs)) (h o (omega arith))
     ∙ ap (λ b. q o || b) (any_numbered p q xs (o + 1) (λ k below. h k (omega arith)))
 
-pub emitted_are : (link : LinkInput) (live : Live) (kept marks : List Bool) → kept ≡ by_section (is_kept link live) link
+pub emitted_are : (link : LinkInput) (content : Content) (kept marks : List Bool) → kept ≡ by_section (is_kept link content) link
     → ((s : ℕ) → s < length link.plan.sections → is_marked marks s ≡ list_any (λ q. primary_of link.plan.sections q.0 == s && is_marked kept q.0) (enumerate_from 0 link.plan.sections))
-    → map (λ q. left_by link.plan marks q.0) (enumerate_from 0 link.plan.sections) ≡ by_section (is_emitted link live) link
-emitted_are link live kept marks is h =
-    made_same_below (left_by link.plan marks) (is_emitted link live) link.plan.sections 0 (λ s below.
+    → map (λ q. left_by link.plan marks q.0) (enumerate_from 0 link.plan.sections) ≡ by_section (is_emitted link content) link
+emitted_are link content kept marks is h =
+    made_same_below (left_by link.plan marks) (is_emitted link content) link.plan.sections 0 (λ s below.
     let within : s < length link.plan.sections = omega (arith, below) in
     ap (λ b. b && can_be_emitted link.plan s) (
     h s within
-    ∙ any_numbered (λ k. primary_of link.plan.sections k == s && is_marked kept k) (λ k. primary_of link.plan.sections k == s && is_kept link live k) link.plan.sections 0
+    ∙ any_numbered (λ k. primary_of link.plan.sections k == s && is_marked kept k) (λ k. primary_of link.plan.sections k == s && is_kept link content k) link.plan.sections 0
     (λ k less.
-    let mark : is_marked kept k ≡ is_kept link live k =
-    ap (λ (ms : List Bool). is_marked ms k) is ∙ made_at (is_kept link live) false link.plan.sections 0 k (omega (arith, less)) ∙ ap (is_kept link live) (omega arith) in
+    let mark : is_marked kept k ≡ is_kept link content k =
+    ap (λ (ms : List Bool). is_marked ms k) is ∙ made_at (is_kept link content) false link.plan.sections 0 k (omega (arith, less)) ∙ ap (is_kept link content) (omega arith) in
     ap (λ b. primary_of link.plan.sections k == s && b) mark)))
 
 -- a primary is one of the sections
@@ -158,37 +151,37 @@ none_numbered p [] o h = refl
 none_numbered p (x ∷ xs) o h = ap (λ b. b || list_any (λ y. p y.0) (enumerate_from (o + 1) xs)) (h o (omega arith)) ∙ none_numbered p xs (o + 1) (λ k below. h k (omega arith))
 
 -- the marks say which sections are emitted, and that others aren't
-pub emitted_at : (link : LinkInput) (live : Live) (emitted : List Bool) (s : ℕ) → IsWellFormed link → emitted ≡ by_section (is_emitted link live) link → is_marked emitted s ≡ is_emitted link live s
-emitted_at link live emitted s good is =
+pub emitted_at : (link : LinkInput) (content : Content) (emitted : List Bool) (s : ℕ) → IsWellFormed link → emitted ≡ by_section (is_emitted link content) link → is_marked emitted s ≡ is_emitted link content s
+emitted_at link content emitted s good is =
     let sections : List PlanSection = link.plan.sections in
     elim (cases_lt s (length sections)) [
-      | inl below ↦ ap (λ (ms : List Bool). is_marked ms s) is ∙ made_at (is_emitted link live) false sections 0 s below ∙ ap (is_emitted link live) (omega arith)
+      | inl below ↦ ap (λ (ms : List Bool). is_marked ms s) is ∙ made_at (is_emitted link content) false sections 0 s below ∙ ap (is_emitted link content) (omega arith)
       | inr past ↦
-          let count : length emitted ≡ length sections = ap length is ∙ length-made (is_emitted link live) sections 0 in
-          let none = none_numbered (λ k. primary_of sections k == s && is_kept link live k) sections 0 (λ k below.
+          let count : length emitted ≡ length sections = ap length is ∙ length-made (is_emitted link content) sections 0 in
+          let none = none_numbered (λ k. primary_of sections k == s && is_kept link content k) sections 0 (λ k below.
           let other : (primary_of sections k == s) ≡ false = false_from_ne_true (primary_of sections k == s) (λ same.
           absurd (omega (arith, eqb-true (primary_of sections k) s same, primary_below link k good (omega (arith, below))))) in
-          ap (λ b. b && is_kept link live k) other) in
+          ap (λ b. b && is_kept link content k) other) in
           get_or_past emitted s false (omega (arith, count)) ∙ sym (ap (λ b. b && can_be_emitted link.plan s) none)
     ]
 
 -- ---- indexes and active segments
 
-pub indexes_are : (link : LinkInput) (live : Live) (emitted : List Bool) (indexes : List (Option ℕ)) → IsWellFormed link → emitted ≡ by_section (is_emitted link live) link → length indexes ≡ length link.plan.sections
+pub indexes_are : (link : LinkInput) (content : Content) (emitted : List Bool) (indexes : List (Option ℕ)) → IsWellFormed link → emitted ≡ by_section (is_emitted link content) link → length indexes ≡ length link.plan.sections
     → ((s : ℕ) → s < length link.plan.sections → slice_index_or indexes s None ≡ position_from (λ t. t == s) 0 (filter (is_marked emitted) (event_sections link.plan.events)))
-    → indexes ≡ by_section (output_index link live) link
-indexes_are link live emitted indexes good is count h =
-    made_of_or (output_index link live) None indexes link.plan.sections count (λ s below.
-    let same : filter (is_marked emitted) (event_sections link.plan.events) ≡ filter (is_emitted link live) (event_sections link.plan.events) =
-    filter_alike (is_marked emitted) (is_emitted link live) (event_sections link.plan.events) (λ t. emitted_at link live emitted t good is) in
-    h s below ∙ ap (position_from (λ t. t == s) 0) same ∙ sym (position_from-zero (λ t. t == s) (filter (is_emitted link live) (event_sections link.plan.events))))
+    → indexes ≡ by_section (output_index link content) link
+indexes_are link content emitted indexes good is count h =
+    made_of_or (output_index link content) None indexes link.plan.sections count (λ s below.
+    let same : filter (is_marked emitted) (event_sections link.plan.events) ≡ filter (is_emitted link content) (event_sections link.plan.events) =
+    filter_alike (is_marked emitted) (is_emitted link content) (event_sections link.plan.events) (λ t. emitted_at link content emitted t good is) in
+    h s below ∙ ap (position_from (λ t. t == s) 0) same ∙ sym (position_from-zero (λ t. t == s) (filter (is_emitted link content) (event_sections link.plan.events))))
 
-pub active_are : (link : LinkInput) (live : Live) (emitted : List Bool) → IsWellFormed link → emitted ≡ by_section (is_emitted link live) link
-    → filter (active_by link emitted) (map (λ q. q.0) (enumerate_from 0 link.plan.segments)) ≡ active_segments link live
-active_are link live emitted good is =
-    filter_alike (active_by link emitted) (is_active link live) (map (λ q. q.0) (enumerate_from 0 link.plan.segments)) (λ i.
+pub active_are : (link : LinkInput) (content : Content) (emitted : List Bool) → IsWellFormed link → emitted ≡ by_section (is_emitted link content) link
+    → filter (active_by link emitted) (map (λ q. q.0) (enumerate_from 0 link.plan.segments)) ≡ active_segments link content
+active_are link content emitted good is =
+    filter_alike (active_by link emitted) (is_active link content) (map (λ q. q.0) (enumerate_from 0 link.plan.segments)) (λ i.
     ap (λ b. not (is_partial link.options.output) && (link.plan.custom_phdrs || (segment_at link.plan.segments i).always || is_stack (segment_at link.plan.segments i).kind || b))
-    (any_same (is_marked emitted) (is_emitted link live) (sections_inside link.plan.events i) (λ s. emitted_at link live emitted s good is)))
+    (any_same (is_marked emitted) (is_emitted link content) (sections_inside link.plan.events i) (λ s. emitted_at link content emitted s good is)))
 
 -- one more of the numbers that pass
 pub filter_more : (p : ℕ → Bool) (n : ℕ) → filter p (range_with_len 0 (n + 1)) ≡ filter p (range_with_len 0 n) ++ cond (p n) (n ∷ []) []

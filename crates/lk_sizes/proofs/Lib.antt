@@ -2,10 +2,16 @@ pub mod Adding
 pub mod Addressing
 pub mod Emitting
 pub mod Fitting
+pub mod ImageLemmas
+pub mod ImagePlaces
+pub mod ImageStarts
+pub mod KeptOnes
 pub mod Limited
 pub mod LiveOnes
 pub mod LiveParts
 pub mod Made
+pub mod Marks
 pub mod Overflowing
 pub mod Tiling
 pub mod Walking
+pub mod Wholes

@@ -34,7 +34,7 @@ live_at link live j x l h =
     let at = marked_at live.marks (all_inputs link.groups) j x h in
     (at.0, at.1, (l.marks at.0 x at.1).0 at.2)
 
-not_left_out : (s : InputSlot) → can_be_kept s ≡ true → is_discarded s ≡ false
+pub not_left_out : (s : InputSlot) → can_be_kept s ≡ true → is_discarded s ≡ false
 not_left_out slot.Discard h = absurd (cc)
 not_left_out slot.Unloaded h = refl
 not_left_out slot.MustLoad h = refl

@@ -14,6 +14,8 @@ use Rattle.lk_link.specs.WellFormed.{IsWellFormed}
 use Rattle.lk_gc.specs.declared.live.Live.{Live}
 use Rattle.lk_gc.specs.Reach.{AreLive, live_inputs}
 use Rattle.lk_gc.proofs.LiveWalk.{turn}
+use Rattle.lk_sizes.specs.Kept.{kept_inputs}
+use Rattle.lk_sizes.proofs.KeptOnes.{kept_goes}
 use Rattle.lk_sizes.proofs.LiveOnes.{live_goes}
 use Rattle.lk_sizes.proofs.Tiling.{part_is_aligned}
 
@@ -36,3 +38,11 @@ pub goes : (link : LinkInput) (live : Live) (s t u : List Input) (done : List In
 goes link live s t u done x p good are begins yielded next is =
     let at = turn (live_inputs link live) s t u done x begins yielded next in
     omega (arith, live_goes link live at.place (input_of x) good are at.there)
+
+-- so does the next kept one
+pub goes_kept : (link : LinkInput) (live : Live) (s t u : List Input) (done : List InputRef) (x : InputRef) (p : ℕ) → IsWellFormed link → AreLive link live → s ≡ kept_inputs link live
+    → Yields (YieldsFirstBy {S = List Input} input_of (λ left. left)) s done t → YieldsFirstBy {S = List Input} input_of (λ left. left) t (Some x) u
+    → p ≡ x.section.now.part → p < length (all_parts link.plan.sections)
+goes_kept link live s t u done x p good are begins yielded next is =
+    let at = turn (kept_inputs link live) s t u done x begins yielded next in
+    omega (arith, kept_goes link live at.place (input_of x) good are at.there)

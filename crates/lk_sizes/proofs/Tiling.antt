@@ -1,5 +1,5 @@
 -- The owners of a part tile it.
-use Rattle.std.proofs.Common.{◌≡◌, ℕ, ◌+◌, ◌<◌, ◌≤◌, suc, zero, List, [], ◌∷◌, map, take, inl, inr, ap, sym, subst, refl, true, false, arith, cond, length}
+use Rattle.std.proofs.Common.{◌≡◌, ℕ, ◌+◌, ◌<◌, ◌≤◌, suc, zero, List, [], ◌∷◌, take, inl, inr, ap, sym, subst, refl, true, false, arith, cond, length}
 use Rattle.std.specs.Int.{◌∣◌, next_multiple_of}
 use Rattle.std.proofs.lemmas.List.{get_or_past}
 use Rattle.std.proofs.lemmas.List.Sums.{sum_by-cons}
@@ -10,14 +10,13 @@ use Rattle.std.proofs.Math.Nat.{dvd-add}
 use Rattle.lk_link.specs.declared.link.LinkInput.{LinkInput}
 use Rattle.lk_link.specs.declared.plan.PlanPart.{PlanPart}
 use Rattle.lk_link.specs.Alignments.{is_alignment}
-use Rattle.lk_link.specs.Inputs.{Input}
 use Rattle.lk_link.proofs.GoodLinks.{part_aligned}
 use Rattle.lk_link.specs.Parts.{all_parts, part_at}
 use Rattle.lk_link.proofs.Powers.{alignment-pos}
 use Rattle.lk_link.specs.Sizes.{capacity}
 use Rattle.lk_link.proofs.Starts.{next_multiple_is_least}
 use Rattle.lk_link.specs.WellFormed.{IsWellFormed}
-use Rattle.lk_sizes.specs.Owners.{Owner, SectionOwner, live_into, owner_address, owner_bytes, owners_of, bytes_of}
+use Rattle.lk_sizes.specs.Owners.{ImageOwner, Owner, SectionOwner, owner_address, owner_bytes, owners_of, bytes_of}
 use Rattle.lk_sizes.specs.Tiles.{HasByte, IsTiled, OwnersTileTheirPart, OwnersAreAligned}
 
 -- an owner behind the first stands where it stands in the rest, counted from the end of the first
@@ -84,7 +83,7 @@ pub tiles : (start : ℕ) (part : PlanPart) (owners : List Owner) → IsTiled st
 tiles start part owners = record { inside = inside start part owners; covered = covered start part owners; apart = apart start part owners }
 
 pub owners_tile : OwnersTileTheirPart
-owners_tile link live p start = tiles start (part_at link.plan.sections p) (owners_of link live p)
+owners_tile link content p start = tiles start (part_at link.plan.sections p) (owners_of link content p)
 
 -- ---- alignment
 
@@ -105,13 +104,17 @@ rounded part size h i =
     let e : capacity part size ≡ next_multiple_of size part.alignment = ap (λ b. cond b size (next_multiple_of size part.alignment)) h in
     subst (λ (n : ℕ). part.alignment ∣ n) (sym e) (next_multiple_is_least part.alignment size i).multiple
 
-aligned : (part : PlanPart) (xs : List Input) (k : ℕ) → part.packed ≡ false → 0 < part.alignment → part.alignment ∣ bytes_of part (take k (map SectionOwner xs))
-aligned part xs zero h i = dvd-zero part.alignment
+owner_rounded : (part : PlanPart) (o : Owner) → part.packed ≡ false → 0 < part.alignment → part.alignment ∣ owner_bytes part o
+owner_rounded part (ImageOwner section len) h i = rounded part len h i
+owner_rounded part (SectionOwner x) h i = rounded part x.section.size h i
+
+aligned : (part : PlanPart) (owners : List Owner) (k : ℕ) → part.packed ≡ false → 0 < part.alignment → part.alignment ∣ bytes_of part (take k owners)
+aligned part owners zero h i = dvd-zero part.alignment
 aligned part [] (suc k) h i = dvd-zero part.alignment
-aligned part (x ∷ xs) (suc k) h i =
-    subst (λ (n : ℕ). part.alignment ∣ n) (sym (whole part (SectionOwner x) (take k (map SectionOwner xs))))
-    (dvd-add part.alignment (rounded part x.section.size h i) (aligned part xs k h i))
+aligned part (o ∷ owners) (suc k) h i =
+    subst (λ (n : ℕ). part.alignment ∣ n) (sym (whole part o (take k owners)))
+    (dvd-add part.alignment (owner_rounded part o h i) (aligned part owners k h i))
 
 pub owners_are_aligned : OwnersAreAligned
-owners_are_aligned link live p k good free unpacked =
-    aligned (part_at link.plan.sections p) (live_into link live p) k unpacked (alignment-pos (part_at link.plan.sections p).alignment (part_is_aligned link p good))
+owners_are_aligned link content p k good free unpacked =
+    aligned (part_at link.plan.sections p) (owners_of link content p) k unpacked (alignment-pos (part_at link.plan.sections p).alignment (part_is_aligned link p good))

@@ -1,16 +1,18 @@
 -- Live sections get their addresses, one after the other.
 use Rattle.std.proofs.Common.{◌≡◌, ℕ, ◌+◌, ◌<◌, ◌^◌, List, [], ◌∷◌, ◌++◌, length, map, set, refl, sym, ap, ◌∙◌, subst, arith, inl, inr}
-use Rattle.std.specs.List.{slice_index}
+use Rattle.std.specs.List.{range_with_len, slice_index}
 use Rattle.std.proofs.lemmas.Bool.Decides.{eqb_tells}
+use Rattle.std.proofs.lemmas.List.FromFn.{get_or-map-range_with_len, length-map-range_with_len}
+use Rattle.std.proofs.lemmas.List.Sums.{sum_by-append}
 use Rattle.std.proofs.lemmas.List.{map-append, length-set, get_or-set_same, get_or-set_other}
 use Rattle.lk_link.specs.declared.link.LinkInput.{LinkInput}
 use Rattle.lk_link.specs.Inputs.{Input}
 use Rattle.lk_link.specs.Sizes.{capacity}
-use Rattle.lk_gc.specs.declared.live.Live.{Live}
 use Rattle.lk_gc.specs.Reach.{live_inputs}
 use Rattle.lk_sizes.specs.declared.addresses.LiveSection.{LiveSection}
 use Rattle.lk_sizes.specs.LiveSections.{live_section}
-use Rattle.lk_sizes.specs.Owners.{EndsFit, live_address}
+use Rattle.lk_sizes.specs.Owners.{Content, EndsFit, SectionOwner, images_of, into, live_address, owner_bytes}
+use Rattle.lk_sizes.specs.Tables.{behind_image}
 use Rattle.lk_sizes.proofs.Adding.{bytes_into, bytes_into-append, bytes_into_here, bytes_into_other}
 use Rattle.lk_sizes.proofs.Addressing.{address_behind}
 use Rattle.lk_link.specs.Parts.{part_at}
@@ -20,22 +22,30 @@ abbrev pub told_at : Input → ℕ → LiveSection
 told_at x address = record { file = x.file; index = x.index; address = address; size = x.section.size }
 
 -- these sections have their addresses, and the next address of each part stands behind those that go to it
-pub record ArePlaced (link : LinkInput) (live : Live) (starts : List ℕ) (done : List Input) (next : List ℕ) (sections : List LiveSection) : Type 0 where
+pub record ArePlaced (link : LinkInput) (content : Content) (starts : List ℕ) (done : List Input) (next : List ℕ) (sections : List LiveSection) : Type 0 where
   pub count : length next ≡ length starts
-  pub moved : (p : ℕ) → p < length starts → slice_index next p ≡ slice_index starts p + bytes_into (part_at link.plan.sections p) p done
-  pub found : sections ≡ map (live_section link live starts) done
+  pub moved : (p : ℕ) → p < length starts → slice_index next p ≡ behind_image link content.merged_lens starts p + bytes_into (part_at link.plan.sections p) p done
+  pub found : sections ≡ map (live_section link content starts) done
 
-pub none_placed : (link : LinkInput) (live : Live) (starts : List ℕ) → ArePlaced link live starts [] starts []
-none_placed link live starts = record { count = refl; moved = λ p h. omega arith; found = refl }
+pub none_placed : (link : LinkInput) (content : Content) (starts next : List ℕ) → next ≡ map (behind_image link content.merged_lens starts) (range_with_len 0 (length starts))
+    → ArePlaced link content starts [] next []
+none_placed link content starts next is = record {
+  count = ap length is ∙ length-map-range_with_len (behind_image link content.merged_lens starts) 0 (length starts);
+  moved = λ p h.
+      ap (λ (ns : List ℕ). slice_index ns p) is
+      ∙ get_or-map-range_with_len (behind_image link content.merged_lens starts) 0 (length starts) p p 0 h (omega arith)
+      ∙ omega arith;
+  found = refl;
+}
 
-pub one_placed : (link : LinkInput) (live : Live) (starts : List ℕ) (done : List Input) (x : Input) (rest : List Input) (next : List ℕ) (sections : List LiveSection) (at moved : ℕ)
-    → live_inputs link live ≡ done ++ x ∷ rest → ArePlaced link live starts done next sections → at ≡ x.section.part → at < length starts
+pub one_placed : (link : LinkInput) (content : Content) (starts : List ℕ) (done : List Input) (x : Input) (rest : List Input) (next : List ℕ) (sections : List LiveSection) (at moved : ℕ)
+    → live_inputs link content.live ≡ done ++ x ∷ rest → ArePlaced link content starts done next sections → at ≡ x.section.part → at < length starts
     → moved ≡ slice_index next at + capacity (part_at link.plan.sections at) x.section.size
-    → ArePlaced link live starts (done ++ x ∷ []) (set next at moved) (sections ++ told_at x (slice_index next at) ∷ [])
-one_placed link live starts done x rest next sections at moved all h here within is = record {
+    → ArePlaced link content starts (done ++ x ∷ []) (set next at moved) (sections ++ told_at x (slice_index next at) ∷ [])
+one_placed link content starts done x rest next sections at moved all h here within is = record {
   count = length-set next at moved ∙ h.count;
   moved = λ p below. elim (eqb_tells at p) [
-    | inl hit ↦ subst (λ (q : ℕ). slice_index (set next at moved) q ≡ slice_index starts q + bytes_into (part_at link.plan.sections q) q (done ++ x ∷ [])) hit.1
+    | inl hit ↦ subst (λ (q : ℕ). slice_index (set next at moved) q ≡ behind_image link content.merged_lens starts q + bytes_into (part_at link.plan.sections q) q (done ++ x ∷ [])) hit.1
         (omega (
           arith,
           get_or-set_same next at moved 0 (omega (arith, h.count)),
@@ -55,24 +65,34 @@ one_placed link live starts done x rest next sections at moved all h here within
         )
   ];
   found =
-      let address : slice_index next at ≡ live_address link live starts x =
+      let address : slice_index next at ≡ live_address link content starts x =
       h.moved at within
-      ∙ ap (λ (p : ℕ). slice_index starts p + bytes_into (part_at link.plan.sections p) p done) here
-      ∙ sym (address_behind link live starts done x rest all) in
+      ∙ ap (λ (p : ℕ). behind_image link content.merged_lens starts p + bytes_into (part_at link.plan.sections p) p done) here
+      ∙ sym (address_behind link content starts done x rest all) in
       ap (λ (zs : List LiveSection). zs ++ told_at x (slice_index next at) ∷ []) h.found
-      ∙ ap (λ (a : ℕ). map (live_section link live starts) done ++ told_at x a ∷ []) address
-      ∙ sym (map-append (live_section link live starts) done (x ∷ []));
+      ∙ ap (λ (a : ℕ). map (live_section link content starts) done ++ told_at x a ∷ []) address
+      ∙ sym (map-append (live_section link content starts) done (x ∷ []));
 }
 
--- behind what was placed there is room for one more
-pub room : (link : LinkInput) (live : Live) (starts : List ℕ) (done : List Input) (x : Input) (rest : List Input) (next : List ℕ) (sections : List LiveSection) (at : ℕ)
-    → live_inputs link live ≡ done ++ x ∷ rest → ArePlaced link live starts done next sections → EndsFit link live starts → at ≡ x.section.part → at < length starts
+-- behind the image all live sections that go to a part fit
+pub all_fit : (link : LinkInput) (content : Content) (starts : List ℕ) (p : ℕ) → EndsFit link content starts → p < length starts
+    → behind_image link content.merged_lens starts p + bytes_into (part_at link.plan.sections p) p (live_inputs link content.live) < 2 ^ 64
+all_fit link content starts p fit below =
+    omega (
+      arith,
+      fit p below,
+      sum_by-append (owner_bytes (part_at link.plan.sections p)) (images_of link content.merged_lens p) (map SectionOwner (into p (live_inputs link content.live))),
+    )
+
+-- so there is room behind what was placed there for one more
+pub room : (link : LinkInput) (content : Content) (starts : List ℕ) (done : List Input) (x : Input) (rest : List Input) (next : List ℕ) (sections : List LiveSection) (at : ℕ)
+    → live_inputs link content.live ≡ done ++ x ∷ rest → ArePlaced link content starts done next sections → EndsFit link content starts → at ≡ x.section.part → at < length starts
     → slice_index next at + capacity (part_at link.plan.sections at) x.section.size < 2 ^ 64
-room link live starts done x rest next sections at all h fit here within =
+room link content starts done x rest next sections at all h fit here within =
     omega (
       arith,
       h.moved at within,
-      fit at within,
+      all_fit link content starts at fit within,
       ap (bytes_into (part_at link.plan.sections at) at) all,
       bytes_into-append (part_at link.plan.sections at) at done (x ∷ rest),
       bytes_into-append (part_at link.plan.sections at) at (x ∷ []) rest,

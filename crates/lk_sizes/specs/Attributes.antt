@@ -6,18 +6,19 @@ use Rattle.lk_link.specs.declared.plan.PlanSection.{PlanSection}
 use Rattle.lk_link.specs.Parts.{first_part}
 use Rattle.lk_link.specs.PlanSections.{is_singletons, own_attributes}
 use Rattle.lk_gc.specs.declared.live.Live.{Live}
-use Rattle.lk_sizes.specs.Owners.{live_into}
+use Rattle.lk_sizes.specs.Kept.{kept_inputs}
+use Rattle.lk_sizes.specs.Owners.{into}
 
 -- the numbers of a section's parts
 abbrev pub parts_of : List PlanSection → ℕ → List ℕ
 parts_of sections s = range_with_len (first_part sections s) (first_part sections (s + 1) - first_part sections s)
 
--- the attributes of the live sections that go to a part, together
+-- the attributes of the live and merged sections that go to a part, together
 abbrev pub part_attributes : LinkInput → Live → ℕ → ℕ
-part_attributes link live p = fold bit_or 0 (map (λ x. x.section.attrs) (live_into link live p))
+part_attributes link live p = fold bit_or 0 (map (λ x. x.section.attrs) (into p (kept_inputs link live)))
 
--- an output section has the attributes that the plan gives it, and those of the live sections that go to its parts; the section
--- of singletons has none (libwild: `propagate_section_attributes`)
+-- an output section has the attributes that the plan gives it, and those of the live and merged sections that go to its parts; the
+-- section of singletons has none (libwild: `propagate_section_attributes`)
 abbrev pub section_attributes : LinkInput → Live → ℕ → ℕ
 section_attributes link live s =
     if is_singletons link.plan s then 0

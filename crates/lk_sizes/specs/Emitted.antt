@@ -9,29 +9,26 @@ use Rattle.lk_link.specs.Inside.{placed_section, sections_inside}
 use Rattle.lk_link.specs.OutputKinds.{is_partial}
 use Rattle.lk_link.specs.PlanSections.{is_singletons, primary_of, section_at}
 use Rattle.lk_link.specs.SegmentKinds.{is_stack, segment_at}
-use Rattle.lk_gc.specs.declared.live.Live.{Live}
+use Rattle.lk_link.specs.Marks.{is_marked}
 use Rattle.lk_sizes.specs.Attributes.{parts_of}
-use Rattle.lk_sizes.specs.Contents.{has_empty}
-use Rattle.lk_sizes.specs.Owners.{first_size}
+use Rattle.lk_sizes.specs.Owners.{Content, first_size}
 
 -- ---- sections
 
--- whether a part keeps its section: by bytes, or by a live section without bytes
-abbrev pub keeps_section : LinkInput → Live → ℕ → Bool
-keeps_section link live p = nat_lt 0 (first_size link live p) || has_empty link live p
-
--- whether an output section is kept: the plan always emits it, or one of its parts keeps it
-abbrev pub is_kept : LinkInput → Live → ℕ → Bool
-is_kept link live s = is_always (section_at link.plan.sections s).emit || list_any (keeps_section link live) (parts_of link.plan.sections s)
+-- whether an output section is kept: the plan always emits it, what is live keeps it, or one of its parts has bytes by its first size
+abbrev pub is_kept : LinkInput → Content → ℕ → Bool
+is_kept link content s =
+    is_always (section_at link.plan.sections s).emit || is_marked content.live.kept s
+    || list_any (λ p. nat_lt 0 (first_size link content p)) (parts_of link.plan.sections s)
 
 -- whether an output section can be emitted: the plan doesn't say never, and it isn't that of singletons
 abbrev pub can_be_emitted : Plan → ℕ → Bool
 can_be_emitted plan s = not (is_never (section_at plan.sections s).emit) && not (is_singletons plan s)
 
 -- a section is emitted where it, or one that is secondary to it, is kept, and it can be; a secondary section isn't
-abbrev pub is_emitted : LinkInput → Live → ℕ → Bool
-is_emitted link live s =
-    list_any (λ q. primary_of link.plan.sections q.0 == s && is_kept link live q.0) (enumerate_from 0 link.plan.sections)
+abbrev pub is_emitted : LinkInput → Content → ℕ → Bool
+is_emitted link content s =
+    list_any (λ q. primary_of link.plan.sections q.0 == s && is_kept link content q.0) (enumerate_from 0 link.plan.sections)
     && can_be_emitted link.plan s
 
 -- the sections that events place, in order
@@ -39,8 +36,8 @@ abbrev pub event_sections : List OrderEvent → List ℕ
 event_sections events = filter_map placed_section events
 
 -- a section's index in the output: its place among the emitted ones, in the order of events
-abbrev pub output_index : LinkInput → Live → ℕ → Option ℕ
-output_index link live s = position (λ t. t == s) (filter (is_emitted link live) (event_sections link.plan.events))
+abbrev pub output_index : LinkInput → Content → ℕ → Option ℕ
+output_index link content s = position (λ t. t == s) (filter (is_emitted link content) (event_sections link.plan.events))
 
 -- ---- segments
 
@@ -53,9 +50,9 @@ is_told link some i =
     || list_any some (sections_inside link.plan.events i))
 
 -- whether it is active: told by the emitted sections
-abbrev pub is_active : LinkInput → Live → ℕ → Bool
-is_active link live i = is_told link (is_emitted link live) i
+abbrev pub is_active : LinkInput → Content → ℕ → Bool
+is_active link content i = is_told link (is_emitted link content) i
 
 -- the active segments, in rising order
-abbrev pub active_segments : LinkInput → Live → List ℕ
-active_segments link live = filter (is_active link live) (map (λ q. q.0) (enumerate_from 0 link.plan.segments))
+abbrev pub active_segments : LinkInput → Content → List ℕ
+active_segments link content = filter (is_active link content) (map (λ q. q.0) (enumerate_from 0 link.plan.segments))

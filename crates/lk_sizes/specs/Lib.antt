@@ -2,6 +2,8 @@ pub mod Attributes
 pub mod Contents
 pub mod Emitted
 pub mod Header
+pub mod Images
+pub mod Kept
 pub mod LiveSections
 pub mod Owners
 pub mod Tables

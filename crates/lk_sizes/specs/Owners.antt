@@ -1,16 +1,27 @@
 -- Who takes the bytes of a part, and where each stands.
 use Rattle.std.specs.Prelude.{◌≡◌, ℕ, zero, suc, ◌+◌, ◌-◌, ◌^◌, ◌<◌, ◌==◌, ◌&&◌, Bool, if◌then◌else◌, List, length, take, map, filter}
-use Rattle.std.specs.Prelude.{false, is_some, sum, sum_by, slice_index, Option, Some, None, nat_lt, Contains}
-use Rattle.std.specs.List.{enumerate_from, position_or_len, slice_get}
+use Rattle.std.specs.Prelude.{[], ◌∷◌, ◌++◌, false, is_some, sum, sum_by, slice_index, Option, Some, None, nat_lt, Contains}
+use Rattle.std.specs.List.{enumerate_from, flat_map, list_any, position_or_len, slice_get}
 use Rattle.lk_link.specs.declared.link.LinkInput.{LinkInput}
 use Rattle.lk_link.specs.declared.plan.PlanPart.{PlanPart}
+use Rattle.lk_link.specs.declared.plan.PlanSection.{PlanSection}
 use Rattle.lk_link.specs.Files.{first_some}
-use Rattle.lk_link.specs.Inputs.{Input}
+use Rattle.lk_link.specs.InputSlots.{is_merge}
+use Rattle.lk_link.specs.Inputs.{Input, all_inputs}
 use Rattle.lk_link.specs.PartRules.{names_table}
 use Rattle.lk_link.specs.Parts.{all_parts, part_at}
 use Rattle.lk_link.specs.Sizes.{capacity}
 use Rattle.lk_gc.specs.declared.live.Live.{Live}
 use Rattle.lk_gc.specs.Reach.{live_inputs}
+
+-- what goes into the output: the live sections of a link, and the merged images of output sections, by their lengths
+pub record Content : Type 0 where
+  pub live : Live
+  pub merged_lens : List ℕ
+
+-- that of these live sections and lengths
+abbrev pub content_of : Live → List ℕ → Content
+content_of live merged_lens = record { live = live; merged_lens = merged_lens }
 
 -- those of some input sections that go to a part
 abbrev pub into : ℕ → List Input → List Input
@@ -20,19 +31,42 @@ into p inputs = filter (λ x. x.section.part == p) inputs
 abbrev pub live_into : LinkInput → Live → ℕ → List Input
 live_into link live p = into p (live_inputs link live)
 
+-- ---- images
+
+-- whether an input section is merged
+abbrev pub is_merged : Input → Bool
+is_merged x = is_merge x.section.slot
+
+-- whether sections that are merged go to a part, so that the image of its output section stands there
+abbrev pub has_image : LinkInput → ℕ → Bool
+has_image link p = list_any is_merged (into p (all_inputs link.groups))
+
+-- the output section of each part, by the part's number: each section's number, once for each of its parts
+abbrev pub part_sections : List PlanSection → List ℕ
+part_sections sections = flat_map (λ q. map (λ _. q.0) q.1.parts) (enumerate_from 0 sections)
+
 -- ---- owners
 
--- one that takes bytes of a part: a live section (libwild adds up sizes file by file)
+-- one that takes bytes of a part: the merged image of an output section, so many bytes long, or a live section (libwild adds up
+-- sizes file by file)
 pub data Owner : Type 0 where
+  ImageOwner : ℕ → ℕ → Owner
   SectionOwner : Input → Owner
 
 -- the bytes that it takes there
 abbrev pub owner_bytes : PlanPart → Owner → ℕ
+owner_bytes part (ImageOwner section len) = capacity part len
 owner_bytes part (SectionOwner x) = capacity part x.section.size
 
--- the owners of a part, in order
-abbrev pub owners_of : LinkInput → Live → ℕ → List Owner
-owners_of link live p = map SectionOwner (live_into link live p)
+-- the image of a part's output section, by the lengths of all images, if it stands there
+abbrev pub images_of : LinkInput → List ℕ → ℕ → List Owner
+images_of link merged_lens p =
+    let section = slice_index (part_sections link.plan.sections) p in
+    if has_image link p then ImageOwner section (slice_index merged_lens section) ∷ [] else []
+
+-- the owners of a part, in order: the image, and the live sections
+abbrev pub owners_of : LinkInput → Content → ℕ → List Owner
+owners_of link content p = images_of link content.merged_lens p ++ map SectionOwner (live_into link content.live p)
 
 -- the bytes of some owners of a part
 abbrev pub bytes_of : PlanPart → List Owner → ℕ
@@ -46,46 +80,54 @@ owner_address start part owners k = start + bytes_of part (take k owners)
 
 -- whether an owner is this input section
 abbrev pub owns : Input → Owner → Bool
+owns x (ImageOwner section len) = false
 owns x (SectionOwner y) = y.file.group == x.file.group && y.file.file == x.file.file && y.index == x.index
 
 -- how many owners of its part stand before a live section
-abbrev pub owner_number : LinkInput → Live → Input → ℕ
-owner_number link live x = position_or_len (owns x) (owners_of link live x.section.part)
+abbrev pub owner_number : LinkInput → Content → Input → ℕ
+owner_number link content x = position_or_len (owns x) (owners_of link content x.section.part)
 
 -- a live section's address, by the starts of all parts in memory
-abbrev pub live_address : LinkInput → Live → List ℕ → Input → ℕ
-live_address link live starts x =
+abbrev pub live_address : LinkInput → Content → List ℕ → Input → ℕ
+live_address link content starts x =
     let p = x.section.part in
-    owner_address (slice_index starts p) (part_at link.plan.sections p) (owners_of link live p) (owner_number link live x)
+    owner_address (slice_index starts p) (part_at link.plan.sections p) (owners_of link content p) (owner_number link content x)
 
 -- each part ends below 2^64
-abbrev pub EndsFit : LinkInput → Live → List ℕ → Type 0
-EndsFit link live starts = (p : ℕ) → p < length starts
-    → slice_index starts p + bytes_of (part_at link.plan.sections p) (owners_of link live p) < 2 ^ 64
+abbrev pub EndsFit : LinkInput → Content → List ℕ → Type 0
+EndsFit link content starts = (p : ℕ) → p < length starts
+    → slice_index starts p + bytes_of (part_at link.plan.sections p) (owners_of link content p) < 2 ^ 64
 
 -- ---- sizes
 
 -- a part's size is the sum of its owners' bytes
-abbrev pub part_size : LinkInput → Live → ℕ → ℕ
-part_size link live p = bytes_of (part_at link.plan.sections p) (owners_of link live p)
+abbrev pub part_size : LinkInput → Content → ℕ → ℕ
+part_size link content p = bytes_of (part_at link.plan.sections p) (owners_of link content p)
 
 -- what is made for each part by its number
 abbrev pub by_part : {X : Type 0} → (ℕ → X) → LinkInput → List X
 by_part f link = map (λ q. f q.0) (enumerate_from 0 (all_parts link.plan.sections))
 
 -- the sizes of all parts (libwild: `compute_total_section_part_sizes`)
-abbrev pub part_sizes : LinkInput → Live → List ℕ
-part_sizes link live = by_part (part_size link live) link
+abbrev pub part_sizes : LinkInput → Content → List ℕ
+part_sizes link content = by_part (part_size link content) link
 
--- the size that tells whether a part keeps its section: what its live sections take with the sizes that they have in the description
-abbrev pub first_size : LinkInput → Live → ℕ → ℕ
-first_size link live p = sum_by (λ x. capacity (part_at link.plan.sections p) x.section.size) (live_into link live p)
+-- the size that tells whether a part keeps its section: what the image there takes, and the live sections with the sizes that they
+-- have in the description
+abbrev pub first_size : LinkInput → Content → ℕ → ℕ
+first_size link content p =
+    let part = part_at link.plan.sections p in
+    bytes_of part (images_of link content.merged_lens p) + sum_by (λ x. capacity part x.section.size) (live_into link content.live p)
 
 -- those of all parts
-abbrev pub first_sizes : LinkInput → Live → List ℕ
-first_sizes link live = by_part (first_size link live) link
+abbrev pub first_sizes : LinkInput → Content → List ℕ
+first_sizes link content = by_part (first_size link content) link
 
--- a link in which no section is made smaller, and only live sections take bytes: without relaxation, tables and thunks
+-- these are the first sizes
+abbrev pub AreFirstSizes : LinkInput → Content → List ℕ → Type 0
+AreFirstSizes link content sizes = sizes ≡ first_sizes link content
+
+-- a link in which no section is made smaller, and only images and live sections take bytes: without relaxation, tables and thunks
 pub record KeepsSizes (link : LinkInput) : Type 0 where
   pub relax : link.options.relax ≡ false
   pub tables : names_table link.plan.named ≡ false
@@ -93,7 +135,7 @@ pub record KeepsSizes (link : LinkInput) : Type 0 where
 
 -- there the first sizes are the sizes
 abbrev pub FirstSizesAreSizes : Type 0
-FirstSizesAreSizes = (link : LinkInput) (live : Live) → KeepsSizes link → first_sizes link live ≡ part_sizes link live
+FirstSizesAreSizes = (link : LinkInput) (content : Content) → KeepsSizes link → first_sizes link content ≡ part_sizes link content
 
 -- the least number below n that passes
 abbrev pub least_below : (ℕ → Bool) → ℕ → Option ℕ
@@ -108,5 +150,5 @@ overflowing_part sizes = least_below (λ p. nat_lt (2 ^ 64 - 1) (sum (take (p + 
 
 -- each live section stands among the owners of its part under its number there
 abbrev pub LiveSectionsAreOwners : Type 0
-LiveSectionsAreOwners = (link : LinkInput) (live : Live) (x : Input) → Contains (live_inputs link live) x
-    → slice_get (owners_of link live x.section.part) (owner_number link live x) ≡ Some (SectionOwner x)
+LiveSectionsAreOwners = (link : LinkInput) (content : Content) (x : Input) → Contains (live_inputs link content.live) x
+    → slice_get (owners_of link content x.section.part) (owner_number link content x) ≡ Some (SectionOwner x)

@@ -4,8 +4,7 @@ use Rattle.std.specs.Int.{◌∣◌}
 use Rattle.lk_link.specs.declared.link.LinkInput.{LinkInput}
 use Rattle.lk_link.specs.declared.plan.PlanPart.{PlanPart}
 use Rattle.lk_link.specs.WellFormed.{IsWellFormed}
-use Rattle.lk_gc.specs.declared.live.Live.{Live}
-use Rattle.lk_sizes.specs.Owners.{Owner, owner_address, owner_bytes, owners_of, bytes_of}
+use Rattle.lk_sizes.specs.Owners.{Content, Owner, owner_address, owner_bytes, owners_of, bytes_of}
 use Rattle.lk_link.specs.PartRules.{is_table_part}
 use Rattle.lk_link.specs.Parts.{part_at}
 
@@ -24,10 +23,11 @@ pub record IsTiled (start : ℕ) (part : PlanPart) (owners : List Owner) : Type 
 
 -- the owners of each part tile it, wherever it starts
 abbrev pub OwnersTileTheirPart : Type 0
-OwnersTileTheirPart = (link : LinkInput) (live : Live) (p start : ℕ) → IsTiled start (part_at link.plan.sections p) (owners_of link live p)
+OwnersTileTheirPart = (link : LinkInput) (content : Content) (p start : ℕ)
+    → IsTiled start (part_at link.plan.sections p) (owners_of link content p)
 
 -- where a part is no table part and isn't packed, each owner stands at a multiple of the alignment from the part's start
 abbrev pub OwnersAreAligned : Type 0
-OwnersAreAligned = (link : LinkInput) (live : Live) (p k : ℕ) → IsWellFormed link
+OwnersAreAligned = (link : LinkInput) (content : Content) (p k : ℕ) → IsWellFormed link
     → is_table_part link.plan.named p ≡ false → (part_at link.plan.sections p).packed ≡ false
-    → (part_at link.plan.sections p).alignment ∣ bytes_of (part_at link.plan.sections p) (take k (owners_of link live p))
+    → (part_at link.plan.sections p).alignment ∣ bytes_of (part_at link.plan.sections p) (take k (owners_of link content p))

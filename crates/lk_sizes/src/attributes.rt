@@ -1,12 +1,13 @@
-//! The attributes of output sections: those that the plan gives them, with those of the live sections that go to their parts.
+//! The attributes of output sections: those that the plan gives them, with those of the live and merged sections that go to
+//! their parts.
 
 ghost use Rattle.std.specs.Prelude.{◌≡◌, ◌<◌, fold, if◌then◌else◌, length, map, bit_or, IfOk};
 ghost use Rattle.lk_link.specs.Parts.{all_parts};
 ghost use Rattle.lk_link.specs.PlanSections.{is_singletons, own_attributes};
 ghost use Rattle.lk_link.specs.WellFormed.{IsWellFormed};
-ghost use Rattle.lk_gc.specs.declared.live.Live.{Live};
 ghost use Rattle.lk_sizes.specs.Attributes.{all_section_attributes};
 ghost use Rattle.lk_sizes.specs.Contents.{part_contents};
+ghost use Rattle.lk_sizes.specs.Owners.{Content};
 ghost use Rattle.lk_sizes.specs.Tables.{in_section};
 
 use crate::owners::PartContents;
@@ -24,7 +25,7 @@ fn join(attrs: u32, parts: &[PartContents]) -> u32
     all
 }
 
-/// The attributes of an output section, by what its parts' live sections bring.
+/// The attributes of an output section, by what comes into its parts.
 #[tactic(auto, using(lk_link::proofs::PartNumbers::part_numbers))]
 fn section_attributes(plan: &Plan, section: OutputSectionId, contents: &[PartContents]) -> u32
     requires within { section < length plan.now.sections }
@@ -39,8 +40,7 @@ fn section_attributes(plan: &Plan, section: OutputSectionId, contents: &[PartCon
     join(plan.own_attributes(section), &contents[first..behind])
 }
 
-/// The attributes of each output section, by what the live sections bring to the parts (libwild:
-/// `propagate_section_attributes`).
+/// The attributes of each output section, by what comes into the parts (libwild: `propagate_section_attributes`).
 pub fn propagate_section_attributes(
     alloc: Global,
     link: &LinkInput,
@@ -48,8 +48,8 @@ pub fn propagate_section_attributes(
 ) -> Result<Vec<u32>, AllocError>
     requires good { IsWellFormed link.now }
     requires count { length contents.now ≡ length (all_parts link.now.plan.sections) }
-    ensures { (live : Live) → contents.now ≡ part_contents link.now live
-        → IfOk result (λ all. all.items ≡ all_section_attributes link.now live) }
+    ensures { (content : Content) → contents.now ≡ part_contents link.now content
+        → IfOk result (λ all. all.items ≡ all_section_attributes link.now content.live) }
 {
     let plan = &link.plan;
     let mut all = Vec::with_capacity(alloc, plan.sections.len())?;

@@ -3,19 +3,19 @@
 //! What is told of a section may depend on whether anything went into it: an output file has no header for a section that
 //! stayed empty, unless the plan wants one. Each step is a pass over the plan.
 //!
-//! First, which sections are kept: those that the plan always emits, and those with a part that has bytes by its first
-//! size, or a live section without bytes that isn't debug data. The first sizes go by the input sections as they are
-//! described: whether a section is emitted must be known before later steps, which may change sizes, can run. Then the
-//! marks of secondary sections move to their primaries, since both stand in the output as one section, and sections that
-//! the plan never emits lose theirs, as does the section of singletons, whose input sections are told one by one. The
-//! marked ones are numbered in the order in which events place them; a section that no event places has no index.
+//! First, which sections are kept: those that the plan always emits, those that what is live keeps, whatever its bytes, and
+//! those with a part that has bytes by its first size. The first sizes go by the input sections as they are described:
+//! whether a section is emitted must be known before later steps, which may change sizes, can run. Then the marks of
+//! secondary sections move to their primaries, since both stand in the output as one section, and sections that the plan
+//! never emits lose theirs, as does the section of singletons, whose input sections are told one by one. The marked ones are
+//! numbered in the order in which events place them; a section that no event places has no index.
 //!
 //! At last the active segments, which are those with a header. Where the program headers were asked for, every segment has
 //! one, since the plan then says what the headers are. Else it is those that the plan always wants, those for the stack,
 //! which has no sections inside, and those in which an emitted section stands. Partial output, which is linked again
 //! before anything loads it, has none.
 
-ghost use Rattle.std.specs.Prelude.{◌≡◌, ◌==◌, ◌&&◌, ◌||◌, ◌<◌, ◌≤◌, ◌^◌, ◌+◌, ◌++◌, ◌∷◌, [], ℕ, All, Some, None, IfOk, OnOk, filter};
+ghost use Rattle.std.specs.Prelude.{◌≡◌, ◌==◌, ◌&&◌, ◌||◌, ◌<◌, ◌≤◌, ◌^◌, ◌+◌, ◌++◌, ◌∷◌, [], ℕ, List, All, Some, None, IfOk, OnOk, filter};
 ghost use Rattle.std.specs.Prelude.{if◌then◌else◌, length, map, nat_lt, not};
 ghost use Rattle.std.specs.List.{enumerate_from, list_any, position_from, slice_index_or};
 ghost use Rattle.lk_link.specs.Files.{first_some};
@@ -27,14 +27,13 @@ ghost use Rattle.lk_link.specs.Parts.{all_parts};
 ghost use Rattle.lk_link.specs.PlanSections.{primary_of, section_at};
 ghost use Rattle.lk_link.specs.SegmentKinds.{is_stack};
 ghost use Rattle.lk_link.specs.WellFormed.{IsInRange, IsWellFormed};
-ghost use Rattle.lk_gc.specs.declared.live.Live.{Live};
 ghost use Rattle.lk_sizes.specs.Attributes.{by_section};
 ghost use Rattle.lk_sizes.specs.Emitted.{can_be_emitted, event_sections, is_emitted, is_kept};
 ghost use Rattle.lk_sizes.specs.Header.{header_info};
 ghost use Rattle.lk_sizes.specs.Tables.{active_by, in_section};
-ghost use Rattle.lk_sizes.specs.Contents.{AreBrought};
+ghost use Rattle.lk_sizes.specs.Owners.{AreFirstSizes, content_of};
 
-use crate::owners::PartContents;
+use lk_gc::Live;
 use lk_link::limits::{EVENTS, SEGMENTS};
 use lk_link::marks::is_marked;
 use lk_link::{
@@ -53,24 +52,22 @@ pub struct HeaderInfo {
     pub active_segment_ids: List<SegmentId>,
 }
 
-/// What the headers tell, by what the live sections bring to the parts, and the first sizes of the parts in bytes (libwild:
-/// `determine_header_sizes`). Looks at each section and its parts once, and at each event once for the sections and once for
-/// each segment.
+/// What the headers tell, by what is live and the first sizes of the parts in bytes (libwild: `determine_header_sizes`).
+/// Looks at each section and its parts once, and at each event once for the sections and once for each segment.
 pub fn determine_header_sizes(
     alloc: Global,
     link: &LinkInput,
-    contents: &[PartContents],
+    live: &Live,
     first_sizes: &[u64],
 ) -> Result<HeaderInfo, AllocError>
     requires good { IsWellFormed link.now }
-    requires count { length contents.now ≡ length (all_parts link.now.plan.sections) }
     requires sizes { length first_sizes.now ≡ length (all_parts link.now.plan.sections) }
-    ensures header { (live : Live) → AreBrought link.now live contents.now first_sizes.now
-        → IfOk result (λ header. header ≡ header_info link.now live) }
-    ensures marks { (live : Live) → AreBrought link.now live contents.now first_sizes.now
-        → IfOk result (λ header. is_marked header.emitted ≡ is_emitted link.now live) }
+    ensures header { (lens : List ℕ) → AreFirstSizes link.now (content_of live.now lens) first_sizes.now
+        → IfOk result (λ header. header ≡ header_info link.now (content_of live.now lens)) }
+    ensures marks { (lens : List ℕ) → AreFirstSizes link.now (content_of live.now lens) first_sizes.now
+        → IfOk result (λ header. is_marked header.emitted ≡ is_emitted link.now (content_of live.now lens)) }
 {
-    let emitted = mark_emitted(alloc, link, contents, first_sizes)?;
+    let emitted = mark_emitted(alloc, link, live, first_sizes)?;
     let indexes = index_emitted(alloc, &link.plan, &emitted)?;
     let insides = link.plan.sections_of_segments(alloc)?;
     let active = find_active(alloc, link, &emitted, &insides)?;
@@ -88,67 +85,56 @@ fn have_bytes(sizes: &[u64]) -> bool
     sizes.iter().any(|size| *size > 0)
 }
 
-/// Whether a live section without bytes goes to one of these parts.
-fn have_empty(parts: &[PartContents]) -> bool
-    ensures { result ≡ list_any (λ c. c.has_empty) parts.now }
-{
-    parts.iter().any(|part| part.has_empty)
-}
-
 /// For each output section, whether it is emitted.
 fn mark_emitted(
     alloc: Global,
     link: &LinkInput,
-    contents: &[PartContents],
+    live: &Live,
     first_sizes: &[u64],
 ) -> Result<Vec<bool>, AllocError>
     requires good { IsWellFormed link.now }
-    requires count { length contents.now ≡ length (all_parts link.now.plan.sections) }
     requires sizes { length first_sizes.now ≡ length (all_parts link.now.plan.sections) }
     ensures count { IfOk result (λ emitted. length emitted.items ≡ length link.now.plan.sections) }
-    ensures emitted { (live : Live) → AreBrought link.now live contents.now first_sizes.now
-        → IfOk result (λ emitted. emitted.items ≡ by_section (is_emitted link.now live) link.now) }
+    ensures emitted { (lens : List ℕ) → AreFirstSizes link.now (content_of live.now lens) first_sizes.now
+        → IfOk result (λ emitted. emitted.items ≡ by_section (is_emitted link.now (content_of live.now lens)) link.now) }
 {
-    let kept = mark_kept(alloc, link, contents, first_sizes)?;
+    let kept = mark_kept(alloc, link, live, first_sizes)?;
     let marks = mark_primaries(alloc, &link.plan.sections, &kept)?;
     let emitted = leave_out(alloc, &link.plan, &marks)?;
     Ok(emitted)
 }
 
-/// Whether an output section is kept: the plan always emits it, or one of its parts keeps it.
+/// Whether an output section is kept: the plan always emits it, what is live keeps it, or one of its parts has bytes.
 #[tactic(auto, using(lk_link::proofs::PartNumbers::part_numbers))]
-fn is_kept(plan: &Plan, section: usize, contents: &[PartContents], first_sizes: &[u64]) -> bool
+fn is_kept(plan: &Plan, section: usize, live: &Live, first_sizes: &[u64]) -> bool
     requires within { section < length plan.now.sections }
-    requires count { length contents.now ≡ length (all_parts plan.now.sections) }
     requires sizes { length first_sizes.now ≡ length (all_parts plan.now.sections) }
-    ensures { result ≡ (is_always (section_at plan.now.sections section).emit
-        || (list_any (λ n. nat_lt 0 n) (in_section plan.now.sections section first_sizes.now)
-        || list_any (λ c. c.has_empty) (in_section plan.now.sections section contents.now))) }
+    ensures { result ≡ (is_always (section_at plan.now.sections section).emit || is_marked live.now.kept section
+        || list_any (λ n. nat_lt 0 n) (in_section plan.now.sections section first_sizes.now)) }
 {
     let (first, behind) = plan.sections.part_range(section);
     let emit = plan.sections.as_slice()[section].emit;
     emit.is_always()
+        || is_marked(live.kept.as_slice(), section)
         || have_bytes(&first_sizes[first..behind])
-        || have_empty(&contents[first..behind])
 }
 
 /// For each output section, whether it is kept.
 fn mark_kept(
     alloc: Global,
     link: &LinkInput,
-    contents: &[PartContents],
+    live: &Live,
     first_sizes: &[u64],
 ) -> Result<Vec<bool>, AllocError>
-    requires count { length contents.now ≡ length (all_parts link.now.plan.sections) }
     requires sizes { length first_sizes.now ≡ length (all_parts link.now.plan.sections) }
     ensures count { IfOk result (λ kept. length kept.items ≡ length link.now.plan.sections) }
-    ensures kept { (live : Live) → AreBrought link.now live contents.now first_sizes.now
-        → IfOk result (λ kept. kept.items ≡ by_section (is_kept link.now live) link.now) }
+    ensures kept { (lens : List ℕ) → AreFirstSizes link.now (content_of live.now lens) first_sizes.now
+        → IfOk result (λ kept. kept.items ≡ by_section (is_kept link.now (content_of live.now lens)) link.now) }
 {
     let plan = &link.plan;
     let mut kept = Vec::with_capacity(alloc, plan.sections.len())?;
     for number in 0..plan.sections.len() {
-        kept.push(is_kept(plan, number, contents, first_sizes))?;
+        kept.push(is_kept(plan, number, live, first_sizes))?;
     }
     Ok(kept)
 }

@@ -1,5 +1,6 @@
 //! Laws on owners and sizes.
 
+ghost use Rattle.lk_sizes.specs.Images.{ImagesAreOwners, ImagesStandWhereInputsGo};
 ghost use Rattle.lk_sizes.specs.Owners.{FirstSizesAreSizes, LiveSectionsAreOwners};
 ghost use Rattle.lk_sizes.specs.Tiles.{OwnersTileTheirPart, OwnersAreAligned};
 
@@ -21,4 +22,14 @@ pub fn owners_are_aligned()
 /// A law: each live section stands among the owners of its part under its number there.
 pub fn live_sections_are_owners()
     ensures { LiveSectionsAreOwners }
+{}
+
+/// A law: each merged image stands among the owners of its part under its number there, with its length.
+pub fn images_are_owners()
+    ensures { ImagesAreOwners }
+{}
+
+/// A law: where a section that is merged goes, the image of its output section stands.
+pub fn images_stand_where_inputs_go()
+    ensures { ImagesStandWhereInputsGo }
 {}

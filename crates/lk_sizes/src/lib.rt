@@ -5,6 +5,8 @@ pub mod addresses;
 pub mod attributes;
 pub mod error;
 pub mod header;
+pub mod images;
+mod kept;
 pub mod laws;
 pub mod owners;
 
@@ -12,4 +14,5 @@ pub use addresses::{LiveSection, live_sections};
 pub use attributes::propagate_section_attributes;
 pub use error::SizeError;
 pub use header::{HeaderInfo, determine_header_sizes};
+pub use images::image_addresses;
 pub use owners::{PartContents, part_contents, part_sizes};

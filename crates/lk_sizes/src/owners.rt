@@ -1,36 +1,38 @@
-//! What the live sections of a link bring to its parts: bytes, attributes, and whether one of them is empty.
+//! What comes into the parts of a link: bytes, attributes, and whether merged images stand there.
 //!
-//! One pass over the live sections adds each to the row of its part, in a flat table by part number. Sums have 128 bits
-//! there, so that one that passes 2^64 - 1 is told from one that fits. A second pass over the rows adds the sums up, part by
-//! part, and refuses the first part at which they pass 2^64 - 1 together.
+//! One pass over the live and merged sections adds each to the row of its part, in a flat table by part number. Sums have 128
+//! bits there, so that one that passes 2^64 - 1 is told from one that fits. A part to which merged sections go has the image
+//! of its output section, which comes on top. A last pass over the rows adds the sums up, part by part, and refuses the
+//! first part at which they pass 2^64 - 1 together.
 
-ghost use Rattle.std.specs.Prelude.{◌≡◌, ◌+◌, ◌-◌, ◌^◌, ◌==◌, ◌&&◌, ◌||◌, ℕ, IsTrue, IfOk, Some, bit_or, length, map, min, not, slice_get};
+ghost use Rattle.std.specs.Prelude.{◌≡◌, ◌+◌, ◌-◌, ◌<◌, ◌^◌, ◌||◌, ℕ, IsTrue, IfOk, OnOk, Some, ◌++◌, if◌then◌else◌, bit_or, length, map, min, slice_get, slice_index};
 ghost use Rattle.lk_link.specs.Alignments.{is_alignment};
-ghost use Rattle.lk_link.specs.InputSlots.{is_debug};
+ghost use Rattle.lk_link.specs.InputSlots.{is_merge};
 ghost use Rattle.lk_link.specs.Parts.{all_parts};
 ghost use Rattle.lk_link.specs.Sizes.{capacity};
 ghost use Rattle.lk_link.specs.WellFormed.{IsWellFormed};
 ghost use Rattle.lk_link.specs.declared.link.LinkInput.{LinkInput};
 ghost use Rattle.lk_gc.specs.Reach.{AreLive};
-ghost use Rattle.lk_gc.specs.declared.live.Live.{Live};
 ghost use Rattle.lk_sizes.specs.Attributes.{part_attributes};
-ghost use Rattle.lk_sizes.specs.Contents.{GivesContents, has_empty, part_contents};
-ghost use Rattle.lk_sizes.specs.Owners.{part_size, part_sizes};
+ghost use Rattle.lk_sizes.specs.Contents.{GivesContents, part_contents};
+ghost use Rattle.lk_sizes.specs.Owners.{Content, content_of, has_image, part_sections, part_size, part_sizes};
+ghost use Rattle.lk_sizes.specs.Tables.{live_size};
 ghost use Rattle.lk_sizes.specs.declared.owners.Total.{Total};
 
 use crate::error::SizeError;
+use crate::kept::KeptInputs;
 use lk_gc::Live;
-use lk_link::{InputSection, LinkInput, List, Place, PlanPart, Section};
+use lk_link::{InputSection, LinkInput, List, Place, PlanPart, PlanSection, Section};
 use std::alloc::{AllocError, Global};
 
-/// What the live sections that go to a part bring to it.
+/// What comes into a part.
 #[derive(Clone, Copy, Debug, PartialEq, Eq)]
 pub struct PartContents {
-    /// Bytes; those of all parts are at most 2^64 - 1 together.
+    /// Bytes of the image and of the live sections; those of all parts are at most 2^64 - 1 together.
     pub bytes: u64,
-    /// Whether one of them has no bytes, and isn't debug data.
-    pub has_empty: bool,
-    /// Their attributes together.
+    /// Whether merged sections go to it, so that the merged image of its output section stands there, before the sections.
+    pub has_image: bool,
+    /// The attributes of its live and merged sections together.
     pub attrs: u32,
 }
 
@@ -39,42 +41,80 @@ pub struct PartContents {
 struct Total {
     /// Bytes; a sum past 2^128 - 1 is given as that.
     bytes: u128,
-    has_empty: bool,
+    has_image: bool,
     attrs: u32,
 }
 
 impl Total {
-    /// With what one more section brings.
+    /// With what one more section brings: a merged one has its bytes in the image.
     fn with(self, part: &PlanPart, section: &InputSection) -> Total
         requires { IsTrue (is_alignment part.now.alignment) }
-        ensures bytes { result.bytes ≡ min (self.bytes + capacity part.now section.now.size) (2 ^ 128 - 1) }
-        ensures empty { result.has_empty ≡ (self.has_empty || (section.now.size == 0 && not (is_debug section.now.slot))) }
+        ensures bytes { result.bytes ≡ (if is_merge section.now.slot then self.bytes
+            else min (self.bytes + capacity part.now section.now.size) (2 ^ 128 - 1)) }
+        ensures image { result.has_image ≡ (self.has_image || is_merge section.now.slot) }
         ensures attrs { result.attrs ≡ bit_or self.attrs section.now.attrs }
     {
+        let merged = section.slot.is_merge();
         let size = section.size;
+        let bytes = if merged {
+            self.bytes
+        } else {
+            self.bytes
+                .saturating_add(Section { size }.exact_capacity(part))
+        };
         Total {
-            bytes: self
-                .bytes
-                .saturating_add(Section { size }.exact_capacity(part)),
-            has_empty: self.has_empty || (size == 0 && !section.slot.is_debug()),
+            bytes,
+            has_image: self.has_image || merged,
             attrs: self.attrs | section.attrs,
+        }
+    }
+
+    /// With the image, if one stands there, so many bytes long.
+    fn with_image(self, part: &PlanPart, len: u64) -> Total
+        requires { IsTrue (is_alignment part.now.alignment) }
+        ensures bytes { result.bytes ≡ min (self.bytes + (if self.has_image then capacity part.now len else 0)) (2 ^ 128 - 1) }
+        ensures image { result.has_image ≡ self.has_image }
+        ensures attrs { result.attrs ≡ self.attrs }
+    {
+        let Total {
+            bytes,
+            has_image,
+            attrs,
+        } = self;
+        Total {
+            bytes: bytes.saturating_add(image_bytes(part, has_image, len)),
+            has_image,
+            attrs,
         }
     }
 }
 
-/// What the live sections bring to each part, by its number. Looks at each input section once, and takes memory for the
-/// parts alone. Refuses the first part at which the sizes so far pass 2^64 - 1 together (libwild:
-/// `compute_total_section_part_sizes`).
+/// The bytes that an image takes in a part, if there is one, so many bytes long.
+pub(crate) fn image_bytes(part: &PlanPart, has_image: bool, len: u64) -> u128
+    requires { IsTrue (is_alignment part.now.alignment) }
+    ensures { result ≡ (if has_image then capacity part.now len else 0) }
+{
+    if has_image {
+        Section { size: len }.exact_capacity(part)
+    } else {
+        0
+    }
+}
+
+/// What comes into each part, by its number, where the merged images of output sections are so many bytes long; none is
+/// where nothing is merged. Looks at each input section once, and takes memory for the parts alone. Refuses the first part
+/// at which the sizes so far pass 2^64 - 1 together (libwild: `compute_total_section_part_sizes`).
 pub fn part_contents(
     alloc: Global,
     link: &LinkInput,
     live: &Live,
+    merged_lens: &[u64],
 ) -> Result<List<PartContents>, SizeError>
     requires good { IsWellFormed link.now }
     requires live { AreLive link.now live.now }
-    ensures { GivesContents link.now live.now result }
+    ensures { GivesContents link.now (content_of live.now merged_lens.now) result }
 {
-    let totals = add_up(alloc, link, live)?;
+    let totals = add_up(alloc, link, live, merged_lens)?;
     let mut contents = Vec::with_capacity(alloc, totals.len())?;
     let mut sum = 0u128;
     for (part, total) in totals.as_slice().iter().enumerate() {
@@ -85,44 +125,110 @@ pub fn part_contents(
         }
         contents.push(PartContents {
             bytes: total.bytes as u64,
-            has_empty: total.has_empty,
+            has_image: total.has_image,
             attrs: total.attrs,
         })?;
     }
     Ok(List::from_vec(contents))
 }
 
-/// What the live sections bring to each part; bytes may pass 2^64 - 1.
-fn add_up(alloc: Global, link: &LinkInput, live: &Live) -> Result<Vec<Total>, AllocError>
+/// What comes into each part; bytes may pass 2^64 - 1.
+fn add_up(
+    alloc: Global,
+    link: &LinkInput,
+    live: &Live,
+    merged_lens: &[u64],
+) -> Result<Vec<Total>, AllocError>
     requires good { IsWellFormed link.now }
     requires live { AreLive link.now live.now }
     ensures count { IfOk result (λ totals. length totals.items ≡ length (all_parts link.now.plan.sections)) }
     ensures bytes { IfOk result (λ totals. (p : ℕ) (total : Total) → slice_get totals.items p ≡ Some total
-        → min total.bytes (2 ^ 64) ≡ min (part_size link.now live.now p) (2 ^ 64)) }
-    ensures empty { IfOk result (λ totals. (p : ℕ) (total : Total) → slice_get totals.items p ≡ Some total
-        → total.has_empty ≡ has_empty link.now live.now p) }
+        → min total.bytes (2 ^ 64) ≡ min (part_size link.now (content_of live.now merged_lens.now) p) (2 ^ 64)) }
+    ensures image { IfOk result (λ totals. (p : ℕ) (total : Total) → slice_get totals.items p ≡ Some total
+        → total.has_image ≡ has_image link.now p) }
+    ensures attrs { IfOk result (λ totals. (p : ℕ) (total : Total) → slice_get totals.items p ≡ Some total
+        → total.attrs ≡ part_attributes link.now live.now p) }
+{
+    let parts = link.plan.sections.parts();
+    let lens = image_lens(alloc, link.plan.sections.as_slice(), merged_lens)?;
+    let inputs = add_inputs(alloc, link, live)?;
+    let mut totals = Vec::with_capacity(alloc, inputs.len())?;
+    for number in 0..inputs.len() {
+        totals.push(inputs[number].with_image(&parts[number], lens[number]))?;
+    }
+    Ok(totals)
+}
+
+/// What the live and merged sections bring to each part, without the images.
+fn add_inputs(alloc: Global, link: &LinkInput, live: &Live) -> Result<Vec<Total>, AllocError>
+    requires good { IsWellFormed link.now }
+    requires live { AreLive link.now live.now }
+    ensures count { IfOk result (λ totals. length totals.items ≡ length (all_parts link.now.plan.sections)) }
+    ensures bytes { IfOk result (λ totals. (p : ℕ) (total : Total) → slice_get totals.items p ≡ Some total
+        → min total.bytes (2 ^ 64) ≡ min (live_size link.now live.now p) (2 ^ 64)) }
+    ensures image { IfOk result (λ totals. (p : ℕ) (total : Total) → slice_get totals.items p ≡ Some total
+        → total.has_image ≡ has_image link.now p) }
     ensures attrs { IfOk result (λ totals. (p : ℕ) (total : Total) → slice_get totals.items p ≡ Some total
         → total.attrs ≡ part_attributes link.now live.now p) }
 {
     let parts = link.plan.sections.parts();
     let nothing = Total {
         bytes: 0,
-        has_empty: false,
+        has_image: false,
         attrs: 0,
     };
     let mut totals = vec![in alloc; nothing; parts.len()]?;
-    for input in live.inputs(link) {
+    for input in KeptInputs::new(link, live) {
         let part = input.section.part.as_usize();
         totals[part] = totals[part].with(&parts[part], input.section);
     }
     Ok(totals)
 }
 
+/// For each part the length of the image of its output section, by those of the output sections; 0 where none is given.
+pub(crate) fn image_lens(
+    alloc: Global,
+    sections: &[PlanSection],
+    merged_lens: &[u64],
+) -> Result<Vec<u64>, AllocError>
+    ensures { IfOk result (λ lens. lens.items ≡ map (slice_index merged_lens.now) (part_sections sections.now)) }
+{
+    let mut lens = Vec::new(alloc);
+    for (number, section) in sections.iter().enumerate() {
+        push_lens(
+            &mut lens,
+            len_at(merged_lens, number),
+            section.parts.as_slice(),
+        )?;
+    }
+    Ok(lens)
+}
+
+/// The length with this number, or 0.
+fn len_at(lens: &[u64], number: usize) -> u64
+    ensures { result ≡ slice_index lens.now number }
+{
+    match lens.get(number) {
+        Some(len) => *len,
+        None => 0,
+    }
+}
+
+/// Adds a length for each of some parts.
+fn push_lens(lens: &mut Vec<u64>, len: u64, parts: &[PlanPart]) -> Result<(), AllocError>
+    ensures { OnOk result (lens.new.items ≡ lens.old.items ++ map (λ _. len) parts.now) }
+{
+    for _part in parts {
+        lens.push(len)?;
+    }
+    Ok(())
+}
+
 /// The bytes of each part.
 pub fn part_sizes(alloc: Global, contents: &[PartContents]) -> Result<Vec<u64>, AllocError>
     ensures bytes { IfOk result (λ sizes. sizes.items ≡ map (λ c. c.bytes) contents.now) }
-    ensures sizes { (link : LinkInput) (live : Live) → contents.now ≡ part_contents link live
-        → IfOk result (λ sizes. sizes.items ≡ part_sizes link live) }
+    ensures sizes { (link : LinkInput) (content : Content) → contents.now ≡ part_contents link content
+        → IfOk result (λ sizes. sizes.items ≡ part_sizes link content) }
 {
     let mut sizes = Vec::with_capacity(alloc, contents.len())?;
     for part in contents {

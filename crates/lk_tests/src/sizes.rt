@@ -1,6 +1,6 @@
 //! What is live, what that brings to the parts, and which sections and segments are told.
 
-ghost use Rattle.std.specs.Prelude.{◌≡◌, length};
+ghost use Rattle.std.specs.Prelude.{◌≡◌, IfOk, length};
 ghost use Rattle.lk_link.specs.Parts.{all_parts};
 ghost use Rattle.lk_link.specs.WellFormed.{IsWellFormed};
 ghost use Rattle.lk_gc.specs.Reach.{AreLive};
@@ -11,7 +11,7 @@ use lk_check::check_link;
 use lk_gc::{Live, traverse_alone};
 use lk_link::LinkInput;
 use lk_sizes::{
-    HeaderInfo, PartContents, determine_header_sizes, part_contents, part_sizes,
+    HeaderInfo, PartContents, determine_header_sizes, image_addresses, part_contents, part_sizes,
     propagate_section_attributes,
 };
 use std::alloc::{AllocError, Global};
@@ -22,10 +22,15 @@ const LIVE: &str = r#"
 {"plan":{"page":16,"sections":[{"attrs":1,"parts":[[8,false]]},{"attrs":16,"parts":[[4,true]]}],"segments":[{"kind":"load"},{"kind":"other"}],"events":[["sec",1],["seg",0],["sec",0],["endseg",0],["seg",1],["endseg",1]]},"groups":[[{"kind":"prelude"},{"kind":"object","sections":[{"slot":"must","size":7,"attrs":2},{"slot":"must"},{"slot":"must","size":8,"attrs":4}]}]]} => live (FileId { group: 0, file: 1 }, 0, 7) live (FileId { group: 0, file: 1 }, 1, 0) live (FileId { group: 0, file: 1 }, 2, 8)
 "#;
 
-/// What the three sections bring to each part, and what is told of sections and segments.
+/// What sections and images bring to each part, where images stand if each part starts 100 bytes behind its size, and what is
+/// told of sections and segments.
 const SIZES: &str = r#"
-{"plan":{"page":16,"sections":[{"attrs":1,"parts":[[8,false]]},{"attrs":16,"parts":[[4,true]]}],"segments":[{"kind":"load"},{"kind":"other"}],"events":[["sec",1],["seg",0],["sec",0],["endseg",0],["seg",1],["endseg",1]]},"groups":[[{"kind":"prelude"},{"kind":"object","sections":[{"slot":"must","size":7,"attrs":2},{"slot":"must"},{"slot":"must","size":8,"attrs":4}]}]]} => parts [PartContents { bytes: 16, has_empty: true, attrs: 6 }, PartContents { bytes: 0, has_empty: false, attrs: 0 }] attributes [7, 16] sizes [16, 0] headers ([true, false], [Some(0), None], [SegmentId { number: 0 }])
+{"plan":{"page":16,"sections":[{"attrs":1,"parts":[[8,false]]},{"attrs":16,"parts":[[4,true]]}],"segments":[{"kind":"load"},{"kind":"other"}],"events":[["sec",1],["seg",0],["sec",0],["endseg",0],["seg",1],["endseg",1]]},"groups":[[{"kind":"prelude"},{"kind":"object","sections":[{"slot":"must","size":7,"attrs":2},{"slot":"must"},{"slot":"must","size":8,"attrs":4}]}]]} => parts [PartContents { bytes: 16, has_image: false, attrs: 6 }, PartContents { bytes: 0, has_image: false, attrs: 0 }] attributes [7, 16] sizes [16, 0] images [0, 0] headers ([true, false], [Some(0), None], [SegmentId { number: 0 }])
+{"plan":{"page":16,"sections":[{"attrs":1,"parts":[[4,false],[1,false]]},{"attrs":1,"parts":[[1,true]]}],"segments":[{"kind":"load"}],"events":[["seg",0],["sec",0],["sec",1],["endseg",0]]},"groups":[[{"kind":"prelude"},{"kind":"object","sections":[{"slot":"must","size":3},{"slot":"must","part":1,"size":5},{"slot":"merge","part":1,"data":"6100","attrs":2},{"slot":"merge","part":2}]}]]} => parts [PartContents { bytes: 4, has_image: false, attrs: 0 }, PartContents { bytes: 11, has_image: true, attrs: 2 }, PartContents { bytes: 0, has_image: true, attrs: 0 }] attributes [3, 1] sizes [4, 11, 0] images [111, 100] headers ([true, false], [Some(0), None], [SegmentId { number: 0 }])
 "#;
+
+/// The lengths of the images of the first two output sections, where something is merged there.
+const MERGED_LENS: &[u64] = &[6, 0];
 
 /// Sections of a prelude, an object and a dynamic file.
 const OTHER_FILES: &str = "
@@ -58,23 +63,22 @@ pub fn add_live(alloc: Global, line: &mut String, link: &LinkInput) -> Result<()
     }
 }
 
-/// Adds which sections and segments are told, by what is brought to the parts and their sizes.
+/// Adds which sections and segments are told, by what is live and the sizes of the parts.
 fn add_headers(
     alloc: Global,
     line: &mut String,
     link: &LinkInput,
-    contents: &[PartContents],
+    live: &Live,
     sizes: &[u64],
 ) -> Result<(), AllocError>
     requires good { IsWellFormed link.now }
-    requires count { length contents.now ≡ length (all_parts link.now.plan.sections) }
     requires sizes { length sizes.now ≡ length (all_parts link.now.plan.sections) }
 {
     let HeaderInfo {
         emitted,
         output_section_indexes,
         active_segment_ids,
-    } = determine_header_sizes(alloc, link, contents, sizes)?;
+    } = determine_header_sizes(alloc, link, live, sizes)?;
     let (indexes, active) = (
         output_section_indexes.as_slice(),
         active_segment_ids.as_slice(),
@@ -82,11 +86,23 @@ fn add_headers(
     add(line, "headers", &(emitted.as_slice(), indexes, active))
 }
 
-/// Adds what is brought to each part, the sizes, and what that makes of sections and segments.
+/// For each part a start, 100 bytes behind its size.
+fn starts_behind(alloc: Global, sizes: &[u64]) -> Result<Vec<u64>, AllocError>
+    ensures { IfOk result (λ starts. length starts.items ≡ length sizes.now) }
+{
+    let mut starts = Vec::with_capacity(alloc, sizes.len())?;
+    for size in sizes {
+        starts.push(size.saturating_add(100))?;
+    }
+    Ok(starts)
+}
+
+/// Adds what comes into each part, the sizes, and what that makes of images, sections and segments.
 fn add_counted(
     alloc: Global,
     line: &mut String,
     link: &LinkInput,
+    live: &Live,
     contents: &[PartContents],
 ) -> Result<(), AllocError>
     requires good { IsWellFormed link.now }
@@ -97,7 +113,10 @@ fn add_counted(
     add(line, "attributes", &attributes)?;
     let sizes = part_sizes(alloc, contents)?;
     add(line, "sizes", &sizes)?;
-    add_headers(alloc, line, link, contents, &sizes)
+    let starts = starts_behind(alloc, &sizes)?;
+    let images = image_addresses(alloc, link, contents, &starts)?;
+    add(line, "images", &images)?;
+    add_headers(alloc, line, link, live, &sizes)
 }
 
 /// The same, where there are contents for each part.
@@ -105,18 +124,19 @@ fn add_contents(
     alloc: Global,
     line: &mut String,
     link: &LinkInput,
+    live: &Live,
     contents: &[PartContents],
 ) -> Result<(), AllocError>
     requires { IsWellFormed link.now }
 {
     if contents.len() == link.plan.sections.parts().len() {
-        add_counted(alloc, line, link, contents)
+        add_counted(alloc, line, link, live, contents)
     } else {
         Ok(())
     }
 }
 
-/// Adds what live sections bring to each part, and what that makes of sections and segments.
+/// Adds what comes into each part, and what that makes of images, sections and segments.
 fn add_brought(
     alloc: Global,
     line: &mut String,
@@ -126,14 +146,14 @@ fn add_brought(
     requires good { IsWellFormed link.now }
     requires live { AreLive link.now live.now }
 {
-    match part_contents(alloc, link, live) {
-        Ok(contents) => add_contents(alloc, line, link, contents.as_slice()),
+    match part_contents(alloc, link, live, MERGED_LENS) {
+        Ok(contents) => add_contents(alloc, line, link, live, contents.as_slice()),
         Err(_) => Ok(()),
     }
 }
 
-/// Adds what live sections bring to each part, and what that makes of sections and segments, of a link that is well formed
-/// and whose sizes aren't refused.
+/// Adds what comes into each part, and what that makes of images, sections and segments, of a link that is well formed and
+/// whose sizes aren't refused.
 pub fn add_sizes(alloc: Global, line: &mut String, link: &LinkInput) -> Result<(), AllocError> {
     if check_link(link).is_err() {
         return Ok(());

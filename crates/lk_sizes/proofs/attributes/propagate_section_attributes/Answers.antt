@@ -16,7 +16,7 @@ loop-number-preserved c =
     (c.section_attributes.ensures ∙ ap made c.from_u32-section.ensures)
 
 pub returns : goal.returns
-returns c = λ live is.
+returns c = λ content is.
     c.loop-number.invariant
     ∙ ap (λ (contents : List PartContents). map (attributes_by c.args.link.now.plan contents) (range_with_len 0 c.loop-number.number)) is
-    ∙ all_attributes c.args.link.now live c.loop-number.number (omega arith)
+    ∙ all_attributes c.args.link.now content c.loop-number.number (omega arith)

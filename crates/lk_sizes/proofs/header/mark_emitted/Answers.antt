@@ -2,6 +2,7 @@ use Rattle.std.proofs.Common.{◌≡◌, map, length, ap, ◌∙◌, arith}
 use Rattle.std.specs.List.{enumerate_from}
 use Rattle.lk_link.proofs.Numbers.{length-made}
 use Rattle.lk_sizes.proofs.Emitting.{emitted_are, left_by}
+use Rattle.lk_sizes.specs.Owners.{content_of}
 use Rattle.lk_sizes.proofs.Limited.{sections_fit}
 use Rattle.lk_sizes.proofs.header.mark_emitted.Goals as goal
 
@@ -21,8 +22,8 @@ returns c =
     rw c.deref-2.ensures.value at c.in_ok-emitted.ensures in
     record {
       count = ap length left ∙ length-made (left_by plan c.in_ok-marks.marks.items) plan.sections 0;
-      emitted = λ live brought.
+      emitted = λ lens first.
           left
-          ∙ emitted_are c.args.link.now live c.in_ok-kept.kept.items c.in_ok-marks.marks.items (c.in_ok-kept.ensures.kept live brought)
+          ∙ emitted_are c.args.link.now (content_of c.args.live.now lens) c.in_ok-kept.kept.items c.in_ok-marks.marks.items (c.in_ok-kept.ensures.kept lens first)
           (rw c.deref.ensures.value at c.in_ok-marks.ensures.marks);
     }

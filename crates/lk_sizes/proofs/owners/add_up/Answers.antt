@@ -1,68 +1,56 @@
-use Rattle.std.proofs.Common.{◌≡◌, List, [], ◌∷◌, length, map, replicate, false, subst, sym, rules, arith, refl}
-use Rattle.std.proofs.lemmas.List.{map-append}
-use Rattle.lk_link.specs.Inputs.{Input}
+use Rattle.std.proofs.Common.{◌≡◌, ℕ, ◌+◌, ◌<◌, List, false, length, map, Some, sym, ap, ◌∙◌, subst, arith}
+use Rattle.std.specs.List.{slice_get, slice_index}
+use Rattle.std.proofs.lemmas.Grind.{get_or_default_zero}
+use Rattle.std.proofs.lemmas.Option.{slice_get_read}
+use Rattle.lk_link.specs.declared.plan.PlanSection.{PlanSection}
 use Rattle.lk_link.specs.Parts.{all_parts}
-use Rattle.lk_link.specs.Walks.{input_of}
-use Rattle.lk_gc.specs.Reach.{live_inputs}
-use Rattle.lk_gc.proofs.LiveWalk.{finish}
-use Rattle.lk_gc.proofs.Numbered.{are_numbered}
 use Rattle.lk_sizes.specs.declared.owners.Total.{Total}
-use Rattle.lk_sizes.proofs.Adding.{AreTotals, add_one, no_totals, total_at}
-use Rattle.lk_sizes.proofs.Limited.{part_fits}
-use Rattle.lk_sizes.proofs.LiveParts.{goes, read_alignment, read_part}
+use Rattle.lk_sizes.specs.Owners.{content_of, part_sections}
+use Rattle.lk_sizes.proofs.ImageLemmas.{len_of_part, length-lens, section_of}
+use Rattle.lk_sizes.proofs.LiveParts.{read_alignment, read_part}
+use Rattle.lk_sizes.proofs.Wholes.{AreWhole, IsBrought, one_whole}
 use Rattle.lk_sizes.proofs.owners.add_up.Goals as goal
 
-pub inputs-input-items-requires : goal.inputs-input-items-requires
-inputs-input-items-requires c = are_numbered c.args.link.now c.requires.good
+pub index-requires-in-loop-number : goal.index-requires-in-loop-number
+index-requires-in-loop-number c =
+    let sections : List PlanSection = c.args.link.now.plan.sections in
+    let lens : c.in_ok-lens.lens.items ≡ map (slice_index c.args.merged_lens.now) (part_sections sections)
+    = c.in_ok-lens.ensures ∙ ap (λ (ss : List PlanSection). map (slice_index c.args.merged_lens.now) (part_sections ss)) c.as_slice.ensures in
+    omega (arith, length-lens c.args.link.now c.args.merged_lens.now c.in_ok-lens.lens.items lens, c.in_ok-inputs.ensures.count)
 
-pub loop-input-init : goal.loop-input-init
-loop-input-init c =
-    let nothing : Total = record { bytes = 0; has_empty = false; attrs = 0 } in
-    let items : c.in_ok-totals.totals.items ≡ replicate (length (all_parts c.args.link.now.plan.sections)) nothing = search rules in
-    subst (AreTotals c.args.link.now []) (sym items) (no_totals c.args.link.now nothing refl)
+pub with_image-requires : goal.with_image-requires
+with_image-requires c =
+    read_alignment c.args.link.now c.parts-parts.result.now c.loop-number.number _ c.requires.good c.parts-parts.ensures
+    (omega (arith, ap length c.parts-parts.ensures, c.in_ok-inputs.ensures.count))
 
-pub index-requires : goal.index-requires
-index-requires c =
-    let below = goes c.args.link.now c.args.live.now c.into_iter-input-iterator.result c.loop-input.input-iterator c.next.new.self c.loop-input.yielded c.in-Some.input c.as_usize-part.result c.requires.good c.requires.live (cc) c.loop-input.yielded_by c.in-Some.ensures.steps (cc) in
-    omega (arith, c.loop-input.invariant.count)
-
-pub bounds-parts-part : goal.bounds-parts-part
-bounds-parts-part c =
-    let below = goes c.args.link.now c.args.live.now c.into_iter-input-iterator.result c.loop-input.input-iterator c.next.new.self c.loop-input.yielded c.in-Some.input c.as_usize-part.result c.requires.good c.requires.live (cc) c.loop-input.yielded_by c.in-Some.ensures.steps (cc) in
-    rw c.parts-parts.ensures below
-
-pub offset_bounds-parts-part : goal.offset_bounds-parts-part
-offset_bounds-parts-part c =
-    let below = goes c.args.link.now c.args.live.now c.into_iter-input-iterator.result c.loop-input.input-iterator c.next.new.self c.loop-input.yielded c.in-Some.input c.as_usize-part.result c.requires.good c.requires.live (cc) c.loop-input.yielded_by c.in-Some.ensures.steps (cc) in
-    part_fits c.args.link.now c.as_usize-part.result c.requires.good below
-
-pub with-requires : goal.with-requires
-with-requires c =
-    let below = goes c.args.link.now c.args.live.now c.into_iter-input-iterator.result c.loop-input.input-iterator c.next.new.self c.loop-input.yielded c.in-Some.input c.as_usize-part.result c.requires.good c.requires.live (cc) c.loop-input.yielded_by c.in-Some.ensures.steps (cc) in
-    read_alignment c.args.link.now c.parts-parts.result.now c.as_usize-part.result _ c.requires.good c.parts-parts.ensures (rw c.parts-parts.ensures below)
-
-pub index_mut-requires : goal.index_mut-requires
-index_mut-requires c =
-    let below = goes c.args.link.now c.args.live.now c.into_iter-input-iterator.result c.loop-input.input-iterator c.next.new.self c.loop-input.yielded c.in-Some.input c.as_usize-part.result c.requires.good c.requires.live (cc) c.loop-input.yielded_by c.in-Some.ensures.steps (cc) in
-    omega (arith, c.loop-input.invariant.count)
-
-pub loop-input-preserved : goal.loop-input-preserved
-loop-input-preserved c =
+pub loop-number-preserved : goal.loop-number-preserved
+loop-number-preserved c =
     let link = c.args.link.now in
-    let below = goes link c.args.live.now c.into_iter-input-iterator.result c.loop-input.input-iterator c.next.new.self c.loop-input.yielded c.in-Some.input c.as_usize-part.result c.requires.good c.requires.live (cc) c.loop-input.yielded_by c.in-Some.ensures.steps (cc) in
-    let part = read_part link c.parts-parts.result.now c.as_usize-part.result (record { alignment = 0; packed = false }) c.parts-parts.ensures (rw c.parts-parts.ensures below) in
-    rw (map-append input_of c.loop-input.yielded (c.in-Some.input ∷ []))
-    (add_one link (map input_of c.loop-input.yielded) (input_of c.in-Some.input) c.loop-input.totals.items c.as_usize-part.result c.index.result.now c.index.result.now _ c.with.result
-    c.loop-input.invariant c.as_usize-part.ensures below c.index.ensures part c.with.ensures.bytes c.with.ensures.empty c.with.ensures.attrs)
+    let n : ℕ = c.loop-number.number in
+    let sections : List PlanSection = link.plan.sections in
+    let merged_lens : List ℕ = c.args.merged_lens.now in
+    let within : n < length (all_parts sections) = omega (arith, c.in_ok-inputs.ensures.count) in
+    let lens : c.in_ok-lens.lens.items ≡ map (slice_index merged_lens) (part_sections sections)
+    = c.in_ok-lens.ensures ∙ ap (λ (ss : List PlanSection). map (slice_index merged_lens) (part_sections ss)) c.as_slice.ensures in
+    let part = read_part link c.parts-parts.result.now n (record { alignment = 0; packed = false }) c.parts-parts.ensures (omega (arith, ap length c.parts-parts.ensures)) in
+    let old : Total = c.index.result.now in
+    let there : slice_get c.in_ok-inputs.inputs.items n ≡ Some old = slice_get_read c.in_ok-inputs.inputs.items (length (all_parts sections)) n old (sym c.in_ok-inputs.ensures.count) within c.index.ensures in
+    let brought : IsBrought link c.args.live.now n old = record {
+      bytes = c.in_ok-inputs.ensures.bytes n old there;
+      image = c.in_ok-inputs.ensures.image n old there;
+      attrs = c.in_ok-inputs.ensures.attrs n old there;
+    } in
+    let len : ℕ = c.index-in-loop-number.result.now in
+    let long : len ≡ slice_index merged_lens (section_of link n)
+    = c.index-in-loop-number.ensures
+    ∙ get_or_default_zero c.in_ok-lens.lens.items n len (omega (arith, length-lens link merged_lens c.in_ok-lens.lens.items lens))
+    ∙ len_of_part link merged_lens c.in_ok-lens.lens.items n lens within in
+    let next = one_whole link c.args.live.now merged_lens n c.loop-number.totals.items old c.with_image.result _ len c.loop-number.invariant brought part long
+    c.with_image.ensures.bytes c.with_image.ensures.image c.with_image.ensures.attrs in
+    subst (AreWhole link (content_of c.args.live.now merged_lens) (n + 1)) (sym c.in_ok-push.ensures.items) next
 
-pub returns : goal.returns
-returns c =
-    let link = c.args.link.now in
-    let all = finish (live_inputs link c.args.live.now) c.into_iter-input-iterator.result c.loop-input.input-iterator c.next.new.self c.loop-input.yielded (cc) c.loop-input.yielded_by c.in-None.ensures.steps in
-    let totals = subst (λ (xs : List Input). AreTotals link xs c.loop-input.totals.items) all c.loop-input.invariant in
-    record {
-      count = totals.count;
-      bytes = λ p total there. (total_at link (live_inputs link c.args.live.now) c.loop-input.totals.items p total totals there).bytes;
-      empty = λ p total there. (total_at link (live_inputs link c.args.live.now) c.loop-input.totals.items p total totals there).empty;
-      attrs = λ p total there. (total_at link (live_inputs link c.args.live.now) c.loop-input.totals.items p total totals there).attrs;
-    }
+pub returns-clause-image : goal.returns-clause-image
+returns-clause-image c = λ p total there. (c.loop-number.invariant.each p total there).image
+
+pub returns-clause-attrs : goal.returns-clause-attrs
+returns-clause-attrs c = λ p total there. (c.loop-number.invariant.each p total there).attrs

@@ -1,8 +1,7 @@
-use Rattle.std.proofs.Common.{map}
-use Rattle.lk_link.specs.Walks.{input_of}
-use Rattle.lk_sizes.proofs.Adding.{AreTotals}
+use Rattle.lk_sizes.specs.Owners.{content_of}
+use Rattle.lk_sizes.proofs.Wholes.{AreWhole}
 use Rattle.lk_sizes.proofs.owners.add_up.Given as goal
 
--- the totals are those of the sections so far
-abbrev pub invariant-loop-input : goal.invariant-loop-input
-invariant-loop-input l = AreTotals l.link (map input_of l.yielded) l.totals.items
+-- the totals so far are what comes into the first parts
+abbrev pub invariant-loop-number : goal.invariant-loop-number
+invariant-loop-number l = AreWhole l.link (content_of l.live l.merged_lens) l.number l.totals.items
