@@ -1,7 +1,8 @@
 -- Units by their numbers, and that what is asked for in a well-formed link is there.
-use Rattle.std.proofs.Common.{◌≡◌, ℕ, suc, ◌+◌, ◌<◌, Bool, true, false, if◌then◌else◌, ◌&&◌, ◌==◌, List, [], ◌∷◌, length, map, Option, Some, None, refl, sym, ap, ◌∙◌, subst, inl, inr, arith, length-append, option_and_then, option_map, get_or, unwrap_or}
+use Rattle.std.proofs.Common.{◌≡◌, ℕ, suc, ◌+◌, ◌<◌, Bool, true, false, if◌then◌else◌, ◌&&◌, ◌==◌, eqb, not, List, [], ◌∷◌, length, map, Option, Some, None, refl, sym, ap, ◌∙◌, subst, inl, inr, arith, length-append, option_and_then, option_map, get_or, unwrap_or}
 use Rattle.std.specs.List.{All, filter, flat_map, range_with_len, slice_get}
 use Rattle.std.specs.Option.{ForSome, option_map_or, option_to_list}
+use Rattle.std.proofs.lemmas.Bool.{and_parts}
 use Rattle.std.proofs.lemmas.List.{length-map}
 use Rattle.std.proofs.lemmas.List.Concat.{length-flat_map}
 use Rattle.std.proofs.lemmas.List.Elements.{All-append, All-cons, All-filter, All-map, All-nil}
@@ -24,8 +25,9 @@ use Rattle.lk_link.specs.Files.{file_in}
 use Rattle.lk_link.specs.FileKinds.{is_object}
 use Rattle.lk_link.specs.InputRules.{IsGoodInput}
 use Rattle.lk_link.specs.Inputs.{Input, NumberedFile, all_inputs, input_number, numbered_files}
-use Rattle.lk_link.specs.InputSlots.{is_discarded, is_regular}
+use Rattle.lk_link.specs.InputSlots.{can_be_kept, is_discarded, is_regular}
 use Rattle.lk_link.specs.Relocations.{resolution_flags}
+use Rattle.lk_link.specs.SectionGroups.{group_members}
 use Rattle.lk_link.specs.SymbolRules.{IsGoodSymbol, IsPlacementThere}
 use Rattle.lk_link.specs.Symbols.{all_files, all_symbols, definition_of, first_symbol, symbol_at}
 use Rattle.lk_link.specs.WellFormed.{IsWellFormed}
@@ -39,8 +41,8 @@ use Rattle.lk_gc.specs.declared.units.Unit.{Unit as LinkUnit}
 use Rattle.lk_gc.specs.declared.units.Unit.TheVariants.{Sym, Sec}
 use Rattle.lk_gc.specs.Laws.{AsksAreInside}
 use Rattle.lk_gc.specs.Marks.{IsInside, IsUnit, all_units, symbols_in_all, unit_at, unit_number}
-use Rattle.lk_gc.specs.Units.{ask_for, file_roots, follows, is_primary_section, is_root, kind_roots, local_definition, numbered_symbols, range_mark, reference, relocation_asks, roots, section_asks, section_of, symbol_asks, symbols_of, unit_of}
-use Rattle.lk_link.proofs.Elements.{append_at, append_left, append_right, at_index, flat_map_at, map_at, map_in}
+use Rattle.lk_gc.specs.Units.{ask_for, asked_members, asked_references, comes_along, file_roots, group_asks, is_coming, is_other, member_asks, other_asks, follows, is_primary_section, is_root, kind_roots, local_definition, numbered_symbols, range_mark, reference, relocation_asks, roots, section_of, section_references, symbol_asks, symbols_of, unit_of}
+use Rattle.lk_link.proofs.Elements.{append_at, append_left, append_right, at_index, filter_at, flat_map_at, map_at, map_in}
 use Rattle.lk_gc.proofs.Numbered.{IsFileAt, IsSectionOf, file_at, file_of_input, one_place, sections_of}
 use Rattle.lk_gc.proofs.Numbered as numbered
 
@@ -190,9 +192,9 @@ regular_kept slot.DebugInfo h = refl
 regular_kept slot.MustLoadDebugInfo h = refl
 regular_kept slot.Merge h = refl
 
-section_asks_inside : (link : LinkInput) (id : FileId) (file : InputFile) (i : ℕ) (section : InputSection) → IsWellFormed link → file_in link.groups id ≡ Some file → slice_get file.sections i ≡ Some section
-    → All (IsInside link.groups) (section_asks link id file section)
-section_asks_inside link id file i section wf at_file at_i =
+references_inside : (link : LinkInput) (id : FileId) (file : InputFile) (i : ℕ) (section : InputSection) → IsWellFormed link → file_in link.groups id ≡ Some file → slice_get file.sections i ≡ Some section
+    → All (IsInside link.groups) (section_references link id file section)
+references_inside link id file i section wf at_file at_i =
     let groups : List (List InputFile) = link.groups in
     either_inside groups (is_regular section.slot) _ []
     (λ plain.
@@ -200,6 +202,44 @@ section_asks_inside link id file i section wf at_file at_i =
     all_joined (IsInside groups) (relocation_asks (is_primary_section link section) (first_symbol groups id) file.symbols) section.relocs
     (λ k r there. relocation_inside link id file (is_primary_section link section) r wf at_file (good.in_relocs k r there).1))
     (λ e. All-nil (IsInside groups))
+
+-- ---- section groups
+
+-- what holds of what each passing element gives
+pub all_passing : {X Y : Type 0} (P : Y → Type 0) (f : X → Y) (p : X → Bool) (xs : List X) → ((k : ℕ) (x : X) → slice_get xs k ≡ Some x → p x ≡ true → P (f x)) → All P (map f (filter p xs))
+all_passing P f p xs h k d lt =
+    let ys = map f (filter p xs) in
+    let at = map_at f (filter p xs) k (get_or ys k d) (slice_get-get_or ys k d lt) in
+    let from = filter_at p xs k at.0 at.1 in
+    subst P at.2 (h from.0 at.0 from.1 from.2)
+
+section_there : (o : Option InputSection) → option_map_or (λ s. comes_along s.slot) o false ≡ true → (s : InputSection) × (o ≡ Some s)
+section_there None h = absurd (cc)
+section_there (Some s) h = (s, refl)
+
+-- a section that comes along is there
+pub coming_there : (sections : List InputSection) (own k : ℕ) → is_other sections own k ≡ true → (s : InputSection) × (slice_get sections k ≡ Some s)
+coming_there sections own k h = section_there (slice_get sections k) (and_parts (not (eqb k own)) (is_coming sections k) h).1
+
+others_inside : (link : LinkInput) (id : FileId) (file : InputFile) (own : ℕ) (members : List ℕ) → file_in link.groups id ≡ Some file → All (IsInside link.groups) (other_asks id file.sections own members)
+others_inside link id file own members at_file = all_passing (IsInside link.groups) (Section id) (is_other file.sections own) members (λ j k at is.
+    let s = coming_there file.sections own k is in
+    section_inside link.groups id k (section_unit link.groups id file k s.0 at_file s.1))
+
+group_inside : (link : LinkInput) (id : FileId) (file : InputFile) (i : ℕ) (group : Option ℕ) → file_in link.groups id ≡ Some file → All (IsInside link.groups) (group_asks id file.sections i group)
+group_inside link id file i None at_file = All-nil (IsInside link.groups)
+group_inside link id file i (Some g) at_file = others_inside link id file i (group_members file.sections g) at_file
+
+members_of_inside : (link : LinkInput) (id : FileId) (i : ℕ) (file : InputFile) (o : Option InputSection) → file_in link.groups id ≡ Some file
+    → All (IsInside link.groups) (option_map_or (member_asks id file.sections i) o [])
+members_of_inside link id i file None at_file = All-nil (IsInside link.groups)
+members_of_inside link id i file (Some s) at_file =
+    either_inside link.groups (can_be_kept s.slot) _ [] (λ e. group_inside link id file i s.group at_file) (λ e. All-nil (IsInside link.groups))
+
+members_inside : (link : LinkInput) (id : FileId) (i : ℕ) (o : Option InputFile) → file_in link.groups id ≡ o
+    → All (IsInside link.groups) (option_map_or (λ f. option_map_or (member_asks id f.sections i) (slice_get f.sections i) []) o [])
+members_inside link id i None e = All-nil (IsInside link.groups)
+members_inside link id i (Some file) e = members_of_inside link id i file (slice_get file.sections i) e
 
 -- ---- units
 
@@ -245,18 +285,20 @@ symbol_follows_inside link s None wf e = All-nil (IsInside link.groups)
 symbol_follows_inside link s (Some q) wf e = symbol_asks_inside link q wf (symbol_stands link.groups s q e)
 
 section_follows_inside : (link : LinkInput) (id : FileId) (i : ℕ) (file : InputFile) (o : Option InputSection) → IsWellFormed link → file_in link.groups id ≡ Some file → slice_get file.sections i ≡ o
-    → All (IsInside link.groups) (option_map_or (section_asks link id file) o [])
+    → All (IsInside link.groups) (option_map_or (section_references link id file) o [])
 section_follows_inside link id i file None wf at_file e = All-nil (IsInside link.groups)
-section_follows_inside link id i file (Some section) wf at_file e = section_asks_inside link id file i section wf at_file e
+section_follows_inside link id i file (Some section) wf at_file e = references_inside link id file i section wf at_file e
 
 file_follows_inside : (link : LinkInput) (id : FileId) (i : ℕ) (o : Option InputFile) → IsWellFormed link → file_in link.groups id ≡ o
-    → All (IsInside link.groups) (option_map_or (λ f. option_map_or (section_asks link id f) (slice_get f.sections i) []) o [])
+    → All (IsInside link.groups) (option_map_or (λ f. option_map_or (section_references link id f) (slice_get f.sections i) []) o [])
 file_follows_inside link id i None wf e = All-nil (IsInside link.groups)
 file_follows_inside link id i (Some file) wf e = section_follows_inside link id i file (slice_get file.sections i) wf e refl
 
 unit_inside : (link : LinkInput) (u : LinkUnit) → IsWellFormed link → All (IsInside link.groups) (follows link u)
 unit_inside link (Sym s) wf = symbol_follows_inside link s (slice_get (numbered_symbols link.groups) s) wf refl
-unit_inside link (Sec id i) wf = file_follows_inside link id i (file_in link.groups id) wf refl
+unit_inside link (Sec id i) wf =
+    All-append (IsInside link.groups) (asked_members link id i) (asked_references link id i) (members_inside link id i (file_in link.groups id) refl)
+    (file_follows_inside link id i (file_in link.groups id) wf refl)
 
 -- ---- roots
 

@@ -20,9 +20,10 @@ use Rattle.lk_link.specs.declared.symbol.SymbolPlacement.TheVariants as at
 use Rattle.lk_link.specs.FileKinds.{is_object}
 use Rattle.lk_link.specs.Files.{file_in}
 use Rattle.lk_link.specs.Inputs.{Input, NumberedFile, inputs_from, numbered_files}
-use Rattle.lk_link.specs.InputSlots.{is_regular}
+use Rattle.lk_link.specs.InputSlots.{can_be_kept, is_regular}
 use Rattle.lk_link.specs.PartRules.{is_part}
 use Rattle.lk_link.specs.Relocations.{resolution_flags}
+use Rattle.lk_link.specs.SectionGroups.{group_members}
 use Rattle.lk_link.specs.Symbols.{definition_of, first_symbol}
 use Rattle.lk_gc.specs.declared.units.Ask.{Ask}
 use Rattle.lk_gc.specs.declared.units.Ask.TheVariants.{Reference, Section, Mark}
@@ -78,12 +79,55 @@ relocation_asks primary first symbols r = option_to_list (reference first symbol
 abbrev pub is_primary_section : LinkInput → InputSection → Bool
 is_primary_section link s = is_part s.part link.plan.named.primary
 
--- what a section of a file asks for: what its relocations do, where it is loaded for what it holds
--- (libwild: `handle_section_load_request`)
-abbrev pub section_asks : LinkInput → FileId → InputFile → InputSection → List Ask
-section_asks link id file s =
+-- what the relocations of a section of a file ask for, where it is loaded for what it holds: those of other sections aren't followed
+abbrev pub section_references : LinkInput → FileId → InputFile → InputSection → List Ask
+section_references link id file s =
     if is_regular s.slot then flat_map (relocation_asks (is_primary_section link s) (first_symbol link.groups id) file.symbols) s.relocs
     else []
+
+-- ---- section groups
+
+-- whether a section comes with the other members of its group: debug data that is kept in any case is asked for by its file
+abbrev pub comes_along : InputSlot → Bool
+comes_along slot.Unloaded = true
+comes_along slot.MustLoad = true
+comes_along slot.DebugInfo = true
+comes_along slot.MustLoadDebugInfo = false
+comes_along slot.Discard = false
+comes_along slot.Merge = false
+
+-- the same, for the section of a file with an index
+abbrev pub is_coming : List InputSection → ℕ → Bool
+is_coming sections k = option_map_or (λ s. comes_along s.slot) (slice_get sections k) false
+
+-- whether it is another section than this one and comes along
+abbrev pub is_other : List InputSection → ℕ → ℕ → Bool
+is_other sections own k = not (k == own) && is_coming sections k
+
+-- those of some sections of a file that are others than this one and come along, as what is asked for
+abbrev pub other_asks : FileId → List InputSection → ℕ → List ℕ → List Ask
+other_asks id sections own members = map (Section id) (filter (is_other sections own) members)
+
+-- what a section asks for of the group that it is in, if it is in one: the other members that come along
+abbrev pub group_asks : FileId → List InputSection → ℕ → Option ℕ → List Ask
+group_asks id sections own None = []
+group_asks id sections own (Some group) = other_asks id sections own (group_members sections group)
+
+-- the same, for a section that is kept itself
+abbrev pub member_asks : FileId → List InputSection → ℕ → InputSection → List Ask
+member_asks id sections own s = if can_be_kept s.slot then group_asks id sections own s.group else []
+
+-- ---- sections of the link
+
+-- what the section of a file with an index asks for of its group
+abbrev pub asked_members : LinkInput → FileId → ℕ → List Ask
+asked_members link id i =
+    option_map_or (λ f. option_map_or (member_asks id f.sections i) (slice_get f.sections i) []) (file_in link.groups id) []
+
+-- what it asks for by its relocations
+abbrev pub asked_references : LinkInput → FileId → ℕ → List Ask
+asked_references link id i =
+    option_map_or (λ f. option_map_or (section_references link id f) (slice_get f.sections i) []) (file_in link.groups id) []
 
 -- ---- symbols
 
@@ -110,11 +154,11 @@ symbol_asks q = placement_asks q.0.id q.0.file.kind q.1.at
 
 -- ---- units
 
--- what a unit asks for
+-- what a unit asks for: a section for the other members of its group, then for what its relocations refer to
+-- (libwild: `handle_section_load_request`)
 abbrev pub follows : LinkInput → LinkUnit → List Ask
 follows link (Sym s) = option_map_or symbol_asks (slice_get (numbered_symbols link.groups) s) []
-follows link (Sec id i) =
-    option_map_or (λ f. option_map_or (section_asks link id f) (slice_get f.sections i) []) (file_in link.groups id) []
+follows link (Sec id i) = asked_members link id i ++ asked_references link id i
 
 -- ---- roots
 

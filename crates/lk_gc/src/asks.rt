@@ -1,10 +1,11 @@
 //! The asks that are left of a unit or a file, one after the other. All that walks over asks drives this one iterator; it
 //! takes no memory, and a relocation costs constant time: what stands for its symbol is read off the file's own symbols.
 
-ghost use Rattle.std.specs.Prelude.{◌≡◌, [], ◌+◌, ◌<◌, ◌^◌};
+ghost use Rattle.std.specs.Prelude.{◌≡◌, [], List, ◌++◌, ◌+◌, ◌<◌, ◌^◌};
 ghost use Rattle.std.specs.Iterator.{YieldsFirst, item_count};
-ghost use Rattle.std.specs.Option.{option_to_list};
-ghost use Rattle.lk_gc.specs.Units.{is_root, local_definition, range_mark, reference};
+ghost use Rattle.std.specs.Option.{option_map_or, option_to_list};
+ghost use Rattle.lk_gc.specs.Units.{comes_along, is_other, is_root, local_definition, range_mark, reference};
+ghost use Rattle.lk_gc.specs.declared.units.Ask.{Ask};
 
 use crate::units::Ask;
 use lk_link::relocation::resolution_flags;
@@ -72,6 +73,50 @@ impl<'a> Iterator for RelocationAsks<'a> {
     }
 }
 
+/// What is left of the other members of a section's group. Contracts see the list of the asks.
+#[derive(Drop)]
+pub(crate) struct MemberAsks<'a> {
+    pub(crate) file: FileId,
+    /// The section that asks, by its index in the file.
+    pub(crate) own: u32,
+    /// The sections of the file.
+    pub(crate) sections: &'a [InputSection],
+    /// The members of the group that are left, by their index in the file.
+    pub(crate) members: &'a [usize],
+}
+
+impl<'a> Model for MemberAsks<'a> {
+    ghost use Rattle.std.specs.Prelude.{◌<◌, ◌^◌, List, length};
+    ghost use Rattle.lk_gc.specs.declared.units.Ask.{Ask};
+
+    ghost Value = { List Ask };
+
+    ghost use Rattle.lk_gc.specs.Units.{other_asks};
+
+    ghost view = { λ a. other_asks a.file a.sections.now a.own a.members.now };
+
+    ghost invariant = { λ a. length a.sections.now < 2 ^ 32 };
+}
+
+impl<'a> Iterator for MemberAsks<'a> {
+    type Item = Ask;
+
+    ghost next_gives = { YieldsFirst (λ left. left) };
+
+    ghost remaining = { item_count (λ left. left) };
+
+    fn next(&mut self) -> Option<Ask> {
+        while let Some((member, members)) = self.members.split_first() {
+            let index = *member;
+            self.members = members;
+            if is_other(self.sections, self.own, index) {
+                return Some(Ask::Section(self.file, index as u32));
+            }
+        }
+        None
+    }
+}
+
 /// What is left of the sections that an object asks for by itself. Contracts see the list of the asks.
 #[derive(Drop)]
 pub(crate) struct SectionRoots<'a> {
@@ -122,6 +167,7 @@ impl<'a> Iterator for SectionRoots<'a> {
 pub struct Successors<'a> {
     /// An ask that comes before all others: a symbol's section, or the entry.
     first: Option<Ask>,
+    members: MemberAsks<'a>,
     relocations: RelocationAsks<'a>,
     sections: SectionRoots<'a>,
 }
@@ -137,7 +183,7 @@ impl<'a> Model for Successors<'a> {
 
     ghost coded = { Prim.hlevel (codes, expression.the_row.coded) };
 
-    ghost view = { λ a. option_to_list a.first ++ (a.relocations ++ a.sections) };
+    ghost view = { λ a. option_to_list a.first ++ (a.members ++ (a.relocations ++ a.sections)) };
 }
 
 impl<'a> Iterator for Successors<'a> {
@@ -149,6 +195,9 @@ impl<'a> Iterator for Successors<'a> {
 
     fn next(&mut self) -> Option<Ask> {
         if let Some(ask) = self.first.take() {
+            return Some(ask);
+        }
+        if let Some(ask) = self.members.next() {
             return Some(ask);
         }
         if let Some(ask) = self.relocations.next() {
@@ -169,6 +218,20 @@ impl<'a> RelocationAsks<'a> {
             symbols: &[],
             first: 0,
             primary: false,
+        }
+    }
+}
+
+impl<'a> MemberAsks<'a> {
+    /// No asks.
+    fn none() -> MemberAsks<'a>
+        ensures { result ≡ [] }
+    {
+        MemberAsks {
+            file: FileId { group: 0, file: 0 },
+            own: 0,
+            sections: &[],
+            members: &[],
         }
     }
 }
@@ -194,18 +257,23 @@ impl<'a> Successors<'a> {
     {
         Successors {
             first: ask,
+            members: MemberAsks::none(),
             relocations: RelocationAsks::none(),
             sections: SectionRoots::none(),
         }
     }
 
-    /// The asks of relocations.
-    pub(crate) fn from_relocations(relocations: RelocationAsks<'a>) -> Successors<'a>
-        ensures { result ≡ relocations.entry }
+    /// The asks for members of a section's group, then those of its relocations, where there are such.
+    pub(crate) fn from_section(
+        members: Option<MemberAsks<'a>>,
+        relocations: Option<RelocationAsks<'a>>,
+    ) -> Successors<'a>
+        ensures { result ≡ option_map_or (λ (asks : List Ask). asks) members.entry [] ++ option_map_or (λ (asks : List Ask). asks) relocations.entry [] }
     {
         Successors {
             first: None,
-            relocations,
+            members: members.unwrap_or(MemberAsks::none()),
+            relocations: relocations.unwrap_or(RelocationAsks::none()),
             sections: SectionRoots::none(),
         }
     }
@@ -216,9 +284,30 @@ impl<'a> Successors<'a> {
     {
         Successors {
             first: None,
+            members: MemberAsks::none(),
             relocations: RelocationAsks::none(),
             sections,
         }
+    }
+}
+
+/// Whether a section of a file, by its index, is another one than this and comes with its group.
+fn is_other(sections: &[InputSection], own: u32, index: usize) -> bool
+    ensures { result ≡ is_other sections.now own index }
+{
+    match sections.get(index) {
+        Some(section) => index != own as usize && comes_along(section.slot),
+        None => false,
+    }
+}
+
+/// Whether a section comes with the other members of its group: debug data that is kept in any case is asked for by its file.
+fn comes_along(slot: InputSlot) -> bool
+    ensures { result ≡ comes_along slot }
+{
+    match slot {
+        InputSlot::Unloaded | InputSlot::MustLoad | InputSlot::DebugInfo => true,
+        InputSlot::MustLoadDebugInfo | InputSlot::Discard | InputSlot::Merge => false,
     }
 }
 

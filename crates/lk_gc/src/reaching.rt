@@ -8,9 +8,9 @@ ghost use Rattle.lk_link.specs.Walks.{file_of};
 ghost use Rattle.lk_link.specs.WellFormed.{IsWellFormed};
 ghost use Rattle.lk_gc.specs.declared.units.Ask.{Ask};
 ghost use Rattle.lk_gc.specs.declared.units.Unit.TheVariants.{Sym, Sec};
-ghost use Rattle.lk_gc.specs.Units.{entry_asks, file_roots, follows, is_primary_section, placement_asks};
+ghost use Rattle.lk_gc.specs.Units.{asked_members, asked_references, entry_asks, file_roots, follows, is_primary_section, placement_asks};
 
-use crate::asks::{RelocationAsks, SectionRoots, Successors};
+use crate::asks::{MemberAsks, RelocationAsks, SectionRoots, Successors};
 use crate::units::{Ask, Unit};
 use lk_link::{
     FileId, FileKind, FileRef, InputSection, InputSlot, LinkInput, SymbolId, SymbolPlacement,
@@ -24,11 +24,42 @@ pub fn successors<'a>(link: &'a LinkInput, unit: Unit) -> Successors<'a>
 {
     match unit {
         Unit::Sym(symbol) => Successors::from_ask(symbol_section(link, symbol)),
-        Unit::Sec(file, index) => match section_relocations(link, file, index) {
-            Some(relocations) => Successors::from_relocations(relocations),
-            None => Successors::from_ask(None),
-        },
+        Unit::Sec(file, index) => Successors::from_section(
+            section_members(link, file, index),
+            section_relocations(link, file, index),
+        ),
     }
+}
+
+/// What a section asks for by its relocations alone, in order.
+pub(crate) fn section_references<'a>(
+    link: &'a LinkInput,
+    file: FileId,
+    index: u32,
+) -> Successors<'a>
+    requires { IsWellFormed link.now }
+    ensures { result ≡ asked_references link.now file index }
+{
+    Successors::from_section(None, section_relocations(link, file, index))
+}
+
+/// What a section that is kept asks for of its group, where there is such a section and it is in one.
+fn section_members<'a>(link: &'a LinkInput, id: FileId, index: u32) -> Option<MemberAsks<'a>>
+    requires { IsWellFormed link.now }
+    ensures { option_map_or (λ (asks : List Ask). asks) result [] ≡ asked_members link.now id index }
+{
+    let file = link.groups.file(id)?;
+    let section = file.sections.get(index as usize)?;
+    if !section.slot.can_be_kept() {
+        return None;
+    }
+    let group = section.group?;
+    Some(MemberAsks {
+        file: id,
+        own: index,
+        sections: file.sections.as_slice(),
+        members: file.sections.members(group),
+    })
 }
 
 /// The section of a symbol, if it has one in an object.
@@ -61,7 +92,7 @@ fn section_relocations<'a>(
     index: u32,
 ) -> Option<RelocationAsks<'a>>
     requires { IsWellFormed link.now }
-    ensures { option_map_or (λ (asks : List Ask). asks) result [] ≡ follows link.now (Sec id index) }
+    ensures { option_map_or (λ (asks : List Ask). asks) result [] ≡ asked_references link.now id index }
 {
     let file = link.groups.file(id)?;
     let section = file.sections.get(index as usize)?;
