@@ -1,4 +1,5 @@
 pub mod FaultLemmas
+pub mod GroupLemmas
 pub mod KeepLemmas
 pub mod LiveWalk
 pub mod Living

@@ -169,7 +169,7 @@ done_more link asks more old new h done k d lt =
     (hit_keeps (asking link) old.marks.items new.marks.items marks (get_or asks k d) before.0, joined_keeps old.words.items new.words.items words (get_or asks k d) before.1)
 
 -- what asks were taken are done
-adds_done : (link : LinkInput) (asks : List Ask) (old new : Walk) → All (IsInside link.groups) asks → IsSized link old → Adds link asks old new → All (IsDone link new) asks
+pub adds_done : (link : LinkInput) (asks : List Ask) (old new : Walk) → All (IsInside link.groups) asks → IsSized link old → Adds link asks old new → All (IsDone link new) asks
 adds_done link asks old new inside size h =
     let below : All (λ a. ForSome ((asking link).target a) (λ u. u < length old.marks.items)) asks = λ k d lt. target_below link (get_or asks k d) old (inside k d lt) size in
     let words : All (IsWordBelow (length old.words.items)) asks = λ k d lt p e. omega (arith, size.words, (inside k d lt).symbol p e) in

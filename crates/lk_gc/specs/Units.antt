@@ -104,6 +104,10 @@ is_coming sections k = option_map_or (λ s. comes_along s.slot) (slice_get secti
 abbrev pub is_other : List InputSection → ℕ → ℕ → Bool
 is_other sections own k = not (k == own) && is_coming sections k
 
+-- those of some sections of a file that come along, as what is asked for
+abbrev pub coming_asks : FileId → List InputSection → List ℕ → List Ask
+coming_asks id sections members = map (Section id) (filter (is_coming sections) members)
+
 -- those of some sections of a file that are others than this one and come along, as what is asked for
 abbrev pub other_asks : FileId → List InputSection → ℕ → List ℕ → List Ask
 other_asks id sections own members = map (Section id) (filter (is_other sections own) members)

@@ -1,19 +1,22 @@
 -- Words of private contracts: a walk over what is reached, with marks, words and a stack of unit numbers.
-use Rattle.std.specs.Prelude.{◌≡◌, ◌⊎◌, ℕ, suc, ◌+◌, ◌<◌, ◌^◌, ◌==◌, ◌&&◌, not, Bool, true, false, if◌then◌else◌, List, [], ◌∷◌, ◌++◌, Option, Some, None, All, Contains, length, map, replicate, slice_index}
+use Rattle.std.specs.Prelude.{◌≡◌, ◌⊎◌, ℕ, suc, ◌+◌, ◌<◌, ◌^◌, ◌==◌, ◌&&◌, not, Bool, true, false, if◌then◌else◌, List, [], ◌∷◌, ◌++◌, Option, Some, None, All, Contains, length, map, replicate, slice_get, slice_index}
 use Rattle.std.specs.Int.{bit_at}
 use Rattle.std.specs.List.{list_any}
+use Rattle.lk_link.specs.declared.file.InputFile.{InputFile}
 use Rattle.lk_link.specs.declared.ids.FileId.{FileId}
 use Rattle.lk_link.specs.declared.link.LinkInput.{LinkInput}
 use Rattle.lk_link.specs.declared.section.InputSection.{InputSection}
-use Rattle.lk_link.specs.Inputs.{all_inputs}
-use Rattle.lk_link.specs.InputSlots.{is_debug}
+use Rattle.lk_link.specs.Files.{file_in}
+use Rattle.lk_link.specs.Inputs.{Input, all_inputs}
+use Rattle.lk_link.specs.InputSlots.{can_be_kept, is_debug}
 use Rattle.lk_link.specs.Marks.{is_marked}
 use Rattle.lk_link.specs.Parts.{all_parts}
+use Rattle.lk_link.specs.SectionGroups.{group_members}
 use Rattle.lk_gc.specs.declared.units.Ask.{Ask}
 use Rattle.lk_gc.specs.declared.walk.Walk.{Walk}
 use Rattle.lk_gc.specs.Marks.{IsHit, IsJoined, IsMarked, all_units, asking, flag_words, handed_in, join_all, join_flags, mark_all, mark_target, reached_marks, symbols_in_all}
 use Rattle.lk_gc.specs.Reach.{marked}
-use Rattle.lk_gc.specs.Units.{flags_of, roots}
+use Rattle.lk_gc.specs.Units.{coming_asks, flags_of, roots}
 
 -- how many units have no mark
 unfoldable pub unmarked : List Bool → ℕ
@@ -74,6 +77,27 @@ pub record IsWalking (link : LinkInput) (w : Walk) : Type 0 where
   pub reached : (u : ℕ) → IsMarked w.marks.items u → IsMarked (reached_marks link) u
   pub handed : (n i : ℕ) → bit_at (slice_index (handed_in link) n) i ≡ 1 → bit_at (slice_index w.words.items n) i ≡ 1
   pub flags : (n i : ℕ) → bit_at (slice_index w.words.items n) i ≡ 1 → bit_at (slice_index (flag_words link) n) i ≡ 1
+
+-- where a mark stands at an input section of a group, all members of the group that come along are marked
+pub record AreTaken (link : LinkInput) (taken marks : List Bool) : Type 0 where
+  pub count : length taken ≡ length (all_inputs link.groups)
+  pub members : (n : ℕ) (x : Input) (file : InputFile) (group : ℕ) → slice_get (all_inputs link.groups) n ≡ Some x → is_marked taken n ≡ true
+      → file_in link.groups x.file ≡ Some file → x.section.group ≡ Some group
+      → All (IsHit (asking link) marks) (coming_asks x.file file.sections (group_members file.sections group))
+
+-- an input section, by its number, is in the group of this section, which is kept
+pub record IsGroupPlace (link : LinkInput) (id : FileId) (i n : ℕ) : Type 0 where
+  pub file : InputFile
+  pub there : file_in link.groups id ≡ Some file
+  pub section : InputSection
+  pub at : slice_get file.sections i ≡ Some section
+  pub kept : can_be_kept section.slot ≡ true
+  pub group : ℕ
+  pub in_group : section.group ≡ Some group
+  pub first : Input
+  pub at_place : slice_get (all_inputs link.groups) n ≡ Some first
+  pub same_file : first.file ≡ id
+  pub same_group : first.section.group ≡ Some group
 
 -- the file of each input section, by its number
 abbrev pub files_of_inputs : LinkInput → List FileId

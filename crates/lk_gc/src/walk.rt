@@ -3,19 +3,23 @@
 //! Units go by their numbers: a mark for each unit that was asked for, a word of flags for each symbol, and a stack of the units
 //! whose own asks are still to come. A unit is marked when it is first asked for, and goes onto the stack then, so each is looked
 //! at once. The walk begins with what files ask for by themselves, and ends when the stack is empty: then all that a marked unit
-//! asks for is marked and joined, and nothing else ever was.
+//! asks for is marked and joined, and nothing else ever was. The members of a section group, for which each of them asks, are
+//! taken once: with the first of them that comes off the stack.
 
-ghost use Rattle.std.specs.Prelude.{◌≡◌, [], ◌++◌, ◌<◌, ◌^◌, All, IsSome, OnOk, IfOk, Some, SomeIff, false, length, map, replicate};
+ghost use Rattle.std.specs.Prelude.{◌≡◌, [], ◌++◌, ◌<◌, ◌^◌, All, IsSome, OnOk, IfOk, Some, SomeIff, false, length, map, replicate, slice_set, true};
 ghost use Rattle.lk_link.specs.Files.{file_in};
 ghost use Rattle.lk_link.specs.WellFormed.{IsWellFormed};
-ghost use Rattle.lk_gc.specs.Marks.{IsInside, flags_handed_in, handed_in, join_flags, mark_target, unit_at, unit_number, word_of};
+ghost use Rattle.std.specs.Option.{ForSome};
+ghost use Rattle.lk_gc.specs.Marks.{IsInside, IsMarked, flags_handed_in, handed_in, join_flags, mark_target, unit_at, unit_number, word_of};
 ghost use Rattle.lk_gc.specs.declared.units.Unit.TheVariants.{Sec};
-ghost use Rattle.lk_gc.specs.Units.{roots};
-ghost use Rattle.lk_gc.specs.Walking.{Adds, AreFew, IsSized, IsStart, IsWalked, IsWalking, Takes, files_of_inputs, stack_after};
+ghost use Rattle.lk_gc.specs.Units.{follows, roots};
+ghost use Rattle.lk_gc.specs.Walking.{Adds, AreFew, AreTaken, IsGroupPlace, IsSized, IsStart, IsWalked, IsWalking, Takes, files_of_inputs, stack_after};
 
 use crate::asks::Successors;
-use crate::reaching::{file_roots, successors};
+use crate::reaching::{file_roots, section_references, successors};
 use crate::units::{Ask, Unit};
+use lk_link::file::group_members_rise;
+use lk_link::marks::is_marked;
 use lk_link::{FileId, InputSymbol, LinkInput, SymbolId, ValueFlags};
 use std::alloc::{AllocError, Global};
 
@@ -40,7 +44,8 @@ impl Walk {
         let files = files_of_inputs(alloc, link)?;
         let mut walk = Walk::new(alloc, link)?;
         walk.take_roots(link)?;
-        walk.take_stack(link, files.as_slice())?;
+        let mut taken = unmarked(alloc, link.groups.input_count() as usize)?;
+        walk.take_stack(link, files.as_slice(), &mut taken)?;
         Ok(walk)
     }
 
@@ -54,7 +59,7 @@ impl Walk {
         Ok(Walk {
             marks: unmarked(alloc, symbols + inputs)?,
             words: handed_in(alloc, link)?,
-            stack: Vec::new(alloc),
+            stack: Vec::with_capacity(alloc, symbols + inputs)?,
         })
     }
 
@@ -106,18 +111,97 @@ impl Walk {
         Ok(())
     }
 
-    /// Takes what the units on the stack ask for, until none is left. `files` has the file of each input section.
-    fn take_stack(&mut self, link: &LinkInput, files: &[FileId]) -> Result<(), AllocError>
+    /// Takes what the units on the stack ask for, until none is left. `files` has the file of each input section, and `taken`
+    /// a mark for each section group whose members were taken.
+    fn take_stack(
+        &mut self,
+        link: &LinkInput,
+        files: &[FileId],
+        taken: &mut Vec<bool>,
+    ) -> Result<(), AllocError>
         requires well_formed { IsWellFormed link.now }
         requires files { files.now ≡ files_of_inputs link.now }
         requires walking { IsWalking link.now self.old }
+        requires taken { AreTaken link.now taken.old.items self.old.marks.items }
         ensures { OnOk result (IsWalking link.now self.new × (self.new.stack.items ≡ [])) }
     {
         while let Some(number) = self.stack.pop() {
             if let Some(unit) = unit_at(link, files, number as usize) {
-                self.take_all(link, successors(link, unit))?;
+                self.take_unit(link, unit, taken)?;
             }
         }
+        Ok(())
+    }
+
+    /// Takes what a unit asks for that was asked for itself.
+    fn take_unit(
+        &mut self,
+        link: &LinkInput,
+        unit: Unit,
+        taken: &mut Vec<bool>,
+    ) -> Result<(), AllocError>
+        requires well_formed { IsWellFormed link.now }
+        requires sized { IsSized link.now self.old }
+        requires marked { IsMarked self.old.marks.items (unit_number link.now.groups unit) }
+        requires taken { AreTaken link.now taken.old.items self.old.marks.items }
+        ensures { OnOk result (Adds link.now (follows link.now unit) self.old self.new × AreTaken link.now taken.new.items self.new.marks.items) }
+    {
+        match unit {
+            Unit::Sym(symbol) => {
+                self.take_all(link, successors(link, Unit::Sym(symbol)))?;
+                Ok(())
+            }
+            Unit::Sec(file, index) => self.take_section(link, file, index, taken),
+        }
+    }
+
+    /// Takes what a section asks for that was asked for itself.
+    fn take_section(
+        &mut self,
+        link: &LinkInput,
+        file: FileId,
+        index: u32,
+        taken: &mut Vec<bool>,
+    ) -> Result<(), AllocError>
+        requires well_formed { IsWellFormed link.now }
+        requires sized { IsSized link.now self.old }
+        requires marked { IsMarked self.old.marks.items (unit_number link.now.groups (Sec file index)) }
+        requires taken { AreTaken link.now taken.old.items self.old.marks.items }
+        ensures { OnOk result
+            (Adds link.now (follows link.now (Sec file index)) self.old self.new × AreTaken link.now taken.new.items self.new.marks.items) }
+    {
+        match group_place(link, file, index) {
+            Some(place) => self.take_member(link, file, index, place, taken),
+            None => {
+                self.take_all(link, successors(link, Unit::Sec(file, index)))?;
+                Ok(())
+            }
+        }
+    }
+
+    /// Takes what a section of a group asks for. `place` is where the mark of its group stands.
+    fn take_member(
+        &mut self,
+        link: &LinkInput,
+        file: FileId,
+        index: u32,
+        place: usize,
+        taken: &mut Vec<bool>,
+    ) -> Result<(), AllocError>
+        requires well_formed { IsWellFormed link.now }
+        requires sized { IsSized link.now self.old }
+        requires marked { IsMarked self.old.marks.items (unit_number link.now.groups (Sec file index)) }
+        requires taken { AreTaken link.now taken.old.items self.old.marks.items }
+        requires place { IsGroupPlace link.now file index place }
+        ensures { OnOk result
+            (Adds link.now (follows link.now (Sec file index)) self.old self.new × AreTaken link.now taken.new.items self.new.marks.items) }
+    {
+        if is_marked(taken.as_slice(), place) {
+            self.take_all(link, section_references(link, file, index))?;
+            return Ok(());
+        }
+        self.take_all(link, successors(link, Unit::Sec(file, index)))?;
+        set_mark(taken, place);
         Ok(())
     }
 
@@ -157,6 +241,23 @@ pub(crate) fn section_number(link: &LinkInput, file: FileId, index: u32) -> Opti
     Some(link.groups.symbol_count() as usize + start + index as usize)
 }
 
+/// Where the mark of a section's group stands, if the section is kept and in a group: at the group's first member, by its number
+/// among all input sections.
+fn group_place(link: &LinkInput, file: FileId, index: u32) -> Option<usize>
+    requires { IsWellFormed link.now }
+    ensures { ForSome result (IsGroupPlace link.now file index) }
+{
+    let sections = &link.groups.file(file)?.sections;
+    let section = sections.get(index as usize)?;
+    if !section.slot.can_be_kept() {
+        return None;
+    }
+    group_members_rise();
+    let group = section.group?;
+    let first = *sections.members(group).first()?;
+    Some(link.groups.input_start(file)? + first)
+}
+
 /// The unit with a number, if there is one. `files` has the file of each input section.
 fn unit_at(link: &LinkInput, files: &[FileId], number: usize) -> Option<Unit>
     requires well_formed { IsWellFormed link.now }
@@ -171,6 +272,14 @@ fn unit_at(link: &LinkInput, files: &[FileId], number: usize) -> Option<Unit>
     let file = *files.get(place)?;
     let start = link.groups.input_start(file)?;
     Some(Unit::Sec(file, (place - start) as u32))
+}
+
+/// Sets a mark.
+fn set_mark(marks: &mut Vec<bool>, place: usize)
+    requires { place < length marks.old.items }
+    ensures { marks.new.items ≡ slice_set marks.old.items place true }
+{
+    marks[place] = true;
 }
 
 /// So many marks, none of them set.

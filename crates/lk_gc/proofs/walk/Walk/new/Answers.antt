@@ -15,4 +15,4 @@ returns c =
     let inputs : length (all_inputs groups) ≡ input_count groups = inputs_follow.count groups in
     let count : c.symbol_count-symbols.result + c.input_count-inputs.result ≡ length (all_units groups)
     = omega (arith, units_count groups, inputs_few c.args.link.now c.requires, symbols_few c.args.link.now c.requires) in
-    record { marks = c.in_ok-unmarked.ensures ∙ ap (λ n. replicate n false) count; words = c.in_ok-handed_in.ensures; stack = c.new.ensures.items }
+    record { marks = c.in_ok-unmarked.ensures ∙ ap (λ n. replicate n false) count; words = c.in_ok-handed_in.ensures; stack = c.in_ok-with_capacity.ensures.items }
