@@ -1,6 +1,7 @@
 pub mod FaultLemmas
 pub mod GroupLemmas
 pub mod KeepLemmas
+pub mod LawLemmas
 pub mod LiveWalk
 pub mod Living
 pub mod MarkLemmas

@@ -220,10 +220,10 @@ flags_meant link s i wf bit =
     (subst (All (SetsOnly R)) (sym (follows_at link v at.unit at.there)) (asks_meant link (follows link at.unit) (λ t j f. inr (inr (record { unit = at.unit; reached = at.reached; asks = f })))))) in
     join_all_only R (handed_in link) (asked (asking link) marks) (handed_meant link) (All-append (SetsOnly R) (roots link) (asked_from (asking link).follows 0 marks) by_roots by_units) (word_of s) i bit s refl
 
-ask_set : (words : List ℕ) (asks : List Ask) (s i : ℕ) → All (IsJoined words) asks → AskFlag asks s i → HasBit words (word_of s) i
+pub ask_set : (words : List ℕ) (asks : List Ask) (s i : ℕ) → All (IsJoined words) asks → AskFlag asks s i → HasBit words (word_of s) i
 ask_set words asks s i h f = All-contains (IsJoined words) asks f.ask h f.among (s, f.flags) f.sets i f.bit
 
-handed_set : (link : LinkInput) (s i : ℕ) → IsHandedIn link s i → HasBit (handed_in link) (word_of s) i
+pub handed_set : (link : LinkInput) (s i : ℕ) → IsHandedIn link s i → HasBit (handed_in link) (word_of s) i
 handed_set link s i h =
     let symbols = all_symbols link.groups in
     let flags : InputSymbol → ℕ = flags_handed_in in

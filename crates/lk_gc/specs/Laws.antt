@@ -1,17 +1,18 @@
 -- Laws on what is reached, and on what is live.
-use Rattle.std.specs.Prelude.{◌≡◌, ◌↔◌, ◌⊎◌, ℕ, ◌<◌, Bool, true, List, Some, All, Contains, slice_get, slice_index}
+use Rattle.std.specs.Prelude.{◌≡◌, ◌↔◌, ◌⊎◌, ℕ, ◌<◌, Bool, true, false, List, Some, All, Contains, slice_get, slice_index}
 use Rattle.std.specs.Int.{bit_at}
 use Rattle.lk_link.specs.declared.file.InputFile.{InputFile}
 use Rattle.lk_link.specs.declared.link.LinkInput.{LinkInput}
 use Rattle.lk_link.specs.FileKinds.{is_object}
 use Rattle.lk_link.specs.Files.{file_in}
 use Rattle.lk_link.specs.Inputs.{Input, all_inputs}
+use Rattle.lk_link.specs.InputSlots.{can_be_kept}
 use Rattle.lk_link.specs.WellFormed.{IsWellFormed}
 use Rattle.lk_gc.specs.declared.live.Live.{Live}
 use Rattle.lk_gc.specs.declared.units.Unit.{Unit as LinkUnit}
-use Rattle.lk_gc.specs.Marks.{IsClosed, IsInside, IsMarked, IsUnit, asking, flag_words, reached_marks, symbols_in_all, unit_number, word_of}
+use Rattle.lk_gc.specs.Marks.{IsClosed, IsInside, IsMarked, IsUnit, asking, flag_words, handed_in, reached_marks, symbols_in_all, unit_number, word_of}
 use Rattle.lk_gc.specs.Reach.{AreLive, HasFlag, IsLive, IsReached}
-use Rattle.lk_gc.specs.Units.{AsksFor, IsRoot, follows, is_root, roots, unit_of}
+use Rattle.lk_gc.specs.Units.{AsksFor, IsRoot, comes_along, follows, is_root, roots, unit_of}
 
 -- ---- numbers
 
@@ -39,6 +40,13 @@ abbrev pub ClosedMarksHoldReach : Type 0
 ClosedMarksHoldReach = (link : LinkInput) (marks : List Bool) (words : List ℕ) (unit : LinkUnit) → IsWellFormed link
     → IsClosed (asking link) marks words → IsReached link unit → IsMarked marks (unit_number link.groups unit)
 
+-- closed words that hold what is handed in hold all flags
+abbrev pub ClosedWordsHoldFlags : Type 0
+ClosedWordsHoldFlags = (link : LinkInput) (marks : List Bool) (words : List ℕ) (s i : ℕ) → IsWellFormed link
+    → IsClosed (asking link) marks words
+    → ((n j : ℕ) → bit_at (slice_index (handed_in link) n) j ≡ 1 → bit_at (slice_index words n) j ≡ 1)
+    → HasFlag link s i → bit_at (slice_index words (word_of s)) i ≡ 1
+
 -- ---- live sections
 
 -- every well-formed link has its live sections
@@ -59,6 +67,18 @@ abbrev pub RootsAreLive : Type 0
 RootsAreLive = (link : LinkInput) (k : ℕ) (x : Input) (file : InputFile) → slice_get (all_inputs link.groups) k ≡ Some x
     → file_in link.groups x.file ≡ Some file → is_object file.kind ≡ true
     → is_root link.options.gc x.section.slot ≡ true → IsLive link x
+
+-- without collection each section of an object that can be kept is live
+abbrev pub AllIsLive : Type 0
+AllIsLive = (link : LinkInput) (k : ℕ) (x : Input) (file : InputFile) → slice_get (all_inputs link.groups) k ≡ Some x
+    → file_in link.groups x.file ≡ Some file → is_object file.kind ≡ true
+    → link.options.gc ≡ false → can_be_kept x.section.slot ≡ true → IsLive link x
+
+-- a section group stays together: with a member that is live, each other one that comes along is
+abbrev pub GroupsStayTogether : Type 0
+GroupsStayTogether = (link : LinkInput) (j k : ℕ) (x y : Input) (group : ℕ) → slice_get (all_inputs link.groups) j ≡ Some x
+    → slice_get (all_inputs link.groups) k ≡ Some y → y.file ≡ x.file
+    → x.section.group ≡ Some group → y.section.group ≡ Some group → comes_along y.section.slot ≡ true → IsLive link x → IsLive link y
 
 -- what is live was asked for, by a root or by a unit that is reached
 abbrev pub LiveWasAskedFor : Type 0

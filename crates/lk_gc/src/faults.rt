@@ -58,7 +58,7 @@ fn push_undefined(undefined: &mut Vec<bool>, symbols: &[InputSymbol]) -> Result<
 }
 
 /// Whether a placement leaves its symbol undefined.
-fn is_undefined(at: &SymbolPlacement) -> bool
+pub(crate) fn is_undefined(at: &SymbolPlacement) -> bool
     ensures { result ≡ is_undefined_placement at.now }
 {
     matches!(

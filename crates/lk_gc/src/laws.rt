@@ -1,6 +1,8 @@
 //! Laws on what is reached, and on what is live.
 
-ghost use Rattle.lk_gc.specs.Laws.{AsksAreInside, ClosedMarksHoldReach, LiveExists, LiveIsOne, LiveWasAskedFor, MarksAreReached, MoreRootsReachMore, ReachIsClosed, RootsAreLive, WordsAreFlags};
+ghost use Rattle.lk_gc.specs.Laws.{AllIsLive, AsksAreInside, ClosedMarksHoldReach, ClosedWordsHoldFlags, GroupsStayTogether, LiveExists, LiveIsOne, LiveWasAskedFor, MarksAreReached, MoreRootsReachMore, ReachIsClosed, RootsAreLive, WordsAreFlags};
+
+use lk_link::file::group_members_rise;
 
 /// A law: what roots and units of a well-formed link ask for is there: units that have numbers, and symbols of the link.
 pub fn asks_are_inside()
@@ -27,6 +29,11 @@ pub fn closed_marks_hold_reach()
     ensures { ClosedMarksHoldReach }
 {}
 
+/// A law: words that are closed, and hold what is handed in, hold all flags.
+pub fn closed_words_hold_flags()
+    ensures { ClosedWordsHoldFlags }
+{}
+
 /// A law: every well-formed link has its live sections.
 pub fn live_exists()
     ensures { LiveExists }
@@ -46,6 +53,18 @@ pub fn more_roots_reach_more()
 pub fn roots_are_live()
     ensures { RootsAreLive }
 {}
+
+/// A law: without collection each section of an object that can be kept is live.
+pub fn all_is_live()
+    ensures { AllIsLive }
+{}
+
+/// A law: a section group stays together: with a member that is live, each other one that comes along is.
+pub fn groups_stay_together()
+    ensures { GroupsStayTogether }
+{
+    group_members_rise();
+}
 
 /// A law: what is live was asked for by a root or by a unit that is reached.
 pub fn live_was_asked_for()

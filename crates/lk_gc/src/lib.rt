@@ -3,6 +3,7 @@
 
 pub mod asks;
 pub mod error;
+pub mod exports;
 mod faults;
 mod keep;
 pub mod laws;
@@ -15,6 +16,7 @@ mod walk;
 
 pub use asks::Successors;
 pub use error::{GcError, ReferenceFault};
+pub use exports::{ExportSymbolsMode, can_export_global_def, export_symbols_mode};
 pub use laws::{live_exists, live_is_one};
 pub use live::{Live, LiveInputs};
 pub use primary::primary_references;

@@ -5,12 +5,13 @@ ghost use Rattle.std.specs.Iterator.{YieldsFirstBy, item_count};
 ghost use Rattle.lk_link.specs.Files.{AreNumbered};
 ghost use Rattle.lk_link.specs.WellFormed.{IsWellFormed};
 ghost use Rattle.lk_gc.specs.Reach.{live_inputs};
-ghost use Rattle.lk_gc.specs.Slots.{live_slot, slot_after};
+ghost use Rattle.lk_gc.specs.Slots.{is_singleton, live_slot, loaded_slot, slot_after};
+ghost use Rattle.lk_link.specs.PartRules.{is_part_of, is_singleton_part};
 
 use lk_link::marks::is_marked;
 use lk_link::{
-    FileId, InputRef, InputSection, InputSlot, Inputs, LinkInput, List, Section, SectionSlot,
-    UnloadedSection, ValueFlags,
+    FileId, InputRef, InputSection, InputSlot, Inputs, LinkInput, List, OutputSectionId, PartId,
+    Plan, PlanSections, Section, SectionSlot, UnloadedSection, ValueFlags,
 };
 use std::marker::Model;
 
@@ -43,13 +44,13 @@ impl Live {
     {
         let section = link.groups.file(file)?.sections.get(index)?;
         let number = link.groups.input_start(file)? + index;
-        Some(slot_after(is_marked(self.marks.as_slice(), number), section))
+        Some(slot_after(link, is_marked(self.marks.as_slice(), number), section))
     }
 }
 
 /// What becomes of a section, which is live or isn't.
-fn slot_after(live: bool, section: &InputSection) -> SectionSlot
-    ensures { result ≡ slot_after live section.now }
+fn slot_after(link: &LinkInput, live: bool, section: &InputSection) -> SectionSlot
+    ensures { result ≡ slot_after link.now live section.now }
 {
     let kept = Section { size: section.size };
     let waiting = UnloadedSection {
@@ -63,8 +64,51 @@ fn slot_after(live: bool, section: &InputSection) -> SectionSlot
         InputSlot::DebugInfo if !live => SectionSlot::UnloadedDebugInfo { must_load: false },
         InputSlot::MustLoadDebugInfo if !live => SectionSlot::UnloadedDebugInfo { must_load: true },
         InputSlot::DebugInfo | InputSlot::MustLoadDebugInfo => SectionSlot::LoadedDebugInfo(kept),
-        InputSlot::Unloaded | InputSlot::MustLoad if section.sorted => SectionSlot::Sorted(kept),
-        InputSlot::Unloaded | InputSlot::MustLoad => SectionSlot::Loaded(kept),
+        InputSlot::Unloaded | InputSlot::MustLoad => loaded_slot(link, section),
+    }
+}
+
+/// What becomes of a section that is loaded for what it holds.
+fn loaded_slot(link: &LinkInput, section: &InputSection) -> SectionSlot
+    ensures { result ≡ loaded_slot link.now section.now }
+{
+    let kept = Section { size: section.size };
+    if is_singleton(link, section) {
+        SectionSlot::PartialLinkSingleton(kept)
+    } else if section.sorted {
+        SectionSlot::Sorted(kept)
+    } else {
+        SectionSlot::Loaded(kept)
+    }
+}
+
+/// Whether a section stays an output section of its own: in partial output one in the section of the singletons.
+fn is_singleton(link: &LinkInput, section: &InputSection) -> bool
+    ensures { result ≡ is_singleton link.now section.now }
+{
+    link.options.output.is_partial() && is_singleton_part(&link.plan, section.part)
+}
+
+/// Whether a part belongs to the section whose input sections stay output sections of their own.
+fn is_singleton_part(plan: &Plan, part: PartId) -> bool
+    ensures { result ≡ is_singleton_part plan.now part }
+{
+    match plan.singletons {
+        Some(section) => is_part_of(&plan.sections, section, part),
+        None => false,
+    }
+}
+
+/// Whether a part belongs to this section.
+fn is_part_of(sections: &PlanSections, section: OutputSectionId, part: PartId) -> bool
+    ensures { result ≡ is_part_of sections.now section part }
+{
+    let section = section.as_usize();
+    if section < sections.len() {
+        let (first, behind) = sections.part_range(section);
+        first <= part.as_usize() && part.as_usize() < behind
+    } else {
+        false
     }
 }
 
