@@ -26,8 +26,8 @@ use Rattle.lk_gc.specs.declared.live.Live.{Live}
 use Rattle.lk_gc.specs.Laws.{LiveExists, LiveIsOne, RootsAreLive}
 use Rattle.lk_gc.specs.Marks.{IsMarked, IsUnit, asked, asking, flag_words, handed_in, reached_marks, symbols_in_all, unit_at, unit_number, word_of}
 use Rattle.lk_gc.specs.Reach.{AreLive, IsLive, keeps_output, kept_marks, live_by, live_marks, marked}
-use Rattle.lk_gc.specs.Units.{ask_for, file_roots, flags_from, is_root, kind_roots, roots, section_roots, unit_of}
-use Rattle.lk_link.proofs.Elements.{at_index, contains_at, filter_in, flat_map_at, flat_map_in, map_at, map_in}
+use Rattle.lk_gc.specs.Units.{ask_for, export_roots, file_roots, flags_from, is_root, kind_roots, roots, section_roots, unit_of}
+use Rattle.lk_link.proofs.Elements.{append_left, at_index, contains_at, filter_in, flat_map_at, flat_map_in, map_at, map_in}
 use Rattle.lk_gc.proofs.Numbered.{IsSectionOf, file_at, section_of, sections_of}
 use Rattle.lk_gc.proofs.ReachLemmas.{handed_length, marks_are_reached, reach_root, words_are_flags}
 use Rattle.lk_gc.proofs.UnitLemmas.{input_place, input_unit, symbols_length}
@@ -210,7 +210,9 @@ roots_are_live link k x file h at_file object root =
     let passes : Input → Bool = λ y. is_root link.options.gc y.section.slot in
     let kept = filter_in passes (sections_of at.from) x.index x is.numbered root in
     let asks : slice_get (section_roots link.options.gc at.from.id 0 at.from.file.sections) kept.0 ≡ Some (ask_for x) = map_in ask_for (filter passes (sections_of at.from)) kept.0 x kept.1 in
-    let there : slice_get (file_roots link at.from) kept.0 ≡ Some (ask_for x) = ap (λ kd. slice_get (kind_roots link at.from kd) kept.0) kind_is ∙ asks in
+    let both : slice_get (kind_roots link at.from kind.Object) kept.0 ≡ Some (ask_for x)
+    = append_left (section_roots link.options.gc at.from.id 0 at.from.file.sections) (export_roots link at.from) kept.0 (ask_for x) asks in
+    let there : slice_get (file_roots link at.from) kept.0 ≡ Some (ask_for x) = ap (λ kd. slice_get (kind_roots link at.from kd) kept.0) kind_is ∙ both in
     let among = flat_map_in (file_roots link) files at.outer kept.0 at.from (ask_for x) at.there there in
     record {
       reached = reach_root link (unit_of x) (record { ask = ask_for x; among = contains_at (roots link) among.0 (ask_for x) among.1; target = refl });

@@ -1,6 +1,6 @@
 -- Units by their numbers, and that what is asked for in a well-formed link is there.
 use Rattle.std.proofs.Common.{◌≡◌, ℕ, suc, ◌+◌, ◌<◌, Bool, true, false, if◌then◌else◌, ◌&&◌, ◌==◌, eqb, not, List, [], ◌∷◌, length, map, Option, Some, None, refl, sym, ap, ◌∙◌, subst, inl, inr, arith, length-append, option_and_then, option_map, get_or, unwrap_or}
-use Rattle.std.specs.List.{All, filter, flat_map, range_with_len, slice_get}
+use Rattle.std.specs.List.{All, enumerate_from, filter, flat_map, range_with_len, slice_get}
 use Rattle.std.specs.Option.{ForSome, option_map_or, option_to_list}
 use Rattle.std.proofs.lemmas.Bool.{and_parts}
 use Rattle.std.proofs.lemmas.List.{length-map}
@@ -41,8 +41,11 @@ use Rattle.lk_gc.specs.declared.units.Unit.{Unit as LinkUnit}
 use Rattle.lk_gc.specs.declared.units.Unit.TheVariants.{Sym, Sec}
 use Rattle.lk_gc.specs.Laws.{AsksAreInside}
 use Rattle.lk_gc.specs.Marks.{IsInside, IsUnit, all_units, symbols_in_all, unit_at, unit_number}
-use Rattle.lk_gc.specs.Units.{ask_for, asked_members, asked_references, comes_along, file_roots, group_asks, is_coming, is_other, member_asks, other_asks, follows, is_primary_section, is_root, kind_roots, local_definition, numbered_symbols, range_mark, reference, relocation_asks, roots, section_of, section_references, symbol_asks, symbols_of, unit_of}
-use Rattle.lk_link.proofs.Elements.{append_at, append_left, append_right, at_index, filter_at, flat_map_at, map_at, map_in}
+use Rattle.lk_gc.specs.Exports.{is_exported, list_for, mode_of}
+use Rattle.lk_gc.specs.declared.exports.ExportSymbolsMode.{ExportSymbolsMode}
+use Rattle.lk_gc.specs.Placements.{section_of}
+use Rattle.lk_gc.specs.Units.{ask_for, asked_members, asked_references, comes_along, export_asks, export_roots, file_roots, group_asks, is_coming, is_other, member_asks, other_asks, follows, is_primary_section, is_root, kind_roots, local_definition, numbered_symbols, range_mark, reference, relocation_asks, roots, section_references, section_roots, symbol_asks, symbols_of, unit_of}
+use Rattle.lk_link.proofs.Elements.{append_at, append_left, append_right, at_index, filter_at, flat_map_at, map_at, map_in, numbered_at}
 use Rattle.lk_gc.proofs.Numbered.{IsFileAt, IsSectionOf, file_at, file_of_input, one_place, sections_of}
 use Rattle.lk_gc.proofs.Numbered as numbered
 
@@ -308,13 +311,27 @@ entry_inside link entry None wf h = All-nil (IsInside link.groups)
 entry_inside link None (Some d) wf h = absurd (cc)
 entry_inside link (Some e) (Some d) wf h = one_inside link.groups (Reference d flag.DIRECT) (reference_inside link.groups d flag.DIRECT (symbol_there link.groups d d (defined_once link e d wf h)))
 
+-- what an object exports is there
+exports_inside : (link : LinkInput) (f : NumberedFile) (m : Option ExportSymbolsMode) → file_in link.groups f.id ≡ Some f.file
+    → All (IsInside link.groups) (option_map_or (λ m. export_asks (list_for link.options m) f.file.sections (first_symbol link.groups f.id) f.file.symbols) m [])
+exports_inside link f None there = All-nil (IsInside link.groups)
+exports_inside link f (Some m) there =
+    let ask : ℕ × InputSymbol → Ask = λ q. Reference q.0 flag.EXPORT_DYNAMIC in
+    let own : List (ℕ × InputSymbol) = enumerate_from (first_symbol link.groups f.id) f.file.symbols in
+    all_mapped (IsInside link.groups) ask (is_exported (list_for link.options m) f.file.sections) own (λ k q at.
+    let x = numbered_at (first_symbol link.groups f.id) f.file.symbols k q at in
+    let within = slice_get_within f.file.symbols k q.1 x.1 in
+    reference_inside link.groups q.0 flag.EXPORT_DYNAMIC (omega (arith, x.0, within, symbols_within link.groups f.id f.file there)))
+
 kind_inside : (link : LinkInput) (f : NumberedFile) (k : FileKind) → IsWellFormed link → file_in link.groups f.id ≡ Some f.file → All (IsInside link.groups) (kind_roots link f k)
 kind_inside link f kind.Prelude wf there = entry_inside link link.options.entry (option_and_then (definition_of link.groups) link.options.entry) wf refl
 kind_inside link f kind.Object wf there =
-    all_mapped (IsInside link.groups) ask_for (λ x. is_root link.options.gc x.section.slot) (sections_of f)
+    All-append (IsInside link.groups) (section_roots link.options.gc f.id 0 f.file.sections) (export_roots link f)
+    (all_mapped (IsInside link.groups) ask_for (λ x. is_root link.options.gc x.section.slot) (sections_of f)
     (λ k x at_k.
     let is = (numbered.section_of f k x at_k).1 in
-    section_inside link.groups x.file x.index (section_unit link.groups x.file f.file x.index x.section (ap (file_in link.groups) is.id ∙ there) is.there))
+    section_inside link.groups x.file x.index (section_unit link.groups x.file f.file x.index x.section (ap (file_in link.groups) is.id ∙ there) is.there)))
+    (exports_inside link f (mode_of link.options f.file) there)
 kind_inside link f kind.Dynamic wf there = All-nil (IsInside link.groups)
 kind_inside link f kind.NotLoaded wf there = All-nil (IsInside link.groups)
 kind_inside link f kind.SyntheticSymbols wf there = All-nil (IsInside link.groups)

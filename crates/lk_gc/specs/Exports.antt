@@ -9,6 +9,7 @@ use Rattle.lk_link.specs.declared.link.LinkInput.{LinkInput}
 use Rattle.lk_link.specs.declared.options.Options.{Options}
 use Rattle.lk_link.specs.declared.options.OutputKind.{OutputKind}
 use Rattle.lk_link.specs.declared.options.OutputKind.TheVariants as output
+use Rattle.lk_link.specs.declared.section.InputSection.{InputSection}
 use Rattle.lk_link.specs.declared.symbol.InputSymbol.{InputSymbol}
 use Rattle.lk_link.specs.Files.{file_in}
 use Rattle.lk_link.specs.Flags.{has_flag}
@@ -17,7 +18,7 @@ use Rattle.lk_link.specs.OutputKinds.{is_loaded_dynamically}
 use Rattle.lk_link.specs.Symbols.{symbol_at}
 use Rattle.lk_gc.specs.declared.exports.ExportSymbolsMode.{ExportSymbolsMode}
 use Rattle.lk_gc.specs.declared.exports.ExportSymbolsMode.TheVariants as mode
-use Rattle.lk_gc.specs.Faults.{is_undefined_placement}
+use Rattle.lk_gc.specs.Placements.{is_in_discarded, is_undefined_placement}
 
 -- ---- files
 
@@ -52,16 +53,23 @@ is_own_definition s x = unwrap_or x.def s == s && not (is_undefined_placement x.
 abbrev pub is_seen_outside : InputSymbol → ValueFlags → Bool
 is_seen_outside x flags = not x.local && not x.hidden && not (has_flag flag.DOWNGRADE_LOCAL.0 flags.0)
 
--- whether only names of the list are exported, where there is a list
-abbrev pub goes_by_list : Options → ExportSymbolsMode → Bool
-goes_by_list options mode.MatchingExportList = true
-goes_by_list options mode.All = options.restrictive
+-- the list that says which names are exported, where one does
+abbrev pub list_for : Options → ExportSymbolsMode → Option (List (List ℕ))
+list_for options mode.MatchingExportList = options.export_list
+list_for options mode.All = if options.restrictive then options.export_list else None
 
--- whether the list lets a name be exported
-abbrev pub is_listed : Options → ExportSymbolsMode → List ℕ → Bool
-is_listed options m name = option_map_or (λ names. not (goes_by_list options m) || has_name names name) options.export_list true
+-- whether a list, if there is one, has a name
+abbrev pub is_listed : Option (List (List ℕ)) → List ℕ → Bool
+is_listed list name = option_map_or (λ names. has_name names name) list true
+
+-- whether a symbol with its number, which has these flags, can be exported, where a list says so
+abbrev pub is_exportable : Option (List (List ℕ)) → ℕ → InputSymbol → ValueFlags → Bool
+is_exportable list s x flags = is_own_definition s x && is_seen_outside x flags && is_listed list x.name
 
 -- whether a symbol by its number, which has these flags, can be exported (libwild: `can_export_global_def`)
 abbrev pub can_export : LinkInput → ℕ → ValueFlags → ExportSymbolsMode → Bool
-can_export link s flags m =
-    option_map_or (λ x. is_own_definition s x && is_seen_outside x flags && is_listed link.options m x.name) (symbol_at link.groups s) false
+can_export link s flags m = option_map_or (λ x. is_exportable (list_for link.options m) s x flags) (symbol_at link.groups s) false
+
+-- whether an object with these sections exports a symbol of its own: one that can be, outside discarded sections
+abbrev pub is_exported : Option (List (List ℕ)) → List InputSection → ℕ × InputSymbol → Bool
+is_exported list sections q = not (is_in_discarded sections q.1.at) && is_exportable list q.0 q.1 q.1.flags

@@ -1,5 +1,5 @@
 -- References that can't be met.
-use Rattle.std.specs.Prelude.{ℕ, ◌==◌, ◌&&◌, not, Bool, true, false, if◌then◌else◌, List, [], ◌∷◌, Option, Some, None, map, slice_get}
+use Rattle.std.specs.Prelude.{ℕ, ◌==◌, ◌&&◌, not, Bool, false, if◌then◌else◌, List, [], ◌∷◌, Option, Some, None, map, slice_get}
 use Rattle.std.specs.List.{enumerate_from, filter_map, flat_map}
 use Rattle.std.specs.Option.{option_map_or}
 use Rattle.lk_link.specs.declared.file.InputFile.{InputFile}
@@ -7,8 +7,6 @@ use Rattle.lk_link.specs.declared.link.LinkInput.{LinkInput}
 use Rattle.lk_link.specs.declared.section.InputSection.{InputSection}
 use Rattle.lk_link.specs.declared.relocation.Relocation.{Relocation}
 use Rattle.lk_link.specs.declared.symbol.InputSymbol.{InputSymbol}
-use Rattle.lk_link.specs.declared.symbol.SymbolPlacement.{SymbolPlacement}
-use Rattle.lk_link.specs.declared.symbol.SymbolPlacement.TheVariants as at
 use Rattle.lk_link.specs.Inputs.{NumberedFile, numbered_files}
 use Rattle.lk_link.specs.InputSlots.{is_discarded, is_regular}
 use Rattle.lk_link.specs.Relocations.{resolution_flags}
@@ -17,15 +15,9 @@ use Rattle.lk_link.specs.Symbols.{all_symbols, first_symbol}
 use Rattle.lk_gc.specs.declared.error.ReferenceFault.{ReferenceFault}
 use Rattle.lk_gc.specs.declared.error.ReferenceFault.TheVariants.{Discarded, Undefined}
 use Rattle.lk_gc.specs.Marks.{reached_marks, unit_number}
+use Rattle.lk_gc.specs.Placements.{is_undefined_placement}
 use Rattle.lk_gc.specs.declared.units.Unit.TheVariants.{Sec}
 use Rattle.lk_gc.specs.Units.{local_definition}
-
--- whether a placement leaves its symbol undefined
-abbrev pub is_undefined_placement : SymbolPlacement → Bool
-is_undefined_placement at.Undef = true
-is_undefined_placement at.Undefined = true
-is_undefined_placement at.ForceUndefined = true
-is_undefined_placement _ = false
 
 -- for each of some symbols whether it is undefined, and for all symbols
 abbrev pub undefined_placements : List InputSymbol → List Bool

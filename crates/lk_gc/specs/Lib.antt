@@ -2,6 +2,7 @@ pub mod Exports
 pub mod Faults
 pub mod Laws
 pub mod Marks
+pub mod Placements
 pub mod Primary
 pub mod Reach
 pub mod Slots

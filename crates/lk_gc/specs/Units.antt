@@ -1,7 +1,7 @@
 -- What can be kept, and what asks for it.
 use Rattle.std.specs.Prelude.{◌≡◌, ℕ, ◌+◌, ◌==◌, ◌&&◌, not, Bool, true, false, if◌then◌else◌, List, [], ◌++◌, Option, Some, None, Contains, map, filter, option_and_then, option_map, slice_get, unwrap_or}
 use Rattle.std.specs.Int.{bit_at}
-use Rattle.std.specs.List.{flat_map}
+use Rattle.std.specs.List.{enumerate_from, flat_map}
 use Rattle.std.specs.Option.{option_map_or, option_to_list}
 use Rattle.lk_link.specs.declared.file.FileKind.{FileKind}
 use Rattle.lk_link.specs.declared.file.FileKind.TheVariants as kind
@@ -16,7 +16,6 @@ use Rattle.lk_link.specs.declared.section.InputSlot.{InputSlot}
 use Rattle.lk_link.specs.declared.section.InputSlot.TheVariants as slot
 use Rattle.lk_link.specs.declared.symbol.InputSymbol.{InputSymbol}
 use Rattle.lk_link.specs.declared.symbol.SymbolPlacement.{SymbolPlacement}
-use Rattle.lk_link.specs.declared.symbol.SymbolPlacement.TheVariants as at
 use Rattle.lk_link.specs.FileKinds.{is_object}
 use Rattle.lk_link.specs.Files.{file_in}
 use Rattle.lk_link.specs.Inputs.{Input, NumberedFile, inputs_from, numbered_files}
@@ -25,6 +24,8 @@ use Rattle.lk_link.specs.PartRules.{is_part}
 use Rattle.lk_link.specs.Relocations.{resolution_flags}
 use Rattle.lk_link.specs.SectionGroups.{group_members}
 use Rattle.lk_link.specs.Symbols.{definition_of, first_symbol}
+use Rattle.lk_gc.specs.Exports.{is_exported, list_for, mode_of}
+use Rattle.lk_gc.specs.Placements.{section_of}
 use Rattle.lk_gc.specs.declared.units.Ask.{Ask}
 use Rattle.lk_gc.specs.declared.units.Ask.TheVariants.{Reference, Section, Mark}
 use Rattle.lk_gc.specs.declared.units.Unit.{Unit as LinkUnit}
@@ -143,11 +144,6 @@ symbols_of f = map (λ s. (f, s)) f.file.symbols
 abbrev pub numbered_symbols : List (List InputFile) → List (NumberedFile × InputSymbol)
 numbered_symbols groups = flat_map symbols_of (numbered_files groups)
 
--- the section that a placement is in
-abbrev pub section_of : SymbolPlacement → Option ℕ
-section_of (at.Section index offset) = Some index
-section_of _ = None
-
 -- what a symbol of a file asks for: in an object its section, if it has one
 abbrev pub placement_asks : FileId → FileKind → SymbolPlacement → List Ask
 placement_asks id kind p = if is_object kind then option_to_list (option_map (Section id) (section_of p)) else []
@@ -184,10 +180,21 @@ entry_asks link =
 abbrev pub section_roots : Bool → FileId → ℕ → List InputSection → List Ask
 section_roots gc id i sections = map ask_for (filter (λ x. is_root gc x.section.slot) (inputs_from id i sections))
 
+-- the symbols that an object exports, the first of those given with this number
+abbrev pub export_asks : Option (List (List ℕ)) → List InputSection → ℕ → List InputSymbol → List Ask
+export_asks list sections first symbols =
+    map (λ q. Reference q.0 flag.EXPORT_DYNAMIC) (filter (is_exported list sections) (enumerate_from first symbols))
+
+-- what an object asks for by what it exports, where it exports anything (libwild: `load_non_hidden_symbols`)
+abbrev pub export_roots : LinkInput → NumberedFile → List Ask
+export_roots link f =
+    option_map_or (λ m. export_asks (list_for link.options m) f.file.sections (first_symbol link.groups f.id) f.file.symbols)
+    (mode_of link.options f.file) []
+
 -- what a file of a kind asks for by itself (libwild: `activate`)
 abbrev pub kind_roots : LinkInput → NumberedFile → FileKind → List Ask
 kind_roots link f kind.Prelude = entry_asks link
-kind_roots link f kind.Object = section_roots link.options.gc f.id 0 f.file.sections
+kind_roots link f kind.Object = section_roots link.options.gc f.id 0 f.file.sections ++ export_roots link f
 kind_roots link f _ = []
 
 abbrev pub file_roots : LinkInput → NumberedFile → List Ask

@@ -7,9 +7,12 @@ ghost use Rattle.std.specs.Option.{option_map_or, option_to_list};
 ghost use Rattle.lk_gc.specs.Units.{comes_along, is_other, is_root, local_definition, range_mark, reference};
 ghost use Rattle.lk_gc.specs.declared.units.Ask.{Ask};
 
+use crate::exports::is_exported;
 use crate::units::Ask;
 use lk_link::relocation::resolution_flags;
-use lk_link::{FileId, InputSection, InputSlot, InputSymbol, Relocation, SymbolId, ValueFlags};
+use lk_link::{
+    FileId, InputSection, InputSlot, InputSymbol, Names, Relocation, SymbolId, ValueFlags,
+};
 use std::marker::Model;
 
 /// What is left of the asks of a section's relocations. Contracts see the list of them.
@@ -162,6 +165,57 @@ impl<'a> Iterator for SectionRoots<'a> {
     }
 }
 
+/// What is left of the symbols that an object exports. Contracts see the list of the asks.
+#[derive(Drop)]
+pub(crate) struct ExportRoots<'a> {
+    /// The list that says which names are exported, where one does.
+    pub(crate) names: Option<&'a Names>,
+    /// The sections of the object.
+    pub(crate) sections: &'a [InputSection],
+    /// The number of the first symbol that is left.
+    pub(crate) number: u32,
+    /// The symbols that are left.
+    pub(crate) symbols: &'a [InputSymbol],
+}
+
+impl<'a> Model for ExportRoots<'a> {
+    ghost use Rattle.std.specs.Prelude.{◌+◌, ◌<◌, ◌^◌, List, length};
+    ghost use Rattle.std.specs.Option.{option_copied};
+    ghost use Rattle.std.specs.Coded.{codes};
+    ghost use Rattle.lk_link.specs.contracts.expression.Expression as expression;
+    ghost use Rattle.lk_gc.specs.declared.units.Ask.{Ask};
+
+    ghost Value = { List Ask };
+
+    ghost coded = { Prim.hlevel (codes, expression.the_row.coded) };
+
+    ghost use Rattle.lk_gc.specs.Units.{export_asks};
+
+    ghost view = { λ a. export_asks (option_copied a.names) a.sections.now a.number a.symbols.now };
+
+    ghost invariant = { λ a. a.number + length a.symbols.now < 2 ^ 32 };
+}
+
+impl<'a> Iterator for ExportRoots<'a> {
+    type Item = Ask;
+
+    ghost next_gives = { YieldsFirst (λ left. left) };
+
+    ghost remaining = { item_count (λ left. left) };
+
+    fn next(&mut self) -> Option<Ask> {
+        while let Some((symbol, symbols)) = self.symbols.split_first() {
+            let number = SymbolId::from_u32(self.number);
+            self.number += 1;
+            self.symbols = symbols;
+            if is_exported(self.names, self.sections, number, symbol) {
+                return Some(Ask::Reference(number, ValueFlags::EXPORT_DYNAMIC));
+            }
+        }
+        None
+    }
+}
+
 /// What is left of what a unit or a file asks for, in order. Contracts see the list of the asks.
 #[derive(Drop)]
 pub struct Successors<'a> {
@@ -170,6 +224,7 @@ pub struct Successors<'a> {
     members: MemberAsks<'a>,
     relocations: RelocationAsks<'a>,
     sections: SectionRoots<'a>,
+    exports: ExportRoots<'a>,
 }
 
 impl<'a> Model for Successors<'a> {
@@ -183,7 +238,7 @@ impl<'a> Model for Successors<'a> {
 
     ghost coded = { Prim.hlevel (codes, expression.the_row.coded) };
 
-    ghost view = { λ a. option_to_list a.first ++ (a.members ++ (a.relocations ++ a.sections)) };
+    ghost view = { λ a. option_to_list a.first ++ (a.members ++ (a.relocations ++ (a.sections ++ a.exports))) };
 }
 
 impl<'a> Iterator for Successors<'a> {
@@ -203,7 +258,10 @@ impl<'a> Iterator for Successors<'a> {
         if let Some(ask) = self.relocations.next() {
             return Some(ask);
         }
-        self.sections.next()
+        if let Some(ask) = self.sections.next() {
+            return Some(ask);
+        }
+        self.exports.next()
     }
 }
 
@@ -250,6 +308,20 @@ impl<'a> SectionRoots<'a> {
     }
 }
 
+impl<'a> ExportRoots<'a> {
+    /// No asks.
+    fn none() -> ExportRoots<'a>
+        ensures { result ≡ [] }
+    {
+        ExportRoots {
+            names: None,
+            sections: &[],
+            number: 0,
+            symbols: &[],
+        }
+    }
+}
+
 impl<'a> Successors<'a> {
     /// This ask alone, if there is one.
     pub(crate) fn from_ask(ask: Option<Ask>) -> Successors<'a>
@@ -260,6 +332,7 @@ impl<'a> Successors<'a> {
             members: MemberAsks::none(),
             relocations: RelocationAsks::none(),
             sections: SectionRoots::none(),
+            exports: ExportRoots::none(),
         }
     }
 
@@ -275,18 +348,23 @@ impl<'a> Successors<'a> {
             members: members.unwrap_or(MemberAsks::none()),
             relocations: relocations.unwrap_or(RelocationAsks::none()),
             sections: SectionRoots::none(),
+            exports: ExportRoots::none(),
         }
     }
 
-    /// The asks for sections.
-    pub(crate) fn from_sections(sections: SectionRoots<'a>) -> Successors<'a>
-        ensures { result ≡ sections.entry }
+    /// The asks for sections, then those of what is exported, where anything is.
+    pub(crate) fn from_object(
+        sections: SectionRoots<'a>,
+        exports: Option<ExportRoots<'a>>,
+    ) -> Successors<'a>
+        ensures { result ≡ sections.entry ++ option_map_or (λ (asks : List Ask). asks) exports.entry [] }
     {
         Successors {
             first: None,
             members: MemberAsks::none(),
             relocations: RelocationAsks::none(),
             sections,
+            exports: exports.unwrap_or(ExportRoots::none()),
         }
     }
 }

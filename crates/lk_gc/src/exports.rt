@@ -1,11 +1,14 @@
 //! Which symbols are told to the dynamic linker.
 
 ghost use Rattle.std.specs.Prelude.{◌≡◌};
-ghost use Rattle.lk_gc.specs.Exports.{can_export, export_mode, goes_by_list, is_exported_whole, is_listed, is_own_definition, is_seen_outside, is_shared, mode_of};
+ghost use Rattle.std.specs.Option.{option_copied};
+ghost use Rattle.lk_gc.specs.Placements.{is_in_discarded};
+ghost use Rattle.lk_gc.specs.Exports.{can_export, export_mode, is_exportable, is_exported, is_exported_whole, is_listed, is_own_definition, is_seen_outside, is_shared, list_for, mode_of};
 
 use crate::faults::is_undefined;
 use lk_link::{
-    FileId, InputFile, InputSymbol, LinkInput, Options, OutputKind, SymbolId, ValueFlags,
+    FileId, InputFile, InputSection, InputSymbol, LinkInput, Names, Options, OutputKind, SymbolId,
+    SymbolPlacement, ValueFlags,
 };
 
 /// Which symbols of a file are exported (libwild: `ExportSymbolsMode`).
@@ -36,17 +39,13 @@ pub fn can_export_global_def(
     ensures { result ≡ can_export link.now symbol flags mode }
 {
     match link.groups.symbol(symbol) {
-        Some(own) => {
-            is_own_definition(symbol, own)
-                && is_seen_outside(own, flags)
-                && is_listed(&link.options, mode, own.name.as_str())
-        }
+        Some(own) => is_exportable(list_for(&link.options, mode), symbol, own, flags),
         None => false,
     }
 }
 
 /// Which symbols of a file are exported: all that can be, those of the list, or none.
-fn mode_of(options: &Options, file: &InputFile) -> Option<ExportSymbolsMode>
+pub(crate) fn mode_of(options: &Options, file: &InputFile) -> Option<ExportSymbolsMode>
     ensures { result ≡ mode_of options.now file.now }
 {
     let dynamic = options.output.is_loaded_dynamically();
@@ -87,22 +86,62 @@ fn is_seen_outside(own: &InputSymbol, flags: ValueFlags) -> bool
     !own.local && !own.hidden && !flags.is_downgraded_to_local()
 }
 
-/// Whether only names of the list are exported, where there is a list.
-fn goes_by_list(options: &Options, mode: ExportSymbolsMode) -> bool
-    ensures { result ≡ goes_by_list options.now mode }
+/// The list that says which names are exported, where one does.
+pub(crate) fn list_for(options: &Options, mode: ExportSymbolsMode) -> Option<&Names>
+    ensures { option_copied result ≡ list_for options.now mode }
 {
     match mode {
-        ExportSymbolsMode::MatchingExportList => true,
-        ExportSymbolsMode::All => options.restrictive,
+        ExportSymbolsMode::MatchingExportList => options.export_list.as_ref(),
+        ExportSymbolsMode::All if options.restrictive => options.export_list.as_ref(),
+        ExportSymbolsMode::All => None,
     }
 }
 
-/// Whether the list lets a name be exported.
-fn is_listed(options: &Options, mode: ExportSymbolsMode, name: &str) -> bool
-    ensures { result ≡ is_listed options.now mode name.now }
+/// Whether a list, if there is one, has a name.
+fn is_listed(list: Option<&Names>, name: &str) -> bool
+    ensures { result ≡ is_listed (option_copied list.entry) name.now }
 {
-    match &options.export_list {
-        Some(names) => !goes_by_list(options, mode) || names.contains(name),
+    match list {
+        Some(names) => names.contains(name),
         None => true,
+    }
+}
+
+/// Whether a symbol with its number, which has these flags, can be exported, where a list says so.
+fn is_exportable(
+    list: Option<&Names>,
+    symbol: SymbolId,
+    own: &InputSymbol,
+    flags: ValueFlags,
+) -> bool
+    ensures { result ≡ is_exportable (option_copied list.entry) symbol own.now flags }
+{
+    is_own_definition(symbol, own)
+        && is_seen_outside(own, flags)
+        && is_listed(list, own.name.as_str())
+}
+
+/// Whether an object with these sections exports a symbol of its own: one that can be, outside discarded sections.
+pub(crate) fn is_exported(
+    list: Option<&Names>,
+    sections: &[InputSection],
+    symbol: SymbolId,
+    own: &InputSymbol,
+) -> bool
+    ensures { result ≡ is_exported (option_copied list.entry) sections.now (symbol, own.now) }
+{
+    !is_in_discarded(sections, &own.at) && is_exportable(list, symbol, own, own.flags)
+}
+
+/// Whether a placement is in a section that is discarded, of a file with these sections.
+fn is_in_discarded(sections: &[InputSection], at: &SymbolPlacement) -> bool
+    ensures { result ≡ is_in_discarded sections.now at.now }
+{
+    match at {
+        SymbolPlacement::Section { index, .. } => match sections.get(*index as usize) {
+            Some(section) => section.slot.is_discarded(),
+            None => false,
+        },
+        _ => false,
     }
 }

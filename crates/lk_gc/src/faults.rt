@@ -8,7 +8,8 @@ ghost use Rattle.lk_link.specs.Symbols.{first_symbol};
 ghost use Rattle.lk_link.specs.Walks.{file_of};
 ghost use Rattle.lk_link.specs.WellFormed.{IsWellFormed};
 ghost use Rattle.lk_link.specs.declared.relocation.Relocation.{Relocation};
-ghost use Rattle.lk_gc.specs.Faults.{faults_by, file_faults, is_undefined_placement, is_weak, relocation_fault, section_faults, undefined_placements, undefined_symbols};
+ghost use Rattle.lk_gc.specs.Placements.{is_undefined_placement};
+ghost use Rattle.lk_gc.specs.Faults.{faults_by, file_faults, is_weak, relocation_fault, section_faults, undefined_placements, undefined_symbols};
 
 use crate::asks::local_definition;
 use crate::error::ReferenceFault;

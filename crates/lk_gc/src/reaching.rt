@@ -8,9 +8,10 @@ ghost use Rattle.lk_link.specs.Walks.{file_of};
 ghost use Rattle.lk_link.specs.WellFormed.{IsWellFormed};
 ghost use Rattle.lk_gc.specs.declared.units.Ask.{Ask};
 ghost use Rattle.lk_gc.specs.declared.units.Unit.TheVariants.{Sym, Sec};
-ghost use Rattle.lk_gc.specs.Units.{asked_members, asked_references, entry_asks, file_roots, follows, is_primary_section, placement_asks};
+ghost use Rattle.lk_gc.specs.Units.{asked_members, asked_references, entry_asks, export_roots, file_roots, follows, is_primary_section, placement_asks};
 
-use crate::asks::{MemberAsks, RelocationAsks, SectionRoots, Successors};
+use crate::asks::{ExportRoots, MemberAsks, RelocationAsks, SectionRoots, Successors};
+use crate::exports::{list_for, mode_of};
 use crate::units::{Ask, Unit};
 use lk_link::{
     FileId, FileKind, FileRef, InputSection, InputSlot, LinkInput, SymbolId, SymbolPlacement,
@@ -134,14 +135,33 @@ pub fn file_roots<'a>(link: &'a LinkInput, file: FileRef<'a>) -> Successors<'a>
 {
     match file.file.kind {
         FileKind::Prelude => Successors::from_ask(entry_ask(link)),
-        FileKind::Object => Successors::from_sections(SectionRoots {
-            gc: link.options.gc,
-            file: file.id,
-            index: 0,
-            sections: file.file.sections.as_slice(),
-        }),
+        FileKind::Object => Successors::from_object(
+            SectionRoots {
+                gc: link.options.gc,
+                file: file.id,
+                index: 0,
+                sections: file.file.sections.as_slice(),
+            },
+            exports_of(link, file),
+        ),
         _ => Successors::from_ask(None),
     }
+}
+
+/// What an object exports, where it exports anything.
+fn exports_of<'a>(link: &'a LinkInput, file: FileRef<'a>) -> Option<ExportRoots<'a>>
+    requires well_formed { IsWellFormed link.now }
+    requires there { file_in link.now.groups file.id ≡ Some file.file.now }
+    ensures { option_map_or (λ (asks : List Ask). asks) result [] ≡ export_roots link.now (file_of file.entry) }
+{
+    let mode = mode_of(&link.options, file.file)?;
+    let symbols = link.groups.symbol_id_range(file.id)?;
+    Some(ExportRoots {
+        names: list_for(&link.options, mode),
+        sections: file.file.sections.as_slice(),
+        number: symbols.start().as_u32(),
+        symbols: file.file.symbols.as_slice(),
+    })
 }
 
 /// The entry, if there is one: what stands for it, directly.

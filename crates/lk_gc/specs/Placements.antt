@@ -1,0 +1,24 @@
+-- Where symbols are placed.
+use Rattle.std.specs.Prelude.{ℕ, Bool, true, false, List, Option, Some, None, slice_get}
+use Rattle.std.specs.Option.{option_map_or}
+use Rattle.lk_link.specs.declared.section.InputSection.{InputSection}
+use Rattle.lk_link.specs.declared.symbol.SymbolPlacement.{SymbolPlacement}
+use Rattle.lk_link.specs.declared.symbol.SymbolPlacement.TheVariants as at
+use Rattle.lk_link.specs.InputSlots.{is_discarded}
+
+-- whether a placement leaves its symbol undefined
+abbrev pub is_undefined_placement : SymbolPlacement → Bool
+is_undefined_placement at.Undef = true
+is_undefined_placement at.Undefined = true
+is_undefined_placement at.ForceUndefined = true
+is_undefined_placement _ = false
+
+-- the section that a placement is in
+abbrev pub section_of : SymbolPlacement → Option ℕ
+section_of (at.Section index offset) = Some index
+section_of _ = None
+
+-- whether it is in a section that is discarded, of a file with these sections
+abbrev pub is_in_discarded : List InputSection → SymbolPlacement → Bool
+is_in_discarded sections p =
+    option_map_or (λ i. option_map_or (λ s. is_discarded s.slot) (slice_get sections i) false) (section_of p) false
