@@ -1,5 +1,5 @@
 -- Units by their numbers, and that what is asked for in a well-formed link is there.
-use Rattle.std.proofs.Common.{◌≡◌, ℕ, suc, ◌+◌, ◌<◌, Bool, true, false, if◌then◌else◌, ◌&&◌, ◌==◌, eqb, not, List, [], ◌∷◌, length, map, Option, Some, None, refl, sym, ap, ◌∙◌, subst, inl, inr, arith, length-append, option_and_then, option_map, get_or, unwrap_or}
+use Rattle.std.proofs.Common.{◌≡◌, ℕ, suc, ◌+◌, ◌<◌, Bool, true, false, if◌then◌else◌, ◌&&◌, ◌==◌, eqb, not, List, [], ◌∷◌, length, map, sum_by, Option, Some, None, refl, sym, ap, ◌∙◌, subst, inl, inr, arith, length-append, option_and_then, option_map, get_or, unwrap_or}
 use Rattle.std.specs.List.{All, enumerate_from, filter, flat_map, range_with_len, slice_get}
 use Rattle.std.specs.Option.{ForSome, option_map_or, option_to_list}
 use Rattle.std.proofs.lemmas.Bool.{and_parts}
@@ -29,11 +29,11 @@ use Rattle.lk_link.specs.InputSlots.{can_be_kept, is_discarded, is_regular}
 use Rattle.lk_link.specs.Relocations.{resolution_flags}
 use Rattle.lk_link.specs.SectionGroups.{group_members}
 use Rattle.lk_link.specs.SymbolRules.{IsGoodSymbol, IsPlacementThere}
-use Rattle.lk_link.specs.Symbols.{all_files, all_symbols, definition_of, first_symbol, symbol_at}
+use Rattle.lk_link.specs.Symbols.{all_files, all_symbols, definition_of, first_symbol, symbol_at, symbols_in}
 use Rattle.lk_link.specs.WellFormed.{IsWellFormed}
 use Rattle.lk_link.proofs.GoodInputs.{inputs_are_good}
 use Rattle.lk_link.proofs.GoodSymbols.{defined_once, symbol_of}
-use Rattle.lk_link.proofs.InputLemmas.{inputs_follow}
+use Rattle.lk_link.proofs.InputLemmas.{files_from_are, inputs_follow, sum_mapped}
 use Rattle.lk_link.proofs.SymbolLemmas.{symbols_within}
 use Rattle.lk_gc.specs.declared.units.Ask.{Ask}
 use Rattle.lk_gc.specs.declared.units.Ask.TheVariants.{Reference, Section, Mark}
@@ -41,10 +41,11 @@ use Rattle.lk_gc.specs.declared.units.Unit.{Unit as LinkUnit}
 use Rattle.lk_gc.specs.declared.units.Unit.TheVariants.{Sym, Sec}
 use Rattle.lk_gc.specs.Laws.{AsksAreInside}
 use Rattle.lk_gc.specs.Marks.{IsInside, IsUnit, all_units, symbols_in_all, unit_at, unit_number}
-use Rattle.lk_gc.specs.Exports.{is_exported, list_for, mode_of}
+use Rattle.lk_gc.specs.Exports.{is_exported, is_own_definition, list_for, mode_of}
 use Rattle.lk_gc.specs.declared.exports.ExportSymbolsMode.{ExportSymbolsMode}
+use Rattle.lk_gc.specs.declared.exports.ExportSymbolsMode.TheVariants as mode
 use Rattle.lk_gc.specs.Placements.{section_of}
-use Rattle.lk_gc.specs.Units.{ask_for, asked_members, asked_references, comes_along, export_asks, export_roots, file_roots, group_asks, is_coming, is_other, member_asks, other_asks, follows, is_primary_section, is_root, kind_roots, local_definition, numbered_symbols, range_mark, reference, relocation_asks, roots, section_references, section_roots, symbol_asks, symbols_of, unit_of}
+use Rattle.lk_gc.specs.Units.{ask_for, asked_members, asked_references, asked_definition, comes_along, definition_ask, dynamic_ask, flags_from, export_asks, export_roots, file_roots, group_asks, is_coming, is_other, member_asks, other_asks, follows, is_primary_section, is_root, kind_roots, local_definition, numbered_symbols, range_mark, reference, relocation_asks, roots, section_references, section_roots, symbol_asks, symbols_of, unit_of}
 use Rattle.lk_link.proofs.Elements.{append_at, append_left, append_right, at_index, filter_at, flat_map_at, map_at, map_in, numbered_at}
 use Rattle.lk_gc.proofs.Numbered.{IsFileAt, IsSectionOf, file_at, file_of_input, one_place, sections_of}
 use Rattle.lk_gc.proofs.Numbered as numbered
@@ -126,6 +127,13 @@ symbol_there : (groups : List (List InputFile)) (s d : ℕ) → definition_of gr
 symbol_there groups s d h =
     let x = some_of (λ x. unwrap_or x.def s) (symbol_at groups s) d h in
     omega (arith, slice_get_within (all_symbols groups) s x.0 x.1, symbols_length groups)
+
+-- as many as all symbols
+numbered_length : (groups : List (List InputFile)) → length (numbered_symbols groups) ≡ symbols_in_all groups
+numbered_length groups =
+    length-flat_map symbols_of (numbered_files groups)
+    ∙ sum_mapped (λ f. length (symbols_of f)) symbols_in (λ f. f.file) (λ f. length-map f.file.symbols (λ s. (f, s))) (numbered_files groups)
+    ∙ ap (sum_by symbols_in) (files_from_are 0 groups)
 
 one_inside : (groups : List (List InputFile)) (a : Ask) → IsInside groups a → All (IsInside groups) (a ∷ [])
 one_inside groups a h = All-cons (IsInside groups) a [] h (All-nil (IsInside groups))
@@ -323,6 +331,30 @@ exports_inside link f (Some m) there =
     let within = slice_get_within f.file.symbols k q.1 x.1 in
     reference_inside link.groups q.0 flag.EXPORT_DYNAMIC (omega (arith, x.0, within, symbols_within link.groups f.id f.file there)))
 
+definition_inside : (link : LinkInput) (d : ℕ) (q : InputFile × InputSymbol) (k : FileKind) → d < symbols_in_all link.groups → All (IsInside link.groups) (option_to_list (definition_ask link d q k))
+definition_inside link d q kind.Prelude lt = All-nil (IsInside link.groups)
+definition_inside link d q kind.Object lt =
+    option_inside link.groups (is_exported (list_for link.options mode.All) q.0.sections (d, q.1)) _ (reference_inside link.groups d flag.EXPORT_DYNAMIC lt)
+definition_inside link d q kind.Dynamic lt = All-nil (IsInside link.groups)
+definition_inside link d q kind.NotLoaded lt = All-nil (IsInside link.groups)
+definition_inside link d q kind.SyntheticSymbols lt = All-nil (IsInside link.groups)
+definition_inside link d q kind.LinkerScript lt = option_inside link.groups (is_own_definition d q.1) _ (reference_inside link.groups d (flags_from 0) lt)
+
+defined_inside : (link : LinkInput) (d : ℕ) (o : Option (NumberedFile × InputSymbol)) → slice_get (numbered_symbols link.groups) d ≡ o
+    → All (IsInside link.groups) (option_to_list (option_and_then (λ q. definition_ask link d (q.0.file, q.1) q.0.file.kind) o))
+defined_inside link d None e = All-nil (IsInside link.groups)
+defined_inside link d (Some q) e =
+    let within = slice_get_within (numbered_symbols link.groups) d q e in
+    definition_inside link d (q.0.file, q.1) q.0.file.kind (omega (arith, within, numbered_length link.groups))
+
+unless_own_inside : (link : LinkInput) (d : ℕ) (b : Bool) → All (IsInside link.groups) (option_to_list (if b then None else asked_definition link d))
+unless_own_inside link d true = All-nil (IsInside link.groups)
+unless_own_inside link d false = defined_inside link d (slice_get (numbered_symbols link.groups) d) refl
+
+dynamic_inside : (link : LinkInput) (s : ℕ) (def : Option ℕ) → All (IsInside link.groups) (option_to_list (option_and_then (λ d. if d == s then None else asked_definition link d) def))
+dynamic_inside link s None = All-nil (IsInside link.groups)
+dynamic_inside link s (Some d) = unless_own_inside link d (d == s)
+
 kind_inside : (link : LinkInput) (f : NumberedFile) (k : FileKind) → IsWellFormed link → file_in link.groups f.id ≡ Some f.file → All (IsInside link.groups) (kind_roots link f k)
 kind_inside link f kind.Prelude wf there = entry_inside link link.options.entry (option_and_then (definition_of link.groups) link.options.entry) wf refl
 kind_inside link f kind.Object wf there =
@@ -332,7 +364,9 @@ kind_inside link f kind.Object wf there =
     let is = (numbered.section_of f k x at_k).1 in
     section_inside link.groups x.file x.index (section_unit link.groups x.file f.file x.index x.section (ap (file_in link.groups) is.id ∙ there) is.there)))
     (exports_inside link f (mode_of link.options f.file) there)
-kind_inside link f kind.Dynamic wf there = All-nil (IsInside link.groups)
+kind_inside link f kind.Dynamic wf there =
+    all_joined (IsInside link.groups) (λ q. option_to_list (dynamic_ask link q)) (enumerate_from (first_symbol link.groups f.id) f.file.symbols)
+    (λ k q at. dynamic_inside link q.0 q.1.def)
 kind_inside link f kind.NotLoaded wf there = All-nil (IsInside link.groups)
 kind_inside link f kind.SyntheticSymbols wf there = All-nil (IsInside link.groups)
 kind_inside link f kind.LinkerScript wf there = All-nil (IsInside link.groups)

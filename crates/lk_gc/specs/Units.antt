@@ -24,7 +24,8 @@ use Rattle.lk_link.specs.PartRules.{is_part}
 use Rattle.lk_link.specs.Relocations.{resolution_flags}
 use Rattle.lk_link.specs.SectionGroups.{group_members}
 use Rattle.lk_link.specs.Symbols.{definition_of, first_symbol}
-use Rattle.lk_gc.specs.Exports.{is_exported, list_for, mode_of}
+use Rattle.lk_gc.specs.declared.exports.ExportSymbolsMode.TheVariants as mode
+use Rattle.lk_gc.specs.Exports.{is_exported, is_own_definition, list_for, mode_of}
 use Rattle.lk_gc.specs.Placements.{section_of}
 use Rattle.lk_gc.specs.declared.units.Ask.{Ask}
 use Rattle.lk_gc.specs.declared.units.Ask.TheVariants.{Reference, Section, Mark}
@@ -191,10 +192,36 @@ export_roots link f =
     option_map_or (λ m. export_asks (list_for link.options m) f.file.sections (first_symbol link.groups f.id) f.file.symbols)
     (mode_of link.options f.file) []
 
+-- what a dynamic file asks for by a definition in another file, with its number: of an object one that it can export, outside
+-- discarded sections; of a script any
+abbrev pub definition_ask : LinkInput → ℕ → InputFile × InputSymbol → FileKind → Option Ask
+definition_ask link d q kind.Object =
+    if is_exported (list_for link.options mode.All) q.0.sections (d, q.1) then Some (Reference d flag.EXPORT_DYNAMIC) else None
+definition_ask link d q kind.LinkerScript = if is_own_definition d q.1 then Some (Reference d (flags_from 0)) else None
+definition_ask link d q _ = None
+
+-- the same, for the definition with this number
+abbrev pub asked_definition : LinkInput → ℕ → Option Ask
+asked_definition link d =
+    option_and_then (λ q. definition_ask link d (q.0.file, q.1) q.0.file.kind) (slice_get (numbered_symbols link.groups) d)
+
+-- what a dynamic file asks for by a symbol with its number: what another symbol stands for it
+abbrev pub dynamic_ask : LinkInput → ℕ × InputSymbol → Option Ask
+dynamic_ask link q = option_and_then (λ d. if d == q.0 then None else asked_definition link d) q.1.def
+
+-- the same for all symbols, the first of those given with this number (libwild: `request_all_undefined_symbols`)
+abbrev pub dynamic_asks : LinkInput → ℕ → List InputSymbol → List Ask
+dynamic_asks link first symbols = flat_map (λ q. option_to_list (dynamic_ask link q)) (enumerate_from first symbols)
+
+-- what a dynamic file asks for
+abbrev pub dynamic_roots : LinkInput → NumberedFile → List Ask
+dynamic_roots link f = dynamic_asks link (first_symbol link.groups f.id) f.file.symbols
+
 -- what a file of a kind asks for by itself (libwild: `activate`)
 abbrev pub kind_roots : LinkInput → NumberedFile → FileKind → List Ask
 kind_roots link f kind.Prelude = entry_asks link
 kind_roots link f kind.Object = section_roots link.options.gc f.id 0 f.file.sections ++ export_roots link f
+kind_roots link f kind.Dynamic = dynamic_roots link f
 kind_roots link f _ = []
 
 abbrev pub file_roots : LinkInput → NumberedFile → List Ask

@@ -8,10 +8,12 @@ ghost use Rattle.lk_gc.specs.Units.{comes_along, is_other, is_root, local_defini
 ghost use Rattle.lk_gc.specs.declared.units.Ask.{Ask};
 
 use crate::exports::is_exported;
+use crate::reaching::dynamic_ask;
 use crate::units::Ask;
 use lk_link::relocation::resolution_flags;
 use lk_link::{
-    FileId, InputSection, InputSlot, InputSymbol, Names, Relocation, SymbolId, ValueFlags,
+    FileId, InputSection, InputSlot, InputSymbol, LinkInput, Names, Relocation, SymbolId,
+    ValueFlags,
 };
 use std::marker::Model;
 
@@ -216,6 +218,55 @@ impl<'a> Iterator for ExportRoots<'a> {
     }
 }
 
+/// What is left of the definitions that a dynamic file asks for. Contracts see the list of the asks.
+#[derive(Drop)]
+pub(crate) struct DynamicRoots<'a> {
+    pub(crate) link: &'a LinkInput,
+    /// The number of the first symbol that is left.
+    pub(crate) number: u32,
+    /// The symbols that are left.
+    pub(crate) symbols: &'a [InputSymbol],
+}
+
+impl<'a> Model for DynamicRoots<'a> {
+    ghost use Rattle.std.specs.Prelude.{◌+◌, ◌<◌, ◌^◌, List, length};
+    ghost use Rattle.std.specs.Coded.{codes};
+    ghost use Rattle.lk_link.specs.WellFormed.{IsWellFormed};
+    ghost use Rattle.lk_link.specs.contracts.expression.Expression as expression;
+    ghost use Rattle.lk_gc.specs.declared.units.Ask.{Ask};
+
+    ghost Value = { List Ask };
+
+    ghost coded = { Prim.hlevel (codes, expression.the_row.coded) };
+
+    ghost use Rattle.lk_gc.specs.Units.{dynamic_asks};
+
+    ghost view = { λ a. dynamic_asks a.link.now a.number a.symbols.now };
+
+    ghost invariant = { λ a. IsWellFormed a.link.now × (a.number + length a.symbols.now < 2 ^ 32) };
+}
+
+impl<'a> Iterator for DynamicRoots<'a> {
+    type Item = Ask;
+
+    ghost next_gives = { YieldsFirst (λ left. left) };
+
+    ghost remaining = { item_count (λ left. left) };
+
+    fn next(&mut self) -> Option<Ask> {
+        while let Some((symbol, symbols)) = self.symbols.split_first() {
+            let number = SymbolId::from_u32(self.number);
+            self.number += 1;
+            self.symbols = symbols;
+            let ask = dynamic_ask(self.link, number, symbol);
+            if ask.is_some() {
+                return ask;
+            }
+        }
+        None
+    }
+}
+
 /// What is left of what a unit or a file asks for, in order. Contracts see the list of the asks.
 #[derive(Drop)]
 pub struct Successors<'a> {
@@ -225,11 +276,12 @@ pub struct Successors<'a> {
     relocations: RelocationAsks<'a>,
     sections: SectionRoots<'a>,
     exports: ExportRoots<'a>,
+    dynamics: Option<DynamicRoots<'a>>,
 }
 
 impl<'a> Model for Successors<'a> {
-    ghost use Rattle.std.specs.Prelude.{◌++◌, List};
-    ghost use Rattle.std.specs.Option.{option_to_list};
+    ghost use Rattle.std.specs.Prelude.{◌++◌, List, []};
+    ghost use Rattle.std.specs.Option.{option_map_or, option_to_list};
     ghost use Rattle.std.specs.Coded.{codes};
     ghost use Rattle.lk_link.specs.contracts.expression.Expression as expression;
     ghost use Rattle.lk_gc.specs.declared.units.Ask.{Ask};
@@ -238,7 +290,7 @@ impl<'a> Model for Successors<'a> {
 
     ghost coded = { Prim.hlevel (codes, expression.the_row.coded) };
 
-    ghost view = { λ a. option_to_list a.first ++ (a.members ++ (a.relocations ++ (a.sections ++ a.exports))) };
+    ghost view = { λ a. option_to_list a.first ++ (a.members ++ (a.relocations ++ (a.sections ++ (a.exports ++ option_map_or (λ (asks : List Ask). asks) a.dynamics [])))) };
 }
 
 impl<'a> Iterator for Successors<'a> {
@@ -261,7 +313,13 @@ impl<'a> Iterator for Successors<'a> {
         if let Some(ask) = self.sections.next() {
             return Some(ask);
         }
-        self.exports.next()
+        if let Some(ask) = self.exports.next() {
+            return Some(ask);
+        }
+        match &mut self.dynamics {
+            Some(dynamics) => dynamics.next(),
+            None => None,
+        }
     }
 }
 
@@ -333,6 +391,7 @@ impl<'a> Successors<'a> {
             relocations: RelocationAsks::none(),
             sections: SectionRoots::none(),
             exports: ExportRoots::none(),
+            dynamics: None,
         }
     }
 
@@ -349,6 +408,21 @@ impl<'a> Successors<'a> {
             relocations: relocations.unwrap_or(RelocationAsks::none()),
             sections: SectionRoots::none(),
             exports: ExportRoots::none(),
+            dynamics: None,
+        }
+    }
+
+    /// The asks for definitions in other files.
+    pub(crate) fn from_dynamic(dynamics: DynamicRoots<'a>) -> Successors<'a>
+        ensures { result ≡ dynamics.entry }
+    {
+        Successors {
+            first: None,
+            members: MemberAsks::none(),
+            relocations: RelocationAsks::none(),
+            sections: SectionRoots::none(),
+            exports: ExportRoots::none(),
+            dynamics: Some(dynamics),
         }
     }
 
@@ -365,6 +439,7 @@ impl<'a> Successors<'a> {
             relocations: RelocationAsks::none(),
             sections,
             exports: exports.unwrap_or(ExportRoots::none()),
+            dynamics: None,
         }
     }
 }

@@ -73,7 +73,7 @@ fn is_shared(output: OutputKind) -> bool
 }
 
 /// Whether a symbol with its number is a definition of its own.
-fn is_own_definition(symbol: SymbolId, own: &InputSymbol) -> bool
+pub(crate) fn is_own_definition(symbol: SymbolId, own: &InputSymbol) -> bool
     ensures { result ≡ is_own_definition symbol own.now }
 {
     own.def.unwrap_or(symbol).as_u32() == symbol.as_u32() && !is_undefined(&own.at)

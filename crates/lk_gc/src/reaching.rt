@@ -8,17 +8,21 @@ ghost use Rattle.lk_link.specs.Walks.{file_of};
 ghost use Rattle.lk_link.specs.WellFormed.{IsWellFormed};
 ghost use Rattle.lk_gc.specs.declared.units.Ask.{Ask};
 ghost use Rattle.lk_gc.specs.declared.units.Unit.TheVariants.{Sym, Sec};
-ghost use Rattle.lk_gc.specs.Units.{asked_members, asked_references, entry_asks, export_roots, file_roots, follows, is_primary_section, placement_asks};
+ghost use Rattle.lk_gc.specs.Units.{asked_definition, asked_members, asked_references, definition_ask, dynamic_ask, dynamic_roots, entry_asks, export_roots, file_roots, follows, is_primary_section, placement_asks};
 
-use crate::asks::{ExportRoots, MemberAsks, RelocationAsks, SectionRoots, Successors};
-use crate::exports::{list_for, mode_of};
+use crate::asks::{
+    DynamicRoots, ExportRoots, MemberAsks, RelocationAsks, SectionRoots, Successors,
+};
+use crate::exports::{ExportSymbolsMode, is_exported, is_own_definition, list_for, mode_of};
 use crate::units::{Ask, Unit};
 use lk_link::{
-    FileId, FileKind, FileRef, InputSection, InputSlot, LinkInput, SymbolId, SymbolPlacement,
-    ValueFlags,
+    FileId, FileKind, FileRef, InputFile, InputSection, InputSlot, InputSymbol, LinkInput,
+    SymbolId, SymbolPlacement, ValueFlags,
 };
 
-/// What a unit asks for, in order (libwild: `handle_section_load_request`, `load_symbol`).
+/// What a unit asks for, in order: a symbol of an object for its section, a section for the other members of its group and for
+/// what its relocations refer to. Symbols of other files ask for nothing yet, also those of scripts and of starts and ends
+/// (libwild: `handle_section_load_request`, `load_symbol`).
 pub fn successors<'a>(link: &'a LinkInput, unit: Unit) -> Successors<'a>
     requires { IsWellFormed link.now }
     ensures { result ≡ follows link.now unit }
@@ -127,7 +131,8 @@ pub(crate) fn is_primary_section(link: &LinkInput, section: &InputSection) -> bo
     }
 }
 
-/// What a file of a link asks for by itself (libwild: `activate`).
+/// What a file of a link asks for by itself: the prelude for the entry, an object for sections and for what it exports, a dynamic
+/// file for definitions in other files. Symbols of the prelude and scripts ask for nothing yet (libwild: `activate`).
 pub fn file_roots<'a>(link: &'a LinkInput, file: FileRef<'a>) -> Successors<'a>
     requires well_formed { IsWellFormed link.now }
     requires there { file_in link.now.groups file.id ≡ Some file.file.now }
@@ -144,7 +149,70 @@ pub fn file_roots<'a>(link: &'a LinkInput, file: FileRef<'a>) -> Successors<'a>
             },
             exports_of(link, file),
         ),
+        FileKind::Dynamic => match dynamic_roots(link, file) {
+            Some(dynamics) => Successors::from_dynamic(dynamics),
+            None => Successors::from_ask(None),
+        },
         _ => Successors::from_ask(None),
+    }
+}
+
+/// The definitions that a dynamic file asks for.
+fn dynamic_roots<'a>(link: &'a LinkInput, file: FileRef<'a>) -> Option<DynamicRoots<'a>>
+    requires well_formed { IsWellFormed link.now }
+    requires there { file_in link.now.groups file.id ≡ Some file.file.now }
+    ensures { option_map_or (λ (asks : List Ask). asks) result [] ≡ dynamic_roots link.now (file_of file.entry) }
+{
+    let symbols = link.groups.symbol_id_range(file.id)?;
+    Some(DynamicRoots {
+        link,
+        number: symbols.start().as_u32(),
+        symbols: file.file.symbols.as_slice(),
+    })
+}
+
+/// What a dynamic file asks for by a symbol with this number: what another symbol stands for it.
+pub(crate) fn dynamic_ask(link: &LinkInput, number: SymbolId, symbol: &InputSymbol) -> Option<Ask>
+    requires { IsWellFormed link.now }
+    ensures { result ≡ dynamic_ask link.now (number, symbol.now) }
+{
+    let definition = symbol.def?;
+    if definition.as_u32() == number.as_u32() {
+        return None;
+    }
+    asked_definition(link, definition)
+}
+
+/// What a dynamic file asks for by the definition with this number.
+fn asked_definition(link: &LinkInput, definition: SymbolId) -> Option<Ask>
+    requires { IsWellFormed link.now }
+    ensures { result ≡ asked_definition link.now definition }
+{
+    let id = link.groups.file_of_symbol(definition)?;
+    let file = link.groups.file(id)?;
+    let own = link.groups.symbol(definition)?;
+    definition_ask(link, definition, file, own)
+}
+
+/// What a dynamic file asks for by a definition in this file: of an object one that it can export, outside discarded sections; of
+/// a script any.
+fn definition_ask(
+    link: &LinkInput,
+    definition: SymbolId,
+    file: &InputFile,
+    own: &InputSymbol,
+) -> Option<Ask>
+    ensures { result ≡ definition_ask link.now definition (file.now, own.now) file.now.kind }
+{
+    let all = list_for(&link.options, ExportSymbolsMode::All);
+    match file.kind {
+        FileKind::Object if is_exported(all, file.sections.as_slice(), definition, own) => {
+            Some(Ask::Reference(definition, ValueFlags::EXPORT_DYNAMIC))
+        }
+        FileKind::LinkerScript if is_own_definition(definition, own) => {
+            Some(Ask::Reference(definition, ValueFlags(0)))
+        }
+        _ => None,
     }
 }
 
