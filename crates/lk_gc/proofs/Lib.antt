@@ -7,6 +7,7 @@ pub mod Living
 pub mod MarkLemmas
 pub mod Marks
 pub mod Numbered
+pub mod PlainAsks
 pub mod PrimaryLemmas
 pub mod ReachLemmas
 pub mod SuccessorLemmas

@@ -1,5 +1,5 @@
 -- Laws on what is reached, and on what is live.
-use Rattle.std.specs.Prelude.{◌≡◌, ◌↔◌, ◌⊎◌, ℕ, ◌<◌, Bool, true, false, List, Some, All, Contains, slice_get, slice_index}
+use Rattle.std.specs.Prelude.{◌≡◌, ◌↔◌, ◌⊎◌, ℕ, ◌<◌, ◌≤◌, Bool, true, false, List, Some, All, Contains, slice_get, slice_index}
 use Rattle.std.specs.Int.{bit_at}
 use Rattle.lk_link.specs.declared.file.InputFile.{InputFile}
 use Rattle.lk_link.specs.declared.link.LinkInput.{LinkInput}
@@ -10,6 +10,7 @@ use Rattle.lk_link.specs.InputSlots.{can_be_kept}
 use Rattle.lk_link.specs.WellFormed.{IsWellFormed}
 use Rattle.lk_gc.specs.declared.live.Live.{Live}
 use Rattle.lk_gc.specs.declared.units.Unit.{Unit as LinkUnit}
+use Rattle.lk_gc.specs.declared.units.Unit.TheVariants.{Sym}
 use Rattle.lk_gc.specs.Marks.{IsClosed, IsInside, IsMarked, IsUnit, asking, flag_words, handed_in, reached_marks, symbols_in_all, unit_number, word_of}
 use Rattle.lk_gc.specs.Reach.{AreLive, HasFlag, IsLive, IsReached}
 use Rattle.lk_gc.specs.Units.{AsksFor, IsRoot, comes_along, follows, is_root, roots, unit_of}
@@ -46,6 +47,10 @@ ClosedWordsHoldFlags = (link : LinkInput) (marks : List Bool) (words : List ℕ)
     → IsClosed (asking link) marks words
     → ((n j : ℕ) → bit_at (slice_index (handed_in link) n) j ≡ 1 → bit_at (slice_index words n) j ≡ 1)
     → HasFlag link s i → bit_at (slice_index words (word_of s)) i ≡ 1
+
+-- a symbol with a flag for which it gets a resolution, from DIRECT to EXPORT_DYNAMIC, is reached
+abbrev pub ResolvedIsReached : Type 0
+ResolvedIsReached = (link : LinkInput) (s i : ℕ) → IsWellFormed link → 6 ≤ i → i < 14 → HasFlag link s i → IsReached link (Sym s)
 
 -- ---- live sections
 

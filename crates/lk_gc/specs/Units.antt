@@ -26,7 +26,7 @@ use Rattle.lk_link.specs.SectionGroups.{group_members}
 use Rattle.lk_link.specs.Symbols.{definition_of, first_symbol}
 use Rattle.lk_gc.specs.declared.exports.ExportSymbolsMode.TheVariants as mode
 use Rattle.lk_gc.specs.Exports.{is_exported, is_own_definition, list_for, mode_of}
-use Rattle.lk_gc.specs.Placements.{section_of}
+pub use Rattle.lk_gc.specs.Placements.{section_of}
 use Rattle.lk_gc.specs.declared.units.Ask.{Ask}
 use Rattle.lk_gc.specs.declared.units.Ask.TheVariants.{Reference, Section, Mark}
 use Rattle.lk_gc.specs.declared.units.Unit.{Unit as LinkUnit}

@@ -1,6 +1,6 @@
 //! Laws on what is reached, and on what is live.
 
-ghost use Rattle.lk_gc.specs.Laws.{AllIsLive, AsksAreInside, ClosedMarksHoldReach, ClosedWordsHoldFlags, GroupsStayTogether, LiveExists, LiveIsOne, LiveWasAskedFor, MarksAreReached, MoreRootsReachMore, ReachIsClosed, RootsAreLive, WordsAreFlags};
+ghost use Rattle.lk_gc.specs.Laws.{AllIsLive, AsksAreInside, ClosedMarksHoldReach, ClosedWordsHoldFlags, GroupsStayTogether, LiveExists, LiveIsOne, LiveWasAskedFor, MarksAreReached, MoreRootsReachMore, ReachIsClosed, ResolvedIsReached, RootsAreLive, WordsAreFlags};
 
 use lk_link::file::group_members_rise;
 
@@ -32,6 +32,11 @@ pub fn closed_marks_hold_reach()
 /// A law: words that are closed, and hold what is handed in, hold all flags.
 pub fn closed_words_hold_flags()
     ensures { ClosedWordsHoldFlags }
+{}
+
+/// A law: a symbol with a flag for which it gets a resolution is reached.
+pub fn resolved_is_reached()
+    ensures { ResolvedIsReached }
 {}
 
 /// A law: every well-formed link has its live sections.

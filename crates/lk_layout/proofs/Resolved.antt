@@ -36,14 +36,15 @@ use Rattle.lk_link.proofs.SymbolLemmas.{files_have_numbers, symbols_follow}
 use Rattle.lk_gc.specs.declared.error.ReferenceFault.{ReferenceFault}
 use Rattle.lk_gc.specs.declared.error.ReferenceFault.TheVariants.{Discarded}
 use Rattle.lk_gc.specs.declared.units.Ask.{Ask}
-use Rattle.lk_gc.specs.declared.units.Ask.TheVariants.{Reference, Section, Mark}
+use Rattle.lk_gc.specs.declared.units.Ask.TheVariants.{Section}
 use Rattle.lk_gc.specs.declared.units.Unit.{Unit as LinkUnit}
 use Rattle.lk_gc.specs.declared.units.Unit.TheVariants.{Sym, Sec}
 use Rattle.lk_gc.specs.Faults.{file_faults, marked_faults, reference_faults, relocation_faults, section_faults}
 use Rattle.lk_gc.specs.Marks.{reached_marks, unit_number}
-use Rattle.lk_gc.specs.Reach.{HasFlag, IsLive, IsReached}
-use Rattle.lk_gc.specs.Units.{AskFlag, AskFor, ask_for, file_roots, flags_from, flags_of, follows, is_primary_section, is_root, kind_roots, local_definition, numbered_symbols, range_mark, reference, relocation_asks, roots, section_asks, section_of, symbol_asks}
-use Rattle.lk_gc.proofs.ReachLemmas.{marks_are_reached, reach_more, reach_root}
+use Rattle.lk_gc.specs.Reach.{IsLive, IsReached}
+use Rattle.lk_gc.specs.Units.{flags_from, follows, section_of}
+use Rattle.lk_gc.proofs.PlainAsks.{resolved_is_reached}
+use Rattle.lk_gc.proofs.ReachLemmas.{marks_are_reached, reach_more}
 use Rattle.lk_gc.proofs.SymbolNumbers.{symbol_follows}
 use Rattle.lk_gc.proofs.UnitLemmas.{section_unit}
 use Rattle.lk_layout.specs.Laws.{ResolvedSectionsAreLive}
@@ -91,118 +92,7 @@ asked_bit flags h =
       ];
     }
 
--- ---- marks set one flag, which is none of these
-
-abbrev IsPlainAsk : Ask → Type 0
-IsPlainAsk (Reference s f) = Unit {0}
-IsPlainAsk (Section id i) = Unit {0}
-IsPlainAsk (Mark s f) = f.0 ≡ 2 ^ 14
-
-plain_if : (b : Bool) (x : Ask) (k : ℕ) (a : Ask) → IsPlainAsk x → slice_get (option_to_list (if b then Some x else None)) k ≡ Some a → IsPlainAsk a
-plain_if true x zero a plain h = let same : x ≡ a = cc in subst IsPlainAsk same plain
-plain_if true x (suc k) a plain h = absurd (cc)
-plain_if false x k a plain h = absurd (cc)
-
-plain_unless : (b : Bool) (x : Ask) (k : ℕ) (a : Ask) → IsPlainAsk x → slice_get (option_to_list (if b then None else Some x)) k ≡ Some a → IsPlainAsk a
-plain_unless false x zero a plain h = let same : x ≡ a = cc in subst IsPlainAsk same plain
-plain_unless false x (suc k) a plain h = absurd (cc)
-plain_unless true x k a plain h = absurd (cc)
-
-relocation_plain : (primary : Bool) (first : ℕ) (symbols : List InputSymbol) (r : Relocation) (k : ℕ) (a : Ask) → slice_get (relocation_asks primary first symbols r) k ≡ Some a → IsPlainAsk a
-relocation_plain primary first symbols r k a h =
-    elim (append_at (option_to_list (reference first symbols r)) (option_to_list (range_mark primary first r)) k a h) [
-      | inl refers ↦ plain_unless (resolution_flags r.kind == 0) (Reference (local_definition first symbols r.symbol) (flags_from (resolution_flags r.kind))) k a tt refers
-      | inr marks ↦ plain_if (primary && r.thunkable) (Mark (first + r.symbol) flag.HAS_RANGE_LIMITED_REL) marks.0 a refl marks.2
-    ]
-
-section_plain : (link : LinkInput) (id : FileId) (file : InputFile) (s : InputSection) (k : ℕ) (a : Ask) → slice_get (section_asks link id file s) k ≡ Some a → IsPlainAsk a
-section_plain link id file s k a h =
-    let asks : Relocation → List Ask = relocation_asks (is_primary_section link s) (first_symbol link.groups id) file.symbols in
-    elim (is_regular s.slot) as (λ b. slice_get (if b then flat_map asks s.relocs else []) k ≡ Some a → IsPlainAsk a) [
-      | true ↦ λ among. let at = flat_map_at asks s.relocs k a among in relocation_plain (is_primary_section link s) (first_symbol link.groups id) file.symbols at.from at.inner a at.gives
-      | false ↦ λ among. absurd (cc)
-    ] h
-
-placed_plain : (id : FileId) (o : Option ℕ) (k : ℕ) (a : Ask) → slice_get (option_to_list (option_map (Section id) o)) k ≡ Some a → IsPlainAsk a
-placed_plain id None k a h = absurd (cc)
-placed_plain id (Some i) zero a h = let same : Section id i ≡ a = cc in subst IsPlainAsk same tt
-placed_plain id (Some i) (suc k) a h = absurd (cc)
-
-symbol_plain : (o : Option (NumberedFile × InputSymbol)) (k : ℕ) (a : Ask) → slice_get (option_map_or symbol_asks o []) k ≡ Some a → IsPlainAsk a
-symbol_plain None k a h = absurd (cc)
-symbol_plain (Some q) k a h =
-    elim (is_object q.0.file.kind) as (λ b. slice_get (if b then option_to_list (option_map (Section q.0.id) (section_of q.1.at)) else []) k ≡ Some a → IsPlainAsk a) [
-      | true ↦ λ among. placed_plain q.0.id (section_of q.1.at) k a among
-      | false ↦ λ among. absurd (cc)
-    ] h
-
-held_plain : (link : LinkInput) (id : FileId) (file : InputFile) (o : Option InputSection) (k : ℕ) (a : Ask) → slice_get (option_map_or (section_asks link id file) o []) k ≡ Some a → IsPlainAsk a
-held_plain link id file None k a h = absurd (cc)
-held_plain link id file (Some s) k a h = section_plain link id file s k a h
-
-filed_plain : (link : LinkInput) (id : FileId) (i : ℕ) (o : Option InputFile) (k : ℕ) (a : Ask)
-    → slice_get (option_map_or (λ f. option_map_or (section_asks link id f) (slice_get f.sections i) []) o []) k ≡ Some a → IsPlainAsk a
-filed_plain link id i None k a h = absurd (cc)
-filed_plain link id i (Some f) k a h = held_plain link id f (slice_get f.sections i) k a h
-
-follows_plain : (link : LinkInput) (u : LinkUnit) (k : ℕ) (a : Ask) → slice_get (follows link u) k ≡ Some a → IsPlainAsk a
-follows_plain link (Sym s) k a h = symbol_plain (slice_get (numbered_symbols link.groups) s) k a h
-follows_plain link (Sec id i) k a h = filed_plain link id i (file_in link.groups id) k a h
-
-entry_plain : (o : Option ℕ) (k : ℕ) (a : Ask) → slice_get (option_to_list (option_map (λ s. Reference s flag.DIRECT) o)) k ≡ Some a → IsPlainAsk a
-entry_plain None k a h = absurd (cc)
-entry_plain (Some s) zero a h = let same : Reference s flag.DIRECT ≡ a = cc in subst IsPlainAsk same tt
-entry_plain (Some s) (suc k) a h = absurd (cc)
-
-kind_plain : (link : LinkInput) (f : NumberedFile) (of : FileKind) (k : ℕ) (a : Ask) → slice_get (kind_roots link f of) k ≡ Some a → IsPlainAsk a
-kind_plain link f kind.Prelude k a h = entry_plain _ k a h
-kind_plain link f kind.Object k a h =
-    let x = map_at ask_for (filter (λ (x : Input). is_root link.options.gc x.section.slot) (inputs_from f.id 0 f.file.sections)) k a h in
-    subst IsPlainAsk x.2 tt
-kind_plain link f kind.Dynamic k a h = absurd (cc)
-kind_plain link f kind.NotLoaded k a h = absurd (cc)
-kind_plain link f kind.SyntheticSymbols k a h = absurd (cc)
-kind_plain link f kind.LinkerScript k a h = absurd (cc)
-
-roots_plain : (link : LinkInput) (k : ℕ) (a : Ask) → slice_get (roots link) k ≡ Some a → IsPlainAsk a
-roots_plain link k a h =
-    let at = flat_map_at (file_roots link) (numbered_files link.groups) k a h in
-    kind_plain link at.from at.from.file.kind at.inner a at.gives
-
--- ---- a symbol that has a resolution is reached
-
--- what sets such a bit refers to the symbol
-refers : (asks : List Ask) (s i : ℕ) (a : Ask) (flags : ℕ) → i < 14 → IsPlainAsk a → Contains asks a → flags_of a ≡ Some (s, flags) → bit_at flags i ≡ 1 → AskFor asks (Sym s)
-refers asks s i (Reference t f) flags below plain among sets bit =
-    let given : ℕ × ℕ = (t, f.0) in
-    let wanted : ℕ × ℕ = (s, flags) in
-    let pair : given ≡ wanted = cc in
-    record { ask = Reference t f; among = among; target = ap (λ (p : ℕ × ℕ). Some (Sym p.0)) pair }
-refers asks s i (Section id j) flags below plain among sets bit = absurd (cc)
-refers asks s i (Mark t f) flags below plain among sets bit =
-    let given : ℕ × ℕ = (t, f.0) in
-    let wanted : ℕ × ℕ = (s, flags) in
-    let pair : given ≡ wanted = cc in
-    let same : bit_at (2 ^ 14) i ≡ bit_at flags i = ap (λ n. bit_at n i) (sym plain ∙ ap (λ (p : ℕ × ℕ). p.1) pair) in
-    absurd (omega (arith, same, bit, bit_at-pow_other 14 i (λ is. omega (arith, is, below))))
-
-asked_for : (asks : List Ask) (s i : ℕ) → i < 14 → ((k : ℕ) (a : Ask) → slice_get asks k ≡ Some a → IsPlainAsk a) → AskFlag asks s i → AskFor asks (Sym s)
-asked_for asks s i below plain h =
-    let at = at_contained asks h.ask h.among in
-    refers asks s i h.ask h.flags below (plain at.0 h.ask at.1) h.among h.sets h.bit
-
-symbol_reached : (link : LinkInput) (s i : ℕ) → IsWellFormed link → 6 ≤ i → i < 14 → HasFlag link s i → IsReached link (Sym s)
-symbol_reached link s i wf from below h = elim h [
-  | inl handed ↦
-      let few = (numbered_symbol link s handed.symbol wf handed.there).2.few_flags in
-      absurd (omega (arith, handed.bit, bit_at_above handed.symbol.flags.0 6 i few from))
-  | inr set ↦ elim set [
-    | inl root ↦ reach_root link (Sym s) (asked_for (roots link) s i below (roots_plain link) root)
-    | inr unit ↦ reach_more link unit.unit (Sym s) unit.reached (asked_for (follows link unit.unit) s i below (follows_plain link unit.unit) unit.asks)
-  ]
-]
-
--- ---- and so is its section
+-- ---- a section of a symbol that has a resolution is reached
 
 in_file : (groups : List (List InputFile)) (id : FileId) (file : InputFile) (k : ℕ) → file_in groups id ≡ Some file → k < length file.symbols → IsSymbolIn groups id (first_symbol groups id + k)
 in_file groups id file k h lt =
@@ -265,7 +155,7 @@ resolved_sections_are_live link live wf are met id file i section there r at_i u
     let few : s < length live.flags = omega (arith, are.symbols, slice_get_within (all_symbols link.groups) s r.symbol at_s) in
     let bit = asked_bit f.0 (and_parts _ (has_resolution f.0) r.resolved).1 in
     let flag_is = (are.flags s f (slice_get-get_or live.flags s (flags_from 0) few) bit.place).0 bit.set in
-    let reached = section_reached link id file i r.index r.symbol there r.there r.object r.at (symbol_reached link s bit.place wf bit.from bit.below flag_is) in
+    let reached = section_reached link id file i r.index r.symbol there r.there r.object r.at (resolved_is_reached link s bit.place wf bit.from bit.below flag_is) in
     let kept = false_from_ne_true (is_discarded section.slot) (λ discarded.
     let fault = discarded_fault link id file i section wf there at_i reached discarded in
     no_faults (reference_faults link) fault.0 (Discarded id i) met fault.1) in
