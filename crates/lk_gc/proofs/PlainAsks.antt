@@ -1,6 +1,6 @@
 -- Marks set one flag, for which no symbol gets a resolution: a symbol that gets one is referred to, so it is reached.
-use Rattle.std.proofs.Common.{◌≡◌, ℕ, zero, suc, ◌+◌, ◌^◌, ◌<◌, Bool, true, false, ◌&&◌, if◌then◌else◌, List, [], Option, Some, None, filter, sym, ap, ◌∙◌, subst, inl, inr, arith, option_and_then}
-use Rattle.std.specs.Prelude.{◌==◌, option_map, refl}
+use Rattle.std.proofs.Common.{◌≡◌, ℕ, zero, suc, ◌+◌, ◌^◌, ◌<◌, Bool, true, false, ◌&&◌, if◌then◌else◌, List, [], ◌∷◌, Option, Some, None, filter, sym, ap, ◌∙◌, subst, inl, inr, arith, option_and_then}
+use Rattle.std.specs.Prelude.{◌==◌, option_map, refl, unwrap_or}
 use Rattle.std.specs.Int.{bit_at}
 use Rattle.std.specs.List.{Contains, enumerate_from, flat_map, slice_get}
 use Rattle.std.specs.Option.{option_map_or, option_to_list}
@@ -20,7 +20,7 @@ use Rattle.lk_link.specs.Inputs.{Input, NumberedFile, inputs_from, numbered_file
 use Rattle.lk_link.specs.InputSlots.{can_be_kept, is_regular}
 use Rattle.lk_link.specs.Relocations.{resolution_flags}
 use Rattle.lk_link.specs.SectionGroups.{group_members}
-use Rattle.lk_link.specs.Symbols.{first_symbol}
+use Rattle.lk_link.specs.Symbols.{definition_of, first_symbol}
 use Rattle.lk_link.proofs.Elements.{append_at, at_contained, flat_map_at, map_at}
 use Rattle.lk_link.proofs.GoodSymbols.{numbered_symbol}
 use Rattle.lk_gc.specs.declared.exports.ExportSymbolsMode.{ExportSymbolsMode}
@@ -31,8 +31,14 @@ use Rattle.lk_gc.specs.declared.units.Unit.{Unit as LinkUnit}
 use Rattle.lk_gc.specs.declared.units.Unit.TheVariants.{Sym, Sec}
 use Rattle.lk_gc.specs.Exports.{is_exported, is_own_definition, list_for, mode_of}
 use Rattle.lk_gc.specs.Laws.{ResolvedIsReached}
-use Rattle.lk_gc.specs.Placements.{section_of}
-use Rattle.lk_gc.specs.Units.{AskFlag, AskFor, ask_for, asked_definition, asked_members, asked_references, definition_ask, dynamic_ask, export_asks, export_roots, file_roots, flags_from, flags_of, follows, group_asks, is_other, is_primary_section, is_root, kind_roots, local_definition, member_asks, numbered_symbols, range_mark, reference, relocation_asks, roots, section_references, section_roots, symbol_asks}
+use Rattle.lk_link.specs.declared.expression.Operand.TheVariants as operand
+use Rattle.lk_link.specs.declared.expression.Token.{Token}
+use Rattle.lk_link.specs.declared.expression.Token.TheVariants as token
+use Rattle.lk_link.specs.declared.symbol.SymbolPlacement.{SymbolPlacement}
+use Rattle.lk_link.specs.declared.symbol.SymbolPlacement.TheVariants as at
+use Rattle.lk_link.specs.Expressions.{postfix}
+use Rattle.lk_gc.specs.Placements.{is_defined, section_of}
+use Rattle.lk_gc.specs.Units.{AskFlag, AskFor, ask_for, asked_definition, asked_members, asked_references, definition_ask, dynamic_ask, entry_asks, own_asks, prelude_symbol_asks, token_ask, token_asks, export_asks, export_roots, file_roots, flags_from, flags_of, follows, group_asks, is_other, is_primary_section, is_root, kind_roots, local_definition, member_asks, numbered_symbols, range_mark, reference, relocation_asks, roots, section_references, section_roots, symbol_asks}
 use Rattle.lk_gc.proofs.ReachLemmas.{reach_more, reach_root}
 
 -- ---- marks set one flag, which is none of these
@@ -120,6 +126,42 @@ entry_plain None k a h = absurd (cc)
 entry_plain (Some s) zero a h = let same : Reference s flag.DIRECT ≡ a = cc in subst IsPlainAsk same tt
 entry_plain (Some s) (suc k) a h = absurd (cc)
 
+token_plain : (groups : List (List InputFile)) (t : Token) (k : ℕ) (a : Ask) → slice_get (option_to_list (token_ask groups t)) k ≡ Some a → IsPlainAsk a
+token_plain groups (token.Operand (operand.Symbol s)) k a h = entry_plain (definition_of groups s) k a h
+token_plain groups (token.Operand (operand.Number n)) k a h = absurd (cc)
+token_plain groups (token.Operand operand.Dot) k a h = absurd (cc)
+token_plain groups (token.Operand (operand.Address n)) k a h = absurd (cc)
+token_plain groups (token.Operand (operand.SizeOf n)) k a h = absurd (cc)
+token_plain groups (token.Operand (operand.Origin n)) k a h = absurd (cc)
+token_plain groups (token.Operand (operand.Length n)) k a h = absurd (cc)
+token_plain groups (token.Operand operand.SizeOfHeaders) k a h = absurd (cc)
+token_plain groups (token.Operator o) k a h = absurd (cc)
+
+redirect_plain : (groups : List (List InputFile)) (s : ℕ) (tokens : List Token) (k : ℕ) (a : Ask) → slice_get (Reference s flag.DIRECT ∷ token_asks groups tokens) k ≡ Some a → IsPlainAsk a
+redirect_plain groups s tokens zero a h = let same : Reference s flag.DIRECT ≡ a = cc in subst IsPlainAsk same tt
+redirect_plain groups s tokens (suc k) a h =
+    let at = flat_map_at (λ t. option_to_list (token_ask groups t)) tokens k a h in
+    token_plain groups at.from at.inner a at.gives
+
+own_plain : (groups : List (List InputFile)) (s : ℕ) (x : InputSymbol) (p : SymbolPlacement) (k : ℕ) (a : Ask) → slice_get (own_asks groups s x p) k ≡ Some a → IsPlainAsk a
+own_plain groups s x (at.Redirect e l provide) k a h =
+    elim (unwrap_or x.def s == s) as (λ b. slice_get (if b then Reference s flag.DIRECT ∷ token_asks groups (postfix e) else []) k ≡ Some a → IsPlainAsk a) [
+      | true ↦ λ among. redirect_plain groups s (postfix e) k a among
+      | false ↦ λ among. absurd (cc)
+    ] h
+own_plain groups s x at.ForceUndefined k a h = plain_if (is_defined groups (unwrap_or x.def s)) (Reference (unwrap_or x.def s) flag.DIRECT) k a tt h
+own_plain groups s x (at.Section i o) k a h = absurd (cc)
+own_plain groups s x (at.Common q n) k a h = absurd (cc)
+own_plain groups s x (at.Absolute n) k a h = absurd (cc)
+own_plain groups s x at.Undef k a h = absurd (cc)
+own_plain groups s x at.Dynamic k a h = absurd (cc)
+own_plain groups s x at.Undefined k a h = absurd (cc)
+own_plain groups s x (at.SectionStart o) k a h = absurd (cc)
+own_plain groups s x (at.SectionEnd o) k a h = absurd (cc)
+own_plain groups s x (at.SectionGroupEnd o) k a h = absurd (cc)
+own_plain groups s x at.TlsEnd k a h = absurd (cc)
+own_plain groups s x at.LoadBaseAddress k a h = absurd (cc)
+
 exports_plain : (link : LinkInput) (f : NumberedFile) (m : Option ExportSymbolsMode) (k : ℕ) (a : Ask)
     → slice_get (option_map_or (λ m. export_asks (list_for link.options m) f.file.sections (first_symbol link.groups f.id) f.file.symbols) m []) k ≡ Some a → IsPlainAsk a
 exports_plain link f None k a h = absurd (cc)
@@ -151,7 +193,12 @@ dynamic_plain link s (Some d) k a h =
     ] h
 
 kind_plain : (link : LinkInput) (f : NumberedFile) (of : FileKind) (k : ℕ) (a : Ask) → slice_get (kind_roots link f of) k ≡ Some a → IsPlainAsk a
-kind_plain link f kind.Prelude k a h = entry_plain _ k a h
+kind_plain link f kind.Prelude k a h = elim (append_at (entry_asks link) (prelude_symbol_asks link f) k a h) [
+  | inl entry ↦ entry_plain _ k a entry
+  | inr own ↦
+      let at = flat_map_at (λ q. own_asks link.groups q.0 q.1 q.1.at) (enumerate_from (first_symbol link.groups f.id) f.file.symbols) own.0 a own.2 in
+      own_plain link.groups at.from.0 at.from.1 at.from.1.at at.inner a at.gives
+]
 kind_plain link f kind.Object k a h = elim (append_at (section_roots link.options.gc f.id 0 f.file.sections) (export_roots link f) k a h) [
   | inl own ↦
       let x = map_at ask_for (filter (λ (x : Input). is_root link.options.gc x.section.slot) (inputs_from f.id 0 f.file.sections)) k a own in

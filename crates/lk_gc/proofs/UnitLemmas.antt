@@ -44,8 +44,12 @@ use Rattle.lk_gc.specs.Marks.{IsInside, IsUnit, all_units, symbols_in_all, unit_
 use Rattle.lk_gc.specs.Exports.{is_exported, is_own_definition, list_for, mode_of}
 use Rattle.lk_gc.specs.declared.exports.ExportSymbolsMode.{ExportSymbolsMode}
 use Rattle.lk_gc.specs.declared.exports.ExportSymbolsMode.TheVariants as mode
-use Rattle.lk_gc.specs.Placements.{section_of}
-use Rattle.lk_gc.specs.Units.{ask_for, asked_members, asked_references, asked_definition, comes_along, definition_ask, dynamic_ask, flags_from, export_asks, export_roots, file_roots, group_asks, is_coming, is_other, member_asks, other_asks, follows, is_primary_section, is_root, kind_roots, local_definition, numbered_symbols, range_mark, reference, relocation_asks, roots, section_references, section_roots, symbol_asks, symbols_of, unit_of}
+use Rattle.lk_link.specs.declared.expression.Operand.TheVariants as operand
+use Rattle.lk_link.specs.declared.expression.Token.{Token}
+use Rattle.lk_link.specs.declared.expression.Token.TheVariants as token
+use Rattle.lk_link.specs.Expressions.{postfix}
+use Rattle.lk_gc.specs.Placements.{is_defined, is_undefined_placement, section_of}
+use Rattle.lk_gc.specs.Units.{ask_for, asked_members, asked_references, asked_definition, comes_along, definition_ask, dynamic_ask, entry_asks, own_asks, prelude_symbol_asks, token_ask, token_asks, flags_from, export_asks, export_roots, file_roots, group_asks, is_coming, is_other, member_asks, other_asks, follows, is_primary_section, is_root, kind_roots, local_definition, numbered_symbols, range_mark, reference, relocation_asks, roots, section_references, section_roots, symbol_asks, symbols_of, unit_of}
 use Rattle.lk_link.proofs.Elements.{append_at, append_left, append_right, at_index, filter_at, flat_map_at, map_at, map_in, numbered_at}
 use Rattle.lk_gc.proofs.Numbered.{IsFileAt, IsSectionOf, file_at, file_of_input, one_place, sections_of}
 use Rattle.lk_gc.proofs.Numbered as numbered
@@ -331,6 +335,50 @@ exports_inside link f (Some m) there =
     let within = slice_get_within f.file.symbols k q.1 x.1 in
     reference_inside link.groups q.0 flag.EXPORT_DYNAMIC (omega (arith, x.0, within, symbols_within link.groups f.id f.file there)))
 
+token_symbol_inside : (link : LinkInput) (s : ℕ) (o : Option ℕ) → IsWellFormed link → definition_of link.groups s ≡ o → All (IsInside link.groups) (option_to_list (option_map (λ d. Reference d flag.DIRECT) o))
+token_symbol_inside link s None wf e = All-nil (IsInside link.groups)
+token_symbol_inside link s (Some d) wf e =
+    one_inside link.groups (Reference d flag.DIRECT) (reference_inside link.groups d flag.DIRECT (symbol_there link.groups d d (defined_once link s d wf e)))
+
+token_inside : (link : LinkInput) (t : Token) → IsWellFormed link → All (IsInside link.groups) (option_to_list (token_ask link.groups t))
+token_inside link (token.Operand (operand.Symbol s)) wf = token_symbol_inside link s (definition_of link.groups s) wf refl
+token_inside link (token.Operand (operand.Number n)) wf = All-nil (IsInside link.groups)
+token_inside link (token.Operand operand.Dot) wf = All-nil (IsInside link.groups)
+token_inside link (token.Operand (operand.Address n)) wf = All-nil (IsInside link.groups)
+token_inside link (token.Operand (operand.SizeOf n)) wf = All-nil (IsInside link.groups)
+token_inside link (token.Operand (operand.Origin n)) wf = All-nil (IsInside link.groups)
+token_inside link (token.Operand (operand.Length n)) wf = All-nil (IsInside link.groups)
+token_inside link (token.Operand operand.SizeOfHeaders) wf = All-nil (IsInside link.groups)
+token_inside link (token.Operator o) wf = All-nil (IsInside link.groups)
+
+defined_there : (groups : List (List InputFile)) (d : ℕ) (o : Option InputSymbol) → symbol_at groups d ≡ o → option_map_or (λ x. not (is_undefined_placement x.at)) o false ≡ true → d < symbols_in_all groups
+defined_there groups d None e h = absurd (cc)
+defined_there groups d (Some x) e h = omega (arith, slice_get_within (all_symbols groups) d x e, symbols_length groups)
+
+forced_inside : (link : LinkInput) (d : ℕ) (b : Bool) → is_defined link.groups d ≡ b → All (IsInside link.groups) (option_to_list (if b then Some (Reference d flag.DIRECT) else None))
+forced_inside link d true is = one_inside link.groups (Reference d flag.DIRECT) (reference_inside link.groups d flag.DIRECT (defined_there link.groups d (symbol_at link.groups d) refl is))
+forced_inside link d false is = All-nil (IsInside link.groups)
+
+-- what the prelude refers to by a symbol is there
+own_inside : (link : LinkInput) (s : ℕ) (x : InputSymbol) (p : SymbolPlacement) → IsWellFormed link → s < symbols_in_all link.groups → All (IsInside link.groups) (own_asks link.groups s x p)
+own_inside link s x (at.Redirect e l provide) wf lt =
+    either_inside link.groups (unwrap_or x.def s == s) _ []
+    (λ is. All-cons (IsInside link.groups) (Reference s flag.DIRECT) (token_asks link.groups (postfix e)) (reference_inside link.groups s flag.DIRECT lt)
+    (all_joined (IsInside link.groups) (λ t. option_to_list (token_ask link.groups t)) (postfix e) (λ k t at_k. token_inside link t wf)))
+    (λ e. All-nil (IsInside link.groups))
+own_inside link s x at.ForceUndefined wf lt = forced_inside link (unwrap_or x.def s) (is_defined link.groups (unwrap_or x.def s)) refl
+own_inside link s x (at.Section i o) wf lt = All-nil (IsInside link.groups)
+own_inside link s x (at.Common q n) wf lt = All-nil (IsInside link.groups)
+own_inside link s x (at.Absolute n) wf lt = All-nil (IsInside link.groups)
+own_inside link s x at.Undef wf lt = All-nil (IsInside link.groups)
+own_inside link s x at.Dynamic wf lt = All-nil (IsInside link.groups)
+own_inside link s x at.Undefined wf lt = All-nil (IsInside link.groups)
+own_inside link s x (at.SectionStart o) wf lt = All-nil (IsInside link.groups)
+own_inside link s x (at.SectionEnd o) wf lt = All-nil (IsInside link.groups)
+own_inside link s x (at.SectionGroupEnd o) wf lt = All-nil (IsInside link.groups)
+own_inside link s x at.TlsEnd wf lt = All-nil (IsInside link.groups)
+own_inside link s x at.LoadBaseAddress wf lt = All-nil (IsInside link.groups)
+
 definition_inside : (link : LinkInput) (d : ℕ) (q : InputFile × InputSymbol) (k : FileKind) → d < symbols_in_all link.groups → All (IsInside link.groups) (option_to_list (definition_ask link d q k))
 definition_inside link d q kind.Prelude lt = All-nil (IsInside link.groups)
 definition_inside link d q kind.Object lt =
@@ -356,7 +404,13 @@ dynamic_inside link s None = All-nil (IsInside link.groups)
 dynamic_inside link s (Some d) = unless_own_inside link d (d == s)
 
 kind_inside : (link : LinkInput) (f : NumberedFile) (k : FileKind) → IsWellFormed link → file_in link.groups f.id ≡ Some f.file → All (IsInside link.groups) (kind_roots link f k)
-kind_inside link f kind.Prelude wf there = entry_inside link link.options.entry (option_and_then (definition_of link.groups) link.options.entry) wf refl
+kind_inside link f kind.Prelude wf there =
+    All-append (IsInside link.groups) (entry_asks link) (prelude_symbol_asks link f)
+    (entry_inside link link.options.entry (option_and_then (definition_of link.groups) link.options.entry) wf refl)
+    (all_joined (IsInside link.groups) (λ q. own_asks link.groups q.0 q.1 q.1.at) (enumerate_from (first_symbol link.groups f.id) f.file.symbols) (λ k q at.
+    let x = numbered_at (first_symbol link.groups f.id) f.file.symbols k q at in
+    let within = slice_get_within f.file.symbols k q.1 x.1 in
+    own_inside link q.0 q.1 q.1.at wf (omega (arith, x.0, within, symbols_within link.groups f.id f.file there))))
 kind_inside link f kind.Object wf there =
     All-append (IsInside link.groups) (section_roots link.options.gc f.id 0 f.file.sections) (export_roots link f)
     (all_mapped (IsInside link.groups) ask_for (λ x. is_root link.options.gc x.section.slot) (sections_of f)

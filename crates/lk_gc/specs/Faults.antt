@@ -1,5 +1,5 @@
 -- References that can't be met.
-use Rattle.std.specs.Prelude.{ℕ, ◌==◌, ◌&&◌, not, Bool, false, if◌then◌else◌, List, [], ◌∷◌, Option, Some, None, map, slice_get}
+use Rattle.std.specs.Prelude.{ℕ, ◌==◌, ◌&&◌, not, Bool, false, if◌then◌else◌, List, [], ◌∷◌, ◌++◌, Option, Some, None, map, slice_get}
 use Rattle.std.specs.List.{enumerate_from, filter_map, flat_map}
 use Rattle.std.specs.Option.{option_map_or}
 use Rattle.lk_link.specs.declared.file.InputFile.{InputFile}
@@ -7,13 +7,14 @@ use Rattle.lk_link.specs.declared.link.LinkInput.{LinkInput}
 use Rattle.lk_link.specs.declared.section.InputSection.{InputSection}
 use Rattle.lk_link.specs.declared.relocation.Relocation.{Relocation}
 use Rattle.lk_link.specs.declared.symbol.InputSymbol.{InputSymbol}
+use Rattle.lk_link.specs.FileKinds.{is_dynamic}
 use Rattle.lk_link.specs.Inputs.{NumberedFile, numbered_files}
 use Rattle.lk_link.specs.InputSlots.{is_discarded, is_regular}
 use Rattle.lk_link.specs.Relocations.{resolution_flags}
 use Rattle.lk_link.specs.Marks.{is_marked}
 use Rattle.lk_link.specs.Symbols.{all_symbols, first_symbol}
 use Rattle.lk_gc.specs.declared.error.ReferenceFault.{ReferenceFault}
-use Rattle.lk_gc.specs.declared.error.ReferenceFault.TheVariants.{Discarded, Undefined}
+use Rattle.lk_gc.specs.declared.error.ReferenceFault.TheVariants.{Discarded, Undefined, UndefinedDynamic}
 use Rattle.lk_gc.specs.Marks.{reached_marks, unit_number}
 use Rattle.lk_gc.specs.Placements.{is_undefined_placement}
 use Rattle.lk_gc.specs.declared.units.Unit.TheVariants.{Sec}
@@ -58,9 +59,31 @@ section_faults link f q =
 abbrev pub marked_faults : LinkInput → List Bool → NumberedFile → ℕ × InputSection → List ReferenceFault
 marked_faults link marks f q = if is_marked marks (unit_number link.groups (Sec f.id q.0)) then section_faults link f q else []
 
--- the same in a file, and in all files
+-- what is at fault in the sections of a file
+abbrev pub held_faults : LinkInput → List Bool → NumberedFile → List ReferenceFault
+held_faults link marks f = flat_map (marked_faults link marks f) (enumerate_from 0 f.file.sections)
+
+-- a symbol of a dynamic file, by its index there, that is undefined and may not stay so
+abbrev pub dynamic_fault : List Bool → ℕ → NumberedFile → ℕ × InputSymbol → Option ReferenceFault
+dynamic_fault undefined first f q =
+    if not q.1.weak && is_marked undefined (local_definition first f.file.symbols q.0)
+    then Some (UndefinedDynamic (local_definition first f.file.symbols q.0) f.id)
+    else None
+
+-- whether the symbols of a file are looked at: of a dynamic file that says so, where undefined ones are refused
+abbrev pub is_looked_at : LinkInput → InputFile → Bool
+is_looked_at link f = is_dynamic f.kind && f.check && link.options.error_dynamics
+
+-- what is at fault in the symbols of a dynamic file
+abbrev pub dynamic_faults : LinkInput → NumberedFile → List ReferenceFault
+dynamic_faults link f =
+    if is_looked_at link f.file
+    then filter_map (dynamic_fault (undefined_symbols link.groups) (first_symbol link.groups f.id) f) (enumerate_from 0 f.file.symbols)
+    else []
+
+-- what is at fault in a file, and in all files
 abbrev pub file_faults : LinkInput → List Bool → NumberedFile → List ReferenceFault
-file_faults link marks f = flat_map (marked_faults link marks f) (enumerate_from 0 f.file.sections)
+file_faults link marks f = held_faults link marks f ++ dynamic_faults link f
 
 abbrev pub faults_by : LinkInput → List Bool → List ReferenceFault
 faults_by link marks = flat_map (file_faults link marks) (numbered_files link.groups)

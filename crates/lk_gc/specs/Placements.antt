@@ -1,10 +1,12 @@
 -- Where symbols are placed.
-use Rattle.std.specs.Prelude.{ℕ, Bool, true, false, List, Option, Some, None, slice_get}
+use Rattle.std.specs.Prelude.{ℕ, Bool, true, false, not, List, Option, Some, None, slice_get}
 use Rattle.std.specs.Option.{option_map_or}
+use Rattle.lk_link.specs.declared.file.InputFile.{InputFile}
 use Rattle.lk_link.specs.declared.section.InputSection.{InputSection}
 use Rattle.lk_link.specs.declared.symbol.SymbolPlacement.{SymbolPlacement}
 use Rattle.lk_link.specs.declared.symbol.SymbolPlacement.TheVariants as at
 use Rattle.lk_link.specs.InputSlots.{is_discarded}
+use Rattle.lk_link.specs.Symbols.{symbol_at}
 
 -- whether a placement leaves its symbol undefined
 abbrev pub is_undefined_placement : SymbolPlacement → Bool
@@ -17,6 +19,10 @@ is_undefined_placement _ = false
 abbrev pub section_of : SymbolPlacement → Option ℕ
 section_of (at.Section index offset) = Some index
 section_of _ = None
+
+-- whether the symbol with this number is there and defined
+abbrev pub is_defined : List (List InputFile) → ℕ → Bool
+is_defined groups d = option_map_or (λ x. not (is_undefined_placement x.at)) (symbol_at groups d) false
 
 -- whether it is in a section that is discarded, of a file with these sections
 abbrev pub is_in_discarded : List InputSection → SymbolPlacement → Bool

@@ -1,5 +1,5 @@
 -- What can be kept, and what asks for it.
-use Rattle.std.specs.Prelude.{◌≡◌, ℕ, ◌+◌, ◌==◌, ◌&&◌, not, Bool, true, false, if◌then◌else◌, List, [], ◌++◌, Option, Some, None, Contains, map, filter, option_and_then, option_map, slice_get, unwrap_or}
+use Rattle.std.specs.Prelude.{◌≡◌, ℕ, ◌+◌, ◌==◌, ◌&&◌, not, Bool, true, false, if◌then◌else◌, List, [], ◌∷◌, ◌++◌, Option, Some, None, Contains, map, filter, option_and_then, option_map, slice_get, unwrap_or}
 use Rattle.std.specs.Int.{bit_at}
 use Rattle.std.specs.List.{enumerate_from, flat_map}
 use Rattle.std.specs.Option.{option_map_or, option_to_list}
@@ -16,6 +16,12 @@ use Rattle.lk_link.specs.declared.section.InputSlot.{InputSlot}
 use Rattle.lk_link.specs.declared.section.InputSlot.TheVariants as slot
 use Rattle.lk_link.specs.declared.symbol.InputSymbol.{InputSymbol}
 use Rattle.lk_link.specs.declared.symbol.SymbolPlacement.{SymbolPlacement}
+use Rattle.lk_link.specs.declared.symbol.SymbolPlacement.TheVariants as at
+use Rattle.lk_link.specs.declared.expression.Operand.{Operand}
+use Rattle.lk_link.specs.declared.expression.Operand.TheVariants as operand
+use Rattle.lk_link.specs.declared.expression.Token.{Token}
+use Rattle.lk_link.specs.declared.expression.Token.TheVariants as token
+use Rattle.lk_link.specs.Expressions.{Term, postfix}
 use Rattle.lk_link.specs.FileKinds.{is_object}
 use Rattle.lk_link.specs.Files.{file_in}
 use Rattle.lk_link.specs.Inputs.{Input, NumberedFile, inputs_from, numbered_files}
@@ -26,6 +32,7 @@ use Rattle.lk_link.specs.SectionGroups.{group_members}
 use Rattle.lk_link.specs.Symbols.{definition_of, first_symbol}
 use Rattle.lk_gc.specs.declared.exports.ExportSymbolsMode.TheVariants as mode
 use Rattle.lk_gc.specs.Exports.{is_exported, is_own_definition, list_for, mode_of}
+use Rattle.lk_gc.specs.Placements.{is_defined}
 pub use Rattle.lk_gc.specs.Placements.{section_of}
 use Rattle.lk_gc.specs.declared.units.Ask.{Ask}
 use Rattle.lk_gc.specs.declared.units.Ask.TheVariants.{Reference, Section, Mark}
@@ -177,6 +184,44 @@ abbrev pub entry_asks : LinkInput → List Ask
 entry_asks link =
     option_to_list (option_map (λ s. Reference s flag.DIRECT) (option_and_then (definition_of link.groups) link.options.entry))
 
+-- what a piece of an expression refers to: what stands for its symbol, directly
+abbrev pub operand_ask : List (List InputFile) → Operand → Option Ask
+operand_ask groups (operand.Symbol s) = option_map (λ d. Reference d flag.DIRECT) (definition_of groups s)
+operand_ask groups _ = None
+
+abbrev pub token_ask : List (List InputFile) → Token → Option Ask
+token_ask groups (token.Operand o) = operand_ask groups o
+token_ask groups (token.Operator o) = None
+
+abbrev pub token_asks : List (List InputFile) → List Token → List Ask
+token_asks groups tokens = flat_map (λ t. option_to_list (token_ask groups t)) tokens
+
+-- what a redirect that stands for itself, with its number, refers to: itself, then the symbols of its expression, from left to right
+abbrev pub redirect_asks : List (List InputFile) → ℕ → InputSymbol → Term → List Ask
+redirect_asks groups s x e =
+    if unwrap_or x.def s == s then Reference s flag.DIRECT ∷ token_asks groups (postfix e) else []
+
+-- what a symbol that is wanted all the same refers to: what stands for it, if that is defined
+abbrev pub forced_ask : List (List InputFile) → ℕ → Option Ask
+forced_ask groups d = if is_defined groups d then Some (Reference d flag.DIRECT) else None
+
+-- what the prelude refers to by a symbol of its own, with its number and its placement
+abbrev pub own_asks : List (List InputFile) → ℕ → InputSymbol → SymbolPlacement → List Ask
+own_asks groups s x (at.Redirect e l provide) = redirect_asks groups s x e
+own_asks groups s x at.ForceUndefined = option_to_list (forced_ask groups (unwrap_or x.def s))
+own_asks groups s x _ = []
+
+-- the same for all symbols, the first of those given with this number
+abbrev pub prelude_asks : List (List InputFile) → ℕ → List InputSymbol → List Ask
+prelude_asks groups first symbols = flat_map (λ q. own_asks groups q.0 q.1 q.1.at) (enumerate_from first symbols)
+
+abbrev pub prelude_symbol_asks : LinkInput → NumberedFile → List Ask
+prelude_symbol_asks link f = prelude_asks link.groups (first_symbol link.groups f.id) f.file.symbols
+
+-- what the prelude asks for: the entry, then by its symbols
+abbrev pub prelude_roots : LinkInput → NumberedFile → List Ask
+prelude_roots link f = entry_asks link ++ prelude_symbol_asks link f
+
 -- the sections that an object asks for
 abbrev pub section_roots : Bool → FileId → ℕ → List InputSection → List Ask
 section_roots gc id i sections = map ask_for (filter (λ x. is_root gc x.section.slot) (inputs_from id i sections))
@@ -219,7 +264,7 @@ dynamic_roots link f = dynamic_asks link (first_symbol link.groups f.id) f.file.
 
 -- what a file of a kind asks for by itself (libwild: `activate`)
 abbrev pub kind_roots : LinkInput → NumberedFile → FileKind → List Ask
-kind_roots link f kind.Prelude = entry_asks link
+kind_roots link f kind.Prelude = prelude_roots link f
 kind_roots link f kind.Object = section_roots link.options.gc f.id 0 f.file.sections ++ export_roots link f
 kind_roots link f kind.Dynamic = dynamic_roots link f
 kind_roots link f _ = []

@@ -8,12 +8,12 @@ ghost use Rattle.lk_gc.specs.Units.{comes_along, is_other, is_root, local_defini
 ghost use Rattle.lk_gc.specs.declared.units.Ask.{Ask};
 
 use crate::exports::is_exported;
-use crate::reaching::dynamic_ask;
+use crate::reaching::{dynamic_ask, own_asks, token_ask};
 use crate::units::Ask;
 use lk_link::relocation::resolution_flags;
 use lk_link::{
-    FileId, InputSection, InputSlot, InputSymbol, LinkInput, Names, Relocation, SymbolId,
-    ValueFlags,
+    FileId, InputGroups, InputSection, InputSlot, InputSymbol, LinkInput, Names, Relocation,
+    SymbolId, Token, ValueFlags,
 };
 use std::marker::Model;
 
@@ -267,6 +267,107 @@ impl<'a> Iterator for DynamicRoots<'a> {
     }
 }
 
+/// What is left of what an expression refers to, behind an ask of its own. Contracts see the list of the asks.
+#[derive(Drop)]
+pub(crate) struct ExpressionAsks<'a> {
+    /// The ask before the expression's, where it is still to come.
+    pub(crate) first: Option<Ask>,
+    pub(crate) groups: &'a InputGroups,
+    /// The pieces of the expression that are left.
+    pub(crate) tokens: &'a [Token],
+}
+
+impl<'a> Model for ExpressionAsks<'a> {
+    ghost use Rattle.std.specs.Prelude.{◌++◌, List};
+    ghost use Rattle.std.specs.Option.{option_to_list};
+    ghost use Rattle.std.specs.Coded.{codes};
+    ghost use Rattle.lk_link.specs.contracts.expression.Expression as expression;
+    ghost use Rattle.lk_gc.specs.declared.units.Ask.{Ask};
+
+    ghost Value = { List Ask };
+
+    ghost coded = { Prim.hlevel (codes, expression.the_row.coded) };
+
+    ghost use Rattle.lk_gc.specs.Units.{token_asks};
+
+    ghost view = { λ a. option_to_list a.first ++ token_asks a.groups.now a.tokens.now };
+}
+
+impl<'a> Iterator for ExpressionAsks<'a> {
+    type Item = Ask;
+
+    ghost next_gives = { YieldsFirst (λ left. left) };
+
+    ghost remaining = { item_count (λ left. left) };
+
+    fn next(&mut self) -> Option<Ask> {
+        if let Some(ask) = self.first.take() {
+            return Some(ask);
+        }
+        while let Some((token, tokens)) = self.tokens.split_first() {
+            self.tokens = tokens;
+            let ask = token_ask(self.groups, *token);
+            if ask.is_some() {
+                return ask;
+            }
+        }
+        None
+    }
+}
+
+/// What is left of what the prelude asks for by its symbols. Contracts see the list of the asks.
+#[derive(Drop)]
+pub(crate) struct PreludeRoots<'a> {
+    /// What is left of the symbol before.
+    pub(crate) own: ExpressionAsks<'a>,
+    pub(crate) groups: &'a InputGroups,
+    /// The number of the first symbol that is left.
+    pub(crate) number: u32,
+    /// The symbols that are left.
+    pub(crate) symbols: &'a [InputSymbol],
+}
+
+impl<'a> Model for PreludeRoots<'a> {
+    ghost use Rattle.std.specs.Prelude.{◌++◌, ◌+◌, ◌<◌, ◌^◌, List, length};
+    ghost use Rattle.std.specs.Coded.{codes};
+    ghost use Rattle.lk_link.specs.contracts.expression.Expression as expression;
+    ghost use Rattle.lk_gc.specs.declared.units.Ask.{Ask};
+
+    ghost Value = { List Ask };
+
+    ghost coded = { Prim.hlevel (codes, expression.the_row.coded) };
+
+    ghost use Rattle.lk_gc.specs.Units.{prelude_asks};
+
+    ghost view = { λ a. a.own ++ prelude_asks a.groups.now a.number a.symbols.now };
+
+    ghost invariant = { λ a. a.number + length a.symbols.now < 2 ^ 32 };
+}
+
+impl<'a> Iterator for PreludeRoots<'a> {
+    type Item = Ask;
+
+    ghost next_gives = { YieldsFirst (λ left. left) };
+
+    ghost remaining = { item_count (λ left. left) };
+
+    fn next(&mut self) -> Option<Ask> {
+        if let Some(ask) = self.own.next() {
+            return Some(ask);
+        }
+        while let Some((symbol, symbols)) = self.symbols.split_first() {
+            let number = SymbolId::from_u32(self.number);
+            self.number += 1;
+            self.symbols = symbols;
+            self.own = own_asks(self.groups, number, symbol);
+            if let Some(ask) = self.own.next() {
+                return Some(ask);
+            }
+        }
+        None
+    }
+}
+
 /// What is left of what a unit or a file asks for, in order. Contracts see the list of the asks.
 #[derive(Drop)]
 pub struct Successors<'a> {
@@ -277,6 +378,7 @@ pub struct Successors<'a> {
     sections: SectionRoots<'a>,
     exports: ExportRoots<'a>,
     dynamics: Option<DynamicRoots<'a>>,
+    prelude: Option<PreludeRoots<'a>>,
 }
 
 impl<'a> Model for Successors<'a> {
@@ -290,7 +392,8 @@ impl<'a> Model for Successors<'a> {
 
     ghost coded = { Prim.hlevel (codes, expression.the_row.coded) };
 
-    ghost view = { λ a. option_to_list a.first ++ (a.members ++ (a.relocations ++ (a.sections ++ (a.exports ++ option_map_or (λ (asks : List Ask). asks) a.dynamics [])))) };
+    ghost view = { λ a. option_to_list a.first ++ (a.members ++ (a.relocations ++ (a.sections ++ (a.exports
+        ++ (option_map_or (λ (asks : List Ask). asks) a.dynamics [] ++ option_map_or (λ (asks : List Ask). asks) a.prelude []))))) };
 }
 
 impl<'a> Iterator for Successors<'a> {
@@ -316,10 +419,30 @@ impl<'a> Iterator for Successors<'a> {
         if let Some(ask) = self.exports.next() {
             return Some(ask);
         }
-        match &mut self.dynamics {
-            Some(dynamics) => dynamics.next(),
-            None => None,
+        if let Some(ask) = next_of_dynamic(&mut self.dynamics) {
+            return Some(ask);
         }
+        next_of_prelude(&mut self.prelude)
+    }
+}
+
+/// The next ask of a dynamic file, if one is left.
+fn next_of_dynamic(dynamics: &mut Option<DynamicRoots<'_>>) -> Option<Ask>
+    ensures { YieldsFirst (λ left. option_map_or (λ (asks : List Ask). asks) left []) dynamics.old result dynamics.new }
+{
+    match dynamics {
+        Some(dynamics) => dynamics.next(),
+        None => None,
+    }
+}
+
+/// The next ask of the prelude's symbols, if one is left.
+fn next_of_prelude(prelude: &mut Option<PreludeRoots<'_>>) -> Option<Ask>
+    ensures { YieldsFirst (λ left. option_map_or (λ (asks : List Ask). asks) left []) prelude.old result prelude.new }
+{
+    match prelude {
+        Some(prelude) => prelude.next(),
+        None => None,
     }
 }
 
@@ -392,6 +515,7 @@ impl<'a> Successors<'a> {
             sections: SectionRoots::none(),
             exports: ExportRoots::none(),
             dynamics: None,
+            prelude: None,
         }
     }
 
@@ -409,6 +533,25 @@ impl<'a> Successors<'a> {
             sections: SectionRoots::none(),
             exports: ExportRoots::none(),
             dynamics: None,
+            prelude: None,
+        }
+    }
+
+    /// The entry, then the asks of the prelude's symbols.
+    pub(crate) fn from_prelude(
+        entry: Option<Ask>,
+        prelude: Option<PreludeRoots<'a>>,
+    ) -> Successors<'a>
+        ensures { result ≡ option_to_list entry ++ option_map_or (λ (asks : List Ask). asks) prelude.entry [] }
+    {
+        Successors {
+            first: entry,
+            members: MemberAsks::none(),
+            relocations: RelocationAsks::none(),
+            sections: SectionRoots::none(),
+            exports: ExportRoots::none(),
+            dynamics: None,
+            prelude,
         }
     }
 
@@ -423,6 +566,7 @@ impl<'a> Successors<'a> {
             sections: SectionRoots::none(),
             exports: ExportRoots::none(),
             dynamics: Some(dynamics),
+            prelude: None,
         }
     }
 
@@ -440,6 +584,7 @@ impl<'a> Successors<'a> {
             sections,
             exports: exports.unwrap_or(ExportRoots::none()),
             dynamics: None,
+            prelude: None,
         }
     }
 }

@@ -12,6 +12,8 @@ pub enum ReferenceFault {
     /// A relocation needs a symbol that is defined nowhere: the symbol that stands for its own, the relocation's file, the
     /// section's index there, and the relocation's index in the section.
     Undefined(SymbolId, FileId, u32, u32),
+    /// A symbol of a dynamic file is defined nowhere: the symbol that stands for it, and the file.
+    UndefinedDynamic(SymbolId, FileId),
 }
 
 /// An input section, by its file and its index there.
@@ -35,7 +37,8 @@ impl fmt::Display for InputAt {
     }
 }
 
-/// As `discarded: 1 0 2` or `undefined: symbol 5 from 1 0 2 relocation 0`, with file and section as three numbers.
+/// As `discarded: 1 0 2`, `undefined: symbol 5 from 1 0 2 relocation 0` or `undefined: symbol 5 from 1 0`, with file and section as
+/// three numbers, and a file as two.
 impl fmt::Display for ReferenceFault {
     ghost use Rattle.std.specs.Prelude.{Some};
     ghost use Rattle.lk_gc.specs.Texts.{reference_text};
@@ -47,6 +50,11 @@ impl fmt::Display for ReferenceFault {
             ReferenceFault::Discarded(file, section) => {
                 let input = InputAt { file, section };
                 write!(f, "discarded: {input}")
+            }
+            ReferenceFault::UndefinedDynamic(symbol, file) => {
+                let symbol = symbol.as_u32();
+                let FileId { group, file } = file;
+                write!(f, "undefined: symbol {symbol} from {group} {file}")
             }
             ReferenceFault::Undefined(symbol, file, section, relocation) => {
                 let symbol = symbol.as_u32();

@@ -9,14 +9,16 @@ ghost use Rattle.lk_link.specs.Walks.{file_of};
 ghost use Rattle.lk_link.specs.WellFormed.{IsWellFormed};
 ghost use Rattle.lk_link.specs.declared.relocation.Relocation.{Relocation};
 ghost use Rattle.lk_gc.specs.Placements.{is_undefined_placement};
-ghost use Rattle.lk_gc.specs.Faults.{faults_by, file_faults, is_weak, relocation_fault, section_faults, undefined_placements, undefined_symbols};
+ghost use Rattle.lk_gc.specs.Faults.{dynamic_fault, dynamic_faults, faults_by, file_faults, held_faults, is_looked_at, is_weak, relocation_fault, section_faults, undefined_placements, undefined_symbols};
 
 use crate::asks::local_definition;
 use crate::error::ReferenceFault;
 use crate::walk::section_number;
 use lk_link::marks::is_marked;
 use lk_link::relocation::resolution_flags;
-use lk_link::{FileRef, InputSection, InputSymbol, LinkInput, Relocation, SymbolPlacement};
+use lk_link::{
+    FileRef, InputFile, InputSection, InputSymbol, LinkInput, Relocation, SymbolPlacement,
+};
 use std::alloc::{AllocError, Global};
 
 /// All references at fault, by file, section and relocation. `marks` tells of each unit whether it is reached.
@@ -68,7 +70,7 @@ pub(crate) fn is_undefined(at: &SymbolPlacement) -> bool
     )
 }
 
-/// Adds what is at fault in a file.
+/// Adds what is at fault in a file: in its sections, then in its symbols where it is a dynamic one.
 fn push_file_faults(
     faults: &mut Vec<ReferenceFault>,
     link: &LinkInput,
@@ -80,6 +82,91 @@ fn push_file_faults(
     requires table { undefined.now ≡ undefined_symbols link.now.groups }
     requires there { file_in link.now.groups file.id ≡ Some file.file.now }
     ensures { OnOk result (faults.new.items ≡ faults.old.items ++ file_faults link.now marks.now (file_of file.entry)) }
+{
+    push_held_faults(faults, link, marks, undefined, file)?;
+    push_dynamic_faults(faults, link, undefined, file)?;
+    Ok(())
+}
+
+/// Adds what is at fault in the symbols of a dynamic file.
+fn push_dynamic_faults(
+    faults: &mut Vec<ReferenceFault>,
+    link: &LinkInput,
+    undefined: &[bool],
+    file: FileRef<'_>,
+) -> Result<(), AllocError>
+    requires well_formed { IsWellFormed link.now }
+    requires table { undefined.now ≡ undefined_symbols link.now.groups }
+    requires there { file_in link.now.groups file.id ≡ Some file.file.now }
+    ensures { OnOk result (faults.new.items ≡ faults.old.items ++ dynamic_faults link.now (file_of file.entry)) }
+{
+    if is_looked_at(link, file.file) {
+        if let Some(symbols) = link.groups.symbol_id_range(file.id) {
+            let first = symbols.start().as_u32();
+            push_symbol_faults(faults, undefined, first, file, file.file.symbols.as_slice())?;
+        }
+    }
+    Ok(())
+}
+
+/// Whether the symbols of a file are looked at: of a dynamic file that says so, where undefined ones are refused.
+fn is_looked_at(link: &LinkInput, file: &InputFile) -> bool
+    ensures { result ≡ is_looked_at link.now file.now }
+{
+    file.kind.is_dynamic() && file.check && link.options.error_dynamics
+}
+
+/// Adds those of a dynamic file's symbols that are undefined and may not stay so. `first` is the number of the first.
+fn push_symbol_faults(
+    faults: &mut Vec<ReferenceFault>,
+    undefined: &[bool],
+    first: u32,
+    file: FileRef<'_>,
+    symbols: &[InputSymbol],
+) -> Result<(), AllocError>
+    requires { first + length symbols.now < 2 ^ 32 }
+    ensures { OnOk result
+        (faults.new.items
+        ≡ faults.old.items ++ filter_map (dynamic_fault undefined.now first (file_of file.entry)) (enumerate_from 0 symbols.now)) }
+{
+    for (number, symbol) in symbols.iter().enumerate() {
+        let fault = dynamic_fault(undefined, first, file, number as u32, symbol);
+        push_fault(faults, fault)?;
+    }
+    Ok(())
+}
+
+/// The fault of a symbol of a dynamic file, by its index there, if it is undefined and may not stay so.
+fn dynamic_fault(
+    undefined: &[bool],
+    first: u32,
+    file: FileRef<'_>,
+    number: u32,
+    symbol: &InputSymbol,
+) -> Option<ReferenceFault>
+    requires { first + number < 2 ^ 32 }
+    ensures { result ≡ dynamic_fault undefined.now first (file_of file.entry) (number, symbol.now) }
+{
+    let definition = local_definition(first, file.file.symbols.as_slice(), number);
+    if !symbol.weak && is_marked(undefined, definition.as_usize()) {
+        Some(ReferenceFault::UndefinedDynamic(definition, file.id))
+    } else {
+        None
+    }
+}
+
+/// Adds what is at fault in the sections of a file.
+fn push_held_faults(
+    faults: &mut Vec<ReferenceFault>,
+    link: &LinkInput,
+    marks: &[bool],
+    undefined: &[bool],
+    file: FileRef<'_>,
+) -> Result<(), AllocError>
+    requires well_formed { IsWellFormed link.now }
+    requires table { undefined.now ≡ undefined_symbols link.now.groups }
+    requires there { file_in link.now.groups file.id ≡ Some file.file.now }
+    ensures { OnOk result (faults.new.items ≡ faults.old.items ++ held_faults link.now marks.now (file_of file.entry)) }
 {
     let sections = file.file.sections.as_slice();
     if let Some(start) = section_number(link, file.id, 0) {

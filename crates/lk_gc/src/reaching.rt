@@ -8,16 +8,18 @@ ghost use Rattle.lk_link.specs.Walks.{file_of};
 ghost use Rattle.lk_link.specs.WellFormed.{IsWellFormed};
 ghost use Rattle.lk_gc.specs.declared.units.Ask.{Ask};
 ghost use Rattle.lk_gc.specs.declared.units.Unit.TheVariants.{Sym, Sec};
-ghost use Rattle.lk_gc.specs.Units.{asked_definition, asked_members, asked_references, definition_ask, dynamic_ask, dynamic_roots, entry_asks, export_roots, file_roots, follows, is_primary_section, placement_asks};
+ghost use Rattle.lk_gc.specs.Units.{asked_definition, asked_members, asked_references, definition_ask, dynamic_ask, dynamic_roots, entry_asks, export_roots, forced_ask, operand_ask, own_asks, prelude_symbol_asks, token_ask, file_roots, follows, is_primary_section, placement_asks};
 
 use crate::asks::{
-    DynamicRoots, ExportRoots, MemberAsks, RelocationAsks, SectionRoots, Successors,
+    DynamicRoots, ExportRoots, ExpressionAsks, MemberAsks, PreludeRoots, RelocationAsks,
+    SectionRoots, Successors,
 };
 use crate::exports::{ExportSymbolsMode, is_exported, is_own_definition, list_for, mode_of};
+use crate::faults::is_undefined;
 use crate::units::{Ask, Unit};
 use lk_link::{
-    FileId, FileKind, FileRef, InputFile, InputSection, InputSlot, InputSymbol, LinkInput,
-    SymbolId, SymbolPlacement, ValueFlags,
+    FileId, FileKind, FileRef, InputFile, InputGroups, InputSection, InputSlot, InputSymbol,
+    LinkInput, Operand, SymbolId, SymbolPlacement, Token, ValueFlags,
 };
 
 /// What a unit asks for, in order: a symbol of an object for its section, a section for the other members of its group and for
@@ -131,15 +133,18 @@ pub(crate) fn is_primary_section(link: &LinkInput, section: &InputSection) -> bo
     }
 }
 
-/// What a file of a link asks for by itself: the prelude for the entry, an object for sections and for what it exports, a dynamic
-/// file for definitions in other files. Symbols of the prelude and scripts ask for nothing yet (libwild: `activate`).
+/// What a file of a link asks for by itself: the prelude for the entry, its redirects and what is wanted
+/// all the same, an object for sections and for what it exports, a dynamic
+/// file for definitions in other files. Scripts ask for nothing yet (libwild: `activate`).
 pub fn file_roots<'a>(link: &'a LinkInput, file: FileRef<'a>) -> Successors<'a>
     requires well_formed { IsWellFormed link.now }
     requires there { file_in link.now.groups file.id ≡ Some file.file.now }
     ensures { result ≡ file_roots link.now (file_of file.entry) }
 {
     match file.file.kind {
-        FileKind::Prelude => Successors::from_ask(entry_ask(link)),
+        FileKind::Prelude => {
+            Successors::from_prelude(entry_ask(link), prelude_symbols(link, file))
+        }
         FileKind::Object => Successors::from_object(
             SectionRoots {
                 gc: link.options.gc,
@@ -213,6 +218,92 @@ fn definition_ask(
             Some(Ask::Reference(definition, ValueFlags(0)))
         }
         _ => None,
+    }
+}
+
+/// The symbols of the prelude, by which it asks.
+fn prelude_symbols<'a>(link: &'a LinkInput, file: FileRef<'a>) -> Option<PreludeRoots<'a>>
+    requires well_formed { IsWellFormed link.now }
+    requires there { file_in link.now.groups file.id ≡ Some file.file.now }
+    ensures { option_map_or (λ (asks : List Ask). asks) result [] ≡ prelude_symbol_asks link.now (file_of file.entry) }
+{
+    let symbols = link.groups.symbol_id_range(file.id)?;
+    Some(PreludeRoots {
+        own: ExpressionAsks {
+            first: None,
+            groups: &link.groups,
+            tokens: &[],
+        },
+        groups: &link.groups,
+        number: symbols.start().as_u32(),
+        symbols: file.file.symbols.as_slice(),
+    })
+}
+
+/// What the prelude refers to by a symbol of its own, with its number.
+pub(crate) fn own_asks<'a>(
+    groups: &'a InputGroups,
+    number: SymbolId,
+    symbol: &'a InputSymbol,
+) -> ExpressionAsks<'a>
+    ensures { result ≡ own_asks groups.now number symbol.now symbol.now.at }
+{
+    let definition = symbol.def.unwrap_or(number);
+    let mut first = None;
+    let mut tokens: &[Token] = &[];
+    match &symbol.at {
+        SymbolPlacement::Redirect { expression, .. } if definition.as_u32() == number.as_u32() => {
+            first = Some(Ask::Reference(number, ValueFlags::DIRECT));
+            tokens = expression.tokens();
+        }
+        SymbolPlacement::ForceUndefined => first = forced_ask(groups, definition),
+        _ => {}
+    }
+    ExpressionAsks {
+        first,
+        groups,
+        tokens,
+    }
+}
+
+/// What a symbol that is wanted all the same refers to: what stands for it, if that is defined.
+fn forced_ask(groups: &InputGroups, definition: SymbolId) -> Option<Ask>
+    ensures { result ≡ forced_ask groups.now definition }
+{
+    match groups.symbol(definition) {
+        Some(symbol) if !is_undefined(&symbol.at) => {
+            Some(Ask::Reference(definition, ValueFlags::DIRECT))
+        }
+        _ => None,
+    }
+}
+
+/// What a piece of an expression refers to: what stands for its symbol, directly.
+pub(crate) fn token_ask(groups: &InputGroups, token: Token) -> Option<Ask>
+    ensures { result ≡ token_ask groups.now token }
+{
+    match token {
+        Token::Operand(operand) => operand_ask(groups, operand),
+        Token::Operator(_) => None,
+    }
+}
+
+/// The same for an operand.
+fn operand_ask(groups: &InputGroups, operand: Operand) -> Option<Ask>
+    ensures { result ≡ operand_ask groups.now operand }
+{
+    match operand {
+        Operand::Symbol(symbol) => {
+            let definition = groups.definition(symbol)?;
+            Some(Ask::Reference(definition, ValueFlags::DIRECT))
+        }
+        Operand::Number(_)
+        | Operand::Dot
+        | Operand::Address(_)
+        | Operand::SizeOf(_)
+        | Operand::Origin(_)
+        | Operand::Length(_)
+        | Operand::SizeOfHeaders => None,
     }
 }
 

@@ -12,7 +12,7 @@ use crate::walk::Walk;
 use lk_link::{LinkInput, List};
 use std::alloc::Global;
 
-/// What is live of a link, by what `file_roots` and `successors` tell, where no reference of an object is at fault; else all that are, by file, section and relocation; unless memory
+/// What is live of a link, by what `file_roots` and `successors` tell, where no reference is at fault; else all that are, by file, section and relocation; unless memory
 /// runs out. Looks once at each unit that is reached and at each of its relocations, and takes a mark for each unit and a word
 /// for each symbol (libwild: `traverse_reference_graph`).
 pub fn traverse_alone(alloc: Global, link: &LinkInput) -> Result<Live, GcError>

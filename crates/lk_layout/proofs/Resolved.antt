@@ -29,7 +29,7 @@ use Rattle.lk_link.specs.Marks.{is_marked}
 use Rattle.lk_link.specs.Relocations.{resolution_flags}
 use Rattle.lk_link.specs.Symbols.{IsSymbolIn, all_files, all_symbols, file_number, first_symbol, symbol_at, symbols_in}
 use Rattle.lk_link.specs.WellFormed.{IsWellFormed}
-use Rattle.lk_link.proofs.Elements.{append_at, at_contained, contains_at, flat_map_at, flat_map_in, map_at}
+use Rattle.lk_link.proofs.Elements.{append_left, append_at, at_contained, contains_at, flat_map_at, flat_map_in, map_at}
 use Rattle.lk_link.proofs.GoodSymbols.{numbered_symbol}
 use Rattle.lk_link.proofs.InputLemmas.{file_stands, inputs_follow, numbered_get}
 use Rattle.lk_link.proofs.SymbolLemmas.{files_have_numbers, symbols_follow}
@@ -39,7 +39,7 @@ use Rattle.lk_gc.specs.declared.units.Ask.{Ask}
 use Rattle.lk_gc.specs.declared.units.Ask.TheVariants.{Section}
 use Rattle.lk_gc.specs.declared.units.Unit.{Unit as LinkUnit}
 use Rattle.lk_gc.specs.declared.units.Unit.TheVariants.{Sym, Sec}
-use Rattle.lk_gc.specs.Faults.{file_faults, marked_faults, reference_faults, relocation_faults, section_faults}
+use Rattle.lk_gc.specs.Faults.{dynamic_faults, file_faults, held_faults, marked_faults, reference_faults, relocation_faults, section_faults}
 use Rattle.lk_gc.specs.Marks.{reached_marks, unit_number}
 use Rattle.lk_gc.specs.Reach.{IsLive, IsReached}
 use Rattle.lk_gc.specs.Units.{flags_from, follows, section_of}
@@ -132,7 +132,8 @@ discarded_fault link id file i section wf there at_i reached discarded =
     let zero_more : 0 + i ≡ i = omega arith in
     let numbered : slice_get (enumerate_from 0 file.sections) i ≡ Some q = numbered_get 0 file.sections i section at_i ∙ ap shown zero_more in
     let of_file = flat_map_in (marked_faults link marks f) (enumerate_from 0 file.sections) i 0 q (Discarded id i) numbered here in
-    flat_map_in (file_faults link marks) (numbered_files link.groups) (file_number link.groups id) of_file.0 f (Discarded id i) (file_stands link.groups id file there) of_file.1
+    let of_whole = append_left (held_faults link marks f) (dynamic_faults link f) of_file.0 (Discarded id i) of_file.1 in
+    flat_map_in (file_faults link marks) (numbered_files link.groups) (file_number link.groups id) of_file.0 f (Discarded id i) (file_stands link.groups id file there) of_whole
 
 no_faults : (faults : List ReferenceFault) (n : ℕ) (fault : ReferenceFault) → faults ≡ [] → slice_get faults n ≡ Some fault → ⊥
 no_faults [] n fault is h = absurd (cc)

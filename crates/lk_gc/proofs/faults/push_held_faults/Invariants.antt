@@ -2,7 +2,7 @@ use Rattle.std.proofs.Common.{◌≡◌, ◌++◌, take}
 use Rattle.std.specs.List.{enumerate_from, flat_map}
 use Rattle.lk_link.specs.Walks.{file_of}
 use Rattle.lk_gc.specs.Faults.{marked_faults}
-use Rattle.lk_gc.proofs.faults.push_file_faults.Given as goal
+use Rattle.lk_gc.proofs.faults.push_held_faults.Given as goal
 
 -- the faults of the sections so far are added
 abbrev pub invariant-loop-index : goal.invariant-loop-index

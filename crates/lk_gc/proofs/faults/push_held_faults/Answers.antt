@@ -10,8 +10,8 @@ use Rattle.lk_gc.specs.Faults.{marked_faults}
 use Rattle.lk_gc.specs.Marks.{unit_number}
 use Rattle.lk_gc.proofs.FaultLemmas.{faults_if_marked, section_next}
 use Rattle.lk_gc.proofs.SymbolNumbers.{first_within, inputs_few, sections_few, symbols_few}
-use Rattle.lk_gc.proofs.faults.push_file_faults.Goals as goal
-use Rattle.lk_gc.proofs.faults.push_file_faults.Goals.{then-is_marked+in_ok-push_section_faults, else-is_marked}
+use Rattle.lk_gc.proofs.faults.push_held_faults.Goals as goal
+use Rattle.lk_gc.proofs.faults.push_held_faults.Goals.{then-is_marked+in_ok-push_section_faults, else-is_marked}
 
 pub overflow_add-start : goal.overflow_add-start
 overflow_add-start c =
