@@ -1,4 +1,4 @@
-use Rattle.std.proofs.Common.{◌++◌, refl, ap, ◌∙◌}
+use Rattle.std.proofs.Common.{◌++◌, ap, ◌∙◌}
 use Rattle.std.specs.Option.{option_to_list}
 use Rattle.lk_link.specs.Walks.{file_of}
 use Rattle.lk_gc.specs.Faults.{dynamic_fault}
