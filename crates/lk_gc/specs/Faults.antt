@@ -1,5 +1,5 @@
 -- References that can't be met.
-use Rattle.std.specs.Prelude.{ℕ, ◌==◌, ◌&&◌, not, Bool, false, if◌then◌else◌, List, [], ◌∷◌, ◌++◌, Option, Some, None, map, slice_get}
+use Rattle.std.specs.Prelude.{ℕ, ◌+◌, ◌==◌, ◌&&◌, not, Bool, false, if◌then◌else◌, List, [], ◌∷◌, ◌++◌, Option, Some, None, map, slice_get}
 use Rattle.std.specs.List.{enumerate_from, filter_map, flat_map}
 use Rattle.std.specs.Option.{option_map_or}
 use Rattle.lk_link.specs.declared.file.InputFile.{InputFile}
@@ -63,11 +63,11 @@ marked_faults link marks f q = if is_marked marks (unit_number link.groups (Sec 
 abbrev pub held_faults : LinkInput → List Bool → NumberedFile → List ReferenceFault
 held_faults link marks f = flat_map (marked_faults link marks f) (enumerate_from 0 f.file.sections)
 
--- a symbol of a dynamic file, by its index there, that is undefined and may not stay so
+-- a symbol of a dynamic file, by its index there, that is undefined and may not stay so: it is told by its own number
 abbrev pub dynamic_fault : List Bool → ℕ → NumberedFile → ℕ × InputSymbol → Option ReferenceFault
 dynamic_fault undefined first f q =
     if not q.1.weak && is_marked undefined (local_definition first f.file.symbols q.0)
-    then Some (UndefinedDynamic (local_definition first f.file.symbols q.0) f.id)
+    then Some (UndefinedDynamic (first + q.0) f.id)
     else None
 
 -- whether the symbols of a file are looked at: of a dynamic file that says so, where undefined ones are refused

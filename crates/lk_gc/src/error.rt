@@ -12,7 +12,7 @@ pub enum ReferenceFault {
     /// A relocation needs a symbol that is defined nowhere: the symbol that stands for its own, the relocation's file, the
     /// section's index there, and the relocation's index in the section.
     Undefined(SymbolId, FileId, u32, u32),
-    /// A symbol of a dynamic file is defined nowhere: the symbol that stands for it, and the file.
+    /// A symbol of a dynamic file is defined nowhere: the symbol itself, and the file.
     UndefinedDynamic(SymbolId, FileId),
 }
 

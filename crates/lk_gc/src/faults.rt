@@ -17,7 +17,7 @@ use crate::walk::section_number;
 use lk_link::marks::is_marked;
 use lk_link::relocation::resolution_flags;
 use lk_link::{
-    FileRef, InputFile, InputSection, InputSymbol, LinkInput, Relocation, SymbolPlacement,
+    FileRef, InputFile, InputSection, InputSymbol, LinkInput, Relocation, SymbolId, SymbolPlacement,
 };
 use std::alloc::{AllocError, Global};
 
@@ -149,7 +149,8 @@ fn dynamic_fault(
 {
     let definition = local_definition(first, file.file.symbols.as_slice(), number);
     if !symbol.weak && is_marked(undefined, definition.as_usize()) {
-        Some(ReferenceFault::UndefinedDynamic(definition, file.id))
+        let own = SymbolId::from_u32(first + number);
+        Some(ReferenceFault::UndefinedDynamic(own, file.id))
     } else {
         None
     }
