@@ -1,21 +1,17 @@
 -- Where references are met, a symbol that has a resolution, and stands for a place in a section, stands in a live one.
-use Rattle.std.proofs.Common.{◌≡◌, ℕ, zero, suc, ◌+◌, ◌/◌, ◌%◌, ◌^◌, ◌<◌, ◌≤◌, Bool, true, false, ◌&&◌, if◌then◌else◌, List, [], ◌∷◌, length, Option, Some, None, filter, min, sym, ap, ◌∙◌, subst, inl, inr, arith}
+use Rattle.std.proofs.Common.{◌≡◌, ℕ, zero, suc, ◌+◌, ◌/◌, ◌%◌, ◌<◌, ◌≤◌, Bool, true, false, ◌&&◌, if◌then◌else◌, List, [], ◌∷◌, length, Option, Some, min, sym, ap, ◌∙◌, inl, inr, arith}
 use Rattle.std.specs.Prelude.{◌==◌, bit_and, not, option_map, refl}
 use Rattle.std.specs.Int.{bit_at}
-use Rattle.std.specs.List.{Contains, enumerate_from, flat_map, slice_get}
-use Rattle.std.specs.Option.{option_map_or, option_to_list}
+use Rattle.std.specs.List.{enumerate_from, slice_get}
+use Rattle.std.specs.Option.{option_to_list}
 use Rattle.std.proofs.lemmas.Bool.{and_parts, cases_eq, cases_lt, false_from_ne_true}
 use Rattle.std.proofs.lemmas.List.Sums.{sum_by_more}
-use Rattle.std.proofs.lemmas.Nat.Bits.{bit_at-lt, bit_at-pow_other, bit_at-suc, bit_at_above, bit_at_and, bit_at_lowest, bit_at_mask_above, bit_at_mask_below}
+use Rattle.std.proofs.lemmas.Nat.Bits.{bit_at-lt, bit_at-suc, bit_at_and, bit_at_lowest, bit_at_mask_above, bit_at_mask_below}
 use Rattle.std.proofs.lemmas.Option.{get_or_from_slice_get, slice_get-get_or, slice_get_within}
-use Rattle.lk_link.specs.declared.file.FileKind.{FileKind}
-use Rattle.lk_link.specs.declared.file.FileKind.TheVariants as kind
 use Rattle.lk_link.specs.declared.file.InputFile.{InputFile}
-use Rattle.lk_link.specs.declared.flags.TheConstants.ValueFlags as flag
 use Rattle.lk_link.specs.declared.flags.ValueFlags.{ValueFlags}
 use Rattle.lk_link.specs.declared.ids.FileId.{FileId}
 use Rattle.lk_link.specs.declared.link.LinkInput.{LinkInput}
-use Rattle.lk_link.specs.declared.relocation.Relocation.{Relocation}
 use Rattle.lk_link.specs.declared.section.InputSection.{InputSection}
 use Rattle.lk_link.specs.declared.section.InputSlot.{InputSlot}
 use Rattle.lk_link.specs.declared.section.InputSlot.TheVariants as slot
@@ -23,21 +19,18 @@ use Rattle.lk_link.specs.declared.symbol.InputSymbol.{InputSymbol}
 use Rattle.lk_link.specs.Files.{file_in}
 use Rattle.lk_link.specs.FileKinds.{is_object}
 use Rattle.lk_link.specs.Flags.{has_resolution, resolution}
-use Rattle.lk_link.specs.Inputs.{Input, NumberedFile, all_inputs, input_number, inputs_from, numbered_files}
+use Rattle.lk_link.specs.Inputs.{Input, NumberedFile, all_inputs, input_number, numbered_files}
 use Rattle.lk_link.specs.InputSlots.{can_be_kept, is_discarded, is_merge, is_regular}
 use Rattle.lk_link.specs.Marks.{is_marked}
-use Rattle.lk_link.specs.Relocations.{resolution_flags}
 use Rattle.lk_link.specs.Symbols.{IsSymbolIn, all_files, all_symbols, file_number, first_symbol, symbol_at, symbols_in}
 use Rattle.lk_link.specs.WellFormed.{IsWellFormed}
-use Rattle.lk_link.proofs.Elements.{append_left, append_at, at_contained, contains_at, flat_map_at, flat_map_in, map_at}
-use Rattle.lk_link.proofs.GoodSymbols.{numbered_symbol}
+use Rattle.lk_link.proofs.Elements.{append_left, contains_at, flat_map_in}
 use Rattle.lk_link.proofs.InputLemmas.{file_stands, inputs_follow, numbered_get}
 use Rattle.lk_link.proofs.SymbolLemmas.{files_have_numbers, symbols_follow}
 use Rattle.lk_gc.specs.declared.error.ReferenceFault.{ReferenceFault}
 use Rattle.lk_gc.specs.declared.error.ReferenceFault.TheVariants.{Discarded}
 use Rattle.lk_gc.specs.declared.units.Ask.{Ask}
 use Rattle.lk_gc.specs.declared.units.Ask.TheVariants.{Section}
-use Rattle.lk_gc.specs.declared.units.Unit.{Unit as LinkUnit}
 use Rattle.lk_gc.specs.declared.units.Unit.TheVariants.{Sym, Sec}
 use Rattle.lk_gc.specs.Faults.{dynamic_faults, file_faults, held_faults, marked_faults, reference_faults, relocation_faults, section_faults}
 use Rattle.lk_gc.specs.Marks.{reached_marks, unit_number}
