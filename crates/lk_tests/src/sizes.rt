@@ -1,6 +1,6 @@
 //! What is live, what that brings to the parts, and which sections and segments are told.
 
-ghost use Rattle.std.specs.Prelude.{◌≡◌, length};
+ghost use Rattle.std.specs.Prelude.{◌≡◌, IfOk, length};
 ghost use Rattle.lk_link.specs.Parts.{all_parts};
 ghost use Rattle.lk_link.specs.WellFormed.{IsWellFormed};
 ghost use Rattle.lk_gc.specs.Reach.{AreLive};
@@ -22,15 +22,15 @@ const LIVE: &str = r#"
 {"plan":{"page":16,"sections":[{"attrs":1,"parts":[[8,false]]},{"attrs":16,"parts":[[4,true]]}],"segments":[{"kind":"load"},{"kind":"other"}],"events":[["sec",1],["seg",0],["sec",0],["endseg",0],["seg",1],["endseg",1]]},"groups":[[{"kind":"prelude"},{"kind":"object","sections":[{"slot":"must","size":7,"attrs":2},{"slot":"must"},{"slot":"must","size":8,"attrs":4}]}]]} => live (FileId { group: 0, file: 1 }, 0, 7) live (FileId { group: 0, file: 1 }, 1, 0) live (FileId { group: 0, file: 1 }, 2, 8)
 "#;
 
-/// What sections and images bring to each part, where images stand if each part starts at the number of its bytes, and what
-/// is told of sections and segments.
+/// What sections and images bring to each part, where images stand if each part starts 100 bytes behind its size, and what is
+/// told of sections and segments.
 const SIZES: &str = r#"
 {"plan":{"page":16,"sections":[{"attrs":1,"parts":[[8,false]]},{"attrs":16,"parts":[[4,true]]}],"segments":[{"kind":"load"},{"kind":"other"}],"events":[["sec",1],["seg",0],["sec",0],["endseg",0],["seg",1],["endseg",1]]},"groups":[[{"kind":"prelude"},{"kind":"object","sections":[{"slot":"must","size":7,"attrs":2},{"slot":"must"},{"slot":"must","size":8,"attrs":4}]}]]} => parts [PartContents { bytes: 16, has_image: false, attrs: 6 }, PartContents { bytes: 0, has_image: false, attrs: 0 }] attributes [7, 16] sizes [16, 0] images [0, 0] headers ([true, false], [Some(0), None], [SegmentId { number: 0 }])
-{"plan":{"page":16,"sections":[{"attrs":1,"parts":[[4,false],[1,false]]},{"attrs":1,"parts":[[1,true]]}],"segments":[{"kind":"load"}],"events":[["seg",0],["sec",0],["sec",1],["endseg",0]]},"groups":[[{"kind":"prelude"},{"kind":"object","sections":[{"slot":"must","size":3},{"slot":"must","part":1,"size":5},{"slot":"merge","part":1,"data":"6100","attrs":2},{"slot":"merge","part":2}]}]]} => parts [PartContents { bytes: 4, has_image: false, attrs: 0 }, PartContents { bytes: 11, has_image: true, attrs: 2 }, PartContents { bytes: 2, has_image: true, attrs: 0 }] attributes [3, 1] sizes [4, 11, 2] images [11, 2] headers ([true, true], [Some(0), Some(1)], [SegmentId { number: 0 }])
+{"plan":{"page":16,"sections":[{"attrs":1,"parts":[[4,false],[1,false]]},{"attrs":1,"parts":[[1,true]]}],"segments":[{"kind":"load"}],"events":[["seg",0],["sec",0],["sec",1],["endseg",0]]},"groups":[[{"kind":"prelude"},{"kind":"object","sections":[{"slot":"must","size":3},{"slot":"must","part":1,"size":5},{"slot":"merge","part":1,"data":"6100","attrs":2},{"slot":"merge","part":2}]}]]} => parts [PartContents { bytes: 4, has_image: false, attrs: 0 }, PartContents { bytes: 11, has_image: true, attrs: 2 }, PartContents { bytes: 0, has_image: true, attrs: 0 }] attributes [3, 1] sizes [4, 11, 0] images [111, 100] headers ([true, false], [Some(0), None], [SegmentId { number: 0 }])
 "#;
 
 /// The lengths of the images of the first two output sections, where something is merged there.
-const MERGED_LENS: &[u64] = &[6, 2];
+const MERGED_LENS: &[u64] = &[6, 0];
 
 /// Sections of a prelude, an object and a dynamic file.
 const OTHER_FILES: &str = "
@@ -86,6 +86,17 @@ fn add_headers(
     add(line, "headers", &(emitted.as_slice(), indexes, active))
 }
 
+/// For each part a start, 100 bytes behind its size.
+fn starts_behind(alloc: Global, sizes: &[u64]) -> Result<Vec<u64>, AllocError>
+    ensures { IfOk result (λ starts. length starts.items ≡ length sizes.now) }
+{
+    let mut starts = Vec::with_capacity(alloc, sizes.len())?;
+    for size in sizes {
+        starts.push(size.saturating_add(100))?;
+    }
+    Ok(starts)
+}
+
 /// Adds what comes into each part, the sizes, and what that makes of images, sections and segments.
 fn add_counted(
     alloc: Global,
@@ -102,7 +113,8 @@ fn add_counted(
     add(line, "attributes", &attributes)?;
     let sizes = part_sizes(alloc, contents)?;
     add(line, "sizes", &sizes)?;
-    let images = image_addresses(alloc, link, contents, &sizes)?;
+    let starts = starts_behind(alloc, &sizes)?;
+    let images = image_addresses(alloc, link, contents, &starts)?;
     add(line, "images", &images)?;
     add_headers(alloc, line, link, live, &sizes)
 }
