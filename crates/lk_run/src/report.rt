@@ -19,10 +19,10 @@ use std::fmt;
 const RECORD_LINE: usize = 112;
 
 /// Bytes that a live section's line mostly has room in.
-const LIVE_LINE: usize = 48;
+const LIVE_LINE: usize = 32;
 
 /// Bytes that a symbol's line mostly has room in.
-const SYMBOL_LINE: usize = 56;
+const SYMBOL_LINE: usize = 48;
 
 /// A record as it is printed.
 #[derive(Clone, Copy)]

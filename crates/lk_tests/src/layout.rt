@@ -307,7 +307,6 @@ const REFUSED: &str = r#"
 {"kind":"script"} => 1 not carried: file
 {"kind":"object","symbols":[{"at":["common",0,4]}]} => 1 not carried: common
 {"kind":"script"},{"kind":"object","symbols":[{"at":["common",0,4]}]} => 1 not carried: common
-{"kind":"object","symbols":[{"at":["abs",1]}]} => 1 not carried: reach
 # and in an object with a symbol.
 @ {"plan":{"page":16,"sections":[{"parts":[[1,false]]}],"events":[["sec",0]]},"groups":[[{"kind":"prelude"},{"kind":"object","symbols":[{"at":["undef"]}],"sections":[...]}]]}
 {"slot":"merge","data":"00"} => 1 not carried: merge
@@ -317,11 +316,8 @@ const REFUSED: &str = r#"
 {"slot":"discard","group":0} => 1 not carried: slot
 {"slot":"must","size":1,"relocs":[[0,"GotTpOff",0,0,false]]} => 1 not carried: table
 {"slot":"discard","relocs":[[9,"PltRelative",5,0,false]]} => 1 not carried: table
-{"slot":"must","size":1,"relocs":[[0,"TlsLd",0,0,false]]} => 1 not carried: reach
 {"slot":"must","sorted":true} => 1 not carried: sorted
 {"slot":"discard","sorted":true} => 1 not carried: sorted
-{"slot":"unloaded"} => 1 not carried: reach
-{"slot":"discard"} => 1 not carried: reach
 {"slot":"must","group":7},{"slot":"merge","data":"00"} => 1 not carried: merge
 "#;
 
@@ -330,10 +326,11 @@ fn refusals_are_told(rt: HostRuntime) -> Result<(), Fail> {
     expect_rows(&rt, rt.alloc(), Asked::Run, REFUSED)
 }
 
-/// Two sections in segments of their own: the report of as many workers as are told, and of one behind a gate that it may
-/// not enter.
+/// Two sections in segments of their own, and references that can't be met in three groups: what as many workers as are told
+/// give, and one behind a gate that it may not enter.
 const TWO_SEGMENTS: &str = r#"
 {"plan":{"page":4096,"base":["num",4096],"sections":[{"attrs":1,"parts":[[8,false]]},{"attrs":1,"parts":[[1,false]]}],"segments":[{"kind":"load"},{"kind":"load"}],"events":[["seg",0],["sec",0],["endseg",0],["seg",1],["sec",1],["endseg",1]]},"groups":[[{"kind":"prelude"}],[{"kind":"object","sections":[{"slot":"must","size":8},{"slot":"must","part":1,"size":7}]}]]} => none "layout\nsection 0 index 0 mem 0x1000 8 file 0x0 8 align 8 lma 0x1000 attrs 1\nsection 1 index 1 mem 0x2008 7 file 0x8 7 align 1 lma 0x2008 attrs 1\npart 0 mem 0x1000 8 file 0x0 8 align 8\npart 1 mem 0x2008 7 file 0x8 7 align 1\nsegment 0 mem 0x1000 8 file 0x0 8 align 8\nsegment 1 mem 0x2008 7 file 0x8 7 align 1\nlive 1 0 0 0x1000 8\nlive 1 0 1 0x2008 7\nentry -\nend\n" one "layout\nsection 0 index 0 mem 0x1000 8 file 0x0 8 align 8 lma 0x1000 attrs 1\nsection 1 index 1 mem 0x2008 7 file 0x8 7 align 1 lma 0x2008 attrs 1\npart 0 mem 0x1000 8 file 0x0 8 align 8\npart 1 mem 0x2008 7 file 0x8 7 align 1\nsegment 0 mem 0x1000 8 file 0x0 8 align 8\nsegment 1 mem 0x2008 7 file 0x8 7 align 1\nlive 1 0 0 0x1000 8\nlive 1 0 1 0x2008 7\nentry -\nend\n" eight "layout\nsection 0 index 0 mem 0x1000 8 file 0x0 8 align 8 lma 0x1000 attrs 1\nsection 1 index 1 mem 0x2008 7 file 0x8 7 align 1 lma 0x2008 attrs 1\npart 0 mem 0x1000 8 file 0x0 8 align 8\npart 1 mem 0x2008 7 file 0x8 7 align 1\nsegment 0 mem 0x1000 8 file 0x0 8 align 8\nsegment 1 mem 0x2008 7 file 0x8 7 align 1\nlive 1 0 0 0x1000 8\nlive 1 0 1 0x2008 7\nentry -\nend\n" alone "layout\nsection 0 index 0 mem 0x1000 8 file 0x0 8 align 8 lma 0x1000 attrs 1\nsection 1 index 1 mem 0x2008 7 file 0x8 7 align 1 lma 0x2008 attrs 1\npart 0 mem 0x1000 8 file 0x0 8 align 8\npart 1 mem 0x2008 7 file 0x8 7 align 1\nsegment 0 mem 0x1000 8 file 0x0 8 align 8\nsegment 1 mem 0x2008 7 file 0x8 7 align 1\nlive 1 0 0 0x1000 8\nlive 1 0 1 0x2008 7\nentry -\nend\n"
+{"plan":{"page":16,"sections":[{"attrs":1,"parts":[[1,false]]}],"segments":[{"kind":"load"}],"events":[["seg",0],["sec",0],["endseg",0]]},"groups":[[{"kind":"prelude"}],[{"kind":"object","symbols":[{"at":["sec",1,0]}],"sections":[{"slot":"must","size":1,"relocs":[[0,"Absolute",0,0,false]]},{"slot":"discard","size":1}]}],[{"kind":"object","symbols":[{"at":["sec",0,0]},{"at":["undef"]}],"sections":[{"slot":"discard","size":1},{"slot":"must","size":2,"relocs":[[0,"Absolute",0,0,false]]}]}],[{"kind":"object","symbols":[{"at":["undef"]}],"sections":[{"slot":"must","size":2,"relocs":[[0,"Absolute",0,0,false]]}]}]]} => none "discarded: 1 0 1\ndiscarded: 2 0 0\nundefined: symbol 3 from 3 0 0 relocation 0" one "discarded: 1 0 1\ndiscarded: 2 0 0\nundefined: symbol 3 from 3 0 0 relocation 0" eight "discarded: 1 0 1\ndiscarded: 2 0 0\nundefined: symbol 3 from 3 0 0 relocation 0" alone "discarded: 1 0 1\ndiscarded: 2 0 0\nundefined: symbol 3 from 3 0 0 relocation 0"
 "#;
 
 /// A gate that may be entered while it is open.

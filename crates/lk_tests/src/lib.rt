@@ -12,6 +12,8 @@ mod look_ups;
 #[cfg(test)]
 mod plans;
 #[cfg(test)]
+mod reach;
+#[cfg(test)]
 mod reading;
 #[cfg(test)]
 mod report;
@@ -25,5 +27,7 @@ mod shown;
 mod sizes;
 #[cfg(test)]
 mod texts;
+#[cfg(test)]
+mod traversal;
 #[cfg(test)]
 mod words;

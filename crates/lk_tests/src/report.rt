@@ -2,8 +2,9 @@
 
 use crate::rows::{Asked, add, expect_rows};
 use crate::shown::Shown;
+use lk_layout::resolution::Resolution;
 use lk_layout::{Layout, LiveSection};
-use lk_link::{Alignment, FileId, LinkInput, List, SegmentId};
+use lk_link::{Alignment, FileId, LinkInput, List, SegmentId, SymbolId, ValueFlags};
 use lk_place::{OutputRecordLayout, SegmentLayout};
 use lk_run::report::report_text;
 use std::alloc::{AllocError, Global};
@@ -12,6 +13,12 @@ use std::test::Fail;
 /// Sections of two, three, no and two parts.
 const MANY: &str = r#"
 {"plan":{"page":16,"sections":[{"parts":[[2,false],[1,false]]},{"parts":[[4,false],[2,false],[1,false]]},{},{"parts":[[2,false],[1,false]]}]},"groups":[]} => report "layout\nsection 0 index - mem 0x0 0 file 0x0 0 align 1 lma 0x0 attrs 1\nsection 1 index 0 mem 0xabcd 3 file 0xa 3 align 1 lma 0xabcd attrs 3\npart 0 mem 0x0 0 file 0x0 0 align 1\npart 3 mem 0xabcd 3 file 0xa 3 align 1\nsegment 7 mem 0xabcd 3 file 0xa 3 align 1\nlive 1 0 2 0x1010 16\nentry -\nend\n"
+"#;
+
+/// No sections, and four symbols, of which all but the first have a resolution: an address, the greatest number and what the
+/// dynamic linker gives. The entry is none, each of them, and one more.
+const ENTRIES: &str = r#"
+{"plan":{"page":16},"groups":[]} => none "layout\nsymbol 1 0xabcd 64 got - plt - dyn -\nsymbol 2 0xffffffffffffffff 4294967295 got - plt - dyn -\nsymbol 3 0x7 66 got - plt - dyn -\nentry -\nend\n" entry "layout\nsymbol 1 0xabcd 64 got - plt - dyn -\nsymbol 2 0xffffffffffffffff 4294967295 got - plt - dyn -\nsymbol 3 0x7 66 got - plt - dyn -\nentry not loaded\nend\n" entry "layout\nsymbol 1 0xabcd 64 got - plt - dyn -\nsymbol 2 0xffffffffffffffff 4294967295 got - plt - dyn -\nsymbol 3 0x7 66 got - plt - dyn -\nentry 0xabcd\nend\n" entry "layout\nsymbol 1 0xabcd 64 got - plt - dyn -\nsymbol 2 0xffffffffffffffff 4294967295 got - plt - dyn -\nsymbol 3 0x7 66 got - plt - dyn -\nentry 0xffffffffffffffff\nend\n" entry "layout\nsymbol 1 0xabcd 64 got - plt - dyn -\nsymbol 2 0xffffffffffffffff 4294967295 got - plt - dyn -\nsymbol 3 0x7 66 got - plt - dyn -\nentry not an address\nend\n" entry "layout\nsymbol 1 0xabcd 64 got - plt - dyn -\nsymbol 2 0xffffffffffffffff 4294967295 got - plt - dyn -\nsymbol 3 0x7 66 got - plt - dyn -\nentry not loaded\nend\n"
 "#;
 
 /// The record of three bytes at an address and an offset, or of nothing.
@@ -59,6 +66,8 @@ fn empty_layout(alloc: Global) -> Layout {
         output_section_indexes: List::new(alloc),
         segment_layouts: List::new(alloc),
         live_sections: List::new(alloc),
+        symbol_resolutions: List::new(alloc),
+        entry_symbol_id: None,
     }
 }
 
@@ -96,6 +105,37 @@ fn add_layout(
 pub fn add_report(alloc: Global, line: &mut String, link: &LinkInput) -> Result<(), AllocError> {
     let mut layout = empty_layout(alloc);
     add_layout(alloc, line, link, &mut layout)
+}
+
+/// A resolution.
+fn resolution(raw_value: u64, flags: u32) -> Option<Resolution> {
+    let flags = ValueFlags(flags);
+    Some(Resolution { raw_value, flags })
+}
+
+/// A layout of four symbols.
+fn layout_of_symbols(alloc: Global) -> Result<Layout, AllocError> {
+    let mut layout = empty_layout(alloc);
+    let (address, greatest) = (resolution(43981, 64), resolution(u64::MAX, u32::MAX));
+    let resolutions = [None, address, greatest, resolution(7, 66)];
+    layout.symbol_resolutions = list_of(alloc, &resolutions)?;
+    Ok(layout)
+}
+
+/// Adds the reports of four symbols without an entry, and with each of five.
+pub fn add_entries(alloc: Global, line: &mut String, link: &LinkInput) -> Result<(), AllocError> {
+    let mut layout = layout_of_symbols(alloc)?;
+    add(line, "none", &report_text(alloc, link, &layout)?)?;
+    for number in 0..5 {
+        layout.entry_symbol_id = Some(SymbolId::from_u32(number));
+        add(line, "entry", &report_text(alloc, link, &layout)?)?;
+    }
+    Ok(())
+}
+
+#[test]
+fn symbols_and_entries_are_told(rt: HostRuntime) -> Result<(), Fail> {
+    expect_rows(&rt, rt.alloc(), Asked::Of(Shown::Entries), ENTRIES)
 }
 
 #[test]

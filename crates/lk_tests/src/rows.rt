@@ -174,25 +174,25 @@ fn expanded(alloc: Global, told: &str) -> Result<String, AllocError> {
 
 /// What stands before and behind the front of a row.
 #[derive(Clone, Copy)]
-struct Frame {
+pub struct Frame {
     before: &'static str,
     after: &'static str,
 }
 
 /// The frame of rows that stand for themselves.
-const NO_FRAME: Frame = Frame {
+pub const NO_FRAME: Frame = Frame {
     before: "",
     after: "",
 };
 
 /// The frame that a text with dots is.
-fn frame_of(text: &'static str) -> Frame {
+pub fn frame_of(text: &'static str) -> Frame {
     let (before, after) = text.split_once("...").unwrap_or((text, ""));
     Frame { before, after }
 }
 
 /// The text that a front is in its frame.
-fn framed(alloc: Global, frame: Frame, front: &str) -> Result<String, AllocError> {
+pub fn framed(alloc: Global, frame: Frame, front: &str) -> Result<String, AllocError> {
     let (before, after) = (frame.before, frame.after);
     let text = format!(in alloc; "{before}{front}{after}")?;
     expanded(alloc, text.as_str())

@@ -1,6 +1,6 @@
 //! Runs over devices in memory.
 
-use crate::rows::{add, expect_text};
+use crate::rows::{Frame, NO_FRAME, add, expect_text, frame_of, framed};
 use lk_link::NoGate;
 use lk_run::memory::{MemorySink, MemorySource};
 use lk_run::run::{run, run_alone};
@@ -86,19 +86,26 @@ fn without_remark(block: &'static str) -> &'static str {
     }
 }
 
-/// A block as it is to be: its description, and below it how a run over that ends.
-fn told_block(alloc: Global, block: &str) -> Result<String, AllocError> {
-    let (input, _) = block.split_once('\n').unwrap_or((block, ""));
-    let told = ended(alloc, input)?;
-    format!(in alloc; "{input}\n{told}")
+/// A block as it is to be: what its first line says, and below it how a run over that, in its frame, ends.
+fn told_block(alloc: Global, frame: Frame, block: &str) -> Result<String, AllocError> {
+    let (front, _) = block.split_once('\n').unwrap_or((block, ""));
+    let input = framed(alloc, frame, front)?;
+    let told = ended(alloc, input.as_str())?;
+    format!(in alloc; "{front}\n{told}")
 }
 
 /// Wants how a run over each description of a text ends. Below the line of a description stand the status and the lines of
-/// its report, and behind them an empty line; above it may stand a remark.
+/// its report, and behind them an empty line; above it may stand a remark. A block that begins with `@` is a frame, and holds
+/// for the blocks below it: their first lines stand in place of its dots.
 pub fn expect_reports(rt: &impl Abort, alloc: Global, blocks: &'static str) -> Result<(), Fail> {
+    let mut frame = NO_FRAME;
     for block in blocks.split("\n\n") {
         let block = without_remark(block);
-        expect_text(rt, told_block(alloc, block)?.as_str(), block);
+        if let Some(next) = block.strip_prefix("@ ") {
+            frame = frame_of(next);
+        } else {
+            expect_text(rt, told_block(alloc, frame, block)?.as_str(), block);
+        }
     }
     Ok(())
 }

@@ -4,9 +4,10 @@ use crate::checking::add_check;
 use crate::look_ups::{add_files, add_members, add_names, add_symbols};
 use crate::plans::{add_insides, add_sections};
 use crate::reading::summary::{add_groups, add_options, add_plan};
-use crate::report::add_report;
+use crate::report::{add_entries, add_report};
 use crate::rows::add;
 use crate::sizes::{add_live, add_sizes};
+use crate::traversal::{add_asks, add_reached};
 use lk_layout::first_uncarried;
 use lk_link::LinkInput;
 use std::alloc::{AllocError, Global};
@@ -30,13 +31,17 @@ pub enum Shown {
     /// What the plan says of its sections, and what is inside its segments.
     Sections,
     Insides,
+    /// What files, symbols and sections ask for, and what is reached by that.
+    Asks,
+    Reached,
     /// What is live, and what that brings to parts and sections.
     Live,
     Sizes,
     /// What isn't carried.
     Uncarried,
-    /// The report of a layout made by hand.
+    /// The reports of layouts made by hand.
     Report,
+    Entries,
 }
 
 /// Adds what is asked for.
@@ -58,9 +63,12 @@ pub fn add_shown(
         Shown::Base => add(line, "base", &link.plan.base.as_number()),
         Shown::Sections => add_sections(line, &link.plan),
         Shown::Insides => add_insides(alloc, line, &link.plan),
+        Shown::Asks => add_asks(line, link),
+        Shown::Reached => add_reached(alloc, line, link),
         Shown::Live => add_live(alloc, line, link),
         Shown::Sizes => add_sizes(alloc, line, link),
         Shown::Report => add_report(alloc, line, link),
+        Shown::Entries => add_entries(alloc, line, link),
         Shown::Uncarried => add(line, "first", &first_uncarried(link)),
     }
 }

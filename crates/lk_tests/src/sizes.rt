@@ -1,6 +1,6 @@
 //! What is live, what that brings to the parts, and which sections and segments are told.
 
-ghost use Rattle.std.specs.Prelude.{◌≡◌, IfOk, length};
+ghost use Rattle.std.specs.Prelude.{◌≡◌, length};
 ghost use Rattle.lk_link.specs.Parts.{all_parts};
 ghost use Rattle.lk_link.specs.WellFormed.{IsWellFormed};
 ghost use Rattle.lk_gc.specs.Reach.{AreLive};
@@ -87,14 +87,30 @@ fn add_headers(
 }
 
 /// For each part a start, 100 bytes behind its size.
-fn starts_behind(alloc: Global, sizes: &[u64]) -> Result<Vec<u64>, AllocError>
-    ensures { IfOk result (λ starts. length starts.items ≡ length sizes.now) }
-{
+fn starts_behind(alloc: Global, sizes: &[u64]) -> Result<Vec<u64>, AllocError> {
     let mut starts = Vec::with_capacity(alloc, sizes.len())?;
     for size in sizes {
         starts.push(size.saturating_add(100))?;
     }
     Ok(starts)
+}
+
+/// Adds where images stand, by these starts, where there is one for each part.
+fn add_images(
+    alloc: Global,
+    line: &mut String,
+    link: &LinkInput,
+    contents: &[PartContents],
+    starts: &[u64],
+) -> Result<(), AllocError>
+    requires { length contents.now ≡ length (all_parts link.now.plan.sections) }
+{
+    if starts.len() == contents.len() {
+        let images = image_addresses(alloc, link, contents, starts)?;
+        add(line, "images", &images)
+    } else {
+        Ok(())
+    }
 }
 
 /// Adds what comes into each part, the sizes, and what that makes of images, sections and segments.
@@ -114,8 +130,7 @@ fn add_counted(
     let sizes = part_sizes(alloc, contents)?;
     add(line, "sizes", &sizes)?;
     let starts = starts_behind(alloc, &sizes)?;
-    let images = image_addresses(alloc, link, contents, &starts)?;
-    add(line, "images", &images)?;
+    add_images(alloc, line, link, contents, &starts)?;
     add_headers(alloc, line, link, live, &sizes)
 }
 
