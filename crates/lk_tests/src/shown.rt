@@ -2,6 +2,7 @@
 
 use crate::checking::add_check;
 use crate::look_ups::{add_files, add_members, add_names, add_symbols};
+use crate::merging::{Merging, add_merging};
 use crate::plans::{add_insides, add_sections};
 use crate::reading::summary::{add_groups, add_options, add_plan};
 use crate::report::{add_entries, add_report};
@@ -37,6 +38,8 @@ pub enum Shown {
     /// What is live, and what that brings to parts and sections.
     Live,
     Sizes,
+    /// What is merged.
+    Merging(Merging),
     /// What isn't carried.
     Uncarried,
     /// The reports of layouts made by hand.
@@ -67,6 +70,7 @@ pub fn add_shown(
         Shown::Reached => add_reached(alloc, line, link),
         Shown::Live => add_live(alloc, line, link),
         Shown::Sizes => add_sizes(alloc, line, link),
+        Shown::Merging(told) => add_merging(alloc, line, told, link),
         Shown::Report => add_report(alloc, line, link),
         Shown::Entries => add_entries(alloc, line, link),
         Shown::Uncarried => add(line, "first", &first_uncarried(link)),

@@ -1,0 +1,461 @@
+//! What is merged: what is kept of the pieces of each output section, where offsets are, how inputs are cut into groups, and
+//! which addresses symbols have; and the calls on a bucket, on pieces and on offsets.
+
+ghost use Rattle.std.specs.Prelude.{◌≡◌, ◌≤◌, ◌^◌};
+ghost use Rattle.lk_link.specs.WellFormed.{IsWellFormed};
+ghost use Rattle.lk_merge.specs.Addresses.{AreStartsOf};
+ghost use Rattle.lk_merge.specs.LinkInputs.{link_inputs};
+
+use crate::rows::{Asked, add, expect_rows, expect_text};
+use crate::shown::Shown;
+use lk_check::check_link;
+use lk_link::{FileId, LinkInput, OutputSectionId, Relocation, SymbolId};
+use lk_merge::{
+    BucketOffset, LinearInputOffset, MergeError, MergeString, MergeStringsSectionBucket,
+    MergedStringStartAddresses, MergedStringsSection, StringMergeInputSections, StringMergeInputs,
+    find_string, get_merged_string_output_address, merge_strings_alone, split_sections,
+    total_input_size,
+};
+use std::alloc::{AllocError, Global};
+use std::test::Fail;
+
+/// What is told of merging.
+#[derive(Clone, Copy)]
+pub enum Merging {
+    /// What each output section keeps.
+    Kept,
+    /// Where offsets of each input are.
+    Places,
+    /// The groups into which inputs are cut.
+    Groups,
+    /// The addresses that relocations have of symbols.
+    Addresses,
+}
+
+/// Of each output section the buckets, distinct pieces, pieces, their bytes and the image's bytes, and what each bucket holds;
+/// or the refusal.
+const KEPT: &str = r#"
+# One section of strings.
+@ {"plan":{"page":16,"sections":[{"attrs":1,"parts":[[1,false]]}],"events":[["sec",0]]},"groups":[[{"kind":"prelude"}],[{"kind":"object","sections":[{"slot":"merge","strings":true,"data":"..."}]}]]}
+610062006100 => section (16, 2, 3, 6, 4) bucket (4, 2) piece [97, 0] bucket (15, 2) piece [98, 0]
+62006100 => section (16, 2, 2, 4, 4) bucket (4, 2) piece [97, 0] bucket (15, 2) piece [98, 0]
+ => section (16, 0, 0, 0, 0)
+00 => section (16, 1, 1, 1, 1) bucket (15, 1) piece [0]
+000000 => section (16, 1, 3, 3, 1) bucket (15, 1) piece [0]
+616263 => refused NotTerminated { section: OutputSectionId { number: 0 }, input: 0 }
+610062 => refused NotTerminated { section: OutputSectionId { number: 0 }, input: 0 }
+# Several sections of one output section.
+@ {"plan":{"page":16,"sections":[{"attrs":1,"parts":[[1,false]]}],"events":[["sec",0]]},"groups":[[{"kind":"prelude"}],[{"kind":"object","sections":[...]}]]}
+{"slot":"merge","strings":true,"data":"6100"},{"slot":"merge","strings":true,"data":"616200"} => section (16, 2, 2, 5, 5) bucket (4, 2) piece [97, 0] bucket (14, 3) piece [97, 98, 0]
+{"slot":"merge","data":"01020304"},{"slot":"merge","data":"01020304"} => section (16, 1, 2, 8, 4) bucket (13, 4) piece [1, 2, 3, 4]
+{"slot":"merge","strings":true,"data":"6100"},{"slot":"merge","data":"6100"},{"slot":"merge","data":""},{"slot":"merge","strings":true,"data":""} => section (16, 1, 2, 4, 2) bucket (4, 2) piece [97, 0]
+{"slot":"merge","data":"6162"},{"slot":"merge","strings":true,"data":"6100"},{"slot":"merge","strings":true,"data":"6162"} => refused NotTerminated { section: OutputSectionId { number: 0 }, input: 2 }
+{"slot":"must","size":1} => section (0, 0, 0, 0, 0)
+# How long buckets may be: of two strings in one, of one string that is there twice, of two in two.
+@ {"options":{"bucket_limit":...},"plan":{"page":16,"sections":[{"attrs":1,"parts":[[1,false]]}],"events":[["sec",0]]},"groups":[[{"kind":"prelude"}],[{"kind":"object","sections":[{"slot":"merge","strings":true,"data":"61007100"}]}]]}
+4 => section (16, 2, 2, 4, 4) bucket (4, 4) piece [97, 0] piece [113, 0]
+3 => refused TooLarge { section: OutputSectionId { number: 0 }, bucket: 4, offset: 2, len: 2 }
+268435456 => section (16, 2, 2, 4, 4) bucket (4, 4) piece [97, 0] piece [113, 0]
+@ {"options":{"bucket_limit":...},"plan":{"page":16,"sections":[{"attrs":1,"parts":[[1,false]]}],"events":[["sec",0]]},"groups":[[{"kind":"prelude"}],[{"kind":"object","sections":[{"slot":"merge","strings":true,"data":"61006100"}]}]]}
+2 => section (16, 1, 2, 4, 2) bucket (4, 2) piece [97, 0]
+1 => refused TooLarge { section: OutputSectionId { number: 0 }, bucket: 4, offset: 0, len: 2 }
+0 => refused TooLarge { section: OutputSectionId { number: 0 }, bucket: 4, offset: 0, len: 2 }
+# The link of a load segment.
+@ {"plan":{"page":16,"sections":[{"attrs":1,"parts":[[1,false]]}],"segments":[{"kind":"load"}],"events":[["seg",0],["sec",0],["endseg",0]]},"groups":[[{"kind":"prelude"}],[{"kind":"object","sections":[{"slot":"merge","part":0,"strings":true,"data":"62006100"}]}]],"options":{"bucket_limit":...}}
+1 => refused TooLarge { section: OutputSectionId { number: 0 }, bucket: 4, offset: 0, len: 2 }
+@ {"options":{"bucket_limit":...},"plan":{"page":16,"sections":[{"attrs":1,"parts":[[1,false]]}],"events":[["sec",0]]},"groups":[[{"kind":"prelude"}],[{"kind":"object","sections":[{"slot":"merge","strings":true,"data":""}]}]]}
+0 => section (16, 0, 0, 0, 0)
+# Two output sections: in the first with a refusal, that of an input stands before that of a piece.
+@ {"options":{"bucket_limit":1},"plan":{"page":16,"sections":[{"attrs":1,"parts":[[1,false]]},{"attrs":1,"parts":[[1,false]]}],"events":[["sec",0],["sec",1]]},"groups":[[{"kind":"prelude"}],[...]]}
+{"kind":"object","sections":[{"slot":"merge","strings":true,"part":1,"data":"61"},{"slot":"merge","strings":true,"data":"00"},{"slot":"must","size":1}]},{"kind":"object","sections":[{"slot":"merge","strings":true,"data":"62"}]} => refused NotTerminated { section: OutputSectionId { number: 0 }, input: 1 }
+{"kind":"object","sections":[{"slot":"merge","strings":true,"part":1,"data":"61"},{"slot":"merge","strings":true,"data":"6100"}]} => refused TooLarge { section: OutputSectionId { number: 0 }, bucket: 4, offset: 0, len: 2 }
+{"kind":"object","sections":[{"slot":"merge","strings":true,"data":"6100"},{"slot":"merge","strings":true,"data":"61"}]} => refused NotTerminated { section: OutputSectionId { number: 0 }, input: 1 }
+{"kind":"object","sections":[{"slot":"merge","strings":true,"data":"00"},{"slot":"merge","strings":true,"part":1,"data":"7100"}]} => refused TooLarge { section: OutputSectionId { number: 1 }, bucket: 4, offset: 0, len: 2 }
+{"kind":"object","sections":[{"slot":"merge","part":1,"data":"61"},{"slot":"merge","strings":true,"data":"00"}]},{"kind":"object","sections":[{"slot":"merge","strings":true,"data":"00"},{"slot":"merge","part":1,"data":"61"}]} => section (16, 1, 2, 2, 1) bucket (15, 1) piece [0] section (16, 1, 2, 2, 1) bucket (12, 1) piece [97]
+"#;
+
+/// Where the first eight offsets behind the start of each input are, and the last of all: the bucket and the offset there.
+const PLACES: &str = r#"
+@ {"plan":{"page":16,"sections":[{"attrs":1,"parts":[[1,false]]}],"events":[["sec",0]]},"groups":[[{"kind":"prelude"}],[{"kind":"object","sections":[{"slot":"merge","strings":true,"data":"..."}]}]]}
+610062006100 => start 0 4:0 4:1 15:0 15:1 4:0 4:1 - - -
+62006100 => start 0 15:0 15:1 4:0 4:1 - - - - -
+000000 => start 0 15:0 15:0 15:0 - - - - - -
+# Several sections of one output section.
+@ {"plan":{"page":16,"sections":[{"attrs":1,"parts":[[1,false]]}],"events":[["sec",0]]},"groups":[[{"kind":"prelude"}],[{"kind":"object","sections":[...]}]]}
+{"slot":"merge","strings":true,"data":""},{"slot":"merge","data":""},{"slot":"merge","strings":true,"data":"6100"} => start 0 4:0 4:1 - - - - - - - start 0 4:0 4:1 - - - - - - - start 0 4:0 4:1 - - - - - - -
+{"slot":"merge","strings":true,"data":"6100"},{"slot":"merge","strings":true,"data":""} => start 0 4:0 4:1 - - - - - - - start 256 - - - - - - - - -
+{"slot":"merge","data":"01020304"},{"slot":"merge","data":"01020304"} => start 0 13:0 13:1 13:2 13:3 - - - - - start 256 13:0 13:1 13:2 13:3 - - - - -
+{"slot":"merge","strings":true,"data":"«299 times 61»00"},{"slot":"merge","data":"6162"},{"slot":"merge","strings":true,"data":"616200"} => start 0 14:0 14:1 14:2 14:3 14:4 14:5 14:6 14:7 - start 512 10:0 10:1 - - - - - - - start 768 14:300 14:301 14:302 - - - - - -
+"#;
+
+/// All padded bytes, and the groups.
+const GROUPS: &str = r#"
+@ {"options":{"merge_group":...},"plan":{"page":16,"sections":[{"attrs":1,"parts":[[1,false]]}],"events":[["sec",0]]},"groups":[[{"kind":"prelude"}],[{"kind":"object","sections":[{"slot":"merge","strings":true,"data":"«9 times 61»00"},{"slot":"merge","strings":true,"data":"«299 times 61»00"}]}]]}
+256 => total 768 group (0, 256) group (256, 512) group (512, 768)
+512 => total 768 group (0, 512) group (512, 768)
+4294967296 => total 768 group (0, 768)
+@ {"options":{"merge_group":...},"plan":{"page":16,"sections":[{"attrs":1,"parts":[[1,false]]}],"events":[["sec",0]]},"groups":[[{"kind":"prelude"}],[{"kind":"object","sections":[{"slot":"merge","strings":true,"data":"«299 times 61»00"},{"slot":"merge","strings":true,"data":"«299 times 61»00"}]}]]}
+256 => total 1024 group (0, 256) group (256, 512) group (512, 768) group (768, 1024)
+@ {"options":{"merge_group":...},"plan":{"page":16,"sections":[{"attrs":1,"parts":[[1,false]]}],"events":[["sec",0]]},"groups":[[{"kind":"prelude"}],[{"kind":"object","sections":[{"slot":"merge","data":"«256 times 61»"},{"slot":"merge","data":"«300 times 61»"},{"slot":"merge","strings":true,"data":"6100"}]}]]}
+256 => total 1024 group (0, 256) group (256, 768) group (768, 1024)
+512 => total 1024 group (0, 768) group (768, 1024)
+@ {"options":{"merge_group":...},"plan":{"page":16,"sections":[{"attrs":1,"parts":[[1,false]]}],"events":[["sec",0]]},"groups":[[{"kind":"prelude"}],[{"kind":"object","sections":[{"slot":"merge","strings":true,"data":"6100"},{"slot":"merge","data":"«600 times 61»"},{"slot":"merge","data":""}]}]]}
+256 => total 1024 group (0, 256) group (256, 1024)
+512 => total 1024 group (0, 1024)
+@ {"options":{"merge_group":...},"plan":{"page":16,"sections":[{"attrs":1,"parts":[[1,false]]}],"events":[["sec",0]]},"groups":[[{"kind":"prelude"}],[{"kind":"object","sections":[{"slot":"merge","strings":true,"data":""}]}]]}
+256 => total 0
+"#;
+
+/// What a relocation has of its symbol, where the image starts at 4096: as it is, and where unnamed symbols are 0. The symbols
+/// stand at the start of the strings, unnamed and named; at their end, unnamed and named; one before the start, wrapping; in
+/// another section; and nowhere, defined by the second.
+const ADDRESSES: &str = r#"
+@ {"plan":{"page":16,"sections":[{"attrs":1,"parts":[[1,false]]}],"events":[["sec",0]]},"groups":[[{"kind":"prelude"}],[{"kind":"object","symbols":[{"at":["sec",0,0]},{"name":"a","at":["sec",0,0]},{"at":["sec",0,6]},{"name":"b","at":["sec",0,6]},{"at":["sec",0,18446744073709551615]},{"at":["sec",1,0]},{"at":["undef"],"def":1}],"sections":[{"slot":"merge","strings":true,"data":"68656c6c6f00"},{"slot":"must","size":1,"relocs":[...]}]}]]}
+[0,"Absolute",0,2,false] => address (Ok(Some(4098)), Ok(Some(0)))
+[0,"Absolute",0,6,false] | [0,"Absolute",0,-1,false] | [0,"Absolute",2,0,false] | [0,"Absolute",2,-7,false] | [0,"Absolute",4,0,false] => address (Err(OffsetPastEnd), Ok(Some(0)))
+[0,"Absolute",1,6,false] => address (Ok(Some(4102)), Ok(Some(4102)))
+[0,"Absolute",0,0,false] | [0,"Absolute",4,1,false] => address (Ok(Some(4096)), Ok(Some(0)))
+[0,"Absolute",0,5,false] | [0,"Absolute",2,-1,false] => address (Ok(Some(4101)), Ok(Some(0)))
+[0,"Absolute",1,-1,false] => address (Ok(Some(4095)), Ok(Some(4095)))
+[0,"Absolute",1,-4097,false] => address (Ok(Some(18446744073709551615)), Ok(Some(18446744073709551615)))
+[0,"Absolute",3,0,false] | [0,"Absolute",3,-1,false] => address (Err(OffsetPastEnd), Err(OffsetPastEnd))
+[0,"Absolute",5,0,false] | [0,"Absolute",6,0,false] => address (Ok(None), Ok(None))
+@ {"plan":{"page":16,"sections":[{"attrs":1,"parts":[[1,false]]}],"events":[["sec",0]]},"groups":[[{"kind":"prelude"}],[{"kind":"object","symbols":[{"at":["sec",0,0]},{"name":"a","at":["sec",0,0]},{"at":["sec",0,6]},{"name":"b","at":["sec",0,6]},{"at":["sec",0,18446744073709551615]},{"at":["sec",1,0]},{"at":["undef"],"def":1}],"sections":[{"slot":"merge","strings":true,"data":"610062006100"},{"slot":"must","size":1,"relocs":[...]}]}]]}
+[0,"Absolute",0,0,false] | [0,"Absolute",0,4,false] => address (Ok(Some(4096)), Ok(Some(0)))
+[0,"Absolute",0,2,false] => address (Ok(Some(4098)), Ok(Some(0)))
+[0,"Absolute",0,-1,false] => address (Err(OffsetPastEnd), Ok(Some(0)))
+[0,"Absolute",1,2,false] => address (Ok(Some(4098)), Ok(Some(4098)))
+"#;
+
+/// Adds a bucket that holds something: its number, its length and its pieces.
+fn add_bucket(
+    line: &mut String,
+    number: usize,
+    bucket: &MergeStringsSectionBucket<'_>,
+) -> Result<(), AllocError> {
+    if bucket.len() == 0 {
+        return Ok(());
+    }
+    add(line, "bucket", &(number, bucket.len()))?;
+    for piece in bucket.strings() {
+        add(line, "piece", &piece.as_bytes())?;
+    }
+    Ok(())
+}
+
+/// Adds what an output section keeps.
+fn add_kept(line: &mut String, section: &MergedStringsSection<'_>) -> Result<(), AllocError> {
+    let (kept, len) = (section.string_count(), section.len());
+    let (count, size) = (
+        section.input_string_count(),
+        section.input_string_byte_size(),
+    );
+    let buckets = section.buckets();
+    add(line, "section", &(buckets.len(), kept, count, size, len))?;
+    for (number, bucket) in buckets.iter().enumerate() {
+        add_bucket(line, number, bucket)?;
+    }
+    Ok(())
+}
+
+/// Adds a place: the bucket and the offset there, or a dash.
+fn add_place(line: &mut String, place: Option<BucketOffset>) -> Result<(), AllocError> {
+    match place {
+        Some(place) => write!(line, " {}:{}", place.bucket(), place.offset_in_bucket()),
+        None => line.push_str(" -"),
+    }
+}
+
+/// Adds where the first eight offsets behind a start are, and the last of all.
+fn add_offsets(
+    line: &mut String,
+    section: &MergedStringsSection<'_>,
+    start: LinearInputOffset,
+) -> Result<(), AllocError> {
+    add(line, "start", &start.as_u64())?;
+    for offset in [0, 1, 2, 3, 4, 5, 6, 7, u64::MAX] {
+        add_place(line, find_string(section, start, offset))?;
+    }
+    Ok(())
+}
+
+/// Adds where offsets of each input are.
+fn add_places(
+    line: &mut String,
+    inputs: &StringMergeInputSections<'_>,
+    section: &MergedStringsSection<'_>,
+) -> Result<(), AllocError> {
+    for input in inputs.as_slice() {
+        add_offsets(line, section, input.start_input_offset)?;
+    }
+    Ok(())
+}
+
+/// Adds the bytes of all inputs of an output section, and the groups of about so many into which they are cut.
+fn add_groups(
+    alloc: Global,
+    line: &mut String,
+    inputs: &StringMergeInputSections<'_>,
+    size: u64,
+) -> Result<(), AllocError> {
+    if size == 0 || size % 256 != 0 {
+        return Ok(());
+    }
+    add(line, "total", &total_input_size(inputs))?;
+    for group in split_sections(alloc, inputs, size)? {
+        add(line, "group", &(group.start.as_u64(), group.end.as_u64()))?;
+    }
+    Ok(())
+}
+
+/// Adds what is told of an output section by itself.
+fn add_output(
+    alloc: Global,
+    line: &mut String,
+    told: Merging,
+    inputs: &StringMergeInputSections<'_>,
+    size: u64,
+    section: &MergedStringsSection<'_>,
+) -> Result<(), AllocError> {
+    match told {
+        Merging::Places => add_places(line, inputs, section),
+        Merging::Groups => add_groups(alloc, line, inputs, size),
+        _ => add_kept(line, section),
+    }
+}
+
+/// Adds what is told of each output section by itself.
+fn add_outputs(
+    alloc: Global,
+    line: &mut String,
+    told: Merging,
+    inputs: &StringMergeInputs<'_>,
+    merged: &[MergedStringsSection<'_>],
+) -> Result<(), AllocError> {
+    let size = inputs.merge_group();
+    for (number, section) in merged.iter().enumerate() {
+        if let Some(output) = inputs.outputs().get(number) {
+            add_output(alloc, line, told, output, size, section)?;
+        }
+    }
+    Ok(())
+}
+
+/// Adds the address that a relocation has of its symbol, as it is, and where unnamed symbols are 0.
+fn add_address(
+    line: &mut String,
+    link: &LinkInput,
+    relocation: &Relocation,
+    merged: &[MergedStringsSection<'_>],
+    starts: &MergedStringStartAddresses,
+) -> Result<(), AllocError>
+    requires good { IsWellFormed link.now }
+    requires merged { merged.now ≡ (link_inputs link.now).outputs }
+    requires starts { AreStartsOf merged.now starts.now }
+{
+    let symbol = SymbolId::from_u32(relocation.symbol);
+    let addend = relocation.addend;
+    let own = get_merged_string_output_address(link, symbol, addend, merged, starts, false);
+    let zero = get_merged_string_output_address(link, symbol, addend, merged, starts, true);
+    add(line, "address", &(own, zero))
+}
+
+/// Adds the addresses that relocations have of the symbols of an only object.
+fn add_addresses(
+    line: &mut String,
+    link: &LinkInput,
+    merged: &[MergedStringsSection<'_>],
+    starts: &MergedStringStartAddresses,
+) -> Result<(), AllocError>
+    requires good { IsWellFormed link.now }
+    requires merged { merged.now ≡ (link_inputs link.now).outputs }
+    requires starts { AreStartsOf merged.now starts.now }
+{
+    let Some(file) = link.groups.file(FileId { group: 1, file: 0 }) else {
+        return Ok(());
+    };
+    for section in file.sections.as_slice() {
+        for relocation in section.relocs.as_slice() {
+            add_address(line, link, relocation, merged, starts)?;
+        }
+    }
+    Ok(())
+}
+
+/// Adds the addresses that relocations have of symbols, where the only output section's image starts at 4096.
+fn add_started(
+    alloc: Global,
+    line: &mut String,
+    link: &LinkInput,
+    merged: &[MergedStringsSection<'_>],
+) -> Result<(), AllocError>
+    requires good { IsWellFormed link.now }
+    requires merged { merged.now ≡ (link_inputs link.now).outputs }
+{
+    let [section] = merged else {
+        return Ok(());
+    };
+    let start = (u64::MAX - section.len()).min(4096);
+    let starts = MergedStringStartAddresses::compute(alloc, merged, &[start])?;
+    add_addresses(line, link, merged, &starts)
+}
+
+/// Adds what is told of merging, of a link that is well formed; or why it isn't merged.
+pub fn add_merging(
+    alloc: Global,
+    line: &mut String,
+    told: Merging,
+    link: &LinkInput,
+) -> Result<(), AllocError> {
+    if check_link(link).is_err() {
+        return Ok(());
+    }
+    let inputs = StringMergeInputs::new(alloc, link)?;
+    match (merge_strings_alone(alloc, &inputs), told) {
+        (Ok(merged), Merging::Addresses) => add_started(alloc, line, link, merged.as_slice()),
+        (Ok(merged), _) => add_outputs(alloc, line, told, &inputs, merged.as_slice()),
+        (Err(MergeError::NoMemory), _) => Err(AllocError),
+        (Err(error), _) => add(line, "refused", &error),
+    }
+}
+
+#[test]
+fn merged_sections_hold_distinct_pieces(rt: HostRuntime) -> Result<(), Fail> {
+    expect_rows(
+        &rt,
+        rt.alloc(),
+        Asked::Of(Shown::Merging(Merging::Kept)),
+        KEPT,
+    )
+}
+
+#[test]
+fn offsets_are_found_in_buckets(rt: HostRuntime) -> Result<(), Fail> {
+    expect_rows(
+        &rt,
+        rt.alloc(),
+        Asked::Of(Shown::Merging(Merging::Places)),
+        PLACES,
+    )
+}
+
+#[test]
+fn inputs_are_cut_into_groups(rt: HostRuntime) -> Result<(), Fail> {
+    expect_rows(
+        &rt,
+        rt.alloc(),
+        Asked::Of(Shown::Merging(Merging::Groups)),
+        GROUPS,
+    )
+}
+
+#[test]
+fn symbols_of_merged_sections_have_addresses(rt: HostRuntime) -> Result<(), Fail> {
+    expect_rows(
+        &rt,
+        rt.alloc(),
+        Asked::Of(Shown::Merging(Merging::Addresses)),
+        ADDRESSES,
+    )
+}
+
+/// Adds what a bucket answers to a piece with bytes, and its length then.
+fn add_added<'data>(
+    line: &mut String,
+    bucket: &mut MergeStringsSectionBucket<'data>,
+    piece: &'data [u8],
+) -> Result<(), AllocError> {
+    if piece.is_empty() {
+        return Ok(());
+    }
+    let mut source = piece;
+    let answer = bucket.add_string(MergeString::take_hashed(&mut source));
+    add(line, "added", &(answer, bucket.len()))
+}
+
+/// Adds what a bucket of a limit answers to two strings, and to the first once more.
+fn add_limited(alloc: Global, line: &mut String, limit: u64) -> Result<(), AllocError>
+    requires { limit ≤ 2 ^ 28 }
+{
+    let section = OutputSectionId::from_u32(7);
+    let mut bucket = MergeStringsSectionBucket::new(alloc, section, 4, limit);
+    for piece in [b"a\0", b"q\0", b"a\0"] {
+        add_added(line, &mut bucket, piece)?;
+    }
+    Ok(())
+}
+
+/// Adds what numbers make of a bucket and an offset there, and sums and differences of input offsets.
+fn add_made(line: &mut String) -> Result<(), AllocError> {
+    add(line, "place", &BucketOffset::new(5, 3))?;
+    add(line, "place", &BucketOffset::new(268435455, 15))?;
+    add(
+        line,
+        "place",
+        &(BucketOffset::new(268435456, 0), BucketOffset::default()),
+    )?;
+    let start = LinearInputOffset::from_u64(256);
+    add(
+        line,
+        "offset",
+        &(start + 44, start + 44 - start, LinearInputOffset::default()),
+    )
+}
+
+/// Adds the string that is taken from some data, if there is one, and what is left.
+fn add_taken(line: &mut String, data: &[u8]) -> Result<(), AllocError> {
+    let mut source = data;
+    let taken = MergeString::take_string_hashed(&mut source);
+    add(
+        line,
+        "taken",
+        &(taken.map(|string| string.as_bytes()), source),
+    )
+}
+
+/// Adds some bytes as the piece that they are shows them.
+fn add_text(line: &mut String, data: &[u8]) -> Result<(), AllocError> {
+    let mut source = data;
+    let piece = MergeString::take_hashed(&mut source);
+    write!(line, " text {piece}")
+}
+
+#[test]
+fn buckets_pieces_and_offsets_are_made(rt: HostRuntime) -> Result<(), Fail> {
+    let mut line = String::new(rt.alloc());
+    add_limited(rt.alloc(), &mut line, 4)?;
+    add_limited(rt.alloc(), &mut line, 3)?;
+    add_made(&mut line)?;
+    expect_text(
+        &rt,
+        line.as_str(),
+        "added (Ok(BucketOffset { number: 1073741824 }), 2) added (Ok(BucketOffset { number: 1073741826 }), 4) added (Ok(BucketOffset { number: 1073741824 }), 4) \
+        added (Ok(BucketOffset { number: 1073741824 }), 2) added (Err(TooLarge { section: OutputSectionId { number: 7 }, bucket: 4, offset: 2, len: 2 }), 2) added (Ok(BucketOffset { number: 1073741824 }), 2) \
+        place Some(BucketOffset { number: 805306373 }) place Some(BucketOffset { number: 4294967295 }) place (None, BucketOffset { number: 0 }) \
+        offset (LinearInputOffset { number: 300 }, 44, LinearInputOffset { number: 0 })",
+    );
+    Ok(())
+}
+
+/// One U+FFFD stands for each longest part of a character that isn't whole, as in the Unicode Standard.
+#[test]
+fn strings_are_taken_and_shown(rt: HostRuntime) -> Result<(), Fail> {
+    let mut line = String::new(rt.alloc());
+    for data in [b"ab\0c".as_slice(), b"c", b"", b"\0\0"] {
+        add_taken(&mut line, data)?;
+    }
+    for data in [
+        b"a\0".as_slice(),
+        b"a\xf0\x9f\x92b\xff\xed\xa0\x80\xc3",
+        b"\xe2\x82\xac\xe2\x82\0",
+    ] {
+        add_text(&mut line, data)?;
+    }
+    expect_text(
+        &rt,
+        line.as_str(),
+        "taken (Some([97, 98, 0]), [99]) taken (None, [99]) taken (None, []) taken (Some([0]), [0]) \
+        text a\0 text a\u{FFFD}b\u{FFFD}\u{FFFD}\u{FFFD}\u{FFFD}\u{FFFD} text \u{20AC}\u{FFFD}\0",
+    );
+    Ok(())
+}
