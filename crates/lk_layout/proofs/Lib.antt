@@ -7,4 +7,3 @@ mod Resolved
 mod Placing
 mod Settings
 mod Soundness
-mod Spreading

@@ -28,6 +28,7 @@ use Rattle.lk_sizes.specs.Owners.{bytes_of, owners_of}
 use Rattle.lk_sizes.specs.Tiles.{IsTiled}
 use Rattle.lk_layout.specs.declared.layout.Layout.{Layout}
 use Rattle.lk_layout.specs.Defined.{starts_of}
+use Rattle.lk_layout.specs.Layouts.{told_live}
 use Rattle.lk_layout.specs.Resolutions.{entry_symbol, flags_at, is_resolved, symbol_resolutions}
 use Rattle.lk_layout.specs.OutputContent.{output_content}
 
@@ -50,7 +51,7 @@ pub record IsSharedOut (link : LinkInput) (live : Live) (layout : Layout) (p : �
 -- x is live section a, and l is told of it
 pub record IsTold (link : LinkInput) (live : Live) (layout : Layout) (a : ℕ) (x : Input) (l : LiveSection) : Type 0 where
   pub there : slice_get (live_inputs link live) a ≡ Some x
-  pub told : slice_get layout.live_sections a ≡ Some l
+  pub told : slice_get (told_live link layout) a ≡ Some l
 
 -- an address lies in the bytes of a live section
 pub record IsInSection (address : ℕ) (l : LiveSection) : Type 0 where
@@ -97,7 +98,7 @@ pub record IsSoundInMemory (link : LinkInput) (live : Live) (layout : Layout) : 
 pub record IsSound (link : LinkInput) (live : Live) (layout : Layout) : Type 0 where
   pub met : reference_faults link ≡ []
   pub reached : AreLive link live
-  pub shown : layout.live_sections ≡ live_sections link (output_content link live) (starts_of layout.section_part_layouts)
+  pub shown : told_live link layout ≡ live_sections link (output_content link live) (starts_of layout.section_part_layouts)
   pub resolved : layout.symbol_resolutions ≡ symbol_resolutions link live (starts_of layout.section_part_layouts)
   pub placed : SymbolsStandInLiveSections link live
   pub entered : layout.entry_symbol_id ≡ entry_symbol link
