@@ -7,3 +7,4 @@ mod Resolved
 mod Placing
 mod Settings
 mod Soundness
+mod Valued

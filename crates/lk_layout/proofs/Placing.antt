@@ -80,7 +80,7 @@ places_are link live starts are = fun_ext (λ k. fun_ext (λ offset. place_at li
 
 -- ---- room
 
-marked_in : {X : Type 0} (marks : List Bool) (xs : List X) (k : ℕ) (x : X) → slice_get xs k ≡ Some x → slice_index_or marks k false ≡ true → (j : ℕ) × (slice_get (marked marks xs) j ≡ Some x)
+pub marked_in : {X : Type 0} (marks : List Bool) (xs : List X) (k : ℕ) (x : X) → slice_get xs k ≡ Some x → slice_index_or marks k false ≡ true → (j : ℕ) × (slice_get (marked marks xs) j ≡ Some x)
 marked_in [] xs k x there set = absurd (cc)
 marked_in (m ∷ marks) [] k x there set = absurd (cc)
 marked_in (true ∷ marks) (y ∷ xs) zero x there set = (0, there)

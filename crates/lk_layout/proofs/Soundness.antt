@@ -40,6 +40,7 @@ use Rattle.lk_layout.proofs.PartStarts.{part_starts}
 use Rattle.lk_layout.proofs.Placing.{size-le}
 use Rattle.lk_layout.proofs.Resolved.{resolved_sections_are_live}
 use Rattle.lk_layout.proofs.Settings.{ready, size_of, takes}
+use Rattle.lk_layout.proofs.Valued.{values_are_in_live_sections}
 use Rattle.lk_link.proofs.Elements.{contains_at, map_in}
 use Rattle.lk_layout.specs.OutputContent.{output_content}
 
@@ -206,6 +207,8 @@ is_sound tile aligned owners mass file memory in_step keep target link layout la
       shown = shown target link layout laid;
       resolved = resolved target link layout laid;
       placed = resolved_sections_are_live link laid.live laid.good laid.are_live laid.met;
+      valued = values_are_in_live_sections link laid.live layout (starts_of records) (shown target link layout laid) (resolved target link layout laid)
+          (resolved_sections_are_live link laid.live laid.good laid.are_live laid.met);
       entered = ap (λ (l : Layout). l.entry_symbol_id) laid.same;
       aligned = sections_aligned tile aligned owners target link layout laid;
       shared = shared_out tile mass target link layout laid;
