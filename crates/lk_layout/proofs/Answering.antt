@@ -1,5 +1,5 @@
 -- How the steps of a computation give the defined answer.
-use Rattle.std.proofs.Common.{◌≡◌, Option, Some, None, Result, Ok, Err, sym, ap, subst, ◌∙◌, refl, ℕ, List}
+use Rattle.std.proofs.Common.{◌≡◌, Bool, Option, Some, None, Result, Ok, Err, sym, ap, subst, ◌∙◌, refl, ℕ, List}
 use Rattle.std.specs.Prelude.{option_map}
 use Rattle.std.specs.Result.{IsErrAnd}
 use Rattle.lk_check.specs.FirstFault.{check_of, first_fault}
@@ -18,7 +18,6 @@ use Rattle.lk_gc.specs.declared.live.Live.{Live}
 use Rattle.lk_place.specs.Records.{Record}
 use Rattle.lk_place.specs.declared.segments.SegmentLayout.{SegmentLayout}
 use Rattle.lk_place.specs.Segments.{first_outside, outside_refusal, section_records}
-use Rattle.lk_sizes.specs.declared.addresses.LiveSection.{LiveSection}
 use Rattle.lk_sizes.specs.Emitted.{is_emitted}
 use Rattle.lk_layout.specs.OutputContent.{output_content}
 
@@ -100,8 +99,8 @@ told link live records layout inside is =
     unless_none (segment_refusal link live records) (Ok layout) _ (ap (λ (o : Option ℕ). option_map place_error (outside_refusal o)) inside) (ap (λ (x : Layout). Ok x) is)
 
 -- layouts with the same lists are the same
-pub same_layout : (s s' r : List Record) (t t' : List ℕ) (i i' : List (Option ℕ)) (g g' : List SegmentLayout) (l l' : List LiveSection) (v v' : List (Option Resolution)) (e e' : Option ℕ)
-    → s ≡ s' → t ≡ t' → i ≡ i' → g ≡ g' → l ≡ l' → v ≡ v' → e ≡ e'
-    → ◌≡◌ {A = Layout} (record { section_layouts = s; section_part_layouts = r; section_attributes = t; output_section_indexes = i; segment_layouts = g; live_sections = l; symbol_resolutions = v; entry_symbol_id = e })
-    (record { section_layouts = s'; section_part_layouts = r; section_attributes = t'; output_section_indexes = i'; segment_layouts = g'; live_sections = l'; symbol_resolutions = v'; entry_symbol_id = e' })
-same_layout s s' r t t' i i' g g' l l' v v' e e' es et ei eg el ev ee = cc
+pub same_layout : (s s' r : List Record) (t t' : List ℕ) (i i' : List (Option ℕ)) (g g' : List SegmentLayout) (m m' : List Bool) (l l' : List ℕ) (v v' : List (Option Resolution)) (e e' : Option ℕ)
+    → s ≡ s' → t ≡ t' → i ≡ i' → g ≡ g' → m ≡ m' → l ≡ l' → v ≡ v' → e ≡ e'
+    → ◌≡◌ {A = Layout} (record { section_layouts = s; section_part_layouts = r; section_attributes = t; output_section_indexes = i; segment_layouts = g; live_marks = m; section_addresses = l; symbol_resolutions = v; entry_symbol_id = e })
+    (record { section_layouts = s'; section_part_layouts = r; section_attributes = t'; output_section_indexes = i'; segment_layouts = g'; live_marks = m'; section_addresses = l'; symbol_resolutions = v'; entry_symbol_id = e' })
+same_layout s s' r t t' i i' g g' m m' l l' v v' e e' es et ei eg em el ev ee = cc

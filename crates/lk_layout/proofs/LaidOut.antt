@@ -16,6 +16,7 @@ use Rattle.lk_layout.specs.declared.layout.Layout.{Layout}
 use Rattle.lk_layout.specs.Carried.{IsCarried, first_uncarried}
 use Rattle.lk_layout.specs.Defined.{IsDefined, Unless, references_error, references_refusal, fault_refusal, layout_of, not_carried, segment_refusal, setting, sizes_refusal, uncarried_refusal, walk_refusal}
 use Rattle.lk_layout.specs.Errors.{place_error}
+use Rattle.lk_layout.specs.Laws.{LaidOutLinksAreWellFormed}
 use Rattle.lk_layout.proofs.OneAnswer.{none_of, unrefused}
 
 -- a link that is well formed, of which all is laid out, with what is live, a whole placement and the layout of these
@@ -64,3 +65,6 @@ laid_out exactly target link layout defined =
       unrefused = none_of place_error (placement_refusal (setting target link reached.0) placed.0) walk.0;
       same = is;
     }
+
+pub links_are_well_formed : WellFormedExactlyUnfaulted → LaidOutLinksAreWellFormed
+links_are_well_formed exactly target link layout defined = (laid_out exactly target link layout defined).good

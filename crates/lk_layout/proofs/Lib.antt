@@ -7,4 +7,4 @@ mod Resolved
 mod Placing
 mod Settings
 mod Soundness
-mod Spreading
+mod Valued

@@ -1,5 +1,5 @@
 -- Places in live input sections: their addresses by a table, and the room behind them.
-use Rattle.std.proofs.Common.{◌≡◌, ℕ, zero, suc, ◌+◌, ◌<◌, ◌≤◌, ◌^◌, Bool, true, false, cond, List, [], ◌∷◌, ◌++◌, length, map, take, Option, Some, None, refl, sym, ap, subst, ◌∙◌, inl, inr, arith, get_or}
+use Rattle.std.proofs.Common.{◌≡◌, ℕ, zero, suc, ◌+◌, ◌<◌, ◌≤◌, ◌^◌, Bool, true, false, cond, List, [], ◌∷◌, ◌++◌, length, take, Option, Some, None, refl, sym, ap, subst, ◌∙◌, inl, inr, arith, get_or}
 use Rattle.std.specs.Prelude.{if◌then◌else◌, option_map, slice_get}
 use Rattle.std.specs.Int.{next_multiple_of}
 use Rattle.std.specs.List.{flat_map, slice_index, slice_index_or}
@@ -29,39 +29,31 @@ use Rattle.lk_gc.specs.declared.live.Live.{Live}
 use Rattle.lk_gc.specs.Reach.{AreLive, live_inputs, marked}
 use Rattle.lk_gc.proofs.LiveWalk.{split_at}
 use Rattle.lk_place.specs.Records.{Record, record_at}
-use Rattle.lk_sizes.specs.declared.addresses.LiveSection.{LiveSection}
-use Rattle.lk_sizes.specs.LiveSections.{live_section, live_sections}
+use Rattle.lk_sizes.specs.LiveSections.{section_addresses}
 use Rattle.lk_sizes.specs.Owners.{EndsFit, live_address, part_size}
 use Rattle.lk_sizes.proofs.Adding.{bytes_into, bytes_into-append, bytes_into_here}
 use Rattle.lk_sizes.proofs.Addressing.{address_behind}
 use Rattle.lk_sizes.proofs.LiveOnes.{live_goes}
+use Rattle.lk_sizes.proofs.Numbering.{table_at as address_by_number}
 use Rattle.lk_sizes.proofs.Walking.{all_fit}
 use Rattle.lk_layout.specs.Carried.{IsCarried}
 use Rattle.lk_layout.specs.declared.resolution.Resolution.{Resolution}
 use Rattle.lk_layout.specs.Defined.{starts_of}
 use Rattle.lk_layout.specs.Resolutions.{address_at, file_resolutions, symbol_resolutions}
-use Rattle.lk_layout.specs.Spread.{HasRoom, HaveRoom, place_in, spread}
+use Rattle.lk_layout.specs.Tables.{HasRoom, HaveRoom, place_in}
 use Rattle.lk_layout.proofs.CarriedPlans.{not_merged}
-use Rattle.lk_layout.proofs.Spreading.{spread_at}
 use Rattle.lk_layout.specs.OutputContent.{output_content}
 
 -- ---- the table
 
--- the addresses of live sections, spread over all
+-- the addresses of live sections, by number
 abbrev pub table : LinkInput → Live → List ℕ → List ℕ
-table link live starts = spread (map (λ l. l.address) (live_sections link (output_content link live) starts)) 0 live.marks
-
-told_live : (link : LinkInput) (live : Live) (starts : List ℕ) (xs : List Input)
-    → map (λ (l : LiveSection). l.address) (map (live_section link (output_content link live) starts) xs) ≡ map (live_address link (output_content link live) starts) xs
-told_live link live starts [] = refl
-told_live link live starts (x ∷ xs) = ap (λ ns. live_address link (output_content link live) starts x ∷ ns) (told_live link live starts xs)
+table link live starts = section_addresses link (output_content link live) starts
 
 -- it has the address of each live one
 table_at : (link : LinkInput) (live : Live) (starts : List ℕ) (k : ℕ) (x : Input) → slice_get (all_inputs link.groups) k ≡ Some x → is_marked live.marks k ≡ true
     → slice_index_or (table link live starts) k 0 ≡ live_address link (output_content link live) starts x
-table_at link live starts k x there set =
-    spread_at (live_address link (output_content link live) starts) (map (λ (l : LiveSection). l.address) (live_sections link (output_content link live) starts)) 0 live.marks (all_inputs link.groups) k x
-    (told_live link live starts (live_inputs link live)) there set
+table_at link live starts k x there set = address_by_number link (output_content link live) starts k x there set
 
 -- what is marked is there
 marked_there : (link : LinkInput) (live : Live) (k : ℕ) → AreLive link live → is_marked live.marks k ≡ true → (x : Input) × (slice_get (all_inputs link.groups) k ≡ Some x)
@@ -88,7 +80,7 @@ places_are link live starts are = fun_ext (λ k. fun_ext (λ offset. place_at li
 
 -- ---- room
 
-marked_in : {X : Type 0} (marks : List Bool) (xs : List X) (k : ℕ) (x : X) → slice_get xs k ≡ Some x → slice_index_or marks k false ≡ true → (j : ℕ) × (slice_get (marked marks xs) j ≡ Some x)
+pub marked_in : {X : Type 0} (marks : List Bool) (xs : List X) (k : ℕ) (x : X) → slice_get xs k ≡ Some x → slice_index_or marks k false ≡ true → (j : ℕ) × (slice_get (marked marks xs) j ≡ Some x)
 marked_in [] xs k x there set = absurd (cc)
 marked_in (m ∷ marks) [] k x there set = absurd (cc)
 marked_in (true ∷ marks) (y ∷ xs) zero x there set = (0, there)

@@ -26,9 +26,11 @@ use Rattle.lk_sizes.specs.declared.addresses.LiveSection.{LiveSection}
 use Rattle.lk_sizes.specs.LiveSections.{live_section, live_sections}
 use Rattle.lk_sizes.specs.Owners.{LiveSectionsAreOwners, Owner, SectionOwner, bytes_of, owner_address, owner_number, owners_of, part_size}
 use Rattle.lk_sizes.specs.Tiles.{HasByte, IsTiled, OwnersAreAligned, OwnersTileTheirPart}
+use Rattle.lk_sizes.proofs.Numbering.{table_tells_live_sections}
 use Rattle.lk_sizes.proofs.LiveOnes.{Differ, Pairwise, live_differ, live_goes, live_good}
 use Rattle.lk_layout.specs.declared.layout.Layout.{Layout}
 use Rattle.lk_layout.specs.Defined.{setting, starts_of}
+use Rattle.lk_layout.specs.Layouts.{told_live}
 use Rattle.lk_layout.specs.Laws.{DefinedLayoutsAreSound, LaidOutMemoryIsDisjoint, LaidOutSectionsAreApart}
 use Rattle.lk_layout.specs.Resolutions.{symbol_resolutions}
 use Rattle.lk_layout.specs.Sound.{IsInSection, IsSharedOut, IsSound, IsTold, LiveSectionsAreAligned, LiveSectionsAreApart, MemoryIsCongruent, part_record}
@@ -38,6 +40,7 @@ use Rattle.lk_layout.proofs.PartStarts.{part_starts}
 use Rattle.lk_layout.proofs.Placing.{size-le}
 use Rattle.lk_layout.proofs.Resolved.{resolved_sections_are_live}
 use Rattle.lk_layout.proofs.Settings.{ready, size_of, takes}
+use Rattle.lk_layout.proofs.Valued.{values_are_in_live_sections}
 use Rattle.lk_link.proofs.Elements.{contains_at, map_in}
 use Rattle.lk_layout.specs.OutputContent.{output_content}
 
@@ -46,9 +49,10 @@ use Rattle.lk_layout.specs.OutputContent.{output_content}
 parts_are : (target : Target) (link : LinkInput) (layout : Layout) (laid : IsLaidOut target link layout) → layout.section_part_layouts ≡ laid.records
 parts_are target link layout laid = ap (λ (l : Layout). l.section_part_layouts) laid.same
 
-shown : (target : Target) (link : LinkInput) (layout : Layout) (laid : IsLaidOut target link layout) → layout.live_sections ≡ live_sections link (output_content link laid.live) (starts_of layout.section_part_layouts)
+shown : (target : Target) (link : LinkInput) (layout : Layout) (laid : IsLaidOut target link layout) → told_live link layout ≡ live_sections link (output_content link laid.live) (starts_of layout.section_part_layouts)
 shown target link layout laid =
-    ap (λ (l : Layout). l.live_sections) laid.same ∙ ap (λ (rs : List Record). live_sections link (output_content link laid.live) (starts_of rs)) (sym (parts_are target link layout laid))
+    ap (told_live link) laid.same ∙ table_tells_live_sections link (output_content link laid.live) (starts_of laid.records)
+    ∙ ap (λ (rs : List Record). live_sections link (output_content link laid.live) (starts_of rs)) (sym (parts_are target link layout laid))
 
 resolved : (target : Target) (link : LinkInput) (layout : Layout) (laid : IsLaidOut target link layout)
     → layout.symbol_resolutions ≡ symbol_resolutions link laid.live (starts_of layout.section_part_layouts)
@@ -74,7 +78,7 @@ record Stands (link : LinkInput) (live : Live) (layout : Layout) (x : Input) (l 
   owner : slice_get (owners_of link (output_content link live) x.section.part) (owner_number link (output_content link live) x) ≡ Some (SectionOwner x)
 
 stands : LiveSectionsAreOwners → (link : LinkInput) (live : Live) (layout : Layout) (a : ℕ) (x : Input) (l : LiveSection)
-    → layout.live_sections ≡ live_sections link (output_content link live) (starts_of layout.section_part_layouts) → IsTold link live layout a x l → Stands link live layout x l
+    → told_live link layout ≡ live_sections link (output_content link live) (starts_of layout.section_part_layouts) → IsTold link live layout a x l → Stands link live layout x l
 stands owners link live layout a x l is told =
     let records : List Record = layout.section_part_layouts in
     let made : slice_get (live_sections link (output_content link live) (starts_of records)) a ≡ Some (live_section link (output_content link live) (starts_of records) x) = map_in (live_section link (output_content link live) (starts_of records)) (live_inputs link live) a x told.there in
@@ -121,7 +125,7 @@ one_owner link live a b x y other at_a at_b same =
     ]
 
 sections_apart : LiveSectionsAreOwners → (link : LinkInput) (live : Live) (layout : Layout) → IsWellFormed link → AreLive link live
-    → layout.live_sections ≡ live_sections link (output_content link live) (starts_of layout.section_part_layouts)
+    → told_live link layout ≡ live_sections link (output_content link live) (starts_of layout.section_part_layouts)
     → ((p : ℕ) → p < length (all_parts link.plan.sections) → IsSharedOut link live layout p)
     → MemoryIsDisjoint link.plan layout.section_part_layouts → LiveSectionsAreApart link live layout
 sections_apart owners link live layout good are_live is shared memory a b address x y l m other told_a told_b memory_a memory_b here there =
@@ -203,6 +207,8 @@ is_sound tile aligned owners mass file memory in_step keep target link layout la
       shown = shown target link layout laid;
       resolved = resolved target link layout laid;
       placed = resolved_sections_are_live link laid.live laid.good laid.are_live laid.met;
+      valued = values_are_in_live_sections link laid.live layout (starts_of records) (shown target link layout laid) (resolved target link layout laid)
+          (resolved_sections_are_live link laid.live laid.good laid.are_live laid.met);
       entered = ap (λ (l : Layout). l.entry_symbol_id) laid.same;
       aligned = sections_aligned tile aligned owners target link layout laid;
       shared = shared_out tile mass target link layout laid;

@@ -15,7 +15,7 @@ use Rattle.lk_place.specs.Setting.{Setting, setting_of}
 use Rattle.lk_sizes.specs.Attributes.{all_section_attributes, by_section}
 use Rattle.lk_sizes.specs.Contents.{size_refusal}
 use Rattle.lk_sizes.specs.Emitted.{active_segments, is_emitted, output_index}
-use Rattle.lk_sizes.specs.LiveSections.{live_sections}
+use Rattle.lk_sizes.specs.LiveSections.{section_addresses}
 use Rattle.lk_sizes.specs.Owners.{part_sizes}
 use Rattle.lk_layout.specs.declared.error.LayoutError.{LayoutError}
 use Rattle.lk_layout.specs.declared.error.LayoutError.TheVariants.{NoMemory, NotCarried, References}
@@ -87,7 +87,8 @@ layout_of link live records =
       section_attributes = all_section_attributes link live;
       output_section_indexes = by_section (output_index link content) link;
       segment_layouts = segment_layouts link.plan link.options.stack sections (is_emitted link content) (active_segments link content);
-      live_sections = live_sections link content (starts_of records);
+      live_marks = live.marks;
+      section_addresses = section_addresses link content (starts_of records);
       symbol_resolutions = symbol_resolutions link live (starts_of records);
       entry_symbol_id = entry_symbol link;
     }

@@ -26,6 +26,10 @@ abbrev pub DefinedAnswerIsOne : Type 0
 DefinedAnswerIsOne = (target : Target) (link : LinkInput) (a b : Result Layout LayoutError)
     → IsDefined target link a → IsDefined target link b → a ≡ b
 
+-- a link that has a layout is well formed
+abbrev pub LaidOutLinksAreWellFormed : Type 0
+LaidOutLinksAreWellFormed = (target : Target) (link : LinkInput) (layout : Layout) → IsDefined target link (Ok layout) → IsWellFormed link
+
 -- a defined layout is sound
 abbrev pub DefinedLayoutsAreSound : Type 0
 DefinedLayoutsAreSound = (target : Target) (link : LinkInput) (layout : Layout)

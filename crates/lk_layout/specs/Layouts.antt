@@ -1,8 +1,15 @@
 -- What a layout answers.
-use Rattle.std.specs.Prelude.{ℕ, Option, Result}
+use Rattle.std.specs.Prelude.{ℕ, List, Option, Result}
+use Rattle.lk_link.specs.declared.link.LinkInput.{LinkInput}
+use Rattle.lk_sizes.specs.declared.addresses.LiveSection.{LiveSection}
+use Rattle.lk_sizes.specs.LiveSections.{told_sections}
 use Rattle.lk_layout.specs.declared.layout.Layout.{Layout}
 use Rattle.lk_layout.specs.declared.resolution.EntryFault.{EntryFault}
 use Rattle.lk_layout.specs.Resolutions.{entry_address}
+
+-- the live sections with their addresses, by file and index
+abbrev pub told_live : LinkInput → Layout → List LiveSection
+told_live link layout = told_sections link layout.live_marks layout.section_addresses
 
 -- where the program starts
 abbrev pub resolved_entry : Layout → Result (Option ℕ) EntryFault

@@ -1,10 +1,11 @@
 pub mod Carried
 pub mod Defined
 pub mod Errors
+pub mod Kept
 pub mod Laws
 pub mod Layouts
 pub mod OutputContent
 pub mod Resolutions
 pub mod Sound
-pub mod Spread
+pub mod Tables
 pub mod Texts

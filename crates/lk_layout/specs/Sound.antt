@@ -1,11 +1,12 @@
 -- What a layout keeps apart, and what it keeps in step.
-use Rattle.std.specs.Prelude.{◌≡◌, ◌≢◌, [], ℕ, ◌+◌, ◌%◌, ◌<◌, ◌≤◌, true, false, Some, length, slice_get}
+use Rattle.std.specs.Prelude.{◌≡◌, ◌≢◌, [], ℕ, ◌+◌, ◌%◌, ◌<◌, ◌≤◌, true, false, Some, length, option_map, slice_get}
 use Rattle.std.specs.Int.{◌∣◌}
 use Rattle.lk_link.specs.declared.file.InputFile.{InputFile}
 use Rattle.lk_link.specs.declared.ids.FileId.{FileId}
 use Rattle.lk_link.specs.declared.link.LinkInput.{LinkInput}
 use Rattle.lk_link.specs.declared.section.InputSection.{InputSection}
 use Rattle.lk_link.specs.declared.symbol.InputSymbol.{InputSymbol}
+use Rattle.lk_link.specs.declared.symbol.SymbolPlacement.TheVariants as at
 use Rattle.lk_link.specs.FileKinds.{is_object}
 use Rattle.lk_link.specs.Files.{file_in}
 use Rattle.lk_link.specs.Inputs.{Input, input_number}
@@ -28,7 +29,8 @@ use Rattle.lk_sizes.specs.Owners.{bytes_of, owners_of}
 use Rattle.lk_sizes.specs.Tiles.{IsTiled}
 use Rattle.lk_layout.specs.declared.layout.Layout.{Layout}
 use Rattle.lk_layout.specs.Defined.{starts_of}
-use Rattle.lk_layout.specs.Resolutions.{entry_symbol, flags_at, is_resolved, symbol_resolutions}
+use Rattle.lk_layout.specs.Layouts.{told_live}
+use Rattle.lk_layout.specs.Resolutions.{entry_symbol, flags_at, is_resolved, resolution_at, symbol_resolutions}
 use Rattle.lk_layout.specs.OutputContent.{output_content}
 
 -- the record of the part with this number over all sections
@@ -50,7 +52,7 @@ pub record IsSharedOut (link : LinkInput) (live : Live) (layout : Layout) (p : �
 -- x is live section a, and l is told of it
 pub record IsTold (link : LinkInput) (live : Live) (layout : Layout) (a : ℕ) (x : Input) (l : LiveSection) : Type 0 where
   pub there : slice_get (live_inputs link live) a ≡ Some x
-  pub told : slice_get layout.live_sections a ≡ Some l
+  pub told : slice_get (told_live link layout) a ≡ Some l
 
 -- an address lies in the bytes of a live section
 pub record IsInSection (address : ℕ) (l : LiveSection) : Type 0 where
@@ -84,6 +86,20 @@ SymbolsStandInLiveSections link live = (id : FileId) (file : InputFile) (i : ℕ
     → file_in link.groups id ≡ Some file → IsResolvedIn link live id file i → slice_get file.sections i ≡ Some section
     → is_merge section.slot ≡ false → is_marked live.marks (input_number link.groups id i) ≡ true
 
+-- the section of a file with this index is told as live
+pub record IsToldOf (link : LinkInput) (layout : Layout) (id : FileId) (i : ℕ) (l : LiveSection) : Type 0 where
+  pub number : ℕ
+  pub told : slice_get (told_live link layout) number ≡ Some l
+  pub file : l.file ≡ id
+  pub index : l.index ≡ i
+
+-- that section is told, and the symbol's value is its address there and the offset, unless its data is merged
+abbrev pub ValuesAreInLiveSections : LinkInput → Live → Layout → Type 0
+ValuesAreInLiveSections link live layout = (id : FileId) (file : InputFile) (i offset : ℕ) (section : InputSection)
+    → file_in link.groups id ≡ Some file → (s : IsResolvedIn link live id file i) → s.symbol.at ≡ at.Section i offset
+    → slice_get file.sections i ≡ Some section → is_merge section.slot ≡ false → (l : LiveSection) × IsToldOf link layout id i l
+    × (option_map (λ r. r.raw_value) (resolution_at layout.symbol_resolutions (first_symbol link.groups id + s.index)) ≡ Some (l.address + offset))
+
 -- what holds of the memory of a layout under a plain plan: no two parts share an address, nor do two live sections; and memory
 -- goes along the file
 pub record IsSoundInMemory (link : LinkInput) (live : Live) (layout : Layout) : Type 0 where
@@ -92,14 +108,16 @@ pub record IsSoundInMemory (link : LinkInput) (live : Live) (layout : Layout) : 
   pub congruent : MemoryIsCongruent link layout
 
 -- a sound layout: all references are met; the live sections are those that are reached, each where its part's owners let it
--- stand, aligned; each symbol that is asked for stands for a place in them, or for a number; each byte of a part has one owner;
+-- stand, aligned; each symbol that is asked for stands for a place in them, at their
+-- addresses, or for a number; each byte of a part has one owner;
 -- no two parts share a byte of the file; and under a plain plan the same holds of memory
 pub record IsSound (link : LinkInput) (live : Live) (layout : Layout) : Type 0 where
   pub met : reference_faults link ≡ []
   pub reached : AreLive link live
-  pub shown : layout.live_sections ≡ live_sections link (output_content link live) (starts_of layout.section_part_layouts)
+  pub shown : told_live link layout ≡ live_sections link (output_content link live) (starts_of layout.section_part_layouts)
   pub resolved : layout.symbol_resolutions ≡ symbol_resolutions link live (starts_of layout.section_part_layouts)
   pub placed : SymbolsStandInLiveSections link live
+  pub valued : ValuesAreInLiveSections link live layout
   pub entered : layout.entry_symbol_id ≡ entry_symbol link
   pub aligned : LiveSectionsAreAligned link live layout
   pub shared : (p : ℕ) → p < length (all_parts link.plan.sections) → IsSharedOut link live layout p

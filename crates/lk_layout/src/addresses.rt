@@ -5,7 +5,7 @@ ghost use Rattle.lk_gc.specs.Reach.{AreLive};
 ghost use Rattle.lk_link.specs.Parts.{all_parts};
 ghost use Rattle.lk_link.specs.WellFormed.{IsWellFormed};
 ghost use Rattle.lk_place.specs.Records.{record_at};
-ghost use Rattle.lk_sizes.specs.LiveSections.{live_sections};
+ghost use Rattle.lk_sizes.specs.LiveSections.{section_addresses};
 ghost use Rattle.lk_sizes.specs.Contents.{part_contents};
 ghost use Rattle.lk_sizes.specs.Owners.{part_size};
 ghost use Rattle.lk_layout.specs.OutputContent.{output_content};
@@ -13,20 +13,21 @@ ghost use Rattle.lk_layout.specs.Carried.{IsCarried};
 ghost use Rattle.lk_layout.specs.Defined.{starts_of};
 ghost use Rattle.lk_layout.specs.Resolutions.{symbol_resolutions};
 
-use crate::resolution::{Resolution, Tables, input_addresses, resolve_all};
+use crate::resolution::{Tables, resolve_all};
+use crate::symbol_resolutions::SymbolResolutions;
 use lk_gc::Live;
 use lk_link::LinkInput;
 use lk_place::OutputRecordLayout;
-use lk_sizes::{LiveSection, PartContents, live_sections};
+use lk_sizes::{PartContents, section_addresses};
 use std::alloc::{AllocError, Global};
 
 /// The addresses of a layout.
 #[derive(Drop)]
 pub(crate) struct Addresses {
-    /// Of each live section, by file and index.
-    pub(crate) sections: Vec<LiveSection>,
+    /// Of each live input section, by its number over all files; 0 for any other.
+    pub(crate) sections: Vec<u64>,
     /// Of each symbol, by number, what it stands for; none where it has no resolution.
-    pub(crate) resolutions: Vec<Option<Resolution>>,
+    pub(crate) resolutions: SymbolResolutions,
 }
 
 /// The addresses of live sections and what symbols stand for, by the records of all parts. Looks at each input section and each
@@ -46,16 +47,14 @@ pub(crate) fn addresses_of(
     requires takes { (p : ℕ) → p < length parts.now
         → (record_at parts.now p).mem_size ≡ part_size link.now (output_content link.now live.now) p }
     ensures sections { IfOk result (λ told. told.sections.items
-        ≡ live_sections link.now (output_content link.now live.now) (starts_of parts.now)) }
-    ensures resolutions { IfOk result (λ told. told.resolutions.items ≡ symbol_resolutions link.now live.now (starts_of parts.now)) }
+        ≡ section_addresses link.now (output_content link.now live.now) (starts_of parts.now)) }
+    ensures resolutions { IfOk result (λ told. told.resolutions ≡ symbol_resolutions link.now live.now (starts_of parts.now)) }
 {
     let starts = starts_of(alloc, parts)?;
-    let sections = live_sections(alloc, link, live, &[], contents, &starts)?;
-    let marks = live.marks.as_slice();
-    let addresses = input_addresses(alloc, marks, sections.as_slice())?;
+    let sections = section_addresses(alloc, link, live, &[], contents, &starts)?;
     let tables = Tables {
-        marks,
-        addresses: addresses.as_slice(),
+        marks: live.marks.as_slice(),
+        addresses: sections.as_slice(),
         flags: live.flags.as_slice(),
     };
     let resolutions = resolve_all(alloc, link, tables)?;

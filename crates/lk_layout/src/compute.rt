@@ -68,22 +68,22 @@ fn lay_out<P: Platform>(
     ensures { WithMemory (IsCarriedAnswer (platform_target (P.segment_start platform.now)) link.now) result }
 {
     let live = traverse_alone(alloc, link)?;
-    lay_out_live(alloc, link, &live, platform)
+    lay_out_live(alloc, link, live, platform)
 }
 
 /// The layout of what is live of a link: its sizes, placed.
 fn lay_out_live<P: Platform>(
     alloc: Global,
     link: &LinkInput,
-    live: &Live,
+    live: Live,
     platform: &P,
 ) -> Result<Layout, LayoutError>
     requires good { IsWellFormed link.now }
     requires carried { IsCarried link.now }
-    requires live { AreLive link.now live.now }
-    ensures { WithMemory (IsLiveAnswer (platform_target (P.segment_start platform.now)) link.now live.now) result }
+    requires live { AreLive link.now live }
+    ensures { WithMemory (IsLiveAnswer (platform_target (P.segment_start platform.now)) link.now live) result }
 {
-    let contents = part_contents(alloc, link, live, &[])?;
+    let contents = part_contents(alloc, link, &live, &[])?;
     let sizes = part_sizes(alloc, contents.as_slice())?;
     let placed = compute_layout_sections(alloc, link, &sizes, platform)?;
     // Laws, which do nothing: the parts end where their owners do, and the sizes so far are those that tell what is emitted.
@@ -97,23 +97,23 @@ fn lay_out_live<P: Platform>(
 fn lay_out_placed(
     alloc: Global,
     link: &LinkInput,
-    live: &Live,
+    live: Live,
     contents: &[PartContents],
     sizes: &[u64],
     placed: Placed,
 ) -> Result<Layout, LayoutError>
     requires good { IsWellFormed link.now }
     requires carried { IsCarried link.now }
-    requires live { AreLive link.now live.now }
-    requires contents { contents.now ≡ part_contents link.now (output_content link.now live.now) }
-    requires first { AreFirstSizes link.now (output_content link.now live.now) sizes.now }
+    requires live { AreLive link.now live }
+    requires contents { contents.now ≡ part_contents link.now (output_content link.now live) }
+    requires first { AreFirstSizes link.now (output_content link.now live) sizes.now }
     requires sections { placed.sections ≡ section_records link.now.plan.sections placed.parts }
     requires each { length placed.parts ≡ length (all_parts link.now.plan.sections) }
     requires takes { (p : ℕ) → p < length placed.parts
-        → (record_at placed.parts p).mem_size ≡ part_size link.now (output_content link.now live.now) p }
-    ensures { WithMemory (IsPlacedAnswer link.now live.now placed.parts) result }
+        → (record_at placed.parts p).mem_size ≡ part_size link.now (output_content link.now live) p }
+    ensures { WithMemory (IsPlacedAnswer link.now live placed.parts) result }
 {
-    let headers = determine_header_sizes(alloc, link, live, sizes)?;
+    let headers = determine_header_sizes(alloc, link, &live, sizes)?;
     let segments = compute_segment_layout(
         alloc,
         link,
@@ -122,15 +122,16 @@ fn lay_out_placed(
         headers.active_segment_ids.as_slice(),
     )?;
     let attributes = propagate_section_attributes(alloc, link, contents)?;
-    let addresses = addresses_of(alloc, link, live, contents, placed.parts.as_slice())?;
+    let addresses = addresses_of(alloc, link, &live, contents, placed.parts.as_slice())?;
     Ok(Layout {
         section_layouts: placed.sections,
         section_part_layouts: placed.parts,
         section_attributes: List::from_vec(attributes),
         output_section_indexes: headers.output_section_indexes,
         segment_layouts: List::from_vec(segments),
-        live_sections: List::from_vec(addresses.sections),
-        symbol_resolutions: List::from_vec(addresses.resolutions),
+        live_marks: live.marks,
+        section_addresses: List::from_vec(addresses.sections),
+        symbol_resolutions: addresses.resolutions,
         entry_symbol_id: entry_symbol(link),
     })
 }

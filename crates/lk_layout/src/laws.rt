@@ -1,6 +1,7 @@
 //! Laws on the answer, each proved as the contract of a function that does nothing.
 
 ghost use Rattle.lk_layout.specs.Laws.{CarriedPlansArePlaceable, CarriedPlansArePlain, DefinedAnswerExists, DefinedAnswerIsOne};
+ghost use Rattle.lk_layout.specs.Laws.{LaidOutLinksAreWellFormed};
 ghost use Rattle.lk_layout.specs.Laws.{DefinedLayoutsAreSound, LaidOutMemoryIsDisjoint, LaidOutSectionsAreApart, ResolvedSectionsAreLive};
 
 use lk_check::well_formed_exactly_unfaulted;
@@ -27,6 +28,13 @@ pub fn defined_answer_is_one()
     well_formed_exactly_unfaulted();
     live_is_one();
     placement_is_one();
+}
+
+/// A law: a link that has a layout is well formed.
+pub fn laid_out_links_are_well_formed()
+    ensures { LaidOutLinksAreWellFormed }
+{
+    well_formed_exactly_unfaulted();
 }
 
 /// A law: a defined layout is sound, on a lawful machine.

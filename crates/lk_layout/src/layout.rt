@@ -3,11 +3,11 @@
 ghost use Rattle.std.specs.Prelude.{◌≡◌};
 ghost use Rattle.lk_layout.specs.Layouts.{resolved_entry};
 
-use crate::resolution::{EntryFault, Resolution, entry_value, resolution_at};
+use crate::resolution::{EntryFault, entry_value};
+use crate::symbol_resolutions::SymbolResolutions;
 use lk_link::ids::SymbolId;
 use lk_link::list::List;
 use lk_place::{OutputRecordLayout, SegmentLayout};
-use lk_sizes::LiveSection;
 
 /// Where everything stands (libwild: `Layout`).
 #[derive(Drop)]
@@ -23,10 +23,12 @@ pub struct Layout {
     pub output_section_indexes: List<Option<u32>>,
     /// Of each active segment, by number.
     pub segment_layouts: List<SegmentLayout>,
-    /// Each live input section, by file and index.
-    pub live_sections: List<LiveSection>,
+    /// Of each input section, by its number over all files, whether it is live.
+    pub live_marks: List<bool>,
+    /// Of each live input section, by its number over all files, the address of its first byte; 0 for any other.
+    pub section_addresses: List<u64>,
     /// Of each symbol, by number, what it stands for in the output; none where it has no resolution.
-    pub symbol_resolutions: List<Option<Resolution>>,
+    pub symbol_resolutions: SymbolResolutions,
     /// The symbol that stands for the one where the program starts; none where the options name none.
     pub entry_symbol_id: Option<SymbolId>,
 }
@@ -39,7 +41,7 @@ impl Layout {
     {
         match self.entry_symbol_id {
             Some(symbol) => {
-                let resolution = resolution_at(self.symbol_resolutions.as_slice(), symbol);
+                let resolution = self.symbol_resolutions.get(symbol);
                 entry_value(resolution)
             }
             None => Ok(None),

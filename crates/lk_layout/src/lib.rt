@@ -11,11 +11,13 @@ pub mod laws;
 pub mod layout;
 mod references;
 pub mod resolution;
+mod symbol_resolutions;
 
 pub use crate::arch::{Arch, Small64Arch};
 pub use crate::carried::first_uncarried;
 pub use crate::error::{LayoutError, Uncarried};
 pub use crate::layout::Layout;
 pub use crate::resolution::{EntryFault, Resolution};
+pub use crate::symbol_resolutions::SymbolResolutions;
 pub use lk_gc::ReferenceFault;
 pub use lk_sizes::LiveSection;

@@ -1,22 +1,23 @@
 //! The values that symbols have in the output.
 //!
-//! A table holds the address of each live input section, by its number over all files. Then one pass over the symbols, file by
-//! file, gives each that stands for itself and is asked for its value: a place in a section is the section's address and the
+//! A table has the address of each live input section, by its number over all files. One pass over the symbols, file by file,
+//! gives each that stands for itself and is asked for its value: a place in a section is the section's address and the
 //! offset there, a number stays, and what is defined nowhere is 0. A symbol takes constant time.
 
-ghost use Rattle.std.specs.Prelude.{◌≡◌, ◌+◌, ◌<◌, ◌^◌, ◌++◌, All, IfOk, OnOk, Some, None, true, if◌then◌else◌, map, length};
+ghost use Rattle.std.specs.Prelude.{◌≡◌, ◌+◌, ◌<◌, ◌^◌, ◌++◌, All, IfOk, OnOk, Some, None, true, map, length};
 ghost use Rattle.std.specs.List.{enumerate_from, flat_map, slice_index_or};
 ghost use Rattle.lk_link.specs.Files.{file_in};
 ghost use Rattle.lk_link.specs.Inputs.{numbered_files};
 ghost use Rattle.lk_link.specs.Marks.{is_marked};
 ghost use Rattle.lk_link.specs.Walks.{file_of};
 ghost use Rattle.lk_link.specs.WellFormed.{IsWellFormed};
-ghost use Rattle.lk_layout.specs.Resolutions.{entry_symbol, entry_value, file_resolutions, resolution_at, resolution_of, symbol_value};
-ghost use Rattle.lk_layout.specs.Spread.{HasRoom, HaveRoom, place_in, spread};
+ghost use Rattle.lk_layout.specs.Kept.{IsAskedFor};
+ghost use Rattle.lk_layout.specs.Resolutions.{entry_symbol, entry_value, file_resolutions, resolution_of, symbol_value};
+ghost use Rattle.lk_layout.specs.Tables.{HasRoom, HaveRoom, place_in};
 
+use crate::symbol_resolutions::SymbolResolutions;
 use lk_link::marks::is_marked;
 use lk_link::{FileRef, InputSymbol, LinkInput, SymbolId, SymbolPlacement, ValueFlags};
-use lk_sizes::LiveSection;
 use std::alloc::{AllocError, Global};
 
 /// What a symbol stands for in the output (libwild: `Resolution`).
@@ -55,48 +56,6 @@ pub(crate) fn entry_symbol(link: &LinkInput) -> Option<SymbolId>
     link.groups.definition(link.options.entry?)
 }
 
-/// The resolution of a symbol, by its number, if it has one.
-pub(crate) fn resolution_at(
-    resolutions: &[Option<Resolution>],
-    symbol: SymbolId,
-) -> Option<Resolution>
-    ensures { result ≡ resolution_at resolutions.now symbol }
-{
-    match resolutions.get(symbol.as_usize()) {
-        Some(resolution) => *resolution,
-        None => None,
-    }
-}
-
-/// For each input section, by its number, its address where it is live; else 0. `sections` are the live ones.
-pub(crate) fn input_addresses(
-    alloc: Global,
-    marks: &[bool],
-    sections: &[LiveSection],
-) -> Result<Vec<u64>, AllocError>
-    ensures { IfOk result (λ addresses. addresses.items ≡ spread (map (λ l. l.address) sections.now) 0 marks.now) }
-{
-    let mut addresses = Vec::with_capacity(alloc, marks.len())?;
-    let mut told = 0usize;
-    for mark in marks {
-        addresses.push(told_address(sections, told, *mark))?;
-        if *mark {
-            told += 1;
-        }
-    }
-    Ok(addresses)
-}
-
-/// The address of the live section with this number among the live ones, where an input section is live; else 0.
-fn told_address(sections: &[LiveSection], number: usize, is_live: bool) -> u64
-    ensures { result ≡ (if is_live then slice_index_or (map (λ l. l.address) sections.now) number 0 else 0) }
-{
-    match sections.get(number) {
-        Some(section) if is_live => section.address,
-        _ => 0,
-    }
-}
-
 /// What is known by number.
 #[derive(Clone, Copy)]
 pub(crate) struct Tables<'a> {
@@ -113,14 +72,15 @@ pub(crate) fn resolve_all(
     alloc: Global,
     link: &LinkInput,
     tables: Tables<'_>,
-) -> Result<Vec<Option<Resolution>>, AllocError>
+) -> Result<SymbolResolutions, AllocError>
     requires good { IsWellFormed link.now }
     requires room { HaveRoom tables.marks.now tables.addresses.now link.now.groups }
-    ensures { IfOk result (λ resolutions. resolutions.items
+    ensures { IfOk result (λ resolutions. resolutions
         ≡ flat_map (file_resolutions (place_in tables.entry.marks.now tables.entry.addresses.now) tables.entry.flags.now link.now.groups)
         (numbered_files link.now.groups)) }
 {
-    let mut resolutions = Vec::with_capacity(alloc, link.groups.symbol_count() as usize)?;
+    let count = link.groups.symbol_count() as usize;
+    let mut resolutions = SymbolResolutions::with_capacity(alloc, count)?;
     for file in link.groups.files() {
         push_file_resolutions(&mut resolutions, link, tables, file)?;
     }
@@ -129,7 +89,7 @@ pub(crate) fn resolve_all(
 
 /// Adds for each symbol of a file its resolution, if it has one.
 fn push_file_resolutions(
-    resolutions: &mut Vec<Option<Resolution>>,
+    resolutions: &mut SymbolResolutions,
     link: &LinkInput,
     tables: Tables<'_>,
     file: FileRef<'_>,
@@ -137,7 +97,7 @@ fn push_file_resolutions(
     requires good { IsWellFormed link.now }
     requires there { file_in link.now.groups file.id ≡ Some file.file.now }
     requires room { HaveRoom tables.marks.now tables.addresses.now link.now.groups }
-    ensures { OnOk result (resolutions.new.items ≡ resolutions.old.items
+    ensures { OnOk result (resolutions.new ≡ resolutions.old
         ++ file_resolutions (place_in tables.entry.marks.now tables.entry.addresses.now) tables.entry.flags.now link.now.groups
         (file_of file.entry)) }
 {
@@ -156,10 +116,10 @@ fn push_file_resolutions(
 
 /// Adds for each of some symbols that it has no resolution.
 fn push_unresolved(
-    resolutions: &mut Vec<Option<Resolution>>,
+    resolutions: &mut SymbolResolutions,
     symbols: &[InputSymbol],
 ) -> Result<(), AllocError>
-    ensures { OnOk result (resolutions.new.items ≡ resolutions.old.items ++ map (λ _. None) symbols.now) }
+    ensures { OnOk result (resolutions.new ≡ resolutions.old ++ map (λ _. None) symbols.now) }
 {
     for _symbol in symbols {
         resolutions.push(None)?;
@@ -170,7 +130,7 @@ fn push_unresolved(
 /// Adds for each symbol of an object its resolution, if it has one. `first` is the number of the object's first input section,
 /// `number` that of its first symbol.
 fn push_resolutions(
-    resolutions: &mut Vec<Option<Resolution>>,
+    resolutions: &mut SymbolResolutions,
     tables: Tables<'_>,
     first: usize,
     number: u32,
@@ -179,7 +139,7 @@ fn push_resolutions(
     requires few { first < 2 ^ 32 }
     requires numbers { number + length symbols.now < 2 ^ 32 }
     requires room { All (λ x. HasRoom tables.marks.now tables.addresses.now first x.at) symbols.now }
-    ensures { OnOk result (resolutions.new.items ≡ resolutions.old.items
+    ensures { OnOk result (resolutions.new ≡ resolutions.old
         ++ map (resolution_of (place_in tables.entry.marks.now tables.entry.addresses.now) tables.entry.flags.now first)
         (enumerate_from number symbols.now)) }
 {
@@ -200,8 +160,9 @@ fn resolve(
 ) -> Option<Resolution>
     requires few { first < 2 ^ 32 }
     requires room { HasRoom tables.marks.now tables.addresses.now first symbol.now.at }
-    ensures { result
+    ensures value { result
         ≡ resolution_of (place_in tables.entry.marks.now tables.entry.addresses.now) tables.entry.flags.now first (number, symbol.now) }
+    ensures asked { IsAskedFor result }
 {
     let flags = tables.flags.get(number as usize).copied()?;
     let is_definition = match symbol.def {

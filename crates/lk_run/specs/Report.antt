@@ -1,17 +1,19 @@
 -- The report: the lines that tell where everything of a link stands.
 use Rattle.std.specs.Prelude.{ℕ, suc, ◌+◌, ◌==◌, ◌&&◌, ◌||◌, not, nat_lt, Bool, false, if◌then◌else◌, List, [], ◌∷◌, ◌++◌, Option, Some}
-use Rattle.std.specs.Prelude.{None, Result, Ok, Err, codes, slice_get, slice_range}
-use Rattle.std.specs.List.{list_any}
+use Rattle.std.specs.Prelude.{None, Result, Ok, Err, codes, slice_get, slice_index, slice_range}
+use Rattle.std.specs.List.{flat_map, list_any}
 use Rattle.std.specs.Fmt.{decimal, digits}
 use Rattle.lk_link.specs.declared.link.LinkInput.{LinkInput}
 use Rattle.lk_link.specs.declared.plan.PlanSection.{PlanSection}
+use Rattle.lk_link.specs.Inputs.{Input}
+use Rattle.lk_link.specs.Marks.{is_marked}
 use Rattle.lk_link.specs.Parts.{first_part}
 use Rattle.lk_link.specs.Texts.{joined}
 use Rattle.lk_layout.specs.declared.layout.Layout.{Layout}
 use Rattle.lk_layout.specs.declared.resolution.EntryFault.{EntryFault}
 use Rattle.lk_layout.specs.declared.resolution.EntryFault.TheVariants.{NotAnAddress, NotLoaded}
 use Rattle.lk_layout.specs.declared.resolution.Resolution.{Resolution}
-use Rattle.lk_layout.specs.Layouts.{resolved_entry}
+use Rattle.lk_layout.specs.Layouts.{resolved_entry, told_live}
 use Rattle.lk_sizes.specs.declared.addresses.LiveSection.{LiveSection}
 use Rattle.lk_place.specs.declared.segments.SegmentLayout.{SegmentLayout}
 use Rattle.lk_place.specs.Records.{Record}
@@ -111,7 +113,16 @@ live_line live = joined (
 
 -- the lines of the live sections
 abbrev pub live_lines : List LiveSection → List ℕ
-live_lines live = each (λ _ section. live_line section) 0 live
+live_lines live = flat_map live_line live
+
+-- an input section, told as live at an address
+abbrev pub told_at : Input → ℕ → LiveSection
+told_at x address = record { file = x.file; index = x.index; address = address; size = x.section.size }
+
+-- what is told of an input section with its number: its line, if it is live
+abbrev pub input_text : Layout → ℕ × Input → List ℕ
+input_text layout q =
+    if is_marked layout.live_marks q.0 then live_line (told_at q.1 (slice_index layout.section_addresses q.0)) else []
 
 -- ---- symbols and the entry
 
@@ -152,7 +163,7 @@ abbrev pub report : LinkInput → Layout → List ℕ
 report link layout = joined (
     codes "layout\n" ∷
     record_lines link layout ∷
-    live_lines layout.live_sections ∷
+    live_lines (told_live link layout) ∷
     symbol_lines layout.symbol_resolutions ∷
     entry_line (resolved_entry layout) ∷
     codes "end\n" ∷ [])

@@ -1,15 +1,20 @@
 //! The report of a layout.
 
-ghost use Rattle.std.specs.Prelude.{◌≡◌, ◌+◌, ◌^◌, ◌<◌, ◌++◌, string_bytes, slice_range, length, Option, slice_get, IfOk};
+ghost use Rattle.std.specs.Prelude.{◌≡◌, ◌+◌, ◌^◌, ◌<◌, ◌++◌, string_bytes, slice_range, length, Option, slice_get, slice_index, IfOk};
 ghost use Rattle.std.specs.List.{list_any};
+ghost use Rattle.lk_layout.specs.Layouts.{told_live};
+ghost use Rattle.lk_link.specs.Walks.{input_of};
+ghost use Rattle.lk_link.specs.WellFormed.{IsWellFormed};
 ghost use Rattle.lk_run.specs.Report.{report, address_text, range_text, index_text, section_line, section_text, laid_out_text, section_lines};
 ghost use Rattle.lk_run.specs.Report.{takes_memory, part_line, part_text, told_lines, section_part_lines, part_lines};
-ghost use Rattle.lk_run.specs.Report.{segment_line, segment_lines, record_lines, live_line, live_lines};
+ghost use Rattle.lk_run.specs.Report.{segment_line, segment_lines, record_lines, input_text, live_line, live_lines, told_at};
 ghost use Rattle.lk_run.specs.Report.{symbol_line, symbol_text, symbol_lines, entry_line};
 
 use lk_layout::resolution::{EntryFault, Resolution};
-use lk_layout::{Layout, LiveSection};
+use lk_layout::{Layout, SymbolResolutions};
+use lk_link::InputRef;
 use lk_link::link::LinkInput;
+use lk_link::marks::is_marked;
 use lk_link::plan::{PlanSection, PlanSections};
 use lk_place::{OutputRecordLayout, SegmentLayout};
 use std::alloc::{AllocError, Global};
@@ -94,13 +99,14 @@ impl fmt::Display for AddressText {
 /// without bytes, each active segment, each live section and each symbol with a resolution, and one for the entry. What the
 /// layout has no record of is left out.
 pub fn report_text(alloc: Global, link: &LinkInput, layout: &Layout) -> Result<String, AllocError>
+    requires good { IsWellFormed link.now }
     ensures { IfOk result (λ text. string_bytes text ≡ report link.now layout.now) }
 {
     let mut text = String::with_capacity(alloc, room_of(layout))?;
     text.push_str("layout\n")?;
     write_records(&mut text, link, layout)?;
-    write_live_sections(&mut text, layout.live_sections.as_slice())?;
-    write_symbols(&mut text, layout.symbol_resolutions.as_slice())?;
+    write_live_sections(&mut text, link, layout)?;
+    write_symbols(&mut text, &layout.symbol_resolutions)?;
     write_entry(&mut text, layout.resolved_entry_symbol_address())?;
     text.push_str("end\n")?;
     Ok(text)
@@ -116,14 +122,22 @@ fn room_of(layout: &Layout) -> usize {
         .saturating_add(1);
     records
         .saturating_mul(RECORD_LINE)
-        .saturating_add(layout.live_sections.len().saturating_mul(LIVE_LINE))
+        .saturating_add(count_live(layout).saturating_mul(LIVE_LINE))
         .saturating_add(count_resolved(layout).saturating_mul(SYMBOL_LINE))
+}
+
+/// How many input sections are live.
+fn count_live(layout: &Layout) -> usize {
+    let marks = layout.live_marks.as_slice();
+    marks.iter().filter(|mark| **mark).count()
 }
 
 /// How many symbols have a resolution.
 fn count_resolved(layout: &Layout) -> usize {
-    let resolutions = layout.symbol_resolutions.as_slice();
-    resolutions.iter().flatten().count()
+    let resolutions = &layout.symbol_resolutions;
+    (0..resolutions.len())
+        .filter(|number| resolutions.nth(*number).is_some())
+        .count()
 }
 
 /// The lines of sections, parts and segments.
@@ -299,35 +313,68 @@ fn write_segment(text: &mut String, segment: &SegmentLayout) -> Result<(), Alloc
     write!(text, "segment {number} {place}\n")
 }
 
-/// The lines of the live sections.
-fn write_live_sections(text: &mut String, live: &[LiveSection]) -> Result<(), AllocError>
-    ensures { IfOk result (λ _. string_bytes text.new ≡ string_bytes text.old ++ live_lines live.now) }
+/// The lines of the live sections. Looks at each input section once.
+fn write_live_sections(
+    text: &mut String,
+    link: &LinkInput,
+    layout: &Layout,
+) -> Result<(), AllocError>
+    requires good { IsWellFormed link.now }
+    ensures { IfOk result (λ _. string_bytes text.new ≡ string_bytes text.old ++ live_lines (told_live link.now layout.now)) }
 {
-    for section in live {
-        write_live_section(text, section)?;
+    let mut number = 0usize;
+    for input in link.groups.inputs() {
+        write_input(text, layout, number, input)?;
+        number += 1;
     }
     Ok(())
 }
 
+/// The line of the input section with this number over all files, if it is live.
+fn write_input(
+    text: &mut String,
+    layout: &Layout,
+    number: usize,
+    input: InputRef<'_>,
+) -> Result<(), AllocError>
+    ensures { IfOk result (λ _. string_bytes text.new ≡ string_bytes text.old ++ input_text layout.now (number, input_of input.entry)) }
+{
+    if is_marked(layout.live_marks.as_slice(), number) {
+        let address = address_at(layout.section_addresses.as_slice(), number);
+        write_live_section(text, input, address)?;
+    }
+    Ok(())
+}
+
+/// The address of the input section with this number, by a table.
+fn address_at(addresses: &[u64], number: usize) -> u64
+    ensures { result ≡ slice_index addresses.now number }
+{
+    addresses.get(number).copied().unwrap_or(0)
+}
+
 /// The line of a live section.
 #[tactic(auto, unfolding(crate::specs::Report::live_line))]
-fn write_live_section(text: &mut String, section: &LiveSection) -> Result<(), AllocError>
-    ensures { IfOk result (λ _. string_bytes text.new ≡ string_bytes text.old ++ live_line section.now) }
+fn write_live_section(
+    text: &mut String,
+    section: InputRef<'_>,
+    address: u64,
+) -> Result<(), AllocError>
+    ensures { IfOk result (λ _. string_bytes text.new ≡ string_bytes text.old ++ live_line (told_at (input_of section.entry) address)) }
 {
     let group = section.file.group;
     let file = section.file.file;
     let index = section.index;
-    let address = section.address;
-    let size = section.size;
+    let size = section.section.size;
     write!(text, "live {group} {file} {index} 0x{address:x} {size}\n")
 }
 
 /// The lines of the symbols with a resolution, by number.
-fn write_symbols(text: &mut String, resolutions: &[Option<Resolution>]) -> Result<(), AllocError>
+fn write_symbols(text: &mut String, resolutions: &SymbolResolutions) -> Result<(), AllocError>
     ensures { IfOk result (λ _. string_bytes text.new ≡ string_bytes text.old ++ symbol_lines resolutions.now) }
 {
-    for (number, resolution) in resolutions.iter().enumerate() {
-        write_symbol(text, number, *resolution)?;
+    for number in 0..resolutions.len() {
+        write_symbol(text, number, resolutions.nth(number))?;
     }
     Ok(())
 }

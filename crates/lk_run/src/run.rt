@@ -26,7 +26,7 @@ use lk_input::{InputError, read_link};
 use lk_layout::arch::Small64Arch;
 use lk_layout::compute::{compute, compute_alone};
 use lk_layout::error::LayoutError;
-use lk_layout::laws::defined_layouts_are_sound;
+use lk_layout::laws::{defined_layouts_are_sound, laid_out_links_are_well_formed};
 use lk_layout::layout::Layout;
 use lk_link::gate::Gate;
 use lk_link::link::LinkInput;
@@ -96,6 +96,8 @@ fn answer_computed(
     requires { Gives small64 link.now computed }
     ensures { IfOk result (λ answer. IsAnswerToReading (Ok link.now) answer) }
 {
+    // A law, which does nothing: what has a layout is well formed.
+    laid_out_links_are_well_formed();
     match computed {
         Ok(layout) => Ok(Answer {
             status: Status::LaidOut,

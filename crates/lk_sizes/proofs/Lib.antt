@@ -11,6 +11,7 @@ pub mod LiveOnes
 pub mod LiveParts
 pub mod Made
 pub mod Marks
+pub mod Numbering
 pub mod Overflowing
 pub mod Tiling
 pub mod Walking

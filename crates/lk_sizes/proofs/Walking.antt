@@ -1,48 +1,40 @@
 -- Live sections get their addresses, one after the other.
-use Rattle.std.proofs.Common.{◌≡◌, ℕ, ◌+◌, ◌<◌, ◌^◌, List, [], ◌∷◌, ◌++◌, length, map, set, refl, sym, ap, ◌∙◌, subst, arith, inl, inr}
+use Rattle.std.proofs.Common.{◌≡◌, ℕ, ◌+◌, ◌<◌, ◌^◌, List, [], ◌∷◌, ◌++◌, length, map, set, sym, ap, ◌∙◌, subst, arith, inl, inr}
 use Rattle.std.specs.List.{range_with_len, slice_index}
 use Rattle.std.proofs.lemmas.Bool.Decides.{eqb_tells}
 use Rattle.std.proofs.lemmas.List.FromFn.{get_or-map-range_with_len, length-map-range_with_len}
 use Rattle.std.proofs.lemmas.List.Sums.{sum_by-append}
-use Rattle.std.proofs.lemmas.List.{map-append, length-set, get_or-set_same, get_or-set_other}
+use Rattle.std.proofs.lemmas.List.{length-set, get_or-set_same, get_or-set_other}
 use Rattle.lk_link.specs.declared.link.LinkInput.{LinkInput}
 use Rattle.lk_link.specs.Inputs.{Input}
 use Rattle.lk_link.specs.Sizes.{capacity}
 use Rattle.lk_gc.specs.Reach.{live_inputs}
-use Rattle.lk_sizes.specs.declared.addresses.LiveSection.{LiveSection}
-use Rattle.lk_sizes.specs.LiveSections.{live_section}
 use Rattle.lk_sizes.specs.Owners.{Content, EndsFit, SectionOwner, images_of, into, live_address, owner_bytes}
 use Rattle.lk_sizes.specs.Tables.{behind_image}
 use Rattle.lk_sizes.proofs.Adding.{bytes_into, bytes_into-append, bytes_into_here, bytes_into_other}
 use Rattle.lk_sizes.proofs.Addressing.{address_behind}
 use Rattle.lk_link.specs.Parts.{part_at}
 
--- a live section, told with this address
-abbrev pub told_at : Input → ℕ → LiveSection
-told_at x address = record { file = x.file; index = x.index; address = address; size = x.section.size }
-
--- these sections have their addresses, and the next address of each part stands behind those that go to it
-pub record ArePlaced (link : LinkInput) (content : Content) (starts : List ℕ) (done : List Input) (next : List ℕ) (sections : List LiveSection) : Type 0 where
+-- the next address of each part stands behind those of these sections that go to it
+pub record ArePlaced (link : LinkInput) (content : Content) (starts : List ℕ) (done : List Input) (next : List ℕ) : Type 0 where
   pub count : length next ≡ length starts
   pub moved : (p : ℕ) → p < length starts → slice_index next p ≡ behind_image link content.merged_lens starts p + bytes_into (part_at link.plan.sections p) p done
-  pub found : sections ≡ map (live_section link content starts) done
 
 pub none_placed : (link : LinkInput) (content : Content) (starts next : List ℕ) → next ≡ map (behind_image link content.merged_lens starts) (range_with_len 0 (length starts))
-    → ArePlaced link content starts [] next []
+    → ArePlaced link content starts [] next
 none_placed link content starts next is = record {
   count = ap length is ∙ length-map-range_with_len (behind_image link content.merged_lens starts) 0 (length starts);
   moved = λ p h.
       ap (λ (ns : List ℕ). slice_index ns p) is
       ∙ get_or-map-range_with_len (behind_image link content.merged_lens starts) 0 (length starts) p p 0 h (omega arith)
       ∙ omega arith;
-  found = refl;
 }
 
-pub one_placed : (link : LinkInput) (content : Content) (starts : List ℕ) (done : List Input) (x : Input) (rest : List Input) (next : List ℕ) (sections : List LiveSection) (at moved : ℕ)
-    → live_inputs link content.live ≡ done ++ x ∷ rest → ArePlaced link content starts done next sections → at ≡ x.section.part → at < length starts
-    → moved ≡ slice_index next at + capacity (part_at link.plan.sections at) x.section.size
-    → ArePlaced link content starts (done ++ x ∷ []) (set next at moved) (sections ++ told_at x (slice_index next at) ∷ [])
-one_placed link content starts done x rest next sections at moved all h here within is = record {
+-- one more section that goes to a part
+pub one_placed : (link : LinkInput) (content : Content) (starts : List ℕ) (done : List Input) (x : Input) (next : List ℕ) (at moved : ℕ)
+    → ArePlaced link content starts done next → at ≡ x.section.part → at < length starts → moved ≡ slice_index next at + capacity (part_at link.plan.sections at) x.section.size
+    → ArePlaced link content starts (done ++ x ∷ []) (set next at moved)
+one_placed link content starts done x next at moved h here within is = record {
   count = length-set next at moved ∙ h.count;
   moved = λ p below. elim (eqb_tells at p) [
     | inl hit ↦ subst (λ (q : ℕ). slice_index (set next at moved) q ≡ behind_image link content.merged_lens starts q + bytes_into (part_at link.plan.sections q) q (done ++ x ∷ [])) hit.1
@@ -64,15 +56,15 @@ one_placed link content starts done x rest next sections at moved all h here wit
           bytes_into_other (part_at link.plan.sections p) p x (λ goes. miss.1 (here ∙ goes)),
         )
   ];
-  found =
-      let address : slice_index next at ≡ live_address link content starts x =
-      h.moved at within
-      ∙ ap (λ (p : ℕ). behind_image link content.merged_lens starts p + bytes_into (part_at link.plan.sections p) p done) here
-      ∙ sym (address_behind link content starts done x rest all) in
-      ap (λ (zs : List LiveSection). zs ++ told_at x (slice_index next at) ∷ []) h.found
-      ∙ ap (λ (a : ℕ). map (live_section link content starts) done ++ told_at x a ∷ []) address
-      ∙ sym (map-append (live_section link content starts) done (x ∷ []));
 }
+
+-- which gets the next address there
+pub next_address : (link : LinkInput) (content : Content) (starts : List ℕ) (done : List Input) (x : Input) (rest : List Input) (next : List ℕ) (at : ℕ)
+    → live_inputs link content.live ≡ done ++ x ∷ rest → ArePlaced link content starts done next → at ≡ x.section.part → at < length starts → slice_index next at ≡ live_address link content starts x
+next_address link content starts done x rest next at all h here within =
+    h.moved at within
+    ∙ ap (λ (p : ℕ). behind_image link content.merged_lens starts p + bytes_into (part_at link.plan.sections p) p done) here
+    ∙ sym (address_behind link content starts done x rest all)
 
 -- behind the image all live sections that go to a part fit
 pub all_fit : (link : LinkInput) (content : Content) (starts : List ℕ) (p : ℕ) → EndsFit link content starts → p < length starts
@@ -85,10 +77,10 @@ all_fit link content starts p fit below =
     )
 
 -- so there is room behind what was placed there for one more
-pub room : (link : LinkInput) (content : Content) (starts : List ℕ) (done : List Input) (x : Input) (rest : List Input) (next : List ℕ) (sections : List LiveSection) (at : ℕ)
-    → live_inputs link content.live ≡ done ++ x ∷ rest → ArePlaced link content starts done next sections → EndsFit link content starts → at ≡ x.section.part → at < length starts
+pub room : (link : LinkInput) (content : Content) (starts : List ℕ) (done : List Input) (x : Input) (rest : List Input) (next : List ℕ) (at : ℕ)
+    → live_inputs link content.live ≡ done ++ x ∷ rest → ArePlaced link content starts done next → EndsFit link content starts → at ≡ x.section.part → at < length starts
     → slice_index next at + capacity (part_at link.plan.sections at) x.section.size < 2 ^ 64
-room link content starts done x rest next sections at all h fit here within =
+room link content starts done x rest next at all h fit here within =
     omega (
       arith,
       h.moved at within,

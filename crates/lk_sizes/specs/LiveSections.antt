@@ -1,8 +1,10 @@
 -- The live sections with their addresses.
-use Rattle.std.specs.Prelude.{ℕ, List, map}
+use Rattle.std.specs.Prelude.{◌≡◌, ℕ, Bool, if◌then◌else◌, List, map, slice_index}
+use Rattle.std.specs.List.{enumerate_from}
 use Rattle.lk_link.specs.declared.link.LinkInput.{LinkInput}
-use Rattle.lk_link.specs.Inputs.{Input}
-use Rattle.lk_gc.specs.Reach.{live_inputs}
+use Rattle.lk_link.specs.Inputs.{Input, all_inputs}
+use Rattle.lk_link.specs.Marks.{is_marked}
+use Rattle.lk_gc.specs.Reach.{live_inputs, marked}
 use Rattle.lk_sizes.specs.declared.addresses.LiveSection.{LiveSection}
 use Rattle.lk_sizes.specs.Owners.{Content, live_address}
 
@@ -18,3 +20,26 @@ live_section link content starts x = record {
 -- all live sections, by file and index
 abbrev pub live_sections : LinkInput → Content → List ℕ → List LiveSection
 live_sections link content starts = map (live_section link content starts) (live_inputs link content.live)
+
+-- ---- by number
+
+-- the address of an input section with its number over all files; 0 where it isn't live
+abbrev pub section_address : LinkInput → Content → List ℕ → ℕ × Input → ℕ
+section_address link content starts q = if is_marked content.live.marks q.0 then live_address link content starts q.1 else 0
+
+-- that of each input section, by number
+abbrev pub section_addresses : LinkInput → Content → List ℕ → List ℕ
+section_addresses link content starts = map (section_address link content starts) (enumerate_from 0 (all_inputs link.groups))
+
+-- an input section with its number, told with the address that a table has there
+abbrev pub told_section : List ℕ → ℕ × Input → LiveSection
+told_section addresses q = record { file = q.1.file; index = q.1.index; address = slice_index addresses q.0; size = q.1.section.size }
+
+-- the input sections that have a mark, told by a table of addresses
+abbrev pub told_sections : LinkInput → List Bool → List ℕ → List LiveSection
+told_sections link marks addresses = map (told_section addresses) (marked marks (enumerate_from 0 (all_inputs link.groups)))
+
+-- told by that table, the live sections have their addresses
+abbrev pub TableTellsLiveSections : Type 0
+TableTellsLiveSections = (link : LinkInput) (content : Content) (starts : List ℕ)
+    → told_sections link content.live.marks (section_addresses link content starts) ≡ live_sections link content starts

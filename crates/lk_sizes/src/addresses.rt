@@ -1,8 +1,8 @@
-//! The live sections with their addresses.
+//! The addresses of live sections.
 //!
 //! The owners of a part stand one behind the other from the part's start, its merged image before its sections. A table
-//! holds the next address of each part, at first the end of the image; one pass over the live sections gives each the next
-//! address of its part, which moves on by the bytes that the section takes.
+//! holds the next address of each part, at first the end of the image; one pass over the input sections gives each live one
+//! the next address of its part, which moves on by the bytes that the section takes.
 
 ghost use Rattle.std.specs.Prelude.{◌≡◌, ◌+◌, ◌-◌, ◌^◌, ◌<◌, ℕ, if◌then◌else◌, IfOk, IsTrue, length, map, slice_index};
 ghost use Rattle.std.specs.List.{range_with_len};
@@ -12,12 +12,13 @@ ghost use Rattle.lk_link.specs.Sizes.{capacity};
 ghost use Rattle.lk_link.specs.WellFormed.{IsWellFormed};
 ghost use Rattle.lk_gc.specs.Reach.{AreLive};
 ghost use Rattle.lk_sizes.specs.Contents.{part_contents};
-ghost use Rattle.lk_sizes.specs.LiveSections.{live_sections};
+ghost use Rattle.lk_sizes.specs.LiveSections.{section_addresses};
 ghost use Rattle.lk_sizes.specs.Owners.{EndsFit, by_part, content_of, has_image};
 ghost use Rattle.lk_sizes.specs.Tables.{behind_image};
 
 use crate::owners::{PartContents, image_bytes, image_lens};
 use lk_gc::Live;
+use lk_link::marks::is_marked;
 use lk_link::{FileId, InputSection, LinkInput, PlanPart, Section};
 use std::alloc::{AllocError, Global};
 
@@ -33,38 +34,39 @@ pub struct LiveSection {
     pub size: u64,
 }
 
-/// The live sections by file and index, with their addresses, by the lengths of merged images, what comes into the parts, and
-/// where the parts start in memory. Looks at each input section once (libwild: `ObjectLayoutState::finalise_layout`).
-pub fn live_sections(
+/// For each input section, by its number over all files, its address where it is live, else 0; by the lengths of merged images,
+/// what comes into the parts, and where the parts start in memory. Looks at each input section once, and takes 8 bytes for it
+/// (libwild: `ObjectLayoutState::finalise_layout`).
+pub fn section_addresses(
     alloc: Global,
     link: &LinkInput,
     live: &Live,
     merged_lens: &[u64],
     contents: &[PartContents],
     starts: &[u64],
-) -> Result<Vec<LiveSection>, AllocError>
+) -> Result<Vec<u64>, AllocError>
     requires good { IsWellFormed link.now }
     requires live { AreLive link.now live.now }
     requires contents { contents.now ≡ part_contents link.now (content_of live.now merged_lens.now) }
     requires starts { length starts.now ≡ length (all_parts link.now.plan.sections) }
     requires fit { EndsFit link.now (content_of live.now merged_lens.now) starts.now }
-    ensures { IfOk result (λ sections. sections.items ≡ live_sections link.now (content_of live.now merged_lens.now) starts.now) }
+    ensures { IfOk result (λ addresses. addresses.items
+        ≡ section_addresses link.now (content_of live.now merged_lens.now) starts.now) }
 {
     let parts = link.plan.sections.parts();
+    let marks = live.marks.as_slice();
     let mut next = behind_images(alloc, link, merged_lens, contents, starts)?;
-    let count = live.marks.as_slice().iter().filter(|mark| **mark).count();
-    let mut sections = Vec::with_capacity(alloc, count)?;
-    for input in live.inputs(link) {
-        let part = input.section.part.as_usize();
-        let address = take_next(&mut next[part], &parts[part], input.section);
-        sections.push(LiveSection {
-            file: input.file,
-            index: input.index,
-            address,
-            size: input.section.size,
-        })?;
+    let mut addresses = Vec::with_capacity(alloc, marks.len())?;
+    for input in link.groups.inputs() {
+        let is_live = is_marked(marks, addresses.len());
+        let mut address = 0u64;
+        if is_live {
+            let part = input.section.part.as_usize();
+            address = take_next(&mut next[part], &parts[part], input.section);
+        }
+        addresses.push(address)?;
     }
-    Ok(sections)
+    Ok(addresses)
 }
 
 /// For each part where its image ends, if it has one, else where it starts.

@@ -1,6 +1,7 @@
 //! Laws on owners and sizes.
 
 ghost use Rattle.lk_sizes.specs.Images.{ImagesAreOwners, ImagesStandWhereInputsGo};
+ghost use Rattle.lk_sizes.specs.LiveSections.{TableTellsLiveSections};
 ghost use Rattle.lk_sizes.specs.Owners.{FirstSizesAreSizes, LiveSectionsAreOwners};
 ghost use Rattle.lk_sizes.specs.Tiles.{OwnersTileTheirPart, OwnersAreAligned};
 
@@ -22,6 +23,11 @@ pub fn owners_are_aligned()
 /// A law: each live section stands among the owners of its part under its number there.
 pub fn live_sections_are_owners()
     ensures { LiveSectionsAreOwners }
+{}
+
+/// A law: by their marks and the table of addresses, the live sections are told with the addresses that they have.
+pub fn table_tells_live_sections()
+    ensures { TableTellsLiveSections }
 {}
 
 /// A law: each merged image stands among the owners of its part under its number there, with its length.

@@ -10,7 +10,7 @@ mod kept;
 pub mod laws;
 pub mod owners;
 
-pub use addresses::{LiveSection, live_sections};
+pub use addresses::{LiveSection, section_addresses};
 pub use attributes::propagate_section_attributes;
 pub use error::SizeError;
 pub use header::{HeaderInfo, determine_header_sizes};

@@ -1,24 +1,27 @@
 //! The report of a layout with gaps, built by hand.
 
+ghost use Rattle.lk_link.specs.WellFormed.{IsWellFormed};
+
 use crate::rows::{Asked, add, expect_rows};
 use crate::shown::Shown;
+use lk_check::check_link;
 use lk_layout::resolution::Resolution;
-use lk_layout::{Layout, LiveSection};
-use lk_link::{Alignment, FileId, LinkInput, List, SegmentId, SymbolId, ValueFlags};
+use lk_layout::{Layout, SymbolResolutions};
+use lk_link::{Alignment, LinkInput, List, SegmentId, SymbolId, ValueFlags};
 use lk_place::{OutputRecordLayout, SegmentLayout};
 use lk_run::report::report_text;
 use std::alloc::{AllocError, Global};
 use std::test::Fail;
 
-/// Sections of two, three, no and two parts.
+/// Sections of two, three, one and two parts.
 const MANY: &str = r#"
-{"plan":{"page":16,"sections":[{"parts":[[2,false],[1,false]]},{"parts":[[4,false],[2,false],[1,false]]},{},{"parts":[[2,false],[1,false]]}]},"groups":[]} => report "layout\nsection 0 index - mem 0x0 0 file 0x0 0 align 1 lma 0x0 attrs 1\nsection 1 index 0 mem 0xabcd 3 file 0xa 3 align 1 lma 0xabcd attrs 3\npart 0 mem 0x0 0 file 0x0 0 align 1\npart 3 mem 0xabcd 3 file 0xa 3 align 1\nsegment 7 mem 0xabcd 3 file 0xa 3 align 1\nlive 1 0 2 0x1010 16\nentry -\nend\n"
+{"plan":{"page":16,"sections":[{"parts":[[2,false],[1,false]]},{"parts":[[4,false],[2,false],[1,false]]},{"parts":[[1,false]]},{"parts":[[2,false],[1,false]]}],"events":[["sec",0],["sec",1],["sec",2],["sec",3]]},"groups":[[{"kind":"prelude"}],[{"kind":"object","sections":[{"slot":"must","size":1},{"slot":"must","size":2},{"slot":"must","size":16},{"slot":"must","size":3}]}]]} => report "layout\nsection 0 index - mem 0x0 0 file 0x0 0 align 1 lma 0x0 attrs 1\nsection 1 index 0 mem 0xabcd 3 file 0xa 3 align 1 lma 0xabcd attrs 3\npart 0 mem 0x0 0 file 0x0 0 align 1\npart 3 mem 0xabcd 3 file 0xa 3 align 1\nsegment 7 mem 0xabcd 3 file 0xa 3 align 1\nlive 1 0 2 0x1010 16\nentry -\nend\n"
 "#;
 
 /// No sections, and four symbols, of which all but the first have a resolution: an address, the greatest number and what the
 /// dynamic linker gives. The entry is none, each of them, and one more.
 const ENTRIES: &str = r#"
-{"plan":{"page":16},"groups":[]} => none "layout\nsymbol 1 0xabcd 64 got - plt - dyn -\nsymbol 2 0xffffffffffffffff 4294967295 got - plt - dyn -\nsymbol 3 0x7 66 got - plt - dyn -\nentry -\nend\n" entry "layout\nsymbol 1 0xabcd 64 got - plt - dyn -\nsymbol 2 0xffffffffffffffff 4294967295 got - plt - dyn -\nsymbol 3 0x7 66 got - plt - dyn -\nentry not loaded\nend\n" entry "layout\nsymbol 1 0xabcd 64 got - plt - dyn -\nsymbol 2 0xffffffffffffffff 4294967295 got - plt - dyn -\nsymbol 3 0x7 66 got - plt - dyn -\nentry 0xabcd\nend\n" entry "layout\nsymbol 1 0xabcd 64 got - plt - dyn -\nsymbol 2 0xffffffffffffffff 4294967295 got - plt - dyn -\nsymbol 3 0x7 66 got - plt - dyn -\nentry 0xffffffffffffffff\nend\n" entry "layout\nsymbol 1 0xabcd 64 got - plt - dyn -\nsymbol 2 0xffffffffffffffff 4294967295 got - plt - dyn -\nsymbol 3 0x7 66 got - plt - dyn -\nentry not an address\nend\n" entry "layout\nsymbol 1 0xabcd 64 got - plt - dyn -\nsymbol 2 0xffffffffffffffff 4294967295 got - plt - dyn -\nsymbol 3 0x7 66 got - plt - dyn -\nentry not loaded\nend\n"
+{"plan":{"page":16},"groups":[[{"kind":"prelude"}]]} => none "layout\nsymbol 1 0xabcd 64 got - plt - dyn -\nsymbol 2 0xffffffffffffffff 4294967295 got - plt - dyn -\nsymbol 3 0x7 66 got - plt - dyn -\nentry -\nend\n" entry "layout\nsymbol 1 0xabcd 64 got - plt - dyn -\nsymbol 2 0xffffffffffffffff 4294967295 got - plt - dyn -\nsymbol 3 0x7 66 got - plt - dyn -\nentry not loaded\nend\n" entry "layout\nsymbol 1 0xabcd 64 got - plt - dyn -\nsymbol 2 0xffffffffffffffff 4294967295 got - plt - dyn -\nsymbol 3 0x7 66 got - plt - dyn -\nentry 0xabcd\nend\n" entry "layout\nsymbol 1 0xabcd 64 got - plt - dyn -\nsymbol 2 0xffffffffffffffff 4294967295 got - plt - dyn -\nsymbol 3 0x7 66 got - plt - dyn -\nentry 0xffffffffffffffff\nend\n" entry "layout\nsymbol 1 0xabcd 64 got - plt - dyn -\nsymbol 2 0xffffffffffffffff 4294967295 got - plt - dyn -\nsymbol 3 0x7 66 got - plt - dyn -\nentry not an address\nend\n" entry "layout\nsymbol 1 0xabcd 64 got - plt - dyn -\nsymbol 2 0xffffffffffffffff 4294967295 got - plt - dyn -\nsymbol 3 0x7 66 got - plt - dyn -\nentry not loaded\nend\n"
 "#;
 
 /// The record of three bytes at an address and an offset, or of nothing.
@@ -47,28 +50,19 @@ fn segment() -> SegmentLayout {
     }
 }
 
-/// A live section of 16 bytes.
-fn live_section() -> LiveSection {
-    LiveSection {
-        file: FileId { group: 1, file: 0 },
-        index: 2,
-        address: 4112,
-        size: 16,
-    }
-}
-
 /// A layout of nothing.
-fn empty_layout(alloc: Global) -> Layout {
-    Layout {
+fn empty_layout(alloc: Global) -> Result<Layout, AllocError> {
+    Ok(Layout {
         section_layouts: List::new(alloc),
         section_part_layouts: List::new(alloc),
         section_attributes: List::new(alloc),
         output_section_indexes: List::new(alloc),
         segment_layouts: List::new(alloc),
-        live_sections: List::new(alloc),
-        symbol_resolutions: List::new(alloc),
+        live_marks: List::new(alloc),
+        section_addresses: List::new(alloc),
+        symbol_resolutions: SymbolResolutions::with_capacity(alloc, 0)?,
         entry_symbol_id: None,
-    }
+    })
 }
 
 /// Gives a layout the records of three sections and five parts, and attributes and indexes of sections.
@@ -81,10 +75,11 @@ fn fill_sections(alloc: Global, layout: &mut Layout) -> Result<(), AllocError> {
     Ok(())
 }
 
-/// Gives a layout a segment and a live section.
+/// Gives a layout a segment and a live section, the third of four.
 fn fill_others(alloc: Global, layout: &mut Layout) -> Result<(), AllocError> {
     layout.segment_layouts = list_of(alloc, &[segment()])?;
-    layout.live_sections = list_of(alloc, &[live_section()])?;
+    layout.live_marks = list_of(alloc, &[false, false, true])?;
+    layout.section_addresses = list_of(alloc, &[0, 0, 4112])?;
     Ok(())
 }
 
@@ -94,36 +89,55 @@ fn add_layout(
     line: &mut String,
     link: &LinkInput,
     layout: &mut Layout,
-) -> Result<(), AllocError> {
+) -> Result<(), AllocError>
+    requires { IsWellFormed link.now }
+{
     fill_sections(alloc, layout)?;
     fill_others(alloc, layout)?;
     add(line, "report", &report_text(alloc, link, layout)?)
 }
 
 /// Adds the report of a layout that isn't the link's own: of three sections and five parts, with attributes of two sections,
-/// a segment, and a live section.
+/// a segment, and a live section; of a link that is well formed.
 pub fn add_report(alloc: Global, line: &mut String, link: &LinkInput) -> Result<(), AllocError> {
-    let mut layout = empty_layout(alloc);
+    if check_link(link).is_err() {
+        return Ok(());
+    }
+    let mut layout = empty_layout(alloc)?;
     add_layout(alloc, line, link, &mut layout)
 }
 
-/// A resolution.
-fn resolution(raw_value: u64, flags: u32) -> Option<Resolution> {
+/// Adds the resolution of the next symbol, if its flags ask for its value.
+fn add_resolution(
+    resolutions: &mut SymbolResolutions,
+    raw_value: u64,
+    flags: u32,
+) -> Result<(), AllocError> {
     let flags = ValueFlags(flags);
-    Some(Resolution { raw_value, flags })
+    if flags.has_resolution() {
+        resolutions.push(Some(Resolution { raw_value, flags }))
+    } else {
+        resolutions.push(None)
+    }
 }
 
 /// A layout of four symbols.
 fn layout_of_symbols(alloc: Global) -> Result<Layout, AllocError> {
-    let mut layout = empty_layout(alloc);
-    let (address, greatest) = (resolution(43981, 64), resolution(u64::MAX, u32::MAX));
-    let resolutions = [None, address, greatest, resolution(7, 66)];
-    layout.symbol_resolutions = list_of(alloc, &resolutions)?;
+    let mut layout = empty_layout(alloc)?;
+    let mut resolutions = SymbolResolutions::with_capacity(alloc, 4)?;
+    add_resolution(&mut resolutions, 0, 0)?;
+    add_resolution(&mut resolutions, 43981, 64)?;
+    add_resolution(&mut resolutions, u64::MAX, u32::MAX)?;
+    add_resolution(&mut resolutions, 7, 66)?;
+    layout.symbol_resolutions = resolutions;
     Ok(layout)
 }
 
-/// Adds the reports of four symbols without an entry, and with each of five.
+/// Adds the reports of four symbols without an entry, and with each of five; of a link that is well formed.
 pub fn add_entries(alloc: Global, line: &mut String, link: &LinkInput) -> Result<(), AllocError> {
+    if check_link(link).is_err() {
+        return Ok(());
+    }
     let mut layout = layout_of_symbols(alloc)?;
     add(line, "none", &report_text(alloc, link, &layout)?)?;
     for number in 0..5 {

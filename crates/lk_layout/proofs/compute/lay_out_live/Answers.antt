@@ -13,7 +13,7 @@ use Rattle.lk_layout.specs.OutputContent.{output_content}
 pub compute_layout_sections-requires-clause-each : goal.compute_layout_sections-requires-clause-each
 compute_layout_sections-requires-clause-each g c =
     let link = c.args.link.now in
-    let live : Live = c.args.live.now in
+    let live : Live = c.args.live in
     let contents : c.as_slice.result.now ≡ part_contents link (output_content link live) = c.as_slice.ensures ∙ c.in_ok-contents.ensures.1 in
     ap length (c.deref.ensures.value ∙ c.in_ok-sizes.ensures.sizes link (output_content link live) contents) ∙ length-by_part (part_size link (output_content link live)) link
 
@@ -26,7 +26,7 @@ lay_out_placed-requires-clause-contents g c = c.as_slice-2.ensures ∙ c.in_ok-c
 pub lay_out_placed-requires-clause-first : goal.lay_out_placed-requires-clause-first
 lay_out_placed-requires-clause-first g c =
     let link = c.args.link.now in
-    let live : Live = c.args.live.now in
+    let live : Live = c.args.live in
     let sizes = c.in_ok-sizes.ensures.sizes link (output_content link live) (c.as_slice.ensures ∙ c.in_ok-contents.ensures.1) in
     c.deref-2.ensures.value ∙ sizes ∙ sym (c.first_sizes_are_sizes.ensures link (output_content link live) (keeps_sizes link c.requires.carried))
 
@@ -34,7 +34,7 @@ pub lay_out_placed-requires-clause-takes : goal.lay_out_placed-requires-clause-t
 lay_out_placed-requires-clause-takes g c =
     let target = platform_target (g.P.Platform.segment_start c.args.platform.now) in
     let link = c.args.link.now in
-    let live : Live = c.args.live.now in
+    let live : Live = c.args.live in
     let contents : c.as_slice.result.now ≡ part_contents link (output_content link live) = c.as_slice.ensures ∙ c.in_ok-contents.ensures.1 in
     let sizes : c.deref.result.now ≡ part_sizes link (output_content link live) = c.deref.ensures.value ∙ c.in_ok-sizes.ensures.sizes link (output_content link live) contents in
     let are : ArePlaced (setting target link live) c.in_ok-placed.placed = rw sizes at c.in_ok-placed.ensures in

@@ -1,4 +1,4 @@
-use Rattle.std.proofs.Common.{◌≡◌, ◌<◌, ℕ, List, [], length, sym, ap, subst, ◌∙◌}
+use Rattle.std.proofs.Common.{◌≡◌, ◌<◌, ℕ, List, [], length, refl, sym, ap, subst, ◌∙◌}
 use Rattle.std.specs.Prelude.{All}
 use Rattle.lk_place.specs.Records.{Record}
 use Rattle.lk_sizes.specs.Contents.{contents_of}
@@ -9,7 +9,7 @@ use Rattle.lk_layout.proofs.compute.lay_out_placed.Goals as goal
 use Rattle.lk_place.specs.Segments.{section_records}
 use Rattle.lk_sizes.specs.declared.header.HeaderInfo.{HeaderInfo}
 use Rattle.lk_sizes.specs.Emitted.{active_segments, is_emitted}
-use Rattle.lk_sizes.specs.LiveSections.{live_sections}
+use Rattle.lk_sizes.specs.LiveSections.{section_addresses}
 use Rattle.lk_layout.specs.Defined.{starts_of}
 use Rattle.lk_layout.specs.Resolutions.{symbol_resolutions}
 use Rattle.lk_layout.proofs.Answering.{same_layout, told}
@@ -17,10 +17,10 @@ use Rattle.lk_link.specs.Marks.{is_marked}
 use Rattle.lk_layout.specs.OutputContent.{output_content}
 
 pub determine_header_sizes-requires-clause-sizes : goal.determine_header_sizes-requires-clause-sizes
-determine_header_sizes-requires-clause-sizes c = ap length c.requires.first ∙ length-by_part (first_size c.args.link.now (output_content c.args.link.now c.args.live.now)) c.args.link.now
+determine_header_sizes-requires-clause-sizes c = ap length c.requires.first ∙ length-by_part (first_size c.args.link.now (output_content c.args.link.now c.args.live)) c.args.link.now
 
 pub propagate_section_attributes-requires-clause-count : goal.propagate_section_attributes-requires-clause-count
-propagate_section_attributes-requires-clause-count c = ap length c.requires.contents ∙ length-by_part (contents_of c.args.link.now (output_content c.args.link.now c.args.live.now)) c.args.link.now
+propagate_section_attributes-requires-clause-count c = ap length c.requires.contents ∙ length-by_part (contents_of c.args.link.now (output_content c.args.link.now c.args.live)) c.args.link.now
 
 pub compute_segment_layout-requires-clause-each : goal.compute_segment_layout-requires-clause-each
 compute_segment_layout-requires-clause-each c =
@@ -29,7 +29,7 @@ compute_segment_layout-requires-clause-each c =
 pub compute_segment_layout-requires-clause-there : goal.compute_segment_layout-requires-clause-there
 compute_segment_layout-requires-clause-there c =
     let link = c.args.link.now in
-    let live = c.args.live.now in
+    let live = c.args.live in
     let headers = c.in_ok-headers.ensures.header [] c.requires.first in
     let active : c.as_slice-3.result.now ≡ (header_info link (output_content link live)).active_segment_ids = c.as_slice-3.ensures ∙ ap (λ h. h.active_segment_ids) headers in
     let There : List ℕ → Type 0 = All (λ i. i < length link.plan.segments) in
@@ -38,7 +38,7 @@ compute_segment_layout-requires-clause-there c =
 pub returns : goal.returns
 returns c =
     let link = c.args.link.now in
-    let live = c.args.live.now in
+    let live = c.args.live in
     let records : List Record = c.args.placed.parts in
     let headers : c.in_ok-headers.headers ≡ header_info link (output_content link live) = c.in_ok-headers.ensures.header [] c.requires.first in
     let sections : c.as_slice.result.now ≡ section_records link.plan.sections records = c.as_slice.ensures ∙ c.requires.sections in
@@ -47,10 +47,11 @@ returns c =
     let active : c.as_slice-3.result.now ≡ active_segments link (output_content link live) = c.as_slice-3.ensures ∙ ap (λ (h : HeaderInfo). h.active_segment_ids) headers in
     let read : c.as_slice-4.result.now ≡ records = c.as_slice-4.ensures in
     told link live records _ (rw (sections, marks) at c.in_ok-segments.ensures.inside)
-    (same_layout _ _ records _ _ _ _ _ _ _ _ _ _ _ _ c.requires.sections
+    (same_layout _ _ records _ _ _ _ _ _ _ _ _ _ _ _ _ _ c.requires.sections
     (c.from_vec.ensures ∙ c.in_ok-attributes.ensures (output_content link live) c.requires.contents)
     (ap (λ (h : HeaderInfo). h.output_section_indexes) headers)
     (c.from_vec-2.ensures ∙ (rw (sections, marks, active) at c.in_ok-segments.ensures.layouts))
-    (c.from_vec-3.ensures ∙ c.in_ok-addresses.ensures.sections ∙ ap (λ (rs : List Record). live_sections link (output_content link live) (starts_of rs)) read)
-    (c.from_vec-4.ensures ∙ c.in_ok-addresses.ensures.resolutions ∙ ap (λ (rs : List Record). symbol_resolutions link live (starts_of rs)) read)
+    refl
+    (c.from_vec-3.ensures ∙ c.in_ok-addresses.ensures.sections ∙ ap (λ (rs : List Record). section_addresses link (output_content link live) (starts_of rs)) read)
+    (c.in_ok-addresses.ensures.resolutions ∙ ap (λ (rs : List Record). symbol_resolutions link live (starts_of rs)) read)
     c.entry_symbol.ensures)

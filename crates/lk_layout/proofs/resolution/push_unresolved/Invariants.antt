@@ -5,4 +5,4 @@ use Rattle.lk_layout.proofs.resolution.push_unresolved.Given as goal
 -- those so far, followed by those of the symbols that are left, are all
 abbrev pub invariant-loop-symbol : goal.invariant-loop-symbol
 invariant-loop-symbol l =
-    l.resolutions.items ++ map (λ (x : InputSymbol). None) (drop l._symbol-index l.symbols) ≡ l.initial.resolutions.items ++ map (λ (x : InputSymbol). None) l.symbols
+    l.resolutions ++ map (λ (x : InputSymbol). None) (drop l._symbol-index l.symbols) ≡ l.initial.resolutions ++ map (λ (x : InputSymbol). None) l.symbols

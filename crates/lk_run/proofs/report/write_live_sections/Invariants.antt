@@ -1,7 +1,13 @@
-use Rattle.std.proofs.Common.{◌≡◌, ◌++◌, drop}
+use Rattle.std.proofs.Common.{◌≡◌, ◌++◌, length, map}
 use Rattle.std.specs.Prelude.{string_bytes}
-use Rattle.lk_run.specs.Report.{each, live_line, live_lines}
+use Rattle.std.specs.List.{enumerate_from, flat_map}
+use Rattle.lk_link.specs.Walks.{input_of}
+use Rattle.lk_run.specs.Report.{input_text}
 use Rattle.lk_run.proofs.report.write_live_sections.Given as goal
 
-abbrev pub invariant-loop-section : goal.invariant-loop-section
-invariant-loop-section l = string_bytes l.text ++ each (λ _ section. live_line section) l.section-index (drop l.section-index l.live) ≡ string_bytes l.initial.text ++ live_lines l.live
+-- the texts of the input sections so far are written
+abbrev pub invariant-loop-input : goal.invariant-loop-input
+invariant-loop-input l = record {
+  written : string_bytes l.text ≡ string_bytes l.initial.text ++ flat_map (input_text l.layout) (enumerate_from 0 (map input_of l.yielded));
+  number : l.number ≡ length l.yielded;
+}

@@ -1,6 +1,6 @@
--- What the code goes by: what is told of the marked ones alone, spread over all, and room behind addresses. Contracts of private
--- functions speak of this.
-use Rattle.std.specs.Prelude.{◌≡◌, ℕ, suc, ◌+◌, ◌<◌, ◌^◌, Bool, true, false, if◌then◌else◌, List, [], ◌∷◌, All, Option, Some, None}
+-- What the code goes by: places by marks and a table of addresses, and the room behind them. Contracts of private functions speak
+-- of this.
+use Rattle.std.specs.Prelude.{◌≡◌, ℕ, ◌+◌, ◌<◌, ◌^◌, Bool, true, if◌then◌else◌, List, All, Option, Some, None}
 use Rattle.std.specs.List.{slice_index_or}
 use Rattle.lk_link.specs.declared.file.InputFile.{InputFile}
 use Rattle.lk_link.specs.declared.ids.FileId.{FileId}
@@ -9,12 +9,6 @@ use Rattle.lk_link.specs.declared.symbol.SymbolPlacement.TheVariants as at
 use Rattle.lk_link.specs.Files.{file_in}
 use Rattle.lk_link.specs.Inputs.{first_input}
 use Rattle.lk_link.specs.Marks.{is_marked}
-
--- for each marked one what is told next, from number n on; for any other 0
-unfoldable pub spread : List ℕ → ℕ → List Bool → List ℕ
-spread told n [] = []
-spread told n (true ∷ marks) = slice_index_or told n 0 ∷ spread told (suc n) marks
-spread told n (false ∷ marks) = 0 ∷ spread told n marks
 
 -- the address at an offset of an input section, by marks of sections and a table of their addresses
 abbrev pub place_in : List Bool → List ℕ → ℕ → ℕ → Option ℕ

@@ -1,0 +1,110 @@
+-- The value of a symbol that stands for a place in a section is the section's address, as it is told, and the offset there.
+use Rattle.std.proofs.Common.{◌≡◌, ℕ, ◌+◌, ◌<◌, get_or, true, false, if◌then◌else◌, List, length, map, sum_by, take, Option, Some, None, refl, sym, ap, ◌∙◌, arith}
+use Rattle.std.specs.Prelude.{option_map, slice_get, unwrap_or}
+use Rattle.std.specs.List.{enumerate_from, flat_map}
+use Rattle.std.proofs.lemmas.List.{length-map}
+use Rattle.std.proofs.lemmas.List.Concat.{get_or-flat_map, length-flat_map}
+use Rattle.std.proofs.lemmas.List.FromFn.{length-enumerate_from}
+use Rattle.std.proofs.lemmas.Option.{get_or_from_slice_get, slice_get_within}
+use Rattle.lk_link.specs.declared.file.InputFile.{InputFile}
+use Rattle.lk_link.specs.declared.ids.FileId.{FileId}
+use Rattle.lk_link.specs.declared.link.LinkInput.{LinkInput}
+use Rattle.lk_link.specs.declared.symbol.InputSymbol.{InputSymbol}
+use Rattle.lk_link.specs.declared.symbol.SymbolPlacement.TheVariants as at
+use Rattle.lk_link.specs.Files.{file_in}
+use Rattle.lk_link.specs.FileKinds.{is_object}
+use Rattle.lk_link.specs.Inputs.{Input, NumberedFile, all_inputs, first_input, input_number, numbered_files}
+use Rattle.lk_link.specs.Marks.{is_marked}
+use Rattle.lk_link.specs.Symbols.{file_number, first_symbol, symbols_in}
+use Rattle.lk_link.proofs.Elements.{map_in}
+use Rattle.lk_link.proofs.InputLemmas.{file_stands, files_from_are, inputs_follow, numbered_get, sum_taken}
+use Rattle.lk_gc.specs.declared.live.Live.{Live}
+use Rattle.lk_gc.specs.Reach.{live_inputs}
+use Rattle.lk_sizes.specs.declared.addresses.LiveSection.{LiveSection}
+use Rattle.lk_sizes.specs.LiveSections.{live_section, live_sections}
+use Rattle.lk_sizes.specs.Owners.{live_address}
+use Rattle.lk_layout.specs.declared.layout.Layout.{Layout}
+use Rattle.lk_layout.specs.declared.resolution.Resolution.{Resolution}
+use Rattle.lk_layout.specs.Layouts.{told_live}
+use Rattle.lk_layout.specs.OutputContent.{output_content}
+use Rattle.lk_layout.specs.Resolutions.{address_at, file_resolutions, flags_at, is_resolved, placed_value, resolution_at, resolution_of, symbol_resolutions}
+use Rattle.lk_layout.specs.Sound.{SymbolsStandInLiveSections, ValuesAreInLiveSections}
+use Rattle.lk_layout.proofs.Placing.{marked_in}
+
+-- ---- the resolution of a file's symbol
+
+-- each symbol of a file has its place among the file's
+pub as_many : (place : ℕ → ℕ → Option ℕ) (link : LinkInput) (live : Live) (f : NumberedFile) → length (file_resolutions place live.flags link.groups f) ≡ symbols_in f.file
+as_many place link live f =
+    elim (is_object f.file.kind) as (λ b. length (if b then map (resolution_of place live.flags (first_input link.groups f.id)) (enumerate_from (first_symbol link.groups f.id) f.file.symbols)
+    else map (λ _. None) f.file.symbols) ≡ symbols_in f.file) [
+      | true ↦ length-map (enumerate_from (first_symbol link.groups f.id) f.file.symbols) (resolution_of place live.flags (first_input link.groups f.id))
+          ∙ length-enumerate_from (first_symbol link.groups f.id) f.file.symbols
+      | false ↦ length-map f.file.symbols (λ (x : InputSymbol). let none : Option Resolution = None in none)
+    ]
+
+-- it stands there behind those of the files before
+resolution_is : (link : LinkInput) (live : Live) (starts : List ℕ) (id : FileId) (file : InputFile) (k : ℕ) (x : InputSymbol) → file_in link.groups id ≡ Some file → is_object file.kind ≡ true
+    → slice_get file.symbols k ≡ Some x → resolution_at (symbol_resolutions link live starts) (first_symbol link.groups id + k)
+    ≡ resolution_of (address_at link live starts) live.flags (first_input link.groups id) (first_symbol link.groups id + k, x)
+resolution_is link live starts id file k x there object at_k =
+    let groups = link.groups in
+    let place = address_at link live starts in
+    let f : NumberedFile = record { id = id; file = file } in
+    let n : ℕ = file_number groups id in
+    let files : List NumberedFile = numbered_files groups in
+    let of_file : NumberedFile → List (Option Resolution) = file_resolutions place live.flags groups in
+    let first : ℕ = first_symbol groups id in
+    let one : ℕ × InputSymbol → Option Resolution = resolution_of place live.flags (first_input groups id) in
+    let before : length (flat_map of_file (take n files)) ≡ first
+    = length-flat_map of_file (take n files)
+    ∙ sum_taken (λ (g : NumberedFile). length (of_file g)) symbols_in (λ (g : NumberedFile). g.file) (as_many place link live) n files
+    ∙ ap (λ fs. sum_by symbols_in (take n fs)) (files_from_are 0 groups) in
+    let few = slice_get_within file.symbols k x at_k in
+    let at_f : slice_get files n ≡ Some f = file_stands groups id file there in
+    let is_f : get_or files n f ≡ f = get_or_from_slice_get files n f f at_f in
+    let within : k < length (of_file (get_or files n f)) = omega (arith, ap (λ (g : NumberedFile). length (of_file g)) is_f, as_many place link live f, few) in
+    let here : slice_get (of_file f) k ≡ Some (one (first + k, x))
+    = ap (λ b. slice_get (if b then map one (enumerate_from first file.symbols) else map (λ _. None) file.symbols) k) object
+    ∙ map_in one (enumerate_from first file.symbols) k (first + k, x) (numbered_get first file.symbols k x at_k) in
+    ap (λ (m : ℕ). resolution_at (symbol_resolutions link live starts) (m + k)) (sym before)
+    ∙ get_or-flat_map of_file files n k f None (slice_get_within files n f at_f) within
+    ∙ ap (λ (g : NumberedFile). get_or (of_file g) k None) is_f
+    ∙ get_or_from_slice_get (of_file f) k (one (first + k, x)) None here
+
+-- ---- its value
+
+-- what is resolved has its value
+value_of : (place : ℕ → ℕ → Option ℕ) (live : Live) (first s i offset address : ℕ) (x : InputSymbol) → is_resolved s x (flags_at live.flags s) ≡ true → x.at ≡ at.Section i offset
+    → place (first + i) offset ≡ Some address → option_map (λ (r : Resolution). r.raw_value) (resolution_of place live.flags first (s, x)) ≡ Some address
+value_of place live first s i offset address x resolved stands is =
+    let made : ℕ → Option Resolution = λ n. Some (record { raw_value = n; flags = flags_at live.flags s }) in
+    let value : placed_value place first x.at ≡ address = ap (placed_value place first) stands ∙ ap (λ (o : Option ℕ). unwrap_or o 0) is in
+    ap (λ b. option_map (λ (r : Resolution). r.raw_value) (if b then made (placed_value place first x.at) else None)) resolved
+    ∙ ap (λ (n : ℕ). Some n) value
+
+pub values_are_in_live_sections : (link : LinkInput) (live : Live) (layout : Layout) (starts : List ℕ) → told_live link layout ≡ live_sections link (output_content link live) starts
+    → layout.symbol_resolutions ≡ symbol_resolutions link live starts → SymbolsStandInLiveSections link live → ValuesAreInLiveSections link live layout
+values_are_in_live_sections link live layout starts shown resolved placed id file i offset section there s stands at_i unmerged =
+    let content = output_content link live in
+    let x : Input = record { file = id; index = i; section = section } in
+    let k : ℕ = input_number link.groups id i in
+    let number : ℕ = first_symbol link.groups id + s.index in
+    let first : ℕ = first_input link.groups id in
+    let set : is_marked live.marks k ≡ true = placed id file i section there s at_i unmerged in
+    let at_k : slice_get (all_inputs link.groups) k ≡ Some x = inputs_follow.at link.groups id file i section there at_i in
+    let among = marked_in live.marks (all_inputs link.groups) k x at_k set in
+    let told : slice_get (told_live link layout) among.0 ≡ Some (live_section link content starts x)
+    = ap (λ (ls : List LiveSection). slice_get ls among.0) shown ∙ map_in (live_section link content starts) (live_inputs link live) among.0 x among.1 in
+    let shift : Input → ℕ = λ y. live_address link content starts y + offset in
+    let address : address_at link live starts k offset ≡ Some (live_address link content starts x + offset)
+    = ap (λ b. if b then option_map shift (slice_get (all_inputs link.groups) k) else None) set ∙ ap (option_map shift) at_k in
+    let one : Option Resolution = resolution_of (address_at link live starts) live.flags first (number, s.symbol) in
+    let read : resolution_at layout.symbol_resolutions number ≡ one
+    = ap (λ (rs : List (Option Resolution)). resolution_at rs number) resolved
+    ∙ resolution_is link live starts id file s.index s.symbol there s.object s.there in (
+      live_section link content starts x,
+      record { number = among.0; told = told; file = refl; index = refl },
+      ap (option_map (λ (r : Resolution). r.raw_value)) read
+          ∙ value_of (address_at link live starts) live first number i offset (live_address link content starts x + offset) s.symbol s.resolved stands address,
+    )
