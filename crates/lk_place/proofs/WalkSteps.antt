@@ -15,13 +15,14 @@ use Rattle.lk_place.specs.Setting.{Setting}
 use Rattle.lk_place.specs.Walk.{AllPass, GivesWalked, StopsBy, at_event, cursors_after, first_state, record_after, recorded, stepped, unless}
 
 -- the walk begins where the placement does
-pub starts_at : (setting : Setting) (c : Cursors) → c.file ≡ 0 → as_number setting.plan.base ≡ Some c.memory → c ≡ first_state setting
-starts_at setting c file memory =
-    ap (λ (n : ℕ). let at : Cursors = record { file = n; memory = c.memory } in at) file
-    ∙ ap (λ (o : Option ℕ). let at : Cursors = record { file = 0; memory = unwrap_or o 0 } in at) (sym memory)
+pub starts_at : (setting : Setting) (c : Cursors) → c.file ≡ 0 → as_number setting.plan.base ≡ Some c.memory → c.saved ≡ None → c ≡ first_state setting
+starts_at setting c file memory saved =
+    ap (λ (n : ℕ). let at : Cursors = record { file = n; memory = c.memory; saved = c.saved } in at) file
+    ∙ ap (λ (o : Option ℕ). let at : Cursors = record { file = 0; memory = unwrap_or o 0; saved = c.saved } in at) (sym memory)
+    ∙ ap (λ (o : Option ℕ). let at : Cursors = record { file = 0; memory = unwrap_or (as_number setting.plan.base) 0; saved = o } in at) saved
 
 pub first_is : (setting : Setting) (c : Cursors) → IsFirst setting c → c ≡ first_state setting
-first_is setting c h = starts_at setting c h.file h.memory
+first_is setting c h = starts_at setting c h.file h.memory h.saved
 
 unwrapped : (o : Option ℕ) → is_some o ≡ true → o ≡ Some (unwrap_or o 0)
 unwrapped None h = absurd (cc)
@@ -35,6 +36,7 @@ first_from setting may = record {
   regions = may.regions;
   file = refl;
   memory = unwrapped (as_number setting.plan.base) may.base;
+  saved = refl;
 }
 
 -- before all events the cursors are at the start

@@ -14,7 +14,7 @@ pub mod segments;
 pub mod walk;
 
 pub use crate::alignments::compute_segment_alignments;
-pub use crate::cursors::Cursors;
+pub use crate::cursors::{Cursors, Offsets};
 pub use crate::error::{PlaceError, Refusal};
 pub use crate::expressions::{
     Constant, NoValue, SymbolPosition, SymbolPositions, constant_redirects, evaluate_const,

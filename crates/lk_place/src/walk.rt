@@ -1,8 +1,8 @@
 //! The placement walk over the events of the plan.
 //!
 //! The walk goes through the events once, with a cursor in the file and one in memory. A load segment moves memory to where
-//! the platform lets it begin; a section places its parts from the cursors on and moves them behind the last; nothing else
-//! moves anything. The records go into one table by part number, which the walk is lent, so that it takes no memory. It
+//! the platform lets it begin; a section places its parts from the cursors on and moves them behind the last, and one that isn't
+//! zero-fill thread-local data begins where memory stood before any that is; nothing else moves anything. The records go into one table by part number, which the walk is lent, so that it takes no memory. It
 //! ends at the first event with a number past 2^64 - 1.
 
 ghost use Rattle.std.specs.Prelude.{◌≡◌, ◌<◌, ℕ, Some, IfOk, OnOk, length};
@@ -13,7 +13,7 @@ ghost use Rattle.lk_link.specs.WellFormed.{IsInRange, IsWellFormed};
 ghost use Rattle.lk_link.specs.Target.{platform_target};
 ghost use Rattle.lk_place.specs.Alignments.{place_alignment};
 ghost use Rattle.lk_place.specs.Answers.{GivesPlaced};
-ghost use Rattle.lk_place.specs.Placement.{event_refusal, memory_moved, moved, section_refusal};
+ghost use Rattle.lk_place.specs.Placement.{event_refusal, memory_moved, moved, saved_or_restored, section_refusal};
 ghost use Rattle.lk_place.specs.Plans.{IsPlaceable};
 ghost use Rattle.lk_place.specs.Records.{nowhere, record_at};
 ghost use Rattle.lk_place.specs.Setting.{setting_of};
@@ -27,7 +27,7 @@ use crate::hulls::{nothing, span_sections};
 use crate::record::OutputRecordLayout;
 use lk_link::alignment::Alignment;
 use lk_link::fault::Place;
-use lk_link::ids::SegmentId;
+use lk_link::ids::{OutputSectionId, SegmentId};
 use lk_link::link::LinkInput;
 use lk_link::list::List;
 use lk_link::plan::OrderEvent;
@@ -63,10 +63,7 @@ impl<P: Platform> Walk<'_, P> {
             .platform
             .align_load_segment_start(place, from.file, from.memory)
         {
-            Some(memory) => Ok(Cursors {
-                file: from.file,
-                memory,
-            }),
+            Some(memory) => Ok(Cursors { memory, ..from }),
             None => Err(Refusal::Overflow),
         }
     }
@@ -97,6 +94,26 @@ impl<P: Platform> Walk<'_, P> {
         }
     }
 
+    /// Where memory is saved before a zero-fill thread-local section, which takes no addresses from what comes behind it, or goes on
+    /// where it was saved before any other.
+    fn saved_or_restored(&self, section: OutputSectionId, from: Cursors) -> Cursors
+        ensures { result ≡ saved_or_restored self.now.link.now.plan section from }
+    {
+        let free = from.saved.unwrap_or(from.memory);
+        if self.link.plan.is_zero_fill_thread_local(section) {
+            Cursors {
+                saved: Some(free),
+                ..from
+            }
+        } else {
+            Cursors {
+                memory: free,
+                saved: None,
+                ..from
+            }
+        }
+    }
+
     /// The cursors after what an event does before it places a section.
     fn moved(&self, event: &OrderEvent, from: Cursors) -> Result<Cursors, Refusal>
         requires walkable { IsWalkable P.segment_start self.now }
@@ -105,6 +122,7 @@ impl<P: Platform> Walk<'_, P> {
     {
         match *event {
             OrderEvent::SegmentStart(segment) => { self.open_segment(segment, from) }
+            OrderEvent::Section(section) => Ok(self.saved_or_restored(section, from)),
             _ => Ok(from),
         }
     }
@@ -162,6 +180,7 @@ impl<P: Platform> Walk<'_, P> {
         let mut cursors = Cursors {
             file: 0,
             memory: base,
+            saved: None,
         };
         for (number, event) in self.link.plan.events.as_slice().iter().enumerate() {
             let end = self.carry_out(event, cursors, records);
