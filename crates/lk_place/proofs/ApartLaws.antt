@@ -10,10 +10,11 @@ use Rattle.lk_link.specs.PlanSections.{has_memory}
 use Rattle.lk_link.proofs.PartNumbers.{first_part-rises, first_part-suc}
 use Rattle.lk_place.specs.declared.cursors.Cursors.{Cursors}
 use Rattle.lk_place.specs.Laws.{FileRangesAreDisjoint, IsSoundlySet, MemoryRangesAreDisjoint, PlainMemoryIsDisjoint}
-use Rattle.lk_place.specs.Placement.{IsPlaced, IsPlacedBefore, free_memory, state_at}
+use Rattle.lk_place.specs.Placement.{IsPlaced, IsPlacedBefore, state_at}
 use Rattle.lk_place.specs.Ranges.{MemoryIsDisjoint, HasPart, TakesMemory}
 use Rattle.lk_place.specs.Records.{Record, file_end, mem_end, nowhere, record_at}
 use Rattle.lk_place.specs.Setting.{IsReady, Setting, part_count}
+use Rattle.lk_place.specs.ThreadLocal.{free_memory}
 use Rattle.lk_place.proofs.Insides.{placed_in_range}
 use Rattle.lk_place.proofs.Ranges.{Follow, IsWithin, follow-disjoint, follow-within, rises}
 use Rattle.lk_place.proofs.Steps.{file_follows, file_rises, memory_follows, memory_rises}

@@ -1,6 +1,6 @@
 -- Under a plain plan, memory is congruent to the file inside each load segment.
-use Rattle.std.proofs.Common.{◌≡◌, ℕ, zero, suc, ◌+◌, ◌-◌, ◌%◌, ◌<◌, ◌≤◌, Bool, true, false, List, length, take, Option, Some, None, refl, sym, ap, subst, ◌∙◌, inl, inr, arith, add-one, Ok}
-use Rattle.std.specs.Prelude.{◌||◌, slice_get, unwrap_or}
+use Rattle.std.proofs.Common.{◌≡◌, ℕ, zero, suc, ◌+◌, ◌-◌, ◌%◌, ◌<◌, ◌≤◌, Bool, true, false, List, length, take, Option, Some, None, refl, sym, ap, subst, ◌∙◌, inl, inr, arith, add-one, add-zero, Ok}
+use Rattle.std.specs.Prelude.{◌||◌, if◌then◌else◌, slice_get, unwrap_or}
 use Rattle.std.proofs.lemmas.Bool.{cases_Bool, cases_lt}
 use Rattle.lk_link.specs.declared.plan.OrderEvent.{OrderEvent}
 use Rattle.lk_link.specs.declared.plan.OrderEvent.TheVariants.{SegmentStart, Section}
@@ -13,14 +13,15 @@ use Rattle.lk_link.proofs.PartNumbers.{first_part-suc}
 use Rattle.lk_place.specs.declared.cursors.Cursors.{Cursors}
 use Rattle.lk_place.specs.Alignments.{place_alignment}
 use Rattle.lk_place.specs.Laws.{IsSoundlySet, PlainMemoryIsCongruent}
-use Rattle.lk_place.specs.Placement.{IsPlaced, Places, PlacesSection, Steps, free_memory, moved, state_at}
+use Rattle.lk_place.specs.Placement.{IsPlaced, Places, PlacesSection, Steps, moved, state_at}
 use Rattle.lk_place.specs.Plain.{IsLoadSegment, IsPlain, OpensLoad, PlacesInLoad, last_before}
 use Rattle.lk_place.specs.Ranges.{HasPart}
 use Rattle.lk_place.specs.Records.{Record, nowhere, record_at}
 use Rattle.lk_place.specs.Setting.{Setting, part_count, part_number}
+use Rattle.lk_place.specs.ThreadLocal.{free_memory}
 use Rattle.lk_place.proofs.AlignmentLaws.{place_aligned, place_reaches}
 use Rattle.lk_place.proofs.ApartLaws.{placed_of, section_one}
-use Rattle.lk_place.proofs.Congruent.{CursorsAgree, FreeAgrees, KeepsAgreement, StartsAgree, part_starts, section_leaves, unbacked_leaves}
+use Rattle.lk_place.proofs.Congruent.{CursorsAgree, FreeAgrees, KeepsAgreement, StartsAgree, more_agrees, part_starts, section_leaves, unbacked_leaves}
 use Rattle.lk_place.proofs.Insides.{placed_in_range}
 use Rattle.lk_place.proofs.Moves.{Enters, Moves, Stays, Opened, Entered, enters, moves, opens_load}
 use Rattle.lk_place.proofs.OpenSegments.{open_before, section_event}
@@ -107,6 +108,13 @@ opens_agree setting states records i from to set load unsaved step =
     ∙ ap (λ n. n % place) (sym there.0)
     ∙ ap (λ (c : Cursors). c.file % place) (sym step.places)
 
+-- an ordinary section with bytes in the file begins where both agree: they are padded alike
+level : (setting : Setting) (place u : ℕ) (from entered : Cursors) → is_file_backed setting.plan u ≡ true → is_zero_fill_thread_local setting.plan u ≡ false
+    → Enters setting u from entered → FreeAgrees place from → CursorsAgree place entered
+level setting place u from entered backed filled begun h =
+    let file : entered.file ≡ from.file + begun.padding = begun.file ∙ ap (λ b. from.file + (if b then begun.padding else 0)) backed in
+    ap (λ m. m % place) (begun.taken filled).0 ∙ more_agrees place (free_memory from) from.file begun.padding h ∙ ap (λ m. m % place) (sym file)
+
 -- an ordinary section inside the segment leaves both in agreement, as it has bytes in the file
 filled_agrees : (setting : Setting) (states : List Cursors) (records : List Record) (i s k : ℕ) → IsThrough setting states records i s k
     → (u n : ℕ) (from entered to : Cursors) → PlacesInLoad setting.plan i u n → is_file_backed setting.plan u ≡ true → is_zero_fill_thread_local setting.plan u ≡ false
@@ -114,7 +122,7 @@ filled_agrees : (setting : Setting) (states : List Cursors) (records : List Reco
 filled_agrees setting states records i s k t u n from entered to there backed filled begun h places =
     let place : ℕ = place_alignment setting i in
     let taken = begun.taken filled in
-    let agrees : CursorsAgree place entered = ap (λ m. m % place) taken.0 ∙ h ∙ ap (λ m. m % place) (sym begun.file) in
+    let agrees : CursorsAgree place entered = level setting place u from entered backed filled begun h in
     let none : to.saved ≡ None = ap (λ (c : Cursors). c.saved) places.leaves ∙ taken.1 in
     ap (λ (o : Option ℕ). unwrap_or o to.memory % place) none
     ∙ section_leaves setting place u entered to records (keeps setting states records i s k t u n entered there backed agrees) places
@@ -126,7 +134,7 @@ zero_fill_agrees setting place u from entered to records unbacked fills begun h 
     let saved : to.saved ≡ Some (free_memory from) = ap (λ (c : Cursors). c.saved) places.leaves ∙ begun.kept fills in
     ap (λ (o : Option ℕ). unwrap_or o to.memory % place) saved
     ∙ h
-    ∙ ap (λ m. m % place) (sym (unbacked_leaves setting u entered to records unbacked places ∙ begun.file))
+    ∙ ap (λ m. m % place) (sym (unbacked_leaves setting u entered to records unbacked places ∙ begun.file ∙ ap (λ b. from.file + (if b then begun.padding else 0)) unbacked ∙ add-zero from.file))
 
 section_agrees : (setting : Setting) (states : List Cursors) (records : List Record) (i s k : ℕ) → IsThrough setting states records i s k
     → (u n : ℕ) (from entered to : Cursors) → n < k → PlacesInLoad setting.plan i u n → Enters setting u from entered
@@ -207,8 +215,8 @@ placed_agree setting states records i s k j t below =
       | inl fills ↦ let unbacked = t.plain.zero_fill i s k t.places fills in absurd (cc)
       | inr none ↦ none
     ] in
-    let level : CursorsAgree place step.entered = ap (λ m. m % place) (begun.taken filled).0 ∙ agrees ∙ ap (λ m. m % place) (sym begun.file) in
-    part_starts setting place s j step.entered (state_at states (k + 1)) records (keeps setting states records i s k t s k step.entered t.places t.backed level) step.places below
+    let alike : CursorsAgree place step.entered = level setting place s from step.entered t.backed filled begun agrees in
+    part_starts setting place s j step.entered (state_at states (k + 1)) records (keeps setting states records i s k t s k step.entered t.places t.backed alike) step.places below
 
 -- where it doesn't, its parts stand nowhere
 unplaced : (setting : Setting) (states : List Cursors) (records : List Record) (s k p : ℕ) → IsSoundlySet setting states records

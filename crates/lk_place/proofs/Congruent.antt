@@ -14,9 +14,10 @@ use Rattle.lk_link.proofs.Starts.{next_multiple_is_least}
 use Rattle.lk_place.specs.declared.cursors.Cursors.{Cursors}
 use Rattle.lk_place.specs.declared.cursors.Offsets.{Offsets}
 use Rattle.lk_place.specs.Alignments.{section_alignment}
-use Rattle.lk_place.specs.Placement.{IsPlacedAt, PlacesSection, behind, first_walked, free_memory, is_walked, reached, section_start, walk_alignment}
+use Rattle.lk_place.specs.Placement.{IsPlacedAt, PlacesSection, behind, first_walked, is_walked, reached, section_start, walk_alignment}
 use Rattle.lk_place.specs.Records.{Record, record_at}
 use Rattle.lk_place.specs.Setting.{IsReady, Setting, part_count, part_number, size_at}
+use Rattle.lk_place.specs.ThreadLocal.{free_memory}
 use Rattle.lk_place.proofs.AlignmentLaws.{section_aligned}
 use Rattle.lk_place.proofs.Checked.{one_aligned}
 use Rattle.lk_place.proofs.Multiples.{least_one}
@@ -40,7 +41,7 @@ FreeAgrees place c = free_memory c % place ≡ c.file % place
 
 -- ---- numbers
 
-more_agrees : (place m f d : ℕ) → m % place ≡ f % place → (m + d) % place ≡ (f + d) % place
+pub more_agrees : (place m f d : ℕ) → m % place ≡ f % place → (m + d) % place ≡ (f + d) % place
 more_agrees place m f d h = sym (mod-add-mod m place d) ∙ ap (λ n. (n + d) % place) h ∙ mod-add-mod f place d
 
 -- what is rounded up alike agrees still

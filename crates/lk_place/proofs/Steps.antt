@@ -13,9 +13,10 @@ use Rattle.lk_place.specs.declared.cursors.Cursors.{Cursors}
 use Rattle.lk_place.specs.declared.cursors.Offsets.{Offsets}
 use Rattle.lk_place.specs.Alignments.{place_alignment}
 use Rattle.lk_place.specs.Laws.{IsSoundlySet}
-use Rattle.lk_place.specs.Placement.{IsPlaced, Places, PlacesSection, Steps, free_memory, moved, reached, section_start, state_at}
+use Rattle.lk_place.specs.Placement.{IsPlaced, Places, PlacesSection, Steps, moved, reached, section_start, state_at}
 use Rattle.lk_place.specs.Records.{Record, file_end, mem_end}
 use Rattle.lk_place.specs.Setting.{Setting, part_count}
+use Rattle.lk_place.specs.ThreadLocal.{free_memory}
 use Rattle.lk_place.proofs.AlignmentLaws.{place_aligned}
 use Rattle.lk_place.proofs.Moves.{Moves, Stays, Opened, Entered, enters, moves}
 use Rattle.lk_place.proofs.Ranges.{Follow, file_ranges, memory_ranges, rises, section_follows}
@@ -44,12 +45,12 @@ step_at setting states records k e is less here = (is.steps k e (omega arith) he
 abbrev FollowInFile : Setting → List Record → ℕ → ℕ → ℕ → Type 0
 FollowInFile setting records s low high = Follow (λ r. r.file_offset) file_end records (first_part setting.plan.sections s) (part_count setting.plan.sections s) low high
 
-pub entered_file : (setting : Setting) (e : OrderEvent) (from entered : Cursors) → moved setting e from ≡ Ok entered → entered.file ≡ from.file
+pub entered_file : (setting : Setting) (e : OrderEvent) (from entered : Cursors) → moved setting e from ≡ Ok entered → from.file ≤ entered.file
 entered_file setting e from entered h =
     elim (moves setting e from entered h) [
-      | Stays same ↦ ap (λ (c : Cursors). c.file) same
-      | Opened opens ↦ opens.file
-      | Entered s is enters ↦ enters.file
+      | Stays same ↦ omega (arith, ap (λ (c : Cursors). c.file) same)
+      | Opened opens ↦ omega (arith, opens.file)
+      | Entered s is begun ↦ omega (arith, begun.file)
     ]
 
 section_in_file : (setting : Setting) (s : ℕ) (entered to : Cursors) (records : List Record) → PlacesSection setting s entered records to → FollowInFile setting records s entered.file to.file
@@ -80,8 +81,10 @@ pub file_follows : (setting : Setting) (states : List Cursors) (records : List R
     → (k s : ℕ) → k < length states - 1 → slice_get setting.plan.events k ≡ Some (Section s) → FollowInFile setting records s (state_at states k).file (state_at states (k + 1)).file
 file_follows setting states records is k s less here =
     let step = step_at setting states records k (Section s) is less here in
-    let begins = entered_file setting (Section s) (state_at states k) step.entered step.moves in
-    subst (λ n. FollowInFile setting records s n (state_at states (k + 1)).file) begins (section_in_file setting s step.entered (state_at states (k + 1)) records step.places)
+    let from : Cursors = state_at states k in
+    let to : Cursors = state_at states (k + 1) in
+    widened (λ r. r.file_offset) file_end records (first_part setting.plan.sections s) (part_count setting.plan.sections s) step.entered.file to.file from.file to.file
+    (section_in_file setting s step.entered to records step.places) (entered_file setting (Section s) from step.entered step.moves) (omega arith)
 
 -- ---- in memory
 
@@ -106,7 +109,7 @@ entered_free setting states records set e from entered h =
         opens.memory,
         set.lawful.after (place_alignment setting opens.segment) from.file from.memory (place_aligned setting opens.segment set.ready.sections set.page),
       ))
-      | Entered s is enters ↦ omega (arith, enters.free)
+      | Entered s is begun ↦ begun.free
     ]
 
 section_in_memory : (setting : Setting) (s : ℕ) (entered to : Cursors) (records : List Record) → is_allocated setting.plan s ≡ true → PlacesSection setting s entered records to

@@ -18,4 +18,5 @@ pub mod Segments
 pub mod Setting
 pub mod Spans
 pub mod Surroundings
+pub mod ThreadLocal
 pub mod Walk

@@ -8,12 +8,11 @@ use Rattle.lk_link.specs.declared.fault.Place.TheVariants as place
 use Rattle.lk_link.specs.declared.options.OutputKind.TheVariants.{Partial}
 use Rattle.lk_link.specs.declared.plan.OrderEvent.{OrderEvent}
 use Rattle.lk_link.specs.declared.plan.OrderEvent.TheVariants.{SegmentStart, Section}
-use Rattle.lk_link.specs.declared.plan.Plan.{Plan}
 use Rattle.lk_link.specs.Alignments.{IsLeastMultiple}
 use Rattle.lk_link.specs.Expressions.{as_number}
 use Rattle.lk_link.specs.Inside.{placed_section}
 use Rattle.lk_link.specs.Parts.{all_parts, part_at}
-use Rattle.lk_link.specs.PlanSections.{is_allocated, is_file_backed, is_zero_fill_thread_local}
+use Rattle.lk_link.specs.PlanSections.{is_allocated, is_file_backed, is_thread_local}
 use Rattle.lk_link.specs.SegmentKinds.{is_load, segment_at}
 use Rattle.lk_place.specs.declared.cursors.Cursors.{Cursors}
 use Rattle.lk_place.specs.declared.cursors.Offsets.{Offsets}
@@ -25,6 +24,7 @@ use Rattle.lk_place.specs.Alignments.{place_alignment, section_alignment}
 use Rattle.lk_place.specs.Plans.{IsPlaceableEvent}
 use Rattle.lk_place.specs.Records.{Record, file_end, mem_end, nowhere, record_at}
 use Rattle.lk_place.specs.Setting.{Setting, has_bytes, of_parts, part_count, part_number, size_at}
+use Rattle.lk_place.specs.ThreadLocal.{run_begun, saved_or_restored}
 
 -- ---- the parts of a section
 
@@ -84,7 +84,11 @@ section_start setting s from = record { file = from.file; memory = if is_allocat
 
 -- the cursors behind a section whose parts end here: one that isn't allocated leaves memory where it was
 abbrev pub left_at : Setting → ℕ → Cursors → Offsets → Cursors
-left_at setting s from end = record from { file = end.file; memory = if is_allocated setting.plan s then end.memory else from.memory }
+left_at setting s from end = record from {
+  file = end.file;
+  memory = if is_allocated setting.plan s then end.memory else from.memory;
+  in_run = is_thread_local setting.plan s;
+}
 
 -- part p of a section is placed from the offsets on
 abbrev pub PlacesPart : Setting → ℕ → ℕ → Offsets → List Record → Type 0
@@ -117,29 +121,14 @@ Places setting (Some s) from records to = PlacesSection setting s from records t
 abbrev pub memory_moved : Cursors → ℕ → Result Cursors Refusal
 memory_moved from memory = if nat_lt memory (2 ^ 64) then Ok (record from { memory = memory }) else Err Overflow
 
--- where memory goes on for what takes addresses: where it was saved, else where the cursor stands
-abbrev pub free_memory : Cursors → ℕ
-free_memory c = unwrap_or c.saved c.memory
-
--- zero-fill thread-local data takes no addresses from what comes behind it: a section of it saves memory, if nothing is saved
-abbrev pub saving : Cursors → Cursors
-saving from = record from { saved = Some (free_memory from) }
-
--- any other section goes on where memory was saved, and clears that
-abbrev pub restoring : Cursors → Cursors
-restoring from = record from { memory = free_memory from; saved = None }
-
-abbrev pub saved_or_restored : Plan → ℕ → Cursors → Cursors
-saved_or_restored plan s from = if is_zero_fill_thread_local plan s then saving from else restoring from
-
 -- what an event does to the cursors before it places a section, or why it is refused: a load segment begins where the
--- platform lets it, by its place alignment, a section saves memory or goes on where it was saved, and nothing else that has a
--- step moves anything
+-- platform lets it, by its place alignment; a section saves memory or goes on where it was saved, and may begin a run; and nothing
+-- else that has a step moves anything
 abbrev pub moved : Setting → OrderEvent → Cursors → Result Cursors Refusal
 moved setting (SegmentStart i) from =
     let start = setting.target.segment_start (place_alignment setting i) from.file from.memory in
     if is_load (segment_at setting.plan.segments i).kind then memory_moved from start else Ok from
-moved setting (Section s) from = Ok (saved_or_restored setting.plan s from)
+moved setting (Section s) from = run_begun setting s (saved_or_restored setting.plan s from)
 moved setting _ from = Ok from
 
 -- an event moves the cursors, and then places its section, if it has one; what isn't placed yet has no step: what moves the
@@ -205,9 +194,9 @@ step_refusal setting k e from = option_map (numbered k) (event_refusal setting e
 
 -- ---- the placement
 
--- the cursors before the first event: the file begins at 0, and memory at the number that is the plan's base; nothing is saved.
--- Partial output, a base that is asked for or is no number, headers before the first section and regions have no first state: they
--- aren't placed yet
+-- the cursors before the first event: the file begins at 0, and memory at the number that is the plan's base; nothing is saved, and
+-- no run is begun. Partial output, a base that is asked for or is no number, headers before the first section and regions have no
+-- first state: they aren't placed yet
 pub record IsFirst (setting : Setting) (c : Cursors) : Type 0 where
   pub whole : setting.output ≢ Partial
   pub unasked : setting.plan.custom_base ≡ false
@@ -216,10 +205,11 @@ pub record IsFirst (setting : Setting) (c : Cursors) : Type 0 where
   pub file : c.file ≡ 0
   pub memory : as_number setting.plan.base ≡ Some c.memory
   pub saved : c.saved ≡ None
+  pub in_run : c.in_run ≡ false
 
 -- the cursors before event k, among the states
 abbrev pub state_at : List Cursors → ℕ → Cursors
-state_at states k = slice_index_or states k (record { file = 0; memory = 0; saved = None })
+state_at states k = slice_index_or states k (record { file = 0; memory = 0; saved = None; in_run = false })
 
 -- the refusal of the event with this number, if there is one
 abbrev pub refusal_of : Setting → ℕ → Option OrderEvent → Cursors → Option PlaceError

@@ -1,6 +1,6 @@
 -- The placement, computed from front to back. Contracts of private functions speak of it; that it is the placement that
 -- `Placement` defines is proved by lemmas.
-use Rattle.std.specs.Prelude.{◌≡◌, ℕ, zero, suc, ◌+◌, ◌-◌, ◌==◌, ◌&&◌, Bool, true, ◌<◌, if◌then◌else◌, List, length, nat_le, nat_lt}
+use Rattle.std.specs.Prelude.{◌≡◌, ℕ, zero, suc, ◌+◌, ◌-◌, ◌==◌, ◌&&◌, Bool, true, false, ◌<◌, if◌then◌else◌, List, length, nat_le, nat_lt}
 use Rattle.std.specs.Prelude.{slice_get, Option, Some, None, Result, Ok, Err, unwrap_or}
 use Rattle.std.specs.Int.{next_multiple_of}
 use Rattle.lk_link.specs.declared.plan.OrderEvent.{OrderEvent}
@@ -17,7 +17,7 @@ use Rattle.lk_place.specs.declared.error.PlaceError.{PlaceError}
 use Rattle.lk_place.specs.declared.error.Refusal.{Refusal}
 use Rattle.lk_place.specs.declared.placement.Placing.{Placing}
 use Rattle.lk_place.specs.declared.walk.Walk.{Walk}
-use Rattle.lk_place.specs.Alignments.{section_alignment, section_alignments, segment_alignments}
+use Rattle.lk_place.specs.Alignments.{section_alignment, section_alignments, segment_alignments, thread_local_alignment}
 use Rattle.lk_place.specs.Placement.{end_behind, first_walked, is_below, is_walked, left_at, moved, numbered, overflow_at, refusal_of}
 use Rattle.lk_place.specs.Placement.{resting, section_end, section_start, walk_alignment}
 use Rattle.lk_place.specs.Records.{Record, nowhere, record_at}
@@ -25,16 +25,17 @@ use Rattle.lk_place.specs.Setting.{IsReady, Setting, part_count, setting_of, siz
 
 -- the cursors at which the walk begins: those of the placement, where the base is a number
 abbrev pub first_state : Setting → Cursors
-first_state setting = record { file = 0; memory = unwrap_or (as_number setting.plan.base) 0; saved = None }
+first_state setting = record { file = 0; memory = unwrap_or (as_number setting.plan.base) 0; saved = None; in_run = false }
 
 -- the setting of a walk
 abbrev pub setting_in : {P : Type 0} → (P → ℕ → ℕ → ℕ → ℕ) → Walk P → Setting
 setting_in start walk = setting_of walk.link.now (platform_target (start walk.platform.now)) walk.sizes.now
 
--- these are the alignments of the sections and segments of a plan
+-- these are the alignments of the sections and segments of a plan, and the greatest of its thread-local sections
 pub record AreAlignments (plan : Plan) (sizes : List ℕ) (all : Alignments) : Type 0 where
   pub sections : all.sections ≡ section_alignments plan sizes
   pub segments : all.segments ≡ segment_alignments plan sizes
+  pub thread_local : all.thread_local ≡ thread_local_alignment plan sizes
 
 -- the plan of a walk can be walked, and the alignments of its sections and segments are at hand
 pub record IsWalkable {P : Type 0} (start : P → ℕ → ℕ → ℕ → ℕ) (walk : Walk P) : Type 0 where

@@ -19,4 +19,6 @@ pub struct Cursors {
     /// The address at which memory goes on behind zero-fill thread-local sections, which take none; none where the section that
     /// was placed last isn't one.
     pub saved: Option<u64>,
+    /// Whether the section that was placed last is thread-local.
+    pub in_run: bool,
 }

@@ -286,6 +286,7 @@ impl<P: Platform> Walk<'_, P> {
             file: end.file,
             memory: if allocated { end.memory } else { from.memory },
             saved: from.saved,
+            in_run: self.link.plan.is_thread_local(section),
         })
     }
 }

@@ -2,10 +2,11 @@
 //!
 //! The walk goes through the events once, with a cursor in the file and one in memory. A load segment moves memory to where
 //! the platform lets it begin; a section places its parts from the cursors on and moves them behind the last, and one that isn't
-//! zero-fill thread-local data begins where memory stood before any that is; nothing else moves anything. The records go into one table by part number, which the walk is lent, so that it takes no memory. It
+//! zero-fill thread-local data begins where memory stood before any that is; the first of a run of thread-local sections begins at
+//! the greatest alignment of all; nothing else moves anything. The records go into one table by part number, which the walk is lent, so that it takes no memory. It
 //! ends at the first event with a number past 2^64 - 1.
 
-ghost use Rattle.std.specs.Prelude.{◌≡◌, ◌<◌, ℕ, Some, IfOk, OnOk, length};
+ghost use Rattle.std.specs.Prelude.{◌≡◌, ◌<◌, ◌^◌, ◌&&◌, ℕ, Some, SomeIff, IfOk, OnOk, length, nat_lt, true};
 ghost use Rattle.lk_link.specs.Expressions.{as_number};
 ghost use Rattle.lk_link.specs.Inside.{placed_section};
 ghost use Rattle.lk_link.specs.Parts.{all_parts};
@@ -13,10 +14,11 @@ ghost use Rattle.lk_link.specs.WellFormed.{IsInRange, IsWellFormed};
 ghost use Rattle.lk_link.specs.Target.{platform_target};
 ghost use Rattle.lk_place.specs.Alignments.{place_alignment};
 ghost use Rattle.lk_place.specs.Answers.{GivesPlaced};
-ghost use Rattle.lk_place.specs.Placement.{event_refusal, memory_moved, moved, saved_or_restored, section_refusal};
+ghost use Rattle.lk_place.specs.Placement.{event_refusal, memory_moved, moved, section_refusal};
 ghost use Rattle.lk_place.specs.Plans.{IsPlaceable};
 ghost use Rattle.lk_place.specs.Records.{nowhere, record_at};
 ghost use Rattle.lk_place.specs.Setting.{setting_of};
+ghost use Rattle.lk_place.specs.ThreadLocal.{begins_run, padded, run_begun, saved_or_restored, within_64};
 ghost use Rattle.lk_place.specs.Walk.{GivesWalked, IsWalkable, Rewrites, left_behind, recorded, setting_in, stepped};
 ghost use Rattle.lk_place.specs.Walk.{at_event, rewritten, unless};
 
@@ -41,6 +43,30 @@ pub struct Placed {
     pub parts: List<OutputRecordLayout>,
     /// Of all output sections.
     pub sections: List<OutputRecordLayout>,
+}
+
+/// Cursors with memory rounded up, and with the file grown by as much where it is to be; none where one passes 2^64 - 1.
+fn fit_pad(backed: bool, alignment: Alignment, from: Cursors) -> Option<Cursors>
+    ensures { let to = padded backed alignment from in SomeIff result ((nat_lt to.file (2 ^ 64) && nat_lt to.memory (2 ^ 64)) ≡ true) to }
+{
+    let memory = alignment.align_up(from.memory)?;
+    let file = if backed {
+        from.file.checked_add(memory - from.memory)?
+    } else {
+        from.file
+    };
+    Some(Cursors {
+        file,
+        memory,
+        ..from
+    })
+}
+
+/// The same, or the refusal.
+fn pad(backed: bool, alignment: Alignment, from: Cursors) -> Result<Cursors, Refusal>
+    ensures { result ≡ within_64 (padded backed alignment from) }
+{
+    fit_pad(backed, alignment, from).ok_or(Refusal::Overflow)
 }
 
 /// What a walk goes by: the link, the bytes of each part of its plan by number, the alignments of its sections and segments, and
@@ -114,6 +140,28 @@ impl<P: Platform> Walk<'_, P> {
         }
     }
 
+    /// Whether a section begins a run of thread-local ones, which counts but in partial output.
+    fn begins_run(&self, section: OutputSectionId, from: Cursors) -> bool
+        ensures { result ≡ begins_run (setting_in P.segment_start self.now) section from }
+    {
+        self.link.plan.is_thread_local(section)
+            && !from.in_run
+            && !self.link.options.output.is_partial()
+    }
+
+    /// The cursors behind a section's start: the first of a run of thread-local sections begins at the greatest alignment of all.
+    fn begin_run(&self, section: OutputSectionId, from: Cursors) -> Result<Cursors, Refusal>
+        requires walkable { IsWalkable P.segment_start self.now }
+        ensures { result ≡ run_begun (setting_in P.segment_start self.now) section from }
+    {
+        if self.begins_run(section, from) {
+            let backed = self.link.plan.is_file_backed(section);
+            pad(backed, self.alignments.thread_local, from)
+        } else {
+            Ok(from)
+        }
+    }
+
     /// The cursors after what an event does before it places a section.
     fn moved(&self, event: &OrderEvent, from: Cursors) -> Result<Cursors, Refusal>
         requires walkable { IsWalkable P.segment_start self.now }
@@ -122,7 +170,9 @@ impl<P: Platform> Walk<'_, P> {
     {
         match *event {
             OrderEvent::SegmentStart(segment) => { self.open_segment(segment, from) }
-            OrderEvent::Section(section) => Ok(self.saved_or_restored(section, from)),
+            OrderEvent::Section(section) => {
+                self.begin_run(section, self.saved_or_restored(section, from))
+            }
             _ => Ok(from),
         }
     }
@@ -181,6 +231,7 @@ impl<P: Platform> Walk<'_, P> {
             file: 0,
             memory: base,
             saved: None,
+            in_run: false,
         };
         for (number, event) in self.link.plan.events.as_slice().iter().enumerate() {
             let end = self.carry_out(event, cursors, records);
