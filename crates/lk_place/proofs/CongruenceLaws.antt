@@ -229,7 +229,7 @@ unplaced setting states records s k p set here part late =
     late (omega (arith, same, a.early)))
 
 pub plain_memory_is_congruent : PlainMemoryIsCongruent
-plain_memory_is_congruent setting states records set plain filled i s k p places backed part =
+plain_memory_is_congruent setting states records set plain i s k p places backed part =
     let place : ℕ = place_alignment setting i in
     let below = placed_in_range setting.plan (Section s) s (set.ready.events.in_range k (Section s) places.places.here) refl in
     let first : ℕ = first_part setting.plan.sections s in

@@ -132,7 +132,7 @@ moved setting (Section s) from = run_begun setting s (saved_or_restored setting.
 moved setting _ from = Ok from
 
 -- an event moves the cursors, and then places its section, if it has one; what isn't placed yet has no step: what moves the
--- location, gives an address, or places a section that is thread-local, stands in a region or is loaded elsewhere
+-- location, gives an address, or places a section that stands in a region or is loaded elsewhere
 pub record Steps (setting : Setting) (e : OrderEvent) (from : Cursors) (records : List Record) (to : Cursors) : Type 0 where
   pub placeable : IsPlaceableEvent setting.plan e
   pub entered : Cursors

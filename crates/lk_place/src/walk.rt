@@ -267,7 +267,7 @@ fn unplaced(alloc: Global, parts: usize) -> Result<Vec<OutputRecordLayout>, Allo
 
 /// Where all parts and output sections stand, by the bytes of each part; or the first event with a number past 2^64 - 1.
 /// Offsets and addresses are in bytes (libwild: `compute_layout_sections`). Takes plans that ask no more of the walk than it does:
-/// for whole output, from a number on that isn't asked for, with no headers in a segment, no region, no thread-local section, no load
+/// for whole output, from a number on that isn't asked for, with no headers in a segment, no region, no load
 /// address, and no event that moves the location or gives an address.
 pub fn compute_layout_sections<P: Platform>(
     alloc: Global,
