@@ -1,10 +1,10 @@
 //! The placement walk over the events of the plan.
 //!
 //! The walk goes through the events once, with a cursor in the file and one in memory. A load segment moves memory to where
-//! the platform lets it begin; a section places its parts from the cursors on and moves them behind the last, and one that isn't
+//! the platform lets it begin; a section places its parts from the cursors on and moves them behind the last. One that isn't
 //! zero-fill thread-local data begins where memory stood before any that is; the first of a run of thread-local sections begins at
-//! the greatest alignment of all; nothing else moves anything. The records go into one table by part number, which the walk is lent, so that it takes no memory. It
-//! ends at the first event with a number past 2^64 - 1.
+//! the greatest alignment of all. Nothing else moves anything. The records go into one table by part number, which the walk is
+//! lent, so that it takes no memory. It ends at the first event with a number past 2^64 - 1.
 
 ghost use Rattle.std.specs.Prelude.{◌≡◌, ◌<◌, ◌^◌, ◌&&◌, ℕ, Some, SomeIff, IfOk, OnOk, length, nat_lt, true};
 ghost use Rattle.lk_link.specs.Expressions.{as_number};
