@@ -7,7 +7,7 @@ use Rattle.lk_link.specs.declared.fault.LinkFault.{LinkFault}
 use Rattle.lk_link.specs.declared.link.LinkInput.{LinkInput}
 use Rattle.lk_link.specs.Target.{Target}
 use Rattle.lk_layout.specs.declared.error.LayoutError.{LayoutError}
-use Rattle.lk_layout.specs.declared.error.LayoutError.TheVariants.{NoMemory, TooMany, BadLink, NotCarried, References, AddressOverflow, SectionOutsideSegments}
+use Rattle.lk_layout.specs.declared.error.LayoutError.TheVariants.{NoMemory, TooMany, BadLink, NotCarried, References, AddressOverflow, RegionDuplicate, Expression, BaseTooLow, SectionOutsideSegments}
 use Rattle.lk_layout.specs.declared.error.Uncarried.{Uncarried}
 use Rattle.lk_layout.specs.declared.layout.Layout.{Layout}
 use Rattle.lk_layout.specs.declared.resolution.Resolution.{Resolution}
@@ -42,6 +42,9 @@ with_error P (BadLink rule place) h = h (λ is. cc)
 with_error P (NotCarried what) h = h (λ is. cc)
 with_error P (References faults) h = h (λ is. cc)
 with_error P (AddressOverflow place) h = h (λ is. cc)
+with_error P (RegionDuplicate region) h = h (λ is. cc)
+with_error P (Expression place cause) h = h (λ is. cc)
+with_error P (BaseTooLow base headers) h = h (λ is. cc)
 with_error P (SectionOutsideSegments s) h = h (λ is. cc)
 
 error_with : (P : Result Layout LayoutError → Type 0) (e : LayoutError) → WithMemory P (Err e) → (e ≡ NoMemory → ⊥) → P (Err e)
@@ -51,6 +54,9 @@ error_with P (BadLink rule place) h memory = h
 error_with P (NotCarried what) h memory = h
 error_with P (References faults) h memory = h
 error_with P (AddressOverflow place) h memory = h
+error_with P (RegionDuplicate region) h memory = h
+error_with P (Expression place cause) h memory = h
+error_with P (BaseTooLow base headers) h memory = h
 error_with P (SectionOutsideSegments s) h memory = h
 
 -- what P answers Q answers too

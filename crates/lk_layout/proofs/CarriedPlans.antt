@@ -25,7 +25,7 @@ use Rattle.lk_link.specs.InputSlots.{is_merge}
 use Rattle.lk_link.specs.OutputKinds.{is_partial}
 use Rattle.lk_link.proofs.Places.{none_found}
 use Rattle.lk_link.specs.PartRules.{names_table}
-use Rattle.lk_link.specs.PlanSections.{is_set, is_singletons, is_zero_fill_thread_local, no_section, own_attributes, section_at}
+use Rattle.lk_link.specs.PlanSections.{is_set, is_singletons, is_thread_local, is_zero_fill_thread_local, no_section, own_attributes, section_at}
 use Rattle.lk_link.specs.SegmentKinds.{is_tls}
 use Rattle.lk_link.specs.WellFormed.{IsAboutPlace}
 use Rattle.lk_place.specs.Plans.{IsPlaceable, IsPlaceableSection}
@@ -116,14 +116,21 @@ not_special plan s none =
       | inr past ↦ ap is_special_section (get_or_past plan.sections s no_section past)
     ]
 
+-- no section is thread-local
+not_thread_local : (plan : Plan) (s : ℕ) → list_any is_special_section plan.sections ≡ false → is_thread_local plan s ≡ false
+not_thread_local plan s none =
+    let x : PlanSection = section_at plan.sections s in
+    let third = or_parts (is_set TLS x.attrs || is_some x.primary || is_some x.region) (is_some x.at) (not_special plan s none) in
+    let second = or_parts (is_set TLS x.attrs || is_some x.primary) (is_some x.region) third.0 in
+    let own = (or_parts (is_set TLS x.attrs) (is_some x.primary) second.0).0 in
+    elim (is_singletons plan s) as (λ b. is_set TLS (cond b 0 x.attrs) ≡ false) [ true ↦ refl | false ↦ own ]
+
 placeable_section : (plan : Plan) (s : ℕ) → list_any is_special_section plan.sections ≡ false → IsPlaceableSection plan s
 placeable_section plan s none =
     let x : PlanSection = section_at plan.sections s in
     let third = or_parts (is_set TLS x.attrs || is_some x.primary || is_some x.region) (is_some x.at) (not_special plan s none) in
     let second = or_parts (is_set TLS x.attrs || is_some x.primary) (is_some x.region) third.0 in
-    let own = (or_parts (is_set TLS x.attrs) (is_some x.primary) second.0).0 in
     record {
-      thread_local = elim (is_singletons plan s) as (λ b. is_set TLS (cond b 0 x.attrs) ≡ false) [ true ↦ refl | false ↦ own ];
       region = not_some x.region second.1;
       at = not_some x.at third.1;
     }
@@ -146,7 +153,7 @@ placeable link carried =
 
 -- no section of it has zero-fill thread-local data
 pub no_zero_fill : (link : LinkInput) (s : ℕ) → IsCarried link → is_zero_fill_thread_local link.plan s ≡ false
-no_zero_fill link s carried = ap (λ b. b && is_set NOBITS (own_attributes link.plan s)) ((placeable link carried).sections s).thread_local
+no_zero_fill link s carried = ap (λ b. b && is_set NOBITS (own_attributes link.plan s)) (not_thread_local link.plan s (usual link carried).sections)
 
 -- where all is laid out, a plan with plain load segments is plain
 pub carried_plans_are_plain : CarriedPlansArePlain

@@ -34,7 +34,6 @@ use Rattle.lk_layout.specs.Layouts.{told_live}
 use Rattle.lk_layout.specs.Laws.{DefinedLayoutsAreSound, LaidOutMemoryIsDisjoint, LaidOutSectionsAreApart}
 use Rattle.lk_layout.specs.Resolutions.{symbol_resolutions}
 use Rattle.lk_layout.specs.Sound.{IsInSection, IsSharedOut, IsSound, IsTold, LiveSectionsAreAligned, LiveSectionsAreApart, MemoryIsCongruent, part_record}
-use Rattle.lk_layout.proofs.CarriedPlans.{no_zero_fill}
 use Rattle.lk_layout.proofs.LaidOut.{IsLaidOut, laid_out}
 use Rattle.lk_layout.proofs.PartStarts.{part_starts}
 use Rattle.lk_layout.proofs.Placing.{size-le}
@@ -192,7 +191,7 @@ congruent in_step keep target link layout laid lawful plain i s k p places backe
     let live : Live = laid.live in
     let kept : KeepAlignments (setting target link live) laid.records
     = keep (setting target link live) laid.states laid.records (ready target link live laid.good) laid.is (laid.is.ends laid.unrefused) in
-    let found = in_step (setting target link live) laid.states laid.records (soundly_set target link layout laid lawful) plain (λ t. no_zero_fill link t laid.carried) i s k p places backed part in
+    let found = in_step (setting target link live) laid.states laid.records (soundly_set target link layout laid lawful) plain i s k p places backed part in
     let there = subst (λ (n : ℕ). (record_at laid.records p).mem_offset % n ≡ (record_at laid.records p).file_offset % n) (sym (kept.segment i)) found in
     subst (λ (l : Layout). IsCongruentAt link l i p) (sym laid.same) there
 

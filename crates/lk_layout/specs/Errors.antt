@@ -9,7 +9,8 @@ use Rattle.lk_sizes.specs.declared.error.SizeError.{SizeError}
 use Rattle.lk_sizes.specs.declared.error.SizeError.TheVariants as size
 use Rattle.lk_layout.specs.declared.error.LayoutError.{LayoutError}
 use Rattle.lk_layout.specs.declared.error.LayoutError.TheVariants.{NoMemory, TooMany, BadLink, References}
-use Rattle.lk_layout.specs.declared.error.LayoutError.TheVariants.{AddressOverflow, SectionOutsideSegments}
+use Rattle.lk_layout.specs.declared.error.LayoutError.TheVariants.{AddressOverflow, BaseTooLow, Expression}
+use Rattle.lk_layout.specs.declared.error.LayoutError.TheVariants.{RegionDuplicate, SectionOutsideSegments}
 
 -- for a fault of the link
 abbrev pub fault_error : LinkFault → LayoutError
@@ -29,5 +30,8 @@ size_error size.NoMemory = NoMemory
 -- for what can't be placed
 abbrev pub place_error : PlaceError → LayoutError
 place_error (place.AddressOverflow at) = AddressOverflow at
+place_error (place.RegionDuplicate region) = RegionDuplicate region
+place_error (place.Expression at cause) = Expression at cause
+place_error (place.BaseTooLow base headers) = BaseTooLow base headers
 place_error (place.SectionOutsideSegments section) = SectionOutsideSegments section
 place_error place.NoMemory = NoMemory

@@ -1,11 +1,12 @@
 -- How it is told why a link isn't laid out.
-use Rattle.std.specs.Prelude.{ℕ, List, [], ◌∷◌, ◌++◌, codes}
-use Rattle.std.specs.Fmt.{decimal}
+use Rattle.std.specs.Prelude.{ℕ, false, List, [], ◌∷◌, ◌++◌, codes}
+use Rattle.std.specs.Fmt.{decimal, digits}
 use Rattle.std.specs.List.{flat_map}
 use Rattle.lk_gc.specs.declared.error.ReferenceFault.{ReferenceFault}
 use Rattle.lk_gc.specs.Texts.{reference_text}
 use Rattle.lk_link.specs.declared.fault.LinkFault.TheVariants as fault
 use Rattle.lk_link.specs.Texts.{joined, link_fault_text, place_text}
+use Rattle.lk_place.specs.ExpressionTexts.{cause_text}
 use Rattle.lk_layout.specs.declared.error.LayoutError.{LayoutError}
 use Rattle.lk_layout.specs.declared.error.LayoutError.TheVariants as layout
 use Rattle.lk_layout.specs.declared.error.Uncarried.{Uncarried}
@@ -26,6 +27,15 @@ uncarried_text uncarried.Primary = codes "primary"
 uncarried_text uncarried.Relax = codes "relax"
 uncarried_text uncarried.Symbol = codes "symbol"
 
+-- a number with its digits to the base of 16
+abbrev pub hexadecimal : ℕ → List ℕ
+hexadecimal n = digits 16 false n
+
+-- a base without room for the headers below it
+unfoldable pub low_base_text : ℕ → ℕ → List ℕ
+low_base_text base headers =
+    joined (codes "base address (0x" ∷ hexadecimal base ∷ codes ") is less than the size of headers (0x" ∷ hexadecimal headers ∷ codes ")" ∷ [])
+
 -- references that can't be met, each on a line of its own behind another line
 abbrev pub further_lines : List ReferenceFault → List ℕ
 further_lines faults = flat_map (λ fault. codes "\n" ++ reference_text fault) faults
@@ -43,4 +53,8 @@ error_text (layout.BadLink rule place) = link_fault_text (fault.BadLink rule pla
 error_text (layout.NotCarried what) = joined (codes "not carried: " ∷ uncarried_text what ∷ [])
 error_text (layout.References faults) = references_text faults
 error_text (layout.AddressOverflow place) = joined (codes "address overflow: " ∷ place_text place ∷ [])
+error_text (layout.RegionDuplicate region) = joined (codes "region " ∷ decimal region ∷ codes " already defined" ∷ [])
+error_text (layout.Expression place cause) =
+    joined (codes "expression at " ∷ place_text place ∷ codes ": " ∷ cause_text cause ∷ [])
+error_text (layout.BaseTooLow base headers) = low_base_text base headers
 error_text (layout.SectionOutsideSegments section) = joined (codes "section " ∷ decimal section ∷ codes " is in no segment" ∷ [])

@@ -6,9 +6,9 @@ ghost use Rattle.lk_layout.specs.Texts.{uncarried_text};
 use crate::references::FurtherLines;
 use lk_gc::{GcError, ReferenceFault};
 use lk_link::fault::{Limited, LinkFault, Place, Rule};
-use lk_link::ids::OutputSectionId;
+use lk_link::ids::{OutputSectionId, RegionId};
 use lk_link::list::List;
-use lk_place::PlaceError;
+use lk_place::{NoValue, PlaceError};
 use lk_sizes::SizeError;
 use std::alloc::{AllocError, AllocFailed};
 use std::fmt;
@@ -67,6 +67,20 @@ pub enum LayoutError {
     AddressOverflow {
         place: Place,
     },
+    /// A region has the name of an earlier one.
+    RegionDuplicate {
+        region: RegionId,
+    },
+    /// An expression has no value.
+    Expression {
+        place: Place,
+        cause: NoValue,
+    },
+    /// A base that is asked for has no room for the headers below it.
+    BaseTooLow {
+        base: u64,
+        headers: u64,
+    },
     /// A section with memory, which is emitted or has bytes, stands in no segment; the first in the order of events.
     SectionOutsideSegments {
         section: OutputSectionId,
@@ -93,6 +107,30 @@ impl Uncarried {
             Uncarried::Relax => "relax",
             Uncarried::Symbol => "symbol",
         }
+    }
+}
+
+/// A base without room for the headers below it.
+#[derive(Clone, Copy)]
+struct LowBase {
+    base: u64,
+    headers: u64,
+}
+
+/// With both numbers, in hexadecimal.
+impl fmt::Display for LowBase {
+    ghost use Rattle.std.specs.Prelude.{Some};
+    ghost use Rattle.lk_layout.specs.Texts.{low_base_text};
+
+    ghost output = { λ low. Some (low_base_text low.base low.headers) };
+
+    #[tactic(auto, unfolding(crate::specs::Texts::low_base_text))]
+    fn fmt<W: fmt::Write>(&self, f: &mut fmt::Formatter<W>) -> fmt::Result {
+        let (base, headers) = (self.base, self.headers);
+        write!(
+            f,
+            "base address (0x{base:x}) is less than the size of headers (0x{headers:x})"
+        )
     }
 }
 
@@ -138,6 +176,16 @@ impl fmt::Display for LayoutError {
                 None => Ok(()),
             },
             LayoutError::AddressOverflow { place } => write!(f, "address overflow: {place}"),
+            LayoutError::RegionDuplicate { region } => {
+                let region = region.as_u32();
+                write!(f, "region {region} already defined")
+            }
+            LayoutError::Expression { place, cause } => write!(f, "expression at {place}: {cause}"),
+            LayoutError::BaseTooLow { base, headers } => {
+                let (base, headers) = (*base, *headers);
+                let low = LowBase { base, headers };
+                write!(f, "{low}")
+            }
             LayoutError::SectionOutsideSegments { section } => {
                 let section = section.as_u32();
                 write!(f, "section {section} is in no segment")
@@ -230,6 +278,9 @@ impl From<PlaceError> for LayoutError {
     fn from(error: PlaceError) -> LayoutError {
         match error {
             PlaceError::AddressOverflow { place } => LayoutError::AddressOverflow { place },
+            PlaceError::RegionDuplicate { region } => LayoutError::RegionDuplicate { region },
+            PlaceError::Expression { place, cause } => LayoutError::Expression { place, cause },
+            PlaceError::BaseTooLow { base, headers } => LayoutError::BaseTooLow { base, headers },
             PlaceError::SectionOutsideSegments { section } => {
                 LayoutError::SectionOutsideSegments { section }
             }

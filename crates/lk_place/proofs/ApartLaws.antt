@@ -14,6 +14,7 @@ use Rattle.lk_place.specs.Placement.{IsPlaced, IsPlacedBefore, state_at}
 use Rattle.lk_place.specs.Ranges.{MemoryIsDisjoint, HasPart, TakesMemory}
 use Rattle.lk_place.specs.Records.{Record, file_end, mem_end, nowhere, record_at}
 use Rattle.lk_place.specs.Setting.{IsReady, Setting, part_count}
+use Rattle.lk_place.specs.ThreadLocal.{free_memory}
 use Rattle.lk_place.proofs.Insides.{placed_in_range}
 use Rattle.lk_place.proofs.Ranges.{Follow, IsWithin, follow-disjoint, follow-within, rises}
 use Rattle.lk_place.proofs.Steps.{file_follows, file_rises, memory_follows, memory_rises}
@@ -114,7 +115,7 @@ memory_is_disjoint setting states records set p q o other one two here there =
     let n : ℕ = length states - 1 in
     let has : (m : ℕ) → TakesMemory setting.plan m → (a : IsPlacedBefore setting n m) → has_memory setting.plan a.s ≡ true
     = λ m h a. ap (has_memory setting.plan) (section_one setting.plan a.s h.section m (placed_of setting n m set.ready a) h.part) ∙ h.memory in
-    apart (λ r. r.mem_offset) mem_end setting states records (λ k. (state_at states k).memory) (λ s. has_memory setting.plan s ≡ true) set.placed
+    apart (λ r. r.mem_offset) mem_end setting states records (λ k. free_memory (state_at states k)) (λ s. has_memory setting.plan s ≡ true) set.placed
     (record { none = omega arith; rises = memory_rises setting states records set; follows = memory_follows setting states records set })
     p q o other (has p one) (has q two) (here.begins, here.ends) (there.begins, there.ends)
 

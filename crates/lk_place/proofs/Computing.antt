@@ -7,7 +7,7 @@ use Rattle.lk_link.specs.declared.plan.OrderEvent.{OrderEvent}
 use Rattle.lk_link.specs.Parts.{all_parts}
 use Rattle.lk_place.specs.declared.cursors.Cursors.{Cursors}
 use Rattle.lk_place.specs.declared.error.PlaceError.{PlaceError}
-use Rattle.lk_place.specs.declared.error.PlaceError.TheVariants.{AddressOverflow, NoMemory, SectionOutsideSegments}
+use Rattle.lk_place.specs.declared.error.PlaceError.TheVariants.{AddressOverflow, BaseTooLow, Expression, NoMemory, RegionDuplicate, SectionOutsideSegments}
 use Rattle.lk_place.specs.declared.walk.Placed.{Placed}
 use Rattle.lk_place.specs.Answers.{ArePlaced, GivesPlaced, IsRefused}
 use Rattle.lk_place.specs.Placement.{refusal_of}
@@ -60,6 +60,9 @@ stopped_refused setting e ready may stop =
 refused_gives : (setting : Setting) (e : PlaceError) → IsRefused setting e → GivesPlaced setting (Err e)
 refused_gives setting NoMemory refused = tt
 refused_gives setting (AddressOverflow place) refused = refused
+refused_gives setting (RegionDuplicate region) refused = refused
+refused_gives setting (Expression place cause) refused = refused
+refused_gives setting (BaseTooLow base headers) refused = refused
 refused_gives setting (SectionOutsideSegments s) refused = refused
 
 -- the same where it is handed on

@@ -1,7 +1,7 @@
 -- Under a plain plan, memory is congruent to the file inside each load segment.
-use Rattle.std.proofs.Common.{◌≡◌, ℕ, zero, suc, ◌+◌, ◌-◌, ◌%◌, ◌<◌, ◌≤◌, Bool, true, false, List, length, take, Option, Some, None, refl, sym, ap, subst, ◌∙◌, inl, inr, arith, add-one}
-use Rattle.std.specs.Prelude.{◌||◌, slice_get}
-use Rattle.std.proofs.lemmas.Bool.{cases_lt}
+use Rattle.std.proofs.Common.{◌≡◌, ℕ, zero, suc, ◌+◌, ◌-◌, ◌%◌, ◌<◌, ◌≤◌, Bool, true, false, List, length, take, Option, Some, None, refl, sym, ap, subst, ◌∙◌, inl, inr, arith, add-one, add-zero, Ok}
+use Rattle.std.specs.Prelude.{◌||◌, if◌then◌else◌, slice_get, unwrap_or}
+use Rattle.std.proofs.lemmas.Bool.{cases_Bool, cases_lt}
 use Rattle.lk_link.specs.declared.plan.OrderEvent.{OrderEvent}
 use Rattle.lk_link.specs.declared.plan.OrderEvent.TheVariants.{SegmentStart, Section}
 use Rattle.lk_link.specs.Inside.{is_open, placed_section}
@@ -13,17 +13,19 @@ use Rattle.lk_link.proofs.PartNumbers.{first_part-suc}
 use Rattle.lk_place.specs.declared.cursors.Cursors.{Cursors}
 use Rattle.lk_place.specs.Alignments.{place_alignment}
 use Rattle.lk_place.specs.Laws.{IsSoundlySet, PlainMemoryIsCongruent}
-use Rattle.lk_place.specs.Placement.{Places, Steps, state_at}
-use Rattle.lk_place.specs.Plain.{IsLoadSegment, IsPlain, OpensLoad, PlacesInLoad}
+use Rattle.lk_place.specs.Placement.{IsPlaced, Places, PlacesSection, Steps, moved, state_at}
+use Rattle.lk_place.specs.Plain.{IsLoadSegment, IsPlain, OpensLoad, PlacesInLoad, last_before}
 use Rattle.lk_place.specs.Ranges.{HasPart}
 use Rattle.lk_place.specs.Records.{Record, nowhere, record_at}
 use Rattle.lk_place.specs.Setting.{Setting, part_count, part_number}
+use Rattle.lk_place.specs.ThreadLocal.{free_memory}
 use Rattle.lk_place.proofs.AlignmentLaws.{place_aligned, place_reaches}
 use Rattle.lk_place.proofs.ApartLaws.{placed_of, section_one}
-use Rattle.lk_place.proofs.Congruent.{CursorsAgree, KeepsAgreement, StartsAgree, part_starts, section_leaves}
+use Rattle.lk_place.proofs.Congruent.{CursorsAgree, FreeAgrees, KeepsAgreement, StartsAgree, more_agrees, part_starts, section_leaves, unbacked_leaves}
 use Rattle.lk_place.proofs.Insides.{placed_in_range}
-use Rattle.lk_place.proofs.Moves.{moves, opens_load}
+use Rattle.lk_place.proofs.Moves.{Enters, Moves, Stays, Opened, Entered, enters, moves, opens_load}
 use Rattle.lk_place.proofs.OpenSegments.{open_before, section_event}
+use Rattle.lk_place.proofs.PlainScanLaws.{last_is, last_stays}
 use Rattle.lk_place.proofs.Steps.{event_at, step_at}
 
 -- ---- the walk
@@ -33,7 +35,6 @@ use Rattle.lk_place.proofs.Steps.{event_at, step_at}
 record IsThrough (setting : Setting) (states : List Cursors) (records : List Record) (i s k : ℕ) : Type 0 where
   set : IsSoundlySet setting states records
   plain : IsPlain setting.plan setting.output
-  filled : (u : ℕ) → is_zero_fill_thread_local setting.plan u ≡ false
   places : PlacesInLoad setting.plan i s k
   backed : is_file_backed setting.plan s ≡ true
   early : k < length states - 1
@@ -57,44 +58,127 @@ first_of_two : (a b : Bool) → (a || b) ≡ true → b ≡ false → a ≡ true
 first_of_two true b h none = refl
 first_of_two false b h none = absurd (cc)
 
+-- ---- what is saved
+
+-- an event that places nothing saves nothing
+unplaced_saves : (setting : Setting) (e : OrderEvent) (o : Option ℕ) (from entered to : Cursors) (records : List Record) → placed_section e ≡ o → o ≡ None
+    → moved setting e from ≡ Ok entered → Places setting o entered records to → to.saved ≡ from.saved
+unplaced_saves setting e (Some s) from entered to records named none h places = absurd (cc)
+unplaced_saves setting e None from entered to records named none h places =
+    elim (moves setting e from entered h) [
+      | Stays same ↦ ap (λ (c : Cursors). c.saved) places ∙ ap (λ (c : Cursors). c.saved) same
+      | Opened opens ↦ ap (λ (c : Cursors). c.saved) places ∙ opens.saved
+      | Entered s is enters ↦ let place : Some s ≡ None = ap placed_section (sym is) ∙ named in absurd (cc)
+    ]
+
+-- nothing is saved where the section placed last isn't zero-fill thread-local
+nothing_saved : (setting : Setting) (states : List Cursors) (records : List Record) → IsPlaced setting states records
+    → (n : ℕ) → n < length states → ((s : ℕ) → last_before setting.plan.events n ≡ Some s → is_zero_fill_thread_local setting.plan s ≡ false) → (state_at states n).saved ≡ None
+nothing_saved setting states records is zero less filled = is.begins.saved
+nothing_saved setting states records is (suc n) less filled =
+    let events : List OrderEvent = setting.plan.events in
+    let event = event_at setting states records n is (omega arith) in
+    let e : OrderEvent = event.0 in
+    let step : Steps setting e (state_at states n) records (state_at states (n + 1)) = step_at setting states records n e is (omega arith) event.1 in
+    ap (λ (m : ℕ). (state_at states m).saved) (sym (add-one n))
+    ∙ elim (placed_section e) as (λ (o : Option ℕ). placed_section e ≡ o → Places setting o step.entered records (state_at states (n + 1)) → (state_at states (n + 1)).saved ≡ None) [
+      | None ↦ λ none places.
+          unplaced_saves setting e None (state_at states n) step.entered (state_at states (n + 1)) records none refl step.moves places
+          ∙ nothing_saved setting states records is n (omega arith) (λ s last. filled s (last_stays None events n e event.1 none ∙ last))
+      | (Some s) ↦ λ named places.
+          let at : e ≡ Section s = section_event e s named in
+          let last : last_before events (suc n) ≡ Some s = last_is None events n s (event.1 ∙ ap (λ (x : OrderEvent). Some x) at) in
+          let begun = enters setting s (state_at states n) step.entered (ap (λ (x : OrderEvent). moved setting x (state_at states n)) (sym at) ∙ step.moves) in
+          ap (λ (c : Cursors). c.saved) places.leaves ∙ (begun.taken (filled s last)).1
+    ] refl step.places
+
+-- ---- one event
+
 -- where the segment opens, both agree
 opens_agree : (setting : Setting) (states : List Cursors) (records : List Record) (i : ℕ) (from to : Cursors) → IsSoundlySet setting states records
-    → IsLoadSegment setting.plan i → Steps setting (SegmentStart i) from records to → CursorsAgree (place_alignment setting i) to
-opens_agree setting states records i from to set load step =
+    → IsLoadSegment setting.plan i → from.saved ≡ None → Steps setting (SegmentStart i) from records to → FreeAgrees (place_alignment setting i) to
+opens_agree setting states records i from to set load unsaved step =
     let place : ℕ = place_alignment setting i in
     let there = opens_load setting i from step.entered load step.moves in
-    ap (λ (c : Cursors). c.memory % place) step.places
+    let none : to.saved ≡ None = ap (λ (c : Cursors). c.saved) step.places ∙ there.2 ∙ unsaved in
+    ap (λ (o : Option ℕ). unwrap_or o to.memory % place) none
+    ∙ ap (λ (c : Cursors). c.memory % place) step.places
     ∙ ap (λ n. n % place) there.1
     ∙ set.lawful.congruent place from.file from.memory (place_aligned setting i set.ready.sections set.page)
     ∙ ap (λ n. n % place) (sym there.0)
     ∙ ap (λ (c : Cursors). c.file % place) (sym step.places)
 
-places_agree : (setting : Setting) (states : List Cursors) (records : List Record) (i s k : ℕ) → IsThrough setting states records i s k
-    → (n : ℕ) (e : OrderEvent) (o : Option ℕ) (from to : Cursors) → n < k → slice_get setting.plan.events n ≡ Some e → placed_section e ≡ o → is_open i (take n setting.plan.events) ≡ true
-    → CursorsAgree (place_alignment setting i) from → Places setting o from records to → CursorsAgree (place_alignment setting i) to
-places_agree setting states records i s k t n e None from to less here none opened h stays = subst (CursorsAgree (place_alignment setting i)) (sym stays) h
-places_agree setting states records i s k t n e (Some u) from to less here named opened h places =
-    let event : slice_get setting.plan.events n ≡ Some (Section u) = here ∙ ap (λ (x : OrderEvent). Some x) (section_event e u named) in
-    let there : PlacesInLoad setting.plan i u n = record { load = t.places.load; places = record { here = event; inside = opened } } in
-    let backed = first_of_two (is_file_backed setting.plan u) (is_zero_fill_thread_local setting.plan u) (t.plain.backed_first i u s n k less there t.places t.backed) (t.filled u) in
-    section_leaves setting (place_alignment setting i) u from to records (keeps setting states records i s k t u n from there backed h) places
+-- an ordinary section with bytes in the file begins where both agree: they are padded alike
+level : (setting : Setting) (place u : ℕ) (from entered : Cursors) → is_file_backed setting.plan u ≡ true → is_zero_fill_thread_local setting.plan u ≡ false
+    → Enters setting u from entered → FreeAgrees place from → CursorsAgree place entered
+level setting place u from entered backed filled begun h =
+    let file : entered.file ≡ from.file + begun.padding = begun.file ∙ ap (λ b. from.file + (if b then begun.padding else 0)) backed in
+    ap (λ m. m % place) (begun.taken filled).0 ∙ more_agrees place (free_memory from) from.file begun.padding h ∙ ap (λ m. m % place) (sym file)
+
+-- an ordinary section inside the segment leaves both in agreement, as it has bytes in the file
+filled_agrees : (setting : Setting) (states : List Cursors) (records : List Record) (i s k : ℕ) → IsThrough setting states records i s k
+    → (u n : ℕ) (from entered to : Cursors) → PlacesInLoad setting.plan i u n → is_file_backed setting.plan u ≡ true → is_zero_fill_thread_local setting.plan u ≡ false
+    → Enters setting u from entered → FreeAgrees (place_alignment setting i) from → PlacesSection setting u entered records to → FreeAgrees (place_alignment setting i) to
+filled_agrees setting states records i s k t u n from entered to there backed filled begun h places =
+    let place : ℕ = place_alignment setting i in
+    let taken = begun.taken filled in
+    let agrees : CursorsAgree place entered = level setting place u from entered backed filled begun h in
+    let none : to.saved ≡ None = ap (λ (c : Cursors). c.saved) places.leaves ∙ taken.1 in
+    ap (λ (o : Option ℕ). unwrap_or o to.memory % place) none
+    ∙ section_leaves setting place u entered to records (keeps setting states records i s k t u n entered there backed agrees) places
+
+-- a zero-fill thread-local one leaves the file and what is free of memory
+zero_fill_agrees : (setting : Setting) (place u : ℕ) (from entered to : Cursors) (records : List Record) → is_file_backed setting.plan u ≡ false → is_zero_fill_thread_local setting.plan u ≡ true
+    → Enters setting u from entered → FreeAgrees place from → PlacesSection setting u entered records to → FreeAgrees place to
+zero_fill_agrees setting place u from entered to records unbacked fills begun h places =
+    let saved : to.saved ≡ Some (free_memory from) = ap (λ (c : Cursors). c.saved) places.leaves ∙ begun.kept fills in
+    ap (λ (o : Option ℕ). unwrap_or o to.memory % place) saved
+    ∙ h
+    ∙ ap (λ m. m % place) (sym (unbacked_leaves setting u entered to records unbacked places ∙ begun.file ∙ ap (λ b. from.file + (if b then begun.padding else 0)) unbacked ∙ add-zero from.file))
+
+section_agrees : (setting : Setting) (states : List Cursors) (records : List Record) (i s k : ℕ) → IsThrough setting states records i s k
+    → (u n : ℕ) (from entered to : Cursors) → n < k → PlacesInLoad setting.plan i u n → Enters setting u from entered
+    → FreeAgrees (place_alignment setting i) from → PlacesSection setting u entered records to → FreeAgrees (place_alignment setting i) to
+section_agrees setting states records i s k t u n from entered to less there begun h places =
+    elim (cases_Bool (is_zero_fill_thread_local setting.plan u)) [
+      | inl fills ↦ zero_fill_agrees setting (place_alignment setting i) u from entered to records (t.plain.zero_fill i u n there fills) fills begun h places
+      | inr filled ↦
+          let backed = first_of_two (is_file_backed setting.plan u) (is_zero_fill_thread_local setting.plan u) (t.plain.backed_first i u s n k less there t.places t.backed) filled in
+          filled_agrees setting states records i s k t u n from entered to there backed filled begun h places
+    ]
+
+-- an event that places nothing leaves what its move leaves
+stays_agree : (setting : Setting) (place : ℕ) (e : OrderEvent) (o : Option ℕ) (entered to : Cursors) (records : List Record) → placed_section e ≡ o → o ≡ None
+    → FreeAgrees place entered → Places setting o entered records to → FreeAgrees place to
+stays_agree setting place e (Some s) entered to records named none h places = absurd (cc)
+stays_agree setting place e None entered to records named none h places = subst (FreeAgrees place) (sym places) h
 
 -- one event that does not open the segment
 step_agrees : (setting : Setting) (states : List Cursors) (records : List Record) (i s k : ℕ) → IsThrough setting states records i s k
     → (n : ℕ) (e : OrderEvent) (from to : Cursors) → n < k → slice_get setting.plan.events n ≡ Some e → is_open i (take n setting.plan.events) ≡ true
-    → CursorsAgree (place_alignment setting i) from → Steps setting e from records to → CursorsAgree (place_alignment setting i) to
+    → FreeAgrees (place_alignment setting i) from → Steps setting e from records to → FreeAgrees (place_alignment setting i) to
 step_agrees setting states records i s k t n e from to less here opened h step =
-    elim (moves setting e from step.entered step.moves) [
-      | inl same ↦ places_agree setting states records i s k t n e (placed_section e) step.entered to less here refl opened (subst (CursorsAgree (place_alignment setting i)) (sym same) h) step.places
-      | inr opens ↦
-          let other : OpensLoad setting.plan opens.segment n = record { load = opens.load; here = here ∙ ap (λ (x : OrderEvent). Some x) opens.is } in
-          let closed = t.plain.apart i opens.segment n t.places.load other in
-          absurd (cc)
-    ]
+    let place : ℕ = place_alignment setting i in
+    elim (placed_section e) as (λ (o : Option ℕ). placed_section e ≡ o → Places setting o step.entered records to → FreeAgrees place to) [
+      | None ↦ λ none places.
+          elim (moves setting e from step.entered step.moves) [
+            | Stays same ↦ stays_agree setting place e None step.entered to records none refl (subst (FreeAgrees place) (sym same) h) places
+            | Opened opens ↦
+                let other : OpensLoad setting.plan opens.segment n = record { load = opens.load; here = here ∙ ap (λ (x : OrderEvent). Some x) opens.is } in
+                let closed = t.plain.apart i opens.segment n t.places.load other in
+                absurd (cc)
+            | Entered u is begun ↦ let named : Some u ≡ None = ap placed_section (sym is) ∙ none in absurd (cc)
+          ]
+      | (Some u) ↦ λ named places.
+          let at : e ≡ Section u = section_event e u named in
+          let there : PlacesInLoad setting.plan i u n = record { load = t.places.load; places = record { here = here ∙ ap (λ (x : OrderEvent). Some x) at; inside = opened } } in
+          let begun = enters setting u from step.entered (ap (λ (x : OrderEvent). moved setting x from) (sym at) ∙ step.moves) in
+          section_agrees setting states records i s k t u n from step.entered to less there begun h places
+    ] refl step.places
 
 -- as long as the segment is open, both agree
 open_agrees : (setting : Setting) (states : List Cursors) (records : List Record) (i s k : ℕ) → IsThrough setting states records i s k
-    → (n : ℕ) → n ≤ k → is_open i (take n setting.plan.events) ≡ true → CursorsAgree (place_alignment setting i) (state_at states n)
+    → (n : ℕ) → n ≤ k → is_open i (take n setting.plan.events) ≡ true → FreeAgrees (place_alignment setting i) (state_at states n)
 open_agrees setting states records i s k t zero le opened = absurd (cc)
 open_agrees setting states records i s k t (suc n) le opened =
     let place : ℕ = place_alignment setting i in
@@ -102,17 +186,19 @@ open_agrees setting states records i s k t (suc n) le opened =
     let event = event_at setting states records n t.set.placed early in
     let e : OrderEvent = event.0 in
     let step : Steps setting e (state_at states n) records (state_at states (n + 1)) = step_at setting states records n e t.set.placed early event.1 in
-    let agrees : CursorsAgree place (state_at states (n + 1))
-    = elim (is_start i e) as (λ b. is_start i e ≡ b → CursorsAgree place (state_at states (n + 1))) [
+    let agrees : FreeAgrees place (state_at states (n + 1))
+    = elim (is_start i e) as (λ b. is_start i e ≡ b → FreeAgrees place (state_at states (n + 1))) [
       | true ↦ λ is.
-          opens_agree setting states records i (state_at states n) (state_at states (n + 1)) t.set t.places.load
+          let opens : OpensLoad setting.plan i n = record { load = t.places.load; here = event.1 ∙ ap (λ (x : OrderEvent). Some x) (is_that_start i e is) } in
+          let unsaved = nothing_saved setting states records t.set.placed n (omega arith) (λ s last. t.plain.settled i n s opens last) in
+          opens_agree setting states records i (state_at states n) (state_at states (n + 1)) t.set t.places.load unsaved
           (subst (λ x. Steps setting x (state_at states n) records (state_at states (n + 1))) (is_that_start i e is) step)
       | false ↦ λ unopened.
           let before : is_open i (take n setting.plan.events) ≡ true = open_before i n setting.plan.events e event.1 unopened opened in
           step_agrees setting states records i s k t n e (state_at states n) (state_at states (n + 1)) (omega arith) event.1 before
           (open_agrees setting states records i s k t n (omega arith) before) step
     ] refl in
-    subst (λ m. CursorsAgree place (state_at states m)) (add-one n) agrees
+    subst (λ m. FreeAgrees place (state_at states m)) (add-one n) agrees
 
 -- ---- the law
 
@@ -122,14 +208,15 @@ placed_agree : (setting : Setting) (states : List Cursors) (records : List Recor
 placed_agree setting states records i s k j t below =
     let place : ℕ = place_alignment setting i in
     let from : Cursors = state_at states k in
-    let agrees : CursorsAgree place from = open_agrees setting states records i s k t k (omega arith) t.places.places.inside in
+    let agrees : FreeAgrees place from = open_agrees setting states records i s k t k (omega arith) t.places.places.inside in
     let step : Steps setting (Section s) from records (state_at states (k + 1)) = step_at setting states records k (Section s) t.set.placed t.early t.places.places.here in
-    elim (moves setting (Section s) from step.entered step.moves) [
-      | inl same ↦
-          part_starts setting place s j step.entered (state_at states (k + 1)) records
-          (keeps setting states records i s k t s k step.entered t.places t.backed (subst (CursorsAgree place) (sym same) agrees)) step.places below
-      | inr opens ↦ let never : Section s ≡ SegmentStart opens.segment = opens.is in absurd (cc)
-    ]
+    let begun = enters setting s from step.entered step.moves in
+    let filled : is_zero_fill_thread_local setting.plan s ≡ false = elim (cases_Bool (is_zero_fill_thread_local setting.plan s)) [
+      | inl fills ↦ let unbacked = t.plain.zero_fill i s k t.places fills in absurd (cc)
+      | inr none ↦ none
+    ] in
+    let alike : CursorsAgree place step.entered = level setting place s from step.entered t.backed filled begun agrees in
+    part_starts setting place s j step.entered (state_at states (k + 1)) records (keeps setting states records i s k t s k step.entered t.places t.backed alike) step.places below
 
 -- where it doesn't, its parts stand nowhere
 unplaced : (setting : Setting) (states : List Cursors) (records : List Record) (s k p : ℕ) → IsSoundlySet setting states records
@@ -142,7 +229,7 @@ unplaced setting states records s k p set here part late =
     late (omega (arith, same, a.early)))
 
 pub plain_memory_is_congruent : PlainMemoryIsCongruent
-plain_memory_is_congruent setting states records set plain filled i s k p places backed part =
+plain_memory_is_congruent setting states records set plain i s k p places backed part =
     let place : ℕ = place_alignment setting i in
     let below = placed_in_range setting.plan (Section s) s (set.ready.events.in_range k (Section s) places.places.here) refl in
     let first : ℕ = first_part setting.plan.sections s in
@@ -150,7 +237,7 @@ plain_memory_is_congruent setting states records set plain filled i s k p places
       | inl early ↦
           let number : p ≡ first + (p - first) = omega (arith, part.from) in
           let within : p - first < part_count setting.plan.sections s = omega (arith, part.from, part.below, first_part-suc setting.plan.sections s below) in
-          let through : IsThrough setting states records i s k = record { set = set; plain = plain; filled = filled; places = places; backed = backed; early = early } in
+          let through : IsThrough setting states records i s k = record { set = set; plain = plain; places = places; backed = backed; early = early } in
           subst (λ n. StartsAgree place (record_at records n)) (sym number) (placed_agree setting states records i s k (p - first) through within)
       | inr late ↦ ap (λ (r : Record). r.mem_offset % place) (unplaced setting states records s k p set places.places.here part (λ early. omega arith))
           ∙ sym (ap (λ (r : Record). r.file_offset % place) (unplaced setting states records s k p set places.places.here part (λ early. omega arith)))

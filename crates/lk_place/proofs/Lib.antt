@@ -1,11 +1,13 @@
 pub mod AlignmentLaws
 mod ApartLaws
+mod BaseLaws
 mod Checked
 mod Computing
 mod CongruenceLaws
 mod Congruent
 mod ConstantLaws
 mod Evaluations
+mod GivenLists
 mod InsideLaws
 mod Insides
 mod KeptAlignments
@@ -20,6 +22,7 @@ mod PlainLaws
 mod PlainScanLaws
 mod Ranges
 mod RefusalLaws
+mod RegionLaws
 mod SectionEnds
 mod SegmentAlignments
 mod Steps

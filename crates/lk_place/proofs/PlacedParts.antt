@@ -12,7 +12,7 @@ use Rattle.lk_link.specs.Alignments.{is_alignment}
 use Rattle.lk_link.specs.Parts.{all_parts}
 use Rattle.lk_link.specs.PlanSections.{section_at}
 use Rattle.lk_place.proofs.Checked.{parts_aligned}
-use Rattle.lk_place.specs.declared.cursors.Cursors.{Cursors}
+use Rattle.lk_place.specs.declared.cursors.Offsets.{Offsets}
 use Rattle.lk_place.specs.declared.error.Refusal.TheVariants.{Overflow}
 use Rattle.lk_place.specs.Placement.{behind, is_below, overflow_at, pushed}
 use Rattle.lk_place.specs.Walk.{placed_at, unless}
@@ -38,25 +38,25 @@ part_aligned setting p d ready below = all_aligned setting.plan.sections (λ s. 
 
 -- ---- cursors below 2^64
 
-cursors_same : (c d : Cursors) → c.file ≡ d.file → c.memory ≡ d.memory → c ≡ d
+cursors_same : (c d : Offsets) → c.file ≡ d.file → c.memory ≡ d.memory → c ≡ d
 cursors_same c d p q = λ i. record { file = p i; memory = q i }
 
 -- the cursors behind a placed part
-pub behind_placed : (backed : Bool) (a size : ℕ) (c : Cursors) → behind (placed_at backed a size c) ≡ pushed backed a size c
+pub behind_placed : (backed : Bool) (a size : ℕ) (c : Offsets) → behind (placed_at backed a size c) ≡ pushed backed a size c
 unfolding placed_at
 behind_placed true a size c = refl
 behind_placed false a size c = cursors_same _ _ (add-zero c.file) refl
 
 -- cursors in 64 bits are below
-pub below_64 : (c : Cursors) → c.file < 2 ^ 64 → c.memory < 2 ^ 64 → is_below c ≡ true
+pub below_64 : (c : Offsets) → c.file < 2 ^ 64 → c.memory < 2 ^ 64 → is_below c ≡ true
 below_64 c h g = grind (arith, nat_tests)
 
 -- what is below is given
-pub unless_below : (c : Cursors) → is_below c ≡ true → unless (overflow_at c) c ≡ Ok c
+pub unless_below : (c : Offsets) → is_below c ≡ true → unless (overflow_at c) c ≡ Ok c
 unless_below c h = rw h refl
 
 -- what isn't below overflows
-pub unless_past : (c : Cursors) → (is_below c ≡ true → ⊥) → unless (overflow_at c) c ≡ Err Overflow
+pub unless_past : (c : Offsets) → (is_below c ≡ true → ⊥) → unless (overflow_at c) c ≡ Err Overflow
 unless_past c h =
     elim (is_below c) as (λ b. (b ≡ true → ⊥) → unless (cond b None (Some Overflow)) c ≡ Err Overflow) [ true ↦ λ no. absurd (no refl) | false ↦ λ no. refl ] h
 

@@ -7,6 +7,7 @@ use Rattle.lk_link.specs.PlanSections.{is_file_backed}
 use Rattle.lk_link.proofs.Powers.{alignment-pos}
 use Rattle.lk_link.proofs.Starts.{next_multiple_is_least}
 use Rattle.lk_place.specs.declared.cursors.Cursors.{Cursors}
+use Rattle.lk_place.specs.declared.cursors.Offsets.{Offsets}
 use Rattle.lk_place.specs.Placement.{IsPlacedAt, PlacesSection, behind, end_behind, first_walked, is_walked, left_at, pushed, reached, resting, section_start, walk_alignment}
 use Rattle.lk_place.specs.Records.{Record, record_at}
 use Rattle.lk_place.specs.Setting.{IsReady, Setting, part_count, part_number, size_at}
@@ -19,13 +20,13 @@ use Rattle.lk_place.proofs.SectionEnds.{IsFirstWalked, first_alignment, first_is
 -- ---- one part
 
 -- the computed record is placed there
-placed_at_is : (backed : Bool) (a size : ℕ) (c : Cursors) → 0 < a → IsPlacedAt backed a size c (placed_at backed a size c)
+placed_at_is : (backed : Bool) (a size : ℕ) (c : Offsets) → 0 < a → IsPlacedAt backed a size c (placed_at backed a size c)
 unfolding placed_at
 placed_at_is true a size c h = record { at = next_multiple_is_least a c.memory h; in_file = next_multiple_is_least a c.file h; takes = refl; takes_file = refl; aligned = refl; loaded = refl }
 placed_at_is false a size c h = record { at = next_multiple_is_least a c.memory h; in_file = refl; takes = refl; takes_file = refl; aligned = refl; loaded = refl }
 
 -- and each record that is placed there is the computed one
-placed_at_one : (backed : Bool) (a size : ℕ) (c : Cursors) (r : Record) → 0 < a → IsPlacedAt backed a size c r → r ≡ placed_at backed a size c
+placed_at_one : (backed : Bool) (a size : ℕ) (c : Offsets) (r : Record) → 0 < a → IsPlacedAt backed a size c r → r ≡ placed_at backed a size c
 unfolding placed_at
 placed_at_one true a size c r h p =
     let mem : r.mem_offset ≡ next_multiple_of c.memory a = least_one a c.memory r.mem_offset (next_multiple_of c.memory a) p.at (next_multiple_is_least a c.memory h) in
@@ -47,12 +48,12 @@ place_of : (first j : ℕ) → first + j - first ≡ j
 place_of first j = omega arith
 
 -- the record of a walked part, by its place
-abbrev pub walked_record : Setting → ℕ → Cursors → ℕ → Record
+abbrev pub walked_record : Setting → ℕ → Offsets → ℕ → Record
 walked_record setting s begin j =
     let p = part_number setting.plan.sections s j in
     placed_at (is_file_backed setting.plan s) (walk_alignment setting s p) (size_at setting.sizes p) (end_behind setting s begin j)
 
-pub by_walked : (setting : Setting) (s : ℕ) (begin : Cursors) (j : ℕ) → is_walked setting s (part_number setting.plan.sections s j) ≡ true
+pub by_walked : (setting : Setting) (s : ℕ) (begin : Offsets) (j : ℕ) → is_walked setting s (part_number setting.plan.sections s j) ≡ true
     → record_by setting s begin (part_number setting.plan.sections s j) ≡ walked_record setting s begin j
 by_walked setting s begin j h =
     let p : ℕ = part_number setting.plan.sections s j in
@@ -60,18 +61,18 @@ by_walked setting s begin j h =
     let placed : ℕ → Record = λ n. placed_at (is_file_backed setting.plan s) (walk_alignment setting s p) (size_at setting.sizes p) (end_behind setting s begin n) in
     ap (λ (b : Bool). cond b (placed (p - first_part setting.plan.sections s)) rest) h ∙ ap placed (place_of (first_part setting.plan.sections s) j)
 
-by_resting : (setting : Setting) (s : ℕ) (begin : Cursors) (p : ℕ) → is_walked setting s p ≡ false
+by_resting : (setting : Setting) (s : ℕ) (begin : Offsets) (p : ℕ) → is_walked setting s p ≡ false
     → record_by setting s begin p ≡ resting (first_record setting s begin) (part_at setting.plan.sections p).alignment
 by_resting setting s begin p h =
     let rest : Record = resting (first_record setting s begin) (part_at setting.plan.sections p).alignment in
     ap (λ (b : Bool). cond b (placed_at (is_file_backed setting.plan s) (walk_alignment setting s p) (size_at setting.sizes p) (end_behind setting s begin (p - first_part setting.plan.sections s))) rest) h
 
 -- the first walked part's record is the one that others rest beside
-first_walked_record : (setting : Setting) (s i : ℕ) (begin : Cursors) → IsFirstWalked setting s i → walked_record setting s begin i ≡ first_record setting s begin
+first_walked_record : (setting : Setting) (s i : ℕ) (begin : Offsets) → IsFirstWalked setting s i → walked_record setting s begin i ≡ first_record setting s begin
 first_walked_record setting s i begin walked =
     let backed : Bool = is_file_backed setting.plan s in
     let p : ℕ = part_number setting.plan.sections s i in
-    let record_of : ℕ → ℕ → Cursors → Record = λ a n c. placed_at backed a (size_at setting.sizes n) c in
+    let record_of : ℕ → ℕ → Offsets → Record = λ a n c. placed_at backed a (size_at setting.sizes n) c in
     ap (record_of (walk_alignment setting s p) p) (none_before setting s i begin i walked (omega arith))
     ∙ ap (λ (n : ℕ). record_of (walk_alignment setting s n) n begin) (sym walked.is)
     ∙ ap (λ (a : ℕ). record_of a (first_walked setting s) begin) (first_alignment setting s)
@@ -80,20 +81,20 @@ pub place_walked : (setting : Setting) (s i : ℕ) → IsFirstWalked setting s i
 place_walked setting s i walked = ap (is_walked setting s) (sym walked.is) ∙ first_is_walked setting s
 
 -- these records are those that the walk computes for the parts of a section that begin here
-abbrev pub AreMade : Setting → ℕ → Cursors → List Record → Type 0
+abbrev pub AreMade : Setting → ℕ → Offsets → List Record → Type 0
 AreMade setting s begin records = (j : ℕ) → j < part_count setting.plan.sections s → record_at records (part_number setting.plan.sections s j) ≡ record_by setting s begin (part_number setting.plan.sections s j)
 
 -- where the walked ones are, the cursors are those that it computes
-reached_is : (setting : Setting) (s : ℕ) (begin : Cursors) (records : List Record) (j : ℕ)
+reached_is : (setting : Setting) (s : ℕ) (begin : Offsets) (records : List Record) (j : ℕ)
     → ((i : ℕ) → i < j → is_walked setting s (part_number setting.plan.sections s i) ≡ true → record_at records (part_number setting.plan.sections s i) ≡ walked_record setting s begin i)
     → reached setting s records begin j ≡ end_behind setting s begin j
 reached_is setting s begin records zero made = refl
 reached_is setting s begin records (suc j) made =
     let p : ℕ = part_number setting.plan.sections s j in
     let backed : Bool = is_file_backed setting.plan s in
-    let before : Cursors = reached setting s records begin j in
-    let computed : Cursors = end_behind setting s begin j in
-    let next : Cursors = pushed backed (walk_alignment setting s p) (size_at setting.sizes p) computed in
+    let before : Offsets = reached setting s records begin j in
+    let computed : Offsets = end_behind setting s begin j in
+    let next : Offsets = pushed backed (walk_alignment setting s p) (size_at setting.sizes p) computed in
     let so_far : before ≡ computed = reached_is setting s begin records j (λ i less walked. made i (omega arith) walked) in
     elim (cases_Bool (is_walked setting s p)) [
       | inl walked ↦
@@ -113,7 +114,7 @@ pub made_places : (setting : Setting) (s : ℕ) (from : Cursors) (records : List
     → to ≡ left_at setting s from (end_behind setting s (section_start setting s from) (part_count setting.plan.sections s))
     → PlacesSection setting s from records to
 made_places setting s from records to ready below made left =
-    let begin : Cursors = section_start setting s from in
+    let begin : Offsets = section_start setting s from in
     let count : ℕ = part_count setting.plan.sections s in
     let backed : Bool = is_file_backed setting.plan s in
     let number : ℕ → ℕ = part_number setting.plan.sections s in
@@ -125,7 +126,7 @@ made_places setting s from records to ready below made left =
     record {
       walked = λ j less walked.
           subst (λ (r : Record). IsPlacedAt backed (walk_alignment setting s (number j)) (size_at setting.sizes (number j)) (reached setting s records begin j) r) (sym (walked_made j less walked))
-          (subst (λ (c : Cursors). IsPlacedAt backed (walk_alignment setting s (number j)) (size_at setting.sizes (number j)) c (walked_record setting s begin j)) (sym (same j (omega arith)))
+          (subst (λ (c : Offsets). IsPlacedAt backed (walk_alignment setting s (number j)) (size_at setting.sizes (number j)) c (walked_record setting s begin j)) (sym (same j (omega arith)))
           (placed_at_is backed (walk_alignment setting s (number j)) (size_at setting.sizes (number j)) (end_behind setting s begin j) (walks_above setting s (number j) ready)));
       resting = λ j less rests.
           made j less ∙ by_resting setting s begin (number j) rests ∙ ap (λ (r : Record). resting r (part_at setting.plan.sections (number j)).alignment) (sym first_is);
@@ -140,7 +141,7 @@ walked_are : (setting : Setting) (s : ℕ) (from to : Cursors) (records : List R
     → (j : ℕ) → j < n → is_walked setting s (part_number setting.plan.sections s j) ≡ true → record_at records (part_number setting.plan.sections s j) ≡ walked_record setting s (section_start setting s from) j
 walked_are setting s from to records ready places zero within j less walked = absurd (omega arith)
 walked_are setting s from to records ready places (suc n) within j less walked =
-    let begin : Cursors = section_start setting s from in
+    let begin : Offsets = section_start setting s from in
     let p : ℕ = part_number setting.plan.sections s j in
     let backed : Bool = is_file_backed setting.plan s in
     let same : reached setting s records begin j ≡ end_behind setting s begin j =
@@ -156,7 +157,7 @@ pub record MakesSection (setting : Setting) (s : ℕ) (from : Cursors) (records 
 pub places_makes : (setting : Setting) (s : ℕ) (from : Cursors) (records : List Record) (to : Cursors) → IsReady setting → s < length setting.plan.sections
     → PlacesSection setting s from records to → MakesSection setting s from records to
 places_makes setting s from records to ready below places =
-    let begin : Cursors = section_start setting s from in
+    let begin : Offsets = section_start setting s from in
     let count : ℕ = part_count setting.plan.sections s in
     let number : ℕ → ℕ = part_number setting.plan.sections s in
     let first = first_walked_place setting s ready below in

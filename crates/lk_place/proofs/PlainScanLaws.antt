@@ -64,7 +64,7 @@ last_given a None s xs h = h a
 last_given a (Some t) s xs h = h (Some t)
 
 -- an event that places none leaves it
-last_stays : (a : Option ℕ) (es : List OrderEvent) (k : ℕ) (e : OrderEvent) → slice_get es k ≡ Some e → placed_section e ≡ None
+pub last_stays : (a : Option ℕ) (es : List OrderEvent) (k : ℕ) (e : OrderEvent) → slice_get es k ≡ Some e → placed_section e ≡ None
     → last_or a (filter_map placed_section (take (suc k) es)) ≡ last_or a (filter_map placed_section (take k es))
 last_stays a [] k e here none = absurd (cc)
 last_stays a (x ∷ xs) zero e here none = let same : x ≡ e = cc in ap (λ o. last_or a (cons_option o [])) (ap placed_section same ∙ none)
@@ -72,7 +72,7 @@ last_stays a (x ∷ xs) (suc k) e here none =
     last_alike a (placed_section x) (filter_map placed_section (take (suc k) xs)) (filter_map placed_section (take k xs)) (λ b. last_stays b xs k e here none)
 
 -- one that places a section makes it this one
-last_is : (a : Option ℕ) (es : List OrderEvent) (k s : ℕ) → slice_get es k ≡ Some (Section s) → last_or a (filter_map placed_section (take (suc k) es)) ≡ Some s
+pub last_is : (a : Option ℕ) (es : List OrderEvent) (k s : ℕ) → slice_get es k ≡ Some (Section s) → last_or a (filter_map placed_section (take (suc k) es)) ≡ Some s
 last_is a [] k s here = absurd (cc)
 last_is a (x ∷ xs) zero s here = let same : x ≡ Section s = cc in ap (λ (e : OrderEvent). last_or a (cons_option (placed_section e) [])) same
 last_is a (x ∷ xs) (suc k) s here = last_given a (placed_section x) s (filter_map placed_section (take (suc k) xs)) (λ b. last_is b xs k s here)

@@ -6,6 +6,7 @@ use Rattle.lk_link.specs.Alignments.{IsLeastMultiple}
 use Rattle.lk_link.specs.Parts.{first_part, part_at}
 use Rattle.lk_link.specs.PlanSections.{is_file_backed}
 use Rattle.lk_place.specs.declared.cursors.Cursors.{Cursors}
+use Rattle.lk_place.specs.declared.cursors.Offsets.{Offsets}
 use Rattle.lk_place.specs.Placement.{IsPlacedAt, PlacesSection, behind, first_walked, is_walked, reached, resting, section_start, walk_alignment}
 use Rattle.lk_place.specs.Records.{Record, file_end, mem_end, nowhere, record_at}
 use Rattle.lk_place.specs.Setting.{Setting, part_count, part_number, size_at}
@@ -13,8 +14,8 @@ use Rattle.lk_place.specs.Setting.{Setting, part_count, part_number, size_at}
 -- ---- two kinds of ranges
 
 -- ranges of one kind: those of the file or those of memory, with the cursor that goes along them
-pub record AreRanges (begin end : Record → ℕ) (cursor : Cursors → ℕ) : Type 0 where
-  pub after : (backed : Bool) (a n : ℕ) (from : Cursors) (r : Record) → IsPlacedAt backed a n from r → cursor from ≤ begin r
+pub record AreRanges (begin end : Record → ℕ) (cursor : Offsets → ℕ) : Type 0 where
+  pub after : (backed : Bool) (a n : ℕ) (from : Offsets) (r : Record) → IsPlacedAt backed a n from r → cursor from ≤ begin r
   pub rises : (r : Record) → begin r ≤ end r
   pub behind : (r : Record) → cursor (behind r) ≡ end r
   pub rests : (first : Record) (own : ℕ) → end (resting first own) ≤ begin (resting first own)
@@ -113,12 +114,12 @@ follow-disjoint begin end records first count low high h j k o other within belo
 -- ---- the parts of a section
 
 -- the cursors behind a part that is walked or isn't
-abbrev pub passed : Bool → Record → Cursors → Cursors
+abbrev pub passed : Bool → Record → Offsets → Offsets
 passed walked r from = if walked then behind r else from
 
 -- a part lies between the cursors round it
-part_between : (begin end : Record → ℕ) (cursor : Cursors → ℕ) → AreRanges begin end cursor
-    → (walked backed : Bool) (a size own : ℕ) (from : Cursors) (first r : Record)
+part_between : (begin end : Record → ℕ) (cursor : Offsets → ℕ) → AreRanges begin end cursor
+    → (walked backed : Bool) (a size own : ℕ) (from : Offsets) (first r : Record)
     → (walked ≡ true → IsPlacedAt backed a size from r) → (walked ≡ false → r ≡ resting first own)
     → (cursor from ≤ cursor (passed walked r from)) × IsBetween begin end (cursor from) (cursor (passed walked r from)) r
 part_between begin end cursor kind true backed a size own from first r is rests =
@@ -129,12 +130,12 @@ part_between begin end cursor kind false backed a size own from first r is rests
     (omega arith, inl (subst (λ (q : Record). end q ≤ begin q) (sym (rests refl)) (kind.rests first own)))
 
 -- the parts of a section follow one another
-pub section_follows : (begin end : Record → ℕ) (cursor : Cursors → ℕ) → AreRanges begin end cursor
+pub section_follows : (begin end : Record → ℕ) (cursor : Offsets → ℕ) → AreRanges begin end cursor
     → (setting : Setting) (s : ℕ) (from to : Cursors) (records : List Record) → PlacesSection setting s from records to
     → Follow begin end records (first_part setting.plan.sections s) (part_count setting.plan.sections s) (cursor (section_start setting s from))
     (cursor (reached setting s records (section_start setting s from) (part_count setting.plan.sections s)))
 section_follows begin end cursor kind setting s from to records h =
-    let at : ℕ → Cursors = reached setting s records (section_start setting s from) in
+    let at : ℕ → Offsets = reached setting s records (section_start setting s from) in
     let number : ℕ → ℕ = part_number setting.plan.sections s in
     let each : (j : ℕ) → j < part_count setting.plan.sections s → (cursor (at j) ≤ cursor (at (suc j))) × IsBetween begin end (cursor (at j)) (cursor (at (suc j))) (record_at records (number j))
     = λ j below.

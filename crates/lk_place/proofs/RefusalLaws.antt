@@ -4,7 +4,7 @@ use Rattle.std.proofs.lemmas.Bool.{cases_Bool, cases_lt}
 use Rattle.std.proofs.lemmas.Bool.Decides.{nat_tests}
 use Rattle.lk_link.specs.PlanSections.{is_file_backed}
 use Rattle.lk_link.specs.Parts.{part_at}
-use Rattle.lk_place.specs.declared.cursors.Cursors.{Cursors}
+use Rattle.lk_place.specs.declared.cursors.Offsets.{Offsets}
 use Rattle.lk_place.specs.declared.error.Refusal.TheVariants.{Overflow}
 use Rattle.lk_place.specs.Placement.{behind, end_behind, first_walked, is_below, is_walked, overflow_at, pushed, section_end, section_start, walk_alignment}
 use Rattle.lk_place.specs.PlacementLaws.{RefusedExactlyPast}
@@ -14,7 +14,7 @@ use Rattle.lk_place.proofs.PlacedParts.{behind_placed}
 use Rattle.lk_place.proofs.PlacedSections.{by_walked, place_walked, places_makes, walked_record}
 use Rattle.lk_place.proofs.SectionEnds.{IsFirstWalked, below_too, ends_rise, first_walked_place}
 
-not_refused : (c : Cursors) → overflow_at c ≡ None → is_below c ≡ true
+not_refused : (c : Offsets) → overflow_at c ≡ None → is_below c ≡ true
 not_refused c h = elim (is_below c) as (λ b. cond b None (Some Overflow) ≡ None → b ≡ true) [ true ↦ λ e. refl | false ↦ λ e. absurd (cc) ] h
 
 below_fits : (r : Record) → is_below (behind r) ≡ true → Fits r
@@ -24,21 +24,21 @@ fits_below : (r : Record) → Fits r → is_below (behind r) ≡ true
 fits_below r h = grind (arith, nat_tests, h.file, h.mem)
 
 -- a walked part ends where the cursors behind it are
-walked_end : (setting : Setting) (s j : ℕ) (begin : Cursors) → is_walked setting s (part_number setting.plan.sections s j) ≡ true → behind (walked_record setting s begin j) ≡ end_behind setting s begin (suc j)
+walked_end : (setting : Setting) (s j : ℕ) (begin : Offsets) → is_walked setting s (part_number setting.plan.sections s j) ≡ true → behind (walked_record setting s begin j) ≡ end_behind setting s begin (suc j)
 walked_end setting s j begin walked =
     let p : ℕ = part_number setting.plan.sections s j in
-    let before : Cursors = end_behind setting s begin j in
-    let next : Cursors = pushed (is_file_backed setting.plan s) (walk_alignment setting s p) (size_at setting.sizes p) before in
+    let before : Offsets = end_behind setting s begin j in
+    let next : Offsets = pushed (is_file_backed setting.plan s) (walk_alignment setting s p) (size_at setting.sizes p) before in
     behind_placed (is_file_backed setting.plan s) (walk_alignment setting s p) (size_at setting.sizes p) before ∙ ap (λ (b : Bool). cond b next before) (sym walked)
 
 -- the cursors behind some parts, the first walked one among them, are those behind a walked one
-last_walked : (setting : Setting) (s i : ℕ) (begin : Cursors) → IsFirstWalked setting s i → (n : ℕ) → i < n
+last_walked : (setting : Setting) (s i : ℕ) (begin : Offsets) → IsFirstWalked setting s i → (n : ℕ) → i < n
     → (j : ℕ) × (j < n) × (is_walked setting s (part_number setting.plan.sections s j) ≡ true) × (end_behind setting s begin n ≡ behind (walked_record setting s begin j))
 last_walked setting s i begin first zero less = absurd (omega arith)
 last_walked setting s i begin first (suc n) less =
     let p : ℕ = part_number setting.plan.sections s n in
-    let before : Cursors = end_behind setting s begin n in
-    let next : Cursors = pushed (is_file_backed setting.plan s) (walk_alignment setting s p) (size_at setting.sizes p) before in
+    let before : Offsets = end_behind setting s begin n in
+    let next : Offsets = pushed (is_file_backed setting.plan s) (walk_alignment setting s p) (size_at setting.sizes p) before in
     elim (cases_Bool (is_walked setting s p)) [
       | inl walked ↦ (n, omega arith, walked, sym (walked_end setting s n begin walked))
       | inr rests ↦ elim (cases_lt i n) [
@@ -63,7 +63,7 @@ rests_fit setting s first own r h is =
 
 pub refused_exactly_past : RefusedExactlyPast
 refused_exactly_past setting s from records to ready may below places =
-    let begin : Cursors = section_start setting s from in
+    let begin : Offsets = section_start setting s from in
     let count : ℕ = part_count setting.plan.sections s in
     let number : ℕ → ℕ = part_number setting.plan.sections s in
     let made = (places_makes setting s from records to ready below places).made in

@@ -8,7 +8,7 @@ use Rattle.std.proofs.lemmas.List.Quantifiers.{position-Some}
 use Rattle.lk_link.specs.Parts.{first_part}
 use Rattle.lk_link.specs.PlanSections.{is_file_backed}
 use Rattle.lk_link.proofs.PartNumbers.{first_part-le, first_part-suc}
-use Rattle.lk_place.specs.declared.cursors.Cursors.{Cursors}
+use Rattle.lk_place.specs.declared.cursors.Offsets.{Offsets}
 use Rattle.lk_place.specs.declared.error.Refusal.{Refusal}
 use Rattle.lk_place.specs.declared.error.Refusal.TheVariants.{Overflow}
 use Rattle.lk_place.specs.Alignments.{section_alignment}
@@ -20,34 +20,34 @@ use Rattle.lk_place.proofs.Checked.{has_part}
 use Rattle.lk_place.proofs.PlacedParts.{behind_placed, unless_below, unless_past}
 
 -- neither cursor is past the other's
-pub record AreBelow (c d : Cursors) : Type 0 where
+pub record AreBelow (c d : Offsets) : Type 0 where
   pub file : c.file ≤ d.file
   pub memory : c.memory ≤ d.memory
 
-same_below : (c : Cursors) → AreBelow c c
+same_below : (c : Offsets) → AreBelow c c
 same_below c = record { file = omega arith; memory = omega arith }
 
-both_below : (c d e : Cursors) → AreBelow c d → AreBelow d e → AreBelow c e
+both_below : (c d e : Offsets) → AreBelow c d → AreBelow d e → AreBelow c e
 both_below c d e h g = record { file = omega (arith, h.file, g.file); memory = omega (arith, h.memory, g.memory) }
 
-pushed_above : (backed : Bool) (a size : ℕ) (c : Cursors) → AreBelow c (pushed backed a size c)
+pushed_above : (backed : Bool) (a size : ℕ) (c : Offsets) → AreBelow c (pushed backed a size c)
 pushed_above true a size c = record { file = omega arith; memory = omega arith }
 pushed_above false a size c = record { file = omega arith; memory = omega arith }
 
 -- a part leaves the cursors at or above those before it
-pub next_above : (setting : Setting) (s p : ℕ) (c : Cursors) → AreBelow c (next_end setting s p c)
+pub next_above : (setting : Setting) (s p : ℕ) (c : Offsets) → AreBelow c (next_end setting s p c)
 next_above setting s p c =
-    let next : Cursors = pushed (is_file_backed setting.plan s) (walk_alignment setting s p) (size_at setting.sizes p) c in
+    let next : Offsets = pushed (is_file_backed setting.plan s) (walk_alignment setting s p) (size_at setting.sizes p) c in
     elim (is_walked setting s p) as (λ b. AreBelow c (cond b next c)) [
       | true ↦ pushed_above (is_file_backed setting.plan s) (walk_alignment setting s p) (size_at setting.sizes p) c
       | false ↦ same_below c
     ]
 
 -- more parts leave the cursors at or above those behind fewer
-pub ends_rise : (setting : Setting) (s : ℕ) (begin : Cursors) (j k : ℕ) → j ≤ k → AreBelow (end_behind setting s begin j) (end_behind setting s begin k)
+pub ends_rise : (setting : Setting) (s : ℕ) (begin : Offsets) (j k : ℕ) → j ≤ k → AreBelow (end_behind setting s begin j) (end_behind setting s begin k)
 ends_rise setting s begin j zero h = subst (λ (n : ℕ). AreBelow (end_behind setting s begin n) begin) (let e : 0 ≡ j = omega arith in e) (same_below begin)
 ends_rise setting s begin j (suc k) h =
-    let before : Cursors = end_behind setting s begin k in
+    let before : Offsets = end_behind setting s begin k in
     elim (cases_lt j (suc k)) [
       | inl less ↦ both_below (end_behind setting s begin j) before _ (ends_rise setting s begin j k (omega arith)) (next_above setting s (part_number setting.plan.sections s k) before)
       | inr other ↦
@@ -56,17 +56,17 @@ ends_rise setting s begin j (suc k) h =
     ]
 
 -- cursors at or below ones below 2^64 are below it
-pub below_too : (c d : Cursors) → AreBelow c d → is_below d ≡ true → is_below c ≡ true
+pub below_too : (c d : Offsets) → AreBelow c d → is_below d ≡ true → is_below c ≡ true
 below_too c d h fits = grind (arith, nat_tests, h.file, h.memory)
 
 -- what overflows isn't below
-overflow_past : (c : Cursors) → unless (overflow_at c) c ≡ Err Overflow → is_below c ≡ true → ⊥
+overflow_past : (c : Offsets) → unless (overflow_at c) c ≡ Err Overflow → is_below c ≡ true → ⊥
 overflow_past c h fits =
     let given : unless (overflow_at c) c ≡ Ok c = unless_below c fits in
     absurd (cc)
 
 -- where some parts end past 2^64 - 1, so do more
-pub stays_past : (setting : Setting) (s : ℕ) (begin : Cursors) (j k : ℕ) → j ≤ k
+pub stays_past : (setting : Setting) (s : ℕ) (begin : Offsets) (j k : ℕ) → j ≤ k
     → unless (overflow_at (end_behind setting s begin j)) (end_behind setting s begin j) ≡ Err Overflow
     → unless (overflow_at (end_behind setting s begin k)) (end_behind setting s begin k) ≡ Err Overflow
 stays_past setting s begin j k h past =
@@ -158,16 +158,16 @@ first_alignment setting s =
     rw same refl
 
 -- up to it the cursors stay where they begin
-pub none_before : (setting : Setting) (s i : ℕ) (begin : Cursors) (j : ℕ) → IsFirstWalked setting s i → j ≤ i → end_behind setting s begin j ≡ begin
+pub none_before : (setting : Setting) (s i : ℕ) (begin : Offsets) (j : ℕ) → IsFirstWalked setting s i → j ≤ i → end_behind setting s begin j ≡ begin
 none_before setting s i begin zero walked h = refl
 none_before setting s i begin (suc j) walked h =
     let p : ℕ = part_number setting.plan.sections s j in
-    let before : Cursors = end_behind setting s begin j in
+    let before : Offsets = end_behind setting s begin j in
     ap (λ (b : Bool). cond b (pushed (is_file_backed setting.plan s) (walk_alignment setting s p) (size_at setting.sizes p) before) before) (not_walked setting s i j walked (omega arith))
     ∙ none_before setting s i begin j walked (omega arith)
 
 -- behind it they are pushed once
-pub first_end : (setting : Setting) (s i : ℕ) (begin : Cursors) → IsFirstWalked setting s i
+pub first_end : (setting : Setting) (s i : ℕ) (begin : Offsets) → IsFirstWalked setting s i
     → end_behind setting s begin (suc i) ≡ pushed (is_file_backed setting.plan s) (section_alignment setting s) (size_at setting.sizes (first_walked setting s)) begin
 first_end setting s i begin walked =
     let first : ℕ = first_walked setting s in
@@ -184,17 +184,17 @@ refusal_one : (r : Refusal) → r ≡ Overflow
 refusal_one Overflow = refl
 
 -- what is given are the cursors themselves
-pub given_is : (c d : Cursors) → Ok d ≡ unless (overflow_at c) c → d ≡ c
+pub given_is : (c d : Offsets) → Ok d ≡ unless (overflow_at c) c → d ≡ c
 given_is c d h = elim (is_below c) as (λ b. Ok d ≡ unless (cond b None (Some Overflow)) c → d ≡ c) [ true ↦ λ e. cc | false ↦ λ e. absurd (cc) ] h
 
 -- what is refused isn't below 2^64
-refused_past : {X : Type 0} (c : Cursors) (x : X) (r : Refusal) → Err r ≡ unless (overflow_at c) x → is_below c ≡ true → ⊥
+refused_past : {X : Type 0} (c : Offsets) (x : X) (r : Refusal) → Err r ≡ unless (overflow_at c) x → is_below c ≡ true → ⊥
 refused_past {X} c x r h fits =
     let given : unless {X = X} (overflow_at c) x ≡ Ok x = rw fits refl in
     absurd (cc)
 
 -- and they are below 2^64
-pub given_below : (c d : Cursors) → Ok d ≡ unless (overflow_at c) c → is_below d ≡ true
+pub given_below : (c d : Offsets) → Ok d ≡ unless (overflow_at c) c → is_below d ≡ true
 given_below c d h =
     elim (cases_Bool (is_below c)) [
       | inl fits ↦ ap is_below (given_is c d h) ∙ fits
@@ -209,23 +209,23 @@ told_on (Ok y) Q x h q = absurd h
 told_on (Err e) Q x h q = subst Q (sym h) q
 
 -- a refusal that is handed on
-pub handed_on : (r u : Result Cursors Refusal) (x : Refusal) → IsErrAnd r (λ e. e ≡ x) → Err x ≡ u → r ≡ u
+pub handed_on : (r u : Result Offsets Refusal) (x : Refusal) → IsErrAnd r (λ e. e ≡ x) → Err x ≡ u → r ≡ u
 handed_on (Ok c) u x h is = absurd h
 handed_on (Err e) u x h is = ap (λ (y : Refusal). Err y) h ∙ is
 
 -- a part that is refused refuses its section
-pub part_refused : (setting : Setting) (s : ℕ) (begin from : Cursors) (j count p : ℕ) (r : Refusal) → from ≡ end_behind setting s begin j → j < count → p ≡ part_number setting.plan.sections s j
+pub part_refused : (setting : Setting) (s : ℕ) (begin from : Offsets) (j count p : ℕ) (r : Refusal) → from ≡ end_behind setting s begin j → j < count → p ≡ part_number setting.plan.sections s j
     → Err r ≡ unless (overflow_at (next_end setting s p from)) (next_end setting s p from)
     → Err r ≡ unless (overflow_at (end_behind setting s begin count)) (end_behind setting s begin count)
 part_refused setting s begin from j count p r so_far less at refused =
     let same : next_end setting s (part_number setting.plan.sections s j) (end_behind setting s begin j) ≡ next_end setting s p from = cc in
     let one : r ≡ Overflow = refusal_one r in
     let here : unless (overflow_at (end_behind setting s begin (suc j))) (end_behind setting s begin (suc j)) ≡ Err Overflow =
-    ap (λ (c : Cursors). unless (overflow_at c) c) same ∙ sym refused ∙ ap (λ (x : Refusal). Err x) one in
+    ap (λ (c : Offsets). unless (overflow_at c) c) same ∙ sym refused ∙ ap (λ (x : Refusal). Err x) one in
     ap (λ (x : Refusal). Err x) one ∙ sym (stays_past setting s begin (suc j) count (omega arith) here)
 
 -- a part that is placed moves the cursors on
-pub part_placed : (setting : Setting) (s : ℕ) (begin from to : Cursors) (j p : ℕ) → from ≡ end_behind setting s begin j → p ≡ part_number setting.plan.sections s j
+pub part_placed : (setting : Setting) (s : ℕ) (begin from to : Offsets) (j p : ℕ) → from ≡ end_behind setting s begin j → p ≡ part_number setting.plan.sections s j
     → Ok to ≡ unless (overflow_at (next_end setting s p from)) (next_end setting s p from)
     → to ≡ end_behind setting s begin (j + 1)
 part_placed setting s begin from to j p so_far at given =
@@ -233,21 +233,21 @@ part_placed setting s begin from to j p so_far at given =
     given_is (next_end setting s p from) to given ∙ same ∙ ap (end_behind setting s begin) (sym (add-one j))
 
 -- and its record is the one that it is to have
-pub part_recorded : (setting : Setting) (s : ℕ) (begin from : Cursors) (j p : ℕ) → from ≡ end_behind setting s begin j → p ≡ part_number setting.plan.sections s j
+pub part_recorded : (setting : Setting) (s : ℕ) (begin from : Offsets) (j p : ℕ) → from ≡ end_behind setting s begin j → p ≡ part_number setting.plan.sections s j
     → next_record setting s begin p from ≡ record_by setting s begin p
 part_recorded setting s begin from j p so_far at =
     let place : j ≡ p - first_part setting.plan.sections s = omega arith in
     ap (next_record setting s begin p) (so_far ∙ ap (end_behind setting s begin) place)
 
 -- the cursors behind all parts, which are below 2^64
-pub parts_end : (setting : Setting) (s : ℕ) (begin to : Cursors) (j count : ℕ) → to ≡ end_behind setting s begin j → j ≡ count → is_below to ≡ true
+pub parts_end : (setting : Setting) (s : ℕ) (begin to : Offsets) (j count : ℕ) → to ≡ end_behind setting s begin j → j ≡ count → is_below to ≡ true
     → Ok to ≡ unless (overflow_at (end_behind setting s begin count)) (end_behind setting s begin count)
 parts_end setting s begin to j count so_far all fits =
     let same : to ≡ end_behind setting s begin count = so_far ∙ ap (end_behind setting s begin) all in
-    sym (ap (λ (c : Cursors). unless (overflow_at c) c) (sym same) ∙ unless_below to fits)
+    sym (ap (λ (c : Offsets). unless (overflow_at c) c) (sym same) ∙ unless_below to fits)
 
 -- where the first walked part overflows, so does its section
-pub first_refused : (setting : Setting) (s : ℕ) (begin : Cursors) (first : Record) (r : Refusal) → IsReady setting → s < length setting.plan.sections
+pub first_refused : (setting : Setting) (s : ℕ) (begin : Offsets) (first : Record) (r : Refusal) → IsReady setting → s < length setting.plan.sections
     → first ≡ first_record setting s begin → Err r ≡ unless (overflow_at (behind first)) first
     → Err r ≡ unless (overflow_at (end_behind setting s begin (part_count setting.plan.sections s))) (end_behind setting s begin (part_count setting.plan.sections s))
 first_refused setting s begin first r ready below at refused =

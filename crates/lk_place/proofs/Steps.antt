@@ -1,22 +1,24 @@
 -- What each event does to the cursors, and where the parts stand that it places.
 use Rattle.std.proofs.Common.{◌≡◌, ℕ, ◌+◌, ◌-◌, ◌≤◌, ◌<◌, Bool, true, false, List, length, Option, Some, None, Ok, refl, sym, ap, subst, ◌∙◌, inl, inr, arith}
-use Rattle.std.specs.Prelude.{if◌then◌else◌, slice_get}
+use Rattle.std.specs.Prelude.{if◌then◌else◌, slice_get, unwrap_or}
 use Rattle.std.specs.List.{slice_index_or}
-use Rattle.std.proofs.lemmas.Bool.{and_parts}
+use Rattle.std.proofs.lemmas.Bool.{and_parts, not-true}
 use Rattle.std.proofs.lemmas.Option.{slice_get-get_or}
 use Rattle.lk_link.specs.declared.plan.OrderEvent.{OrderEvent}
 use Rattle.lk_link.specs.declared.plan.OrderEvent.TheVariants.{SegmentEnd, Section}
 use Rattle.lk_link.specs.Inside.{placed_section}
 use Rattle.lk_link.specs.Parts.{first_part}
-use Rattle.lk_link.specs.PlanSections.{has_memory, is_allocated}
+use Rattle.lk_link.specs.PlanSections.{has_memory, is_allocated, is_zero_fill_thread_local}
 use Rattle.lk_place.specs.declared.cursors.Cursors.{Cursors}
+use Rattle.lk_place.specs.declared.cursors.Offsets.{Offsets}
 use Rattle.lk_place.specs.Alignments.{place_alignment}
 use Rattle.lk_place.specs.Laws.{IsSoundlySet}
 use Rattle.lk_place.specs.Placement.{IsPlaced, Places, PlacesSection, Steps, moved, reached, section_start, state_at}
 use Rattle.lk_place.specs.Records.{Record, file_end, mem_end}
 use Rattle.lk_place.specs.Setting.{Setting, part_count}
+use Rattle.lk_place.specs.ThreadLocal.{free_memory}
 use Rattle.lk_place.proofs.AlignmentLaws.{place_aligned}
-use Rattle.lk_place.proofs.Moves.{moves}
+use Rattle.lk_place.proofs.Moves.{Moves, Stays, Opened, Entered, enters, moves}
 use Rattle.lk_place.proofs.Ranges.{Follow, file_ranges, memory_ranges, rises, section_follows}
 
 -- what follows from low to high follows from lower to higher
@@ -43,16 +45,17 @@ step_at setting states records k e is less here = (is.steps k e (omega arith) he
 abbrev FollowInFile : Setting → List Record → ℕ → ℕ → ℕ → Type 0
 FollowInFile setting records s low high = Follow (λ r. r.file_offset) file_end records (first_part setting.plan.sections s) (part_count setting.plan.sections s) low high
 
-pub entered_file : (setting : Setting) (e : OrderEvent) (from entered : Cursors) → moved setting e from ≡ Ok entered → entered.file ≡ from.file
+pub entered_file : (setting : Setting) (e : OrderEvent) (from entered : Cursors) → moved setting e from ≡ Ok entered → from.file ≤ entered.file
 entered_file setting e from entered h =
     elim (moves setting e from entered h) [
-      | inl same ↦ ap (λ (c : Cursors). c.file) same
-      | inr opens ↦ opens.file
+      | Stays same ↦ omega (arith, ap (λ (c : Cursors). c.file) same)
+      | Opened opens ↦ omega (arith, opens.file)
+      | Entered s is begun ↦ omega (arith, begun.file)
     ]
 
 section_in_file : (setting : Setting) (s : ℕ) (entered to : Cursors) (records : List Record) → PlacesSection setting s entered records to → FollowInFile setting records s entered.file to.file
 section_in_file setting s entered to records h =
-    let end : Cursors = reached setting s records (section_start setting s entered) (part_count setting.plan.sections s) in
+    let end : Offsets = reached setting s records (section_start setting s entered) (part_count setting.plan.sections s) in
     let ends : to.file ≡ end.file = ap (λ (c : Cursors). c.file) h.leaves in
     subst (λ n. FollowInFile setting records s entered.file n) (sym ends) (section_follows (λ r. r.file_offset) file_end (λ c. c.file) file_ranges setting s entered to records h)
 
@@ -78,30 +81,41 @@ pub file_follows : (setting : Setting) (states : List Cursors) (records : List R
     → (k s : ℕ) → k < length states - 1 → slice_get setting.plan.events k ≡ Some (Section s) → FollowInFile setting records s (state_at states k).file (state_at states (k + 1)).file
 file_follows setting states records is k s less here =
     let step = step_at setting states records k (Section s) is less here in
-    let begins = entered_file setting (Section s) (state_at states k) step.entered step.moves in
-    subst (λ n. FollowInFile setting records s n (state_at states (k + 1)).file) begins (section_in_file setting s step.entered (state_at states (k + 1)) records step.places)
+    let from : Cursors = state_at states k in
+    let to : Cursors = state_at states (k + 1) in
+    widened (λ r. r.file_offset) file_end records (first_part setting.plan.sections s) (part_count setting.plan.sections s) step.entered.file to.file from.file to.file
+    (section_in_file setting s step.entered to records step.places) (entered_file setting (Section s) from step.entered step.moves) (omega arith)
 
 -- ---- in memory
 
 abbrev FollowInMemory : Setting → List Record → ℕ → ℕ → ℕ → Type 0
 FollowInMemory setting records s low high = Follow (λ r. r.mem_offset) mem_end records (first_part setting.plan.sections s) (part_count setting.plan.sections s) low high
 
-entered_memory : (setting : Setting) (states : List Cursors) (records : List Record) → IsSoundlySet setting states records
-    → (e : OrderEvent) (from entered : Cursors) → moved setting e from ≡ Ok entered → from.memory ≤ entered.memory
-entered_memory setting states records set e from entered h =
+-- what is free rises with memory, where what is saved stays
+free_rises : (c d : Cursors) → d.saved ≡ c.saved → c.memory ≤ d.memory → free_memory c ≤ free_memory d
+free_rises c d same rises =
+    let along : free_memory d ≡ unwrap_or c.saved d.memory = ap (λ (o : Option ℕ). unwrap_or o d.memory) same in
+    let rest : unwrap_or c.saved c.memory ≤ unwrap_or c.saved d.memory =
+    elim c.saved as (λ (o : Option ℕ). unwrap_or o c.memory ≤ unwrap_or o d.memory) [ None ↦ rises | (Some m) ↦ omega arith ] in
+    omega (arith, along, rest)
+
+entered_free : (setting : Setting) (states : List Cursors) (records : List Record) → IsSoundlySet setting states records
+    → (e : OrderEvent) (from entered : Cursors) → moved setting e from ≡ Ok entered → free_memory from ≤ free_memory entered
+entered_free setting states records set e from entered h =
     elim (moves setting e from entered h) [
-      | inl same ↦ omega (arith, ap (λ (c : Cursors). c.memory) same)
-      | inr opens ↦ omega (
+      | Stays same ↦ omega (arith, ap free_memory same)
+      | Opened opens ↦ free_rises from entered opens.saved (omega (
         arith,
         opens.memory,
         set.lawful.after (place_alignment setting opens.segment) from.file from.memory (place_aligned setting opens.segment set.ready.sections set.page),
-      )
+      ))
+      | Entered s is begun ↦ begun.free
     ]
 
 section_in_memory : (setting : Setting) (s : ℕ) (entered to : Cursors) (records : List Record) → is_allocated setting.plan s ≡ true → PlacesSection setting s entered records to
     → FollowInMemory setting records s entered.memory to.memory
 section_in_memory setting s entered to records allocated h =
-    let end : Cursors = reached setting s records (section_start setting s entered) (part_count setting.plan.sections s) in
+    let end : Offsets = reached setting s records (section_start setting s entered) (part_count setting.plan.sections s) in
     let begins : (section_start setting s entered).memory ≡ entered.memory = ap (λ b. if b then entered.memory else 0) allocated in
     let ends : end.memory ≡ to.memory = sym (ap (λ (c : Cursors). c.memory) h.leaves ∙ ap (λ b. if b then end.memory else entered.memory) allocated) in
     subst (λ n. FollowInMemory setting records s entered.memory n) ends
@@ -113,33 +127,38 @@ section_in_place : (setting : Setting) (s : ℕ) (entered to : Cursors) (records
 section_in_place setting s entered to records true is h =
     follow-le (λ r. r.mem_offset) mem_end records (first_part setting.plan.sections s) (part_count setting.plan.sections s) entered.memory to.memory (section_in_memory setting s entered to records is h)
 section_in_place setting s entered to records false is h =
-    let end : Cursors = reached setting s records (section_start setting s entered) (part_count setting.plan.sections s) in
+    let end : Offsets = reached setting s records (section_start setting s entered) (part_count setting.plan.sections s) in
     omega (arith, ap (λ (c : Cursors). c.memory) h.leaves ∙ ap (λ b. if b then end.memory else entered.memory) is)
 
-places_in_memory : (setting : Setting) (o : Option ℕ) (entered to : Cursors) (records : List Record) → Places setting o entered records to → entered.memory ≤ to.memory
-places_in_memory setting None entered to records h = omega (arith, ap (λ (c : Cursors). c.memory) h)
-places_in_memory setting (Some s) entered to records h = section_in_place setting s entered to records (is_allocated setting.plan s) refl h
+places_in_memory : (setting : Setting) (o : Option ℕ) (entered to : Cursors) (records : List Record) → Places setting o entered records to → free_memory entered ≤ free_memory to
+places_in_memory setting None entered to records h = omega (arith, ap free_memory h)
+places_in_memory setting (Some s) entered to records h =
+    free_rises entered to (ap (λ (c : Cursors). c.saved) h.leaves) (section_in_place setting s entered to records (is_allocated setting.plan s) refl h)
 
--- the cursor of memory never falls
+-- what is free of memory never falls
 pub memory_rises : (setting : Setting) (states : List Cursors) (records : List Record) → IsSoundlySet setting states records
-    → (k : ℕ) → k < length states - 1 → (state_at states k).memory ≤ (state_at states (k + 1)).memory
+    → (k : ℕ) → k < length states - 1 → free_memory (state_at states k) ≤ free_memory (state_at states (k + 1))
 memory_rises setting states records set k less =
     let event = event_at setting states records k set.placed less in
     let step = step_at setting states records k event.0 set.placed less event.1 in
     omega (
       arith,
-      entered_memory setting states records set event.0 (state_at states k) step.entered step.moves,
+      entered_free setting states records set event.0 (state_at states k) step.entered step.moves,
       places_in_memory setting (placed_section event.0) step.entered (state_at states (k + 1)) records step.places,
     )
 
--- the parts of a section that has memory follow one another between the cursors round its event
+-- the parts of a section that has memory follow one another in what is free between the cursors round its event
 pub memory_follows : (setting : Setting) (states : List Cursors) (records : List Record) → IsSoundlySet setting states records
     → (k s : ℕ) → k < length states - 1 → slice_get setting.plan.events k ≡ Some (Section s) → has_memory setting.plan s ≡ true
-    → FollowInMemory setting records s (state_at states k).memory (state_at states (k + 1)).memory
+    → FollowInMemory setting records s (free_memory (state_at states k)) (free_memory (state_at states (k + 1)))
 memory_follows setting states records set k s less here memory =
     let step = step_at setting states records k (Section s) set.placed less here in
-    let allocated = (and_parts (is_allocated setting.plan s) _ memory).0 in
+    let has = and_parts (is_allocated setting.plan s) _ memory in
+    let from : Cursors = state_at states k in
     let to : Cursors = state_at states (k + 1) in
-    widened (λ r. r.mem_offset) mem_end records (first_part setting.plan.sections s) (part_count setting.plan.sections s) step.entered.memory to.memory (state_at states k).memory to.memory
-    (section_in_memory setting s step.entered to records allocated step.places)
-    (entered_memory setting states records set (Section s) (state_at states k) step.entered step.moves) (omega arith)
+    let taken = (enters setting s from step.entered step.moves).taken (not-true (is_zero_fill_thread_local setting.plan s) has.1) in
+    let places : PlacesSection setting s step.entered records to = step.places in
+    let unsaved : to.saved ≡ None = ap (λ (c : Cursors). c.saved) places.leaves ∙ taken.1 in
+    let behind : free_memory to ≡ to.memory = ap (λ (o : Option ℕ). unwrap_or o to.memory) unsaved in
+    widened (λ r. r.mem_offset) mem_end records (first_part setting.plan.sections s) (part_count setting.plan.sections s) step.entered.memory to.memory (free_memory from) (free_memory to)
+    (section_in_memory setting s step.entered to records has.0 places) (omega (arith, taken.0)) (omega (arith, behind))

@@ -1,5 +1,5 @@
 -- The computed walk is the placement that `Placement` defines, and no other is.
-use Rattle.std.proofs.Common.{◌≡◌, ℕ, zero, suc, ◌+◌, ◌-◌, ◌≤◌, ◌<◌, ◌⊎◌, List, [], ◌∷◌, length, map, Option, Some, None, refl, sym, ap, subst, ◌∙◌, arith, inl, inr, add-one, add-zero, zero-add}
+use Rattle.std.proofs.Common.{◌≡◌, ℕ, zero, suc, ◌+◌, ◌-◌, ◌≤◌, ◌<◌, ◌⊎◌, false, List, [], ◌∷◌, length, map, Option, Some, None, refl, sym, ap, subst, ◌∙◌, arith, inl, inr, add-one, add-zero, zero-add}
 use Rattle.std.specs.Prelude.{slice_get, option_map, Result, Ok, Err}
 use Rattle.std.specs.List.{enumerate_from, slice_index_or}
 use Rattle.std.proofs.lemmas.Bool.{cases_lt}
@@ -277,7 +277,7 @@ placement_is_one setting states states' records records' ready h g =
       ]
     ] in
     let count : length states ≡ length states' = omega (arith, h.some, g.some, same) in (
-      ext_get_or (record { file = 0; memory = 0 }) states states' count
+      ext_get_or (record { file = 0; memory = 0; saved = None; in_run = false }) states states' count
           (λ k below. placed_states setting states records ready h k below ∙ sym (placed_states setting states' records' ready g k (omega (arith, count)))),
       ext_get_or nowhere records records' (h.each ∙ sym g.each)
           (λ p below. one.at p (omega (arith, one.each)) ∙ ap (λ (m : ℕ). record_after setting m p) same ∙ sym (two.at p (omega (arith, one.each)))),

@@ -1,5 +1,5 @@
 -- One event more of the walk.
-use Rattle.std.proofs.Common.{◌≡◌, ℕ, ◌+◌, ◌<◌, List, length, true, Option, Some, None, refl, sym, ap, subst, ◌∙◌, add-one, below_more}
+use Rattle.std.proofs.Common.{◌≡◌, ℕ, ◌+◌, ◌<◌, List, length, Bool, true, false, Option, Some, None, refl, sym, ap, subst, ◌∙◌, add-one, below_more}
 use Rattle.std.specs.Prelude.{slice_get, option_map, Result, Ok, Err, OnOk, IsErrAnd, is_some, unwrap_or}
 use Rattle.std.specs.List.{slice_index_or}
 use Rattle.std.proofs.lemmas.Option.{slice_get-get_or}
@@ -15,13 +15,15 @@ use Rattle.lk_place.specs.Setting.{Setting}
 use Rattle.lk_place.specs.Walk.{AllPass, GivesWalked, StopsBy, at_event, cursors_after, first_state, record_after, recorded, stepped, unless}
 
 -- the walk begins where the placement does
-pub starts_at : (setting : Setting) (c : Cursors) → c.file ≡ 0 → as_number setting.plan.base ≡ Some c.memory → c ≡ first_state setting
-starts_at setting c file memory =
-    ap (λ (n : ℕ). let at : Cursors = record { file = n; memory = c.memory } in at) file
-    ∙ ap (λ (o : Option ℕ). let at : Cursors = record { file = 0; memory = unwrap_or o 0 } in at) (sym memory)
+pub starts_at : (setting : Setting) (c : Cursors) → c.file ≡ 0 → as_number setting.plan.base ≡ Some c.memory → c.saved ≡ None → c.in_run ≡ false → c ≡ first_state setting
+starts_at setting c file memory saved in_run =
+    ap (λ (n : ℕ). let at : Cursors = record { file = n; memory = c.memory; saved = c.saved; in_run = c.in_run } in at) file
+    ∙ ap (λ (o : Option ℕ). let at : Cursors = record { file = 0; memory = unwrap_or o 0; saved = c.saved; in_run = c.in_run } in at) (sym memory)
+    ∙ ap (λ (o : Option ℕ). let at : Cursors = record { file = 0; memory = unwrap_or (as_number setting.plan.base) 0; saved = o; in_run = c.in_run } in at) saved
+    ∙ ap (λ (b : Bool). let at : Cursors = record { file = 0; memory = unwrap_or (as_number setting.plan.base) 0; saved = None; in_run = b } in at) in_run
 
 pub first_is : (setting : Setting) (c : Cursors) → IsFirst setting c → c ≡ first_state setting
-first_is setting c h = starts_at setting c h.file h.memory
+first_is setting c h = starts_at setting c h.file h.memory h.saved h.in_run
 
 unwrapped : (o : Option ℕ) → is_some o ≡ true → o ≡ Some (unwrap_or o 0)
 unwrapped None h = absurd (cc)
@@ -35,6 +37,8 @@ first_from setting may = record {
   regions = may.regions;
   file = refl;
   memory = unwrapped (as_number setting.plan.base) may.base;
+  saved = refl;
+  in_run = refl;
 }
 
 -- before all events the cursors are at the start

@@ -5,7 +5,7 @@ use Rattle.lk_link.specs.declared.plan.Plan.{Plan}
 use Rattle.lk_link.specs.declared.plan.PlanPart.{PlanPart}
 use Rattle.lk_link.specs.Parts.{first_part}
 use Rattle.lk_link.specs.Inside.{sections_inside}
-use Rattle.lk_link.specs.PlanSections.{section_at}
+use Rattle.lk_link.specs.PlanSections.{is_thread_local, section_at}
 use Rattle.lk_place.specs.Setting.{Setting, has_bytes}
 
 -- the greatest of several numbers, and at least this one
@@ -27,6 +27,14 @@ greatest_alignment plan sizes s = greatest_of (section_at plan.sections s).align
 -- those of all sections, by number
 abbrev pub section_alignments : Plan → List ℕ → List ℕ
 section_alignments plan sizes = map (λ q. greatest_alignment plan sizes q.0) (enumerate_from 0 plan.sections)
+
+-- those of the thread-local sections, of the alignments of all
+abbrev pub thread_local_ones : Plan → List ℕ → List ℕ
+thread_local_ones plan alignments = map (λ q. q.1) (filter (λ q. is_thread_local plan q.0) (enumerate_from 0 alignments))
+
+-- the greatest of these, 1 where there is none
+abbrev pub thread_local_alignment : Plan → List ℕ → ℕ
+thread_local_alignment plan sizes = greatest_of 1 (thread_local_ones plan (section_alignments plan sizes))
 
 -- the greatest alignment of the sections inside a segment, and at least the page (libwild: `compute_segment_alignments`)
 abbrev pub segment_alignment : Plan → List ℕ → ℕ → ℕ

@@ -2,7 +2,8 @@
 use Rattle.std.specs.Prelude.{◌≡◌, List, Some, None, Result, Ok, Err}
 use Rattle.lk_place.specs.declared.cursors.Cursors.{Cursors}
 use Rattle.lk_place.specs.declared.error.PlaceError.{PlaceError}
-use Rattle.lk_place.specs.declared.error.PlaceError.TheVariants.{AddressOverflow, NoMemory, SectionOutsideSegments}
+use Rattle.lk_place.specs.declared.error.PlaceError.TheVariants.{AddressOverflow, BaseTooLow, Expression}
+use Rattle.lk_place.specs.declared.error.PlaceError.TheVariants.{NoMemory, RegionDuplicate, SectionOutsideSegments}
 use Rattle.lk_place.specs.declared.walk.Placed.{Placed}
 use Rattle.lk_place.specs.Placement.{IsPlaced, placement_refusal}
 use Rattle.lk_place.specs.Records.{Record}
@@ -28,4 +29,7 @@ abbrev pub GivesPlaced : Setting → Result Placed PlaceError → Type 0
 GivesPlaced setting (Ok placed) = ArePlaced setting placed
 GivesPlaced setting (Err NoMemory) = Unit {0}
 GivesPlaced setting (Err (AddressOverflow place)) = IsRefused setting (AddressOverflow place)
+GivesPlaced setting (Err (RegionDuplicate region)) = IsRefused setting (RegionDuplicate region)
+GivesPlaced setting (Err (Expression place cause)) = IsRefused setting (Expression place cause)
+GivesPlaced setting (Err (BaseTooLow base headers)) = IsRefused setting (BaseTooLow base headers)
 GivesPlaced setting (Err (SectionOutsideSegments s)) = IsRefused setting (SectionOutsideSegments s)

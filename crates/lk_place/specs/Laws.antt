@@ -7,7 +7,7 @@ use Rattle.lk_link.specs.declared.plan.OrderEvent.{OrderEvent}
 use Rattle.lk_link.specs.declared.plan.Plan.{Plan}
 use Rattle.lk_link.specs.Alignments.{is_alignment}
 use Rattle.lk_link.specs.Inside.{PlacesInside, sections_inside}
-use Rattle.lk_link.specs.PlanSections.{has_memory, is_file_backed, is_zero_fill_thread_local}
+use Rattle.lk_link.specs.PlanSections.{has_memory, is_file_backed}
 use Rattle.lk_link.specs.Target.{IsLawful}
 use Rattle.lk_link.specs.WellFormed.{IsAboutPlace, IsEventOrder}
 use Rattle.lk_place.specs.declared.cursors.Cursors.{Cursors}
@@ -48,10 +48,10 @@ PlainMemoryIsDisjoint = (setting : Setting) (states : List Cursors) (records : L
 -- ---- in step
 
 -- under a plain plan a part with bytes in the file, inside a load segment, starts at the same place in memory and in the file,
--- modulo the segment's place alignment (of plans without zero-fill thread-local sections, which aren't placed yet)
+-- modulo the segment's place alignment
 abbrev pub PlainMemoryIsCongruent : Type 0
 PlainMemoryIsCongruent = (setting : Setting) (states : List Cursors) (records : List Record)
-    → IsSoundlySet setting states records → IsPlain setting.plan setting.output → ((s : ℕ) → is_zero_fill_thread_local setting.plan s ≡ false)
+    → IsSoundlySet setting states records → IsPlain setting.plan setting.output
     → (i s k p : ℕ) → PlacesInLoad setting.plan i s k → is_file_backed setting.plan s ≡ true → HasPart setting.plan s p
     → (record_at records p).mem_offset % place_alignment setting i ≡ (record_at records p).file_offset % place_alignment setting i
 

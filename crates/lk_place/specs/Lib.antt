@@ -1,5 +1,6 @@
 pub mod Alignments
 pub mod Answers
+pub mod Base
 pub mod Constants
 pub mod Evaluation
 pub mod ExpressionLaws
@@ -14,8 +15,10 @@ pub mod PlainScan
 pub mod Plans
 pub mod Ranges
 pub mod Records
+pub mod Regions
 pub mod Segments
 pub mod Setting
 pub mod Spans
 pub mod Surroundings
+pub mod ThreadLocal
 pub mod Walk

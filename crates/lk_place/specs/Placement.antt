@@ -12,9 +12,10 @@ use Rattle.lk_link.specs.Alignments.{IsLeastMultiple}
 use Rattle.lk_link.specs.Expressions.{as_number}
 use Rattle.lk_link.specs.Inside.{placed_section}
 use Rattle.lk_link.specs.Parts.{all_parts, part_at}
-use Rattle.lk_link.specs.PlanSections.{is_allocated, is_file_backed}
+use Rattle.lk_link.specs.PlanSections.{is_allocated, is_file_backed, is_thread_local}
 use Rattle.lk_link.specs.SegmentKinds.{is_load, segment_at}
 use Rattle.lk_place.specs.declared.cursors.Cursors.{Cursors}
+use Rattle.lk_place.specs.declared.cursors.Offsets.{Offsets}
 use Rattle.lk_place.specs.declared.error.PlaceError.{PlaceError}
 use Rattle.lk_place.specs.declared.error.PlaceError.TheVariants.{AddressOverflow}
 use Rattle.lk_place.specs.declared.error.Refusal.{Refusal}
@@ -23,6 +24,7 @@ use Rattle.lk_place.specs.Alignments.{place_alignment, section_alignment}
 use Rattle.lk_place.specs.Plans.{IsPlaceableEvent}
 use Rattle.lk_place.specs.Records.{Record, file_end, mem_end, nowhere, record_at}
 use Rattle.lk_place.specs.Setting.{Setting, has_bytes, of_parts, part_count, part_number, size_at}
+use Rattle.lk_place.specs.ThreadLocal.{run_begun, saved_or_restored}
 
 -- ---- the parts of a section
 
@@ -42,9 +44,9 @@ walk_alignment setting s p =
     if p == first_walked setting s then section_alignment setting s
     else min (part_at setting.plan.sections p).alignment (section_alignment setting s)
 
--- a walked part starts at the least multiples of its alignment at or above the cursors (in the file where it is backed by
--- it, else where that cursor stands), and takes its bytes
-pub record IsPlacedAt (backed : Bool) (alignment size : ℕ) (from : Cursors) (r : Record) : Type 0 where
+-- a walked part starts at the least multiples of its alignment at or above the offsets (in the file where it is backed by
+-- it, else where that offset stands), and takes its bytes
+pub record IsPlacedAt (backed : Bool) (alignment size : ℕ) (from : Offsets) (r : Record) : Type 0 where
   pub at : IsLeastMultiple alignment from.memory r.mem_offset
   pub in_file : MatchBool backed (IsLeastMultiple alignment from.file r.file_offset) (r.file_offset ≡ from.file)
   pub takes : r.mem_size ≡ size
@@ -63,12 +65,12 @@ resting first own = record {
   lma_offset = first.mem_offset;
 }
 
--- the cursors behind a part
-abbrev pub behind : Record → Cursors
+-- the offsets behind a part
+abbrev pub behind : Record → Offsets
 behind r = record { file = file_end r; memory = mem_end r }
 
--- the cursors behind the first j parts of a section: behind the last walked one of them, else where they begin
-abbrev pub reached : Setting → ℕ → List Record → Cursors → ℕ → Cursors
+-- the offsets behind the first j parts of a section: behind the last walked one of them, else where they begin
+abbrev pub reached : Setting → ℕ → List Record → Offsets → ℕ → Offsets
 reached setting s records from zero = from
 reached setting s records from (suc j) =
     let p = part_number setting.plan.sections s j in
@@ -77,15 +79,19 @@ reached setting s records from (suc j) =
 -- ---- a section
 
 -- where a section's parts begin: in place of memory one that isn't allocated counts from 0
-abbrev pub section_start : Setting → ℕ → Cursors → Cursors
-section_start setting s from = record from { memory = if is_allocated setting.plan s then from.memory else 0 }
+abbrev pub section_start : Setting → ℕ → Cursors → Offsets
+section_start setting s from = record { file = from.file; memory = if is_allocated setting.plan s then from.memory else 0 }
 
 -- the cursors behind a section whose parts end here: one that isn't allocated leaves memory where it was
-abbrev pub left_at : Setting → ℕ → Cursors → Cursors → Cursors
-left_at setting s from end = record from { file = end.file; memory = if is_allocated setting.plan s then end.memory else from.memory }
+abbrev pub left_at : Setting → ℕ → Cursors → Offsets → Cursors
+left_at setting s from end = record from {
+  file = end.file;
+  memory = if is_allocated setting.plan s then end.memory else from.memory;
+  in_run = is_thread_local setting.plan s;
+}
 
--- part p of a section is placed from the cursors on
-abbrev pub PlacesPart : Setting → ℕ → ℕ → Cursors → List Record → Type 0
+-- part p of a section is placed from the offsets on
+abbrev pub PlacesPart : Setting → ℕ → ℕ → Offsets → List Record → Type 0
 PlacesPart setting s p from records =
     IsPlacedAt (is_file_backed setting.plan s) (walk_alignment setting s p) (size_at setting.sizes p) from (record_at records p)
 
@@ -116,15 +122,17 @@ abbrev pub memory_moved : Cursors → ℕ → Result Cursors Refusal
 memory_moved from memory = if nat_lt memory (2 ^ 64) then Ok (record from { memory = memory }) else Err Overflow
 
 -- what an event does to the cursors before it places a section, or why it is refused: a load segment begins where the
--- platform lets it, by its place alignment, and nothing else that has a step moves anything
+-- platform lets it, by its place alignment; a section saves memory or goes on where it was saved, and may begin a run; and nothing
+-- else that has a step moves anything
 abbrev pub moved : Setting → OrderEvent → Cursors → Result Cursors Refusal
 moved setting (SegmentStart i) from =
     let start = setting.target.segment_start (place_alignment setting i) from.file from.memory in
     if is_load (segment_at setting.plan.segments i).kind then memory_moved from start else Ok from
+moved setting (Section s) from = run_begun setting s (saved_or_restored setting.plan s from)
 moved setting _ from = Ok from
 
 -- an event moves the cursors, and then places its section, if it has one; what isn't placed yet has no step: what moves the
--- location, gives an address, or places a section that is thread-local, stands in a region or is loaded elsewhere
+-- location, gives an address, or places a section that stands in a region or is loaded elsewhere
 pub record Steps (setting : Setting) (e : OrderEvent) (from : Cursors) (records : List Record) (to : Cursors) : Type 0 where
   pub placeable : IsPlaceableEvent setting.plan e
   pub entered : Cursors
@@ -133,33 +141,33 @@ pub record Steps (setting : Setting) (e : OrderEvent) (from : Cursors) (records 
 
 -- ---- refusals
 
--- the cursors behind a walked part
-abbrev pub pushed : Bool → ℕ → ℕ → Cursors → Cursors
+-- the offsets behind a walked part
+abbrev pub pushed : Bool → ℕ → ℕ → Offsets → Offsets
 pushed backed alignment size from = record {
   file = if backed then next_multiple_of from.file alignment + size else from.file;
   memory = next_multiple_of from.memory alignment + size;
 }
 
--- the cursors behind part p of a section, if it is placed from these on: one that isn't walked leaves them
-abbrev pub next_end : Setting → ℕ → ℕ → Cursors → Cursors
+-- the offsets behind part p of a section, if it is placed from these on: one that isn't walked leaves them
+abbrev pub next_end : Setting → ℕ → ℕ → Offsets → Offsets
 next_end setting s p from =
     if is_walked setting s p then pushed (is_file_backed setting.plan s) (walk_alignment setting s p) (size_at setting.sizes p) from
     else from
 
 -- where the first j parts of a section would end
-abbrev pub end_behind : Setting → ℕ → Cursors → ℕ → Cursors
+abbrev pub end_behind : Setting → ℕ → Offsets → ℕ → Offsets
 end_behind setting s from zero = from
 end_behind setting s from (suc j) = next_end setting s (part_number setting.plan.sections s j) (end_behind setting s from j)
 
-abbrev pub is_below : Cursors → Bool
+abbrev pub is_below : Offsets → Bool
 is_below c = nat_lt c.file (2 ^ 64) && nat_lt c.memory (2 ^ 64)
 
--- the refusal of cursors past 2^64 - 1
-abbrev pub overflow_at : Cursors → Option Refusal
+-- the refusal of offsets past 2^64 - 1
+abbrev pub overflow_at : Offsets → Option Refusal
 overflow_at c = if is_below c then None else Some Overflow
 
 -- where the parts of a section would end that begin here
-abbrev pub section_end : Setting → ℕ → Cursors → Cursors
+abbrev pub section_end : Setting → ℕ → Offsets → Offsets
 section_end setting s begin = end_behind setting s begin (part_count setting.plan.sections s)
 
 -- why a section can't be placed from the cursors on: its parts would end past 2^64 - 1
@@ -186,8 +194,9 @@ step_refusal setting k e from = option_map (numbered k) (event_refusal setting e
 
 -- ---- the placement
 
--- the cursors before the first event: the file begins at 0, and memory at the number that is the plan's base. Partial output, a
--- base that is asked for or is no number, headers before the first section and regions have no first state: they aren't placed yet
+-- the cursors before the first event: the file begins at 0, and memory at the number that is the plan's base; nothing is saved, and
+-- no run is begun. Partial output, a base that is asked for or is no number, headers before the first section and regions have no
+-- first state: they aren't placed yet
 pub record IsFirst (setting : Setting) (c : Cursors) : Type 0 where
   pub whole : setting.output ≢ Partial
   pub unasked : setting.plan.custom_base ≡ false
@@ -195,10 +204,12 @@ pub record IsFirst (setting : Setting) (c : Cursors) : Type 0 where
   pub regions : setting.plan.regions ≡ []
   pub file : c.file ≡ 0
   pub memory : as_number setting.plan.base ≡ Some c.memory
+  pub saved : c.saved ≡ None
+  pub in_run : c.in_run ≡ false
 
 -- the cursors before event k, among the states
 abbrev pub state_at : List Cursors → ℕ → Cursors
-state_at states k = slice_index_or states k (record { file = 0; memory = 0 })
+state_at states k = slice_index_or states k (record { file = 0; memory = 0; saved = None; in_run = false })
 
 -- the refusal of the event with this number, if there is one
 abbrev pub refusal_of : Setting → ℕ → Option OrderEvent → Cursors → Option PlaceError

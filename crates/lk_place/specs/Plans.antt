@@ -6,13 +6,11 @@ use Rattle.lk_link.specs.declared.plan.OrderEvent.{OrderEvent}
 use Rattle.lk_link.specs.declared.plan.Plan.{Plan}
 use Rattle.lk_link.specs.Expressions.{as_number}
 use Rattle.lk_link.specs.Inside.{placed_section}
-use Rattle.lk_link.specs.PlanSections.{is_thread_local, section_at}
+use Rattle.lk_link.specs.PlanSections.{section_at}
 use Rattle.lk_link.specs.WellFormed.{IsAboutPlace}
 
--- a section that stands behind what is placed before it, and nowhere else: it isn't thread-local, stands in no region, and is loaded
--- from where it stands
+-- a section that stands behind what is placed before it, and nowhere else: it stands in no region, and is loaded from where it stands
 pub record IsPlaceableSection (plan : Plan) (s : ℕ) : Type 0 where
-  pub thread_local : is_thread_local plan s ≡ false
   pub region : (section_at plan.sections s).region ≡ None
   pub at : (section_at plan.sections s).at ≡ None
 

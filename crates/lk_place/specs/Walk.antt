@@ -1,6 +1,6 @@
 -- The placement, computed from front to back. Contracts of private functions speak of it; that it is the placement that
 -- `Placement` defines is proved by lemmas.
-use Rattle.std.specs.Prelude.{◌≡◌, ℕ, zero, suc, ◌+◌, ◌-◌, ◌==◌, ◌&&◌, Bool, true, ◌<◌, if◌then◌else◌, List, length, nat_le, nat_lt}
+use Rattle.std.specs.Prelude.{◌≡◌, ℕ, zero, suc, ◌+◌, ◌-◌, ◌==◌, ◌&&◌, Bool, true, false, ◌<◌, if◌then◌else◌, List, length, nat_le, nat_lt}
 use Rattle.std.specs.Prelude.{slice_get, Option, Some, None, Result, Ok, Err, unwrap_or}
 use Rattle.std.specs.Int.{next_multiple_of}
 use Rattle.lk_link.specs.declared.plan.OrderEvent.{OrderEvent}
@@ -12,11 +12,12 @@ use Rattle.lk_link.specs.PlanSections.{is_file_backed}
 use Rattle.lk_link.specs.Target.{platform_target}
 use Rattle.lk_place.specs.declared.alignments.Alignments.{Alignments}
 use Rattle.lk_place.specs.declared.cursors.Cursors.{Cursors}
+use Rattle.lk_place.specs.declared.cursors.Offsets.{Offsets}
 use Rattle.lk_place.specs.declared.error.PlaceError.{PlaceError}
 use Rattle.lk_place.specs.declared.error.Refusal.{Refusal}
 use Rattle.lk_place.specs.declared.placement.Placing.{Placing}
 use Rattle.lk_place.specs.declared.walk.Walk.{Walk}
-use Rattle.lk_place.specs.Alignments.{section_alignment, section_alignments, segment_alignments}
+use Rattle.lk_place.specs.Alignments.{section_alignment, section_alignments, segment_alignments, thread_local_alignment}
 use Rattle.lk_place.specs.Placement.{end_behind, first_walked, is_below, is_walked, left_at, moved, numbered, overflow_at, refusal_of}
 use Rattle.lk_place.specs.Placement.{resting, section_end, section_start, walk_alignment}
 use Rattle.lk_place.specs.Records.{Record, nowhere, record_at}
@@ -24,16 +25,17 @@ use Rattle.lk_place.specs.Setting.{IsReady, Setting, part_count, setting_of, siz
 
 -- the cursors at which the walk begins: those of the placement, where the base is a number
 abbrev pub first_state : Setting → Cursors
-first_state setting = record { file = 0; memory = unwrap_or (as_number setting.plan.base) 0 }
+first_state setting = record { file = 0; memory = unwrap_or (as_number setting.plan.base) 0; saved = None; in_run = false }
 
 -- the setting of a walk
 abbrev pub setting_in : {P : Type 0} → (P → ℕ → ℕ → ℕ → ℕ) → Walk P → Setting
 setting_in start walk = setting_of walk.link.now (platform_target (start walk.platform.now)) walk.sizes.now
 
--- these are the alignments of the sections and segments of a plan
+-- these are the alignments of the sections and segments of a plan, and the greatest of its thread-local sections
 pub record AreAlignments (plan : Plan) (sizes : List ℕ) (all : Alignments) : Type 0 where
   pub sections : all.sections ≡ section_alignments plan sizes
   pub segments : all.segments ≡ segment_alignments plan sizes
+  pub thread_local : all.thread_local ≡ thread_local_alignment plan sizes
 
 -- the plan of a walk can be walked, and the alignments of its sections and segments are at hand
 pub record IsWalkable {P : Type 0} (start : P → ℕ → ℕ → ℕ → ℕ) (walk : Walk P) : Type 0 where
@@ -45,8 +47,8 @@ abbrev pub unless : {X E : Type 0} → Option E → X → Result X E
 unless None x = Ok x
 unless (Some e) x = Err e
 
--- cursors, unless they are past 2^64 - 1
-abbrev pub fitting : Cursors → Result Cursors Refusal
+-- offsets, unless they are past 2^64 - 1
+abbrev pub fitting : Offsets → Result Offsets Refusal
 fitting c = unless (overflow_at c) c
 
 -- each record is made what f makes of it, by its number
@@ -55,8 +57,8 @@ Rewrites f old new = (p : ℕ) → record_at new p ≡ f p (record_at old p)
 
 -- ---- one section
 
--- the record of a part that is placed from the cursors on
-unfoldable pub placed_at : Bool → ℕ → ℕ → Cursors → Record
+-- the record of a part that is placed from the offsets on
+unfoldable pub placed_at : Bool → ℕ → ℕ → Offsets → Record
 placed_at backed alignment size from = record {
   file_size = if backed then size else 0;
   mem_size = size;
@@ -67,7 +69,7 @@ placed_at backed alignment size from = record {
 }
 
 -- the record of the first walked part of a section whose parts begin here
-abbrev pub first_record : Setting → ℕ → Cursors → Record
+abbrev pub first_record : Setting → ℕ → Offsets → Record
 first_record setting s begin =
     placed_at (is_file_backed setting.plan s) (section_alignment setting s) (size_at setting.sizes (first_walked setting s)) begin
 
@@ -79,18 +81,18 @@ pub record IsPlacing (setting : Setting) (placing : Placing) : Type 0 where
   pub first : placing.first ≡ first_record setting placing.section placing.begin
   pub below : is_below placing.begin ≡ true
 
--- the record of part p of a section whose parts begin here, behind the cursors
-abbrev pub next_record : Setting → ℕ → Cursors → ℕ → Cursors → Record
+-- the record of part p of a section whose parts begin here, behind the offsets
+abbrev pub next_record : Setting → ℕ → Offsets → ℕ → Offsets → Record
 next_record setting s begin p from =
     if is_walked setting s p then placed_at (is_file_backed setting.plan s) (walk_alignment setting s p) (size_at setting.sizes p) from
     else resting (first_record setting s begin) (part_at setting.plan.sections p).alignment
 
 -- the same, behind the parts before it
-abbrev pub record_by : Setting → ℕ → Cursors → ℕ → Record
+abbrev pub record_by : Setting → ℕ → Offsets → ℕ → Record
 record_by setting s begin p = next_record setting s begin p (end_behind setting s begin (p - first_part setting.plan.sections s))
 
--- the record that part q gets behind the cursors, and no other
-abbrev pub one_written : Setting → ℕ → Cursors → ℕ → Cursors → ℕ → Record → Record
+-- the record that part q gets behind the offsets, and no other
+abbrev pub one_written : Setting → ℕ → Offsets → ℕ → Offsets → ℕ → Record → Record
 one_written setting s begin q from p old = if p == q then next_record setting s begin q from else old
 
 -- whether part p is one of n from the first on
@@ -98,7 +100,7 @@ abbrev pub lies_in : ℕ → ℕ → ℕ → Bool
 lies_in first n p = nat_le first p && nat_lt p (first + n)
 
 -- what the parts of a section that begin here make of the record of part p
-abbrev pub all_written : Setting → ℕ → Cursors → ℕ → Record → Record
+abbrev pub all_written : Setting → ℕ → Offsets → ℕ → Record → Record
 all_written setting s begin p old =
     if lies_in (first_part setting.plan.sections s) (part_count setting.plan.sections s) p then record_by setting s begin p else old
 

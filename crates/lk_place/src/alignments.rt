@@ -4,14 +4,14 @@
 //! section's start; a load segment at the greatest of the sections inside, and at least at a page, so that memory can go
 //! along the file. Both go by the plan and the bytes of its parts, and are computed before anything is placed.
 
-ghost use Rattle.std.specs.Prelude.{◌≡◌, ◌+◌, ◌<◌, ◌≤◌, true, All, IfOk, length, map, max, nat_lt, slice_index, if◌then◌else◌};
+ghost use Rattle.std.specs.Prelude.{◌≡◌, ◌+◌, ◌^◌, ◌<◌, ◌≤◌, true, All, IfOk, length, map, max, nat_lt, slice_index, if◌then◌else◌};
 ghost use Rattle.std.specs.List.{enumerate_from, list_all};
 ghost use Rattle.lk_link.specs.Alignments.{is_alignment};
 ghost use Rattle.lk_link.specs.Parts.{all_parts};
 ghost use Rattle.lk_link.specs.Rules.{is_good_section};
 ghost use Rattle.lk_link.specs.WellFormed.{IsWellFormed};
 ghost use Rattle.lk_place.specs.Alignments.{filled_alignments, greatest_alignment, greatest_of};
-ghost use Rattle.lk_place.specs.Alignments.{section_alignments, segment_alignments};
+ghost use Rattle.lk_place.specs.Alignments.{section_alignments, segment_alignments, thread_local_ones};
 ghost use Rattle.lk_place.specs.Walk.{AreAlignments};
 
 use lk_link::alignment::Alignment;
@@ -21,11 +21,13 @@ use lk_link::list::List;
 use lk_link::plan::{Plan, PlanPart};
 use std::alloc::{AllocError, Global};
 
-/// The alignments of all sections and segments, by number.
+/// The alignments of all sections and segments, by number, and of all thread-local sections together.
 #[derive(Drop)]
 pub(crate) struct Alignments {
     pub(crate) sections: List<Alignment>,
     pub(crate) segments: List<Alignment>,
+    /// The greatest of the thread-local sections, 1 where there is none.
+    pub(crate) thread_local: Alignment,
 }
 
 /// The greater of this alignment and a part's, if the part has bytes.
@@ -119,6 +121,30 @@ fn greatest_of_each(
     Ok(all)
 }
 
+/// The greater of this alignment and a section's, if the section counts.
+fn raise_if(counts: bool, greatest: Alignment, alignment: Alignment) -> Alignment
+    ensures { result ≡ (if counts then max greatest alignment else greatest) }
+{
+    if counts {
+        greatest.greater(alignment)
+    } else {
+        greatest
+    }
+}
+
+/// The greatest alignment of the thread-local sections, by the alignments of all; 1 where there is none.
+fn thread_local_alignment(plan: &Plan, alignments: &[Alignment]) -> Alignment
+    requires few { length alignments.now ≤ 2 ^ 32 }
+    ensures { result ≡ greatest_of 1 (thread_local_ones plan.now alignments.now) }
+{
+    let mut greatest = Alignment::one();
+    for (number, alignment) in alignments.iter().enumerate() {
+        let section = OutputSectionId::from_u32(number as u32);
+        greatest = raise_if(plan.is_thread_local(section), greatest, *alignment);
+    }
+    greatest
+}
+
 /// The alignments of all sections and segments of a plan. `sizes` has the bytes of each part, by number over all sections.
 pub(crate) fn compute_alignments(
     alloc: Global,
@@ -134,9 +160,11 @@ pub(crate) fn compute_alignments(
     let sections = section_alignments(alloc, plan, sizes)?;
     let insides = plan.sections_of_segments(alloc)?;
     let segments = greatest_of_each(alloc, page, &sections, &insides)?;
+    let thread_local = thread_local_alignment(plan, &sections);
     Ok(Alignments {
         sections: List::from_vec(sections),
         segments: List::from_vec(segments),
+        thread_local,
     })
 }
 

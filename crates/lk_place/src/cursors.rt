@@ -1,10 +1,24 @@
-//! The cursors of the placement walk.
+//! The state of the placement walk.
 
-/// Where the next thing is placed.
+/// Where the next part of a section is placed.
+#[derive(Clone, Copy, Debug, PartialEq, Eq)]
+pub struct Offsets {
+    /// The offset in the file.
+    pub file: u64,
+    /// The address; what a section that isn't allocated counts in its place.
+    pub memory: u64,
+}
+
+/// What the walk goes by before an event.
 #[derive(Clone, Copy, Debug, PartialEq, Eq)]
 pub struct Cursors {
     /// The offset in the file.
     pub file: u64,
     /// The address.
     pub memory: u64,
+    /// The address at which memory goes on behind zero-fill thread-local sections, which take none; none where the section that
+    /// was placed last isn't one.
+    pub saved: Option<u64>,
+    /// Whether the section that was placed last is thread-local.
+    pub in_run: bool,
 }

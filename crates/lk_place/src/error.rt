@@ -1,7 +1,8 @@
 //! Why a link isn't placed.
 
+use crate::expressions::NoValue;
 use lk_link::fault::Place;
-use lk_link::ids::OutputSectionId;
+use lk_link::ids::{OutputSectionId, RegionId};
 use std::alloc::{AllocError, AllocFailed};
 
 /// Why an event isn't carried out, whichever event it is.
@@ -17,6 +18,12 @@ pub enum PlaceError {
     NoMemory,
     /// An address or an offset of the file passes 2^64 - 1, first at this event.
     AddressOverflow { place: Place },
+    /// A region has the name of an earlier one.
+    RegionDuplicate { region: RegionId },
+    /// An expression has no value.
+    Expression { place: Place, cause: NoValue },
+    /// A base that is asked for has no room for the headers below it.
+    BaseTooLow { base: u64, headers: u64 },
     /// A section with memory, which is emitted or has bytes, stands in no segment; the first in the order of events.
     SectionOutsideSegments { section: OutputSectionId },
 }

@@ -1,5 +1,6 @@
 //! Laws of placement, each proved as the contract of a function that does nothing.
 
+ghost use Rattle.lk_place.specs.Base.{MemoryLeavesRoom};
 ghost use Rattle.lk_place.specs.ExpressionLaws.{ConstantsGoByThoseBefore};
 ghost use Rattle.lk_place.specs.Laws.{FileRangesAreDisjoint, InsideIsPlaced, MemoryRangesAreDisjoint, OneLoadSegmentIsPlain};
 ghost use Rattle.lk_place.specs.Laws.{PlainMemoryIsCongruent, PlainMemoryIsDisjoint, RecordsKeepAlignments};
@@ -69,4 +70,9 @@ pub fn one_load_segment_is_plain()
 /// A law: each symbol has its place among the constants, and what stands there goes by the constants of the symbols before it.
 pub fn constants_go_by_those_before()
     ensures { ConstantsGoByThoseBefore }
+{}
+
+/// A law: where headers are to stand below the base and have room there, memory begins at the last page that leaves it to them.
+pub fn memory_leaves_room()
+    ensures { MemoryLeavesRoom }
 {}

@@ -2,6 +2,7 @@
 #![tactic(auto)]
 
 pub mod alignments;
+pub mod base;
 pub mod cursors;
 pub mod error;
 pub mod expressions;
@@ -10,11 +11,13 @@ pub mod laws;
 mod placement;
 pub mod plain;
 pub mod record;
+pub mod regions;
 pub mod segments;
 pub mod walk;
 
 pub use crate::alignments::compute_segment_alignments;
-pub use crate::cursors::Cursors;
+pub use crate::base::first_memory;
+pub use crate::cursors::{Cursors, Offsets};
 pub use crate::error::{PlaceError, Refusal};
 pub use crate::expressions::{
     Constant, NoValue, SymbolPosition, SymbolPositions, constant_redirects, evaluate_const,
@@ -23,5 +26,6 @@ pub use crate::expressions::{
 pub use crate::hulls::layout_section_from_part_layouts;
 pub use crate::plain::is_plain;
 pub use crate::record::OutputRecordLayout;
+pub use crate::regions::evaluate_regions;
 pub use crate::segments::{SegmentLayout, compute_segment_layout};
 pub use crate::walk::{Placed, compute_layout_sections};

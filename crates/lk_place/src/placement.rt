@@ -14,7 +14,7 @@ ghost use Rattle.lk_place.specs.Setting.{size_at};
 ghost use Rattle.lk_place.specs.Walk.{IsPlacing, IsWalkable, Rewrites, all_written, fitting, left_behind, one_written};
 ghost use Rattle.lk_place.specs.Walk.{placed_at, setting_in, unless, rewritten};
 
-use crate::cursors::Cursors;
+use crate::cursors::{Cursors, Offsets};
 use crate::error::Refusal;
 use crate::record::OutputRecordLayout;
 use crate::walk::Walk;
@@ -28,7 +28,7 @@ use lk_link::platform::Platform;
 pub(crate) struct Placing {
     section: OutputSectionId,
     /// Where its parts begin.
-    begin: Cursors,
+    begin: Offsets,
     /// Whether they take bytes of the file.
     backed: bool,
     /// The section's alignment.
@@ -39,13 +39,13 @@ pub(crate) struct Placing {
     first: OutputRecordLayout,
 }
 
-/// The record of a part that is placed from the cursors on; none where an end passes 2^64 - 1.
+/// The record of a part that is placed from the offsets on; none where an end passes 2^64 - 1.
 #[tactic(auto, unfolding(crate::specs::Walk::placed_at))]
 fn fit_part(
     backed: bool,
     alignment: Alignment,
     size: u64,
-    from: Cursors,
+    from: Offsets,
 ) -> Option<OutputRecordLayout>
     ensures { SomeIff result (is_below (behind (placed_at backed alignment size from)) ≡ true) (placed_at backed alignment size from) }
 {
@@ -73,18 +73,18 @@ fn place_part(
     backed: bool,
     alignment: Alignment,
     size: u64,
-    from: Cursors,
+    from: Offsets,
 ) -> Result<OutputRecordLayout, Refusal>
     ensures { let placed = placed_at backed alignment size from in result ≡ unless (overflow_at (behind placed)) placed }
 {
     fit_part(backed, alignment, size, from).ok_or(Refusal::Overflow)
 }
 
-/// The cursors behind a part.
-fn cursors_behind(placed: &OutputRecordLayout) -> Cursors
+/// The offsets behind a part.
+fn offsets_behind(placed: &OutputRecordLayout) -> Offsets
     ensures { result ≡ behind placed.now }
 {
-    Cursors {
+    Offsets {
         file: placed.file_end(),
         memory: placed.mem_end(),
     }
@@ -180,15 +180,15 @@ impl<P: Platform> Walk<'_, P> {
         self.size(part) > 0 || part == placing.walked
     }
 
-    /// Places a part or lets it rest, writes its record, and answers the cursors behind it.
+    /// Places a part or lets it rest, writes its record, and answers the offsets behind it.
     #[tactic(auto, using(crate::proofs::PlacedParts::next_parts))]
     fn place_next(
         &self,
         placing: &Placing,
         part: usize,
-        from: Cursors,
+        from: Offsets,
         records: &mut [OutputRecordLayout],
-    ) -> Result<Cursors, Refusal>
+    ) -> Result<Offsets, Refusal>
         requires walkable { IsWalkable P.segment_start self.now }
         requires placing { IsPlacing (setting_in P.segment_start self.now) placing.now }
         requires in_range { part < length (all_parts self.now.link.now.plan.sections) }
@@ -201,20 +201,20 @@ impl<P: Platform> Walk<'_, P> {
             let alignment = self.walk_alignment(placing, part);
             let placed = place_part(placing.backed, alignment, self.size(part), from)?;
             records[part] = placed;
-            Ok(cursors_behind(&placed))
+            Ok(offsets_behind(&placed))
         } else {
             records[part] = rest_beside(&placing.first, self.part_alignment(part));
             Ok(from)
         }
     }
 
-    /// Places the parts of a section one behind the other, and answers the cursors behind the last.
+    /// Places the parts of a section one behind the other, and answers the offsets behind the last.
     #[tactic(auto, using(lk_link::proofs::PartNumbers::part_numbers))]
     fn place_parts(
         &self,
         placing: &Placing,
         records: &mut [OutputRecordLayout],
-    ) -> Result<Cursors, Refusal>
+    ) -> Result<Offsets, Refusal>
         requires walkable { IsWalkable P.segment_start self.now }
         requires placing { IsPlacing (setting_in P.segment_start self.now) placing.now }
         requires in_range { placing.now.section < length self.now.link.now.plan.sections }
@@ -236,7 +236,7 @@ impl<P: Platform> Walk<'_, P> {
     }
 
     /// How the parts of a section are placed that begin here, unless the first walked one ends past 2^64 - 1.
-    fn placing(&self, section: OutputSectionId, begin: Cursors) -> Result<Placing, Refusal>
+    fn placing(&self, section: OutputSectionId, begin: Offsets) -> Result<Placing, Refusal>
         requires walkable { IsWalkable P.segment_start self.now }
         requires in_range { section < length self.now.link.now.plan.sections }
         ensures ok { IfOk result (IsPlacing (setting_in P.segment_start self.now)) }
@@ -276,7 +276,7 @@ impl<P: Platform> Walk<'_, P> {
             in OnOk result (Rewrites (rewritten setting (Some section) from) records.old records.new) }
     {
         let allocated = self.link.plan.is_allocated(section);
-        let begin = Cursors {
+        let begin = Offsets {
             file: from.file,
             memory: if allocated { from.memory } else { 0 },
         };
@@ -285,6 +285,8 @@ impl<P: Platform> Walk<'_, P> {
         Ok(Cursors {
             file: end.file,
             memory: if allocated { end.memory } else { from.memory },
+            saved: from.saved,
+            in_run: self.link.plan.is_thread_local(section),
         })
     }
 }

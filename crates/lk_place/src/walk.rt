@@ -1,11 +1,12 @@
 //! The placement walk over the events of the plan.
 //!
 //! The walk goes through the events once, with a cursor in the file and one in memory. A load segment moves memory to where
-//! the platform lets it begin; a section places its parts from the cursors on and moves them behind the last; nothing else
-//! moves anything. The records go into one table by part number, which the walk is lent, so that it takes no memory. It
-//! ends at the first event with a number past 2^64 - 1.
+//! the platform lets it begin; a section places its parts from the cursors on and moves them behind the last. One that isn't
+//! zero-fill thread-local data begins where memory stood before any that is; the first of a run of thread-local sections begins at
+//! the greatest alignment of all. Nothing else moves anything. The records go into one table by part number, which the walk is
+//! lent, so that it takes no memory. It ends at the first event with a number past 2^64 - 1.
 
-ghost use Rattle.std.specs.Prelude.{◌≡◌, ◌<◌, ℕ, Some, IfOk, OnOk, length};
+ghost use Rattle.std.specs.Prelude.{◌≡◌, ◌<◌, ◌^◌, ◌&&◌, ℕ, Some, SomeIff, IfOk, OnOk, length, nat_lt, true};
 ghost use Rattle.lk_link.specs.Expressions.{as_number};
 ghost use Rattle.lk_link.specs.Inside.{placed_section};
 ghost use Rattle.lk_link.specs.Parts.{all_parts};
@@ -17,6 +18,7 @@ ghost use Rattle.lk_place.specs.Placement.{event_refusal, memory_moved, moved, s
 ghost use Rattle.lk_place.specs.Plans.{IsPlaceable};
 ghost use Rattle.lk_place.specs.Records.{nowhere, record_at};
 ghost use Rattle.lk_place.specs.Setting.{setting_of};
+ghost use Rattle.lk_place.specs.ThreadLocal.{begins_run, padded, run_begun, saved_or_restored, within_64};
 ghost use Rattle.lk_place.specs.Walk.{GivesWalked, IsWalkable, Rewrites, left_behind, recorded, setting_in, stepped};
 ghost use Rattle.lk_place.specs.Walk.{at_event, rewritten, unless};
 
@@ -27,7 +29,7 @@ use crate::hulls::{nothing, span_sections};
 use crate::record::OutputRecordLayout;
 use lk_link::alignment::Alignment;
 use lk_link::fault::Place;
-use lk_link::ids::SegmentId;
+use lk_link::ids::{OutputSectionId, SegmentId};
 use lk_link::link::LinkInput;
 use lk_link::list::List;
 use lk_link::plan::OrderEvent;
@@ -41,6 +43,30 @@ pub struct Placed {
     pub parts: List<OutputRecordLayout>,
     /// Of all output sections.
     pub sections: List<OutputRecordLayout>,
+}
+
+/// Cursors with memory rounded up, and with the file grown by as much where it is to be; none where one passes 2^64 - 1.
+fn fit_pad(backed: bool, alignment: Alignment, from: Cursors) -> Option<Cursors>
+    ensures { let to = padded backed alignment from in SomeIff result ((nat_lt to.file (2 ^ 64) && nat_lt to.memory (2 ^ 64)) ≡ true) to }
+{
+    let memory = alignment.align_up(from.memory)?;
+    let file = if backed {
+        from.file.checked_add(memory - from.memory)?
+    } else {
+        from.file
+    };
+    Some(Cursors {
+        file,
+        memory,
+        ..from
+    })
+}
+
+/// The same, or the refusal.
+fn pad(backed: bool, alignment: Alignment, from: Cursors) -> Result<Cursors, Refusal>
+    ensures { result ≡ within_64 (padded backed alignment from) }
+{
+    fit_pad(backed, alignment, from).ok_or(Refusal::Overflow)
 }
 
 /// What a walk goes by: the link, the bytes of each part of its plan by number, the alignments of its sections and segments, and
@@ -63,10 +89,7 @@ impl<P: Platform> Walk<'_, P> {
             .platform
             .align_load_segment_start(place, from.file, from.memory)
         {
-            Some(memory) => Ok(Cursors {
-                file: from.file,
-                memory,
-            }),
+            Some(memory) => Ok(Cursors { memory, ..from }),
             None => Err(Refusal::Overflow),
         }
     }
@@ -97,6 +120,48 @@ impl<P: Platform> Walk<'_, P> {
         }
     }
 
+    /// Where memory is saved before a zero-fill thread-local section, which takes no addresses from what comes behind it, or goes on
+    /// where it was saved before any other.
+    fn saved_or_restored(&self, section: OutputSectionId, from: Cursors) -> Cursors
+        ensures { result ≡ saved_or_restored self.now.link.now.plan section from }
+    {
+        let free = from.saved.unwrap_or(from.memory);
+        if self.link.plan.is_zero_fill_thread_local(section) {
+            Cursors {
+                saved: Some(free),
+                ..from
+            }
+        } else {
+            Cursors {
+                memory: free,
+                saved: None,
+                ..from
+            }
+        }
+    }
+
+    /// Whether a section begins a run of thread-local ones, which counts but in partial output.
+    fn begins_run(&self, section: OutputSectionId, from: Cursors) -> bool
+        ensures { result ≡ begins_run (setting_in P.segment_start self.now) section from }
+    {
+        self.link.plan.is_thread_local(section)
+            && !from.in_run
+            && !self.link.options.output.is_partial()
+    }
+
+    /// The cursors behind a section's start: the first of a run of thread-local sections begins at the greatest alignment of all.
+    fn begin_run(&self, section: OutputSectionId, from: Cursors) -> Result<Cursors, Refusal>
+        requires walkable { IsWalkable P.segment_start self.now }
+        ensures { result ≡ run_begun (setting_in P.segment_start self.now) section from }
+    {
+        if self.begins_run(section, from) {
+            let backed = self.link.plan.is_file_backed(section);
+            pad(backed, self.alignments.thread_local, from)
+        } else {
+            Ok(from)
+        }
+    }
+
     /// The cursors after what an event does before it places a section.
     fn moved(&self, event: &OrderEvent, from: Cursors) -> Result<Cursors, Refusal>
         requires walkable { IsWalkable P.segment_start self.now }
@@ -105,6 +170,9 @@ impl<P: Platform> Walk<'_, P> {
     {
         match *event {
             OrderEvent::SegmentStart(segment) => { self.open_segment(segment, from) }
+            OrderEvent::Section(section) => {
+                self.begin_run(section, self.saved_or_restored(section, from))
+            }
             _ => Ok(from),
         }
     }
@@ -162,6 +230,8 @@ impl<P: Platform> Walk<'_, P> {
         let mut cursors = Cursors {
             file: 0,
             memory: base,
+            saved: None,
+            in_run: false,
         };
         for (number, event) in self.link.plan.events.as_slice().iter().enumerate() {
             let end = self.carry_out(event, cursors, records);
@@ -197,7 +267,7 @@ fn unplaced(alloc: Global, parts: usize) -> Result<Vec<OutputRecordLayout>, Allo
 
 /// Where all parts and output sections stand, by the bytes of each part; or the first event with a number past 2^64 - 1.
 /// Offsets and addresses are in bytes (libwild: `compute_layout_sections`). Takes plans that ask no more of the walk than it does:
-/// for whole output, from a number on that isn't asked for, with no headers in a segment, no region, no thread-local section, no load
+/// for whole output, from a number on that isn't asked for, with no headers in a segment, no region, no load
 /// address, and no event that moves the location or gives an address.
 pub fn compute_layout_sections<P: Platform>(
     alloc: Global,

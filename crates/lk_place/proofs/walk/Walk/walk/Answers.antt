@@ -1,4 +1,4 @@
-use Rattle.std.proofs.Common.{◌≡◌, ℕ, ◌∙◌, Some, arith, refl}
+use Rattle.std.proofs.Common.{◌≡◌, ℕ, ◌∙◌, false, None, Some, arith, refl}
 use Rattle.std.specs.Prelude.{slice_get}
 use Rattle.lk_place.specs.declared.cursors.Cursors.{Cursors}
 use Rattle.lk_place.specs.Records.{record_at}
@@ -10,7 +10,7 @@ pub loop-number-init : goal.loop-number-init
 loop-number-init g c =
     let setting = setting_in g.P.Platform.segment_start c.args.self.now in
     record {
-      ends = starts_at setting (record { file = 0; memory = c.args.base }) refl c.requires.starts ∙ cursors_first setting;
+      ends = starts_at setting (record { file = 0; memory = c.args.base; saved = None; in_run = false }) refl c.requires.starts refl refl ∙ cursors_first setting;
       records = λ p. c.requires.nothing p ∙ record_first setting p;
       pass = λ k below. absurd (omega arith);
     }

@@ -1,0 +1,51 @@
+-- Where memory begins: at the base, or below it where headers are to stand there.
+use Rattle.std.specs.Prelude.{◌≡◌, ℕ, ◌-◌, ◌%◌, ◌<◌, ◌≤◌, ◌&&◌, ◌||◌, not, Bool, true, if◌then◌else◌, nat_le, nat_lt, List, [], Option, Result, Ok, Err}
+use Rattle.lk_link.specs.declared.fault.Place.TheVariants as place
+use Rattle.lk_link.specs.declared.file.InputFile.{InputFile}
+use Rattle.lk_link.specs.declared.plan.Plan.{Plan}
+use Rattle.lk_link.specs.Alignments.{IsGreatestMultiple}
+use Rattle.lk_place.specs.declared.error.PlaceError.{PlaceError}
+use Rattle.lk_place.specs.declared.error.PlaceError.TheVariants.{BaseTooLow, Expression}
+use Rattle.lk_place.specs.declared.expressions.positions.SymbolPosition.{SymbolPosition}
+use Rattle.lk_place.specs.Expressions.{Valued}
+use Rattle.lk_place.specs.Surroundings.{Early}
+
+-- what is known before anything is placed: memory hasn't begun, so the location counter is 0
+abbrev pub known_first : List (List InputFile) → ℕ → List (ℕ × ℕ) → List (Option Valued) → List (Option SymbolPosition) → Early
+known_first groups headers regions constants positions = record {
+  groups = groups;
+  dot = 0;
+  headers = headers;
+  regions = regions;
+  constants = constants;
+  sections = [];
+  parts = [];
+  positions = positions;
+}
+
+-- whether a base that is asked for has no room for the headers below it, where they are to stand there
+abbrev pub is_too_low : Plan → ℕ → ℕ → Bool
+is_too_low plan headers base = plan.custom_base && (plan.phdrs_headers || not plan.custom_phdrs) && nat_lt base headers
+
+-- the last start of a page from which the headers reach at most to the base; the base itself where there is none
+abbrev pub page_for_headers : ℕ → ℕ → ℕ → ℕ
+page_for_headers page headers base = if nat_le headers base then base - headers - (base - headers) % page else base
+
+-- where memory begins, by the bytes of the headers and the base
+abbrev pub memory_start : Plan → ℕ → ℕ → ℕ
+memory_start plan headers base = if plan.custom_base || plan.phdrs_headers then page_for_headers plan.page headers base else base
+
+abbrev pub memory_begun : Plan → ℕ → ℕ → Result ℕ PlaceError
+memory_begun plan headers base = if is_too_low plan headers base then Err (BaseTooLow base headers) else Ok (memory_start plan headers base)
+
+-- the same from the value of the plan's base on, or why it has none
+abbrev pub first_memory : Plan → ℕ → Valued → Result ℕ PlaceError
+first_memory plan headers (Ok base) = memory_begun plan headers base
+first_memory plan headers (Err cause) = Err (Expression place.Base cause)
+
+-- ---- a law
+
+-- where headers are to stand below the base and have room there, memory begins at the last page that leaves it to them
+abbrev pub MemoryLeavesRoom : Type 0
+MemoryLeavesRoom = (plan : Plan) (headers base : ℕ) → 0 < plan.page → (plan.custom_base || plan.phdrs_headers) ≡ true → headers ≤ base
+    → IsGreatestMultiple plan.page (base - headers) (memory_start plan headers base)

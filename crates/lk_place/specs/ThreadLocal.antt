@@ -1,0 +1,51 @@
+-- What thread-local sections do to memory: zero-fill ones take no addresses from what comes behind, and each run of them begins at
+-- the greatest alignment of all.
+use Rattle.std.specs.Prelude.{ℕ, ◌+◌, ◌-◌, ◌^◌, ◌&&◌, not, Bool, if◌then◌else◌, nat_lt, Some, None, Result, Ok, Err, unwrap_or}
+use Rattle.std.specs.Int.{next_multiple_of}
+use Rattle.lk_link.specs.declared.plan.Plan.{Plan}
+use Rattle.lk_link.specs.OutputKinds.{is_partial}
+use Rattle.lk_link.specs.PlanSections.{is_file_backed, is_thread_local, is_zero_fill_thread_local}
+use Rattle.lk_place.specs.declared.cursors.Cursors.{Cursors}
+use Rattle.lk_place.specs.declared.error.Refusal.{Refusal}
+use Rattle.lk_place.specs.declared.error.Refusal.TheVariants.{Overflow}
+use Rattle.lk_place.specs.Alignments.{thread_local_alignment}
+use Rattle.lk_place.specs.Setting.{Setting}
+
+-- ---- what is saved
+
+-- where memory goes on for what takes addresses: where it was saved, else where the cursor stands
+abbrev pub free_memory : Cursors → ℕ
+free_memory c = unwrap_or c.saved c.memory
+
+-- zero-fill thread-local data takes no addresses from what comes behind it: a section of it saves memory, if nothing is saved
+abbrev pub saving : Cursors → Cursors
+saving from = record from { saved = Some (free_memory from) }
+
+-- any other section goes on where memory was saved, and clears that
+abbrev pub restoring : Cursors → Cursors
+restoring from = record from { memory = free_memory from; saved = None }
+
+abbrev pub saved_or_restored : Plan → ℕ → Cursors → Cursors
+saved_or_restored plan s from = if is_zero_fill_thread_local plan s then saving from else restoring from
+
+-- ---- runs
+
+-- a run of thread-local sections begins: this one is, and the one placed before it isn't, if there is one
+abbrev pub begins_run : Setting → ℕ → Cursors → Bool
+begins_run setting s from = is_thread_local setting.plan s && not from.in_run && not (is_partial setting.output)
+
+-- memory is rounded up, and the file grows by as much where the section takes bytes of it
+abbrev pub padded : Bool → ℕ → Cursors → Cursors
+padded backed a from =
+    let memory = next_multiple_of from.memory a in
+    record from { file = if backed then from.file + (memory - from.memory) else from.file; memory = memory }
+
+-- cursors, unless one is past 2^64 - 1
+abbrev pub within_64 : Cursors → Result Cursors Refusal
+within_64 c = if nat_lt c.file (2 ^ 64) && nat_lt c.memory (2 ^ 64) then Ok c else Err Overflow
+
+-- the first section of a run begins at the greatest alignment of all thread-local sections, but in partial output
+abbrev pub run_begun : Setting → ℕ → Cursors → Result Cursors Refusal
+run_begun setting s from =
+    let alignment = thread_local_alignment setting.plan setting.sizes in
+    if begins_run setting s from then within_64 (padded (is_file_backed setting.plan s) alignment from) else Ok from
