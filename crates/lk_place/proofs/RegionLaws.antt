@@ -30,16 +30,16 @@ pub region_refused : (regions : List Region) (k : ℕ) (r : Region) (values : Li
     → r ≡ slice_index_or regions k r → Err e ≡ region_of regions k r → Err e ≡ regions_of regions
 region_refused regions k r values e so_far below is refused =
     sym (
-      ap (λ (rs : List Region). behind values (all_given (region_of regions) k rs)) (left regions k r below is)
-      ∙ given_refused (region_of regions) k r (drop (k + 1) regions) values e (sym refused))
+    ap (λ (rs : List Region). behind values (all_given (region_of regions) k rs)) (left regions k r below is)
+    ∙ given_refused (region_of regions) k r (drop (k + 1) regions) values e (sym refused))
     ∙ so_far
 
 -- all
 pub all_regions : (regions : List Region) (k : ℕ) (values : List (ℕ × ℕ)) → GiveSoFar regions k values → k ≡ length regions → Ok values ≡ regions_of regions
 all_regions regions k values so_far all =
     sym (
-      ap (λ (rs : List Region). behind values (all_given (region_of regions) k rs)) (ap (λ (n : ℕ). drop n regions) all ∙ drop-length regions)
-      ∙ given_last (region_of regions) k values)
+    ap (λ (rs : List Region). behind values (all_given (region_of regions) k rs)) (ap (λ (n : ℕ). drop n regions) all ∙ drop-length regions)
+    ∙ given_last (region_of regions) k values)
     ∙ so_far
 
 gives_refusal : (x : PlaceError) (regions : List Region) → Err x ≡ regions_of regions → GivesRegions (Err x) regions
