@@ -3,6 +3,7 @@ pub mod Completeness
 pub mod Lines
 pub mod LiveLines
 pub mod Past
+pub mod Refusals
 pub mod RunLaws
 pub mod SoundRuns
 pub mod Written
