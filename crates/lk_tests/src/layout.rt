@@ -2,12 +2,12 @@
 
 ghost use Rattle.std.specs.Prelude.{◌≡◌, ◌≤◌, true};
 
+use crate::report::report_of;
 use crate::rows::{Asked, add, expect_rows};
 use crate::runs::expect_reports;
 use lk_layout::Small64Arch;
 use lk_layout::compute::compute;
 use lk_link::{Gate, LinkInput, NoGate, Small64};
-use lk_run::report::report_text;
 use std::alloc::{AllocError, Global};
 use std::sync::Wait;
 use std::test::Fail;
@@ -356,7 +356,7 @@ fn told_layout<R: Threads + Wait + Sync, G: Gate + Sync>(
     requires { 2 ≤ workers → G.may_enter gate.now }
 {
     match compute(rt, alloc, link, &Small64, &Small64Arch, workers, gate) {
-        Ok(layout) => report_text(alloc, link, &layout),
+        Ok(layout) => report_of(alloc, link, &layout),
         Err(error) => format!(in alloc; "{error:?}"),
     }
 }

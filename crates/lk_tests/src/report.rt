@@ -133,16 +133,21 @@ fn layout_of_symbols(alloc: Global) -> Result<Layout, AllocError> {
     Ok(layout)
 }
 
-/// Adds the reports of four symbols without an entry, and with each of five; of a link that is well formed.
-pub fn add_entries(alloc: Global, line: &mut String, link: &LinkInput) -> Result<(), AllocError> {
+/// The report of a layout; nothing where the link isn't well formed.
+pub fn report_of(alloc: Global, link: &LinkInput, layout: &Layout) -> Result<String, AllocError> {
     if check_link(link).is_err() {
-        return Ok(());
+        return Ok(String::new(alloc));
     }
+    report_text(alloc, link, layout)
+}
+
+/// Adds the reports of four symbols without an entry, and with each of five.
+pub fn add_entries(alloc: Global, line: &mut String, link: &LinkInput) -> Result<(), AllocError> {
     let mut layout = layout_of_symbols(alloc)?;
-    add(line, "none", &report_text(alloc, link, &layout)?)?;
+    add(line, "none", &report_of(alloc, link, &layout)?)?;
     for number in 0..5 {
         layout.entry_symbol_id = Some(SymbolId::from_u32(number));
-        add(line, "entry", &report_text(alloc, link, &layout)?)?;
+        add(line, "entry", &report_of(alloc, link, &layout)?)?;
     }
     Ok(())
 }
