@@ -45,6 +45,16 @@ impl MergedStringStartAddresses {
         Ok(MergedStringStartAddresses { addresses })
     }
 
+    /// Where the image of an output section starts: its first bucket; 0 past the last section.
+    pub fn image_start(&self, section: usize) -> u64
+        ensures { result ≡ image_start self.now section }
+    {
+        match section.checked_mul(BUCKETS) {
+            Some(first) => self.addresses.as_slice().get(first).copied().unwrap_or(0),
+            None => 0,
+        }
+    }
+
     /// Where a bucket of an output section stands.
     pub(crate) fn bucket(&self, section: usize, bucket: usize) -> u64
         requires { 16 * section + bucket < length self.now }

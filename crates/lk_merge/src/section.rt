@@ -1,6 +1,6 @@
 //! Merged output sections.
 
-ghost use Rattle.std.specs.Prelude.{◌≡◌, ◌<◌, ℕ, [], MatchOption, Some, length, map, slice_get};
+ghost use Rattle.std.specs.Prelude.{◌≡◌, ◌<◌, ◌==◌, ℕ, [], MatchOption, Some, length, map, not, slice_get};
 ghost use Rattle.std.specs.List.{concat};
 ghost use Rattle.lk_merge.specs.Buckets.{Bucket};
 ghost use Rattle.lk_merge.specs.Hash.{fnv64};
@@ -66,6 +66,13 @@ impl<'data> MergedStringsSection<'data> {
             buckets,
             string_offsets,
         }
+    }
+
+    /// Whether anything is merged there, be it without bytes.
+    pub fn has_inputs(&self) -> bool
+        ensures { result ≡ not (length self.now == 0) }
+    {
+        !self.inputs.as_slice().is_empty()
     }
 
     /// The buckets, in order: none without inputs, else 16 (libwild: its field `buckets`).
