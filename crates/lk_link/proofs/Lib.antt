@@ -2,8 +2,11 @@ pub mod Elements
 mod EndsLemmas
 pub mod Events
 pub mod ExpressionLemmas
+pub mod GoodExpressions
+pub mod GoodFiles
 pub mod GoodInputs
 pub mod GoodLinks
+pub mod GoodPartFields
 pub mod GoodSymbols
 pub mod InputLemmas
 mod NameLemmas

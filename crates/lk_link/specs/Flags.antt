@@ -34,6 +34,14 @@ table_entries = flag.GOT.0 + flag.PLT.0 + flag.GOT_TLS_OFFSET.0 + flag.GOT_TLS_M
 abbrev pub wants_table_entry : ℕ → Bool
 wants_table_entry flags = not (bit_and flags table_entries == 0)
 
+-- the flags for which a symbol gets an entry of got, together: its own, and the three kinds of thread-local ones
+abbrev pub got_entries : ℕ
+got_entries = flag.GOT.0 + flag.GOT_TLS_OFFSET.0 + flag.GOT_TLS_MODULE.0 + flag.GOT_TLS_DESCRIPTOR.0
+
+-- whether one of them is set
+abbrev pub wants_got_entry : ℕ → Bool
+wants_got_entry flags = not (bit_and flags got_entries == 0)
+
 -- neither absolute nor dynamic
 abbrev pub has_link_time_address : ℕ → Bool
 has_link_time_address flags = not (has_flag flag.ABSOLUTE.0 flags) && not (has_flag flag.DYNAMIC.0 flags)

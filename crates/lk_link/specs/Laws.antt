@@ -6,7 +6,9 @@ use Rattle.lk_link.specs.declared.plan.OrderEvent.{OrderEvent}
 use Rattle.lk_link.specs.declared.plan.PlanPart.{PlanPart}
 use Rattle.lk_link.specs.declared.plan.PlanSection.{PlanSection}
 use Rattle.lk_link.specs.Alignments.{is_alignment}
+use Rattle.lk_link.specs.ExpressionRules.{AreGoodExpressions}
 use Rattle.lk_link.specs.Limits.{AreFew}
+use Rattle.lk_link.specs.PartFieldRules.{AreGoodPartFields}
 use Rattle.lk_link.specs.Parts.{all_parts, first_part}
 use Rattle.lk_link.specs.Rules.{AreGoodOptions, IsPrimary, IsGoodSection}
 use Rattle.lk_link.specs.WellFormed.{IsInRange, IsAboutPlace, IsWellFormed}
@@ -32,10 +34,18 @@ abbrev pub PrimariesAreOthers : Type 0
 PrimariesAreOthers = (link : LinkInput) (s p : ℕ) (section : PlanSection) → IsWellFormed link
     → slice_get link.plan.sections s ≡ Some section → section.primary ≡ Some p → (p ≢ s) × IsPrimary link.plan.sections p
 
+-- the parts that its plan names are good: they are there, and table parts are no others
+abbrev pub PartFieldsAreGood : Type 0
+PartFieldsAreGood = (link : LinkInput) → IsWellFormed link → AreGoodPartFields link
+
 -- its events name what is there, each of them once
 abbrev pub EventsStandOnce : Type 0
 EventsStandOnce = (link : LinkInput) (j k : ℕ) (e : OrderEvent) → IsWellFormed link → slice_get link.plan.events j ≡ Some e
     → slice_get link.plan.events k ≡ Some e → IsInRange link.plan e × (IsAboutPlace e → j ≡ k)
+
+-- its expressions are good: what they name is there, and they aren't too deep
+abbrev pub ExpressionsAreGood : Type 0
+ExpressionsAreGood = (link : LinkInput) → IsWellFormed link → AreGoodExpressions link
 
 -- its lists are within the limits
 abbrev pub ListsAreFew : Type 0

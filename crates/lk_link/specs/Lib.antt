@@ -1,7 +1,9 @@
 pub mod Alignments
 pub mod CandidateIndex
+pub mod CandidateRules
 pub mod EmitKinds
 pub mod Ends
+pub mod ExpressionRules
 pub mod Expressions
 pub mod FileIndex
 pub mod FileKinds
@@ -18,6 +20,7 @@ pub mod Marks
 pub mod Names
 pub mod Numbered
 pub mod OutputKinds
+pub mod PartFieldRules
 pub mod PartRules
 pub mod Parts
 pub mod PlanSections
@@ -33,6 +36,7 @@ pub mod SymbolPlacements
 pub mod SymbolRanges
 pub mod SymbolRules
 pub mod Symbols
+pub mod TableRules
 pub mod Target
 pub mod Texts
 pub mod Walks

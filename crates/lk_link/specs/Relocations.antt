@@ -3,7 +3,7 @@ use Rattle.std.specs.Prelude.{ℕ, ◌+◌, Bool, true, false}
 use Rattle.lk_link.specs.declared.relocation.RelocationKind.{RelocationKind}
 use Rattle.lk_link.specs.declared.relocation.RelocationKind.TheVariants as kind
 use Rattle.lk_link.specs.declared.flags.TheConstants.ValueFlags as flag
-use Rattle.lk_link.specs.Flags.{wants_table_entry}
+use Rattle.lk_link.specs.Flags.{has_flag, wants_got_entry, wants_table_entry}
 
 -- the flags that it asks for
 abbrev pub resolution_flags : RelocationKind → ℕ
@@ -53,6 +53,14 @@ resolution_flags kind.MachoAddition = 0
 -- whether it wants an entry of a table: of plt, of got, or a thread-local one of got
 abbrev pub wants_entry : RelocationKind → Bool
 wants_entry kind = wants_table_entry (resolution_flags kind)
+
+-- whether it wants an entry of plt
+abbrev pub wants_plt : RelocationKind → Bool
+wants_plt kind = has_flag flag.PLT.0 (resolution_flags kind)
+
+-- whether it wants an entry of got, thread-local ones among them
+abbrev pub wants_got : RelocationKind → Bool
+wants_got kind = wants_got_entry (resolution_flags kind)
 
 -- whether it wants the shared module entry of local thread-local symbols
 abbrev pub needs_tlsld : RelocationKind → Bool

@@ -38,11 +38,15 @@ abbrev pub rule_number : Rule → ℕ
 rule_number rule.Options = 1
 rule_number rule.Page = 2
 rule_number rule.Sections = 3
+rule_number rule.PartFields = 4
 rule_number rule.TlsSegment = 6
 rule_number rule.Events = 7
+rule_number rule.Expressions = 8
 rule_number rule.Prelude = 9
 rule_number rule.Symbols = 10
 rule_number rule.InputSections = 11
+rule_number rule.Tables = 12
+rule_number rule.Candidates = 13
 
 -- a place
 abbrev pub place_text : Place → List ℕ

@@ -9,14 +9,18 @@ use Rattle.lk_link.specs.declared.plan.Plan.{Plan}
 use Rattle.lk_link.specs.declared.plan.OrderEvent.{OrderEvent}
 use Rattle.lk_link.specs.declared.plan.OrderEvent.TheVariants.{SegmentStart, SegmentEnd, Section, SetLocation, SetLocationRelative, SetSectionAddress}
 use Rattle.lk_link.specs.Alignments.{is_alignment}
+use Rattle.lk_link.specs.CandidateRules.{has_good_candidates}
+use Rattle.lk_link.specs.ExpressionRules.{HasGoodExpressions}
 use Rattle.lk_link.specs.FileKinds.{is_prelude}
 use Rattle.lk_link.specs.Files.{file_in}
 use Rattle.lk_link.specs.InputRules.{has_good_inputs}
 use Rattle.lk_link.specs.Limits.{counted, limit_of}
+use Rattle.lk_link.specs.PartFieldRules.{HasGoodPartFields}
 use Rattle.lk_link.specs.Rules.{is_good_options, is_good_section, has_script, is_location, begins_with_prelude}
 use Rattle.lk_link.specs.SegmentKinds.{is_tls}
 use Rattle.lk_link.specs.SymbolRules.{is_good_symbol, file_symbols}
 use Rattle.lk_link.specs.Symbols.{all_files}
+use Rattle.lk_link.specs.TableRules.{has_file_tables}
 
 -- what an event names is there
 abbrev pub IsInRange : Plan → OrderEvent → Type 0
@@ -55,9 +59,13 @@ pub record IsWellFormed (link : LinkInput) : Type 0 where
   pub options : is_good_options link.groups link.options ≡ true
   pub page : is_alignment link.plan.page ≡ true
   pub sections : list_all (is_good_section link.plan.sections) link.plan.sections ≡ true
+  pub parts : HasGoodPartFields link
   pub tls : count_by (λ s. is_tls s.kind) link.plan.segments ≤ 1
   pub events : IsEventOrder link.plan
   pub locations : list_any is_location link.plan.events ≡ true → has_script link.groups ≡ true
+  pub expressions : HasGoodExpressions link
   pub prelude : IsLedByPrelude link.groups
   pub symbols : list_all (λ p. is_good_symbol link p.0 p.1) (file_symbols (all_files link.groups)) ≡ true
   pub inputs : list_all (λ files. list_all (has_good_inputs link.plan) files) link.groups ≡ true
+  pub tables : list_all (λ files. list_all (has_file_tables link.plan.named) files) link.groups ≡ true
+  pub candidates : list_all (λ files. list_all (has_good_candidates link) files) link.groups ≡ true

@@ -41,11 +41,17 @@ pub enum Rule {
     /// A section has parts, whose alignments are powers of two up to 65,536 and fall, as its own alignment is one; its
     /// attributes are below 32; it is secondary only to a section that isn't.
     Sections,
+    /// Named parts are parts of the plan; table parts differ from each other and from those of the comment and of the
+    /// primary code; the comment's part has alignment 1; the primary part isn't packed, has alignment at most 16, and is
+    /// named only where branches are limited.
+    PartFields,
     /// At most one segment is for thread-local data.
     TlsSegment,
     /// Each section is placed once; each segment is opened once, and closed once after that; what an event names is
     /// there; only where a script is does the location counter move.
     Events,
+    /// What an expression names is there, and it is at most 100 deep.
+    Expressions,
     /// The first file of the first group is the prelude, and no other is.
     Prelude,
     /// What stands for a symbol stands for itself; its flags are below 64; its placement is one of those that its kind
@@ -54,6 +60,10 @@ pub enum Rule {
     /// An input section that isn't discarded goes to a part of the plan that fits it; its attributes are among those
     /// for writing and for code; what its relocations and relaxations name is there.
     InputSections,
+    /// Where a relocation wants an entry of the PLT or of the GOT, the plan gives that table's part.
+    Tables,
+    /// A candidate's output section is there, and it is a section of an object.
+    Candidates,
 }
 
 /// A place of the description.
@@ -134,11 +144,15 @@ impl Rule {
             Rule::Options => 1,
             Rule::Page => 2,
             Rule::Sections => 3,
+            Rule::PartFields => 4,
             Rule::TlsSegment => 6,
             Rule::Events => 7,
+            Rule::Expressions => 8,
             Rule::Prelude => 9,
             Rule::Symbols => 10,
             Rule::InputSections => 11,
+            Rule::Tables => 12,
+            Rule::Candidates => 13,
         }
     }
 }

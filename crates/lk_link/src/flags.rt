@@ -70,8 +70,11 @@ pub const RESOLUTION: u32 = 16320;
 /// The flags that give a symbol an entry of a table, together: from `GOT` to `GOT_TLS_DESCRIPTOR`.
 pub const TABLE_ENTRIES: u32 = 3968;
 
+/// The flags that give a symbol an entry of the GOT, together: its own, and the three kinds of thread-local ones.
+pub const GOT_ENTRIES: u32 = 3712;
+
 impl ValueFlags {
-    ghost use Rattle.lk_link.specs.Flags.{has_flag, has_resolution, has_link_time_address, wants_table_entry};
+    ghost use Rattle.lk_link.specs.Flags.{has_flag, has_resolution, has_link_time_address, wants_got_entry, wants_table_entry};
 
     /// Whether something wants the symbol's value, an entry or its size, so that it gets a resolution
     /// (libwild: `has_resolution`).
@@ -86,6 +89,20 @@ impl ValueFlags {
         ensures { result ≡ wants_table_entry self.0 }
     {
         self.intersects(ValueFlags(TABLE_ENTRIES))
+    }
+
+    /// Whether something wants an entry of the symbol in the GOT: its own, or a thread-local one.
+    pub fn wants_got_entry(self) -> bool
+        ensures { result ≡ wants_got_entry self.0 }
+    {
+        self.intersects(ValueFlags(GOT_ENTRIES))
+    }
+
+    /// Whether something wants an entry of the symbol in the PLT.
+    pub fn wants_plt_entry(self) -> bool
+        ensures { result ≡ has_flag Self.PLT.0 self.0 }
+    {
+        self.contains(ValueFlags::PLT)
     }
 
     /// Whether the value is an address that is known when the link ends: neither absolute nor dynamic.

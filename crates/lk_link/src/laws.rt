@@ -3,8 +3,8 @@
 ghost use Rattle.std.specs.Prelude.{◌≡◌};
 ghost use Rattle.std.specs.Ordering.{nat_cmp};
 ghost use Rattle.lk_link.specs.Files.{file_cmp};
-ghost use Rattle.lk_link.specs.InputLaws.{InputsAreGood, InputsGoToParts, InputListsAreFew};
-ghost use Rattle.lk_link.specs.Laws.{OptionsAreGood, PartsAreAligned, SectionsAreGood, PrimariesAreOthers, EventsStandOnce, ListsAreFew};
+ghost use Rattle.lk_link.specs.InputLaws.{CandidatesAreGood, InputsAreGood, InputsGoToParts, InputListsAreFew, TablesAreThere};
+ghost use Rattle.lk_link.specs.Laws.{ExpressionsAreGood, OptionsAreGood, PartFieldsAreGood, PartsAreAligned, SectionsAreGood, PrimariesAreOthers, EventsStandOnce, ListsAreFew};
 ghost use Rattle.lk_link.specs.SymbolLaws.{SymbolsAreGood, NumberedSymbolsAreGood, DefinitionsStandForThemselves};
 
 use crate::alignment::Alignment;
@@ -80,9 +80,20 @@ pub fn primaries_are_others()
     ensures { PrimariesAreOthers }
 {}
 
+/// A law: the parts that the plan of a well-formed link names are there; table parts differ from each other and from the
+/// comment's and the primary part.
+pub fn part_fields_are_good()
+    ensures { PartFieldsAreGood }
+{}
+
 /// A law: the events of a well-formed link name what is there, each of them once.
 pub fn events_stand_once()
     ensures { EventsStandOnce }
+{}
+
+/// A law: what the expressions of a well-formed link name is there, and they are at most 100 deep.
+pub fn expressions_are_good()
+    ensures { ExpressionsAreGood }
 {}
 
 /// A law: a symbol of a well-formed link is placed as its kind of file does, and what it names is there.
@@ -113,6 +124,17 @@ pub fn inputs_go_to_parts()
 /// A law: an input section of a well-formed link has at most 16,777,216 relocations, and as many relaxations.
 pub fn input_lists_are_few()
     ensures { InputListsAreFew }
+{}
+
+/// A law: the plan of a well-formed link gives the parts of the tables that relocations want entries of, those of
+/// discarded sections among them.
+pub fn tables_are_there()
+    ensures { TablesAreThere }
+{}
+
+/// A law: a candidate of a well-formed link is a section of an object, for an output section that is there.
+pub fn candidates_are_good()
+    ensures { CandidatesAreGood }
 {}
 
 /// A law: the lists of a well-formed link are within the limits.

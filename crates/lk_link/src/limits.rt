@@ -44,6 +44,10 @@ pub const MOST_NEAR_BRANCH: u64 = 2097152;
 pub const MOST_BUCKET: u64 = 268435456;
 /// The most bytes that may be asked for a group of merged strings.
 pub const MOST_MERGE_GROUP: u64 = 4294967296;
+/// How deep an expression may be: an operand is 1 deep, and what joins two is one deeper than the deeper one.
+pub const MOST_DEPTH: usize = 100;
+/// The greatest alignment of the code that thunks are made for, in bytes.
+pub const MOST_PRIMARY_ALIGNMENT: u64 = 16;
 
 impl Limited {
     ghost use Rattle.lk_link.specs.Limits.{limit_of};

@@ -1,7 +1,7 @@
 //! Relocations: what a section refers to, and how.
 
 ghost use Rattle.std.specs.Prelude.{◌≡◌};
-ghost use Rattle.lk_link.specs.Relocations.{resolution_flags, needs_tlsld, wants_entry};
+ghost use Rattle.lk_link.specs.Relocations.{resolution_flags, needs_tlsld, wants_entry, wants_got, wants_plt};
 
 use crate::flags::ValueFlags;
 
@@ -58,6 +58,20 @@ impl RelocationKind {
         ensures { result ≡ wants_entry self }
     {
         resolution_flags(self).wants_table_entry()
+    }
+
+    /// Whether it wants an entry of its symbol in the PLT.
+    pub fn wants_plt(self) -> bool
+        ensures { result ≡ wants_plt self }
+    {
+        resolution_flags(self).wants_plt_entry()
+    }
+
+    /// Whether it wants an entry of its symbol in the GOT: the symbol's own, or a thread-local one.
+    pub fn wants_got(self) -> bool
+        ensures { result ≡ wants_got self }
+    {
+        resolution_flags(self).wants_got_entry()
     }
 }
 
