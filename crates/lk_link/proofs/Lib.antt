@@ -11,7 +11,9 @@ pub mod GoodSymbols
 pub mod InputLemmas
 mod NameLemmas
 mod NumberedLemmas
+pub mod NumberedSymbolLemmas
 pub mod Numbers
+mod OutputSections
 pub mod PartNumbers
 pub mod Places
 pub mod Powers

@@ -3,6 +3,7 @@ pub mod CandidateIndex
 pub mod CandidateRules
 pub mod EmitKinds
 pub mod Ends
+pub mod Entries
 pub mod ExpressionRules
 pub mod Expressions
 pub mod FileIndex
@@ -19,12 +20,14 @@ pub mod Limits
 pub mod Marks
 pub mod Names
 pub mod Numbered
+pub mod NumberedSymbols
 pub mod OutputKinds
 pub mod PartFieldRules
 pub mod PartRules
 pub mod Parts
 pub mod PlanSections
 pub mod Relocations
+pub mod Resolutions
 pub mod Rules
 pub mod SectionGroups
 pub mod SectionSlots
@@ -37,6 +40,7 @@ pub mod SymbolRanges
 pub mod SymbolRules
 pub mod Symbols
 pub mod TableRules
+pub mod TableSizes
 pub mod Target
 pub mod Texts
 pub mod Walks

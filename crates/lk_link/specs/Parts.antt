@@ -1,6 +1,6 @@
 -- The parts of output sections, numbered over all sections in order.
-use Rattle.std.specs.Prelude.{◌≡◌, ℕ, ◌+◌, ◌≤◌, List, length, take, false, slice_index}
-use Rattle.std.specs.List.{flat_map, slice_index_or}
+use Rattle.std.specs.Prelude.{◌≡◌, ℕ, ◌+◌, ◌≤◌, List, length, map, take, false, slice_index}
+use Rattle.std.specs.List.{enumerate_from, flat_map, slice_index_or}
 use Rattle.lk_link.specs.declared.plan.PlanPart.{PlanPart}
 use Rattle.lk_link.specs.declared.plan.PlanSection.{PlanSection}
 
@@ -15,6 +15,10 @@ part_at sections p = slice_index_or (all_parts sections) p (record { alignment =
 -- how many parts stand before a section: the number of its first part
 abbrev pub first_part : List PlanSection → ℕ → ℕ
 first_part sections k = length (all_parts (take k sections))
+
+-- the output section of each part, by the part's number: each section's number, once for each of its parts
+abbrev pub part_sections : List PlanSection → List ℕ
+part_sections sections = flat_map (λ q. map (λ p. q.0) q.1.parts) (enumerate_from 0 sections)
 
 -- parts and starts are the index of the sections
 pub record IsIndexed (sections : List PlanSection) (parts : List PlanPart) (starts : List ℕ) : Type 0 where

@@ -1,5 +1,5 @@
 -- The symbols of a link, numbered over all files in order.
-use Rattle.std.specs.Prelude.{◌≡◌, ℕ, ◌+◌, ◌<◌, ◌≤◌, List, Option, option_map, unwrap_or, length, take, slice_get, sum_by, ◌-◌, Some}
+use Rattle.std.specs.Prelude.{◌≡◌, ℕ, ◌+◌, ◌<◌, ◌≤◌, ◌==◌, Bool, List, Option, option_map, unwrap_or, length, take, slice_get, sum_by, ◌-◌, Some}
 use Rattle.std.specs.List.{flat_map}
 use Rattle.lk_link.specs.declared.file.InputFile.{InputFile}
 use Rattle.lk_link.specs.declared.ids.FileId.{FileId}
@@ -22,6 +22,10 @@ symbol_at groups s = slice_get (all_symbols groups) s
 -- the symbol that stands for the one with this number: its definition, else itself
 abbrev pub definition_of : List (List InputFile) → ℕ → Option ℕ
 definition_of groups s = option_map (λ x. unwrap_or x.def s) (symbol_at groups s)
+
+-- whether a symbol, with its number, stands for itself
+abbrev pub is_canonical : ℕ → InputSymbol → Bool
+is_canonical s x = unwrap_or x.def s == s
 
 -- how many symbols a file has
 abbrev pub symbols_in : InputFile → ℕ

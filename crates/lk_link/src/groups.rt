@@ -2,7 +2,7 @@
 //! each group and of the symbols and sections of each file are kept beside the files: a file's first number is read off,
 //! and the file of a number is found by halving.
 
-ghost use Rattle.std.specs.Prelude.{◌≡◌, ◌==◌, ◌<◌, ◌≤◌, ◌^◌, ◌-◌, ◌++◌, List, [], IfOk, OnOk, IsSome, SomeIff, MatchOption, length, slice_get, sum_by, min};
+ghost use Rattle.std.specs.Prelude.{◌≡◌, ◌==◌, ◌<◌, ◌≤◌, ◌^◌, ◌-◌, ◌++◌, List, [], IfOk, OnOk, IsSome, SomeIff, MatchOption, option_map, length, slice_get, sum_by, min};
 ghost use Rattle.std.specs.Option.{option_copied};
 ghost use Rattle.lk_link.specs.Ends.{AreEnds};
 ghost use Rattle.lk_link.specs.FileIndex.{AreFileEnds};
@@ -15,7 +15,7 @@ use crate::file::InputFile;
 use crate::ids::{FileId, SymbolId, SymbolIdRange};
 use crate::list::List;
 use crate::symbol::InputSymbol;
-use crate::walks::{Files, Inputs};
+use crate::walks::{FileRef, Files, Inputs};
 use std::alloc::{AllocError, Global};
 use std::marker::Model;
 
@@ -48,6 +48,14 @@ impl Model for InputGroups {
     ghost invariant = { λ a. IsFileIndex a.groups a.file_ends.items a.symbol_ends.items a.section_ends.items };
 }
 
+/// A symbol with its number over all files, and its file.
+#[derive(Clone, Copy)]
+pub struct SymbolRef<'a> {
+    pub number: SymbolId,
+    pub file: FileRef<'a>,
+    pub symbol: &'a InputSymbol,
+}
+
 /// Where the symbols and the sections of each file end, numbered over all files.
 #[derive(Drop)]
 struct FileEnds {
@@ -58,6 +66,7 @@ struct FileEnds {
 impl InputGroups {
     ghost use Rattle.lk_link.specs.Files.{file_in, AreNumbered};
     ghost use Rattle.lk_link.specs.Inputs.{numbered_files, all_inputs, input_count, first_input};
+    ghost use Rattle.lk_link.specs.NumberedSymbols.{IsSymbolAt, known_definition, known_symbol, symbol_of};
     ghost use Rattle.lk_link.specs.Symbols.{symbol_count, symbol_at, definition_of, file_number, IsSymbolIn, AreSymbolsOf};
 
     /// No groups; takes no memory.
@@ -199,6 +208,45 @@ impl InputGroups {
             group: group as u32,
             file: file as u32,
         })
+    }
+
+    /// The symbol with this number and its file, if there is such a symbol. Takes logarithmic time.
+    pub fn symbol_in_file(&self, number: SymbolId) -> Option<SymbolRef<'_>>
+        requires { AreNumbered self.now }
+        ensures { option_map symbol_of result ≡ known_symbol self.now number }
+    {
+        let (id, index) = self.symbol_place(number)?;
+        let file = self.file(id)?;
+        let symbol = file.symbols.get(index)?;
+        let file = FileRef { id, file };
+        Some(SymbolRef {
+            number,
+            file,
+            symbol,
+        })
+    }
+
+    /// The symbol that stands for this one, and its file; none where one of both isn't there. Takes logarithmic time.
+    pub fn definition_in_file(&self, id: SymbolId) -> Option<SymbolRef<'_>>
+        requires { AreNumbered self.now }
+        ensures { option_map symbol_of result ≡ known_definition self.now id }
+    {
+        let definition = self.definition(id)?;
+        self.symbol_in_file(definition)
+    }
+
+    /// The file that a symbol is in, and its index there, if there is such a symbol.
+    fn symbol_place(&self, id: SymbolId) -> Option<(FileId, usize)>
+        requires { AreNumbered self.now }
+        ensures { MatchOption result (symbol_count (all_files self.now) ≤ id) (λ p. IsSymbolAt self.now p.0 p.1 id) }
+    {
+        let (number, index) = place_of(self.symbol_ends.as_slice(), id.as_u32() as usize)?;
+        let (group, file) = place_of(self.file_ends.as_slice(), number)?;
+        let file = FileId {
+            group: group as u32,
+            file: file as u32,
+        };
+        Some((file, index))
     }
 
     /// The numbers of a file's symbols, if there is such a file. Takes constant time.

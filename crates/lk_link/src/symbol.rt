@@ -63,13 +63,23 @@ pub enum SymbolPlacement {
 }
 
 impl SymbolPlacement {
-    ghost use Rattle.lk_link.specs.SymbolPlacements.{is_common};
+    ghost use Rattle.lk_link.specs.SymbolPlacements.{is_common, is_undefined};
 
     /// Whether it is bytes of a part that all objects share.
     pub fn is_common(&self) -> bool
         ensures { result ≡ is_common self.now }
     {
         matches!(self, SymbolPlacement::Common { .. })
+    }
+
+    /// Whether it is defined nowhere.
+    pub fn is_undefined(&self) -> bool
+        ensures { result ≡ is_undefined self.now }
+    {
+        matches!(
+            self,
+            SymbolPlacement::Undef | SymbolPlacement::Undefined | SymbolPlacement::ForceUndefined
+        )
     }
 }
 
@@ -85,4 +95,18 @@ pub struct InputSymbol {
     pub local: bool,
     pub weak: bool,
     pub hidden: bool,
+}
+
+impl InputSymbol {
+    ghost use Rattle.lk_link.specs.Symbols.{is_canonical};
+
+    /// Whether it stands for itself, where this is its number over all files.
+    pub fn is_canonical(&self, number: SymbolId) -> bool
+        ensures { result ≡ is_canonical number self.now }
+    {
+        match self.def {
+            Some(definition) => definition.as_u32() == number.as_u32(),
+            None => true,
+        }
+    }
 }
