@@ -1,5 +1,6 @@
 pub mod Attributes
 pub mod Contents
+pub mod Copied
 pub mod Emitted
 pub mod Header
 pub mod Images

@@ -3,6 +3,7 @@
 
 pub mod addresses;
 pub mod attributes;
+pub mod copied;
 pub mod error;
 pub mod header;
 pub mod images;
@@ -12,6 +13,7 @@ pub mod owners;
 
 pub use addresses::{LiveSection, section_addresses};
 pub use attributes::propagate_section_attributes;
+pub use copied::SymbolCopyInfo;
 pub use error::SizeError;
 pub use header::{HeaderInfo, determine_header_sizes};
 pub use images::image_addresses;
