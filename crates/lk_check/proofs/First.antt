@@ -5,6 +5,18 @@ use Rattle.std.proofs.lemmas.List.{drop_all, drop_more}
 use Rattle.lk_link.specs.Files.{first_some}
 use Rattle.lk_check.specs.FirstAnswer.{first_of}
 
+-- ---- one answer behind another
+
+pub answer_first : {X : Type 0} (x : X) (o : Option X) → first_some (Some x) o ≡ Some x
+unfolding first_some
+answer_first x o = refl
+
+pub answer_next : {X : Type 0} (o : Option X) → first_some None o ≡ o
+unfolding first_some
+answer_next o = refl
+
+pub ruleset firsts = (answer_first, answer_next)
+
 -- ---- element by element
 
 pub first_of-none : {X Y : Type 0} (f : X → Option Y) → first_of f [] ≡ None

@@ -1,4 +1,5 @@
 pub mod Bounds
+pub mod DepthLemmas
 pub mod Faults
 pub mod First
 pub mod LongLists
@@ -6,5 +7,8 @@ pub mod MarkLemmas
 pub mod Neighbours
 pub mod NoAnswer
 pub mod NumberedFiles
+pub mod Operands
+pub mod TableLemmas
 pub mod Unfaulted
 pub mod UnfaultedEvents
+pub mod UnfaultedRules

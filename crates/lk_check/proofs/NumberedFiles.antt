@@ -13,7 +13,10 @@ use Rattle.lk_link.specs.SymbolRules.{is_good_symbol}
 use Rattle.lk_link.specs.Symbols.{all_files}
 use Rattle.lk_link.proofs.Elements.{flat_map_at, map_at, numbered_at}
 use Rattle.lk_link.proofs.InputLemmas.{files_from_are}
-use Rattle.lk_check.specs.FirstBadFile.{bad_symbol, first_bad_symbol}
+use Rattle.lk_link.specs.ExpressionRules.{is_good_redirect}
+use Rattle.lk_check.specs.FirstAnswer.{first_of}
+use Rattle.lk_check.specs.FirstBadExpression.{first_bad_redirect}
+use Rattle.lk_check.specs.FirstBadFile.{first_bad_symbol}
 use Rattle.lk_check.proofs.First.{found_of}
 
 -- ---- files
@@ -63,13 +66,18 @@ place_within : {X : Type 0} (p : X → Bool) (xs : List X) (k : ℕ) → positio
 place_within p [] k h = absurd (cc)
 place_within p (x ∷ xs) k h = (position-Some p (x ∷ xs) k x h).0
 
--- is there
-pub symbol_there : (link : LinkInput) (p : FileId × ℕ) → first_bad_symbol link ≡ Some p → IsSomeAnd (file_in link.groups p.0) (λ f. p.1 < length f.symbols)
-symbol_there link p h =
-    let by = found_of (bad_symbol link) (numbered_files link.groups) p h in
+-- an index that was found among a file's symbols is there
+pub found_there : (bad : NumberedFile → InputSymbol → Bool) (groups : List (List InputFile)) (p : FileId × ℕ) → first_of (λ f. option_map (in_file f.id) (position (bad f) f.file.symbols)) (numbered_files groups) ≡ Some p → IsSomeAnd (file_in groups p.0) (λ f. p.1 < length f.symbols)
+found_there bad groups p h =
+    let by = found_of (λ f. option_map (in_file f.id) (position (bad f) f.file.symbols)) (numbered_files groups) p h in
     let file = by.1.file in
-    let bad : InputSymbol → Bool = λ s. not (is_good_symbol link file s) in
-    let at = place_of by.1.id (position bad file.symbols) p by.3 in
-    let there : file_in link.groups p.0 ≡ Some file = ap (file_in link.groups) (sym at.0) ∙ numbered_there link.groups by.0 by.1 by.2 in
+    let at = place_of by.1.id (position (bad by.1) file.symbols) p by.3 in
+    let there : file_in groups p.0 ≡ Some file = ap (file_in groups) (sym at.0) ∙ numbered_there groups by.0 by.1 by.2 in
     let P : Option InputFile → Type 0 = λ o. IsSomeAnd o (λ f. p.1 < length f.symbols) in
-    subst P (sym there) (place_within bad file.symbols p.1 at.1)
+    subst P (sym there) (place_within (bad by.1) file.symbols p.1 at.1)
+
+pub symbol_there : (link : LinkInput) (p : FileId × ℕ) → first_bad_symbol link ≡ Some p → IsSomeAnd (file_in link.groups p.0) (λ f. p.1 < length f.symbols)
+symbol_there link p h = found_there (λ f s. not (is_good_symbol link f.file s)) link.groups p h
+
+pub redirect_there : (link : LinkInput) (p : FileId × ℕ) → first_bad_redirect link ≡ Some p → IsSomeAnd (file_in link.groups p.0) (λ f. p.1 < length f.symbols)
+redirect_there link p h = found_there (λ f s. not (is_good_redirect link s.at)) link.groups p h

@@ -3,12 +3,15 @@ use Rattle.std.specs.Prelude.{ℕ, ◌==◌, ◌&&◌, not, Bool, if◌then◌el
 use Rattle.lk_link.specs.declared.file.InputFile.{InputFile}
 use Rattle.lk_link.specs.declared.ids.FileId.{FileId}
 use Rattle.lk_link.specs.declared.link.LinkInput.{LinkInput}
+use Rattle.lk_link.specs.declared.plan.NamedParts.{NamedParts}
 use Rattle.lk_link.specs.declared.plan.Plan.{Plan}
+use Rattle.lk_link.specs.CandidateRules.{has_good_candidates}
 use Rattle.lk_link.specs.FileKinds.{is_prelude}
 use Rattle.lk_link.specs.InputRules.{is_good_input}
 use Rattle.lk_link.specs.Inputs.{NumberedFile, numbered_files}
 use Rattle.lk_link.specs.Rules.{begins_with_prelude}
 use Rattle.lk_link.specs.SymbolRules.{is_good_symbol}
+use Rattle.lk_link.specs.TableRules.{has_tables}
 use Rattle.lk_check.specs.FirstAnswer.{first_of}
 
 -- ---- the prelude
@@ -42,3 +45,23 @@ bad_input plan f = option_map (λ i. (f.id, i)) (position (λ s. not (is_good_in
 -- where the rule on input sections is broken first
 abbrev pub first_bad_input : LinkInput → Option (FileId × ℕ)
 first_bad_input link = first_of (bad_input link.plan) (numbered_files link.groups)
+
+-- ---- tables
+
+-- the first section of a file whose relocations want entries of tables that have no part, by its index there
+abbrev pub bad_tables : NamedParts → NumberedFile → Option (FileId × ℕ)
+bad_tables named f = option_map (λ i. (f.id, i)) (position (λ s. not (has_tables named s)) f.file.sections)
+
+-- where the rule on tables is broken first
+abbrev pub first_bad_tables : LinkInput → Option (FileId × ℕ)
+first_bad_tables link = first_of (bad_tables link.plan.named) (numbered_files link.groups)
+
+-- ---- candidates
+
+-- whether a file has a candidate that isn't good
+abbrev pub has_bad_candidate : LinkInput → NumberedFile → Bool
+has_bad_candidate link f = not (has_good_candidates link f.file)
+
+-- where the rule on candidates is broken first
+abbrev pub first_bad_candidates : LinkInput → Option FileId
+first_bad_candidates link = option_map (λ f. f.id) (find (has_bad_candidate link) (numbered_files link.groups))

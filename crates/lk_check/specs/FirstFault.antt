@@ -15,7 +15,9 @@ use Rattle.lk_link.specs.Symbols.{first_symbol}
 use Rattle.lk_link.specs.WellFormed.{IsWellFormed}
 use Rattle.lk_link.specs.Files.{first_some}
 use Rattle.lk_check.specs.FirstBadEvent.{first_bad_event}
-use Rattle.lk_check.specs.FirstBadFile.{first_bad_prelude, first_bad_symbol, first_bad_input}
+use Rattle.lk_check.specs.FirstBadExpression.{expression_fault}
+use Rattle.lk_check.specs.FirstBadFile.{first_bad_prelude, first_bad_symbol, first_bad_input, first_bad_tables, first_bad_candidates}
+use Rattle.lk_check.specs.FirstBadPartField.{first_bad_part_field}
 use Rattle.lk_check.specs.FirstExcess.{first_excess}
 
 -- ---- where a rule on the plan is broken first
@@ -44,6 +46,9 @@ page_fault plan = if is_alignment plan.page then None else Some (BadLink rule.Pa
 unfoldable pub section_fault : Plan → Option LinkFault
 section_fault plan = option_map (λ i. BadLink rule.Sections (place.Section i)) (first_bad_section plan.sections)
 
+unfoldable pub part_field_fault : LinkInput → Option LinkFault
+part_field_fault link = option_map (λ k. BadLink rule.PartFields (place.PartField k)) (first_bad_part_field link)
+
 unfoldable pub tls_fault : Plan → Option LinkFault
 tls_fault plan = option_map (λ i. BadLink rule.TlsSegment (place.Segment i)) (second_tls plan.segments)
 
@@ -60,19 +65,34 @@ symbol_fault link = option_map (λ p. BadLink rule.Symbols (place.Symbol (first_
 unfoldable pub input_fault : LinkInput → Option LinkFault
 input_fault link = option_map (λ p. BadLink rule.InputSections (place.Input p.0 p.1)) (first_bad_input link)
 
+-- also of discarded sections
+unfoldable pub table_fault : LinkInput → Option LinkFault
+table_fault link = option_map (λ p. BadLink rule.Tables (place.Input p.0 p.1)) (first_bad_tables link)
+
+unfoldable pub candidate_fault : LinkInput → Option LinkFault
+candidate_fault link = option_map (λ id. BadLink rule.Candidates (place.File id)) (first_bad_candidates link)
+
 -- ---- the first fault
+
+-- the first rule on output sections and named parts that is broken
+unfoldable pub section_or_part_fault : LinkInput → Option LinkFault
+section_or_part_fault link = first_some (section_fault link.plan) (part_field_fault link)
 
 -- the first rule on options and the plan's parts that is broken
 unfoldable pub plan_fault : LinkInput → Option LinkFault
-plan_fault link = first_some (options_fault link) (first_some (page_fault link.plan) (section_fault link.plan))
+plan_fault link = first_some (options_fault link) (first_some (page_fault link.plan) (section_or_part_fault link))
 
 -- the first rule on what is placed that is broken
 unfoldable pub placing_fault : LinkInput → Option LinkFault
-placing_fault link = first_some (tls_fault link.plan) (event_fault link)
+placing_fault link = first_some (tls_fault link.plan) (first_some (event_fault link) (expression_fault link))
+
+-- the first rule on what files hold beside symbols that is broken
+unfoldable pub content_fault : LinkInput → Option LinkFault
+content_fault link = first_some (input_fault link) (first_some (table_fault link) (candidate_fault link))
 
 -- the first rule on files that is broken
 unfoldable pub file_fault : LinkInput → Option LinkFault
-file_fault link = first_some (prelude_fault link) (first_some (symbol_fault link) (input_fault link))
+file_fault link = first_some (prelude_fault link) (first_some (symbol_fault link) (content_fault link))
 
 -- the first rule that is broken
 unfoldable pub first_broken : LinkInput → Option LinkFault

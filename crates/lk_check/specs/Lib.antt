@@ -1,6 +1,9 @@
+pub mod DepthWalk
 pub mod FirstAnswer
 pub mod FirstBadEvent
+pub mod FirstBadExpression
 pub mod FirstBadFile
+pub mod FirstBadPartField
 pub mod FirstExcess
 pub mod FirstFault
 pub mod Lengths

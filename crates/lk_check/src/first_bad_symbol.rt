@@ -51,7 +51,7 @@ fn first_bad_symbol(link: &LinkInput) -> Option<(FileId, usize)>
 }
 
 /// The number of a file's symbol over all files.
-fn symbol_number(groups: &InputGroups, id: FileId, index: usize) -> usize
+pub fn symbol_number(groups: &InputGroups, id: FileId, index: usize) -> usize
     requires there { IsSomeAnd (file_in groups.now id) (λ f. index < length f.symbols) }
     requires few { symbol_count (all_files groups.now) ≤ SYMBOLS }
     ensures { result ≡ first_symbol groups.now id + index }

@@ -14,8 +14,11 @@ ghost use Rattle.lk_check.specs.FirstFault.{check_of, first_fault, WellFormedExa
 use lk_link::fault::LinkFault;
 use lk_link::link::LinkInput;
 
+mod candidates;
 mod counts;
+mod depths;
 mod events;
+mod expressions;
 mod first_bad_input;
 mod first_bad_symbol;
 mod good_inputs;
@@ -23,11 +26,14 @@ mod good_symbols;
 mod lengths;
 mod limits;
 mod options;
+mod part_fields;
 mod parts;
 mod prelude;
 mod rules;
 mod sections;
 mod segments;
+mod tables;
+mod waiting;
 
 /// Checks that a link is well formed. Refuses with the first list that is too long, else with the first rule that is
 /// broken, at its first place. Takes linear time and no memory.

@@ -31,7 +31,7 @@ fn is_table_part(named: &NamedParts, part: PartId) -> bool
 }
 
 /// Whether it is this part.
-fn is_part(named: Option<PartId>, part: PartId) -> bool
+pub fn is_part(named: Option<PartId>, part: PartId) -> bool
     ensures { result ≡ is_part part named }
 {
     match named {

@@ -3,9 +3,12 @@
 ghost use Rattle.std.specs.Prelude.{◌≡◌, ◌≤◌, length};
 ghost use Rattle.lk_link.specs.Files.{AreNumbered};
 ghost use Rattle.lk_link.specs.Symbols.{all_files, symbol_count};
-ghost use Rattle.lk_check.specs.FirstFault.{check_of, first_broken, file_fault, page_fault, placing_fault, plan_fault};
+ghost use Rattle.lk_check.specs.FirstFault.{check_of, content_fault, first_broken, file_fault, page_fault, placing_fault, plan_fault, section_or_part_fault};
 
-use crate::{events, first_bad_input, first_bad_symbol, options, prelude, sections, segments};
+use crate::{
+    candidates, events, expressions, first_bad_input, first_bad_symbol, options, part_fields,
+    prelude, sections, segments, tables,
+};
 use lk_link::alignment::is_valid;
 use lk_link::fault::{LinkFault, Place, Rule};
 use lk_link::limits::{OUTPUT_SECTIONS, SEGMENTS, SYMBOLS};
@@ -33,18 +36,30 @@ fn check_plan(link: &LinkInput) -> Result<(), LinkFault>
 {
     options::check_options(link)?;
     check_page(&link.plan)?;
-    sections::check_sections(&link.plan)
+    check_sections_and_parts(link)
 }
 
-/// Refuses a link whose segments or events break a rule, by the first such rule at its first place.
+/// Refuses a link whose output sections or named parts break a rule, by the first such rule at its first place.
+#[tactic(auto, using(crate::proofs::Faults::checks), unfolding(crate::specs::FirstFault::section_or_part_fault))]
+fn check_sections_and_parts(link: &LinkInput) -> Result<(), LinkFault>
+    ensures { result ≡ check_of (section_or_part_fault link.now) }
+{
+    sections::check_sections(&link.plan)?;
+    part_fields::check_part_fields(link)
+}
+
+/// Refuses a link whose segments, events or expressions break a rule, by the first such rule at its first place.
 #[tactic(auto, using(crate::proofs::Faults::checks), unfolding(crate::specs::FirstFault::placing_fault))]
 fn check_placing(link: &LinkInput) -> Result<(), LinkFault>
+    requires files { AreNumbered link.now.groups }
+    requires symbols { symbol_count (all_files link.now.groups) ≤ SYMBOLS }
     requires sections { length link.now.plan.sections ≤ OUTPUT_SECTIONS }
     requires segments { length link.now.plan.segments ≤ SEGMENTS }
     ensures { result ≡ check_of (placing_fault link.now) }
 {
     segments::check_segments(&link.plan)?;
-    events::check_events(link)
+    events::check_events(link)?;
+    expressions::check_expressions(link)
 }
 
 /// Refuses a link whose files break a rule, by the first such rule at its first place.
@@ -56,7 +71,19 @@ fn check_files(link: &LinkInput) -> Result<(), LinkFault>
 {
     prelude::check_prelude(link)?;
     first_bad_symbol::check_symbols(link)?;
-    first_bad_input::check_inputs(link)
+    check_contents(link)
+}
+
+/// Refuses a link whose files hold input sections, relocations or candidates that break a rule, by the first such rule at its first
+/// place.
+#[tactic(auto, using(crate::proofs::Faults::checks), unfolding(crate::specs::FirstFault::content_fault))]
+fn check_contents(link: &LinkInput) -> Result<(), LinkFault>
+    requires { AreNumbered link.now.groups }
+    ensures { result ≡ check_of (content_fault link.now) }
+{
+    first_bad_input::check_inputs(link)?;
+    tables::check_tables(link)?;
+    candidates::check_candidates(link)
 }
 
 /// The page is a power of two up to 65,536.
