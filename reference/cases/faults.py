@@ -56,6 +56,82 @@ def break_primary(rng, sections, number):
         sections[other]["primary"] = rng.choice((number, rng.randrange(len(sections))))
 
 
+def break_part_fields(rng, description):
+    """Named parts that may be equal, out of range, or of another kind."""
+    plan, count = description["plan"], len(all_parts(description))
+    choices = (0, max(count - 1, 0), count, 2**32 - 1, rng.randrange(max(count, 1)))
+    for name in rng.sample((*listed.NAMED_PARTS, "comment", "primary"), rng.choice((1, 1, 2, 3))):
+        plan[name] = rng.choice(choices)
+    if rng.random() < 0.7:
+        description.setdefault("options", {})["branch_range"] = rng.choice((0, 2_097_153, 2**64 - 1))
+
+
+def odd_operand(rng, description):
+    """What may be named by an expression, or may not."""
+    plan = description["plan"]
+    counts = {
+        "sym": len(all_symbols(description)),
+        **dict.fromkeys(("addr", "sizeof"), len(plan["sections"])),
+        **dict.fromkeys(("origin", "length"), len(plan.get("regions", []))),
+    }
+    kind = rng.choice(tuple(counts))
+    return [kind, rng.choice((max(counts[kind] - 1, 0), counts[kind], counts[kind], 2**32 - 1))]
+
+
+def deep_expression(rng, depth):
+    """An expression of that depth, whose deepest operand stands anywhere."""
+    expression = ["num", 1]
+    for _ in range(depth - 1):
+        operands = [expression, ["num", rng.choice((0, 1, 2))]]
+        if rng.random() < 0.5:
+            operands.reverse()
+        expression = [rng.choice(listed.OPERATORS), *operands]
+    return expression
+
+
+def break_expressions(rng, description):
+    """An expression of any place that names what isn't there, or that is about 100 deep."""
+    plan = description["plan"]
+    expression = odd_operand(rng, description)
+    if rng.random() < 0.3:
+        expression = deep_expression(rng, rng.choice((98, 99, 100, 101, 102)))
+    elif rng.random() < 0.5:
+        operands = [expression, richer.expression_for(rng, description)]
+        rng.shuffle(operands)
+        expression = [rng.choice(listed.OPERATORS), *operands]
+    choice = rng.randrange(5)
+    if choice == 0:
+        plan["base"] = expression
+    elif choice == 1:
+        region = {"origin": ["num", 0], "length": ["num", 1], rng.choice(("origin", "length")): expression}
+        plan.setdefault("regions", []).append(region)
+    elif choice == 2:
+        rng.choice(plan["sections"])["at"] = expression
+    elif choice == 3:
+        richer.add_event(rng, description, ["addr", expression])
+    else:
+        file = rng.choice(all_files(description))
+        richer.add_symbols(rng, description, file)
+        rng.choice(file["symbols"])["at"] = ["redirect", expression, ["none"], True]
+
+
+def break_tables(rng, description):
+    """Relocations that want entries of tables, with or without the tables' parts."""
+    richer.add_table_relocation(rng, description)
+    for name in rng.choice((("got",), ("plt",), ("got", "plt"))):
+        description["plan"].pop(name, None)
+
+
+def break_candidates(rng, description):
+    """Candidates of which one number may be out of range."""
+    richer.add_candidates(rng, description)
+    made = description["groups"][-1][0]["candidates"]
+    if rng.random() < 0.8:
+        rng.choice(made)[rng.randrange(4)] = rng.choice((0, 1, 2, 7, 2**32 - 1))
+    if rng.random() < 0.5:
+        rng.choice(all_files(description))["candidates"] = made
+
+
 def break_thread_local(rng, description):
     for _ in range(rng.choice((1, 2, 2, 3))):
         richer.add_thread_local_segment(rng, description)
@@ -279,12 +355,16 @@ RULE_BREAKS = {
     break_options: 1,
     break_page: 1,
     break_section: 3,
+    break_part_fields: 3,
     break_thread_local: 1,
     break_events: 3,
     break_locations: 2,
+    break_expressions: 4,
     break_files: 1,
     break_symbol: 6,
     break_input: 8,
+    break_tables: 2,
+    break_candidates: 2,
 }
 
 

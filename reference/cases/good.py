@@ -122,7 +122,7 @@ def random_marks(rng, file):
     optional(rng, file, "archive", 0.1, TRUTHS)
     optional(rng, file, "export", 0.1, TRUTHS)
     optional(rng, file, "check", 0.1, TRUTHS)
-    optional(rng, file, "candidates", 0.1, ([], [[0, 1, 0, 0]], [[9, 2**32 - 1, 0, 7], [0, 0, 0, 0]]))
+    optional(rng, file, "candidates", 0.1, ([],))
 
 
 def random_options(rng):

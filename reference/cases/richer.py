@@ -175,7 +175,8 @@ def add_table(rng, description):
 
 
 def add_comment(rng, description):
-    description["plan"]["comment"] = rng.choice((0, 1, 2**32 - 1))
+    fitting = [part for part in free_parts(description) if all_parts(description)[part][0] == 1]
+    description["plan"]["comment"] = rng.choice(fitting or [add_section(description, [[1, False]])])
 
 
 def add_table_relocation(rng, description):
@@ -186,6 +187,27 @@ def add_table_relocation(rng, description):
         if any(entry is other for other in file.get("sections", [])):
             add_symbols(rng, description, file)
             add_relocations(rng, entry, len(file["symbols"]), listed.TABLE_RELOCATIONS)
+    first = add_section(description, [[8, False], [4, True]])
+    for part, name in enumerate(("got", "plt"), first):
+        description["plan"].setdefault(name, part)
+
+
+def add_candidates(rng, description):
+    """A file of made symbols with candidates, as far as objects have sections."""
+    number, _ = a_section(rng, description)
+    description["groups"].append([{"kind": "synthetic", "candidates": candidates(rng, description, number)}])
+
+
+def candidates(rng, description, output):
+    """Some sections of objects, each for that output section."""
+    held = [
+        [output, group, number, index]
+        for group, files in enumerate(description["groups"])
+        for number, file in enumerate(files)
+        if file["kind"] == "object"
+        for index in range(len(file.get("sections", [])))
+    ]
+    return [rng.choice(held) for _ in range(rng.choice((1, 2, 5)))] if held else []
 
 
 def set_plan(rng, description):
@@ -234,7 +256,10 @@ def add_sorted(rng, description):
 
 
 def set_primary(rng, description):
-    description["plan"]["primary"] = rng.choice((0, 1, 2**32 - 1))
+    parts = all_parts(description)
+    fitting = [part for part in free_parts(description) if parts[part][0] <= 16 and not parts[part][1]]
+    description["plan"]["primary"] = rng.choice(fitting or [add_section(description, [[16, False]])])
+    description.setdefault("options", {})["branch_range"] = rng.choice((2_097_153, 2**64 - 1))
 
 
 def set_relax(rng, description):
@@ -247,7 +272,7 @@ def add_prelude_symbol(rng, description):
 
 ADDITIONS = (
     *(add_merge, add_debug, add_group, add_common, add_file, add_location, set_output),
-    *(add_table, add_comment, add_table_relocation, set_plan, set_plan, set_plan),
+    *(add_table, add_comment, add_table_relocation, add_candidates, set_plan, set_plan, set_plan),
     *(add_thread_local_segment, set_partial, add_sorted, set_primary, set_relax),
     add_prelude_symbol,
 )

@@ -101,6 +101,28 @@ def check_sections(link):
             raise bad_link(3, "section %d" % number)
 
 
+def is_good_part_field(link, field):
+    """Whether a named part is there, differs from those that it has to, and is what its name asks for."""
+    part, parts = link.plan.named[field], parts_of(link)
+    if part is None:
+        return True
+    before = listed.TABLE_PARTS[: listed.NAMED_PARTS.index(field)]
+    if part >= len(parts) or any(link.plan.named[other] == part for other in before):
+        return False
+    _, alignment, packed = parts[part]
+    if field == "comment":
+        return alignment == 1
+    if field == "primary":
+        return not packed and alignment <= 16 and link.options.branch_range != 0
+    return True
+
+
+def check_part_fields(link):
+    for place, field in enumerate(listed.NAMED_PARTS):
+        if not is_good_part_field(link, field):
+            raise bad_link(4, "part field %d" % place)
+
+
 def check_thread_local_segments(link):
     segments = link.plan.segments
     thread_local = [number for number, segment in enumerate(segments) if segment.kind == "tls"]
@@ -130,6 +152,49 @@ def check_events(link):
             before.add(event)
     if len(before) < len(link.plan.sections) + 2 * len(link.plan.segments):
         raise bad_link(7, "event %d" % len(link.plan.events))
+
+
+class ExpressionRule:
+    """What each expression keeps."""
+
+    def __init__(self, link):
+        sections, regions = len(link.plan.sections), len(link.plan.regions)
+        self.counts = {"sym": len(symbols_of(link)), "addr": sections, "sizeof": sections}
+        self.counts.update(origin=regions, length=regions)
+
+    def is_kept(self, expression, depth=1):
+        """Whether what is named is there and nothing stands deeper than 100."""
+        kind, *operands = expression
+        if depth > 100:
+            return False
+        if kind in listed.OPERATORS:
+            return all(self.is_kept(operand, depth + 1) for operand in operands)
+        return kind not in self.counts or operands[0] < self.counts[kind]
+
+
+def expressions_of(link):
+    """All expressions, each with the place at which it is told, in their order."""
+    plan = link.plan
+    yield "plan", plan.base
+    for number, region in enumerate(plan.regions):
+        yield "region %d" % number, region.origin
+        yield "region %d" % number, region.length
+    for number, section in enumerate(plan.sections):
+        if section.at is not None:
+            yield "section %d" % number, section.at
+    for number, event in enumerate(plan.events):
+        if event[0] in (*listed.LOCATION_EVENTS, "addr"):
+            yield "event %d" % number, event[1]
+    for number, (_, symbol) in enumerate(symbols_of(link)):
+        if symbol.at[0] == "redirect":
+            yield "symbol %d" % number, symbol.at[1]
+
+
+def check_expressions(link):
+    rule = ExpressionRule(link)
+    for place, expression in expressions_of(link):
+        if not rule.is_kept(expression):
+            raise bad_link(8, place)
 
 
 def check_preludes(link):
@@ -244,9 +309,35 @@ def check_inputs(link):
             raise bad_link(11, "input %d %d %d" % place)
 
 
+def check_tables(link):
+    """The tables that relocations want entries of have parts, also where their section is discarded."""
+    missing = {field.upper() for field in ("plt", "got") if link.plan.named[field] is None}
+    for place, _, entry in inputs_of(link):
+        wanted = {table for _, kind, _, _, _ in entry.relocs for table in listed.TABLES_OF[kind]}
+        if missing.intersection(wanted):
+            raise bad_link(12, "input %d %d %d" % place)
+
+
+def is_good_candidate(link, candidate):
+    output, group, number, index = candidate
+    if output >= len(link.plan.sections) or group >= len(link.groups):
+        return False
+    if number >= len(link.groups[group]):
+        return False
+    file = link.groups[group][number]
+    return file.kind == "object" and index < len(file.sections)
+
+
+def check_candidates(link):
+    for group, number, file in files_of(link):
+        if not all(is_good_candidate(link, candidate) for candidate in file.candidates):
+            raise bad_link(13, "file %d %d" % (group, number))
+
+
 RULES = (
-    *(check_options, check_page, check_sections, check_thread_local_segments, check_events),
-    *(check_preludes, check_symbols, check_inputs),
+    *(check_options, check_page, check_sections, check_part_fields),
+    *(check_thread_local_segments, check_events, check_expressions),
+    *(check_preludes, check_symbols, check_inputs, check_tables, check_candidates),
 )
 
 

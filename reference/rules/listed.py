@@ -102,9 +102,15 @@ def joined_flags(names):
     return sum(FLAGS.get(name, 0) for name in names)
 
 
+def tables_of(wanted):
+    """The tables of which entries are among what is wanted; thread-local entries are those of the GOT."""
+    return {flag.split("_")[0] for flag in wanted if flag.startswith(("PLT", "GOT"))}
+
+
 RELOCATIONS = relocations_that(lambda wanted: True)
 TABLE_RELOCATIONS = relocations_that(want_entries)
 PLAIN_RELOCATIONS = relocations_that(lambda wanted: not want_entries(wanted))
-# For each kind the flags that it gives to its symbol, if any.
+# For each kind the tables that it wants entries of, and the flags that it gives to its symbol, if any.
+TABLES_OF = {kind: tables_of(wanted) for wanted, kinds in WANTED.items() for kind in kinds}
 FLAGS_OF = {kind: joined_flags(wanted) for wanted, kinds in WANTED.items() for kind in kinds}
 HAS_RESOLUTION = joined_flags(RESOLVED)

@@ -64,6 +64,34 @@ const RULES: &str = r#"
 {"parts":[[1,false]]},{"parts":[[1,false]],"primary":3},{"parts":[[1,false]]} => bad link: rule 3, section 1
 {"parts":[[1,false]],"primary":1},{"parts":[[1,false]],"primary":0},{"parts":[[1,false]]} => bad link: rule 3, section 0
 {"parts":[[1,false]],"primary":4294967295},{"parts":[[1,false]],"primary":1},{"parts":[[1,false]]} => bad link: rule 3, section 0
+# Named parts. The plan has parts 0 to 3: of alignment 16, of alignment 8 and packed, of alignment 1, and of alignment 32.
+@ {"options":{"branch_range":2097153},"plan":{"page":1,"sections":[{"parts":[[16,false],[8,true],[1,false]]},{"parts":[[32,false]]}],"events":[["sec",0],["sec",1]],...},"groups":[[{"kind":"prelude"}]]}
+"got":0,"plt":1,"shstrtab":3,"comment":2,"primary":2 => well formed
+"got":4 => bad link: rule 4, part field 0
+"got":4,"plt":4 => bad link: rule 4, part field 0
+"got":0,"plt":0 => bad link: rule 4, part field 1
+"plt":0,"symtab_local":0 => bad link: rule 4, part field 2
+"symtab_local":0,"symtab_global":0 => bad link: rule 4, part field 3
+"symtab_global":0,"strtab":0 => bad link: rule 4, part field 4
+"strtab":0,"dynsym":0 => bad link: rule 4, part field 5
+"dynsym":0,"dynstr":0 => bad link: rule 4, part field 6
+"dynstr":0,"file_header":0 => bad link: rule 4, part field 7
+"file_header":0,"program_headers":0 => bad link: rule 4, part field 8
+"program_headers":0,"section_headers":0 => bad link: rule 4, part field 9
+"section_headers":0,"shstrtab":0 => bad link: rule 4, part field 10
+"got":1,"shstrtab":1 => bad link: rule 4, part field 10
+"shstrtab":4294967295 => bad link: rule 4, part field 10
+"comment":2,"dynstr":2 => bad link: rule 4, part field 11
+"comment":0 => bad link: rule 4, part field 11
+"comment":4 => bad link: rule 4, part field 11
+"comment":2,"primary":1 => bad link: rule 4, part field 12
+"primary":0 => well formed
+"primary":3 => bad link: rule 4, part field 12
+"primary":4 => bad link: rule 4, part field 12
+"primary":0,"strtab":0 => bad link: rule 4, part field 12
+# A primary part only where branches are limited.
+@ {"options":{"branch_range":0},"plan":{"page":1,"sections":[{"parts":[[16,false]]}],"events":[["sec",0]],...},"groups":[[{"kind":"prelude"}]]}
+"primary":0 => bad link: rule 4, part field 12
 # Three segments, one behind the other.
 @ {"plan":{"page":1,"segments":[...],"events":[["seg",0],["endseg",0],["seg",1],["endseg",1],["seg",2],["endseg",2]]},"groups":[[{"kind":"prelude"}]]}
 {"kind":"load"},{"kind":"tls"},{"kind":"stack"} => well formed
@@ -97,6 +125,41 @@ const RULES: &str = r#"
 ["loc",["dot"]],["sec",0]]},"groups":[[{"kind":"prelude"}],[{"kind":"synthetic" => bad link: rule 7, event 0
 ["loc",["dot"]],["sec",0]]},"groups":[[{"kind":"prelude"}],[{"kind":"dynamic" => bad link: rule 7, event 0
 ["loc",["dot"]],["sec",0]]},"groups":[[{"kind":"prelude"}],[{"kind":"notloaded" => bad link: rule 7, event 0
+# Expressions, of a plan with a section and a region, and of a link with two symbols.
+@ {"plan":{"page":1,"base":...}],[{"kind":"object","symbols":[{"at":["undef"]}]}]]}
+«98 of ["add",["num",1]»,["num",0]]]]]]]]]]]]]]]]]]]]]]]]]]]]]]]]]]]]]]]]]]]]]]]]]]]]]]]]]]]]]]]]]]]]]]]]]]]]]]]]]]]]]]]]]]]]]]]]]]],"sections":[{"parts":[[1,false]]}],"regions":[{"origin":["num",0],"length":["num",1]}],"events":[["sec",0]]},"groups":[[{"kind":"prelude"}],[{"kind":"script","symbols":[{"at":["undefined"]}] => well formed
+«99 of ["add",["num",1]»,["num",0]]]]]]]]]]]]]]]]]]]]]]]]]]]]]]]]]]]]]]]]]]]]]]]]]]]]]]]]]]]]]]]]]]]]]]]]]]]]]]]]]]]]]]]]]]]]]]]]]]]],"sections":[{"parts":[[1,false]]}],"regions":[{"origin":["num",0],"length":["num",1]}],"events":[["sec",0]]},"groups":[[{"kind":"prelude"}],[{"kind":"script","symbols":[{"at":["undefined"]}] => well formed
+«100 of ["add",["num",1]»,["num",0]]]]]]]]]]]]]]]]]]]]]]]]]]]]]]]]]]]]]]]]]]]]]]]]]]]]]]]]]]]]]]]]]]]]]]]]]]]]]]]]]]]]]]]]]]]]]]]]]]]]],"sections":[{"parts":[[1,false]]}],"regions":[{"origin":["num",0],"length":["num",1]}],"events":[["sec",0]]},"groups":[[{"kind":"prelude"}],[{"kind":"script","symbols":[{"at":["undefined"]}] => bad link: rule 8, plan
+«101 of ["add",["num",1]»,["num",0]]]]]]]]]]]]]]]]]]]]]]]]]]]]]]]]]]]]]]]]]]]]]]]]]]]]]]]]]]]]]]]]]]]]]]]]]]]]]]]]]]]]]]]]]]]]]]]]]]]]]],"sections":[{"parts":[[1,false]]}],"regions":[{"origin":["num",0],"length":["num",1]}],"events":[["sec",0]]},"groups":[[{"kind":"prelude"}],[{"kind":"script","symbols":[{"at":["undefined"]}] => bad link: rule 8, plan
+["add",["add",["add",["add",["add",["add",["add",["add",["add",["add",["add",["add",["add",["add",["add",["add",["add",["add",["add",["add",["add",["add",["add",["add",["add",["add",["add",["add",["add",["add",["add",["add",["add",["add",["add",["add",["add",["add",["add",["add",["add",["add",["add",["add",["add",["add",["add",["add",["add",["add",["add",["add",["add",["add",["add",["add",["add",["add",["add",["add",["add",["add",["add",["add",["add",["add",["add",["add",["add",["add",["add",["add",["add",["add",["add",["add",["add",["add",["add",["add",["add",["add",["add",["add",["add",["add",["add",["add",["add",["add",["add",["add",["add",["add",["add",["add",["add",["add",["add",["num",0],["num",1]],["num",1]],["num",1]],["num",1]],["num",1]],["num",1]],["num",1]],["num",1]],["num",1]],["num",1]],["num",1]],["num",1]],["num",1]],["num",1]],["num",1]],["num",1]],["num",1]],["num",1]],["num",1]],["num",1]],["num",1]],["num",1]],["num",1]],["num",1]],["num",1]],["num",1]],["num",1]],["num",1]],["num",1]],["num",1]],["num",1]],["num",1]],["num",1]],["num",1]],["num",1]],["num",1]],["num",1]],["num",1]],["num",1]],["num",1]],["num",1]],["num",1]],["num",1]],["num",1]],["num",1]],["num",1]],["num",1]],["num",1]],["num",1]],["num",1]],["num",1]],["num",1]],["num",1]],["num",1]],["num",1]],["num",1]],["num",1]],["num",1]],["num",1]],["num",1]],["num",1]],["num",1]],["num",1]],["num",1]],["num",1]],["num",1]],["num",1]],["num",1]],["num",1]],["num",1]],["num",1]],["num",1]],["num",1]],["num",1]],["num",1]],["num",1]],["num",1]],["num",1]],["num",1]],["num",1]],["num",1]],["num",1]],["num",1]],["num",1]],["num",1]],["num",1]],["num",1]],["num",1]],["num",1]],["num",1]],["num",1]],["num",1]],["num",1]],["num",1]],["num",1]],["num",1]],["num",1]],["num",1]],["num",1]],"sections":[{"parts":[[1,false]]}],"regions":[{"origin":["num",0],"length":["num",1]}],"events":[["sec",0]]},"groups":[[{"kind":"prelude"}],[{"kind":"script","symbols":[{"at":["undefined"]}] => well formed
+["add",["add",["add",["add",["add",["add",["add",["add",["add",["add",["add",["add",["add",["add",["add",["add",["add",["add",["add",["add",["add",["add",["add",["add",["add",["add",["add",["add",["add",["add",["add",["add",["add",["add",["add",["add",["add",["add",["add",["add",["add",["add",["add",["add",["add",["add",["add",["add",["add",["add",["add",["add",["add",["add",["add",["add",["add",["add",["add",["add",["add",["add",["add",["add",["add",["add",["add",["add",["add",["add",["add",["add",["add",["add",["add",["add",["add",["add",["add",["add",["add",["add",["add",["add",["add",["add",["add",["add",["add",["add",["add",["add",["add",["add",["add",["add",["add",["add",["add",["add",["num",0],["num",1]],["num",1]],["num",1]],["num",1]],["num",1]],["num",1]],["num",1]],["num",1]],["num",1]],["num",1]],["num",1]],["num",1]],["num",1]],["num",1]],["num",1]],["num",1]],["num",1]],["num",1]],["num",1]],["num",1]],["num",1]],["num",1]],["num",1]],["num",1]],["num",1]],["num",1]],["num",1]],["num",1]],["num",1]],["num",1]],["num",1]],["num",1]],["num",1]],["num",1]],["num",1]],["num",1]],["num",1]],["num",1]],["num",1]],["num",1]],["num",1]],["num",1]],["num",1]],["num",1]],["num",1]],["num",1]],["num",1]],["num",1]],["num",1]],["num",1]],["num",1]],["num",1]],["num",1]],["num",1]],["num",1]],["num",1]],["num",1]],["num",1]],["num",1]],["num",1]],["num",1]],["num",1]],["num",1]],["num",1]],["num",1]],["num",1]],["num",1]],["num",1]],["num",1]],["num",1]],["num",1]],["num",1]],["num",1]],["num",1]],["num",1]],["num",1]],["num",1]],["num",1]],["num",1]],["num",1]],["num",1]],["num",1]],["num",1]],["num",1]],["num",1]],["num",1]],["num",1]],["num",1]],["num",1]],["num",1]],["num",1]],["num",1]],["num",1]],["num",1]],["num",1]],["num",1]],["num",1]],["num",1]],["num",1]],["num",1]],"sections":[{"parts":[[1,false]]}],"regions":[{"origin":["num",0],"length":["num",1]}],"events":[["sec",0]]},"groups":[[{"kind":"prelude"}],[{"kind":"script","symbols":[{"at":["undefined"]}] => bad link: rule 8, plan
+["max",["add",["add",["add",["add",["add",["add",["add",["add",["add",["add",["add",["add",["add",["add",["add",["add",["add",["add",["add",["add",["add",["add",["add",["add",["add",["add",["add",["add",["add",["add",["add",["add",["add",["add",["add",["add",["add",["add",["add",["add",["add",["add",["add",["add",["add",["add",["add",["add",["add",["add",["add",["add",["add",["add",["add",["add",["add",["add",["add",["add",["add",["add",["add",["add",["add",["add",["add",["add",["add",["add",["add",["add",["add",["add",["add",["add",["add",["add",["add",["add",["add",["add",["add",["add",["add",["add",["add",["add",["add",["add",["add",["add",["add",["add",["add",["add",["add",["add",["num",0],["num",1]],["num",1]],["num",1]],["num",1]],["num",1]],["num",1]],["num",1]],["num",1]],["num",1]],["num",1]],["num",1]],["num",1]],["num",1]],["num",1]],["num",1]],["num",1]],["num",1]],["num",1]],["num",1]],["num",1]],["num",1]],["num",1]],["num",1]],["num",1]],["num",1]],["num",1]],["num",1]],["num",1]],["num",1]],["num",1]],["num",1]],["num",1]],["num",1]],["num",1]],["num",1]],["num",1]],["num",1]],["num",1]],["num",1]],["num",1]],["num",1]],["num",1]],["num",1]],["num",1]],["num",1]],["num",1]],["num",1]],["num",1]],["num",1]],["num",1]],["num",1]],["num",1]],["num",1]],["num",1]],["num",1]],["num",1]],["num",1]],["num",1]],["num",1]],["num",1]],["num",1]],["num",1]],["num",1]],["num",1]],["num",1]],["num",1]],["num",1]],["num",1]],["num",1]],["num",1]],["num",1]],["num",1]],["num",1]],["num",1]],["num",1]],["num",1]],["num",1]],["num",1]],["num",1]],["num",1]],["num",1]],["num",1]],["num",1]],["num",1]],["num",1]],["num",1]],["num",1]],["num",1]],["num",1]],["num",1]],["num",1]],["num",1]],["num",1]],["num",1]],["num",1]],["num",1]],["num",1]],["num",1]],«98 of ["add",["num",1]»,["num",0]]]]]]]]]]]]]]]]]]]]]]]]]]]]]]]]]]]]]]]]]]]]]]]]]]]]]]]]]]]]]]]]]]]]]]]]]]]]]]]]]]]]]]]]]]]]]]]]]]]],"sections":[{"parts":[[1,false]]}],"regions":[{"origin":["num",0],"length":["num",1]}],"events":[["sec",0]]},"groups":[[{"kind":"prelude"}],[{"kind":"script","symbols":[{"at":["undefined"]}] => well formed
+["max",["add",["add",["add",["add",["add",["add",["add",["add",["add",["add",["add",["add",["add",["add",["add",["add",["add",["add",["add",["add",["add",["add",["add",["add",["add",["add",["add",["add",["add",["add",["add",["add",["add",["add",["add",["add",["add",["add",["add",["add",["add",["add",["add",["add",["add",["add",["add",["add",["add",["add",["add",["add",["add",["add",["add",["add",["add",["add",["add",["add",["add",["add",["add",["add",["add",["add",["add",["add",["add",["add",["add",["add",["add",["add",["add",["add",["add",["add",["add",["add",["add",["add",["add",["add",["add",["add",["add",["add",["add",["add",["add",["add",["add",["add",["add",["add",["add",["add",["add",["num",0],["num",1]],["num",1]],["num",1]],["num",1]],["num",1]],["num",1]],["num",1]],["num",1]],["num",1]],["num",1]],["num",1]],["num",1]],["num",1]],["num",1]],["num",1]],["num",1]],["num",1]],["num",1]],["num",1]],["num",1]],["num",1]],["num",1]],["num",1]],["num",1]],["num",1]],["num",1]],["num",1]],["num",1]],["num",1]],["num",1]],["num",1]],["num",1]],["num",1]],["num",1]],["num",1]],["num",1]],["num",1]],["num",1]],["num",1]],["num",1]],["num",1]],["num",1]],["num",1]],["num",1]],["num",1]],["num",1]],["num",1]],["num",1]],["num",1]],["num",1]],["num",1]],["num",1]],["num",1]],["num",1]],["num",1]],["num",1]],["num",1]],["num",1]],["num",1]],["num",1]],["num",1]],["num",1]],["num",1]],["num",1]],["num",1]],["num",1]],["num",1]],["num",1]],["num",1]],["num",1]],["num",1]],["num",1]],["num",1]],["num",1]],["num",1]],["num",1]],["num",1]],["num",1]],["num",1]],["num",1]],["num",1]],["num",1]],["num",1]],["num",1]],["num",1]],["num",1]],["num",1]],["num",1]],["num",1]],["num",1]],["num",1]],["num",1]],["num",1]],["num",1]],["num",1]],["num",1]],["num",1]],["num",1]],["num",1]],["dot"]],"sections":[{"parts":[[1,false]]}],"regions":[{"origin":["num",0],"length":["num",1]}],"events":[["sec",0]]},"groups":[[{"kind":"prelude"}],[{"kind":"script","symbols":[{"at":["undefined"]}] => bad link: rule 8, plan
+["max",["dot"],«99 of ["add",["num",1]»,["num",0]]]]]]]]]]]]]]]]]]]]]]]]]]]]]]]]]]]]]]]]]]]]]]]]]]]]]]]]]]]]]]]]]]]]]]]]]]]]]]]]]]]]]]]]]]]]]]]]]]]]],"sections":[{"parts":[[1,false]]}],"regions":[{"origin":["num",0],"length":["num",1]}],"events":[["sec",0]]},"groups":[[{"kind":"prelude"}],[{"kind":"script","symbols":[{"at":["undefined"]}] => bad link: rule 8, plan
+["sym",1],"sections":[{"parts":[[1,false]]}],"regions":[{"origin":["num",0],"length":["num",1]}],"events":[["sec",0]]},"groups":[[{"kind":"prelude"}],[{"kind":"script","symbols":[{"at":["undefined"]}] => well formed
+["sym",2],"sections":[{"parts":[[1,false]]}],"regions":[{"origin":["num",0],"length":["num",1]}],"events":[["sec",0]]},"groups":[[{"kind":"prelude"}],[{"kind":"script","symbols":[{"at":["undefined"]}] => bad link: rule 8, plan
+["addr",0],"sections":[{"parts":[[1,false]]}],"regions":[{"origin":["num",0],"length":["num",1]}],"events":[["sec",0]]},"groups":[[{"kind":"prelude"}],[{"kind":"script","symbols":[{"at":["undefined"]}] => well formed
+["addr",1],"sections":[{"parts":[[1,false]]}],"regions":[{"origin":["num",0],"length":["num",1]}],"events":[["sec",0]]},"groups":[[{"kind":"prelude"}],[{"kind":"script","symbols":[{"at":["undefined"]}] => bad link: rule 8, plan
+["sizeof",0],"sections":[{"parts":[[1,false]]}],"regions":[{"origin":["num",0],"length":["num",1]}],"events":[["sec",0]]},"groups":[[{"kind":"prelude"}],[{"kind":"script","symbols":[{"at":["undefined"]}] => well formed
+["sizeof",1],"sections":[{"parts":[[1,false]]}],"regions":[{"origin":["num",0],"length":["num",1]}],"events":[["sec",0]]},"groups":[[{"kind":"prelude"}],[{"kind":"script","symbols":[{"at":["undefined"]}] => bad link: rule 8, plan
+["origin",0],"sections":[{"parts":[[1,false]]}],"regions":[{"origin":["num",0],"length":["num",1]}],"events":[["sec",0]]},"groups":[[{"kind":"prelude"}],[{"kind":"script","symbols":[{"at":["undefined"]}] => well formed
+["origin",1],"sections":[{"parts":[[1,false]]}],"regions":[{"origin":["num",0],"length":["num",1]}],"events":[["sec",0]]},"groups":[[{"kind":"prelude"}],[{"kind":"script","symbols":[{"at":["undefined"]}] => bad link: rule 8, plan
+["length",0],"sections":[{"parts":[[1,false]]}],"regions":[{"origin":["num",0],"length":["num",1]}],"events":[["sec",0]]},"groups":[[{"kind":"prelude"}],[{"kind":"script","symbols":[{"at":["undefined"]}] => well formed
+["length",4294967295],"sections":[{"parts":[[1,false]]}],"regions":[{"origin":["num",0],"length":["num",1]}],"events":[["sec",0]]},"groups":[[{"kind":"prelude"}],[{"kind":"script","symbols":[{"at":["undefined"]}] => bad link: rule 8, plan
+["headers"],"sections":[{"parts":[[1,false]]}],"regions":[{"origin":["num",0],"length":["num",1]}],"events":[["sec",0]]},"groups":[[{"kind":"prelude"}],[{"kind":"script","symbols":[{"at":["undefined"]}] => well formed
+["add",["dot"],["sym",2]],"sections":[{"parts":[[1,false]]}],"regions":[{"origin":["num",0],"length":["num",1]}],"events":[["sec",0]]},"groups":[[{"kind":"prelude"}],[{"kind":"script","symbols":[{"at":["undefined"]}] => bad link: rule 8, plan
+["add",["sym",2],["dot"]],"sections":[{"parts":[[1,false]]}],"regions":[{"origin":["num",0],"length":["num",1]}],"events":[["sec",0]]},"groups":[[{"kind":"prelude"}],[{"kind":"script","symbols":[{"at":["undefined"]}] => bad link: rule 8, plan
+# Those of regions, sections, events and symbols, in this order.
+@ {"plan":{"page":1,...]}
+"regions":[{"origin":["origin",0],"length":["length",0]},{"origin":["dot"],"length":["length",2]}]},"groups":[[{"kind":"prelude"}] => bad link: rule 8, region 1
+"regions":[{"origin":["origin",1],"length":["dot"]}],"sections":[{"parts":[[1,false]],"at":["addr",1]}],"events":[["sec",0]]},"groups":[[{"kind":"prelude"}] => bad link: rule 8, region 0
+"sections":[{"parts":[[1,false]],"at":["addr",1]},{"parts":[[1,false]],"at":["addr",2]}],"events":[["sec",0],["addr",["sym",0]],["sec",1]]},"groups":[[{"kind":"prelude"}] => bad link: rule 8, section 1
+"events":[["loc",["num",1]],["addr",["sym",1]]]},"groups":[[{"kind":"prelude","symbols":[{"at":["redirect",["sym",1],["none"],false]}]}],[{"kind":"script"}] => bad link: rule 8, event 1
+"events":[["loc",["sym",1]]]},"groups":[[{"kind":"prelude","symbols":[{"at":["undefined"]}]}],[{"kind":"script"}] => bad link: rule 8, event 0
+"sections":[{"parts":[[1,false]]}],"events":[["sec",0],["locrel",["sym",0],0]]},"groups":[[{"kind":"prelude"}],[{"kind":"script"}] => bad link: rule 8, event 1
+"events":[["loc",["sym",0]],["addr",["sym",0]]]},"groups":[[{"kind":"prelude","symbols":[{"at":["redirect",["sym",0],["none"],false]}]}],[{"kind":"script"}] => well formed
+"events":[]},"groups":[[{"kind":"prelude","symbols":[{"at":["undefined"]}]}],[{"kind":"script","symbols":[{"at":["redirect",["sym",2],["none"],true]},{"at":["redirect",["sym",3],["none"],true]}]}] => bad link: rule 8, symbol 2
+"events":[]},"groups":[[{"kind":"prelude"}],[{"kind":"object","symbols":[{"at":["redirect",["sym",9],["none"],false]}]}] => bad link: rule 8, symbol 0
 # The prelude.
 @ {"plan":{"page":1},"groups":[...]}
 [{"kind":"prelude"}],[],[{"kind":"object"}] => well formed
@@ -276,17 +339,90 @@ const RULES: &str = r#"
 {"slot":"discard"},{"slot":"discard"}]}],[{"kind":"object","sections":[{"slot":"must"},{"slot":"must"} => bad link: rule 11, input 2 0 0
 {"slot":"discard"},{"slot":"discard"}]},{"kind":"object"},{"kind":"object","sections":[{"slot":"must"} => bad link: rule 11, input 1 2 0
 {"slot":"discard"},{"slot":"discard"}]}],[{"kind":"object","sections":[{"slot":"discard"} => well formed
+# Relocations that want entries of tables: neither table has a part,
+@ {"plan":{"page":1,"sections":[{"parts":[[8,false],[4,false],[1,false]]}],"events":[["sec",0]]},"groups":[[{"kind":"prelude"}],[{"kind":"object","symbols":[{"at":["undef"]}],"sections":[{"slot":"must","part":2},{"slot":...]}]}]]}
+"must","part":2,"size":4,"relocs":[[0,"Relative",0,0,false],[1,"Got",0,0,false] => bad link: rule 12, input 1 0 1
+"must","part":2,"size":4,"relocs":[[0,"Relative",0,0,false],[1,"PltRelative",0,0,false] => bad link: rule 12, input 1 0 1
+"must","part":2,"size":4,"relocs":[[0,"Relative",0,0,false],[1,"TlsGd",0,0,false] => bad link: rule 12, input 1 0 1
+"must","part":2,"size":4,"relocs":[[0,"Relative",0,0,false],[1,"TlsLd",0,0,false] => well formed
+"must","part":2,"size":4,"relocs":[[0,"Relative",0,0,false],[1,"TlsLdGot",0,0,false] => well formed
+"must","part":2,"size":4,"relocs":[[0,"Relative",0,0,false],[1,"TlsLdGotBase",0,0,false] => well formed
+"must","part":2,"size":4,"relocs":[[0,"Relative",0,0,false],[1,"SymbolSize",0,0,false] => well formed
+"must","part":2,"size":4,"relocs":[[0,"Relative",0,0,false],[1,"Absolute",0,0,false] => well formed
+"discard","part":2,"size":4,"relocs":[[0,"Relative",0,0,false],[1,"Got",0,0,false] => bad link: rule 12, input 1 0 1
+"discard","relocs":[[9,"PltRelGotBase",77,0,false] => bad link: rule 12, input 1 0 1
+# that of the GOT alone does,
+@ {"plan":{"page":1,"sections":[{"parts":[[8,false],[4,false],[1,false]]}],"events":[["sec",0]],"got":0},"groups":[[{"kind":"prelude"}],[{"kind":"object","symbols":[{"at":["undef"]}],"sections":[{"slot":"must","part":2},{"slot":...]}]}]]}
+"must","part":2,"size":4,"relocs":[[0,"Relative",0,0,false],[1,"PltRelative",0,0,false] => bad link: rule 12, input 1 0 1
+"must","part":2,"size":4,"relocs":[[0,"Relative",0,0,false],[1,"PltRelGotBase",0,0,false] => bad link: rule 12, input 1 0 1
+"must","part":2,"size":4,"relocs":[[0,"Relative",0,0,false],[1,"Got",0,0,false] => well formed
+"must","part":2,"size":4,"relocs":[[0,"Relative",0,0,false],[1,"GotRelGotBase",0,0,false] => well formed
+"must","part":2,"size":4,"relocs":[[0,"Relative",0,0,false],[1,"GotRelative",0,0,false] => well formed
+"must","part":2,"size":4,"relocs":[[0,"Relative",0,0,false],[1,"GotRelativeLoongArch64",0,0,false] => well formed
+"must","part":2,"size":4,"relocs":[[0,"Relative",0,0,false],[1,"GotTpOff",0,0,false] => well formed
+"must","part":2,"size":4,"relocs":[[0,"Relative",0,0,false],[1,"GotTpOffLoongArch64",0,0,false] => well formed
+"must","part":2,"size":4,"relocs":[[0,"Relative",0,0,false],[1,"GotTpOffGot",0,0,false] => well formed
+"must","part":2,"size":4,"relocs":[[0,"Relative",0,0,false],[1,"GotTpOffGotBase",0,0,false] => well formed
+"must","part":2,"size":4,"relocs":[[0,"Relative",0,0,false],[1,"TlsGd",0,0,false] => well formed
+"must","part":2,"size":4,"relocs":[[0,"Relative",0,0,false],[1,"TlsGdGot",0,0,false] => well formed
+"must","part":2,"size":4,"relocs":[[0,"Relative",0,0,false],[1,"TlsGdGotBase",0,0,false] => well formed
+"must","part":2,"size":4,"relocs":[[0,"Relative",0,0,false],[1,"TlsDesc",0,0,false] => well formed
+"must","part":2,"size":4,"relocs":[[0,"Relative",0,0,false],[1,"TlsDescLoongArch64",0,0,false] => well formed
+"must","part":2,"size":4,"relocs":[[0,"Relative",0,0,false],[1,"TlsDescGot",0,0,false] => well formed
+"must","part":2,"size":4,"relocs":[[0,"Relative",0,0,false],[1,"TlsDescGotBase",0,0,false] => well formed
+"must","part":2,"size":4,"relocs":[[0,"Relative",0,0,false],[1,"TlsDescCall",0,0,false] => well formed
+# that of the PLT alone does,
+@ {"plan":{"page":1,"sections":[{"parts":[[8,false],[4,false],[1,false]]}],"events":[["sec",0]],"plt":0},"groups":[[{"kind":"prelude"}],[{"kind":"object","symbols":[{"at":["undef"]}],"sections":[{"slot":"must","part":2},{"slot":...]}]}]]}
+"must","part":2,"size":4,"relocs":[[0,"Relative",0,0,false],[1,"PltRelative",0,0,false] => bad link: rule 12, input 1 0 1
+"must","part":2,"size":4,"relocs":[[0,"Relative",0,0,false],[1,"PltRelGotBase",0,0,false] => bad link: rule 12, input 1 0 1
+"must","part":2,"size":4,"relocs":[[0,"Relative",0,0,false],[1,"Got",0,0,false] => bad link: rule 12, input 1 0 1
+"must","part":2,"size":4,"relocs":[[0,"Relative",0,0,false],[1,"GotRelGotBase",0,0,false] => bad link: rule 12, input 1 0 1
+"must","part":2,"size":4,"relocs":[[0,"Relative",0,0,false],[1,"GotRelative",0,0,false] => bad link: rule 12, input 1 0 1
+"must","part":2,"size":4,"relocs":[[0,"Relative",0,0,false],[1,"GotRelativeLoongArch64",0,0,false] => bad link: rule 12, input 1 0 1
+"must","part":2,"size":4,"relocs":[[0,"Relative",0,0,false],[1,"GotTpOff",0,0,false] => bad link: rule 12, input 1 0 1
+"must","part":2,"size":4,"relocs":[[0,"Relative",0,0,false],[1,"GotTpOffLoongArch64",0,0,false] => bad link: rule 12, input 1 0 1
+"must","part":2,"size":4,"relocs":[[0,"Relative",0,0,false],[1,"GotTpOffGot",0,0,false] => bad link: rule 12, input 1 0 1
+"must","part":2,"size":4,"relocs":[[0,"Relative",0,0,false],[1,"GotTpOffGotBase",0,0,false] => bad link: rule 12, input 1 0 1
+"must","part":2,"size":4,"relocs":[[0,"Relative",0,0,false],[1,"TlsGd",0,0,false] => bad link: rule 12, input 1 0 1
+"must","part":2,"size":4,"relocs":[[0,"Relative",0,0,false],[1,"TlsGdGot",0,0,false] => bad link: rule 12, input 1 0 1
+"must","part":2,"size":4,"relocs":[[0,"Relative",0,0,false],[1,"TlsGdGotBase",0,0,false] => bad link: rule 12, input 1 0 1
+"must","part":2,"size":4,"relocs":[[0,"Relative",0,0,false],[1,"TlsDesc",0,0,false] => bad link: rule 12, input 1 0 1
+"must","part":2,"size":4,"relocs":[[0,"Relative",0,0,false],[1,"TlsDescLoongArch64",0,0,false] => bad link: rule 12, input 1 0 1
+"must","part":2,"size":4,"relocs":[[0,"Relative",0,0,false],[1,"TlsDescGot",0,0,false] => bad link: rule 12, input 1 0 1
+"must","part":2,"size":4,"relocs":[[0,"Relative",0,0,false],[1,"TlsDescGotBase",0,0,false] => bad link: rule 12, input 1 0 1
+"must","part":2,"size":4,"relocs":[[0,"Relative",0,0,false],[1,"TlsDescCall",0,0,false] => bad link: rule 12, input 1 0 1
+# both do.
+@ {"plan":{"page":1,"sections":[{"parts":[[8,false],[4,false],[1,false]]}],"events":[["sec",0]],"got":0,"plt":1},"groups":[[{"kind":"prelude"}],[{"kind":"object","symbols":[{"at":["undef"]}],"sections":[{"slot":"must","part":2},{"slot":...]}]}]]}
+"must","part":2,"size":4,"relocs":[[0,"Relative",0,0,false],[1,"PltRelative",0,0,false] => well formed
+"must","part":2,"size":4,"relocs":[[0,"Relative",0,0,false],[1,"PltRelGotBase",0,0,false] => well formed
+"must","part":2,"size":4,"relocs":[[0,"Relative",0,0,false],[1,"Got",0,0,false] => well formed
+# Candidates of a synthetic file. The plan has one section, and the link an object with a section.
+@ {"plan":{"page":1,"sections":[{"parts":[[1,false]]}],"events":[["sec",0]]},"groups":[[{"kind":"prelude"}],[{"kind":"object","sections":[{"slot":"must"}]},{"kind":"synthetic","candidates":[...]},{"kind":"script","candidates":[[0,1,0,0]]}]]}
+ => well formed
+[0,1,0,0],[0,1,0,0] => well formed
+[1,1,0,0] => bad link: rule 13, file 1 1
+[0,2,0,0] => bad link: rule 13, file 1 1
+[0,1,3,0] => bad link: rule 13, file 1 1
+[0,1,0,1] => bad link: rule 13, file 1 1
+[0,0,0,0] => bad link: rule 13, file 1 1
+[0,1,1,0] => bad link: rule 13, file 1 1
+[0,1,2,0] => bad link: rule 13, file 1 1
+[0,1,0,0],[0,1,0,4294967295] => bad link: rule 13, file 1 1
 # The first broken rule: in each row one rule more is kept.
 @ ...
-{"options":{"merge_group":0},"plan":{"page":3,"sections":[{"parts":[[1,false]],"attrs":32}],"segments":[{"kind":"tls"},{"kind":"tls"}],"events":[["seg",0],["seg",1],["endseg",0],["endseg",1]]},"groups":[[{"kind":"prelude"}],[{"kind":"prelude","symbols":[{"at":["dyn"]}],"sections":[{"slot":"must","part":1}]}]]} => bad link: rule 1, options
-{"options":{"merge_group":1},"plan":{"page":3,"sections":[{"parts":[[1,false]],"attrs":32}],"segments":[{"kind":"tls"},{"kind":"tls"}],"events":[["seg",0],["seg",1],["endseg",0],["endseg",1]]},"groups":[[{"kind":"prelude"}],[{"kind":"prelude","symbols":[{"at":["dyn"]}],"sections":[{"slot":"must","part":1}]}]]} => bad link: rule 2, plan
-{"options":{"merge_group":1},"plan":{"page":1,"sections":[{"parts":[[1,false]],"attrs":32}],"segments":[{"kind":"tls"},{"kind":"tls"}],"events":[["seg",0],["seg",1],["endseg",0],["endseg",1]]},"groups":[[{"kind":"prelude"}],[{"kind":"prelude","symbols":[{"at":["dyn"]}],"sections":[{"slot":"must","part":1}]}]]} => bad link: rule 3, section 0
-{"options":{"merge_group":1},"plan":{"page":1,"sections":[{"parts":[[1,false]],"attrs":31}],"segments":[{"kind":"tls"},{"kind":"tls"}],"events":[["seg",0],["seg",1],["endseg",0],["endseg",1]]},"groups":[[{"kind":"prelude"}],[{"kind":"prelude","symbols":[{"at":["dyn"]}],"sections":[{"slot":"must","part":1}]}]]} => bad link: rule 6, segment 1
-{"options":{"merge_group":1},"plan":{"page":1,"sections":[{"parts":[[1,false]],"attrs":31}],"segments":[{"kind":"tls"},{"kind":"load"}],"events":[["seg",0],["seg",1],["endseg",0],["endseg",1]]},"groups":[[{"kind":"prelude"}],[{"kind":"prelude","symbols":[{"at":["dyn"]}],"sections":[{"slot":"must","part":1}]}]]} => bad link: rule 7, event 4
-{"options":{"merge_group":1},"plan":{"page":1,"sections":[{"parts":[[1,false]],"attrs":31}],"segments":[{"kind":"tls"},{"kind":"load"}],"events":[["seg",0],["seg",1],["endseg",0],["endseg",1],["sec",0]]},"groups":[[{"kind":"prelude"}],[{"kind":"prelude","symbols":[{"at":["dyn"]}],"sections":[{"slot":"must","part":1}]}]]} => bad link: rule 9, file 1 0
-{"options":{"merge_group":1},"plan":{"page":1,"sections":[{"parts":[[1,false]],"attrs":31}],"segments":[{"kind":"tls"},{"kind":"load"}],"events":[["seg",0],["seg",1],["endseg",0],["endseg",1],["sec",0]]},"groups":[[{"kind":"prelude"}],[{"kind":"object","symbols":[{"at":["dyn"]}],"sections":[{"slot":"must","part":1}]}]]} => bad link: rule 10, symbol 0
-{"options":{"merge_group":1},"plan":{"page":1,"sections":[{"parts":[[1,false]],"attrs":31}],"segments":[{"kind":"tls"},{"kind":"load"}],"events":[["seg",0],["seg",1],["endseg",0],["endseg",1],["sec",0]]},"groups":[[{"kind":"prelude"}],[{"kind":"object","symbols":[{"at":["undef"]}],"sections":[{"slot":"must","part":1}]}]]} => bad link: rule 11, input 1 0 0
-{"options":{"merge_group":1},"plan":{"page":1,"sections":[{"parts":[[1,false]],"attrs":31}],"segments":[{"kind":"tls"},{"kind":"load"}],"events":[["seg",0],["seg",1],["endseg",0],["endseg",1],["sec",0]]},"groups":[[{"kind":"prelude"}],[{"kind":"object","symbols":[{"at":["undef"]}],"sections":[{"slot":"must","part":0}]}]]} => well formed
+{"options":{"merge_group":0},"plan":{"page":3,"base":["sym",9],"sections":[{"parts":[[1,false]],"attrs":32}],"segments":[{"kind":"tls"},{"kind":"tls"}],"events":[["seg",0],["seg",1],["endseg",0],["endseg",1]],"got":9},"groups":[[{"kind":"prelude"}],[{"kind":"prelude","symbols":[{"at":["dyn"]}],"sections":[{"slot":"must","part":1,"size":1,"relocs":[[0,"Got",0,0,false]]}],"candidates":[[9,9,9,9]]}]]} => bad link: rule 1, options
+{"options":{"merge_group":1},"plan":{"page":3,"base":["sym",9],"sections":[{"parts":[[1,false]],"attrs":32}],"segments":[{"kind":"tls"},{"kind":"tls"}],"events":[["seg",0],["seg",1],["endseg",0],["endseg",1]],"got":9},"groups":[[{"kind":"prelude"}],[{"kind":"prelude","symbols":[{"at":["dyn"]}],"sections":[{"slot":"must","part":1,"size":1,"relocs":[[0,"Got",0,0,false]]}],"candidates":[[9,9,9,9]]}]]} => bad link: rule 2, plan
+{"options":{"merge_group":1},"plan":{"page":1,"base":["sym",9],"sections":[{"parts":[[1,false]],"attrs":32}],"segments":[{"kind":"tls"},{"kind":"tls"}],"events":[["seg",0],["seg",1],["endseg",0],["endseg",1]],"got":9},"groups":[[{"kind":"prelude"}],[{"kind":"prelude","symbols":[{"at":["dyn"]}],"sections":[{"slot":"must","part":1,"size":1,"relocs":[[0,"Got",0,0,false]]}],"candidates":[[9,9,9,9]]}]]} => bad link: rule 3, section 0
+{"options":{"merge_group":1},"plan":{"page":1,"base":["sym",9],"sections":[{"parts":[[1,false]],"attrs":31}],"segments":[{"kind":"tls"},{"kind":"tls"}],"events":[["seg",0],["seg",1],["endseg",0],["endseg",1]],"got":9},"groups":[[{"kind":"prelude"}],[{"kind":"prelude","symbols":[{"at":["dyn"]}],"sections":[{"slot":"must","part":1,"size":1,"relocs":[[0,"Got",0,0,false]]}],"candidates":[[9,9,9,9]]}]]} => bad link: rule 4, part field 0
+{"options":{"merge_group":1},"plan":{"page":1,"base":["sym",9],"sections":[{"parts":[[1,false]],"attrs":31}],"segments":[{"kind":"tls"},{"kind":"tls"}],"events":[["seg",0],["seg",1],["endseg",0],["endseg",1]]},"groups":[[{"kind":"prelude"}],[{"kind":"prelude","symbols":[{"at":["dyn"]}],"sections":[{"slot":"must","part":1,"size":1,"relocs":[[0,"Got",0,0,false]]}],"candidates":[[9,9,9,9]]}]]} => bad link: rule 6, segment 1
+{"options":{"merge_group":1},"plan":{"page":1,"base":["sym",9],"sections":[{"parts":[[1,false]],"attrs":31}],"segments":[{"kind":"tls"},{"kind":"load"}],"events":[["seg",0],["seg",1],["endseg",0],["endseg",1]]},"groups":[[{"kind":"prelude"}],[{"kind":"prelude","symbols":[{"at":["dyn"]}],"sections":[{"slot":"must","part":1,"size":1,"relocs":[[0,"Got",0,0,false]]}],"candidates":[[9,9,9,9]]}]]} => bad link: rule 7, event 4
+{"options":{"merge_group":1},"plan":{"page":1,"base":["sym",9],"sections":[{"parts":[[1,false]],"attrs":31}],"segments":[{"kind":"tls"},{"kind":"load"}],"events":[["seg",0],["seg",1],["endseg",0],["endseg",1],["sec",0]]},"groups":[[{"kind":"prelude"}],[{"kind":"prelude","symbols":[{"at":["dyn"]}],"sections":[{"slot":"must","part":1,"size":1,"relocs":[[0,"Got",0,0,false]]}],"candidates":[[9,9,9,9]]}]]} => bad link: rule 8, plan
+{"options":{"merge_group":1},"plan":{"page":1,"base":["num",9],"sections":[{"parts":[[1,false]],"attrs":31}],"segments":[{"kind":"tls"},{"kind":"load"}],"events":[["seg",0],["seg",1],["endseg",0],["endseg",1],["sec",0]]},"groups":[[{"kind":"prelude"}],[{"kind":"prelude","symbols":[{"at":["dyn"]}],"sections":[{"slot":"must","part":1,"size":1,"relocs":[[0,"Got",0,0,false]]}],"candidates":[[9,9,9,9]]}]]} => bad link: rule 9, file 1 0
+{"options":{"merge_group":1},"plan":{"page":1,"base":["num",9],"sections":[{"parts":[[1,false]],"attrs":31}],"segments":[{"kind":"tls"},{"kind":"load"}],"events":[["seg",0],["seg",1],["endseg",0],["endseg",1],["sec",0]]},"groups":[[{"kind":"prelude"}],[{"kind":"object","symbols":[{"at":["dyn"]}],"sections":[{"slot":"must","part":1,"size":1,"relocs":[[0,"Got",0,0,false]]}],"candidates":[[9,9,9,9]]}]]} => bad link: rule 10, symbol 0
+{"options":{"merge_group":1},"plan":{"page":1,"base":["num",9],"sections":[{"parts":[[1,false]],"attrs":31}],"segments":[{"kind":"tls"},{"kind":"load"}],"events":[["seg",0],["seg",1],["endseg",0],["endseg",1],["sec",0]]},"groups":[[{"kind":"prelude"}],[{"kind":"object","symbols":[{"at":["undef"]}],"sections":[{"slot":"must","part":1,"size":1,"relocs":[[0,"Got",0,0,false]]}],"candidates":[[9,9,9,9]]}]]} => bad link: rule 11, input 1 0 0
+{"options":{"merge_group":1},"plan":{"page":1,"base":["num",9],"sections":[{"parts":[[1,false]],"attrs":31}],"segments":[{"kind":"tls"},{"kind":"load"}],"events":[["seg",0],["seg",1],["endseg",0],["endseg",1],["sec",0]]},"groups":[[{"kind":"prelude"}],[{"kind":"object","symbols":[{"at":["undef"]}],"sections":[{"slot":"must","part":0,"size":1,"relocs":[[0,"Got",0,0,false]]}],"candidates":[[9,9,9,9]]}]]} => bad link: rule 12, input 1 0 0
+{"options":{"merge_group":1},"plan":{"page":1,"base":["num",9],"sections":[{"parts":[[1,false]],"attrs":31}],"segments":[{"kind":"tls"},{"kind":"load"}],"events":[["seg",0],["seg",1],["endseg",0],["endseg",1],["sec",0]]},"groups":[[{"kind":"prelude"}],[{"kind":"object","symbols":[{"at":["undef"]}],"sections":[{"slot":"must","part":0,"size":1,"relocs":[[0,"Relative",0,0,false]]}],"candidates":[[9,9,9,9]]}]]} => bad link: rule 13, file 1 0
+{"options":{"merge_group":1},"plan":{"page":1,"base":["num",9],"sections":[{"parts":[[1,false]],"attrs":31}],"segments":[{"kind":"tls"},{"kind":"load"}],"events":[["seg",0],["seg",1],["endseg",0],["endseg",1],["sec",0]]},"groups":[[{"kind":"prelude"}],[{"kind":"object","symbols":[{"at":["undef"]}],"sections":[{"slot":"must","part":0,"size":1,"relocs":[[0,"Relative",0,0,false]]}],"candidates":[[0,1,0,0]]}]]} => well formed
 # Lists as long as they may be, and longer; the first that is too long is told, before each rule.
 {"plan":{"page":1,"segments":[«64 of {"kind":"load"}»],"regions":[«64 of {"origin":["dot"],"length":["dot"]}»]},"groups":[«65535 of []»]} => bad link: rule 7, event 0
 {"plan":{"page":1,"segments":[«65 of {"kind":"load"}»],"regions":[«65 of {"origin":["dot"],"length":["dot"]}»]},"groups":[[]]} => too many segments: 65, limit 64

@@ -290,8 +290,10 @@ const REFUSED: &str = r#"
 ,"events":[["addr",["num",1]],["sec",0]] => 1 not carried: plan
 ,"segments":[{"kind":"tls"}],"events":[["seg",0],["sec",0],["endseg",0]] => 1 not carried: plan
 ,"singletons":0 => 1 not carried: partial
-,"primary":0 => 1 not carried: primary
-,"primary":0,"strtab":0 => 1 not carried: table
+,"primary":0},"options":{"branch_range":2097153 => 1 not carried: primary
+,"primary":0,"comment":0},"options":{"branch_range":2097153 => 1 not carried: table
+,"primary":0 => 1 bad link: rule 4, part field 12
+,"base":["sym",0] => 1 bad link: rule 8, plan
 ,"custom_base":true,"singletons":0 => 1 not carried: plan
 # in the first of two output sections,
 @ {"plan":{"page":16,"sections":[{"parts":[[1,false]],...},{"parts":[[1,false]]}],"events":[["sec",0],["sec",1]]},"groups":[[{"kind":"prelude"}]]}
@@ -314,11 +316,15 @@ const REFUSED: &str = r#"
 {"slot":"mustdebug"} => 1 not carried: slot
 {"slot":"must","group":7} => 1 not carried: slot
 {"slot":"discard","group":0} => 1 not carried: slot
-{"slot":"must","size":1,"relocs":[[0,"GotTpOff",0,0,false]]} => 1 not carried: table
-{"slot":"discard","relocs":[[9,"PltRelative",5,0,false]]} => 1 not carried: table
+{"slot":"must","size":1,"relocs":[[0,"GotTpOff",0,0,false]]} => 1 bad link: rule 12, input 0 1 0
+{"slot":"discard","relocs":[[9,"PltRelative",5,0,false]]} => 1 bad link: rule 12, input 0 1 0
 {"slot":"must","sorted":true} => 1 not carried: sorted
 {"slot":"discard","sorted":true} => 1 not carried: sorted
 {"slot":"must","group":7},{"slot":"merge","data":"00"} => 1 not carried: merge
+# Relocations that want entries of tables, and a candidate that is no section.
+@ {"plan":{"page":16,"sections":[{"parts":[[2,false],[1,false]]}],"events":[["sec",0]],"got":0},"groups":[[{"kind":"prelude"},{"kind":"object","symbols":[{"at":["undef"]}],"sections":[{"slot":"must","part":1,"size":1,"relocs":[...]}]}]]}
+[0,"GotTpOff",0,0,false] => 1 not carried: table
+[0,"Relative",0,0,false]]}],"candidates":[[0,0,1,1]],"x":[{"x":[ => 1 bad link: rule 13, file 0 1
 "#;
 
 #[test]
