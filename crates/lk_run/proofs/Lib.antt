@@ -1,5 +1,6 @@
 pub mod Commands
 pub mod Completeness
+pub mod Digits
 pub mod Lines
 pub mod LiveLines
 pub mod Past

@@ -6,6 +6,7 @@ pub mod fault_text;
 pub mod faults;
 pub mod laws;
 pub mod limit;
+mod line;
 pub mod memory;
 pub mod program;
 pub mod report;

@@ -1,15 +1,17 @@
 //! The report of a layout.
 
-ghost use Rattle.std.specs.Prelude.{◌≡◌, ◌+◌, ◌^◌, ◌<◌, ◌++◌, string_bytes, slice_range, length, Option, slice_get, slice_index, IfOk};
+ghost use Rattle.std.specs.Prelude.{◌≡◌, ◌+◌, ◌^◌, ◌<◌, ◌≤◌, ◌++◌, string_bytes, slice_range, length, Option, slice_get, slice_index, IfOk};
 ghost use Rattle.std.specs.List.{list_any};
 ghost use Rattle.lk_layout.specs.Layouts.{told_live};
 ghost use Rattle.lk_link.specs.Walks.{input_of};
 ghost use Rattle.lk_link.specs.WellFormed.{IsWellFormed};
+ghost use Rattle.lk_run.specs.declared.line.TheConstants.{ROOM};
 ghost use Rattle.lk_run.specs.Report.{report, address_text, range_text, index_text, section_line, section_text, laid_out_text, section_lines};
 ghost use Rattle.lk_run.specs.Report.{takes_memory, part_line, part_text, told_lines, section_part_lines, part_lines};
 ghost use Rattle.lk_run.specs.Report.{segment_line, segment_lines, record_lines, input_text, live_line, live_lines, told_at};
 ghost use Rattle.lk_run.specs.Report.{symbol_line, symbol_text, symbol_lines, entry_line};
 
+use crate::line::{Line, ROOM};
 use lk_layout::resolution::{EntryFault, Resolution};
 use lk_layout::{Layout, SymbolResolutions};
 use lk_link::InputRef;
@@ -71,26 +73,6 @@ impl fmt::Display for IndexText {
         match self.index {
             None => write!(f, "-"),
             Some(index) => write!(f, "{index}"),
-        }
-    }
-}
-
-/// An address as it is printed.
-#[derive(Clone, Copy)]
-struct AddressText {
-    address: Option<u64>,
-}
-
-/// As `0x1000`, or `-` for none.
-impl fmt::Display for AddressText {
-    ghost use Rattle.std.specs.Prelude.{Some};
-
-    ghost output = { λ shown. Some (address_text shown.address) };
-
-    fn fmt<W: fmt::Write>(&self, f: &mut fmt::Formatter<W>) -> fmt::Result {
-        match self.address {
-            None => write!(f, "-"),
-            Some(address) => write!(f, "0x{address:x}"),
         }
     }
 }
@@ -362,11 +344,19 @@ fn write_live_section(
 ) -> Result<(), AllocError>
     ensures { IfOk result (λ _. string_bytes text.new ≡ string_bytes text.old ++ live_line (told_at (input_of section.entry) address)) }
 {
-    let group = section.file.group;
-    let file = section.file.file;
-    let index = section.index;
-    let size = section.section.size;
-    write!(text, "live {group} {file} {index} 0x{address:x} {size}\n")
+    let mut line = Line::new();
+    line.put("\n");
+    line.put_decimal(section.section.size);
+    line.put(" ");
+    line.put_hexadecimal(address);
+    line.put(" 0x");
+    line.put_decimal(section.index as u64);
+    line.put(" ");
+    line.put_decimal(u64::from(section.file.file));
+    line.put(" ");
+    line.put_decimal(u64::from(section.file.group));
+    line.put("live ");
+    line.add_to(text)
 }
 
 /// The lines of the symbols with a resolution, by number.
@@ -407,15 +397,48 @@ fn write_symbol_line(
 ) -> Result<(), AllocError>
     ensures { IfOk result (λ _. string_bytes text.new ≡ string_bytes text.old ++ symbol_line number resolution got plt dynamic) }
 {
-    let value = resolution.raw_value;
-    let flags = resolution.flags.0;
-    let got = AddressText { address: got };
-    let plt = AddressText { address: plt };
-    let dynamic = IndexText { index: dynamic };
-    write!(
-        text,
-        "symbol {number} 0x{value:x} {flags} got {got} plt {plt} dyn {dynamic}\n"
-    )
+    let mut line = Line::new();
+    line.put("\n");
+    put_index(&mut line, dynamic);
+    line.put(" dyn ");
+    put_address(&mut line, plt);
+    line.put(" plt ");
+    put_address(&mut line, got);
+    line.put(" got ");
+    line.put_decimal(u64::from(resolution.flags.0));
+    line.put(" ");
+    line.put_hexadecimal(resolution.raw_value);
+    line.put(" 0x");
+    line.put_decimal(number as u64);
+    line.put("symbol ");
+    line.add_to(text)
+}
+
+/// Puts an address in front of a line, or `-` for none.
+fn put_address(line: &mut Line, address: Option<u64>)
+    requires { length line.old + 66 ≤ ROOM }
+    ensures value { line.new ≡ address_text address ++ line.old }
+    ensures length { length line.new ≤ length line.old + 18 }
+{
+    match address {
+        None => line.put("-"),
+        Some(address) => {
+            line.put_hexadecimal(address);
+            line.put("0x");
+        }
+    }
+}
+
+/// Puts an index in front of a line, or `-` for none.
+fn put_index(line: &mut Line, index: Option<u32>)
+    requires { length line.old + 20 ≤ ROOM }
+    ensures value { line.new ≡ index_text index ++ line.old }
+    ensures length { length line.new ≤ length line.old + 20 }
+{
+    match index {
+        None => line.put("-"),
+        Some(index) => line.put_decimal(u64::from(index)),
+    }
 }
 
 /// The line of the entry: its address, or that there is none, or why it has none.
