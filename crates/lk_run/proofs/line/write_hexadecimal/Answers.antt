@@ -1,5 +1,4 @@
-use Rattle.std.proofs.Common.{◌≡◌, ◌+◌, ◌-◌, ◌/◌, ◌%◌, ◌∷◌, ◌++◌, ◌∙◌, ℕ, List, drop, false, refl, sym, ap, arith, slice_set}
-use Rattle.std.proofs.lemmas.Grind.{drop-set_at}
+use Rattle.std.proofs.Common.{◌≡◌, ◌+◌, ◌-◌, ◌/◌, ◌%◌, ◌++◌, ◌∙◌, ℕ, drop, false, sym, ap, arith}
 use Rattle.std.proofs.lemmas.List.{length-set}
 use Rattle.std.specs.Fmt.{digit_glyph}
 use Rattle.lk_run.specs.Report.{hexadecimal}
