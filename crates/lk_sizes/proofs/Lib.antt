@@ -1,5 +1,6 @@
 pub mod Adding
 pub mod Addressing
+pub mod DynamicLemmas
 pub mod Emitting
 pub mod Fitting
 pub mod ImageLemmas
@@ -13,6 +14,8 @@ pub mod Made
 pub mod Marks
 pub mod Numbering
 pub mod Overflowing
+pub mod TableSums
+pub mod TableTotals
 pub mod Tiling
 pub mod Walking
 pub mod Wholes

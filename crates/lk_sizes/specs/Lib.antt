@@ -1,11 +1,16 @@
 pub mod Attributes
 pub mod Contents
 pub mod Copied
+pub mod Dynamic
+pub mod DynamicWords
 pub mod Emitted
 pub mod Header
 pub mod Images
 pub mod Kept
+pub mod Late
 pub mod LiveSections
 pub mod Owners
+pub mod SymbolTable
+pub mod TableWords
 pub mod Tables
 pub mod Tiles

@@ -4,17 +4,21 @@
 pub mod addresses;
 pub mod attributes;
 pub mod copied;
+pub mod dynamic;
 pub mod error;
 pub mod header;
 pub mod images;
 mod kept;
 pub mod laws;
 pub mod owners;
+pub mod symbol_table;
 
 pub use addresses::{LiveSection, section_addresses};
 pub use attributes::propagate_section_attributes;
 pub use copied::SymbolCopyInfo;
+pub use dynamic::{dynamic_indexes, dynamic_table};
 pub use error::SizeError;
 pub use header::{HeaderInfo, determine_header_sizes};
 pub use images::image_addresses;
 pub use owners::{PartContents, part_contents, part_sizes};
+pub use symbol_table::symbol_sizes;
