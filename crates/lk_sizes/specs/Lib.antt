@@ -10,6 +10,7 @@ pub mod Kept
 pub mod Late
 pub mod LiveSections
 pub mod Owners
+pub mod SymbolEntries
 pub mod SymbolTable
 pub mod TableWords
 pub mod Tables

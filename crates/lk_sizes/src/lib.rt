@@ -11,6 +11,7 @@ pub mod images;
 mod kept;
 pub mod laws;
 pub mod owners;
+pub mod symbol_entries;
 pub mod symbol_table;
 
 pub use addresses::{LiveSection, section_addresses};
@@ -21,4 +22,5 @@ pub use error::SizeError;
 pub use header::{HeaderInfo, determine_header_sizes};
 pub use images::image_addresses;
 pub use owners::{PartContents, part_contents, part_sizes};
+pub use symbol_entries::entry_sizes;
 pub use symbol_table::symbol_sizes;
