@@ -1,20 +1,27 @@
 -- How the steps of a computation give the defined answer.
-use Rattle.std.proofs.Common.{◌≡◌, Bool, Option, Some, None, Result, Ok, Err, sym, ap, subst, ◌∙◌, refl, ℕ, List}
-use Rattle.std.specs.Prelude.{option_map}
+use Rattle.std.proofs.Common.{◌≡◌, Bool, Option, Some, None, Result, Ok, Err, sym, ap, subst, ◌∙◌, refl, ℕ, List, [], ◌∷◌}
+use Rattle.std.specs.Prelude.{option_map, slice_get}
 use Rattle.std.specs.Result.{IsErrAnd}
 use Rattle.lk_check.specs.FirstFault.{check_of, first_fault}
 use Rattle.lk_link.specs.declared.fault.LinkFault.{LinkFault}
 use Rattle.lk_link.specs.declared.link.LinkInput.{LinkInput}
 use Rattle.lk_link.specs.Target.{Target}
 use Rattle.lk_layout.specs.declared.error.LayoutError.{LayoutError}
-use Rattle.lk_layout.specs.declared.error.LayoutError.TheVariants.{NoMemory, TooMany, BadLink, NotCarried, References, AddressOverflow, RegionDuplicate, Expression, BaseTooLow, SectionOutsideSegments}
+use Rattle.lk_layout.specs.declared.error.LayoutError.TheVariants.{NoMemory, TooMany, BadLink, NotCarried, MergeNotTerminated, MergeOffset, MergeTooLarge, References, AddressOverflow, RegionDuplicate, Expression, BaseTooLow, SectionOutsideSegments}
 use Rattle.lk_layout.specs.declared.error.Uncarried.{Uncarried}
 use Rattle.lk_layout.specs.declared.layout.Layout.{Layout}
 use Rattle.lk_layout.specs.declared.resolution.Resolution.{Resolution}
 use Rattle.lk_layout.specs.Carried.{IsCarried, first_uncarried}
-use Rattle.lk_layout.specs.Defined.{Gives, IsCarriedAnswer, IsDefined, Unless, WithMemory, fault_refusal, not_carried, uncarried_refusal, IsPlacedAnswer, layout_of, segment_refusal}
-use Rattle.lk_layout.specs.Errors.{fault_error, place_error}
+use Rattle.lk_layout.specs.Defined.{Gives, IsCarriedAnswer, IsDefined, IsMergedAnswer, Unless, WithMemory, fault_refusal, not_carried, uncarried_refusal, IsPlacedAnswer, layout_of, offsets_refusal, references_error, references_refusal, segment_refusal}
+use Rattle.lk_layout.specs.Errors.{fault_error, gc_error, offset_error, place_error}
+use Rattle.lk_layout.specs.declared.outside.MergeOffsetPlace.{MergeOffsetPlace}
+use Rattle.lk_layout.specs.Merging.{GivesImages, merging_refusal}
+use Rattle.lk_layout.specs.Outside.{merge_offsets}
+use Rattle.lk_gc.specs.declared.error.GcError.{GcError}
+use Rattle.lk_gc.specs.declared.error.GcError.TheVariants as gc
 use Rattle.lk_gc.specs.declared.live.Live.{Live}
+use Rattle.lk_gc.specs.Reach.{GivesLive}
+use Rattle.lk_merge.specs.Pieces.{MergeInput}
 use Rattle.lk_place.specs.Records.{Record}
 use Rattle.lk_place.specs.declared.segments.SegmentLayout.{SegmentLayout}
 use Rattle.lk_place.specs.Segments.{first_outside, outside_refusal, section_records}
@@ -40,24 +47,30 @@ with_error P NoMemory h = tt
 with_error P (TooMany what count limit) h = h (λ is. cc)
 with_error P (BadLink rule place) h = h (λ is. cc)
 with_error P (NotCarried what) h = h (λ is. cc)
+with_error P (MergeNotTerminated s input) h = h (λ is. cc)
+with_error P (MergeTooLarge s bucket offset len) h = h (λ is. cc)
 with_error P (References faults) h = h (λ is. cc)
 with_error P (AddressOverflow place) h = h (λ is. cc)
 with_error P (RegionDuplicate region) h = h (λ is. cc)
 with_error P (Expression place cause) h = h (λ is. cc)
 with_error P (BaseTooLow base headers) h = h (λ is. cc)
 with_error P (SectionOutsideSegments s) h = h (λ is. cc)
+with_error P (MergeOffset place) h = h (λ is. cc)
 
 error_with : (P : Result Layout LayoutError → Type 0) (e : LayoutError) → WithMemory P (Err e) → (e ≡ NoMemory → ⊥) → P (Err e)
 error_with P NoMemory h memory = absurd (memory refl)
 error_with P (TooMany what count limit) h memory = h
 error_with P (BadLink rule place) h memory = h
 error_with P (NotCarried what) h memory = h
+error_with P (MergeNotTerminated s input) h memory = h
+error_with P (MergeTooLarge s bucket offset len) h memory = h
 error_with P (References faults) h memory = h
 error_with P (AddressOverflow place) h memory = h
 error_with P (RegionDuplicate region) h memory = h
 error_with P (Expression place cause) h memory = h
 error_with P (BaseTooLow base headers) h memory = h
 error_with P (SectionOutsideSegments s) h memory = h
+error_with P (MergeOffset place) h memory = h
 
 -- what P answers Q answers too
 pub passed_on : (P Q : Result Layout LayoutError → Type 0) (answer : Result Layout LayoutError) → ((a : Result Layout LayoutError) → P a → Q a) → WithMemory P answer → WithMemory Q answer
@@ -96,17 +109,65 @@ carried target link answer good all given =
     passed_on (IsCarriedAnswer target link) (IsDefined target link) answer
     (λ a h. unless_none (fault_refusal link) a _ (ap (option_map fault_error) good) (unless_none (uncarried_refusal link) a _ (ap (option_map not_carried) all) h)) given
 
+-- ---- merging
+
+-- what merging refuses
+given_refusal : (link : LinkInput) (e : LayoutError) → GivesImages link (Err e) → (e ≡ NoMemory → ⊥) → merging_refusal link ≡ Some e
+given_refusal link NoMemory h memory = absurd (memory refl)
+given_refusal link (TooMany what count limit) h memory = h
+given_refusal link (BadLink rule place) h memory = h
+given_refusal link (NotCarried what) h memory = h
+given_refusal link (MergeNotTerminated s input) h memory = h
+given_refusal link (MergeTooLarge s bucket offset len) h memory = h
+given_refusal link (References faults) h memory = h
+given_refusal link (AddressOverflow place) h memory = h
+given_refusal link (RegionDuplicate region) h memory = h
+given_refusal link (Expression place cause) h memory = h
+given_refusal link (BaseTooLow base headers) h memory = h
+given_refusal link (SectionOutsideSegments s) h memory = h
+given_refusal link (MergeOffset place) h memory = h
+
+pub unmerged : (target : Target) (link : LinkInput) (e : LayoutError) → GivesImages link (Err e) → WithMemory (IsCarriedAnswer target link) (Err e)
+unmerged target link e given =
+    with_error (IsCarriedAnswer target link) e (λ memory. unless_some (merging_refusal link) e _ (given_refusal link e given memory))
+
+-- a link that is merged is laid out, or refused later
+pub merged : (target : Target) (link : LinkInput) (answer : Result Layout LayoutError) → merging_refusal link ≡ None → WithMemory (IsMergedAnswer target link) answer
+    → WithMemory (IsCarriedAnswer target link) answer
+merged target link answer none given =
+    passed_on (IsMergedAnswer target link) (IsCarriedAnswer target link) answer (λ a h. unless_none (merging_refusal link) a _ none h) given
+
+-- ---- references
+
+-- what the traversal refuses
+pub unmet : (target : Target) (link : LinkInput) (g : GcError) (e : LayoutError) → GivesLive link (Err g) → e ≡ gc_error g → WithMemory (IsMergedAnswer target link) (Err e)
+unmet target link gc.NoMemory e h is = subst (λ (x : LayoutError). WithMemory (IsMergedAnswer target link) (Err x)) (sym is) tt
+unmet target link (gc.References []) e h is = absurd (h.1 refl)
+unmet target link (gc.References (fault ∷ faults)) e h is =
+    with_error (IsMergedAnswer target link) e (λ memory.
+    unless_some (references_refusal link) e _ (ap references_error (sym h.0) ∙ ap (λ (x : LayoutError). Some x) (sym is)))
+
 -- ---- behind the placement
 
 -- what is told, where no section stands outside the segments
 pub told : (link : LinkInput) (live : Live) (records : List Record) (layout : Layout) → first_outside link (section_records link.plan.sections records) (is_emitted link (output_content link live)) ≡ None
-    → layout ≡ layout_of link live records → IsPlacedAnswer link live records (Ok layout)
-told link live records layout inside is =
-    unless_none (segment_refusal link live records) (Ok layout) _ (ap (λ (o : Option ℕ). option_map place_error (outside_refusal o)) inside) (ap (λ (x : Layout). Ok x) is)
+    → merge_offsets link live ≡ [] → layout ≡ layout_of link live records → IsPlacedAnswer link live records (Ok layout)
+told link live records layout inside none is =
+    unless_none (segment_refusal link live records) (Ok layout) _ (ap (λ (o : Option ℕ). option_map place_error (outside_refusal o)) inside)
+    (unless_none (offsets_refusal link live) (Ok layout) _ (ap (λ (places : List MergeOffsetPlace). option_map offset_error (slice_get places 0)) none)
+    (ap (λ (x : Layout). Ok x) is))
+
+-- the first offset that is chosen outside is refused
+pub refused : (link : LinkInput) (live : Live) (records : List Record) (place : MergeOffsetPlace) (e : LayoutError)
+    → first_outside link (section_records link.plan.sections records) (is_emitted link (output_content link live)) ≡ None
+    → slice_get (merge_offsets link live) 0 ≡ Some place → e ≡ offset_error place → IsPlacedAnswer link live records (Err e)
+refused link live records place e inside first is =
+    unless_none (segment_refusal link live records) (Err e) _ (ap (λ (o : Option ℕ). option_map place_error (outside_refusal o)) inside)
+    (unless_some (offsets_refusal link live) e _ (ap (option_map offset_error) first ∙ ap (λ (x : LayoutError). Some x) (sym is)))
 
 -- layouts with the same lists are the same
-pub same_layout : (s s' r : List Record) (t t' : List ℕ) (i i' : List (Option ℕ)) (g g' : List SegmentLayout) (m m' : List Bool) (l l' : List ℕ) (v v' : List (Option Resolution)) (e e' : Option ℕ)
-    → s ≡ s' → t ≡ t' → i ≡ i' → g ≡ g' → m ≡ m' → l ≡ l' → v ≡ v' → e ≡ e'
-    → ◌≡◌ {A = Layout} (record { section_layouts = s; section_part_layouts = r; section_attributes = t; output_section_indexes = i; segment_layouts = g; live_marks = m; section_addresses = l; symbol_resolutions = v; entry_symbol_id = e })
-    (record { section_layouts = s'; section_part_layouts = r; section_attributes = t'; output_section_indexes = i'; segment_layouts = g'; live_marks = m'; section_addresses = l'; symbol_resolutions = v'; entry_symbol_id = e' })
-same_layout s s' r t t' i i' g g' m m' l l' v v' e e' es et ei eg em el ev ee = cc
+pub same_layout : (s s' r : List Record) (t t' : List ℕ) (i i' : List (Option ℕ)) (g g' : List SegmentLayout) (m m' : List Bool) (l l' : List ℕ) (d d' : List (List MergeInput)) (b b' : List ℕ) (v v' : List (Option Resolution)) (e e' : Option ℕ)
+    → s ≡ s' → t ≡ t' → i ≡ i' → g ≡ g' → m ≡ m' → l ≡ l' → d ≡ d' → b ≡ b' → v ≡ v' → e ≡ e'
+    → ◌≡◌ {A = Layout} (record { section_layouts = s; section_part_layouts = r; section_attributes = t; output_section_indexes = i; segment_layouts = g; live_marks = m; section_addresses = l; merged_strings = d; merged_string_start_addresses = b; symbol_resolutions = v; entry_symbol_id = e })
+    (record { section_layouts = s'; section_part_layouts = r; section_attributes = t'; output_section_indexes = i'; segment_layouts = g'; live_marks = m'; section_addresses = l'; merged_strings = d'; merged_string_start_addresses = b'; symbol_resolutions = v'; entry_symbol_id = e' })
+same_layout s s' r t t' i i' g g' m m' l l' d d' b b' v v' e e' es et ei eg em el ed eb ev ee = cc

@@ -1,13 +1,11 @@
 -- What the plan of a link has of which all is laid out.
 use Rattle.std.proofs.Common.{◌≡◌, ◌≢◌, ℕ, Bool, true, false, cond, List, [], Option, None, Some, length, refl, ap, ◌∙◌, inl, inr}
-use Rattle.std.specs.Prelude.{◌||◌, ◌&&◌, ◌==◌, not, is_some, option_and_then, slice_get}
+use Rattle.std.specs.Prelude.{◌||◌, ◌&&◌, ◌==◌, not, is_some, slice_get}
 use Rattle.std.specs.List.{list_any}
 use Rattle.std.proofs.lemmas.Bool.{cases_lt, eqb-true, or_parts, not-false, or_left}
 use Rattle.std.proofs.lemmas.List.{get_or_past, nil_from_length}
 use Rattle.std.proofs.lemmas.List.Folds.{list_any_at}
 use Rattle.std.proofs.lemmas.Option.{get_or_from_slice_get, slice_get-get_or, slice_get_within}
-use Rattle.lk_link.specs.declared.file.InputFile.{InputFile}
-use Rattle.lk_link.specs.declared.ids.FileId.{FileId}
 use Rattle.lk_link.specs.declared.link.LinkInput.{LinkInput}
 use Rattle.lk_link.specs.declared.options.OutputKind.{OutputKind}
 use Rattle.lk_link.specs.declared.options.OutputKind.TheVariants as output
@@ -18,10 +16,7 @@ use Rattle.lk_link.specs.declared.plan.PlanSection.{PlanSection}
 use Rattle.lk_link.specs.declared.plan.PlanSegment.{PlanSegment}
 use Rattle.lk_link.specs.declared.plan.Region.{Region}
 use Rattle.lk_link.specs.declared.plan.attributes.TheConstants.{NOBITS, TLS}
-use Rattle.lk_link.specs.declared.section.InputSection.{InputSection}
 use Rattle.lk_link.specs.Expressions.{as_number}
-use Rattle.lk_link.specs.Files.{file_in}
-use Rattle.lk_link.specs.InputSlots.{is_merge}
 use Rattle.lk_link.specs.OutputKinds.{is_partial}
 use Rattle.lk_link.proofs.Places.{none_found}
 use Rattle.lk_link.specs.PartRules.{names_table}
@@ -80,13 +75,13 @@ usual link carried =
     let plan : Plan = link.plan in
     usual_of plan plan.custom_base plan.custom_phdrs plan.phdrs_headers (length plan.regions == 0) (is_some (as_number plan.base))
     (list_any moves_location plan.events) (list_any is_special_section plan.sections) (list_any (λ (s : PlanSegment). is_tls s.kind) plan.segments) refl refl refl refl refl refl
-    (none_found (has link) all_uncarried 6 uncarried.Plan carried refl)
+    (none_found (has link) all_uncarried 5 uncarried.Plan carried refl)
 
 -- its output isn't an object file again
 whole_output : (link : LinkInput) → IsCarried link → is_partial link.options.output ≡ false
 unfolding first_uncarried has
 whole_output link carried =
-    (or_parts (is_partial link.options.output) (is_some link.plan.singletons) (none_found (has link) all_uncarried 7 uncarried.Partial carried refl)).0
+    (or_parts (is_partial link.options.output) (is_some link.plan.singletons) (none_found (has link) all_uncarried 6 uncarried.Partial carried refl)).0
 
 not_partial : (kind : OutputKind) → is_partial kind ≡ false → kind ≢ output.Partial
 not_partial kind h same = let yes : is_partial kind ≡ true = ap is_partial same in cc
@@ -170,35 +165,13 @@ carried_plans_are_plain link carried loads =
       backed_first = λ i s t m n less first second backed. or_left _ _ (loads.backed_first i s t m n less first second backed);
     }
 
--- ---- input sections
-
--- a file stands in a group
-group_of : (o : Option (List InputFile)) (n : ℕ) (file : InputFile) → option_and_then (λ files. slice_get files n) o ≡ Some file
-    → (files : List InputFile) × (o ≡ Some files) × (slice_get files n ≡ Some file)
-group_of None n file h = absurd (cc)
-group_of (Some files) n file h = (files, refl, h)
-
--- what no file has isn't there in one
-no_file : (p : InputFile → Bool) (link : LinkInput) (id : FileId) (file : InputFile) → any_file p link ≡ false → file_in link.groups id ≡ Some file → p file ≡ false
-no_file p link id file none there =
-    let group = group_of (slice_get link.groups id.group) id.file file there in
-    none_at p group.0 id.file file (none_at (λ files. list_any p files) link.groups id.group group.0 none group.1) group.2
-
--- no section is merged
-pub not_merged : (link : LinkInput) (id : FileId) (file : InputFile) (i : ℕ) (section : InputSection) → IsCarried link → file_in link.groups id ≡ Some file → slice_get file.sections i ≡ Some section
-    → is_merge section.slot ≡ false
-unfolding first_uncarried has
-not_merged link id file i section carried there at_i =
-    none_at (λ s. is_merge s.slot) file.sections i section
-    (no_file (file_has uncarried.Merge) link id file (none_found (has link) all_uncarried 0 uncarried.Merge carried refl) there) at_i
-
 -- ---- sizes
 
 -- nothing changes its sizes
 pub keeps_sizes : (link : LinkInput) → IsCarried link → KeepsSizes link
 unfolding first_uncarried has
 keeps_sizes link carried = record {
-  relax = none_found (has link) all_uncarried 10 uncarried.Relax carried refl;
-  tables = (or_parts (names_table link.plan.named) (any_file (file_has uncarried.Table) link) (none_found (has link) all_uncarried 5 uncarried.Table carried refl)).0;
-  primary = none_found (has link) all_uncarried 9 uncarried.Primary carried refl;
+  relax = none_found (has link) all_uncarried 9 uncarried.Relax carried refl;
+  tables = (or_parts (names_table link.plan.named) (any_file (file_has uncarried.Table) link) (none_found (has link) all_uncarried 4 uncarried.Table carried refl)).0;
+  primary = none_found (has link) all_uncarried 8 uncarried.Primary carried refl;
 }

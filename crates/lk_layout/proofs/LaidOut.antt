@@ -1,5 +1,6 @@
 -- What stands behind a defined layout.
 use Rattle.std.proofs.Common.{◌≡◌, List, [], ◌∷◌, Option, Some, None, Ok, refl}
+use Rattle.std.specs.List.{slice_get}
 use Rattle.lk_check.specs.FirstFault.{WellFormedExactlyUnfaulted}
 use Rattle.lk_gc.specs.declared.error.ReferenceFault.{ReferenceFault}
 use Rattle.lk_gc.specs.declared.live.Live.{Live}
@@ -8,14 +9,19 @@ use Rattle.lk_gc.specs.Reach.{AreLive}
 use Rattle.lk_link.specs.declared.link.LinkInput.{LinkInput}
 use Rattle.lk_link.specs.Target.{Target}
 use Rattle.lk_link.specs.WellFormed.{IsWellFormed}
+use Rattle.lk_merge.specs.Hash.{fnv64}
+use Rattle.lk_merge.specs.LinkInputs.{first_refusal, link_inputs}
 use Rattle.lk_place.specs.declared.cursors.Cursors.{Cursors}
 use Rattle.lk_place.specs.Placement.{IsPlaced, placement_refusal}
 use Rattle.lk_place.specs.Records.{Record}
 use Rattle.lk_layout.specs.declared.error.LayoutError.{LayoutError}
 use Rattle.lk_layout.specs.declared.layout.Layout.{Layout}
 use Rattle.lk_layout.specs.Carried.{IsCarried, first_uncarried}
-use Rattle.lk_layout.specs.Defined.{IsDefined, Unless, references_error, references_refusal, fault_refusal, layout_of, not_carried, segment_refusal, setting, sizes_refusal, uncarried_refusal, walk_refusal}
-use Rattle.lk_layout.specs.Errors.{place_error}
+use Rattle.lk_layout.specs.Defined.{IsDefined, Unless, references_error, references_refusal, fault_refusal, layout_of, not_carried, offsets_refusal, segment_refusal, setting, sizes_refusal, uncarried_refusal, walk_refusal}
+use Rattle.lk_layout.specs.Errors.{merge_error, offset_error, place_error}
+use Rattle.lk_layout.specs.declared.outside.MergeOffsetPlace.{MergeOffsetPlace}
+use Rattle.lk_layout.specs.Merging.{merging_refusal}
+use Rattle.lk_layout.specs.Outside.{merge_offsets}
 use Rattle.lk_layout.specs.Laws.{LaidOutLinksAreWellFormed}
 use Rattle.lk_layout.proofs.OneAnswer.{none_of, unrefused}
 
@@ -25,11 +31,13 @@ pub record IsLaidOut (target : Target) (link : LinkInput) (layout : Layout) : Ty
   pub carried : IsCarried link
   pub live : Live
   pub are_live : AreLive link live
+  pub merged : first_refusal fnv64 link.options.bucket_limit 0 (link_inputs link).outputs ≡ None
   pub met : reference_faults link ≡ []
   pub states : List Cursors
   pub records : List Record
   pub is : IsPlaced (setting target link live) states records
   pub unrefused : placement_refusal (setting target link live) states ≡ None
+  pub inside : merge_offsets link live ≡ []
   pub same : layout ≡ layout_of link live records
 
 -- a layout is no refusal
@@ -42,27 +50,36 @@ all_met : (faults : List ReferenceFault) → references_error faults ≡ None �
 all_met [] h = refl
 all_met (fault ∷ faults) h = absurd (cc)
 
+-- a list without a first has none
+none_first : (places : List MergeOffsetPlace) → slice_get places 0 ≡ None → places ≡ []
+none_first [] h = refl
+none_first (place ∷ places) h = absurd (cc)
+
 pub laid_out : WellFormedExactlyUnfaulted → (target : Target) (link : LinkInput) (layout : Layout) → IsDefined target link (Ok layout) → IsLaidOut target link layout
 laid_out exactly target link layout defined =
     let fault = passed (fault_refusal link) layout _ defined in
     let all = passed (uncarried_refusal link) layout _ fault.1 in
-    let met = passed (references_refusal link) layout _ all.1 in
+    let whole = passed (merging_refusal link) layout _ all.1 in
+    let met = passed (references_refusal link) layout _ whole.1 in
     let reached = met.1 in
     let sizes = passed (sizes_refusal link reached.0) layout _ reached.2 in
     let placed = sizes.1 in
     let walk = passed (walk_refusal target link reached.0 placed.0) layout _ placed.3 in
     let segments = passed (segment_refusal link reached.0 placed.1) layout _ walk.1 in
-    let is : layout ≡ layout_of link reached.0 placed.1 = let given : Ok layout ≡ Ok (layout_of link reached.0 placed.1) = segments.1 in cc in
+    let offsets = passed (offsets_refusal link reached.0) layout _ segments.1 in
+    let is : layout ≡ layout_of link reached.0 placed.1 = let given : Ok layout ≡ Ok (layout_of link reached.0 placed.1) = offsets.1 in cc in
     record {
       good = unrefused exactly link fault.0;
       carried = none_of not_carried (first_uncarried link) all.0;
       live = reached.0;
       are_live = reached.1;
+      merged = none_of merge_error (first_refusal fnv64 link.options.bucket_limit 0 (link_inputs link).outputs) whole.0;
       met = all_met (reference_faults link) met.0;
       states = placed.0;
       records = placed.1;
       is = placed.2;
       unrefused = none_of place_error (placement_refusal (setting target link reached.0) placed.0) walk.0;
+      inside = none_first (merge_offsets link reached.0) (none_of offset_error (slice_get (merge_offsets link reached.0) 0) offsets.0);
       same = is;
     }
 

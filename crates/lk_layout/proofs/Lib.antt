@@ -1,10 +1,15 @@
 mod Answering
 mod CarriedPlans
+mod ImagesShow
+mod Imaging
 mod LaidOut
+mod NamedSymbols
+mod NothingMerged
 mod OneAnswer
 mod PartStarts
 mod Resolved
 mod Placing
 mod Settings
+mod Stopping
 mod Soundness
 mod Valued

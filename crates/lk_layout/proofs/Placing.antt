@@ -12,11 +12,14 @@ use Rattle.lk_link.specs.declared.flags.ValueFlags.{ValueFlags}
 use Rattle.lk_link.specs.declared.ids.FileId.{FileId}
 use Rattle.lk_link.specs.declared.link.LinkInput.{LinkInput}
 use Rattle.lk_link.specs.declared.plan.PlanPart.{PlanPart}
+use Rattle.lk_link.specs.declared.section.InputSlot.{InputSlot}
+use Rattle.lk_link.specs.declared.section.InputSlot.TheVariants as slot
 use Rattle.lk_link.specs.declared.symbol.InputSymbol.{InputSymbol}
 use Rattle.lk_link.specs.declared.symbol.SymbolPlacement.{SymbolPlacement}
 use Rattle.lk_link.specs.declared.symbol.SymbolPlacement.TheVariants as at
 use Rattle.lk_link.specs.Files.{file_in}
 use Rattle.lk_link.specs.Inputs.{Input, all_inputs, first_input, numbered_files}
+use Rattle.lk_link.specs.InputSlots.{can_be_kept, is_merge}
 use Rattle.lk_link.specs.Marks.{is_marked}
 use Rattle.lk_link.specs.Parts.{all_parts, part_at}
 use Rattle.lk_link.specs.Sizes.{capacity}
@@ -26,8 +29,9 @@ use Rattle.lk_link.proofs.Elements.{at_index}
 use Rattle.lk_link.proofs.GoodSymbols.{symbol_of}
 use Rattle.lk_link.proofs.InputLemmas.{inputs_follow}
 use Rattle.lk_gc.specs.declared.live.Live.{Live}
-use Rattle.lk_gc.specs.Reach.{AreLive, live_inputs, marked}
+use Rattle.lk_gc.specs.Reach.{AreLive, IsLive, live_inputs, marked}
 use Rattle.lk_gc.proofs.LiveWalk.{split_at}
+use Rattle.lk_merge.specs.Addresses.{image_start}
 use Rattle.lk_place.specs.Records.{Record, record_at}
 use Rattle.lk_sizes.specs.LiveSections.{section_addresses}
 use Rattle.lk_sizes.specs.Owners.{EndsFit, live_address, part_size}
@@ -36,12 +40,10 @@ use Rattle.lk_sizes.proofs.Addressing.{address_behind}
 use Rattle.lk_sizes.proofs.LiveOnes.{live_goes}
 use Rattle.lk_sizes.proofs.Numbering.{table_at as address_by_number}
 use Rattle.lk_sizes.proofs.Walking.{all_fit}
-use Rattle.lk_layout.specs.Carried.{IsCarried}
 use Rattle.lk_layout.specs.declared.resolution.Resolution.{Resolution}
 use Rattle.lk_layout.specs.Defined.{starts_of}
-use Rattle.lk_layout.specs.Resolutions.{address_at, file_resolutions, symbol_resolutions}
-use Rattle.lk_layout.specs.Tables.{HasRoom, HaveRoom, place_in}
-use Rattle.lk_layout.proofs.CarriedPlans.{not_merged}
+use Rattle.lk_layout.specs.Resolutions.{Places, address_at, file_resolutions, images_at, merged_value, places_of, symbol_resolutions}
+use Rattle.lk_layout.specs.Tables.{HasRoom, HaveRoom, place_in, places_in}
 use Rattle.lk_layout.specs.OutputContent.{output_content}
 
 -- ---- the table
@@ -113,10 +115,18 @@ ends link live starts front x rest all fit within =
       size-le part x.section.size,
     )
 
+-- what can be kept isn't merged
+pub unmerged : (s : InputSlot) → can_be_kept s ≡ true → is_merge s ≡ false
+unmerged slot.Discard h = refl
+unmerged slot.Unloaded h = refl
+unmerged slot.MustLoad h = refl
+unmerged slot.DebugInfo h = refl
+unmerged slot.MustLoadDebugInfo h = refl
+unmerged slot.Merge h = absurd (cc)
+
 -- a place in one lies there
 record IsSetting (link : LinkInput) (live : Live) (starts : List ℕ) : Type 0 where
   good : IsWellFormed link
-  carried : IsCarried link
   are_live : AreLive link live
   count : length starts ≡ length (all_parts link.plan.sections)
   fit : EndsFit link (output_content link live) starts
@@ -131,7 +141,8 @@ section_room link live starts id file i offset is there h = λ set.
     let split = split_at (live_inputs link live) among.0 x among.1 in
     let goes : x.section.part < length (all_parts link.plan.sections) = live_goes link live among.0 x is.good is.are_live among.1 in
     let end = ends link live starts (take among.0 (live_inputs link live)) x split.0 split.1 is.fit (omega (arith, goes, is.count)) in
-    let inside : offset ≤ x.section.size = h.2 (not_merged link id file i h.0 is.carried there h.1) in
+    let lives : IsLive link x = (is.are_live.marks k x at_k).0 set in
+    let inside : offset ≤ x.section.size = h.2 (unmerged x.section.slot lives.slot) in
     omega (arith, table_at link live starts k x at_k set, end, inside)
 
 placement_room : (link : LinkInput) (live : Live) (starts : List ℕ) (id : FileId) (file : InputFile) (p : SymbolPlacement) → IsSetting link live starts → file_in link.groups id ≡ Some file
@@ -151,11 +162,11 @@ placement_room link live starts id file at.LoadBaseAddress is there h = tt
 placement_room link live starts id file (at.Redirect e l provide) is there h = tt
 
 -- so do the places of all symbols
-pub have_room : (link : LinkInput) (live : Live) (starts : List ℕ) → IsWellFormed link → IsCarried link → AreLive link live → length starts ≡ length (all_parts link.plan.sections)
+pub have_room : (link : LinkInput) (live : Live) (starts : List ℕ) → IsWellFormed link → AreLive link live → length starts ≡ length (all_parts link.plan.sections)
     → EndsFit link (output_content link live) starts → HaveRoom live.marks (table link live starts) link.groups
-have_room link live starts good carried are count fit = λ id file there k d lt.
+have_room link live starts good are count fit = λ id file there k d lt.
     let x : InputSymbol = get_or file.symbols k d in
-    let is : IsSetting link live starts = record { good = good; carried = carried; are_live = are; count = count; fit = fit } in
+    let is : IsSetting link live starts = record { good = good; are_live = are; count = count; fit = fit } in
     placement_room link live starts id file x.at is there (symbol_of link id k file x good there (slice_get-get_or file.symbols k d lt)).there
 
 -- ---- what a computation of them has
@@ -178,11 +189,13 @@ room_by marks read addresses table groups is_marks is_table h =
     subst (λ (ms : List Bool). HaveRoom ms table groups) (sym is_marks) (subst (λ (ns : List ℕ). HaveRoom marks ns groups) (sym is_table) h)
 
 -- and the same resolutions
-pub resolutions_by : (link : LinkInput) (live : Live) (starts wanted : List ℕ) (marks : List Bool) (addresses : List ℕ) (flags : List ValueFlags) (items : List (Option Resolution)) → AreLive link live
-    → marks ≡ live.marks → addresses ≡ table link live starts → flags ≡ live.flags → starts ≡ wanted
-    → items ≡ flat_map (file_resolutions (place_in marks addresses) flags link.groups) (numbered_files link.groups) → items ≡ symbol_resolutions link live wanted
-resolutions_by link live starts wanted marks addresses flags items are is_marks is_table is_flags is_starts made =
-    let all : (ℕ → ℕ → Option ℕ) → List ValueFlags → List (Option Resolution) = λ place fs. flat_map (file_resolutions place fs link.groups) (numbered_files link.groups) in
+pub resolutions_by : (link : LinkInput) (live : Live) (starts wanted : List ℕ) (marks : List Bool) (addresses buckets : List ℕ) (flags : List ValueFlags) (items : List (Option Resolution)) → AreLive link live
+    → marks ≡ live.marks → addresses ≡ table link live starts → flags ≡ live.flags → starts ≡ wanted → merged_value link (image_start buckets) ≡ merged_value link (images_at link live wanted)
+    → items ≡ flat_map (file_resolutions (places_in marks addresses link buckets) flags link.groups) (numbered_files link.groups) → items ≡ symbol_resolutions link live wanted
+resolutions_by link live starts wanted marks addresses buckets flags items are is_marks is_table is_flags is_starts is_merged made =
+    let all : Places → List ValueFlags → List (Option Resolution) = λ places fs. flat_map (file_resolutions places fs link.groups) (numbered_files link.groups) in
+    let both : (ℕ → ℕ → Option ℕ) → (ℕ → ℕ) → Places = λ place values. record { live = place; merged = values } in
     let place : place_in marks addresses ≡ address_at link live wanted
     = ap (λ (ms : List Bool). place_in ms addresses) is_marks ∙ ap (place_in live.marks) is_table ∙ places_are link live starts are ∙ ap (address_at link live) is_starts in
-    made ∙ ap (λ at. all at flags) place ∙ ap (all (address_at link live wanted)) is_flags
+    made ∙ ap (λ at. all (both at (merged_value link (image_start buckets))) flags) place ∙ ap (λ values. all (both (address_at link live wanted) values) flags) is_merged
+    ∙ ap (all (places_of link live wanted)) is_flags

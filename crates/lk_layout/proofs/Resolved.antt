@@ -87,7 +87,7 @@ asked_bit flags h =
 
 -- ---- a section of a symbol that has a resolution is reached
 
-in_file : (groups : List (List InputFile)) (id : FileId) (file : InputFile) (k : ℕ) → file_in groups id ≡ Some file → k < length file.symbols → IsSymbolIn groups id (first_symbol groups id + k)
+pub in_file : (groups : List (List InputFile)) (id : FileId) (file : InputFile) (k : ℕ) → file_in groups id ≡ Some file → k < length file.symbols → IsSymbolIn groups id (first_symbol groups id + k)
 in_file groups id file k h lt =
     let n = file_number groups id in
     let at_n = files_have_numbers groups id file h in

@@ -33,8 +33,10 @@ use Rattle.lk_layout.specs.Defined.{setting, starts_of}
 use Rattle.lk_layout.specs.Layouts.{told_live}
 use Rattle.lk_layout.specs.Laws.{DefinedLayoutsAreSound, LaidOutMemoryIsDisjoint, LaidOutSectionsAreApart}
 use Rattle.lk_layout.specs.Resolutions.{symbol_resolutions}
-use Rattle.lk_layout.specs.Sound.{IsInSection, IsSharedOut, IsSound, IsTold, LiveSectionsAreAligned, LiveSectionsAreApart, MemoryIsCongruent, part_record}
+use Rattle.lk_layout.specs.Sound.{OwnersAreApart, IsInSection, IsSharedOut, IsSound, IsTold, LiveSectionsAreAligned, LiveSectionsAreApart, MemoryIsCongruent, part_record}
 use Rattle.lk_layout.proofs.LaidOut.{IsLaidOut, laid_out}
+use Rattle.lk_layout.proofs.ImagesShow.{images_stand}
+use Rattle.lk_layout.proofs.NamedSymbols.{named_symbols_show}
 use Rattle.lk_layout.proofs.PartStarts.{part_starts}
 use Rattle.lk_layout.proofs.Placing.{size-le}
 use Rattle.lk_layout.proofs.Resolved.{resolved_sections_are_live}
@@ -151,6 +153,22 @@ sections_apart owners link live layout good are_live is shared memory a b addres
           one_owner link live a b x y other told_a.there told_b.there same
     ]
 
+-- no two owners have a byte together
+owners_apart : (link : LinkInput) (live : Live) (layout : Layout) → ((p : ℕ) → p < length (all_parts link.plan.sections) → IsSharedOut link live layout p)
+    → MemoryIsDisjoint link.plan layout.section_part_layouts → OwnersAreApart link live layout
+owners_apart link live layout shared memory p q j k address below_p below_q memory_p memory_q first second =
+    let of_p = shared p below_p in
+    let of_q = shared q below_q in
+    let in_p = of_p.tiled.inside j address first in
+    let in_q = of_q.tiled.inside k address second in
+    elim (eqb_tells p q) [
+      | inr miss ↦ absurd (memory p q address miss.1 memory_p memory_q
+          (record { begins = in_p.0; ends = omega (arith, in_p.1, of_p.whole) }) (record { begins = in_q.0; ends = omega (arith, in_q.1, of_q.whole) }))
+      | inl hit ↦
+          let owned : ℕ → ℕ → Type 0 = λ r i. HasByte (part_record layout r).mem_offset (part_at link.plan.sections r) (owners_of link (output_content link live) r) i address in
+          (hit.1, of_p.tiled.apart j k address first (subst (λ r. owned r k) (sym hit.1) second))
+    ]
+
 -- ---- and aligned
 
 -- a part with an owner that has bytes has bytes
@@ -204,6 +222,10 @@ is_sound tile aligned owners mass file memory in_step keep target link layout la
       met = laid.met;
       reached = laid.are_live;
       shown = shown target link layout laid;
+      merged = ap (λ (l : Layout). l.merged_strings) laid.same;
+      images = images_stand target link layout laid;
+      named = named_symbols_show target link layout laid;
+      inside = laid.inside;
       resolved = resolved target link layout laid;
       placed = resolved_sections_are_live link laid.live laid.good laid.are_live laid.met;
       valued = values_are_in_live_sections link laid.live layout (starts_of records) (shown target link layout laid) (resolved target link layout laid)
@@ -219,6 +241,7 @@ is_sound tile aligned owners mass file memory in_step keep target link layout la
           record {
             disjoint = disjoint;
             apart = sections_apart owners link laid.live layout laid.good laid.are_live (shown target link layout laid) (shared_out tile mass target link layout laid) disjoint;
+            owners = owners_apart link laid.live layout (shared_out tile mass target link layout laid) disjoint;
             congruent = congruent in_step keep target link layout laid lawful plain;
           };
     }

@@ -27,29 +27,29 @@ use Rattle.lk_layout.specs.declared.layout.Layout.{Layout}
 use Rattle.lk_layout.specs.declared.resolution.Resolution.{Resolution}
 use Rattle.lk_layout.specs.Layouts.{told_live}
 use Rattle.lk_layout.specs.OutputContent.{output_content}
-use Rattle.lk_layout.specs.Resolutions.{address_at, file_resolutions, flags_at, is_resolved, placed_value, resolution_at, resolution_of, symbol_resolutions}
+use Rattle.lk_layout.specs.Resolutions.{Places, address_at, places_of, file_resolutions, flags_at, is_resolved, placed_value, resolution_at, resolution_of, symbol_resolutions}
 use Rattle.lk_layout.specs.Sound.{SymbolsStandInLiveSections, ValuesAreInLiveSections}
 use Rattle.lk_layout.proofs.Placing.{marked_in}
 
 -- ---- the resolution of a file's symbol
 
 -- each symbol of a file has its place among the file's
-pub as_many : (place : ℕ → ℕ → Option ℕ) (link : LinkInput) (live : Live) (f : NumberedFile) → length (file_resolutions place live.flags link.groups f) ≡ symbols_in f.file
-as_many place link live f =
-    elim (is_object f.file.kind) as (λ b. length (if b then map (resolution_of place live.flags (first_input link.groups f.id)) (enumerate_from (first_symbol link.groups f.id) f.file.symbols)
+pub as_many : (places : Places) (link : LinkInput) (live : Live) (f : NumberedFile) → length (file_resolutions places live.flags link.groups f) ≡ symbols_in f.file
+as_many places link live f =
+    elim (is_object f.file.kind) as (λ b. length (if b then map (resolution_of places live.flags (first_input link.groups f.id)) (enumerate_from (first_symbol link.groups f.id) f.file.symbols)
     else map (λ _. None) f.file.symbols) ≡ symbols_in f.file) [
-      | true ↦ length-map (enumerate_from (first_symbol link.groups f.id) f.file.symbols) (resolution_of place live.flags (first_input link.groups f.id))
+      | true ↦ length-map (enumerate_from (first_symbol link.groups f.id) f.file.symbols) (resolution_of places live.flags (first_input link.groups f.id))
           ∙ length-enumerate_from (first_symbol link.groups f.id) f.file.symbols
       | false ↦ length-map f.file.symbols (λ (x : InputSymbol). let none : Option Resolution = None in none)
     ]
 
 -- it stands there behind those of the files before
-resolution_is : (link : LinkInput) (live : Live) (starts : List ℕ) (id : FileId) (file : InputFile) (k : ℕ) (x : InputSymbol) → file_in link.groups id ≡ Some file → is_object file.kind ≡ true
+pub resolution_is : (link : LinkInput) (live : Live) (starts : List ℕ) (id : FileId) (file : InputFile) (k : ℕ) (x : InputSymbol) → file_in link.groups id ≡ Some file → is_object file.kind ≡ true
     → slice_get file.symbols k ≡ Some x → resolution_at (symbol_resolutions link live starts) (first_symbol link.groups id + k)
-    ≡ resolution_of (address_at link live starts) live.flags (first_input link.groups id) (first_symbol link.groups id + k, x)
+    ≡ resolution_of (places_of link live starts) live.flags (first_input link.groups id) (first_symbol link.groups id + k, x)
 resolution_is link live starts id file k x there object at_k =
     let groups = link.groups in
-    let place = address_at link live starts in
+    let place : Places = places_of link live starts in
     let f : NumberedFile = record { id = id; file = file } in
     let n : ℕ = file_number groups id in
     let files : List NumberedFile = numbered_files groups in
@@ -75,12 +75,12 @@ resolution_is link live starts id file k x there object at_k =
 -- ---- its value
 
 -- what is resolved has its value
-value_of : (place : ℕ → ℕ → Option ℕ) (live : Live) (first s i offset address : ℕ) (x : InputSymbol) → is_resolved s x (flags_at live.flags s) ≡ true → x.at ≡ at.Section i offset
-    → place (first + i) offset ≡ Some address → option_map (λ (r : Resolution). r.raw_value) (resolution_of place live.flags first (s, x)) ≡ Some address
-value_of place live first s i offset address x resolved stands is =
+pub value_of : (places : Places) (live : Live) (first s i offset address : ℕ) (x : InputSymbol) → is_resolved s x (flags_at live.flags s) ≡ true → x.at ≡ at.Section i offset
+    → unwrap_or (places.live (first + i) offset) (places.merged s) ≡ address → option_map (λ (r : Resolution). r.raw_value) (resolution_of places live.flags first (s, x)) ≡ Some address
+value_of places live first s i offset address x resolved stands is =
     let made : ℕ → Option Resolution = λ n. Some (record { raw_value = n; flags = flags_at live.flags s }) in
-    let value : placed_value place first x.at ≡ address = ap (placed_value place first) stands ∙ ap (λ (o : Option ℕ). unwrap_or o 0) is in
-    ap (λ b. option_map (λ (r : Resolution). r.raw_value) (if b then made (placed_value place first x.at) else None)) resolved
+    let value : placed_value places first s x.at ≡ address = ap (placed_value places first s) stands ∙ is in
+    ap (λ b. option_map (λ (r : Resolution). r.raw_value) (if b then made (placed_value places first s x.at) else None)) resolved
     ∙ ap (λ (n : ℕ). Some n) value
 
 pub values_are_in_live_sections : (link : LinkInput) (live : Live) (layout : Layout) (starts : List ℕ) → told_live link layout ≡ live_sections link (output_content link live) starts
@@ -99,12 +99,13 @@ values_are_in_live_sections link live layout starts shown resolved placed id fil
     let shift : Input → ℕ = λ y. live_address link content starts y + offset in
     let address : address_at link live starts k offset ≡ Some (live_address link content starts x + offset)
     = ap (λ b. if b then option_map shift (slice_get (all_inputs link.groups) k) else None) set ∙ ap (option_map shift) at_k in
-    let one : Option Resolution = resolution_of (address_at link live starts) live.flags first (number, s.symbol) in
+    let places : Places = places_of link live starts in
+    let one : Option Resolution = resolution_of places live.flags first (number, s.symbol) in
     let read : resolution_at layout.symbol_resolutions number ≡ one
     = ap (λ (rs : List (Option Resolution)). resolution_at rs number) resolved
     ∙ resolution_is link live starts id file s.index s.symbol there s.object s.there in (
       live_section link content starts x,
       record { number = among.0; told = told; file = refl; index = refl },
       ap (option_map (λ (r : Resolution). r.raw_value)) read
-          ∙ value_of (address_at link live starts) live first number i offset (live_address link content starts x + offset) s.symbol s.resolved stands address,
+          ∙ value_of places live first number i offset (live_address link content starts x + offset) s.symbol s.resolved stands (ap (λ (o : Option ℕ). unwrap_or o (places.merged number)) address),
     )

@@ -8,7 +8,7 @@ use Rattle.lk_link.specs.declared.plan.PlanSection.{PlanSection}
 use Rattle.lk_link.specs.declared.plan.attributes.TheConstants.{TLS}
 use Rattle.lk_link.specs.Expressions.{as_number}
 use Rattle.lk_link.specs.FileKinds.{is_internal, is_object, is_prelude}
-use Rattle.lk_link.specs.InputSlots.{is_debug, is_merge}
+use Rattle.lk_link.specs.InputSlots.{is_debug}
 use Rattle.lk_link.specs.OutputKinds.{is_loaded_dynamically, is_partial}
 use Rattle.lk_link.specs.PartRules.{names_table}
 use Rattle.lk_link.specs.PlanSections.{is_set}
@@ -44,7 +44,6 @@ is_special_plan plan =
 
 -- a file of the description has it
 abbrev pub file_has : Uncarried → InputFile → Bool
-file_has uncarried.Merge f = list_any (λ s. is_merge s.slot) f.sections
 file_has uncarried.Slot f = list_any (λ s. is_debug s.slot || is_some s.group) f.sections
 file_has uncarried.Common f = list_any (λ x. is_common x.at) f.symbols
 file_has uncarried.File f = not (is_prelude f.kind || is_object f.kind)
@@ -66,7 +65,7 @@ has link what = any_file (file_has what) link
 -- the order in which it is looked for
 abbrev pub all_uncarried : List Uncarried
 all_uncarried =
-    uncarried.Merge ∷ uncarried.Slot ∷ uncarried.Common ∷ uncarried.File ∷ uncarried.Output ∷ uncarried.Table ∷ uncarried.Plan
+    uncarried.Slot ∷ uncarried.Common ∷ uncarried.File ∷ uncarried.Output ∷ uncarried.Table ∷ uncarried.Plan
     ∷ uncarried.Partial ∷ uncarried.Sorted ∷ uncarried.Primary ∷ uncarried.Relax ∷ uncarried.Symbol ∷ []
 
 -- what is found first

@@ -1,5 +1,5 @@
 -- The one answer of a link: the first refusal, in the order in which they are looked for, else the layout.
-use Rattle.std.specs.Prelude.{◌≡◌, ℕ, List, [], ◌∷◌, Option, Some, None, map, option_map, Result, Ok, Err}
+use Rattle.std.specs.Prelude.{◌≡◌, ℕ, List, [], ◌∷◌, Option, Some, None, map, option_map, slice_get, Result, Ok, Err}
 use Rattle.lk_link.specs.declared.link.LinkInput.{LinkInput}
 use Rattle.lk_link.specs.Target.{Target}
 use Rattle.lk_check.specs.FirstFault.{first_fault}
@@ -7,6 +7,9 @@ use Rattle.lk_gc.specs.declared.error.ReferenceFault.{ReferenceFault}
 use Rattle.lk_gc.specs.declared.live.Live.{Live}
 use Rattle.lk_gc.specs.Faults.{reference_faults}
 use Rattle.lk_gc.specs.Reach.{AreLive}
+use Rattle.lk_merge.specs.Addresses.{start_addresses}
+use Rattle.lk_merge.specs.Hash.{fnv64}
+use Rattle.lk_merge.specs.LinkInputs.{link_inputs}
 use Rattle.lk_place.specs.declared.cursors.Cursors.{Cursors}
 use Rattle.lk_place.specs.Placement.{IsPlaced, placement_refusal}
 use Rattle.lk_place.specs.Records.{Record}
@@ -15,6 +18,7 @@ use Rattle.lk_place.specs.Setting.{Setting, setting_of}
 use Rattle.lk_sizes.specs.Attributes.{all_section_attributes, by_section}
 use Rattle.lk_sizes.specs.Contents.{size_refusal}
 use Rattle.lk_sizes.specs.Emitted.{active_segments, is_emitted, output_index}
+use Rattle.lk_sizes.specs.Images.{image_addresses}
 use Rattle.lk_sizes.specs.LiveSections.{section_addresses}
 use Rattle.lk_sizes.specs.Owners.{part_sizes}
 use Rattle.lk_layout.specs.declared.error.LayoutError.{LayoutError}
@@ -22,7 +26,9 @@ use Rattle.lk_layout.specs.declared.error.LayoutError.TheVariants.{NoMemory, Not
 use Rattle.lk_layout.specs.declared.error.Uncarried.{Uncarried}
 use Rattle.lk_layout.specs.declared.layout.Layout.{Layout}
 use Rattle.lk_layout.specs.Carried.{first_uncarried}
-use Rattle.lk_layout.specs.Errors.{fault_error, size_error, place_error}
+use Rattle.lk_layout.specs.Errors.{fault_error, offset_error, size_error, place_error}
+use Rattle.lk_layout.specs.Merging.{merging_refusal}
+use Rattle.lk_layout.specs.Outside.{merge_offsets}
 use Rattle.lk_layout.specs.Resolutions.{entry_symbol, symbol_resolutions}
 use Rattle.lk_layout.specs.OutputContent.{output_content}
 
@@ -51,6 +57,10 @@ references_error (fault ∷ faults) = Some (References (fault ∷ faults))
 
 abbrev pub references_refusal : LinkInput → Option LayoutError
 references_refusal link = references_error (reference_faults link)
+
+-- the first symbol or relocation that chooses an offset outside the data of a merged section
+abbrev pub offsets_refusal : LinkInput → Live → Option LayoutError
+offsets_refusal link live = option_map offset_error (slice_get (merge_offsets link live) 0)
 
 -- sizes past 64 bits
 abbrev pub sizes_refusal : LinkInput → Live → Option LayoutError
@@ -89,17 +99,20 @@ layout_of link live records =
       segment_layouts = segment_layouts link.plan link.options.stack sections (is_emitted link content) (active_segments link content);
       live_marks = live.marks;
       section_addresses = section_addresses link content (starts_of records);
+      merged_strings = (link_inputs link).outputs;
+      merged_string_start_addresses = start_addresses fnv64 (link_inputs link).outputs (image_addresses link content (starts_of records));
       symbol_resolutions = symbol_resolutions link live (starts_of records);
       entry_symbol_id = entry_symbol link;
     }
 
 -- ---- the answer
 
--- behind the placement: the refusal of the segments, else the layout
+-- behind the placement: the refusal of the segments, else that of offsets into merged data, else the layout
 abbrev pub IsPlacedAnswer : LinkInput → Live → List Record → Result Layout LayoutError → Type 0
 IsPlacedAnswer link live records answer =
     Unless (segment_refusal link live records) answer
-    (answer ≡ Ok (layout_of link live records))
+    (Unless (offsets_refusal link live) answer
+    (answer ≡ Ok (layout_of link live records)))
 
 -- behind the sizes: the first refusal of the placement, and then
 abbrev pub IsSizedAnswer : Target → LinkInput → Live → Result Layout LayoutError → Type 0
@@ -111,11 +124,15 @@ IsSizedAnswer target link live answer =
 abbrev pub IsLiveAnswer : Target → LinkInput → Live → Result Layout LayoutError → Type 0
 IsLiveAnswer target link live answer = Unless (sizes_refusal link live) answer (IsSizedAnswer target link live answer)
 
--- of a link of which all is laid out: all references that can't be met, and then
-abbrev pub IsCarriedAnswer : Target → LinkInput → Result Layout LayoutError → Type 0
-IsCarriedAnswer target link answer =
+-- of a link that is merged: all references that can't be met, and then
+abbrev pub IsMergedAnswer : Target → LinkInput → Result Layout LayoutError → Type 0
+IsMergedAnswer target link answer =
     Unless (references_refusal link) answer
     ((live : Live) × AreLive link live × IsLiveAnswer target link live answer)
+
+-- of a link of which all is laid out: what can't be merged, and then
+abbrev pub IsCarriedAnswer : Target → LinkInput → Result Layout LayoutError → Type 0
+IsCarriedAnswer target link answer = Unless (merging_refusal link) answer (IsMergedAnswer target link answer)
 
 -- the answer of a link: its first fault; else the first thing that isn't laid out yet; and then (libwild: `compute`)
 abbrev pub IsDefined : Target → LinkInput → Result Layout LayoutError → Type 0

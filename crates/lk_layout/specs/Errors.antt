@@ -3,19 +3,33 @@ use Rattle.lk_gc.specs.declared.error.GcError.{GcError}
 use Rattle.lk_gc.specs.declared.error.GcError.TheVariants as gc
 use Rattle.lk_link.specs.declared.fault.LinkFault.{LinkFault}
 use Rattle.lk_link.specs.declared.fault.LinkFault.TheVariants as fault
+use Rattle.lk_merge.specs.declared.error.MergeError.{MergeError}
+use Rattle.lk_merge.specs.declared.error.MergeError.TheVariants as merge
 use Rattle.lk_place.specs.declared.error.PlaceError.{PlaceError}
 use Rattle.lk_place.specs.declared.error.PlaceError.TheVariants as place
 use Rattle.lk_sizes.specs.declared.error.SizeError.{SizeError}
 use Rattle.lk_sizes.specs.declared.error.SizeError.TheVariants as size
 use Rattle.lk_layout.specs.declared.error.LayoutError.{LayoutError}
 use Rattle.lk_layout.specs.declared.error.LayoutError.TheVariants.{NoMemory, TooMany, BadLink, References}
+use Rattle.lk_layout.specs.declared.error.LayoutError.TheVariants.{MergeNotTerminated, MergeOffset, MergeTooLarge}
 use Rattle.lk_layout.specs.declared.error.LayoutError.TheVariants.{AddressOverflow, BaseTooLow, Expression}
 use Rattle.lk_layout.specs.declared.error.LayoutError.TheVariants.{RegionDuplicate, SectionOutsideSegments}
+use Rattle.lk_layout.specs.declared.outside.MergeOffsetPlace.{MergeOffsetPlace}
 
 -- for a fault of the link
 abbrev pub fault_error : LinkFault → LayoutError
 fault_error (fault.TooMany what count limit) = TooMany what count limit
 fault_error (fault.BadLink rule place) = BadLink rule place
+
+-- for what merging refuses
+abbrev pub merge_error : MergeError → LayoutError
+merge_error (merge.NotTerminated section input) = MergeNotTerminated section input
+merge_error (merge.TooLarge section bucket offset len) = MergeTooLarge section bucket offset len
+merge_error merge.NoMemory = NoMemory
+
+-- for an offset outside the data of a merged section
+abbrev pub offset_error : MergeOffsetPlace → LayoutError
+offset_error place = MergeOffset place
 
 -- for what the traversal refuses
 abbrev pub gc_error : GcError → LayoutError

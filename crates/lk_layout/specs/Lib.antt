@@ -4,7 +4,9 @@ pub mod Errors
 pub mod Kept
 pub mod Laws
 pub mod Layouts
+pub mod Merging
 pub mod OutputContent
+pub mod Outside
 pub mod Resolutions
 pub mod Sound
 pub mod Tables

@@ -1,9 +1,21 @@
 -- What goes into the output of a link that is laid out.
-use Rattle.std.specs.Prelude.{[]}
+use Rattle.std.specs.Prelude.{ℕ, List, length, map}
 use Rattle.lk_link.specs.declared.link.LinkInput.{LinkInput}
 use Rattle.lk_gc.specs.declared.live.Live.{Live}
+use Rattle.lk_merge.specs.Hash.{fnv64}
+use Rattle.lk_merge.specs.Image.{all_pieces, image}
+use Rattle.lk_merge.specs.LinkInputs.{link_inputs}
+use Rattle.lk_merge.specs.Pieces.{MergeInput}
 use Rattle.lk_sizes.specs.Owners.{Content, content_of}
 
--- what is live; nothing is merged yet
+-- how many bytes each of some merged sections has, by their inputs: those of its image
+unfoldable pub lens_of : List (List MergeInput) → List ℕ
+lens_of merged = map (λ inputs. length (image fnv64 (all_pieces inputs))) merged
+
+-- the bytes of the image of each output section of a link
+abbrev pub image_lens : LinkInput → List ℕ
+image_lens link = lens_of (link_inputs link).outputs
+
+-- what is live, and what is merged
 abbrev pub output_content : LinkInput → Live → Content
-output_content link live = content_of live []
+output_content link live = content_of live (image_lens link)

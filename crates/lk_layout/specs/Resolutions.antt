@@ -1,7 +1,8 @@
 -- The values of symbols, and the entry.
 use Rattle.std.specs.Prelude.{ℕ, ◌+◌, ◌==◌, ◌&&◌, not, if◌then◌else◌, List, Option, Some}
-use Rattle.std.specs.Prelude.{None, Result, Ok, Err, map, option_and_then, option_map, slice_get, unwrap_or, Bool}
+use Rattle.std.specs.Prelude.{None, Result, Ok, Err, map, option_and_then, option_map, slice_get, slice_index, unwrap_or, Bool}
 use Rattle.std.specs.List.{enumerate_from, flat_map, slice_index_or}
+use Rattle.std.specs.Option.{option_map_or}
 use Rattle.lk_link.specs.declared.file.InputFile.{InputFile}
 use Rattle.lk_link.specs.declared.flags.TheConstants.ValueFlags as flag
 use Rattle.lk_link.specs.declared.flags.ValueFlags.{ValueFlags}
@@ -15,6 +16,8 @@ use Rattle.lk_link.specs.Inputs.{NumberedFile, all_inputs, first_input, numbered
 use Rattle.lk_link.specs.Marks.{is_marked}
 use Rattle.lk_link.specs.Symbols.{definition_of, first_symbol}
 use Rattle.lk_gc.specs.declared.live.Live.{Live}
+use Rattle.lk_merge.specs.OutputAddresses.{MergePlace, address_in, symbol_place}
+use Rattle.lk_sizes.specs.Images.{image_addresses}
 use Rattle.lk_sizes.specs.Owners.{live_address}
 use Rattle.lk_layout.specs.declared.resolution.EntryFault.{EntryFault}
 use Rattle.lk_layout.specs.declared.resolution.EntryFault.TheVariants.{NotAnAddress, NotLoaded}
@@ -30,18 +33,38 @@ address_at link live starts k offset =
     then option_map (λ x. live_address link (output_content link live) starts x + offset) (slice_get (all_inputs link.groups) k)
     else None
 
+-- ---- places in merged sections
+
+-- where the images of output sections start, by where the parts do: each where it stands among the owners of its part
+abbrev pub images_at : LinkInput → Live → List ℕ → ℕ → ℕ
+images_at link live starts s = slice_index (image_addresses link (output_content link live) starts) s
+
+-- the value of a symbol that names a place in a merged section, by where the images start: a named one has the address there, an
+-- unnamed one 0
+abbrev pub value_at : LinkInput → (ℕ → ℕ) → MergePlace → ℕ
+value_at link images place = if place.named then unwrap_or (address_in link images place place.offset) 0 else 0
+
+-- that of the symbol with a number; 0 where it is placed elsewhere
+abbrev pub merged_value : LinkInput → (ℕ → ℕ) → ℕ → ℕ
+merged_value link images s = option_map_or (value_at link images) (symbol_place link.groups s) 0
+
 -- ---- values
 
--- the value of a placement in an object, by the addresses at offsets of input sections and the number of the object's first one:
--- a place in a section, or a number; 0 for what is defined nowhere
-abbrev pub placed_value : (ℕ → ℕ → Option ℕ) → ℕ → SymbolPlacement → ℕ
-placed_value place first (at.Section index offset) = unwrap_or (place (first + index) offset) 0
-placed_value place first (at.Absolute n) = n
-placed_value place first _ = 0
+-- what values go by: the addresses at offsets of live input sections, and the values of symbols in merged sections
+pub record Places : Type 0 where
+  pub live : ℕ → ℕ → Option ℕ
+  pub merged : ℕ → ℕ
 
--- the value of an object's symbol
-abbrev pub symbol_value : (ℕ → ℕ → Option ℕ) → ℕ → InputSymbol → ℕ
-symbol_value place first x = placed_value place first x.at
+-- those of a link, by where its parts start
+abbrev pub places_of : LinkInput → Live → List ℕ → Places
+places_of link live starts = record { live = address_at link live starts; merged = merged_value link (images_at link live starts) }
+
+-- the value of a placement in an object, of the symbol s; `first` is the number of the object's first input section: a place in a live
+-- section, or in a merged one; or a number; 0 for what is defined nowhere
+abbrev pub placed_value : Places → ℕ → ℕ → SymbolPlacement → ℕ
+placed_value places first s (at.Section index offset) = unwrap_or (places.live (first + index) offset) (places.merged s)
+placed_value places first s (at.Absolute n) = n
+placed_value places first s _ = 0
 
 -- ---- resolutions
 
@@ -54,23 +77,23 @@ abbrev pub flags_at : List ValueFlags → ℕ → ValueFlags
 flags_at flags s = slice_index_or flags s (record { 0 = 0 })
 
 -- the resolution of an object's symbol, with its number, if it has one
-abbrev pub resolution_of : (ℕ → ℕ → Option ℕ) → List ValueFlags → ℕ → ℕ × InputSymbol → Option Resolution
-resolution_of place flags first q =
+abbrev pub resolution_of : Places → List ValueFlags → ℕ → ℕ × InputSymbol → Option Resolution
+resolution_of places flags first q =
     if is_resolved q.0 q.1 (flags_at flags q.0)
-    then Some (record { raw_value = symbol_value place first q.1; flags = flags_at flags q.0 })
+    then Some (record { raw_value = placed_value places first q.0 q.1.at; flags = flags_at flags q.0 })
     else None
 
 -- for each symbol of a file its resolution, if it has one: symbols of objects alone do
-abbrev pub file_resolutions : (ℕ → ℕ → Option ℕ) → List ValueFlags → List (List InputFile) → NumberedFile → List (Option Resolution)
-file_resolutions place flags groups f =
+abbrev pub file_resolutions : Places → List ValueFlags → List (List InputFile) → NumberedFile → List (Option Resolution)
+file_resolutions places flags groups f =
     if is_object f.file.kind
-    then map (resolution_of place flags (first_input groups f.id)) (enumerate_from (first_symbol groups f.id) f.file.symbols)
+    then map (resolution_of places flags (first_input groups f.id)) (enumerate_from (first_symbol groups f.id) f.file.symbols)
     else map (λ _. None) f.file.symbols
 
 -- for each symbol of a link its resolution, if it has one, by where the parts start (libwild: `SymbolResolutions`)
 abbrev pub symbol_resolutions : LinkInput → Live → List ℕ → List (Option Resolution)
 symbol_resolutions link live starts =
-    flat_map (file_resolutions (address_at link live starts) live.flags link.groups) (numbered_files link.groups)
+    flat_map (file_resolutions (places_of link live starts) live.flags link.groups) (numbered_files link.groups)
 
 -- the resolution of a symbol, by its number, if it has one
 abbrev pub resolution_at : List (Option Resolution) → ℕ → Option Resolution

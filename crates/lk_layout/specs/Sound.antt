@@ -1,5 +1,5 @@
 -- What a layout keeps apart, and what it keeps in step.
-use Rattle.std.specs.Prelude.{◌≡◌, ◌≢◌, [], ℕ, ◌+◌, ◌%◌, ◌<◌, ◌≤◌, true, false, Some, length, option_map, slice_get}
+use Rattle.std.specs.Prelude.{◌≡◌, ◌≢◌, ◌⊎◌, [], List, ℕ, ◌+◌, ◌%◌, ◌<◌, ◌≤◌, ◌==◌, true, false, Some, length, option_map, slice_get, slice_index}
 use Rattle.std.specs.Int.{◌∣◌}
 use Rattle.lk_link.specs.declared.file.InputFile.{InputFile}
 use Rattle.lk_link.specs.declared.ids.FileId.{FileId}
@@ -19,17 +19,24 @@ use Rattle.lk_gc.specs.declared.live.Live.{Live}
 use Rattle.lk_gc.specs.Faults.{reference_faults}
 use Rattle.lk_gc.specs.Reach.{AreLive, live_inputs}
 use Rattle.lk_gc.specs.Units.{section_of}
+use Rattle.lk_merge.specs.Addresses.{image_start}
+use Rattle.lk_merge.specs.Hash.{fnv64}
+use Rattle.lk_merge.specs.Image.{all_pieces, image, image_place, is_among}
+use Rattle.lk_merge.specs.LinkInputs.{link_inputs, merge_input, merge_inputs, part_sections}
+use Rattle.lk_merge.specs.OutputAddresses.{Shows, offset_place, output_of}
+use Rattle.lk_merge.specs.Pieces.{Piece, MergeInput}
 use Rattle.lk_place.specs.Plain.{IsPlain, PlacesInLoad}
 use Rattle.lk_place.specs.Ranges.{FileIsDisjoint, HasPart, MemoryIsDisjoint, TakesMemory}
 use Rattle.lk_place.specs.Records.{Record, record_at}
 use Rattle.lk_place.specs.Segments.{alignment_inside}
 use Rattle.lk_sizes.specs.declared.addresses.LiveSection.{LiveSection}
 use Rattle.lk_sizes.specs.LiveSections.{live_sections}
-use Rattle.lk_sizes.specs.Owners.{bytes_of, owners_of}
-use Rattle.lk_sizes.specs.Tiles.{IsTiled}
+use Rattle.lk_sizes.specs.Owners.{ImageOwner, bytes_of, owners_of}
+use Rattle.lk_sizes.specs.Tiles.{HasByte, IsTiled}
 use Rattle.lk_layout.specs.declared.layout.Layout.{Layout}
 use Rattle.lk_layout.specs.Defined.{starts_of}
 use Rattle.lk_layout.specs.Layouts.{told_live}
+use Rattle.lk_layout.specs.Outside.{merge_offsets}
 use Rattle.lk_layout.specs.Resolutions.{entry_symbol, flags_at, is_resolved, resolution_at, symbol_resolutions}
 use Rattle.lk_layout.specs.OutputContent.{output_content}
 
@@ -100,21 +107,76 @@ ValuesAreInLiveSections link live layout = (id : FileId) (file : InputFile) (i o
     → slice_get file.sections i ≡ Some section → is_merge section.slot ≡ false → (l : LiveSection) × IsToldOf link layout id i l
     × (option_map (λ r. r.raw_value) (resolution_at layout.symbol_resolutions (first_symbol link.groups id + s.index)) ≡ Some (l.address + offset))
 
--- what holds of the memory of a layout under a plain plan: no two parts share an address, nor do two live sections; and memory
--- goes along the file
+-- ---- merged data
+
+-- the image of merged inputs is the first owner of a part of their output section, which has alignment 1, and starts with it; each of
+-- its distinct pieces has a range of its own there; and at each offset of an input's data the image shows what the input has, from the
+-- offset to its piece's end
+pub record IsImageAt (link : LinkInput) (live : Live) (layout : Layout) (s : ℕ) (inputs : List MergeInput) : Type 0 where
+  pub part : ℕ
+  pub belongs : slice_index (part_sections link.plan.sections) part ≡ s
+  pub alignment : (part_at link.plan.sections part).alignment ≡ 1
+  pub owner : slice_get (owners_of link (output_content link live) part) 0 ≡ Some (ImageOwner s (length (image fnv64 (all_pieces inputs))))
+  pub start : image_start layout.merged_string_start_addresses s ≡ (part_record layout part).mem_offset
+  pub within : (p : Piece) → is_among (all_pieces inputs) p ≡ true
+      → image_place fnv64 (all_pieces inputs) p + length p ≤ length (image fnv64 (all_pieces inputs))
+  pub apart : (p q : Piece) → is_among (all_pieces inputs) p ≡ true → is_among (all_pieces inputs) q ≡ true → p ≢ q
+      → (image_place fnv64 (all_pieces inputs) p + length p ≤ image_place fnv64 (all_pieces inputs) q)
+      ⊎ (image_place fnv64 (all_pieces inputs) q + length q ≤ image_place fnv64 (all_pieces inputs) p)
+  pub shown : (k offset : ℕ) (x : MergeInput) → slice_get inputs k ≡ Some x → offset < length x.bytes
+      → Shows inputs x offset (offset_place fnv64 inputs x offset)
+
+-- so stands the image of each output section that has merged inputs
+abbrev pub ImagesStand : LinkInput → Live → Layout → Type 0
+ImagesStand link live layout = (s : ℕ) (inputs : List MergeInput) → slice_get layout.merged_strings s ≡ Some inputs → 0 < length inputs
+    → IsImageAt link live layout s inputs
+
+-- from an address on, the image of an output section shows what a merged input has from an offset to its piece's end
+pub record ShowsAt (link : LinkInput) (layout : Layout) (s : ℕ) (x : MergeInput) (offset address : ℕ) : Type 0 where
+  pub place : ℕ
+  pub at : address ≡ image_start layout.merged_string_start_addresses s + place
+  pub shows : Shows (merge_inputs link s) x offset place
+
+-- a named symbol that has a resolution and stands in a merged section has an address at which the image of the output section shows
+-- what stands there
+abbrev pub NamedSymbolsShow : LinkInput → Live → Layout → Type 0
+NamedSymbolsShow link live layout = (id : FileId) (file : InputFile) (i offset : ℕ) (section : InputSection)
+    → file_in link.groups id ≡ Some file → (s : IsResolvedIn link live id file i) → s.symbol.at ≡ at.Section i offset
+    → slice_get file.sections i ≡ Some section → is_merge section.slot ≡ true → (length s.symbol.name == 0) ≡ false → (address : ℕ)
+    × (option_map (λ r. r.raw_value) (resolution_at layout.symbol_resolutions (first_symbol link.groups id + s.index)) ≡ Some address)
+    × ShowsAt link layout (output_of link section) (merge_input (input_number link.groups id i) section) offset address
+
+-- no two owners share an address, if they go to parts of sections that take addresses: neither live sections nor images
+abbrev pub OwnersAreApart : LinkInput → Live → Layout → Type 0
+OwnersAreApart link live layout = (p q j k address : ℕ) → p < length (all_parts link.plan.sections) → q < length (all_parts link.plan.sections)
+    → TakesMemory link.plan p → TakesMemory link.plan q
+    → HasByte (part_record layout p).mem_offset (part_at link.plan.sections p) (owners_of link (output_content link live) p) j address
+    → HasByte (part_record layout q).mem_offset (part_at link.plan.sections q) (owners_of link (output_content link live) q) k address
+    → (p ≡ q) × (j ≡ k)
+
+-- ---- all
+
+-- what holds of the memory of a layout under a plain plan: no two parts share an address, nor do two live sections, nor an
+-- image and another owner; and memory goes along the file
 pub record IsSoundInMemory (link : LinkInput) (live : Live) (layout : Layout) : Type 0 where
   pub disjoint : MemoryIsDisjoint link.plan layout.section_part_layouts
   pub apart : LiveSectionsAreApart link live layout
+  pub owners : OwnersAreApart link live layout
   pub congruent : MemoryIsCongruent link layout
 
 -- a sound layout: all references are met; the live sections are those that are reached, each where its part's owners let it
--- stand, aligned; each symbol that is asked for stands for a place in them, at their
--- addresses, or for a number; each byte of a part has one owner;
--- no two parts share a byte of the file; and under a plain plan the same holds of memory
+-- stand, aligned; what is merged is all that the link has to merge, each image stands in a part, with its pieces apart, and shows its
+-- inputs, and nothing refers outside their data; each symbol that is asked for stands for a place in a live section, at its address, or
+-- in merged data, or for a number; each byte of a part has one owner; no two parts share a byte of the file; and under a plain plan the
+-- same holds of memory
 pub record IsSound (link : LinkInput) (live : Live) (layout : Layout) : Type 0 where
   pub met : reference_faults link ≡ []
   pub reached : AreLive link live
   pub shown : told_live link layout ≡ live_sections link (output_content link live) (starts_of layout.section_part_layouts)
+  pub merged : layout.merged_strings ≡ (link_inputs link).outputs
+  pub images : ImagesStand link live layout
+  pub named : NamedSymbolsShow link live layout
+  pub inside : merge_offsets link live ≡ []
   pub resolved : layout.symbol_resolutions ≡ symbol_resolutions link live (starts_of layout.section_part_layouts)
   pub placed : SymbolsStandInLiveSections link live
   pub valued : ValuesAreInLiveSections link live layout

@@ -1,6 +1,6 @@
 -- What the code goes by: places by marks and a table of addresses, and the room behind them. Contracts of private functions speak
 -- of this.
-use Rattle.std.specs.Prelude.{◌≡◌, ℕ, ◌+◌, ◌<◌, ◌^◌, Bool, true, if◌then◌else◌, List, All, Option, Some, None}
+use Rattle.std.specs.Prelude.{◌≡◌, ℕ, ◌+◌, ◌<◌, ◌^◌, Bool, true, if◌then◌else◌, List, All, Option, Some, None, Result, Ok, Err, unwrap_or}
 use Rattle.std.specs.List.{slice_index_or}
 use Rattle.lk_link.specs.declared.file.InputFile.{InputFile}
 use Rattle.lk_link.specs.declared.ids.FileId.{FileId}
@@ -9,6 +9,13 @@ use Rattle.lk_link.specs.declared.symbol.SymbolPlacement.TheVariants as at
 use Rattle.lk_link.specs.Files.{file_in}
 use Rattle.lk_link.specs.Inputs.{first_input}
 use Rattle.lk_link.specs.Marks.{is_marked}
+use Rattle.lk_link.specs.declared.link.LinkInput.{LinkInput}
+use Rattle.lk_link.specs.WellFormed.{IsWellFormed}
+use Rattle.lk_merge.specs.Addresses.{AreStartsOf, image_start}
+use Rattle.lk_merge.specs.LinkInputs.{link_inputs}
+use Rattle.lk_merge.specs.Pieces.{MergeInput}
+use Rattle.lk_merge.specs.declared.output_address.OffsetPastEnd.{OffsetPastEnd}
+use Rattle.lk_layout.specs.Resolutions.{Places, merged_value}
 
 -- the address at an offset of an input section, by marks of sections and a table of their addresses
 abbrev pub place_in : List Bool → List ℕ → ℕ → ℕ → Option ℕ
@@ -24,3 +31,18 @@ HasRoom marks addresses first _ = Unit {0}
 abbrev pub HaveRoom : List Bool → List ℕ → List (List InputFile) → Type 0
 HaveRoom marks addresses groups = (id : FileId) (file : InputFile) → file_in groups id ≡ Some file
     → All (λ x. HasRoom marks addresses (first_input groups id) x.at) file.symbols
+
+-- the merged sections of a well-formed link, with addresses of their buckets
+pub record AreMergedOf (link : LinkInput) (merged : List (List MergeInput)) (addresses : List ℕ) : Type 0 where
+  pub good : IsWellFormed link
+  pub sections : merged ≡ (link_inputs link).outputs
+  pub starts : AreStartsOf merged addresses
+
+-- an address that is found, else 0
+abbrev pub found_or_0 : Result (Option ℕ) OffsetPastEnd → ℕ
+found_or_0 (Ok address) = unwrap_or address 0
+found_or_0 (Err e) = 0
+
+-- what values go by, by marks and tables
+abbrev pub places_in : List Bool → List ℕ → LinkInput → List ℕ → Places
+places_in marks addresses link starts = record { live = place_in marks addresses; merged = merged_value link (image_start starts) }

@@ -3,7 +3,7 @@ use Rattle.std.specs.Prelude.{ℕ, false, List, [], ◌∷◌, ◌++◌, codes}
 use Rattle.std.specs.Fmt.{decimal, digits}
 use Rattle.std.specs.List.{flat_map}
 use Rattle.lk_gc.specs.declared.error.ReferenceFault.{ReferenceFault}
-use Rattle.lk_gc.specs.Texts.{reference_text}
+use Rattle.lk_gc.specs.Texts.{input_text, reference_text}
 use Rattle.lk_link.specs.declared.fault.LinkFault.TheVariants as fault
 use Rattle.lk_link.specs.Texts.{joined, link_fault_text, place_text}
 use Rattle.lk_place.specs.ExpressionTexts.{cause_text}
@@ -11,10 +11,11 @@ use Rattle.lk_layout.specs.declared.error.LayoutError.{LayoutError}
 use Rattle.lk_layout.specs.declared.error.LayoutError.TheVariants as layout
 use Rattle.lk_layout.specs.declared.error.Uncarried.{Uncarried}
 use Rattle.lk_layout.specs.declared.error.Uncarried.TheVariants as uncarried
+use Rattle.lk_layout.specs.declared.outside.MergeOffsetPlace.{MergeOffsetPlace}
+use Rattle.lk_layout.specs.declared.outside.MergeOffsetPlace.TheVariants.{OfRelocation, OfSymbol}
 
 -- what isn't laid out yet, in a word
 unfoldable pub uncarried_text : Uncarried → List ℕ
-uncarried_text uncarried.Merge = codes "merge"
 uncarried_text uncarried.Slot = codes "slot"
 uncarried_text uncarried.Common = codes "common"
 uncarried_text uncarried.File = codes "file"
@@ -36,6 +37,23 @@ unfoldable pub low_base_text : ℕ → ℕ → List ℕ
 low_base_text base headers =
     joined (codes "base address (0x" ∷ hexadecimal base ∷ codes ") is less than the size of headers (0x" ∷ hexadecimal headers ∷ codes ")" ∷ [])
 
+-- an input of an output section whose strings don't end in a zero byte
+unfoldable pub unterminated_text : ℕ → ℕ → List ℕ
+unterminated_text section input =
+    joined (codes "String in merge-string section is not null-terminated: section " ∷ decimal section ∷ codes ", input " ∷ decimal input ∷ [])
+
+-- a bucket of an output section without room for a piece that would start at an offset there
+unfoldable pub full_bucket_text : ℕ → ℕ → ℕ → ℕ → List ℕ
+full_bucket_text section bucket offset len =
+    joined (codes "Merge-string bucket too large: section " ∷ decimal section ∷ codes ", bucket " ∷ decimal bucket
+    ∷ codes ", offset " ∷ decimal offset ∷ codes ", length " ∷ decimal len ∷ [])
+
+-- what chooses an offset outside the data of a merged section
+abbrev pub merge_offset_text : MergeOffsetPlace → List ℕ
+merge_offset_text (OfSymbol symbol) = joined (codes "merge offset: symbol " ∷ decimal symbol ∷ [])
+merge_offset_text (OfRelocation id section relocation) =
+    joined (codes "merge offset: " ∷ input_text id section ∷ codes " relocation " ∷ decimal relocation ∷ [])
+
 -- references that can't be met, each on a line of its own behind another line
 abbrev pub further_lines : List ReferenceFault → List ℕ
 further_lines faults = flat_map (λ fault. codes "\n" ++ reference_text fault) faults
@@ -51,6 +69,8 @@ error_text layout.NoMemory = []
 error_text (layout.TooMany what count limit) = link_fault_text (fault.TooMany what count limit)
 error_text (layout.BadLink rule place) = link_fault_text (fault.BadLink rule place)
 error_text (layout.NotCarried what) = joined (codes "not carried: " ∷ uncarried_text what ∷ [])
+error_text (layout.MergeNotTerminated section input) = unterminated_text section input
+error_text (layout.MergeTooLarge section bucket offset len) = full_bucket_text section bucket offset len
 error_text (layout.References faults) = references_text faults
 error_text (layout.AddressOverflow place) = joined (codes "address overflow: " ∷ place_text place ∷ [])
 error_text (layout.RegionDuplicate region) = joined (codes "region " ∷ decimal region ∷ codes " already defined" ∷ [])
@@ -58,3 +78,4 @@ error_text (layout.Expression place cause) =
     joined (codes "expression at " ∷ place_text place ∷ codes ": " ∷ cause_text cause ∷ [])
 error_text (layout.BaseTooLow base headers) = low_base_text base headers
 error_text (layout.SectionOutsideSegments section) = joined (codes "section " ∷ decimal section ∷ codes " is in no segment" ∷ [])
+error_text (layout.MergeOffset place) = merge_offset_text place

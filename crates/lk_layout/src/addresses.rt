@@ -1,24 +1,32 @@
-//! What has an address in the output: live sections, and symbols.
+//! What has an address in the output: live sections, merged data, and symbols.
 
 ghost use Rattle.std.specs.Prelude.{◌≡◌, ◌+◌, ◌<◌, ◌^◌, ℕ, IfOk, length, slice_index};
 ghost use Rattle.lk_gc.specs.Reach.{AreLive};
 ghost use Rattle.lk_link.specs.Parts.{all_parts};
 ghost use Rattle.lk_link.specs.WellFormed.{IsWellFormed};
 ghost use Rattle.lk_place.specs.Records.{record_at};
+ghost use Rattle.lk_merge.specs.Addresses.{start_addresses};
+ghost use Rattle.lk_merge.specs.Hash.{fnv64};
+ghost use Rattle.lk_merge.specs.LinkInputs.{link_inputs};
+ghost use Rattle.lk_sizes.specs.Images.{image_addresses};
 ghost use Rattle.lk_sizes.specs.LiveSections.{section_addresses};
 ghost use Rattle.lk_sizes.specs.Contents.{part_contents};
 ghost use Rattle.lk_sizes.specs.Owners.{part_size};
 ghost use Rattle.lk_layout.specs.OutputContent.{output_content};
-ghost use Rattle.lk_layout.specs.Carried.{IsCarried};
 ghost use Rattle.lk_layout.specs.Defined.{starts_of};
+ghost use Rattle.lk_layout.specs.Merging.{AreImages};
 ghost use Rattle.lk_layout.specs.Resolutions.{symbol_resolutions};
+ghost use Rattle.lk_layout.specs.Tables.{AreMergedOf};
 
+use crate::images::Images;
+use crate::merged::Merged;
 use crate::resolution::{Tables, resolve_all};
 use crate::symbol_resolutions::SymbolResolutions;
 use lk_gc::Live;
 use lk_link::LinkInput;
+use lk_merge::MergedStringStartAddresses;
 use lk_place::OutputRecordLayout;
-use lk_sizes::{PartContents, section_addresses};
+use lk_sizes::{PartContents, image_addresses, section_addresses};
 use std::alloc::{AllocError, Global};
 
 /// The addresses of a layout.
@@ -26,40 +34,55 @@ use std::alloc::{AllocError, Global};
 pub(crate) struct Addresses {
     /// Of each live input section, by its number over all files; 0 for any other.
     pub(crate) sections: Vec<u64>,
+    /// Of the buckets of merged sections.
+    pub(crate) buckets: MergedStringStartAddresses,
     /// Of each symbol, by number, what it stands for; none where it has no resolution.
     pub(crate) resolutions: SymbolResolutions,
 }
 
-/// The addresses of live sections and what symbols stand for, by the records of all parts. Looks at each input section and each
-/// symbol once.
+/// The addresses of live sections and of merged data, and what symbols stand for, by the records of all parts. Looks at each
+/// input section and each symbol once.
 pub(crate) fn addresses_of(
     alloc: Global,
     link: &LinkInput,
     live: &Live,
+    images: &Images<'_>,
     contents: &[PartContents],
     parts: &[OutputRecordLayout],
 ) -> Result<Addresses, AllocError>
     requires good { IsWellFormed link.now }
-    requires carried { IsCarried link.now }
     requires live { AreLive link.now live.now }
+    requires images { AreImages link.now images.now }
     requires contents { contents.now ≡ part_contents link.now (output_content link.now live.now) }
     requires each { length parts.now ≡ length (all_parts link.now.plan.sections) }
     requires takes { (p : ℕ) → p < length parts.now
         → (record_at parts.now p).mem_size ≡ part_size link.now (output_content link.now live.now) p }
     ensures sections { IfOk result (λ told. told.sections.items
         ≡ section_addresses link.now (output_content link.now live.now) (starts_of parts.now)) }
+    ensures buckets { IfOk result (λ told. told.buckets
+        ≡ start_addresses fnv64 (link_inputs link.now).outputs (image_addresses link.now (output_content link.now live.now) (starts_of parts.now))) }
+    ensures belong { IfOk result (λ told. AreMergedOf link.now images.now.sections told.buckets) }
     ensures resolutions { IfOk result (λ told. told.resolutions ≡ symbol_resolutions link.now live.now (starts_of parts.now)) }
 {
     let starts = starts_of(alloc, parts)?;
-    let sections = section_addresses(alloc, link, live, &[], contents, &starts)?;
+    let sections = section_addresses(alloc, link, live, &images.lens, contents, &starts)?;
+    let places = image_addresses(alloc, link, contents, &starts)?;
+    let merged = images.sections.as_slice();
+    let buckets = MergedStringStartAddresses::compute(alloc, merged, &places)?;
     let tables = Tables {
         marks: live.marks.as_slice(),
         addresses: sections.as_slice(),
         flags: live.flags.as_slice(),
     };
-    let resolutions = resolve_all(alloc, link, tables)?;
+    let merged = Merged {
+        link,
+        sections: merged,
+        starts: &buckets,
+    };
+    let resolutions = resolve_all(alloc, link, tables, merged)?;
     Ok(Addresses {
         sections,
+        buckets,
         resolutions,
     })
 }

@@ -5,7 +5,7 @@
 
 ghost use Rattle.std.specs.Prelude.{◌≡◌, ◌||◌, is_some};
 ghost use Rattle.std.specs.List.{list_any};
-ghost use Rattle.lk_link.specs.InputSlots.{is_debug, is_merge};
+ghost use Rattle.lk_link.specs.InputSlots.{is_debug};
 ghost use Rattle.lk_link.specs.OutputKinds.{is_loaded_dynamically, is_partial};
 ghost use Rattle.lk_link.specs.PartRules.{names_table};
 ghost use Rattle.lk_link.specs.Relocations.{wants_entry};
@@ -21,8 +21,7 @@ use lk_link::plan::{OrderEvent, Plan, PlanSection, PlanSegment, attributes};
 use lk_link::section::InputSection;
 
 /// What is looked for, in this order.
-const ALL_UNCARRIED: [Uncarried; 12] = [
-    Uncarried::Merge,
+const ALL_UNCARRIED: [Uncarried; 11] = [
     Uncarried::Slot,
     Uncarried::Common,
     Uncarried::File,
@@ -122,7 +121,6 @@ fn file_has(file: &InputFile, what: Uncarried) -> bool
     ensures { result ≡ file_has what file.now }
 {
     match what {
-        Uncarried::Merge => has_merged(file),
         Uncarried::Slot => has_debug_or_group(file),
         Uncarried::Common => has_common(file),
         Uncarried::File => !(file.kind.is_prelude() || file.kind.is_object()),
@@ -131,16 +129,6 @@ fn file_has(file: &InputFile, what: Uncarried) -> bool
         Uncarried::Symbol => file.kind.is_internal() && !file.symbols.is_empty(),
         _ => false,
     }
-}
-
-/// Whether a section holds strings or constants that are merged.
-fn has_merged(file: &InputFile) -> bool
-    ensures { result ≡ list_any (λ s. is_merge s.slot) file.now.sections }
-{
-    file.sections
-        .as_slice()
-        .iter()
-        .any(|section| section.slot.is_merge())
 }
 
 /// Whether a section has debug data, or is in a section group.

@@ -1,6 +1,6 @@
 //! The layout of a whole link.
 //!
-//! Each step looks at what the ones before it made, and none goes back: what is live, what the live sections bring to each
+//! Each step looks at what the ones before it made, and none goes back: what is merged, what is live, what the live sections bring to each
 //! part, where the parts stand, which sections and segments are told, what those span, and at last the address of each live
 //! section and what each symbol stands for. A step that refuses ends the computation, so that the answer is the first refusal in
 //! this order, or the layout.
@@ -16,13 +16,17 @@ ghost use Rattle.lk_sizes.specs.Contents.{part_contents};
 ghost use Rattle.lk_sizes.specs.Owners.{AreFirstSizes, part_size};
 ghost use Rattle.lk_layout.specs.OutputContent.{output_content};
 ghost use Rattle.lk_layout.specs.Carried.{IsCarried};
-ghost use Rattle.lk_layout.specs.Defined.{Gives, IsCarriedAnswer, IsLiveAnswer, IsPlacedAnswer, WithMemory};
+ghost use Rattle.lk_layout.specs.Defined.{Gives, IsCarriedAnswer, IsLiveAnswer, IsMergedAnswer, IsPlacedAnswer, WithMemory};
+ghost use Rattle.lk_layout.specs.Merging.{AreImages};
 
 use crate::addresses::addresses_of;
 use crate::arch::Arch;
 use crate::carried::first_uncarried;
 use crate::error::LayoutError;
+use crate::images::{Images, merge_images};
 use crate::layout::Layout;
+use crate::merged::Merged;
+use crate::outside::check_offsets;
 use crate::resolution::entry_symbol;
 use lk_check::check_link;
 use lk_gc::{Live, traverse_alone};
@@ -42,12 +46,12 @@ use std::thread::Threads;
 
 /// The layout of a link, on the caller's own thread: the defined answer, unless memory runs out. It waits for
 /// nobody, and always returns.
-pub fn compute_alone<P: Platform, A: Arch>(
+pub fn compute_alone<'data, P: Platform, A: Arch>(
     alloc: Global,
-    link: &LinkInput,
+    link: &'data LinkInput,
     platform: &P,
     _arch: &A,
-) -> Result<Layout, LayoutError>
+) -> Result<Layout<'data>, LayoutError>
     ensures { Gives (platform_target (P.segment_start platform.now)) link.now result }
 {
     check_link(link)?;
@@ -57,53 +61,80 @@ pub fn compute_alone<P: Platform, A: Arch>(
     }
 }
 
-/// The layout of a link of which all is laid out: that of what is live, where all references are met.
-fn lay_out<P: Platform>(
+/// The layout of a link of which all is laid out: that of what is merged.
+fn lay_out<'data, P: Platform>(
     alloc: Global,
-    link: &LinkInput,
+    link: &'data LinkInput,
     platform: &P,
-) -> Result<Layout, LayoutError>
+) -> Result<Layout<'data>, LayoutError>
     requires good { IsWellFormed link.now }
     requires carried { IsCarried link.now }
     ensures { WithMemory (IsCarriedAnswer (platform_target (P.segment_start platform.now)) link.now) result }
 {
+    let images = merge_images(alloc, link)?;
+    lay_out_merged(alloc, link, images, platform)
+}
+
+/// The layout of a link that is merged: that of what is live, where all references are met.
+fn lay_out_merged<'data, P: Platform>(
+    alloc: Global,
+    link: &'data LinkInput,
+    images: Images<'data>,
+    platform: &P,
+) -> Result<Layout<'data>, LayoutError>
+    requires good { IsWellFormed link.now }
+    requires carried { IsCarried link.now }
+    requires images { AreImages link.now images }
+    ensures { WithMemory (IsMergedAnswer (platform_target (P.segment_start platform.now)) link.now) result }
+{
     let live = traverse_alone(alloc, link)?;
-    lay_out_live(alloc, link, live, platform)
+    lay_out_live(alloc, link, images, live, platform)
 }
 
 /// The layout of what is live of a link: its sizes, placed.
-fn lay_out_live<P: Platform>(
+fn lay_out_live<'data, P: Platform>(
     alloc: Global,
-    link: &LinkInput,
+    link: &'data LinkInput,
+    images: Images<'data>,
     live: Live,
     platform: &P,
-) -> Result<Layout, LayoutError>
+) -> Result<Layout<'data>, LayoutError>
     requires good { IsWellFormed link.now }
     requires carried { IsCarried link.now }
+    requires images { AreImages link.now images }
     requires live { AreLive link.now live }
     ensures { WithMemory (IsLiveAnswer (platform_target (P.segment_start platform.now)) link.now live) result }
 {
-    let contents = part_contents(alloc, link, &live, &[])?;
+    let contents = part_contents(alloc, link, &live, &images.lens)?;
     let sizes = part_sizes(alloc, contents.as_slice())?;
     let placed = compute_layout_sections(alloc, link, &sizes, platform)?;
     // Laws, which do nothing: the parts end where their owners do, and the sizes so far are those that tell what is emitted.
     parts_take_their_bytes();
     first_sizes_are_sizes();
-    lay_out_placed(alloc, link, live, contents.as_slice(), &sizes, placed)
+    lay_out_placed(
+        alloc,
+        link,
+        images,
+        live,
+        contents.as_slice(),
+        &sizes,
+        placed,
+    )
 }
 
-/// The layout of a link that is placed, by the first sizes of its parts: headers, segments, attributes, the addresses of live
-/// sections, and what symbols stand for.
-fn lay_out_placed(
+/// The layout of a link that is placed, by the first sizes of its parts: headers, segments, attributes, addresses, and what
+/// symbols stand for.
+fn lay_out_placed<'data>(
     alloc: Global,
-    link: &LinkInput,
+    link: &'data LinkInput,
+    images: Images<'data>,
     live: Live,
     contents: &[PartContents],
     sizes: &[u64],
     placed: Placed,
-) -> Result<Layout, LayoutError>
+) -> Result<Layout<'data>, LayoutError>
     requires good { IsWellFormed link.now }
-    requires carried { IsCarried link.now }
+    requires images { AreImages link.now images }
     requires live { AreLive link.now live }
     requires contents { contents.now ≡ part_contents link.now (output_content link.now live) }
     requires first { AreFirstSizes link.now (output_content link.now live) sizes.now }
@@ -122,7 +153,14 @@ fn lay_out_placed(
         headers.active_segment_ids.as_slice(),
     )?;
     let attributes = propagate_section_attributes(alloc, link, contents)?;
-    let addresses = addresses_of(alloc, link, &live, contents, placed.parts.as_slice())?;
+    let parts = placed.parts.as_slice();
+    let addresses = addresses_of(alloc, link, &live, &images, contents, parts)?;
+    let merged = Merged {
+        link,
+        sections: images.sections.as_slice(),
+        starts: &addresses.buckets,
+    };
+    check_offsets(merged, &live)?;
     Ok(Layout {
         section_layouts: placed.sections,
         section_part_layouts: placed.parts,
@@ -131,6 +169,8 @@ fn lay_out_placed(
         segment_layouts: List::from_vec(segments),
         live_marks: live.marks,
         section_addresses: List::from_vec(addresses.sections),
+        merged_strings: images.sections,
+        merged_string_start_addresses: addresses.buckets,
         symbol_resolutions: addresses.resolutions,
         entry_symbol_id: entry_symbol(link),
     })
@@ -138,15 +178,15 @@ fn lay_out_placed(
 
 /// The layout of a link: the defined answer, unless memory runs out (libwild: `layout::compute`). With 0 or 1 workers it
 /// never calls the gate: it then asks for no leave to enter it. Every number of workers runs on the caller today.
-pub fn compute<R: Threads + Wait + Sync, P: Platform + Sync, A: Arch + Sync, G: Gate + Sync>(
+pub fn compute<'data, R: Threads + Wait + Sync, P: Platform + Sync, A: Arch + Sync, G: Gate + Sync>(
     _rt: &R,
     alloc: Global,
-    link: &LinkInput,
+    link: &'data LinkInput,
     platform: &P,
     arch: &A,
     _workers: u32,
     _gate: &G,
-) -> Result<Layout, LayoutError>
+) -> Result<Layout<'data>, LayoutError>
     requires gate { 2 ≤ _workers → G.may_enter _gate.now }
     ensures { Gives (platform_target (P.segment_start platform.now)) link.now result }
 {

@@ -3,11 +3,13 @@
 ghost use Rattle.std.specs.Prelude.{◌≡◌};
 ghost use Rattle.lk_layout.specs.Texts.{uncarried_text};
 
+use crate::outside::MergeOffsetPlace;
 use crate::references::FurtherLines;
 use lk_gc::{GcError, ReferenceFault};
 use lk_link::fault::{Limited, LinkFault, Place, Rule};
 use lk_link::ids::{OutputSectionId, RegionId};
 use lk_link::list::List;
+use lk_merge::MergeError;
 use lk_place::{NoValue, PlaceError};
 use lk_sizes::SizeError;
 use std::alloc::{AllocError, AllocFailed};
@@ -16,8 +18,6 @@ use std::fmt;
 /// What a description may have that isn't laid out yet, in the order in which it is looked for.
 #[derive(Clone, Copy, Debug, PartialEq, Eq)]
 pub enum Uncarried {
-    /// A section of strings or constants that are merged.
-    Merge,
     /// A section of debug data, or one in a section group.
     Slot,
     /// A common symbol.
@@ -61,6 +61,18 @@ pub enum LayoutError {
     },
     /// The description has something that isn't laid out yet.
     NotCarried(Uncarried),
+    /// The strings of a merged section don't end in a zero byte: one of the inputs of the first such output section.
+    MergeNotTerminated {
+        section: OutputSectionId,
+        input: u32,
+    },
+    /// A bucket of merged data has no room for a piece of so many bytes, which would start at this offset there.
+    MergeTooLarge {
+        section: OutputSectionId,
+        bucket: u32,
+        offset: u64,
+        len: u64,
+    },
     /// These references can't be met: all of them, by file, section and relocation.
     References(List<ReferenceFault>),
     /// A size or an address passes 2^64 - 1, first at this part or event.
@@ -85,6 +97,8 @@ pub enum LayoutError {
     SectionOutsideSegments {
         section: OutputSectionId,
     },
+    /// An offset at the end of a merged section's data or past it is chosen; the first of symbols, else of relocations.
+    MergeOffset(MergeOffsetPlace),
 }
 
 impl Uncarried {
@@ -94,7 +108,6 @@ impl Uncarried {
         ensures { result.now ≡ uncarried_text self }
     {
         match self {
-            Uncarried::Merge => "merge",
             Uncarried::Slot => "slot",
             Uncarried::Common => "common",
             Uncarried::File => "file",
@@ -134,7 +147,58 @@ impl fmt::Display for LowBase {
     }
 }
 
-/// In a word, as `merge`.
+/// An input whose strings don't end in a zero byte.
+#[derive(Clone, Copy)]
+struct Unterminated {
+    section: OutputSectionId,
+    input: u32,
+}
+
+/// With the output section, and the input's number there.
+impl fmt::Display for Unterminated {
+    ghost use Rattle.std.specs.Prelude.{Some};
+    ghost use Rattle.lk_layout.specs.Texts.{unterminated_text};
+
+    ghost output = { λ at. Some (unterminated_text at.section at.input) };
+
+    #[tactic(auto, unfolding(crate::specs::Texts::unterminated_text))]
+    fn fmt<W: fmt::Write>(&self, f: &mut fmt::Formatter<W>) -> fmt::Result {
+        let (section, input) = (self.section.as_u32(), self.input);
+        write!(
+            f,
+            "String in merge-string section is not null-terminated: section {section}, input {input}"
+        )
+    }
+}
+
+/// A bucket without room for a piece.
+#[derive(Clone, Copy)]
+struct FullBucket {
+    section: OutputSectionId,
+    bucket: u32,
+    offset: u64,
+    len: u64,
+}
+
+/// With the output section, the bucket's number there, and where the piece would start.
+impl fmt::Display for FullBucket {
+    ghost use Rattle.std.specs.Prelude.{Some};
+    ghost use Rattle.lk_layout.specs.Texts.{full_bucket_text};
+
+    ghost output = { λ full. Some (full_bucket_text full.section full.bucket full.offset full.len) };
+
+    #[tactic(auto, unfolding(crate::specs::Texts::full_bucket_text))]
+    fn fmt<W: fmt::Write>(&self, f: &mut fmt::Formatter<W>) -> fmt::Result {
+        let (section, bucket) = (self.section.as_u32(), self.bucket);
+        let (offset, len) = (self.offset, self.len);
+        write!(
+            f,
+            "Merge-string bucket too large: section {section}, bucket {bucket}, offset {offset}, length {len}"
+        )
+    }
+}
+
+/// In a word, as `slot`.
 impl fmt::Display for Uncarried {
     ghost use Rattle.std.specs.Prelude.{Some};
     ghost use Rattle.lk_layout.specs.Texts.{uncarried_text};
@@ -168,6 +232,26 @@ impl fmt::Display for LayoutError {
                 write!(f, "{fault}")
             }
             LayoutError::NotCarried(what) => write!(f, "not carried: {what}"),
+            LayoutError::MergeNotTerminated { section, input } => {
+                let (section, input) = (*section, *input);
+                let at = Unterminated { section, input };
+                write!(f, "{at}")
+            }
+            LayoutError::MergeTooLarge {
+                section,
+                bucket,
+                offset,
+                len,
+            } => {
+                let (section, bucket, offset, len) = (*section, *bucket, *offset, *len);
+                let full = FullBucket {
+                    section,
+                    bucket,
+                    offset,
+                    len,
+                };
+                write!(f, "{full}")
+            }
             LayoutError::References(faults) => match faults.as_slice().split_first() {
                 Some((first, faults)) => {
                     let further = FurtherLines { faults };
@@ -190,6 +274,7 @@ impl fmt::Display for LayoutError {
                 let section = section.as_u32();
                 write!(f, "section {section} is in no segment")
             }
+            LayoutError::MergeOffset(place) => write!(f, "{place}"),
         }
     }
 }
@@ -252,6 +337,44 @@ impl From<GcError> for LayoutError {
             GcError::References(faults) => LayoutError::References(faults),
             GcError::NoMemory => LayoutError::NoMemory,
         }
+    }
+}
+
+impl From<MergeError> for LayoutError {
+    ghost use Rattle.std.specs.Prelude.{◌≡◌};
+    ghost use Rattle.lk_layout.specs.Errors.{merge_error};
+
+    ghost from_gives = { λ error e. e ≡ merge_error error };
+
+    fn from(error: MergeError) -> LayoutError {
+        match error {
+            MergeError::NotTerminated { section, input } => {
+                LayoutError::MergeNotTerminated { section, input }
+            }
+            MergeError::TooLarge {
+                section,
+                bucket,
+                offset,
+                len,
+            } => LayoutError::MergeTooLarge {
+                section,
+                bucket,
+                offset,
+                len,
+            },
+            MergeError::NoMemory => LayoutError::NoMemory,
+        }
+    }
+}
+
+impl From<MergeOffsetPlace> for LayoutError {
+    ghost use Rattle.std.specs.Prelude.{◌≡◌};
+    ghost use Rattle.lk_layout.specs.Errors.{offset_error};
+
+    ghost from_gives = { λ place e. e ≡ offset_error place };
+
+    fn from(place: MergeOffsetPlace) -> LayoutError {
+        LayoutError::MergeOffset(place)
     }
 }
 

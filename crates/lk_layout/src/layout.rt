@@ -7,11 +7,12 @@ use crate::resolution::{EntryFault, entry_value};
 use crate::symbol_resolutions::SymbolResolutions;
 use lk_link::ids::SymbolId;
 use lk_link::list::List;
+use lk_merge::{MergedStringStartAddresses, MergedStringsSection};
 use lk_place::{OutputRecordLayout, SegmentLayout};
 
 /// Where everything stands (libwild: `Layout`).
 #[derive(Drop)]
-pub struct Layout {
+pub struct Layout<'data> {
     /// Of each output section.
     pub section_layouts: List<OutputRecordLayout>,
     /// Of each part, numbered over all sections.
@@ -27,13 +28,17 @@ pub struct Layout {
     pub live_marks: List<bool>,
     /// Of each live input section, by its number over all files, the address of its first byte; 0 for any other.
     pub section_addresses: List<u64>,
+    /// Of each output section its merged data; pieces are lent by the link. Contracts see the list of its inputs.
+    pub merged_strings: List<MergedStringsSection<'data>>,
+    /// Where the buckets of merged data stand in memory.
+    pub merged_string_start_addresses: MergedStringStartAddresses,
     /// Of each symbol, by number, what it stands for in the output; none where it has no resolution.
     pub symbol_resolutions: SymbolResolutions,
     /// The symbol that stands for the one where the program starts; none where the options name none.
     pub entry_symbol_id: Option<SymbolId>,
 }
 
-impl Layout {
+impl<'data> Layout<'data> {
     /// The address where the program starts; none where no entry is named. Refused where the entry's symbol has no resolution, and
     /// where only the dynamic linker gives its value. Takes constant time.
     pub fn resolved_entry_symbol_address(&self) -> Result<Option<u64>, EntryFault>

@@ -1,8 +1,9 @@
 //! The values that symbols have in the output.
 //!
 //! A table has the address of each live input section, by its number over all files. One pass over the symbols, file by file,
-//! gives each that stands for itself and is asked for its value: a place in a section is the section's address and the
-//! offset there, a number stays, and what is defined nowhere is 0. A symbol takes constant time.
+//! gives each that stands for itself and is asked for its value: a place in a live section is the section's address and the
+//! offset there, a number stays, and what is defined nowhere is 0. A named symbol in a merged section stands where its piece does,
+//! which takes logarithmic time; any other symbol takes constant time.
 
 ghost use Rattle.std.specs.Prelude.{◌≡◌, ◌+◌, ◌<◌, ◌^◌, ◌++◌, All, IfOk, OnOk, Some, None, true, map, length};
 ghost use Rattle.std.specs.List.{enumerate_from, flat_map, slice_index_or};
@@ -12,9 +13,10 @@ ghost use Rattle.lk_link.specs.Marks.{is_marked};
 ghost use Rattle.lk_link.specs.Walks.{file_of};
 ghost use Rattle.lk_link.specs.WellFormed.{IsWellFormed};
 ghost use Rattle.lk_layout.specs.Kept.{IsAskedFor};
-ghost use Rattle.lk_layout.specs.Resolutions.{entry_symbol, entry_value, file_resolutions, resolution_of, symbol_value};
-ghost use Rattle.lk_layout.specs.Tables.{HasRoom, HaveRoom, place_in};
+ghost use Rattle.lk_layout.specs.Resolutions.{entry_symbol, entry_value, file_resolutions, placed_value, resolution_of};
+ghost use Rattle.lk_layout.specs.Tables.{AreMergedOf, HasRoom, HaveRoom, place_in, places_in};
 
+use crate::merged::{Merged, merged_value};
 use crate::symbol_resolutions::SymbolResolutions;
 use lk_link::marks::is_marked;
 use lk_link::{FileRef, InputSymbol, LinkInput, SymbolId, SymbolPlacement, ValueFlags};
@@ -72,17 +74,19 @@ pub(crate) fn resolve_all(
     alloc: Global,
     link: &LinkInput,
     tables: Tables<'_>,
+    merged: Merged<'_>,
 ) -> Result<SymbolResolutions, AllocError>
+    requires belong { AreMergedOf merged.link.now merged.sections.now merged.starts.now }
     requires good { IsWellFormed link.now }
     requires room { HaveRoom tables.marks.now tables.addresses.now link.now.groups }
     ensures { IfOk result (λ resolutions. resolutions
-        ≡ flat_map (file_resolutions (place_in tables.entry.marks.now tables.entry.addresses.now) tables.entry.flags.now link.now.groups)
+        ≡ flat_map (file_resolutions (places_in tables.entry.marks.now tables.entry.addresses.now merged.entry.link.now merged.entry.starts.now) tables.entry.flags.now link.now.groups)
         (numbered_files link.now.groups)) }
 {
     let count = link.groups.symbol_count() as usize;
     let mut resolutions = SymbolResolutions::with_capacity(alloc, count)?;
     for file in link.groups.files() {
-        push_file_resolutions(&mut resolutions, link, tables, file)?;
+        push_file_resolutions(&mut resolutions, link, tables, merged, file)?;
     }
     Ok(resolutions)
 }
@@ -92,13 +96,15 @@ fn push_file_resolutions(
     resolutions: &mut SymbolResolutions,
     link: &LinkInput,
     tables: Tables<'_>,
+    merged: Merged<'_>,
     file: FileRef<'_>,
 ) -> Result<(), AllocError>
+    requires belong { AreMergedOf merged.link.now merged.sections.now merged.starts.now }
     requires good { IsWellFormed link.now }
     requires there { file_in link.now.groups file.id ≡ Some file.file.now }
     requires room { HaveRoom tables.marks.now tables.addresses.now link.now.groups }
     ensures { OnOk result (resolutions.new ≡ resolutions.old
-        ++ file_resolutions (place_in tables.entry.marks.now tables.entry.addresses.now) tables.entry.flags.now link.now.groups
+        ++ file_resolutions (places_in tables.entry.marks.now tables.entry.addresses.now merged.entry.link.now merged.entry.starts.now) tables.entry.flags.now link.now.groups
         (file_of file.entry)) }
 {
     let symbols = file.file.symbols.as_slice();
@@ -108,7 +114,7 @@ fn push_file_resolutions(
     if let Some(first) = link.groups.input_start(file.id) {
         if let Some(numbers) = link.groups.symbol_id_range(file.id) {
             let number = numbers.start().as_u32();
-            push_resolutions(resolutions, tables, first, number, symbols)?;
+            push_resolutions(resolutions, tables, merged, first, number, symbols)?;
         }
     }
     Ok(())
@@ -132,20 +138,22 @@ fn push_unresolved(
 fn push_resolutions(
     resolutions: &mut SymbolResolutions,
     tables: Tables<'_>,
+    merged: Merged<'_>,
     first: usize,
     number: u32,
     symbols: &[InputSymbol],
 ) -> Result<(), AllocError>
+    requires belong { AreMergedOf merged.link.now merged.sections.now merged.starts.now }
     requires few { first < 2 ^ 32 }
     requires numbers { number + length symbols.now < 2 ^ 32 }
     requires room { All (λ x. HasRoom tables.marks.now tables.addresses.now first x.at) symbols.now }
     ensures { OnOk result (resolutions.new ≡ resolutions.old
-        ++ map (resolution_of (place_in tables.entry.marks.now tables.entry.addresses.now) tables.entry.flags.now first)
+        ++ map (resolution_of (places_in tables.entry.marks.now tables.entry.addresses.now merged.entry.link.now merged.entry.starts.now) tables.entry.flags.now first)
         (enumerate_from number symbols.now)) }
 {
     let mut next = number;
     for symbol in symbols {
-        resolutions.push(resolve(tables, first, next, symbol))?;
+        resolutions.push(resolve(tables, merged, first, next, symbol))?;
         next += 1;
     }
     Ok(())
@@ -154,14 +162,16 @@ fn push_resolutions(
 /// The resolution of an object's symbol with this number, if it has one.
 fn resolve(
     tables: Tables<'_>,
+    merged: Merged<'_>,
     first: usize,
     number: u32,
     symbol: &InputSymbol,
 ) -> Option<Resolution>
+    requires belong { AreMergedOf merged.link.now merged.sections.now merged.starts.now }
     requires few { first < 2 ^ 32 }
     requires room { HasRoom tables.marks.now tables.addresses.now first symbol.now.at }
     ensures value { result
-        ≡ resolution_of (place_in tables.entry.marks.now tables.entry.addresses.now) tables.entry.flags.now first (number, symbol.now) }
+        ≡ resolution_of (places_in tables.entry.marks.now tables.entry.addresses.now merged.entry.link.now merged.entry.starts.now) tables.entry.flags.now first (number, symbol.now) }
     ensures asked { IsAskedFor result }
 {
     let flags = tables.flags.get(number as usize).copied()?;
@@ -172,19 +182,29 @@ fn resolve(
     if !is_definition || !flags.has_resolution() {
         return None;
     }
-    let raw_value = symbol_value(tables, first, symbol);
+    let raw_value = symbol_value(tables, merged, first, number, symbol);
     Some(Resolution { raw_value, flags })
 }
 
-/// The value of an object's symbol.
-fn symbol_value(tables: Tables<'_>, first: usize, symbol: &InputSymbol) -> u64
+/// The value of an object's symbol with this number.
+fn symbol_value(
+    tables: Tables<'_>,
+    merged: Merged<'_>,
+    first: usize,
+    number: u32,
+    symbol: &InputSymbol,
+) -> u64
+    requires belong { AreMergedOf merged.link.now merged.sections.now merged.starts.now }
     requires few { first < 2 ^ 32 }
     requires room { HasRoom tables.marks.now tables.addresses.now first symbol.now.at }
-    ensures { result ≡ symbol_value (place_in tables.entry.marks.now tables.entry.addresses.now) first symbol.now }
+    ensures { result ≡ placed_value (places_in tables.entry.marks.now tables.entry.addresses.now merged.entry.link.now merged.entry.starts.now) first number symbol.now.at }
 {
     match &symbol.at {
         SymbolPlacement::Section { index, offset } => {
-            address_at(tables, first + *index as usize, *offset).unwrap_or(0)
+            match address_at(tables, first + *index as usize, *offset) {
+                Some(address) => address,
+                None => merged_value(merged, SymbolId::from_u32(number)),
+            }
         }
         SymbolPlacement::Absolute(value) => *value,
         _ => 0,

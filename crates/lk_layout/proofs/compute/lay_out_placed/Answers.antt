@@ -1,4 +1,4 @@
-use Rattle.std.proofs.Common.{◌≡◌, ◌<◌, ℕ, List, [], length, refl, sym, ap, subst, ◌∙◌}
+use Rattle.std.proofs.Common.{◌≡◌, ◌<◌, ℕ, List, length, refl, sym, ap, subst, ◌∙◌}
 use Rattle.std.specs.Prelude.{All}
 use Rattle.lk_place.specs.Records.{Record}
 use Rattle.lk_sizes.specs.Contents.{contents_of}
@@ -9,12 +9,16 @@ use Rattle.lk_layout.proofs.compute.lay_out_placed.Goals as goal
 use Rattle.lk_place.specs.Segments.{section_records}
 use Rattle.lk_sizes.specs.declared.header.HeaderInfo.{HeaderInfo}
 use Rattle.lk_sizes.specs.Emitted.{active_segments, is_emitted}
+use Rattle.lk_merge.specs.Addresses.{start_addresses}
+use Rattle.lk_merge.specs.Hash.{fnv64}
+use Rattle.lk_merge.specs.LinkInputs.{link_inputs}
+use Rattle.lk_sizes.specs.Images.{image_addresses}
 use Rattle.lk_sizes.specs.LiveSections.{section_addresses}
-use Rattle.lk_layout.specs.Defined.{starts_of}
+use Rattle.lk_layout.specs.Defined.{IsPlacedAnswer, WithMemory, starts_of}
 use Rattle.lk_layout.specs.Resolutions.{symbol_resolutions}
-use Rattle.lk_layout.proofs.Answering.{same_layout, told}
+use Rattle.lk_layout.proofs.Answering.{err_exit, refused, same_layout, told, with_error}
 use Rattle.lk_link.specs.Marks.{is_marked}
-use Rattle.lk_layout.specs.OutputContent.{output_content}
+use Rattle.lk_layout.specs.OutputContent.{image_lens, output_content}
 
 pub determine_header_sizes-requires-clause-sizes : goal.determine_header_sizes-requires-clause-sizes
 determine_header_sizes-requires-clause-sizes c = ap length c.requires.first ∙ length-by_part (first_size c.args.link.now (output_content c.args.link.now c.args.live)) c.args.link.now
@@ -30,28 +34,44 @@ pub compute_segment_layout-requires-clause-there : goal.compute_segment_layout-r
 compute_segment_layout-requires-clause-there c =
     let link = c.args.link.now in
     let live = c.args.live in
-    let headers = c.in_ok-headers.ensures.header [] c.requires.first in
+    let headers = c.in_ok-headers.ensures.header (image_lens link) c.requires.first in
     let active : c.as_slice-3.result.now ≡ (header_info link (output_content link live)).active_segment_ids = c.as_slice-3.ensures ∙ ap (λ h. h.active_segment_ids) headers in
     let There : List ℕ → Type 0 = All (λ i. i < length link.plan.segments) in
     subst There (sym active) (active_there link live)
+
+pub returns-in_err-check_offsets : goal.returns-in_err-check_offsets
+returns-in_err-check_offsets c =
+    let link = c.args.link.now in
+    let live = c.args.live in
+    let records : List Record = c.args.placed.parts in
+    let headers : c.in_ok-headers.headers ≡ header_info link (output_content link live) = c.in_ok-headers.ensures.header (image_lens link) c.requires.first in
+    let sections : c.as_slice.result.now ≡ section_records link.plan.sections records = c.as_slice.ensures ∙ c.requires.sections in
+    let marks : is_marked c.as_slice-2.result.now ≡ is_emitted link (output_content link live)
+    = ap is_marked c.as_slice-2.ensures ∙ c.in_ok-headers.ensures.marks (image_lens link) c.requires.first in
+    let inside = rw (sections, marks) at c.in_ok-segments.ensures.inside in
+    err_exit (WithMemory (IsPlacedAnswer link live records)) _ c.from_residual-in_err-check_offsets.result c.from_residual-in_err-check_offsets.ensures.1 (λ e is.
+    with_error (IsPlacedAnswer link live records) e (λ memory. refused link live records c.in_err-check_offsets.field-0.0 e inside c.in_err-check_offsets.ensures is))
 
 pub returns : goal.returns
 returns c =
     let link = c.args.link.now in
     let live = c.args.live in
     let records : List Record = c.args.placed.parts in
-    let headers : c.in_ok-headers.headers ≡ header_info link (output_content link live) = c.in_ok-headers.ensures.header [] c.requires.first in
+    let headers : c.in_ok-headers.headers ≡ header_info link (output_content link live) = c.in_ok-headers.ensures.header (image_lens link) c.requires.first in
     let sections : c.as_slice.result.now ≡ section_records link.plan.sections records = c.as_slice.ensures ∙ c.requires.sections in
     let marks : is_marked c.as_slice-2.result.now ≡ is_emitted link (output_content link live)
-    = ap is_marked c.as_slice-2.ensures ∙ c.in_ok-headers.ensures.marks [] c.requires.first in
+    = ap is_marked c.as_slice-2.ensures ∙ c.in_ok-headers.ensures.marks (image_lens link) c.requires.first in
     let active : c.as_slice-3.result.now ≡ active_segments link (output_content link live) = c.as_slice-3.ensures ∙ ap (λ (h : HeaderInfo). h.active_segment_ids) headers in
-    let read : c.as_slice-4.result.now ≡ records = c.as_slice-4.ensures in
-    told link live records _ (rw (sections, marks) at c.in_ok-segments.ensures.inside)
-    (same_layout _ _ records _ _ _ _ _ _ _ _ _ _ _ _ _ _ c.requires.sections
+    let read : c.as_slice-parts.result.now ≡ records = c.as_slice-parts.ensures in
+    let content = output_content link live in
+    told link live records _ (rw (sections, marks) at c.in_ok-segments.ensures.inside) c.in_ok-check_offsets.ensures
+    (same_layout _ _ records _ _ _ _ _ _ _ _ _ _ _ _ _ _ _ _ _ _ c.requires.sections
     (c.from_vec.ensures ∙ c.in_ok-attributes.ensures (output_content link live) c.requires.contents)
     (ap (λ (h : HeaderInfo). h.output_section_indexes) headers)
     (c.from_vec-2.ensures ∙ (rw (sections, marks, active) at c.in_ok-segments.ensures.layouts))
     refl
     (c.from_vec-3.ensures ∙ c.in_ok-addresses.ensures.sections ∙ ap (λ (rs : List Record). section_addresses link (output_content link live) (starts_of rs)) read)
+    c.requires.images.sections
+    (c.in_ok-addresses.ensures.buckets ∙ ap (λ (rs : List Record). start_addresses fnv64 (link_inputs link).outputs (image_addresses link content (starts_of rs))) read)
     (c.in_ok-addresses.ensures.resolutions ∙ ap (λ (rs : List Record). symbol_resolutions link live (starts_of rs)) read)
     c.entry_symbol.ensures)

@@ -1,0 +1,170 @@
+-- A named symbol in a merged section has the address at which the image shows what stands there.
+use Rattle.std.proofs.Common.{◌≡◌, ℕ, ◌+◌, ◌<◌, ◌≤◌, Bool, true, false, cond, if◌then◌else◌, List, [], ◌∷◌, length, ltb, not, Option, Some, None, sym, ap, ◌∙◌, inl, inr, arith}
+use Rattle.std.specs.Prelude.{◌&&◌, ◌==◌, option_and_then, option_map, pos, unwrap_or}
+use Rattle.std.specs.List.{enumerate_from, flat_map, list_all, slice_get}
+use Rattle.std.specs.Option.{option_map_or}
+use Rattle.std.proofs.lemmas.Bool.{cases_lt, false_from_ne_true, lt-ltb}
+use Rattle.std.proofs.lemmas.Bool.Decides.{nat_tests}
+use Rattle.std.proofs.lemmas.Option.{slice_get_within}
+use Rattle.lk_link.specs.declared.file.InputFile.{InputFile}
+use Rattle.lk_link.specs.declared.ids.FileId.{FileId}
+use Rattle.lk_link.specs.declared.link.LinkInput.{LinkInput}
+use Rattle.lk_link.specs.declared.section.InputSection.{InputSection}
+use Rattle.lk_link.specs.declared.symbol.InputSymbol.{InputSymbol}
+use Rattle.lk_link.specs.declared.symbol.SymbolPlacement.TheVariants as at
+use Rattle.lk_link.specs.Files.{file_in}
+use Rattle.lk_link.specs.InputSlots.{is_merge}
+use Rattle.lk_link.specs.Inputs.{Input, NumberedFile, all_inputs, first_input, input_number, numbered_files}
+use Rattle.lk_link.specs.Marks.{is_marked}
+use Rattle.lk_link.specs.Symbols.{file_number, first_symbol, symbol_at}
+use Rattle.lk_link.specs.Target.{Target}
+use Rattle.lk_link.proofs.Elements.{append_left, flat_map_in}
+use Rattle.lk_link.proofs.InputLemmas.{file_stands, inputs_follow, numbered_get}
+use Rattle.lk_link.proofs.SymbolLemmas.{symbols_follow}
+use Rattle.lk_gc.specs.declared.live.Live.{Live}
+use Rattle.lk_gc.specs.Reach.{AreLive, IsLive}
+use Rattle.lk_merge.specs.Addresses.{image_start}
+use Rattle.lk_merge.specs.Hash.{fnv64}
+use Rattle.lk_merge.specs.LinkInputs.{link_inputs, merge_input, merge_inputs}
+use Rattle.lk_merge.specs.OutputAddresses.{MergePlace, address_in, merge_place, numbered_symbols, offset_place, output_of, placed_in, symbol_place}
+use Rattle.lk_merge.specs.Pieces.{MergeInput, is_terminated}
+use Rattle.lk_merge.proofs.AddressLemmas.{starts_at}
+use Rattle.lk_merge.proofs.SymbolPlaces.{is_input, output_at, symbol_numbered}
+use Rattle.lk_sizes.specs.Images.{image_addresses}
+use Rattle.lk_sizes.specs.Owners.{live_address}
+use Rattle.lk_layout.specs.declared.layout.Layout.{Layout}
+use Rattle.lk_layout.specs.declared.outside.MergeOffsetPlace.{MergeOffsetPlace}
+use Rattle.lk_layout.specs.declared.outside.MergeOffsetPlace.TheVariants.{OfSymbol}
+use Rattle.lk_layout.specs.declared.resolution.Resolution.{Resolution}
+use Rattle.lk_layout.specs.Defined.{starts_of}
+use Rattle.lk_layout.specs.OutputContent.{output_content}
+use Rattle.lk_layout.specs.Outside.{chooses_outside, merge_offsets, relocations_outside, stands_outside, symbol_outside, symbols_outside}
+use Rattle.lk_layout.specs.Resolutions.{Places, flags_at, images_at, is_resolved, places_of, resolution_at, resolution_of, value_at}
+use Rattle.lk_layout.specs.Sound.{NamedSymbolsShow}
+use Rattle.lk_layout.proofs.Imaging.{output_there, symbol_place_is}
+use Rattle.lk_layout.proofs.ImagesShow.{all_terminated, shows}
+use Rattle.lk_layout.proofs.LaidOut.{IsLaidOut}
+use Rattle.lk_layout.proofs.Placing.{unmerged}
+use Rattle.lk_layout.proofs.Resolved.{in_file}
+use Rattle.lk_layout.proofs.Valued.{resolution_is, value_of}
+
+-- ---- what the symbol names
+
+-- a symbol of a file that is placed in a merged section
+record Stands (link : LinkInput) (id : FileId) (file : InputFile) (i offset k : ℕ) (x : InputSymbol) (section : InputSection) : Type 0 where
+  there : file_in link.groups id ≡ Some file
+  at_k : slice_get file.symbols k ≡ Some x
+  placed : x.at ≡ at.Section i offset
+  at_i : slice_get file.sections i ≡ Some section
+  merged : is_merge section.slot ≡ true
+  named : (length x.name == 0) ≡ false
+
+abbrev place_of : LinkInput → FileId → ℕ → ℕ → InputSection → MergePlace
+place_of link id i offset section = record { number = input_number link.groups id i; section = section; offset = offset; named = true }
+
+names : (link : LinkInput) (id : FileId) (file : InputFile) (i offset k : ℕ) (x : InputSymbol) (section : InputSection) → Stands link id file i offset k x section
+    → symbol_place link.groups (first_symbol link.groups id + k) ≡ Some (place_of link id i offset section)
+names link id file i offset k x section s =
+    let groups = link.groups in
+    let number : ℕ = first_symbol groups id + k in
+    let f : NumberedFile = record { id = id; file = file } in
+    let lt = slice_get_within file.symbols k x s.at_k in
+    let at_s : symbol_at groups number ≡ Some x = symbols_follow groups id file k s.there lt ∙ s.at_k in
+    let numbered : slice_get (numbered_symbols groups) number ≡ Some (f, x) = symbol_numbered groups id number file x (in_file groups id file k s.there lt) s.there at_s in
+    let here : Bool → InputSection → MergePlace = λ b y. record { number = input_number groups id i; section = y; offset = offset; named = b } in
+    let made : Bool → InputSection → Option MergePlace = λ b y. if is_merge y.slot then Some (here b y) else None in
+    ap (λ (o : Option (NumberedFile × InputSymbol)). option_and_then (merge_place groups) o) numbered
+    ∙ ap (placed_in groups f (not (length x.name == 0))) s.placed
+    ∙ ap (λ (b : Bool). placed_in groups f (not b) (at.Section i offset)) s.named
+    ∙ ap (λ (o : Option InputSection). option_and_then (made true) o) s.at_i
+    ∙ ap (λ (b : Bool). if b then Some (here true section) else None) s.merged
+
+-- ---- it stands inside the data
+
+past_tells : (m n : ℕ) → n ≤ m → ltb m n ≡ false
+past_tells m n h = grind (arith, nat_tests)
+
+-- a list that is empty has no element
+has_none : (places : List MergeOffsetPlace) (n : ℕ) (place : MergeOffsetPlace) → places ≡ [] → slice_get places n ≡ Some place → ⊥
+has_none [] n place is h = absurd (cc)
+has_none (x ∷ places) n place is h = absurd (cc)
+
+stands_inside : (link : LinkInput) (live : Live) (id : FileId) (file : InputFile) (i offset k : ℕ) (x : InputSymbol) (section : InputSection) → Stands link id file i offset k x section
+    → is_resolved (first_symbol link.groups id + k) x (flags_at live.flags (first_symbol link.groups id + k)) ≡ true → merge_offsets link live ≡ [] → offset < length section.bytes
+stands_inside link live id file i offset k x section s resolved inside =
+    elim (cases_lt offset (length section.bytes)) [
+      | inl below ↦ below
+      | inr past ↦
+          let groups = link.groups in
+          let first : ℕ = first_symbol groups id in
+          let number : ℕ = first + k in
+          let f : NumberedFile = record { id = id; file = file } in
+          let outside : stands_outside link number ≡ true
+          = ap (λ (o : Option MergePlace). option_map_or (λ place. place.named && chooses_outside (pos 0) place) o false) (names link id file i offset k x section s)
+          ∙ ap not (past_tells offset (length section.bytes) past) in
+          let flags = flags_at live.flags number in
+          let one : slice_get (symbol_outside link live (number, x)) 0 ≡ Some (OfSymbol number)
+          = ap (λ b. slice_get (if b && stands_outside link number then OfSymbol number ∷ [] else []) 0) resolved
+          ∙ ap (λ b. slice_get (if b then OfSymbol number ∷ [] else []) 0) outside in
+          let of_file = flat_map_in (symbol_outside link live) (enumerate_from first file.symbols) k 0 (number, x) (OfSymbol number) (numbered_get first file.symbols k x s.at_k) one in
+          let of_all = flat_map_in (symbols_outside link live) (numbered_files groups) (file_number groups id) of_file.0 f (OfSymbol number) (file_stands groups id file s.there) of_file.1 in
+          let there = append_left (flat_map (symbols_outside link live) (numbered_files groups)) (flat_map (relocations_outside link live) (numbered_files groups)) of_all.0 (OfSymbol number) of_all.1 in
+          absurd (has_none (merge_offsets link live) of_all.0 (OfSymbol number) inside there)
+    ]
+
+-- ---- its value
+
+-- a merged section isn't live
+not_live : (link : LinkInput) (live : Live) (k : ℕ) (x : Input) → AreLive link live → slice_get (all_inputs link.groups) k ≡ Some x → is_merge x.section.slot ≡ true → is_marked live.marks k ≡ false
+not_live link live k x are there merged =
+    false_from_ne_true (is_marked live.marks k) (λ set.
+    let lives : IsLive link x = (are.marks k x there).0 set in
+    let no : is_merge x.section.slot ≡ false = unmerged x.section.slot lives.slot in
+    absurd (cc))
+
+pub named_symbols_show : (target : Target) (link : LinkInput) (layout : Layout) (laid : IsLaidOut target link layout) → NamedSymbolsShow link laid.live layout
+named_symbols_show target link layout laid id file i offset section there r placed at_i merged named =
+    let groups = link.groups in
+    let live : Live = laid.live in
+    let starts : List ℕ = starts_of laid.records in
+    let first : ℕ = first_input groups id in
+    let number : ℕ = first_symbol groups id + r.index in
+    let x : InputSymbol = r.symbol in
+    let s : Stands link id file i offset r.index x section = record { there = there; at_k = r.there; placed = placed; at_i = at_i; merged = merged; named = named } in
+    let place : MergePlace = place_of link id i offset section in
+    let is = names link id file i offset r.index x section s in
+    let stands = symbol_place_is link number place is in
+    let output = output_there link place laid.good stands in
+    let t : ℕ = output_of link section in
+    let inputs : List MergeInput = merge_inputs link t in
+    let y : MergeInput = merge_input place.number section in
+    let inside : offset < length section.bytes = stands_inside link live id file i offset r.index x section s r.resolved laid.inside in
+    let input : Input = record { file = id; index = i; section = section } in
+    let at_input : slice_get (all_inputs groups) place.number ≡ Some input = inputs_follow.at groups id file i section there at_i in
+    let among = is_input link place.number t input at_input merged output.0 in
+    let at_t = output_at link t output.1 in
+    let n : ℕ = offset_place fnv64 inputs y offset in
+    let images : ℕ → ℕ = images_at link live starts in
+    let address : ℕ = images t + n in
+    let found : address_in link images place offset ≡ Some address = ap (λ b. cond b (Some address) None) (lt-ltb offset (length section.bytes) inside) in
+    let places : Places = places_of link live starts in
+    let none : places.live (first + i) offset ≡ None
+    = ap (λ b. if b then option_map (λ z. live_address link (output_content link live) starts z + offset) (slice_get (all_inputs groups) (first + i)) else None) (not_live link live (first + i) input laid.are_live at_input merged) in
+    let value : unwrap_or (places.live (first + i) offset) (places.merged number) ≡ address
+    = ap (λ (o : Option ℕ). unwrap_or o (places.merged number)) none
+    ∙ ap (λ (o : Option MergePlace). option_map_or (value_at link images) o 0) is
+    ∙ ap (λ (o : Option ℕ). unwrap_or o 0) found in
+    let read : resolution_at layout.symbol_resolutions number ≡ resolution_of places live.flags first (number, x)
+    = ap (λ (l : Layout). resolution_at l.symbol_resolutions number) laid.same ∙ resolution_is link live starts id file r.index x there r.object r.there in
+    let image_is : image_start layout.merged_string_start_addresses t ≡ images t
+    = ap (λ (l : Layout). image_start l.merged_string_start_addresses t) laid.same
+    ∙ starts_at (link_inputs link).outputs (image_addresses link (output_content link live) starts) t inputs at_t in
+    let terminated : list_all is_terminated inputs ≡ true = all_terminated link.options.bucket_limit 0 (link_inputs link).outputs t inputs laid.merged at_t in (
+      address,
+      ap (option_map (λ (z : Resolution). z.raw_value)) read ∙ value_of places live first number i offset address x r.resolved placed value,
+      record {
+        place = n;
+        at = ap (λ m. m + n) (sym image_is);
+        shows = shows link t among.0 offset y laid.good terminated among.1 inside;
+      },
+    )
