@@ -17,7 +17,7 @@ use Rattle.lk_gc.specs.Faults.{marked_faults, section_faults, undefined_placemen
 use Rattle.lk_gc.specs.Marks.{unit_number}
 
 -- one element more, with its number
-numbered_more : {X : Type 0} (o n : ℕ) (xs : List X) (d : X) → n < length xs → enumerate_from o (take (suc n) xs) ≡ enumerate_from o (take n xs) ++ (o + n, get_or xs n d) ∷ []
+pub numbered_more : {X : Type 0} (o n : ℕ) (xs : List X) (d : X) → n < length xs → enumerate_from o (take (suc n) xs) ≡ enumerate_from o (take n xs) ++ (o + n, get_or xs n d) ∷ []
 numbered_more o n [] d lt = absurd (omega (arith, lt))
 numbered_more o zero (x ∷ xs) d lt = let e : o ≡ o + 0 = omega arith in ap (λ i. (i, x) ∷ []) e
 numbered_more o (suc n) (x ∷ xs) d lt =

@@ -1,8 +1,9 @@
 -- Live sections, flags and kept output sections, one more at a time.
-use Rattle.std.proofs.Common.{◌≡◌, ℕ, suc, ◌+◌, ◌-◌, ◌<◌, ◌≤◌, Bool, true, false, ◌&&◌, ◌||◌, ◌==◌, not, List, [], ◌∷◌, ◌++◌, length, map, refl, sym, ap, ◌∙◌, arith, get_or, nat_le, nat_lt}
-use Rattle.std.specs.List.{enumerate_from, list_any, range_with_len}
+use Rattle.std.proofs.Common.{◌≡◌, ℕ, suc, ◌+◌, ◌-◌, ◌<◌, ◌≤◌, Bool, true, false, ◌&&◌, ◌||◌, ◌==◌, not, List, [], ◌∷◌, ◌++◌, length, map, take, Some, refl, sym, ap, ◌∙◌, arith, get_or, nat_le, nat_lt}
+use Rattle.std.specs.List.{enumerate_from, list_any, range_with_len, slice_get}
+use Rattle.std.proofs.lemmas.Option.{get_or_from_slice_get, slice_get_within}
 use Rattle.std.proofs.lemmas.Bool.{and_from, and_parts, eq-eqb, eqb-true, le-leb, leb-true, lt-ltb, ltb-true}
-use Rattle.std.proofs.lemmas.List.{length-map, map_push}
+use Rattle.std.proofs.lemmas.List.{ext_get_or, length-map, map_push}
 use Rattle.std.proofs.lemmas.List.Folds.{Any-from_list_any, list_any-append, list_any-from_Any, list_any_at}
 use Rattle.std.proofs.lemmas.List.FromFn.{get_or-range_with_len, length-enumerate_from, length-range_with_len}
 use Rattle.lk_link.specs.declared.link.LinkInput.{LinkInput}
@@ -14,7 +15,13 @@ use Rattle.lk_link.specs.Marks.{is_marked}
 use Rattle.lk_link.specs.Parts.{first_part}
 use Rattle.lk_link.specs.Walks.{input_of}
 use Rattle.lk_link.proofs.PartNumbers.{first_part-le}
-use Rattle.lk_gc.specs.Reach.{keeps_output, marked}
+use Rattle.lk_link.specs.declared.walks.FileRef.{FileRef}
+use Rattle.lk_link.specs.Inputs.{NumberedFile}
+use Rattle.lk_link.specs.Walks.{file_of}
+use Rattle.lk_link.specs.declared.symbol.InputSymbol.{InputSymbol}
+use Rattle.lk_link.proofs.Numbers.{length-made, made_at}
+use Rattle.lk_gc.proofs.FaultLemmas.{numbered_more}
+use Rattle.lk_gc.specs.Reach.{for_sections, keeps_output, kept_marks, marked, redirect_keeps, script_keeps, section_keeps}
 use Rattle.lk_gc.specs.Walking.{AreKeptParts, keeps_part}
 
 -- ---- live sections
@@ -38,9 +45,13 @@ live_next f done x live new so_far step =
 
 -- ---- parts
 
-or_last : (b : Bool) → (b || false) ≡ b
+pub or_last : (b : Bool) → (b || false) ≡ b
 or_last true = refl
 or_last false = refl
+
+or_assoc : (a b c : Bool) → ((a || b) || c) ≡ (a || (b || c))
+or_assoc true b c = refl
+or_assoc false b c = refl
 
 -- one section more that may keep a part
 pub part_next : (p : ℕ) (done : List InputRef) (x : InputRef) (old new : Bool) → old ≡ list_any (λ y. keeps_part p y.section) (map input_of done) → new ≡ (old || keeps_part p x.section.now)
@@ -96,3 +107,45 @@ kept_same link o live parts first behind kept at_first at_behind =
 pub by_number : {X Y : Type 0} (f : ℕ → Y) (o : ℕ) (xs : List X) → map f (range_with_len o (length xs)) ≡ map (λ q. f q.0) (enumerate_from o xs)
 by_number f o [] = refl
 by_number f o (x ∷ xs) = ap (λ ys. f o ∷ ys) (by_number f (o + 1) xs)
+
+-- what sections keep, and then what redirects keep, is all that is kept
+pub kept_whole : (link : LinkInput) (live marks old new : List Bool) → old ≡ for_sections (section_keeps link live) link → length new ≡ length old
+    → ((o : ℕ) → o < length old → is_marked new o ≡ (is_marked old o || redirect_keeps link marks o)) → new ≡ kept_marks link live marks
+kept_whole link live marks old new by_sections count each =
+    let sections : List PlanSection = link.plan.sections in
+    let both : ℕ → Bool = λ o. section_keeps link live o || redirect_keeps link marks o in
+    let many : length old ≡ length sections = ap length by_sections ∙ length-made (section_keeps link live) sections 0 in
+    ext_get_or false new (kept_marks link live marks) (count ∙ many ∙ sym (length-made both sections 0)) (λ o lt.
+    let inside : o < length old = omega (arith, count, lt) in
+    let here : o < length sections = omega (arith, many, inside) in
+    let zero_more : 0 + o ≡ o = omega arith in
+    let read : is_marked old o ≡ section_keeps link live o = ap (λ ms. is_marked ms o) by_sections ∙ made_at (section_keeps link live) false sections 0 o here ∙ ap (section_keeps link live) zero_more in
+    each o inside ∙ ap (λ b. b || redirect_keeps link marks o) read ∙ sym (made_at both false sections 0 o here ∙ ap both zero_more))
+
+-- ---- redirects
+
+-- one element for which it holds
+pub some_holds : {X : Type 0} (p : X → Bool) (xs : List X) (k : ℕ) (x : X) → slice_get xs k ≡ Some x → p x ≡ true → list_any p xs ≡ true
+some_holds p xs k x h e = list_any-from_Any p xs (k, x, slice_get_within xs k x h, get_or_from_slice_get xs k x x h, e)
+
+-- one file more that may keep an output section
+pub file_next : (link : LinkInput) (marks : List Bool) (o : ℕ) (done : List FileRef) (x : FileRef) (first old new : Bool)
+    → old ≡ (first || list_any (script_keeps link marks o) (map file_of done)) → new ≡ (old || script_keeps link marks o (file_of x))
+    → new ≡ (first || list_any (script_keeps link marks o) (map file_of (done ++ x ∷ [])))
+file_next link marks o done x first old new so_far step =
+    let test : NumberedFile → Bool = script_keeps link marks o in
+    step ∙ ap (λ b. b || test (file_of x)) so_far ∙ or_assoc first (list_any test (map file_of done)) (test (file_of x))
+    ∙ ap (λ b. first || (list_any test (map file_of done) || b)) (sym (or_last (test (file_of x))))
+    ∙ ap (λ b. first || b) (sym (list_any-append test (map file_of done) (file_of x ∷ [])) ∙ ap (list_any test) (sym (map_push file_of done x)))
+
+-- one symbol more that may keep one
+pub symbol_next : (f : ℕ × InputSymbol → Bool) (first n : ℕ) (xs : List InputSymbol) (x : InputSymbol) (init old new : Bool) → n < length xs → x ≡ get_or xs n x
+    → old ≡ (init || list_any f (enumerate_from first (take n xs))) → new ≡ (old || f (first + n, x)) → new ≡ (init || list_any f (enumerate_from first (take (n + 1) xs)))
+symbol_next f first n xs x init old new lt read so_far step =
+    let next : n + 1 ≡ suc n = omega arith in
+    let before : List (ℕ × InputSymbol) = enumerate_from first (take n xs) in
+    let more : enumerate_from first (take (n + 1) xs) ≡ before ++ (first + n, x) ∷ []
+    = ap (λ k. enumerate_from first (take k xs)) next ∙ numbered_more first n xs x lt ∙ ap (λ y. before ++ (first + n, y) ∷ []) (sym read) in
+    step ∙ ap (λ b. b || f (first + n, x)) so_far ∙ or_assoc init (list_any f before) (f (first + n, x))
+    ∙ ap (λ b. init || (list_any f before || b)) (sym (or_last (f (first + n, x))))
+    ∙ ap (λ b. init || b) (sym (list_any-append f before ((first + n, x) ∷ [])) ∙ ap (list_any f) (sym more))

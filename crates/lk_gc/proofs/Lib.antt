@@ -1,4 +1,6 @@
+pub mod EdgeLemmas
 pub mod FaultLemmas
+pub mod FaultReach
 pub mod GroupLemmas
 pub mod KeepLemmas
 pub mod LawLemmas
@@ -14,4 +16,6 @@ pub mod SuccessorLemmas
 pub mod SymbolNumbers
 pub mod UnitLemmas
 pub mod WalkLemmas
+pub mod WholeLemmas
 pub mod WordLemmas
+pub mod WorkLemmas

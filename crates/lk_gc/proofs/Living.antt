@@ -1,11 +1,13 @@
 -- What is live of a link: what marks and words tell is, and only that.
-use Rattle.std.proofs.Common.{◌≡◌, ℕ, zero, suc, ◌+◌, ◌<◌, Bool, true, false, ◌&&◌, ◌||◌, List, [], ◌∷◌, length, map, drop, Some, refl, sym, ap, ◌∙◌, subst, inl, inr, arith, length-drop}
+use Rattle.std.proofs.Common.{◌≡◌, ℕ, zero, suc, ◌+◌, ◌<◌, Bool, true, false, ◌&&◌, ◌||◌, List, [], ◌∷◌, length, map, drop, Option, Some, None, ◌⊎◌, ◌==◌, refl, sym, ap, ◌∙◌, subst, inl, inr, arith, length-drop}
 use Rattle.std.specs.Int.{bit_at}
 use Rattle.std.specs.List.{enumerate_from, filter, list_any, slice_get, slice_index, slice_index_or}
-use Rattle.std.proofs.lemmas.Bool.{and_from, and_parts, cases_Bool, or_left, or_right}
+use Rattle.std.proofs.lemmas.Bool.{and_from, and_parts, cases_Bool, eq-eqb, eqb-true, or_left, or_right}
+use Rattle.std.proofs.lemmas.List.Folds.{Any-from_list_any}
 use Rattle.std.proofs.lemmas.List.{ext_get_or, get_or-drop, length-map}
 use Rattle.std.proofs.lemmas.List.FromFn.{length-enumerate_from}
-use Rattle.std.proofs.lemmas.Option.{get_or_from_slice_get, slice_get_within}
+use Rattle.std.proofs.lemmas.Option.{get_or_from_slice_get, slice_get-get_or, slice_get_within}
+use Rattle.std.specs.Option.{option_map_or}
 use Rattle.lk_link.specs.declared.file.FileKind.{FileKind}
 use Rattle.lk_link.specs.declared.file.FileKind.TheVariants as kind
 use Rattle.lk_link.specs.declared.file.InputFile.{InputFile}
@@ -15,22 +17,26 @@ use Rattle.lk_link.specs.declared.plan.PlanSection.{PlanSection}
 use Rattle.lk_link.specs.declared.section.InputSlot.{InputSlot}
 use Rattle.lk_link.specs.declared.section.InputSlot.TheVariants as slot
 use Rattle.lk_link.specs.Files.{file_in}
-use Rattle.lk_link.specs.FileKinds.{is_object}
+use Rattle.lk_link.specs.FileKinds.{is_object, is_script}
 use Rattle.lk_link.specs.Inputs.{Input, NumberedFile, all_inputs, numbered_files}
 use Rattle.lk_link.specs.InputSlots.{can_be_kept}
-use Rattle.lk_link.specs.Symbols.{all_symbols}
+use Rattle.lk_link.specs.Marks.{is_marked}
+use Rattle.lk_link.specs.Symbols.{all_symbols, file_number, first_symbol}
 use Rattle.lk_link.specs.WellFormed.{IsWellFormed}
-use Rattle.lk_link.proofs.InputLemmas.{numbered_get}
+use Rattle.lk_link.proofs.InputLemmas.{file_stands, numbered_get}
+use Rattle.lk_link.proofs.SymbolLemmas.{symbols_within}
 use Rattle.lk_link.proofs.Numbers.{length-made, made_at}
 use Rattle.lk_gc.specs.declared.live.Live.{Live}
 use Rattle.lk_gc.specs.Laws.{LiveExists, LiveIsOne, RootsAreLive}
 use Rattle.lk_gc.specs.Marks.{IsMarked, IsUnit, asked, asking, flag_words, handed_in, reached_marks, symbols_in_all, unit_at, unit_number, word_of}
-use Rattle.lk_gc.specs.Reach.{AreLive, IsLive, keeps_output, kept_marks, live_by, live_marks, marked}
+use Rattle.lk_gc.specs.declared.units.Unit.TheVariants.{Sym}
+use Rattle.lk_gc.specs.Reach.{AreLive, IsKeptByRedirect, IsLive, IsReached, keeps_output, kept_marks, live_by, live_marks, marked, names_output, redirect_keeps, redirect_output, script_keeps, section_keeps}
 use Rattle.lk_gc.specs.Units.{ask_for, export_roots, file_roots, flags_from, is_root, kind_roots, roots, section_roots, unit_of}
-use Rattle.lk_link.proofs.Elements.{append_left, at_index, contains_at, filter_in, flat_map_at, flat_map_in, map_at, map_in}
+use Rattle.lk_link.proofs.Elements.{numbered_at, append_left, at_index, contains_at, filter_in, flat_map_at, flat_map_in, map_at, map_in}
 use Rattle.lk_gc.proofs.Numbered.{IsSectionOf, file_at, section_of, sections_of}
+use Rattle.lk_gc.proofs.KeepLemmas.{some_holds}
 use Rattle.lk_gc.proofs.ReachLemmas.{handed_length, marks_are_reached, reach_root, words_are_flags}
-use Rattle.lk_gc.proofs.UnitLemmas.{input_place, input_unit, symbols_length}
+use Rattle.lk_gc.proofs.UnitLemmas.{input_place, input_unit, symbol_unit, symbols_length}
 use Rattle.lk_gc.proofs.WordLemmas.{join_all_length, same_flags}
 
 -- ---- input sections
@@ -111,12 +117,75 @@ marked_any p (true ∷ marks) (y ∷ xs) (suc k) x h m e = or_right (p y) (list_
 
 -- ---- all together
 
-kept_at : (link : LinkInput) (live : List Bool) (o : ℕ) → o < length link.plan.sections → slice_index_or (kept_marks link live) o false ≡ list_any (keeps_output link o) (marked live (all_inputs link.groups))
-kept_at link live o lt =
-    let told : ℕ → Bool = λ n. list_any (keeps_output link n) (marked live (all_inputs link.groups)) in
-    let sections : List PlanSection = link.plan.sections in
+kept_at : (link : LinkInput) (live marks : List Bool) (o : ℕ) → o < length link.plan.sections
+    → slice_index_or (kept_marks link live marks) o false ≡ (section_keeps link live o || redirect_keeps link marks o)
+kept_at link live marks o lt =
+    let told : ℕ → Bool = λ n. section_keeps link live n || redirect_keeps link marks n in
     let zero_more : 0 + o ≡ o = omega arith in
-    made_at told false sections 0 o lt ∙ ap told zero_more
+    made_at told false link.plan.sections 0 o lt ∙ ap told zero_more
+
+either : (a b : Bool) → (a || b) ≡ true → (a ≡ true) ⊎ (b ≡ true)
+either true b h = inl refl
+either false b h = inr h
+
+-- an element for which it holds, where there is one
+record Holds {X : Type 0} (p : X → Bool) (xs : List X) : Type 0 where
+  place : ℕ
+  element : X
+  there : slice_get xs place ≡ Some element
+  holds : p element ≡ true
+
+holds_of : {X : Type 0} (p : X → Bool) (xs : List X) → list_any p xs ≡ true → Holds p xs
+holds_of p xs h =
+    let x = Any-from_list_any p xs h in
+    record { place = x.0; element = x.1; there = slice_get-get_or xs x.0 x.1 x.2 ∙ ap Some x.3; holds = x.4 }
+
+output_is : (p : Option ℕ) (o : ℕ) → option_map_or (λ n. n == o) p false ≡ true → p ≡ Some o
+output_is None o h = absurd (cc)
+output_is (Some n) o h = ap Some (eqb-true n o h)
+
+is_output : (p : Option ℕ) (o : ℕ) → p ≡ Some o → option_map_or (λ n. n == o) p false ≡ true
+is_output p o h = ap (λ q. option_map_or (λ n. n == o) q false) h ∙ eq-eqb o o refl
+
+marked_redirect : (link : LinkInput) (o : ℕ) → IsWellFormed link → redirect_keeps link (reached_marks link) o ≡ true → IsKeptByRedirect link o
+marked_redirect link o wf h =
+    let groups : List (List InputFile) = link.groups in
+    let marks = reached_marks link in
+    let f = holds_of (script_keeps link marks o) (numbered_files groups) h in
+    let file : InputFile = f.element.file in
+    let first = first_symbol groups f.element.id in
+    let there = (file_at groups f.place f.element f.there).there in
+    let both = and_parts (is_script file.kind) (list_any (names_output marks o) (enumerate_from first file.symbols)) f.holds in
+    let q = holds_of (names_output marks o) (enumerate_from first file.symbols) both.1 in
+    let x = numbered_at first file.symbols q.place q.element q.there in
+    let number : q.element.0 ≡ first + q.place = x.0 in
+    let names = and_parts (is_marked marks q.element.0) (option_map_or (λ n. n == o) (redirect_output q.element.1.at) false) q.holds in
+    let within : q.element.0 < symbols_in_all groups
+    = omega (arith, number, slice_get_within file.symbols q.place q.element.1 x.1, symbols_within groups f.element.id file there) in
+    let reached : IsReached link (Sym q.element.0) = (marks_are_reached link (Sym q.element.0) wf (symbol_unit groups q.element.0 within)).0 names.0 in
+    record {
+      id = f.element.id;
+      file = file;
+      there = there;
+      script = both.0;
+      index = q.place;
+      symbol = q.element.1;
+      at_index = x.1;
+      redirect = output_is (redirect_output q.element.1.at) o names.1;
+      reached = subst (λ n. IsReached link (Sym n)) number reached;
+    }
+
+redirect_marked : (link : LinkInput) (o : ℕ) → IsWellFormed link → IsKeptByRedirect link o → redirect_keeps link (reached_marks link) o ≡ true
+redirect_marked link o wf r =
+    let groups : List (List InputFile) = link.groups in
+    let marks = reached_marks link in
+    let first = first_symbol groups r.id in
+    let f : NumberedFile = record { id = r.id; file = r.file } in
+    let within : first + r.index < symbols_in_all groups = omega (arith, slice_get_within r.file.symbols r.index r.symbol r.at_index, symbols_within groups r.id r.file r.there) in
+    let mark : is_marked marks (first + r.index) ≡ true = (marks_are_reached link (Sym (first + r.index)) wf (symbol_unit groups (first + r.index) within)).1 r.reached in
+    let names = and_from (is_marked marks (first + r.index)) _ mark (is_output (redirect_output r.symbol.at) o r.redirect) in
+    let some = some_holds (names_output marks o) (enumerate_from first r.file.symbols) r.index (first + r.index, r.symbol) (numbered_get first r.file.symbols r.index r.symbol r.at_index) names in
+    some_holds (script_keeps link marks o) (numbered_files groups) (file_number groups r.id) f (file_stands groups r.id r.file r.there) (and_from (is_script r.file.kind) _ r.script some)
 
 pub are_live : (link : LinkInput) → IsWellFormed link → AreLive link (live_by link (reached_marks link) (flag_words link))
 are_live link wf =
@@ -131,13 +200,21 @@ are_live link wf =
           let within : s < symbols_in_all link.groups = omega (arith, slice_get_within (map flags_from (drop 1 (flag_words link))) s f h, flag_count link, symbols_length link.groups) in
           let law = words_are_flags link s i wf within in
           (λ bit. law.0 (ap (λ w. bit_at w i) (sym same) ∙ bit), λ flag. ap (λ w. bit_at w i) same ∙ law.1 flag);
-      sections = length-made (λ n. list_any (keeps_output link n) (marked marks inputs)) link.plan.sections 0;
+      sections = length-made (λ n. section_keeps link marks n || redirect_keeps link (reached_marks link) n) link.plan.sections 0;
       kept = λ o lt.
-          let at = kept_at link marks o lt in (
-            λ set.
-                let r = any_marked (keeps_output link o) marks inputs (sym at ∙ set) in
-                record { input = r.1; number = r.0; there = r.2; live = marked_live link r.0 r.1 wf r.2 r.3; keeps = r.4 },
-            λ kept. at ∙ marked_any (keeps_output link o) marks inputs kept.number kept.input kept.there (live_marked link kept.number kept.input wf kept.there kept.live) kept.keeps,
+          let at = kept_at link marks (reached_marks link) o lt in (
+            λ set. elim (either (section_keeps link marks o) (redirect_keeps link (reached_marks link) o) (sym at ∙ set)) [
+              | inl section ↦
+                  let r = any_marked (keeps_output link o) marks inputs section in
+                  inl (record { input = r.1; number = r.0; there = r.2; live = marked_live link r.0 r.1 wf r.2 r.3; keeps = r.4 })
+              | inr redirect ↦ inr (marked_redirect link o wf redirect)
+            ],
+            λ kept. at ∙ elim kept [
+              | inl s ↦
+                  or_left (section_keeps link marks o) (redirect_keeps link (reached_marks link) o)
+                  (marked_any (keeps_output link o) marks inputs s.number s.input s.there (live_marked link s.number s.input wf s.there s.live) s.keeps)
+              | inr r ↦ or_right (section_keeps link marks o) (redirect_keeps link (reached_marks link) o) (redirect_marked link o wf r)
+            ],
           );
     }
 

@@ -5,17 +5,20 @@ use Rattle.std.specs.Int.{bit_at}
 use Rattle.std.specs.List.{Contains, enumerate_from, flat_map, slice_get}
 use Rattle.std.specs.Option.{option_map_or, option_to_list}
 use Rattle.std.proofs.lemmas.Nat.Bits.{bit_at-pow_other, bit_at_above}
+use Rattle.lk_link.specs.declared.file.Candidate.{Candidate}
 use Rattle.lk_link.specs.declared.file.FileKind.{FileKind}
 use Rattle.lk_link.specs.declared.file.FileKind.TheVariants as kind
 use Rattle.lk_link.specs.declared.file.InputFile.{InputFile}
 use Rattle.lk_link.specs.declared.flags.TheConstants.ValueFlags as flag
 use Rattle.lk_link.specs.declared.ids.FileId.{FileId}
 use Rattle.lk_link.specs.declared.link.LinkInput.{LinkInput}
+use Rattle.lk_link.specs.declared.plan.OrderEvent.{OrderEvent}
+use Rattle.lk_link.specs.declared.plan.OrderEvent.TheVariants as event
+use Rattle.lk_link.specs.CandidateIndex.{candidates_of}
 use Rattle.lk_link.specs.declared.relocation.Relocation.{Relocation}
 use Rattle.lk_link.specs.declared.section.InputSection.{InputSection}
 use Rattle.lk_link.specs.declared.symbol.InputSymbol.{InputSymbol}
 use Rattle.lk_link.specs.Files.{file_in}
-use Rattle.lk_link.specs.FileKinds.{is_object}
 use Rattle.lk_link.specs.Inputs.{Input, NumberedFile, inputs_from, numbered_files}
 use Rattle.lk_link.specs.InputSlots.{can_be_kept, is_regular}
 use Rattle.lk_link.specs.Relocations.{resolution_flags}
@@ -37,8 +40,8 @@ use Rattle.lk_link.specs.declared.expression.Token.TheVariants as token
 use Rattle.lk_link.specs.declared.symbol.SymbolPlacement.{SymbolPlacement}
 use Rattle.lk_link.specs.declared.symbol.SymbolPlacement.TheVariants as at
 use Rattle.lk_link.specs.Expressions.{postfix}
-use Rattle.lk_gc.specs.Placements.{is_defined, section_of}
-use Rattle.lk_gc.specs.Units.{AskFlag, AskFor, ask_for, asked_definition, asked_members, asked_references, definition_ask, dynamic_ask, entry_asks, own_asks, prelude_symbol_asks, token_ask, token_asks, export_asks, export_roots, file_roots, flags_from, flags_of, follows, group_asks, is_other, is_primary_section, is_root, kind_roots, local_definition, member_asks, numbered_symbols, range_mark, reference, relocation_asks, roots, section_references, section_roots, symbol_asks}
+use Rattle.lk_gc.specs.Placements.{edge_of, is_defined, section_of}
+use Rattle.lk_gc.specs.Units.{candidate_ask, candidate_asks, event_asks, is_script_root, is_shown, kind_asks, location_asks, script_redirect_asks, script_symbol_asks, shown_ask, wanted_symbol_asks, AskFlag, AskFor, ask_for, asked_definition, asked_members, asked_references, definition_ask, dynamic_ask, entry_asks, own_asks, prelude_symbol_asks, token_ask, token_asks, export_asks, export_roots, file_roots, flags_from, flags_of, follows, group_asks, is_other, is_primary_section, is_root, kind_roots, local_definition, member_asks, numbered_symbols, range_mark, reference, relocation_asks, roots, section_references, section_roots, symbol_asks}
 use Rattle.lk_gc.proofs.ReachLemmas.{reach_more, reach_root}
 
 -- ---- marks set one flag, which is none of these
@@ -78,13 +81,64 @@ placed_plain id None k a h = absurd (cc)
 placed_plain id (Some i) zero a h = let same : Section id i ≡ a = cc in subst IsPlainAsk same tt
 placed_plain id (Some i) (suc k) a h = absurd (cc)
 
-symbol_plain : (o : Option (NumberedFile × InputSymbol)) (k : ℕ) (a : Ask) → slice_get (option_map_or symbol_asks o []) k ≡ Some a → IsPlainAsk a
-symbol_plain None k a h = absurd (cc)
-symbol_plain (Some q) k a h =
-    elim (is_object q.0.file.kind) as (λ b. slice_get (if b then option_to_list (option_map (Section q.0.id) (section_of q.1.at)) else []) k ≡ Some a → IsPlainAsk a) [
-      | true ↦ λ among. placed_plain q.0.id (section_of q.1.at) k a among
-      | false ↦ λ among. absurd (cc)
-    ] h
+entry_plain : (o : Option ℕ) (k : ℕ) (a : Ask) → slice_get (option_to_list (option_map (λ s. Reference s flag.DIRECT) o)) k ≡ Some a → IsPlainAsk a
+entry_plain None k a h = absurd (cc)
+entry_plain (Some s) zero a h = let same : Reference s flag.DIRECT ≡ a = cc in subst IsPlainAsk same tt
+entry_plain (Some s) (suc k) a h = absurd (cc)
+
+token_plain : (groups : List (List InputFile)) (t : Token) (k : ℕ) (a : Ask) → slice_get (option_to_list (token_ask groups t)) k ≡ Some a → IsPlainAsk a
+token_plain groups (token.Operand (operand.Symbol s)) k a h = entry_plain (definition_of groups s) k a h
+token_plain groups (token.Operand (operand.Number n)) k a h = absurd (cc)
+token_plain groups (token.Operand operand.Dot) k a h = absurd (cc)
+token_plain groups (token.Operand (operand.Address n)) k a h = absurd (cc)
+token_plain groups (token.Operand (operand.SizeOf n)) k a h = absurd (cc)
+token_plain groups (token.Operand (operand.Origin n)) k a h = absurd (cc)
+token_plain groups (token.Operand (operand.Length n)) k a h = absurd (cc)
+token_plain groups (token.Operand operand.SizeOfHeaders) k a h = absurd (cc)
+token_plain groups (token.Operator o) k a h = absurd (cc)
+
+redirect_plain : (groups : List (List InputFile)) (s : ℕ) (tokens : List Token) (k : ℕ) (a : Ask) → slice_get (Reference s flag.DIRECT ∷ token_asks groups tokens) k ≡ Some a → IsPlainAsk a
+redirect_plain groups s tokens zero a h = let same : Reference s flag.DIRECT ≡ a = cc in subst IsPlainAsk same tt
+redirect_plain groups s tokens (suc k) a h =
+    let at = flat_map_at (λ t. option_to_list (token_ask groups t)) tokens k a h in
+    token_plain groups at.from at.inner a at.gives
+
+candidates_plain : (candidates : List Candidate) (o : Option ℕ) (k : ℕ) (a : Ask) → slice_get (option_map_or (candidate_asks candidates) o []) k ≡ Some a → IsPlainAsk a
+candidates_plain candidates None k a h = absurd (cc)
+candidates_plain candidates (Some o) k a h = let x = map_at candidate_ask (candidates_of o candidates) k a h in subst IsPlainAsk x.2 tt
+
+script_redirect_plain : (groups : List (List InputFile)) (s : ℕ) (p : SymbolPlacement) (k : ℕ) (a : Ask) → slice_get (script_redirect_asks groups s p) k ≡ Some a → IsPlainAsk a
+script_redirect_plain groups s (at.Redirect e l provide) k a h = redirect_plain groups s (postfix e) k a h
+script_redirect_plain groups s at.ForceUndefined k a h = absurd (cc)
+script_redirect_plain groups s (at.Section i o) k a h = absurd (cc)
+script_redirect_plain groups s (at.Common q n) k a h = absurd (cc)
+script_redirect_plain groups s (at.Absolute n) k a h = absurd (cc)
+script_redirect_plain groups s at.Undef k a h = absurd (cc)
+script_redirect_plain groups s at.Dynamic k a h = absurd (cc)
+script_redirect_plain groups s at.Undefined k a h = absurd (cc)
+script_redirect_plain groups s (at.SectionStart o) k a h = absurd (cc)
+script_redirect_plain groups s (at.SectionEnd o) k a h = absurd (cc)
+script_redirect_plain groups s (at.SectionGroupEnd o) k a h = absurd (cc)
+script_redirect_plain groups s at.TlsEnd k a h = absurd (cc)
+script_redirect_plain groups s at.LoadBaseAddress k a h = absurd (cc)
+
+script_plain : (groups : List (List InputFile)) (s : ℕ) (x : InputSymbol) (k : ℕ) (a : Ask) → slice_get (script_symbol_asks groups s x) k ≡ Some a → IsPlainAsk a
+script_plain groups s x k a h = elim (append_at (script_redirect_asks groups s x.at) (option_to_list (shown_ask s x)) k a h) [
+  | inl own ↦ script_redirect_plain groups s x.at k a own
+  | inr shown ↦ plain_if (is_shown x) (Reference s flag.EXPORT_DYNAMIC) shown.0 a tt shown.2
+]
+
+kind_asks_plain : (groups : List (List InputFile)) (s : ℕ) (id : FileId) (file : InputFile) (x : InputSymbol) (of : FileKind) (k : ℕ) (a : Ask) → slice_get (kind_asks groups s id file x of) k ≡ Some a → IsPlainAsk a
+kind_asks_plain groups s id file x kind.Object k a h = placed_plain id (section_of x.at) k a h
+kind_asks_plain groups s id file x kind.SyntheticSymbols k a h = candidates_plain file.candidates (edge_of x.at) k a h
+kind_asks_plain groups s id file x kind.LinkerScript k a h = script_plain groups s x k a h
+kind_asks_plain groups s id file x kind.Prelude k a h = absurd (cc)
+kind_asks_plain groups s id file x kind.Dynamic k a h = absurd (cc)
+kind_asks_plain groups s id file x kind.NotLoaded k a h = absurd (cc)
+
+symbol_plain : (groups : List (List InputFile)) (s : ℕ) (o : Option (NumberedFile × InputSymbol)) (k : ℕ) (a : Ask) → slice_get (option_map_or (symbol_asks groups s) o []) k ≡ Some a → IsPlainAsk a
+symbol_plain groups s None k a h = absurd (cc)
+symbol_plain groups s (Some q) k a h = kind_asks_plain groups s q.0.id q.0.file q.1 q.0.file.kind k a h
 
 held_plain : (link : LinkInput) (id : FileId) (file : InputFile) (o : Option InputSection) (k : ℕ) (a : Ask) → slice_get (option_map_or (section_references link id file) o []) k ≡ Some a → IsPlainAsk a
 held_plain link id file None k a h = absurd (cc)
@@ -115,33 +169,11 @@ filed_member_plain id i None k a h = absurd (cc)
 filed_member_plain id i (Some f) k a h = member_plain id f.sections i (slice_get f.sections i) k a h
 
 follows_plain : (link : LinkInput) (u : LinkUnit) (k : ℕ) (a : Ask) → slice_get (follows link u) k ≡ Some a → IsPlainAsk a
-follows_plain link (Sym s) k a h = symbol_plain (slice_get (numbered_symbols link.groups) s) k a h
+follows_plain link (Sym s) k a h = symbol_plain link.groups s (slice_get (numbered_symbols link.groups) s) k a h
 follows_plain link (Sec id i) k a h = elim (append_at (asked_members link id i) (asked_references link id i) k a h) [
   | inl member ↦ filed_member_plain id i (file_in link.groups id) k a member
   | inr refers ↦ filed_plain link id i (file_in link.groups id) refers.0 a refers.2
 ]
-
-entry_plain : (o : Option ℕ) (k : ℕ) (a : Ask) → slice_get (option_to_list (option_map (λ s. Reference s flag.DIRECT) o)) k ≡ Some a → IsPlainAsk a
-entry_plain None k a h = absurd (cc)
-entry_plain (Some s) zero a h = let same : Reference s flag.DIRECT ≡ a = cc in subst IsPlainAsk same tt
-entry_plain (Some s) (suc k) a h = absurd (cc)
-
-token_plain : (groups : List (List InputFile)) (t : Token) (k : ℕ) (a : Ask) → slice_get (option_to_list (token_ask groups t)) k ≡ Some a → IsPlainAsk a
-token_plain groups (token.Operand (operand.Symbol s)) k a h = entry_plain (definition_of groups s) k a h
-token_plain groups (token.Operand (operand.Number n)) k a h = absurd (cc)
-token_plain groups (token.Operand operand.Dot) k a h = absurd (cc)
-token_plain groups (token.Operand (operand.Address n)) k a h = absurd (cc)
-token_plain groups (token.Operand (operand.SizeOf n)) k a h = absurd (cc)
-token_plain groups (token.Operand (operand.Origin n)) k a h = absurd (cc)
-token_plain groups (token.Operand (operand.Length n)) k a h = absurd (cc)
-token_plain groups (token.Operand operand.SizeOfHeaders) k a h = absurd (cc)
-token_plain groups (token.Operator o) k a h = absurd (cc)
-
-redirect_plain : (groups : List (List InputFile)) (s : ℕ) (tokens : List Token) (k : ℕ) (a : Ask) → slice_get (Reference s flag.DIRECT ∷ token_asks groups tokens) k ≡ Some a → IsPlainAsk a
-redirect_plain groups s tokens zero a h = let same : Reference s flag.DIRECT ≡ a = cc in subst IsPlainAsk same tt
-redirect_plain groups s tokens (suc k) a h =
-    let at = flat_map_at (λ t. option_to_list (token_ask groups t)) tokens k a h in
-    token_plain groups at.from at.inner a at.gives
 
 own_plain : (groups : List (List InputFile)) (s : ℕ) (x : InputSymbol) (p : SymbolPlacement) (k : ℕ) (a : Ask) → slice_get (own_asks groups s x p) k ≡ Some a → IsPlainAsk a
 own_plain groups s x (at.Redirect e l provide) k a h =
@@ -192,6 +224,19 @@ dynamic_plain link s (Some d) k a h =
       | false ↦ λ among. defined_plain link d (slice_get (numbered_symbols link.groups) d) k a among
     ] h
 
+tokens_plain : (groups : List (List InputFile)) (tokens : List Token) (k : ℕ) (a : Ask) → slice_get (token_asks groups tokens) k ≡ Some a → IsPlainAsk a
+tokens_plain groups tokens k a h =
+    let at = flat_map_at (λ t. option_to_list (token_ask groups t)) tokens k a h in
+    token_plain groups at.from at.inner a at.gives
+
+event_plain : (groups : List (List InputFile)) (e : OrderEvent) (k : ℕ) (a : Ask) → slice_get (event_asks groups e) k ≡ Some a → IsPlainAsk a
+event_plain groups (event.SetLocation e) k a h = tokens_plain groups (postfix e) k a h
+event_plain groups (event.SetLocationRelative e s) k a h = tokens_plain groups (postfix e) k a h
+event_plain groups (event.SetSectionAddress e) k a h = absurd (cc)
+event_plain groups (event.Section s) k a h = absurd (cc)
+event_plain groups (event.SegmentStart i) k a h = absurd (cc)
+event_plain groups (event.SegmentEnd i) k a h = absurd (cc)
+
 kind_plain : (link : LinkInput) (f : NumberedFile) (of : FileKind) (k : ℕ) (a : Ask) → slice_get (kind_roots link f of) k ≡ Some a → IsPlainAsk a
 kind_plain link f kind.Prelude k a h = elim (append_at (entry_asks link) (prelude_symbol_asks link f) k a h) [
   | inl entry ↦ entry_plain _ k a entry
@@ -210,7 +255,15 @@ kind_plain link f kind.Dynamic k a h =
     dynamic_plain link at.from.0 at.from.1.def at.inner a at.gives
 kind_plain link f kind.NotLoaded k a h = absurd (cc)
 kind_plain link f kind.SyntheticSymbols k a h = absurd (cc)
-kind_plain link f kind.LinkerScript k a h = absurd (cc)
+kind_plain link f kind.LinkerScript k a h = elim (append_at (wanted_symbol_asks link f) (location_asks link) k a h) [
+  | inl own ↦
+      let ask : ℕ × InputSymbol → Ask = λ q. Reference q.0 (flags_from 0) in
+      let x = map_at ask (filter is_script_root (enumerate_from (first_symbol link.groups f.id) f.file.symbols)) k a own in
+      subst IsPlainAsk x.2 tt
+  | inr locations ↦
+      let at = flat_map_at (event_asks link.groups) link.plan.events locations.0 a locations.2 in
+      event_plain link.groups at.from at.inner a at.gives
+]
 
 roots_plain : (link : LinkInput) (k : ℕ) (a : Ask) → slice_get (roots link) k ≡ Some a → IsPlainAsk a
 roots_plain link k a h =

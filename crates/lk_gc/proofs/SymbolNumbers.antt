@@ -1,5 +1,5 @@
 -- Symbols by their numbers, each with its file.
-use Rattle.std.proofs.Common.{◌≡◌, ℕ, ◌+◌, ◌-◌, ◌^◌, ◌<◌, ◌≤◌, true, get_or, List, [], length, map, take, Option, Some, None, sum_by, sym, ap, ◌∙◌, subst, inl, inr, arith, is_some, ltb}
+use Rattle.std.proofs.Common.{◌≡◌, ℕ, ◌+◌, ◌-◌, ◌^◌, ◌<◌, ◌≤◌, true, get_or, List, [], length, map, take, Option, Some, None, sum_by, refl, sym, ap, ◌∙◌, subst, inl, inr, arith, is_some, ltb}
 use Rattle.std.specs.List.{All, flat_map, range_with_len, slice_get}
 use Rattle.std.specs.Option.{IsSome, option_map_or}
 use Rattle.std.proofs.lemmas.Bool.{ltb-true}
@@ -8,12 +8,15 @@ use Rattle.std.proofs.lemmas.List.Concat.{length-flat_map}
 use Rattle.std.proofs.lemmas.List.Sums.{sum_by-take-le, sum_by_more, sum_by_more_le}
 use Rattle.std.proofs.lemmas.Option.{get_or_from_slice_get, slice_get-get_or, slice_get_past, slice_get_within}
 use Rattle.lk_link.specs.declared.fault.Limited.TheVariants as limited
+use Rattle.lk_link.specs.declared.file.FileKind.{FileKind}
+use Rattle.lk_link.specs.declared.file.FileKind.TheVariants as kind
 use Rattle.lk_link.specs.declared.file.InputFile.{InputFile}
 use Rattle.lk_link.specs.declared.ids.FileId.{FileId}
 use Rattle.lk_link.specs.declared.link.LinkInput.{LinkInput}
 use Rattle.lk_link.specs.declared.relocation.Relocation.{Relocation}
 use Rattle.lk_link.specs.declared.section.InputSection.{InputSection}
 use Rattle.lk_link.specs.declared.symbol.InputSymbol.{InputSymbol}
+use Rattle.lk_link.specs.FileKinds.{is_object}
 use Rattle.lk_link.specs.Files.{file_in}
 use Rattle.lk_link.specs.InputRules.{IsGoodInput}
 use Rattle.lk_link.specs.InputSlots.{is_regular}
@@ -28,7 +31,7 @@ use Rattle.lk_link.proofs.SymbolLemmas.{files_have_numbers, symbols_have_files, 
 use Rattle.lk_gc.specs.declared.units.Unit.{Unit as LinkUnit}
 use Rattle.lk_gc.specs.declared.units.Unit.TheVariants.{Sym, Sec}
 use Rattle.lk_gc.specs.Marks.{IsUnit, all_units, symbols_in_all, unit_at, unit_number}
-use Rattle.lk_gc.specs.Units.{follows, numbered_symbols, placement_asks, symbol_asks, symbols_of, unit_of}
+use Rattle.lk_gc.specs.Units.{follows, kind_asks, numbered_symbols, object_symbol_asks, symbol_asks, symbols_of, unit_of}
 use Rattle.lk_gc.proofs.Numbered.{file_at, file_of_input}
 use Rattle.lk_gc.proofs.UnitLemmas.{input_place, input_unit, regular_kept, symbol_stands, symbols_length, units_count}
 
@@ -127,11 +130,24 @@ symbol_has groups id s h =
 
 -- what the symbol of a file asks for
 pub symbol_follows : (link : LinkInput) (id : FileId) (s : ℕ) (file : InputFile) (x : InputSymbol) → IsSymbolIn link.groups id s → file_in link.groups id ≡ Some file → symbol_at link.groups s ≡ Some x
-    → follows link (Sym s) ≡ placement_asks id file.kind x.at
+    → follows link (Sym s) ≡ kind_asks link.groups s id file x file.kind
 symbol_follows link id s file x h at_file at_s =
     let files : Some h.file ≡ Some file = sym h.there ∙ at_file in
     let same : h.file ≡ file = cc in
-    ap (λ o. option_map_or symbol_asks o []) (numbered_symbol link.groups id s h x at_s) ∙ ap (λ (f : InputFile). placement_asks id f.kind x.at) same
+    ap (λ o. option_map_or (symbol_asks link.groups s) o []) (numbered_symbol link.groups id s h x at_s) ∙ ap (λ (f : InputFile). kind_asks link.groups s id f x f.kind) same
+
+object_kind : (k : FileKind) → is_object k ≡ true → k ≡ kind.Object
+object_kind kind.Prelude h = absurd (cc)
+object_kind kind.Object h = refl
+object_kind kind.Dynamic h = absurd (cc)
+object_kind kind.NotLoaded h = absurd (cc)
+object_kind kind.SyntheticSymbols h = absurd (cc)
+object_kind kind.LinkerScript h = absurd (cc)
+
+-- what a symbol of an object asks for
+pub object_follows : (link : LinkInput) (id : FileId) (s : ℕ) (file : InputFile) (x : InputSymbol) → IsSymbolIn link.groups id s → file_in link.groups id ≡ Some file → symbol_at link.groups s ≡ Some x
+    → is_object file.kind ≡ true → follows link (Sym s) ≡ object_symbol_asks id x.at
+object_follows link id s file x h at_file at_s object = symbol_follows link id s file x h at_file at_s ∙ ap (kind_asks link.groups s id file x) (object_kind file.kind object)
 
 -- symbols and sections are few enough for their numbers
 pub symbols_few : (link : LinkInput) → IsWellFormed link → symbol_count (all_files link.groups) < 2 ^ 32

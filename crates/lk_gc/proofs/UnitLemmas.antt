@@ -14,6 +14,8 @@ use Rattle.lk_link.specs.declared.file.InputFile.{InputFile}
 use Rattle.lk_link.specs.declared.flags.TheConstants.ValueFlags as flag
 use Rattle.lk_link.specs.declared.ids.FileId.{FileId}
 use Rattle.lk_link.specs.declared.link.LinkInput.{LinkInput}
+use Rattle.lk_link.specs.declared.plan.OrderEvent.{OrderEvent}
+use Rattle.lk_link.specs.declared.plan.OrderEvent.TheVariants as event
 use Rattle.lk_link.specs.declared.relocation.Relocation.{Relocation}
 use Rattle.lk_link.specs.declared.section.InputSection.{InputSection}
 use Rattle.lk_link.specs.declared.section.InputSlot.{InputSlot}
@@ -22,7 +24,6 @@ use Rattle.lk_link.specs.declared.symbol.InputSymbol.{InputSymbol}
 use Rattle.lk_link.specs.declared.symbol.SymbolPlacement.{SymbolPlacement}
 use Rattle.lk_link.specs.declared.symbol.SymbolPlacement.TheVariants as at
 use Rattle.lk_link.specs.Files.{file_in}
-use Rattle.lk_link.specs.FileKinds.{is_object}
 use Rattle.lk_link.specs.InputRules.{IsGoodInput}
 use Rattle.lk_link.specs.Inputs.{Input, NumberedFile, all_inputs, input_number, numbered_files}
 use Rattle.lk_link.specs.InputSlots.{can_be_kept, is_discarded, is_regular}
@@ -47,12 +48,15 @@ use Rattle.lk_gc.specs.declared.exports.ExportSymbolsMode.TheVariants as mode
 use Rattle.lk_link.specs.declared.expression.Operand.TheVariants as operand
 use Rattle.lk_link.specs.declared.expression.Token.{Token}
 use Rattle.lk_link.specs.declared.expression.Token.TheVariants as token
-use Rattle.lk_link.specs.Expressions.{postfix}
-use Rattle.lk_gc.specs.Placements.{is_defined, is_undefined_placement, section_of}
-use Rattle.lk_gc.specs.Units.{ask_for, asked_members, asked_references, asked_definition, comes_along, definition_ask, dynamic_ask, entry_asks, own_asks, prelude_symbol_asks, token_ask, token_asks, flags_from, export_asks, export_roots, file_roots, group_asks, is_coming, is_other, member_asks, other_asks, follows, is_primary_section, is_root, kind_roots, local_definition, numbered_symbols, range_mark, reference, relocation_asks, roots, section_references, section_roots, symbol_asks, symbols_of, unit_of}
+use Rattle.lk_link.specs.CandidateIndex.{candidates_of}
+use Rattle.lk_link.specs.Expressions.{Term, postfix}
+use Rattle.lk_gc.specs.Placements.{edge_of, is_defined, is_undefined_placement, section_of}
+use Rattle.lk_gc.specs.Units.{candidate_ask, candidate_asks, event_asks, is_script_root, is_shown, kind_asks, location_asks, redirect_references, script_redirect_asks, shown_ask, wanted_symbol_asks, ask_for, asked_members, asked_references, asked_definition, comes_along, definition_ask, dynamic_ask, entry_asks, own_asks, prelude_symbol_asks, token_ask, token_asks, flags_from, export_asks, export_roots, file_roots, group_asks, is_coming, is_other, member_asks, other_asks, follows, is_primary_section, is_root, kind_roots, local_definition, numbered_symbols, range_mark, reference, relocation_asks, roots, section_references, section_roots, symbol_asks, symbols_of, unit_of}
 use Rattle.lk_link.proofs.Elements.{append_at, append_left, append_right, at_index, filter_at, flat_map_at, map_at, map_in, numbered_at}
 use Rattle.lk_gc.proofs.Numbered.{IsFileAt, IsSectionOf, file_at, file_of_input, one_place, sections_of}
 use Rattle.lk_gc.proofs.Numbered as numbered
+use Rattle.lk_link.specs.CandidateRules.{IsGoodCandidate}
+use Rattle.lk_link.proofs.GoodFiles.{candidate_of}
 
 -- ---- numbers
 
@@ -289,15 +293,75 @@ placement_inside link id file at.TlsEnd at_file h = All-nil (IsInside link.group
 placement_inside link id file at.LoadBaseAddress at_file h = All-nil (IsInside link.groups)
 placement_inside link id file (at.Redirect e l provide) at_file h = All-nil (IsInside link.groups)
 
-symbol_asks_inside : (link : LinkInput) (q : NumberedFile × InputSymbol) → IsWellFormed link → IsNumberedSymbol link.groups q → All (IsInside link.groups) (symbol_asks q)
-symbol_asks_inside link q wf is =
-    let groups : List (List InputFile) = link.groups in
-    let good : IsGoodSymbol link q.0.file q.1 = symbol_of link q.0.id is.index q.0.file q.1 wf is.there is.symbol in
-    either_inside groups (is_object q.0.file.kind) _ [] (λ e. placement_inside link q.0.id q.0.file q.1.at is.there good.there) (λ e. All-nil (IsInside groups))
+token_symbol_inside : (link : LinkInput) (s : ℕ) (o : Option ℕ) → IsWellFormed link → definition_of link.groups s ≡ o → All (IsInside link.groups) (option_to_list (option_map (λ d. Reference d flag.DIRECT) o))
+token_symbol_inside link s None wf e = All-nil (IsInside link.groups)
+token_symbol_inside link s (Some d) wf e =
+    one_inside link.groups (Reference d flag.DIRECT) (reference_inside link.groups d flag.DIRECT (symbol_there link.groups d d (defined_once link s d wf e)))
 
-symbol_follows_inside : (link : LinkInput) (s : ℕ) (o : Option (NumberedFile × InputSymbol)) → IsWellFormed link → slice_get (numbered_symbols link.groups) s ≡ o → All (IsInside link.groups) (option_map_or symbol_asks o [])
+token_inside : (link : LinkInput) (t : Token) → IsWellFormed link → All (IsInside link.groups) (option_to_list (token_ask link.groups t))
+token_inside link (token.Operand (operand.Symbol s)) wf = token_symbol_inside link s (definition_of link.groups s) wf refl
+token_inside link (token.Operand (operand.Number n)) wf = All-nil (IsInside link.groups)
+token_inside link (token.Operand operand.Dot) wf = All-nil (IsInside link.groups)
+token_inside link (token.Operand (operand.Address n)) wf = All-nil (IsInside link.groups)
+token_inside link (token.Operand (operand.SizeOf n)) wf = All-nil (IsInside link.groups)
+token_inside link (token.Operand (operand.Origin n)) wf = All-nil (IsInside link.groups)
+token_inside link (token.Operand (operand.Length n)) wf = All-nil (IsInside link.groups)
+token_inside link (token.Operand operand.SizeOfHeaders) wf = All-nil (IsInside link.groups)
+token_inside link (token.Operator o) wf = All-nil (IsInside link.groups)
+
+tokens_inside : (link : LinkInput) (tokens : List Token) → IsWellFormed link → All (IsInside link.groups) (token_asks link.groups tokens)
+tokens_inside link tokens wf = all_joined (IsInside link.groups) (λ t. option_to_list (token_ask link.groups t)) tokens (λ k t at_k. token_inside link t wf)
+
+redirect_inside : (link : LinkInput) (s : ℕ) (e : Term) → IsWellFormed link → s < symbols_in_all link.groups → All (IsInside link.groups) (redirect_references link.groups s e)
+redirect_inside link s e wf lt =
+    All-cons (IsInside link.groups) (Reference s flag.DIRECT) (token_asks link.groups (postfix e)) (reference_inside link.groups s flag.DIRECT lt) (tokens_inside link (postfix e) wf)
+
+script_redirect_inside : (link : LinkInput) (s : ℕ) (p : SymbolPlacement) → IsWellFormed link → s < symbols_in_all link.groups → All (IsInside link.groups) (script_redirect_asks link.groups s p)
+script_redirect_inside link s (at.Redirect e l provide) wf lt = redirect_inside link s e wf lt
+script_redirect_inside link s at.ForceUndefined wf lt = All-nil (IsInside link.groups)
+script_redirect_inside link s (at.Section i o) wf lt = All-nil (IsInside link.groups)
+script_redirect_inside link s (at.Common q n) wf lt = All-nil (IsInside link.groups)
+script_redirect_inside link s (at.Absolute n) wf lt = All-nil (IsInside link.groups)
+script_redirect_inside link s at.Undef wf lt = All-nil (IsInside link.groups)
+script_redirect_inside link s at.Dynamic wf lt = All-nil (IsInside link.groups)
+script_redirect_inside link s at.Undefined wf lt = All-nil (IsInside link.groups)
+script_redirect_inside link s (at.SectionStart o) wf lt = All-nil (IsInside link.groups)
+script_redirect_inside link s (at.SectionEnd o) wf lt = All-nil (IsInside link.groups)
+script_redirect_inside link s (at.SectionGroupEnd o) wf lt = All-nil (IsInside link.groups)
+script_redirect_inside link s at.TlsEnd wf lt = All-nil (IsInside link.groups)
+script_redirect_inside link s at.LoadBaseAddress wf lt = All-nil (IsInside link.groups)
+
+-- what a file's candidates name is there
+candidates_inside : (link : LinkInput) (id : FileId) (file : InputFile) (o : Option ℕ) → IsWellFormed link → file_in link.groups id ≡ Some file → All (IsInside link.groups) (option_map_or (candidate_asks file.candidates) o [])
+candidates_inside link id file None wf there = All-nil (IsInside link.groups)
+candidates_inside link id file (Some o) wf there = all_passing (IsInside link.groups) candidate_ask (λ c. c.output == o) file.candidates (λ k c at is.
+    let good : IsGoodCandidate link c = candidate_of link id k file c wf there at in
+    let section = at_index good.file.sections c.index good.section in
+    section_inside link.groups c.file c.index (section_unit link.groups c.file good.file c.index section.0 good.there section.1))
+
+-- what a symbol of a file asks for, by the file's kind
+kind_asks_inside : (link : LinkInput) (s : ℕ) (id : FileId) (file : InputFile) (x : InputSymbol) (k : FileKind) → IsWellFormed link → s < symbols_in_all link.groups → file_in link.groups id ≡ Some file
+    → IsGoodSymbol link file x → All (IsInside link.groups) (kind_asks link.groups s id file x k)
+kind_asks_inside link s id file x kind.Object wf lt there good = placement_inside link id file x.at there good.there
+kind_asks_inside link s id file x kind.SyntheticSymbols wf lt there good = candidates_inside link id file (edge_of x.at) wf there
+kind_asks_inside link s id file x kind.LinkerScript wf lt there good =
+    All-append (IsInside link.groups) (script_redirect_asks link.groups s x.at) (option_to_list (shown_ask s x)) (script_redirect_inside link s x.at wf lt)
+    (option_inside link.groups (is_shown x) (Reference s flag.EXPORT_DYNAMIC) (reference_inside link.groups s flag.EXPORT_DYNAMIC lt))
+kind_asks_inside link s id file x kind.Prelude wf lt there good = All-nil (IsInside link.groups)
+kind_asks_inside link s id file x kind.Dynamic wf lt there good = All-nil (IsInside link.groups)
+kind_asks_inside link s id file x kind.NotLoaded wf lt there good = All-nil (IsInside link.groups)
+
+symbol_asks_inside : (link : LinkInput) (s : ℕ) (q : NumberedFile × InputSymbol) → IsWellFormed link → s < symbols_in_all link.groups → IsNumberedSymbol link.groups q → All (IsInside link.groups) (symbol_asks link.groups s q)
+symbol_asks_inside link s q wf lt is =
+    let good : IsGoodSymbol link q.0.file q.1 = symbol_of link q.0.id is.index q.0.file q.1 wf is.there is.symbol in
+    kind_asks_inside link s q.0.id q.0.file q.1 q.0.file.kind wf lt is.there good
+
+symbol_follows_inside : (link : LinkInput) (s : ℕ) (o : Option (NumberedFile × InputSymbol)) → IsWellFormed link → slice_get (numbered_symbols link.groups) s ≡ o
+    → All (IsInside link.groups) (option_map_or (symbol_asks link.groups s) o [])
 symbol_follows_inside link s None wf e = All-nil (IsInside link.groups)
-symbol_follows_inside link s (Some q) wf e = symbol_asks_inside link q wf (symbol_stands link.groups s q e)
+symbol_follows_inside link s (Some q) wf e =
+    let within = slice_get_within (numbered_symbols link.groups) s q e in
+    symbol_asks_inside link s q wf (omega (arith, within, numbered_length link.groups)) (symbol_stands link.groups s q e)
 
 section_follows_inside : (link : LinkInput) (id : FileId) (i : ℕ) (file : InputFile) (o : Option InputSection) → IsWellFormed link → file_in link.groups id ≡ Some file → slice_get file.sections i ≡ o
     → All (IsInside link.groups) (option_map_or (section_references link id file) o [])
@@ -335,22 +399,6 @@ exports_inside link f (Some m) there =
     let within = slice_get_within f.file.symbols k q.1 x.1 in
     reference_inside link.groups q.0 flag.EXPORT_DYNAMIC (omega (arith, x.0, within, symbols_within link.groups f.id f.file there)))
 
-token_symbol_inside : (link : LinkInput) (s : ℕ) (o : Option ℕ) → IsWellFormed link → definition_of link.groups s ≡ o → All (IsInside link.groups) (option_to_list (option_map (λ d. Reference d flag.DIRECT) o))
-token_symbol_inside link s None wf e = All-nil (IsInside link.groups)
-token_symbol_inside link s (Some d) wf e =
-    one_inside link.groups (Reference d flag.DIRECT) (reference_inside link.groups d flag.DIRECT (symbol_there link.groups d d (defined_once link s d wf e)))
-
-token_inside : (link : LinkInput) (t : Token) → IsWellFormed link → All (IsInside link.groups) (option_to_list (token_ask link.groups t))
-token_inside link (token.Operand (operand.Symbol s)) wf = token_symbol_inside link s (definition_of link.groups s) wf refl
-token_inside link (token.Operand (operand.Number n)) wf = All-nil (IsInside link.groups)
-token_inside link (token.Operand operand.Dot) wf = All-nil (IsInside link.groups)
-token_inside link (token.Operand (operand.Address n)) wf = All-nil (IsInside link.groups)
-token_inside link (token.Operand (operand.SizeOf n)) wf = All-nil (IsInside link.groups)
-token_inside link (token.Operand (operand.Origin n)) wf = All-nil (IsInside link.groups)
-token_inside link (token.Operand (operand.Length n)) wf = All-nil (IsInside link.groups)
-token_inside link (token.Operand operand.SizeOfHeaders) wf = All-nil (IsInside link.groups)
-token_inside link (token.Operator o) wf = All-nil (IsInside link.groups)
-
 defined_there : (groups : List (List InputFile)) (d : ℕ) (o : Option InputSymbol) → symbol_at groups d ≡ o → option_map_or (λ x. not (is_undefined_placement x.at)) o false ≡ true → d < symbols_in_all groups
 defined_there groups d None e h = absurd (cc)
 defined_there groups d (Some x) e h = omega (arith, slice_get_within (all_symbols groups) d x e, symbols_length groups)
@@ -363,8 +411,7 @@ forced_inside link d false is = All-nil (IsInside link.groups)
 own_inside : (link : LinkInput) (s : ℕ) (x : InputSymbol) (p : SymbolPlacement) → IsWellFormed link → s < symbols_in_all link.groups → All (IsInside link.groups) (own_asks link.groups s x p)
 own_inside link s x (at.Redirect e l provide) wf lt =
     either_inside link.groups (unwrap_or x.def s == s) _ []
-    (λ is. All-cons (IsInside link.groups) (Reference s flag.DIRECT) (token_asks link.groups (postfix e)) (reference_inside link.groups s flag.DIRECT lt)
-    (all_joined (IsInside link.groups) (λ t. option_to_list (token_ask link.groups t)) (postfix e) (λ k t at_k. token_inside link t wf)))
+    (λ is. redirect_inside link s e wf lt)
     (λ e. All-nil (IsInside link.groups))
 own_inside link s x at.ForceUndefined wf lt = forced_inside link (unwrap_or x.def s) (is_defined link.groups (unwrap_or x.def s)) refl
 own_inside link s x (at.Section i o) wf lt = All-nil (IsInside link.groups)
@@ -403,6 +450,27 @@ dynamic_inside : (link : LinkInput) (s : ℕ) (def : Option ℕ) → All (IsInsi
 dynamic_inside link s None = All-nil (IsInside link.groups)
 dynamic_inside link s (Some d) = unless_own_inside link d (d == s)
 
+pub wanted_inside : (link : LinkInput) (f : NumberedFile) → file_in link.groups f.id ≡ Some f.file → All (IsInside link.groups) (wanted_symbol_asks link f)
+wanted_inside link f there =
+    let ask : ℕ × InputSymbol → Ask = λ q. Reference q.0 (flags_from 0) in
+    let own : List (ℕ × InputSymbol) = enumerate_from (first_symbol link.groups f.id) f.file.symbols in
+    all_mapped (IsInside link.groups) ask is_script_root own (λ k q at.
+    let x = numbered_at (first_symbol link.groups f.id) f.file.symbols k q at in
+    let within = slice_get_within f.file.symbols k q.1 x.1 in
+    reference_inside link.groups q.0 (flags_from 0) (omega (arith, x.0, within, symbols_within link.groups f.id f.file there)))
+
+event_inside : (link : LinkInput) (e : OrderEvent) → IsWellFormed link → All (IsInside link.groups) (event_asks link.groups e)
+event_inside link (event.SetLocation e) wf = tokens_inside link (postfix e) wf
+event_inside link (event.SetLocationRelative e s) wf = tokens_inside link (postfix e) wf
+event_inside link (event.SetSectionAddress e) wf = All-nil (IsInside link.groups)
+event_inside link (event.Section s) wf = All-nil (IsInside link.groups)
+event_inside link (event.SegmentStart i) wf = All-nil (IsInside link.groups)
+event_inside link (event.SegmentEnd i) wf = All-nil (IsInside link.groups)
+
+-- what the location counter's expressions refer to is there
+pub locations_inside : (link : LinkInput) → IsWellFormed link → All (IsInside link.groups) (location_asks link)
+locations_inside link wf = all_joined (IsInside link.groups) (event_asks link.groups) link.plan.events (λ k e at. event_inside link e wf)
+
 kind_inside : (link : LinkInput) (f : NumberedFile) (k : FileKind) → IsWellFormed link → file_in link.groups f.id ≡ Some f.file → All (IsInside link.groups) (kind_roots link f k)
 kind_inside link f kind.Prelude wf there =
     All-append (IsInside link.groups) (entry_asks link) (prelude_symbol_asks link f)
@@ -423,7 +491,8 @@ kind_inside link f kind.Dynamic wf there =
     (λ k q at. dynamic_inside link q.0 q.1.def)
 kind_inside link f kind.NotLoaded wf there = All-nil (IsInside link.groups)
 kind_inside link f kind.SyntheticSymbols wf there = All-nil (IsInside link.groups)
-kind_inside link f kind.LinkerScript wf there = All-nil (IsInside link.groups)
+kind_inside link f kind.LinkerScript wf there =
+    All-append (IsInside link.groups) (wanted_symbol_asks link f) (location_asks link) (wanted_inside link f there) (locations_inside link wf)
 
 -- what one file asks for is there
 pub file_inside : (link : LinkInput) (f : NumberedFile) → IsWellFormed link → file_in link.groups f.id ≡ Some f.file → All (IsInside link.groups) (file_roots link f)

@@ -159,7 +159,7 @@ one_file_more f done x = ap (flat_map f) (map_push file_of done x) ∙ sym (flat
 
 -- ---- in the middle of a walk
 
-done_more : (link : LinkInput) (asks more : List Ask) (old new : Walk) → Adds link more old new → All (IsDone link old) asks → All (IsDone link new) asks
+pub done_more : (link : LinkInput) (asks more : List Ask) (old new : Walk) → Adds link more old new → All (IsDone link old) asks → All (IsDone link new) asks
 done_more link asks more old new h done k d lt =
     let before = done k d lt in
     let marks : (u : ℕ) → IsMarked old.marks.items u → IsMarked new.marks.items u
@@ -233,7 +233,7 @@ pub record IsPopped (old new : Walk) (n : ℕ) : Type 0 where
   pub stack : old.stack.items ≡ new.stack.items ++ n ∷ []
 
 -- what is done after a unit came off the stack, is done for the walk before
-same_done : (link : LinkInput) (old new : Walk) (asks : List Ask) → new.marks.items ≡ old.marks.items → new.words.items ≡ old.words.items → All (IsDone link old) asks → All (IsDone link new) asks
+pub same_done : (link : LinkInput) (old new : Walk) (asks : List Ask) → new.marks.items ≡ old.marks.items → new.words.items ≡ old.words.items → All (IsDone link old) asks → All (IsDone link new) asks
 same_done link old new asks marks words done k d lt = (
   subst (λ ms. IsHit (asking link) ms (get_or asks k d)) (sym marks) (done k d lt).0,
   subst (λ ws. IsJoined ws (get_or asks k d)) (sym words) (done k d lt).1,

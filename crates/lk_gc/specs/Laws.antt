@@ -1,5 +1,5 @@
 -- Laws on what is reached, and on what is live.
-use Rattle.std.specs.Prelude.{◌≡◌, ◌↔◌, ◌⊎◌, ℕ, ◌<◌, ◌≤◌, Bool, true, false, List, Some, All, Contains, slice_get, slice_index}
+use Rattle.std.specs.Prelude.{◌≡◌, ◌↔◌, ◌⊎◌, ℕ, ◌+◌, ◌<◌, ◌≤◌, Bool, true, false, List, Some, All, Contains, length, slice_get, slice_index}
 use Rattle.std.specs.Int.{bit_at}
 use Rattle.lk_link.specs.declared.file.InputFile.{InputFile}
 use Rattle.lk_link.specs.declared.link.LinkInput.{LinkInput}
@@ -11,7 +11,7 @@ use Rattle.lk_link.specs.WellFormed.{IsWellFormed}
 use Rattle.lk_gc.specs.declared.live.Live.{Live}
 use Rattle.lk_gc.specs.declared.units.Unit.{Unit as LinkUnit}
 use Rattle.lk_gc.specs.declared.units.Unit.TheVariants.{Sym}
-use Rattle.lk_gc.specs.Marks.{IsClosed, IsInside, IsMarked, IsUnit, asking, flag_words, handed_in, reached_marks, symbols_in_all, unit_number, word_of}
+use Rattle.lk_gc.specs.Marks.{IsClosed, IsInside, IsMarked, IsUnit, all_units, asking, flag_words, handed_in, reached_marks, symbols_in_all, unit_number, word_of}
 use Rattle.lk_gc.specs.Reach.{AreLive, HasFlag, IsLive, IsReached}
 use Rattle.lk_gc.specs.Units.{AsksFor, IsRoot, comes_along, follows, is_root, roots, unit_of}
 
@@ -47,6 +47,20 @@ ClosedWordsHoldFlags = (link : LinkInput) (marks : List Bool) (words : List ℕ)
     → IsClosed (asking link) marks words
     → ((n j : ℕ) → bit_at (slice_index (handed_in link) n) j ≡ 1 → bit_at (slice_index words n) j ≡ 1)
     → HasFlag link s i → bit_at (slice_index words (word_of s)) i ≡ 1
+
+-- closed marks and words, in which nothing is marked that isn't reached and nothing is joined that isn't a flag, are all
+pub record IsAllReached (link : LinkInput) (marks : List Bool) (words : List ℕ) : Type 0 where
+  pub closed : IsClosed (asking link) marks words
+  pub marks_count : length marks ≡ length (all_units link.groups)
+  pub words_count : length words ≡ symbols_in_all link.groups + 1
+  pub reached : (unit : LinkUnit) → IsUnit link.groups unit → IsMarked marks (unit_number link.groups unit) → IsReached link unit
+  pub handed : (n j : ℕ) → bit_at (slice_index (handed_in link) n) j ≡ 1 → bit_at (slice_index words n) j ≡ 1
+  pub spare : slice_index words 0 ≡ 0
+  pub flags : (s i : ℕ) → bit_at (slice_index words (word_of s)) i ≡ 1 → HasFlag link s i
+
+abbrev pub ClosedAndReachedIsAll : Type 0
+ClosedAndReachedIsAll = (link : LinkInput) (marks : List Bool) (words : List ℕ) → IsWellFormed link → IsAllReached link marks words
+    → (marks ≡ reached_marks link) × (words ≡ flag_words link)
 
 -- a symbol with a flag for which it gets a resolution, from DIRECT to EXPORT_DYNAMIC, is reached
 abbrev pub ResolvedIsReached : Type 0

@@ -1,4 +1,7 @@
+pub mod Askers
+pub mod Edges
 pub mod Exports
+pub mod FaultLaws
 pub mod Faults
 pub mod Laws
 pub mod Marks
@@ -6,6 +9,8 @@ pub mod Placements
 pub mod Primary
 pub mod Reach
 pub mod Slots
+pub mod StateTexts
 pub mod Texts
 pub mod Units
 pub mod Walking
+pub mod Work

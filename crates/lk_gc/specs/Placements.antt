@@ -28,3 +28,15 @@ is_defined groups d = option_map_or (λ x. not (is_undefined_placement x.at)) (s
 abbrev pub is_in_discarded : List InputSection → SymbolPlacement → Bool
 is_in_discarded sections p =
     option_map_or (λ i. option_map_or (λ s. is_discarded s.slot) (slice_get sections i) false) (section_of p) false
+
+-- the output section at whose start or end a placement is, or at the end of it and of those that are secondary to it
+abbrev pub edge_of : SymbolPlacement → Option ℕ
+edge_of (at.SectionStart o) = Some o
+edge_of (at.SectionEnd o) = Some o
+edge_of (at.SectionGroupEnd o) = Some o
+edge_of _ = None
+
+-- whether a placement is a redirect that counts only if something wants it
+abbrev pub is_provided : SymbolPlacement → Bool
+is_provided (at.Redirect e l provide) = provide
+is_provided _ = false

@@ -1,8 +1,9 @@
 -- What can be kept, and what asks for it.
-use Rattle.std.specs.Prelude.{◌≡◌, ℕ, ◌+◌, ◌==◌, ◌&&◌, not, Bool, true, false, if◌then◌else◌, List, [], ◌∷◌, ◌++◌, Option, Some, None, Contains, map, filter, option_and_then, option_map, slice_get, unwrap_or}
+use Rattle.std.specs.Prelude.{◌≡◌, ℕ, ◌+◌, ◌==◌, ◌&&◌, not, Bool, true, false, if◌then◌else◌, List, [], ◌∷◌, ◌++◌, Option, Some, None, Contains, map, filter, length, option_and_then, option_map, slice_get, unwrap_or}
 use Rattle.std.specs.Int.{bit_at}
 use Rattle.std.specs.List.{enumerate_from, flat_map}
 use Rattle.std.specs.Option.{option_map_or, option_to_list}
+use Rattle.lk_link.specs.declared.file.Candidate.{Candidate}
 use Rattle.lk_link.specs.declared.file.FileKind.{FileKind}
 use Rattle.lk_link.specs.declared.file.FileKind.TheVariants as kind
 use Rattle.lk_link.specs.declared.file.InputFile.{InputFile}
@@ -10,6 +11,8 @@ use Rattle.lk_link.specs.declared.flags.TheConstants.ValueFlags as flag
 use Rattle.lk_link.specs.declared.flags.ValueFlags.{ValueFlags}
 use Rattle.lk_link.specs.declared.ids.FileId.{FileId}
 use Rattle.lk_link.specs.declared.link.LinkInput.{LinkInput}
+use Rattle.lk_link.specs.declared.plan.OrderEvent.{OrderEvent}
+use Rattle.lk_link.specs.declared.plan.OrderEvent.TheVariants as event
 use Rattle.lk_link.specs.declared.relocation.Relocation.{Relocation}
 use Rattle.lk_link.specs.declared.section.InputSection.{InputSection}
 use Rattle.lk_link.specs.declared.section.InputSlot.{InputSlot}
@@ -21,8 +24,8 @@ use Rattle.lk_link.specs.declared.expression.Operand.{Operand}
 use Rattle.lk_link.specs.declared.expression.Operand.TheVariants as operand
 use Rattle.lk_link.specs.declared.expression.Token.{Token}
 use Rattle.lk_link.specs.declared.expression.Token.TheVariants as token
+use Rattle.lk_link.specs.CandidateIndex.{candidates_of}
 use Rattle.lk_link.specs.Expressions.{Term, postfix}
-use Rattle.lk_link.specs.FileKinds.{is_object}
 use Rattle.lk_link.specs.Files.{file_in}
 use Rattle.lk_link.specs.Inputs.{Input, NumberedFile, inputs_from, numbered_files}
 use Rattle.lk_link.specs.InputSlots.{can_be_kept, is_regular}
@@ -32,7 +35,7 @@ use Rattle.lk_link.specs.SectionGroups.{group_members}
 use Rattle.lk_link.specs.Symbols.{definition_of, first_symbol}
 use Rattle.lk_gc.specs.declared.exports.ExportSymbolsMode.TheVariants as mode
 use Rattle.lk_gc.specs.Exports.{is_exported, is_own_definition, list_for, mode_of}
-use Rattle.lk_gc.specs.Placements.{is_defined}
+use Rattle.lk_gc.specs.Placements.{edge_of, is_defined, is_provided}
 pub use Rattle.lk_gc.specs.Placements.{section_of}
 use Rattle.lk_gc.specs.declared.units.Ask.{Ask}
 use Rattle.lk_gc.specs.declared.units.Ask.TheVariants.{Reference, Section, Mark}
@@ -52,6 +55,10 @@ abbrev pub flags_of : Ask → Option (ℕ × ℕ)
 flags_of (Reference symbol flags) = Some (symbol, flags.0)
 flags_of (Section file index) = None
 flags_of (Mark symbol flags) = Some (symbol, flags.0)
+
+-- the asks of a list that there may be
+abbrev pub all_of : Option (List Ask) → List Ask
+all_of asks = unwrap_or asks []
 
 -- an input section as a unit, and as what is asked for
 abbrev pub unit_of : Input → LinkUnit
@@ -152,20 +159,78 @@ symbols_of f = map (λ s. (f, s)) f.file.symbols
 abbrev pub numbered_symbols : List (List InputFile) → List (NumberedFile × InputSymbol)
 numbered_symbols groups = flat_map symbols_of (numbered_files groups)
 
--- what a symbol of a file asks for: in an object its section, if it has one
-abbrev pub placement_asks : FileId → FileKind → SymbolPlacement → List Ask
-placement_asks id kind p = if is_object kind then option_to_list (option_map (Section id) (section_of p)) else []
+-- ---- expressions
 
--- the same, for a symbol with its file (libwild: `load_symbol`)
-abbrev pub symbol_asks : NumberedFile × InputSymbol → List Ask
-symbol_asks q = placement_asks q.0.id q.0.file.kind q.1.at
+-- what a piece of an expression refers to: what stands for its symbol, directly
+abbrev pub operand_ask : List (List InputFile) → Operand → Option Ask
+operand_ask groups (operand.Symbol s) = option_map (λ d. Reference d flag.DIRECT) (definition_of groups s)
+operand_ask groups _ = None
+
+abbrev pub token_ask : List (List InputFile) → Token → Option Ask
+token_ask groups (token.Operand o) = operand_ask groups o
+token_ask groups (token.Operator o) = None
+
+abbrev pub token_asks : List (List InputFile) → List Token → List Ask
+token_asks groups tokens = flat_map (λ t. option_to_list (token_ask groups t)) tokens
+
+-- what a redirect refers to: itself, then the symbols of its expression, from left to right
+abbrev pub redirect_references : List (List InputFile) → ℕ → Term → List Ask
+redirect_references groups s e = Reference s flag.DIRECT ∷ token_asks groups (postfix e)
+
+-- ---- symbols of each kind of file (libwild: `load_symbol`)
+
+-- a symbol of an object asks for its section, if it has one
+abbrev pub object_symbol_asks : FileId → SymbolPlacement → List Ask
+object_symbol_asks id p = option_to_list (option_map (Section id) (section_of p))
+
+-- a candidate, as what is asked for
+abbrev pub candidate_ask : Candidate → Ask
+candidate_ask c = Section c.file c.index
+
+-- those of an output section among the candidates of a file
+abbrev pub candidate_asks : List Candidate → ℕ → List Ask
+candidate_asks candidates o = map candidate_ask (candidates_of o candidates)
+
+-- a symbol of a synthetic file at the start or an end of an output section asks for the file's candidates of that section
+abbrev pub synthetic_symbol_asks : List Candidate → SymbolPlacement → List Ask
+synthetic_symbol_asks candidates p = option_map_or (candidate_asks candidates) (edge_of p) []
+
+-- a redirect of a script asks for itself and the symbols of its expression
+abbrev pub script_redirect_asks : List (List InputFile) → ℕ → SymbolPlacement → List Ask
+script_redirect_asks groups s (at.Redirect e l provide) = redirect_references groups s e
+script_redirect_asks groups s _ = []
+
+-- whether a symbol is shown to other files: it has a name, and isn't hidden
+abbrev pub is_shown : InputSymbol → Bool
+is_shown x = not (length x.name == 0) && not x.hidden
+
+-- a symbol of a script that is shown asks for itself, for the dynamic linker
+abbrev pub shown_ask : ℕ → InputSymbol → Option Ask
+shown_ask s x = if is_shown x then Some (Reference s flag.EXPORT_DYNAMIC) else None
+
+abbrev pub script_symbol_asks : List (List InputFile) → ℕ → InputSymbol → List Ask
+script_symbol_asks groups s x = script_redirect_asks groups s x.at ++ option_to_list (shown_ask s x)
+
+-- what a symbol, with its number, of a file of a kind asks for; one of another kind asks for nothing
+abbrev pub kind_asks : List (List InputFile) → ℕ → FileId → InputFile → InputSymbol → FileKind → List Ask
+kind_asks groups s id file x kind.Object = object_symbol_asks id x.at
+kind_asks groups s id file x kind.SyntheticSymbols = synthetic_symbol_asks file.candidates x.at
+kind_asks groups s id file x kind.LinkerScript = script_symbol_asks groups s x
+kind_asks groups s id file x kind.Prelude = []
+kind_asks groups s id file x kind.Dynamic = []
+kind_asks groups s id file x kind.NotLoaded = []
+
+-- the same, for a symbol with its file
+abbrev pub symbol_asks : List (List InputFile) → ℕ → NumberedFile × InputSymbol → List Ask
+symbol_asks groups s q = kind_asks groups s q.0.id q.0.file q.1 q.0.file.kind
 
 -- ---- units
 
--- what a unit asks for: a section for the other members of its group, then for what its relocations refer to
+-- what a unit asks for: a symbol as its kind of file does; a section for the other members of its group, then for what its
+-- relocations refer to
 -- (libwild: `handle_section_load_request`)
 abbrev pub follows : LinkInput → LinkUnit → List Ask
-follows link (Sym s) = option_map_or symbol_asks (slice_get (numbered_symbols link.groups) s) []
+follows link (Sym s) = option_map_or (symbol_asks link.groups s) (slice_get (numbered_symbols link.groups) s) []
 follows link (Sec id i) = asked_members link id i ++ asked_references link id i
 
 -- ---- roots
@@ -184,22 +249,10 @@ abbrev pub entry_asks : LinkInput → List Ask
 entry_asks link =
     option_to_list (option_map (λ s. Reference s flag.DIRECT) (option_and_then (definition_of link.groups) link.options.entry))
 
--- what a piece of an expression refers to: what stands for its symbol, directly
-abbrev pub operand_ask : List (List InputFile) → Operand → Option Ask
-operand_ask groups (operand.Symbol s) = option_map (λ d. Reference d flag.DIRECT) (definition_of groups s)
-operand_ask groups _ = None
-
-abbrev pub token_ask : List (List InputFile) → Token → Option Ask
-token_ask groups (token.Operand o) = operand_ask groups o
-token_ask groups (token.Operator o) = None
-
-abbrev pub token_asks : List (List InputFile) → List Token → List Ask
-token_asks groups tokens = flat_map (λ t. option_to_list (token_ask groups t)) tokens
-
--- what a redirect that stands for itself, with its number, refers to: itself, then the symbols of its expression, from left to right
+-- what a redirect of the prelude, with its number, refers to, if it stands for itself
 abbrev pub redirect_asks : List (List InputFile) → ℕ → InputSymbol → Term → List Ask
 redirect_asks groups s x e =
-    if unwrap_or x.def s == s then Reference s flag.DIRECT ∷ token_asks groups (postfix e) else []
+    if unwrap_or x.def s == s then redirect_references groups s e else []
 
 -- what a symbol that is wanted all the same refers to: what stands for it, if that is defined
 abbrev pub forced_ask : List (List InputFile) → ℕ → Option Ask
@@ -262,12 +315,42 @@ dynamic_asks link first symbols = flat_map (λ q. option_to_list (dynamic_ask li
 abbrev pub dynamic_roots : LinkInput → NumberedFile → List Ask
 dynamic_roots link f = dynamic_asks link (first_symbol link.groups f.id) f.file.symbols
 
--- what a file of a kind asks for by itself (libwild: `activate`)
+-- whether a symbol of a script is asked for by the script: it stands for itself, and isn't only provided
+abbrev pub is_script_root : ℕ × InputSymbol → Bool
+is_script_root q = unwrap_or q.1.def q.0 == q.0 && not (is_provided q.1.at)
+
+-- those of a script's symbols, the first of them given with this number
+abbrev pub wanted_asks : ℕ → List InputSymbol → List Ask
+wanted_asks first symbols = map (λ q. Reference q.0 (flags_from 0)) (filter is_script_root (enumerate_from first symbols))
+
+-- what an event that sets the location counter refers to: the symbols of its expression
+abbrev pub event_asks : List (List InputFile) → OrderEvent → List Ask
+event_asks groups (event.SetLocation e) = token_asks groups (postfix e)
+event_asks groups (event.SetLocationRelative e s) = token_asks groups (postfix e)
+event_asks groups (event.SetSectionAddress e) = []
+event_asks groups (event.Section s) = []
+event_asks groups (event.SegmentStart i) = []
+event_asks groups (event.SegmentEnd i) = []
+
+-- what all of them refer to
+abbrev pub location_asks : LinkInput → List Ask
+location_asks link = flat_map (event_asks link.groups) link.plan.events
+
+-- what a script asks for: by its symbols, then by the location counter's expressions
+abbrev pub wanted_symbol_asks : LinkInput → NumberedFile → List Ask
+wanted_symbol_asks link f = wanted_asks (first_symbol link.groups f.id) f.file.symbols
+
+abbrev pub script_roots : LinkInput → NumberedFile → List Ask
+script_roots link f = wanted_symbol_asks link f ++ location_asks link
+
+-- what a file of a kind asks for by itself; synthetic files and those that aren't loaded ask for nothing (libwild: `activate`)
 abbrev pub kind_roots : LinkInput → NumberedFile → FileKind → List Ask
 kind_roots link f kind.Prelude = prelude_roots link f
 kind_roots link f kind.Object = section_roots link.options.gc f.id 0 f.file.sections ++ export_roots link f
 kind_roots link f kind.Dynamic = dynamic_roots link f
-kind_roots link f _ = []
+kind_roots link f kind.LinkerScript = script_roots link f
+kind_roots link f kind.SyntheticSymbols = []
+kind_roots link f kind.NotLoaded = []
 
 abbrev pub file_roots : LinkInput → NumberedFile → List Ask
 file_roots link f = kind_roots link f f.file.kind

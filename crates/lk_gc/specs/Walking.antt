@@ -16,7 +16,8 @@ use Rattle.lk_gc.specs.declared.units.Ask.{Ask}
 use Rattle.lk_gc.specs.declared.walk.Walk.{Walk}
 use Rattle.lk_gc.specs.Marks.{IsHit, IsJoined, IsMarked, all_units, asking, flag_words, handed_in, join_all, join_flags, mark_all, mark_target, reached_marks, symbols_in_all}
 use Rattle.lk_gc.specs.Reach.{marked}
-use Rattle.lk_gc.specs.Units.{coming_asks, flags_of, roots}
+use Rattle.lk_gc.specs.declared.units.Unit.TheVariants.{Sym}
+use Rattle.lk_gc.specs.Units.{coming_asks, flags_of, follows, roots}
 
 -- how many units have no mark
 unfoldable pub unmarked : List Bool → ℕ
@@ -84,6 +85,10 @@ pub record AreTaken (link : LinkInput) (taken marks : List Bool) : Type 0 where
   pub members : (n : ℕ) (x : Input) (file : InputFile) (group : ℕ) → slice_get (all_inputs link.groups) n ≡ Some x → is_marked taken n ≡ true
       → file_in link.groups x.file ≡ Some file → x.section.group ≡ Some group
       → All (IsHit (asking link) marks) (coming_asks x.file file.sections (group_members file.sections group))
+
+-- where a mark stands at a symbol, all that the symbol asks for is done
+abbrev pub AreAsked : LinkInput → List Bool → Walk → Type 0
+AreAsked link taken w = (s : ℕ) → is_marked taken s ≡ true → All (IsDone link w) (follows link (Sym s))
 
 -- an input section, by its number, is in the group of this section, which is kept
 pub record IsGroupPlace (link : LinkInput) (id : FileId) (i n : ℕ) : Type 0 where

@@ -1,19 +1,20 @@
 //! The asks that are left of a unit or a file, one after the other. All that walks over asks drives this one iterator; it
 //! takes no memory, and a relocation costs constant time: what stands for its symbol is read off the file's own symbols.
 
-ghost use Rattle.std.specs.Prelude.{◌≡◌, [], List, ◌++◌, ◌+◌, ◌<◌, ◌^◌};
+ghost use Rattle.std.specs.Prelude.{◌≡◌, [], ◌++◌, ◌+◌, ◌<◌, ◌^◌, map};
 ghost use Rattle.std.specs.Iterator.{YieldsFirst, item_count};
-ghost use Rattle.std.specs.Option.{option_map_or, option_to_list};
-ghost use Rattle.lk_gc.specs.Units.{comes_along, is_other, is_root, local_definition, range_mark, reference};
-ghost use Rattle.lk_gc.specs.declared.units.Ask.{Ask};
+ghost use Rattle.std.specs.Option.{option_to_list};
+ghost use Rattle.lk_gc.specs.Askers.{asks_left};
+ghost use Rattle.lk_gc.specs.Units.{candidate_ask, comes_along, is_other, is_root, local_definition, range_mark, reference};
 
 use crate::exports::is_exported;
 use crate::reaching::{dynamic_ask, own_asks, token_ask};
+use crate::scripts::{CandidateAsks, RedirectAsks, ScriptRoots};
 use crate::units::Ask;
 use lk_link::relocation::resolution_flags;
 use lk_link::{
-    FileId, InputGroups, InputSection, InputSlot, InputSymbol, LinkInput, Names, Relocation,
-    SymbolId, Token, ValueFlags,
+    Candidate, FileId, InputGroups, InputSection, InputSlot, InputSymbol, LinkInput, Names,
+    Relocation, SymbolId, Token, ValueFlags,
 };
 use std::marker::Model;
 
@@ -368,22 +369,15 @@ impl<'a> Iterator for PreludeRoots<'a> {
     }
 }
 
-/// What is left of what a unit or a file asks for, in order. Contracts see the list of the asks.
+/// What is left of what a section asks for: of its group, then by its relocations. Contracts see the list of the asks.
 #[derive(Drop)]
-pub struct Successors<'a> {
-    /// An ask that comes before all others: a symbol's section, or the entry.
-    first: Option<Ask>,
-    members: MemberAsks<'a>,
-    relocations: RelocationAsks<'a>,
-    sections: SectionRoots<'a>,
-    exports: ExportRoots<'a>,
-    dynamics: Option<DynamicRoots<'a>>,
-    prelude: Option<PreludeRoots<'a>>,
+pub(crate) struct SectionAsks<'a> {
+    pub(crate) members: MemberAsks<'a>,
+    pub(crate) relocations: RelocationAsks<'a>,
 }
 
-impl<'a> Model for Successors<'a> {
-    ghost use Rattle.std.specs.Prelude.{◌++◌, List, []};
-    ghost use Rattle.std.specs.Option.{option_map_or, option_to_list};
+impl<'a> Model for SectionAsks<'a> {
+    ghost use Rattle.std.specs.Prelude.{◌++◌, List};
     ghost use Rattle.std.specs.Coded.{codes};
     ghost use Rattle.lk_link.specs.contracts.expression.Expression as expression;
     ghost use Rattle.lk_gc.specs.declared.units.Ask.{Ask};
@@ -392,8 +386,94 @@ impl<'a> Model for Successors<'a> {
 
     ghost coded = { Prim.hlevel (codes, expression.the_row.coded) };
 
-    ghost view = { λ a. option_to_list a.first ++ (a.members ++ (a.relocations ++ (a.sections ++ (a.exports
-        ++ (option_map_or (λ (asks : List Ask). asks) a.dynamics [] ++ option_map_or (λ (asks : List Ask). asks) a.prelude []))))) };
+    ghost view = { λ a. a.members ++ a.relocations };
+}
+
+impl<'a> Iterator for SectionAsks<'a> {
+    type Item = Ask;
+
+    ghost next_gives = { YieldsFirst (λ left. left) };
+
+    ghost remaining = { item_count (λ left. left) };
+
+    fn next(&mut self) -> Option<Ask> {
+        if let Some(ask) = self.members.next() {
+            return Some(ask);
+        }
+        self.relocations.next()
+    }
+}
+
+/// What is left of what an object asks for: its sections, then what it exports. Contracts see the list of the asks.
+#[derive(Drop)]
+pub(crate) struct ObjectRoots<'a> {
+    pub(crate) sections: SectionRoots<'a>,
+    pub(crate) exports: ExportRoots<'a>,
+}
+
+impl<'a> Model for ObjectRoots<'a> {
+    ghost use Rattle.std.specs.Prelude.{◌++◌, List};
+    ghost use Rattle.std.specs.Coded.{codes};
+    ghost use Rattle.lk_link.specs.contracts.expression.Expression as expression;
+    ghost use Rattle.lk_gc.specs.declared.units.Ask.{Ask};
+
+    ghost Value = { List Ask };
+
+    ghost coded = { Prim.hlevel (codes, expression.the_row.coded) };
+
+    ghost view = { λ a. a.sections ++ a.exports };
+}
+
+impl<'a> Iterator for ObjectRoots<'a> {
+    type Item = Ask;
+
+    ghost next_gives = { YieldsFirst (λ left. left) };
+
+    ghost remaining = { item_count (λ left. left) };
+
+    fn next(&mut self) -> Option<Ask> {
+        if let Some(ask) = self.sections.next() {
+            return Some(ask);
+        }
+        self.exports.next()
+    }
+}
+
+/// Whose asks they are, and what is left of them.
+#[derive(Drop)]
+pub(crate) enum Asker<'a> {
+    Nobody,
+    Section(SectionAsks<'a>),
+    Candidates(CandidateAsks<'a>),
+    Redirect(RedirectAsks<'a>),
+    Object(ObjectRoots<'a>),
+    Dynamic(DynamicRoots<'a>),
+    Prelude(PreludeRoots<'a>),
+    Script(ScriptRoots<'a>),
+}
+
+/// What is left of what a unit or a file asks for, in order. Contracts see the list of the asks.
+#[derive(Drop)]
+pub struct Successors<'a> {
+    /// An ask that comes before all others: a symbol's section, or the entry.
+    first: Option<Ask>,
+    asker: Asker<'a>,
+}
+
+impl<'a> Model for Successors<'a> {
+    ghost use Rattle.std.specs.Prelude.{◌++◌, List};
+    ghost use Rattle.std.specs.Option.{option_to_list};
+    ghost use Rattle.std.specs.Coded.{codes};
+    ghost use Rattle.lk_link.specs.contracts.expression.Expression as expression;
+    ghost use Rattle.lk_gc.specs.declared.units.Ask.{Ask};
+
+    ghost Value = { List Ask };
+
+    ghost coded = { Prim.hlevel (codes, expression.the_row.coded) };
+
+    ghost use Rattle.lk_gc.specs.Askers.{asks_left};
+
+    ghost view = { λ a. option_to_list a.first ++ asks_left a.asker };
 }
 
 impl<'a> Iterator for Successors<'a> {
@@ -407,48 +487,29 @@ impl<'a> Iterator for Successors<'a> {
         if let Some(ask) = self.first.take() {
             return Some(ask);
         }
-        if let Some(ask) = self.members.next() {
-            return Some(ask);
-        }
-        if let Some(ask) = self.relocations.next() {
-            return Some(ask);
-        }
-        if let Some(ask) = self.sections.next() {
-            return Some(ask);
-        }
-        if let Some(ask) = self.exports.next() {
-            return Some(ask);
-        }
-        if let Some(ask) = next_of_dynamic(&mut self.dynamics) {
-            return Some(ask);
-        }
-        next_of_prelude(&mut self.prelude)
+        next_of(&mut self.asker)
     }
 }
 
-/// The next ask of a dynamic file, if one is left.
-fn next_of_dynamic(dynamics: &mut Option<DynamicRoots<'_>>) -> Option<Ask>
-    ensures { YieldsFirst (λ left. option_map_or (λ (asks : List Ask). asks) left []) dynamics.old result dynamics.new }
+/// The next ask, if one is left.
+fn next_of(asker: &mut Asker<'_>) -> Option<Ask>
+    ensures { YieldsFirst asks_left asker.old result asker.new }
 {
-    match dynamics {
-        Some(dynamics) => dynamics.next(),
-        None => None,
-    }
-}
-
-/// The next ask of the prelude's symbols, if one is left.
-fn next_of_prelude(prelude: &mut Option<PreludeRoots<'_>>) -> Option<Ask>
-    ensures { YieldsFirst (λ left. option_map_or (λ (asks : List Ask). asks) left []) prelude.old result prelude.new }
-{
-    match prelude {
-        Some(prelude) => prelude.next(),
-        None => None,
+    match asker {
+        Asker::Nobody => None,
+        Asker::Section(asks) => asks.next(),
+        Asker::Candidates(asks) => asks.next(),
+        Asker::Redirect(asks) => asks.next(),
+        Asker::Object(asks) => asks.next(),
+        Asker::Dynamic(asks) => asks.next(),
+        Asker::Prelude(asks) => asks.next(),
+        Asker::Script(asks) => asks.next(),
     }
 }
 
 impl<'a> RelocationAsks<'a> {
     /// No asks.
-    fn none() -> RelocationAsks<'a>
+    pub(crate) fn none() -> RelocationAsks<'a>
         ensures { result ≡ [] }
     {
         RelocationAsks {
@@ -463,7 +524,7 @@ impl<'a> RelocationAsks<'a> {
 
 impl<'a> MemberAsks<'a> {
     /// No asks.
-    fn none() -> MemberAsks<'a>
+    pub(crate) fn none() -> MemberAsks<'a>
         ensures { result ≡ [] }
     {
         MemberAsks {
@@ -477,7 +538,7 @@ impl<'a> MemberAsks<'a> {
 
 impl<'a> SectionRoots<'a> {
     /// No asks.
-    fn none() -> SectionRoots<'a>
+    pub(crate) fn none() -> SectionRoots<'a>
         ensures { result ≡ [] }
     {
         SectionRoots {
@@ -491,7 +552,7 @@ impl<'a> SectionRoots<'a> {
 
 impl<'a> ExportRoots<'a> {
     /// No asks.
-    fn none() -> ExportRoots<'a>
+    pub(crate) fn none() -> ExportRoots<'a>
         ensures { result ≡ [] }
     {
         ExportRoots {
@@ -504,87 +565,93 @@ impl<'a> ExportRoots<'a> {
 }
 
 impl<'a> Successors<'a> {
+    /// No asks.
+    pub(crate) fn none() -> Successors<'a>
+        ensures { result ≡ [] }
+    {
+        Successors {
+            first: None,
+            asker: Asker::Nobody,
+        }
+    }
+
     /// This ask alone, if there is one.
     pub(crate) fn from_ask(ask: Option<Ask>) -> Successors<'a>
         ensures { result ≡ option_to_list ask }
     {
         Successors {
             first: ask,
-            members: MemberAsks::none(),
-            relocations: RelocationAsks::none(),
-            sections: SectionRoots::none(),
-            exports: ExportRoots::none(),
-            dynamics: None,
-            prelude: None,
+            asker: Asker::Nobody,
         }
     }
 
-    /// The asks for members of a section's group, then those of its relocations, where there are such.
-    pub(crate) fn from_section(
-        members: Option<MemberAsks<'a>>,
-        relocations: Option<RelocationAsks<'a>>,
-    ) -> Successors<'a>
-        ensures { result ≡ option_map_or (λ (asks : List Ask). asks) members.entry [] ++ option_map_or (λ (asks : List Ask). asks) relocations.entry [] }
+    /// The asks of a section.
+    pub(crate) fn from_section(asks: SectionAsks<'a>) -> Successors<'a>
+        ensures { result ≡ asks.entry }
     {
         Successors {
             first: None,
-            members: members.unwrap_or(MemberAsks::none()),
-            relocations: relocations.unwrap_or(RelocationAsks::none()),
-            sections: SectionRoots::none(),
-            exports: ExportRoots::none(),
-            dynamics: None,
-            prelude: None,
+            asker: Asker::Section(asks),
         }
     }
 
-    /// The entry, then the asks of the prelude's symbols.
-    pub(crate) fn from_prelude(
-        entry: Option<Ask>,
-        prelude: Option<PreludeRoots<'a>>,
-    ) -> Successors<'a>
-        ensures { result ≡ option_to_list entry ++ option_map_or (λ (asks : List Ask). asks) prelude.entry [] }
+    /// The asks for candidates.
+    pub(crate) fn from_candidates(candidates: &'a [Candidate]) -> Successors<'a>
+        ensures { result ≡ map candidate_ask candidates.now }
     {
         Successors {
-            first: entry,
-            members: MemberAsks::none(),
-            relocations: RelocationAsks::none(),
-            sections: SectionRoots::none(),
-            exports: ExportRoots::none(),
-            dynamics: None,
-            prelude,
+            first: None,
+            asker: Asker::Candidates(CandidateAsks { candidates }),
+        }
+    }
+
+    /// The asks of a script's symbol.
+    pub(crate) fn from_redirect(asks: RedirectAsks<'a>) -> Successors<'a>
+        ensures { result ≡ asks.entry }
+    {
+        Successors {
+            first: None,
+            asker: Asker::Redirect(asks),
+        }
+    }
+
+    /// The asks of an object.
+    pub(crate) fn from_object(asks: ObjectRoots<'a>) -> Successors<'a>
+        ensures { result ≡ asks.entry }
+    {
+        Successors {
+            first: None,
+            asker: Asker::Object(asks),
         }
     }
 
     /// The asks for definitions in other files.
-    pub(crate) fn from_dynamic(dynamics: DynamicRoots<'a>) -> Successors<'a>
-        ensures { result ≡ dynamics.entry }
+    pub(crate) fn from_dynamic(asks: DynamicRoots<'a>) -> Successors<'a>
+        ensures { result ≡ asks.entry }
     {
         Successors {
             first: None,
-            members: MemberAsks::none(),
-            relocations: RelocationAsks::none(),
-            sections: SectionRoots::none(),
-            exports: ExportRoots::none(),
-            dynamics: Some(dynamics),
-            prelude: None,
+            asker: Asker::Dynamic(asks),
         }
     }
 
-    /// The asks for sections, then those of what is exported, where anything is.
-    pub(crate) fn from_object(
-        sections: SectionRoots<'a>,
-        exports: Option<ExportRoots<'a>>,
-    ) -> Successors<'a>
-        ensures { result ≡ sections.entry ++ option_map_or (λ (asks : List Ask). asks) exports.entry [] }
+    /// The entry, then the asks of the prelude's symbols.
+    pub(crate) fn from_prelude(entry: Option<Ask>, asks: PreludeRoots<'a>) -> Successors<'a>
+        ensures { result ≡ option_to_list entry ++ asks.entry }
+    {
+        Successors {
+            first: entry,
+            asker: Asker::Prelude(asks),
+        }
+    }
+
+    /// The asks of a script.
+    pub(crate) fn from_script(asks: ScriptRoots<'a>) -> Successors<'a>
+        ensures { result ≡ asks.entry }
     {
         Successors {
             first: None,
-            members: MemberAsks::none(),
-            relocations: RelocationAsks::none(),
-            sections,
-            exports: exports.unwrap_or(ExportRoots::none()),
-            dynamics: None,
-            prelude: None,
+            asker: Asker::Script(asks),
         }
     }
 }

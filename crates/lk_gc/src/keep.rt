@@ -5,11 +5,12 @@ ghost use Rattle.std.specs.List.{list_any, range_with_len};
 ghost use Rattle.lk_link.specs.InputSlots.{can_be_kept};
 ghost use Rattle.lk_link.specs.Marks.{is_marked};
 ghost use Rattle.lk_link.specs.WellFormed.{IsWellFormed};
-ghost use Rattle.lk_gc.specs.Reach.{kept_marks, live_by, live_marks};
+ghost use Rattle.lk_gc.specs.Reach.{for_sections, kept_marks, live_by, live_marks, section_keeps};
 ghost use Rattle.lk_gc.specs.Units.{flags_from};
 ghost use Rattle.lk_gc.specs.Walking.{AreFew, AreKeptParts, keeps_part};
 
 use crate::live::{Live, LiveInputs};
+use crate::named::keep_named;
 use crate::walk::Walk;
 use lk_link::marks::is_marked;
 use lk_link::{InputSection, InputSlot, LinkInput, List, ValueFlags};
@@ -23,7 +24,7 @@ pub(crate) fn live_after(alloc: Global, link: &LinkInput, walk: &Walk) -> Result
 {
     let marks = live_marks(alloc, link, walk.marks.as_slice())?;
     let flags = symbol_flags(alloc, walk.words.as_slice())?;
-    let kept = kept_marks(alloc, link, marks.as_slice())?;
+    let kept = kept_marks(alloc, link, marks.as_slice(), walk.marks.as_slice())?;
     Ok(Live {
         marks: List::from_vec(marks),
         flags: List::from_vec(flags),
@@ -75,10 +76,26 @@ fn flags_of(alloc: Global, words: &[u64]) -> Result<Vec<ValueFlags>, AllocError>
     Ok(flags)
 }
 
-/// For each output section whether a live section without bytes keeps it.
-fn kept_marks(alloc: Global, link: &LinkInput, live: &[bool]) -> Result<Vec<bool>, AllocError>
+/// For each output section whether a live section without bytes keeps it, or a redirect that is reached. `marks` tells of each
+/// unit whether it is.
+fn kept_marks(
+    alloc: Global,
+    link: &LinkInput,
+    live: &[bool],
+    marks: &[bool],
+) -> Result<Vec<bool>, AllocError>
     requires { IsWellFormed link.now }
-    ensures { IfOk result (λ kept. kept.items ≡ kept_marks link.now live.now) }
+    ensures { IfOk result (λ kept. kept.items ≡ kept_marks link.now live.now marks.now) }
+{
+    let mut kept = kept_by_sections(alloc, link, live)?;
+    keep_named(&mut kept, link, marks);
+    Ok(kept)
+}
+
+/// For each output section whether a live section without bytes keeps it.
+fn kept_by_sections(alloc: Global, link: &LinkInput, live: &[bool]) -> Result<Vec<bool>, AllocError>
+    requires { IsWellFormed link.now }
+    ensures { IfOk result (λ kept. kept.items ≡ for_sections (section_keeps link.now live.now) link.now) }
 {
     let parts = kept_parts(alloc, link, live)?;
     let sections = link.plan.sections.len();

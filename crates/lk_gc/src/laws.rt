@@ -1,6 +1,7 @@
 //! Laws on what is reached, and on what is live.
 
-ghost use Rattle.lk_gc.specs.Laws.{AllIsLive, AsksAreInside, ClosedMarksHoldReach, ClosedWordsHoldFlags, GroupsStayTogether, LiveExists, LiveIsOne, LiveWasAskedFor, MarksAreReached, MoreRootsReachMore, ReachIsClosed, ResolvedIsReached, RootsAreLive, WordsAreFlags};
+ghost use Rattle.lk_gc.specs.FaultLaws.{FaultsAreThese};
+ghost use Rattle.lk_gc.specs.Laws.{AllIsLive, AsksAreInside, ClosedAndReachedIsAll, ClosedMarksHoldReach, ClosedWordsHoldFlags, GroupsStayTogether, LiveExists, LiveIsOne, LiveWasAskedFor, MarksAreReached, MoreRootsReachMore, ReachIsClosed, ResolvedIsReached, RootsAreLive, WordsAreFlags};
 
 use lk_link::file::group_members_rise;
 
@@ -32,6 +33,11 @@ pub fn closed_marks_hold_reach()
 /// A law: words that are closed, and hold what is handed in, hold all flags.
 pub fn closed_words_hold_flags()
     ensures { ClosedWordsHoldFlags }
+{}
+
+/// A law: marks and words that are closed, and hold nothing but what is reached and its flags, hold just that.
+pub fn closed_and_reached_is_all()
+    ensures { ClosedAndReachedIsAll }
 {}
 
 /// A law: a symbol with a flag for which it gets a resolution is reached.
@@ -74,4 +80,10 @@ pub fn groups_stay_together()
 /// A law: what is live was asked for by a root or by a unit that is reached.
 pub fn live_was_asked_for()
     ensures { LiveWasAskedFor }
+{}
+
+/// A law: the references that are told of a well-formed link are just those that can't be met: of sections that are reached,
+/// those that are discarded and relocations that need an undefined symbol; and undefined symbols of dynamic files.
+pub fn faults_are_these()
+    ensures { FaultsAreThese }
 {}

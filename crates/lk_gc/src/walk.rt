@@ -3,24 +3,27 @@
 //! Units go by their numbers: a mark for each unit that was asked for, a word of flags for each symbol, and a stack of the units
 //! whose own asks are still to come. A unit is marked when it is first asked for, and goes onto the stack then, so each is looked
 //! at once. The walk begins with what files ask for by themselves, and ends when the stack is empty: then all that a marked unit
-//! asks for is marked and joined, and nothing else ever was. The members of a section group, for which each of them asks, are
-//! taken once: with the first of them that comes off the stack.
+//! asks for is marked and joined, and nothing else ever was. What many ask for whole is taken once: the members of a section
+//! group, with the first of them that comes off the stack; the candidates of an output section in a file, with the first symbol
+//! at its start or end; and what the location counter's expressions refer to, with the first script.
 
 ghost use Rattle.std.specs.Prelude.{◌≡◌, [], ◌++◌, ◌<◌, ◌^◌, All, IsSome, OnOk, IfOk, Some, SomeIff, false, length, map, replicate, slice_set, true};
 ghost use Rattle.lk_link.specs.Files.{file_in};
+ghost use Rattle.lk_link.specs.Walks.{file_of};
 ghost use Rattle.lk_link.specs.WellFormed.{IsWellFormed};
 ghost use Rattle.std.specs.Option.{ForSome};
 ghost use Rattle.lk_gc.specs.Marks.{IsInside, IsMarked, flags_handed_in, handed_in, join_flags, mark_target, unit_at, unit_number, word_of};
-ghost use Rattle.lk_gc.specs.declared.units.Unit.TheVariants.{Sec};
-ghost use Rattle.lk_gc.specs.Units.{follows, roots};
-ghost use Rattle.lk_gc.specs.Walking.{Adds, AreFew, AreTaken, IsGroupPlace, IsSized, IsStart, IsWalked, IsWalking, Takes, files_of_inputs, stack_after};
+ghost use Rattle.lk_gc.specs.declared.units.Unit.TheVariants.{Sec, Sym};
+ghost use Rattle.lk_gc.specs.Units.{file_roots, follows, location_asks, roots};
+ghost use Rattle.lk_gc.specs.Walking.{Adds, AreAsked, AreFew, AreTaken, IsDone, IsGroupPlace, IsSized, IsStart, IsWalked, IsWalking, Takes, files_of_inputs, stack_after};
 
 use crate::asks::Successors;
-use crate::reaching::{file_roots, section_references, successors};
+use crate::edges::Edges;
+use crate::reaching::{file_roots, script_roots, section_references, successors};
 use crate::units::{Ask, Unit};
 use lk_link::file::group_members_rise;
 use lk_link::marks::is_marked;
-use lk_link::{FileId, InputSymbol, LinkInput, SymbolId, ValueFlags};
+use lk_link::{FileId, FileRef, InputSymbol, LinkInput, SymbolId, ValueFlags};
 use std::alloc::{AllocError, Global};
 
 /// What is reached so far.
@@ -45,7 +48,8 @@ impl Walk {
         let mut walk = Walk::new(alloc, link)?;
         walk.take_roots(link)?;
         let mut taken = unmarked(alloc, link.groups.input_count() as usize)?;
-        walk.take_stack(link, files.as_slice(), &mut taken)?;
+        let mut edges = Edges::new(alloc, link)?;
+        walk.take_stack(link, files.as_slice(), &mut taken, &mut edges)?;
         Ok(walk)
     }
 
@@ -105,9 +109,39 @@ impl Walk {
         requires sized { IsSized link.now self.old }
         ensures { OnOk result (Adds link.now (roots link.now) self.old self.new) }
     {
+        let mut located = false;
         for file in link.groups.files() {
-            self.take_all(link, file_roots(link, file))?;
+            self.take_file(link, file, &mut located)?;
         }
+        Ok(())
+    }
+
+    /// Takes what a file asks for by itself. `located` is whether the location counter's expressions were taken, for which each
+    /// script asks.
+    fn take_file(
+        &mut self,
+        link: &LinkInput,
+        file: FileRef<'_>,
+        located: &mut bool,
+    ) -> Result<(), AllocError>
+        requires well_formed { IsWellFormed link.now }
+        requires there { file_in link.now.groups file.id ≡ Some file.file.now }
+        requires sized { IsSized link.now self.old }
+        requires located { located.old ≡ true → All (IsDone link.now self.old) (location_asks link.now) }
+        ensures { OnOk result
+            (Adds link.now (file_roots link.now (file_of file.entry)) self.old self.new
+            × (located.new ≡ true → All (IsDone link.now self.new) (location_asks link.now))) }
+    {
+        if !file.file.kind.is_script() {
+            self.take_all(link, file_roots(link, file))?;
+            return Ok(());
+        }
+        if *located {
+            self.take_all(link, script_roots(link, file, &[]))?;
+            return Ok(());
+        }
+        self.take_all(link, file_roots(link, file))?;
+        *located = true;
         Ok(())
     }
 
@@ -118,16 +152,18 @@ impl Walk {
         link: &LinkInput,
         files: &[FileId],
         taken: &mut Vec<bool>,
+        edges: &mut Edges,
     ) -> Result<(), AllocError>
         requires well_formed { IsWellFormed link.now }
         requires files { files.now ≡ files_of_inputs link.now }
         requires walking { IsWalking link.now self.old }
         requires taken { AreTaken link.now taken.old.items self.old.marks.items }
+        requires edges { AreAsked link.now edges.old.taken.items self.old }
         ensures { OnOk result (IsWalking link.now self.new × (self.new.stack.items ≡ [])) }
     {
         while let Some(number) = self.stack.pop() {
             if let Some(unit) = unit_at(link, files, number as usize) {
-                self.take_unit(link, unit, taken)?;
+                self.take_unit(link, unit, taken, edges)?;
             }
         }
         Ok(())
@@ -139,20 +175,70 @@ impl Walk {
         link: &LinkInput,
         unit: Unit,
         taken: &mut Vec<bool>,
+        edges: &mut Edges,
     ) -> Result<(), AllocError>
         requires well_formed { IsWellFormed link.now }
         requires sized { IsSized link.now self.old }
         requires marked { IsMarked self.old.marks.items (unit_number link.now.groups unit) }
         requires taken { AreTaken link.now taken.old.items self.old.marks.items }
-        ensures { OnOk result (Adds link.now (follows link.now unit) self.old self.new × AreTaken link.now taken.new.items self.new.marks.items) }
+        requires edges { AreAsked link.now edges.old.taken.items self.old }
+        ensures { OnOk result
+            (Adds link.now (follows link.now unit) self.old self.new × AreTaken link.now taken.new.items self.new.marks.items
+            × AreAsked link.now edges.new.taken.items self.new) }
     {
         match unit {
             Unit::Sym(symbol) => {
+                self.take_symbol(link, symbol, edges)?;
+                Ok(())
+            }
+            Unit::Sec(file, index) => {
+                self.take_section(link, file, index, taken)?;
+                Ok(())
+            }
+        }
+    }
+
+    /// Takes what a symbol asks for that was asked for itself.
+    fn take_symbol(
+        &mut self,
+        link: &LinkInput,
+        symbol: SymbolId,
+        edges: &mut Edges,
+    ) -> Result<(), AllocError>
+        requires well_formed { IsWellFormed link.now }
+        requires sized { IsSized link.now self.old }
+        requires edges { AreAsked link.now edges.old.taken.items self.old }
+        ensures { OnOk result (Adds link.now (follows link.now (Sym symbol)) self.old self.new × AreAsked link.now edges.new.taken.items self.new) }
+    {
+        match edges.leader(link, symbol) {
+            Some(leader) => self.take_edge(link, symbol, leader, edges),
+            None => {
                 self.take_all(link, successors(link, Unit::Sym(symbol)))?;
                 Ok(())
             }
-            Unit::Sec(file, index) => self.take_section(link, file, index, taken),
         }
+    }
+
+    /// Takes what a symbol asks for, unless that was taken for this one, which asks for the same.
+    fn take_edge(
+        &mut self,
+        link: &LinkInput,
+        symbol: SymbolId,
+        leader: SymbolId,
+        edges: &mut Edges,
+    ) -> Result<(), AllocError>
+        requires well_formed { IsWellFormed link.now }
+        requires sized { IsSized link.now self.old }
+        requires edges { AreAsked link.now edges.old.taken.items self.old }
+        requires same { follows link.now (Sym leader) ≡ follows link.now (Sym symbol) }
+        ensures { OnOk result (Adds link.now (follows link.now (Sym symbol)) self.old self.new × AreAsked link.now edges.new.taken.items self.new) }
+    {
+        if is_marked(edges.taken.as_slice(), leader.as_usize()) {
+            return Ok(());
+        }
+        self.take_all(link, successors(link, Unit::Sym(symbol)))?;
+        edges.set(leader);
+        Ok(())
     }
 
     /// Takes what a section asks for that was asked for itself.
@@ -275,7 +361,7 @@ fn unit_at(link: &LinkInput, files: &[FileId], number: usize) -> Option<Unit>
 }
 
 /// Sets a mark.
-fn set_mark(marks: &mut Vec<bool>, place: usize)
+pub(crate) fn set_mark(marks: &mut Vec<bool>, place: usize)
     requires { place < length marks.old.items }
     ensures { marks.new.items ≡ slice_set marks.old.items place true }
 {

@@ -38,7 +38,7 @@ use Rattle.lk_gc.specs.Reach.{IsLive, IsReached}
 use Rattle.lk_gc.specs.Units.{flags_from, follows, section_of}
 use Rattle.lk_gc.proofs.PlainAsks.{resolved_is_reached}
 use Rattle.lk_gc.proofs.ReachLemmas.{marks_are_reached, reach_more}
-use Rattle.lk_gc.proofs.SymbolNumbers.{symbol_follows}
+use Rattle.lk_gc.proofs.SymbolNumbers.{object_follows}
 use Rattle.lk_gc.proofs.UnitLemmas.{section_unit}
 use Rattle.lk_layout.specs.Laws.{ResolvedSectionsAreLive}
 use Rattle.lk_layout.specs.Resolutions.{flags_at}
@@ -103,9 +103,7 @@ section_reached link id file i k x there at_k object placed reached =
     let lt = slice_get_within file.symbols k x at_k in
     let at_s : symbol_at link.groups s ≡ Some x = symbols_follow link.groups id file k there lt ∙ at_k in
     let asks : follows link (Sym s) ≡ Section id i ∷ []
-    = symbol_follows link id s file x (in_file link.groups id file k there lt) there at_s
-    ∙ ap (λ b. if b then option_to_list (option_map (Section id) (section_of x.at)) else []) object
-    ∙ ap (λ o. option_to_list (option_map (Section id) o)) placed in
+    = object_follows link id s file x (in_file link.groups id file k there lt) there at_s object ∙ ap (λ o. option_to_list (option_map (Section id) o)) placed in
     reach_more link (Sym s) (Sec id i) reached
     (record { ask = Section id i; among = contains_at (follows link (Sym s)) 0 (Section id i) (ap (λ (xs : List Ask). slice_get xs 0) asks); target = refl })
 

@@ -1,7 +1,8 @@
 use Rattle.std.proofs.Common.{◌≡◌, false, length, replicate, sym, ap, ◌∙◌, subst, arith}
 use Rattle.lk_link.specs.Inputs.{all_inputs}
 use Rattle.lk_link.proofs.InputLemmas.{inputs_follow}
-use Rattle.lk_gc.specs.Walking.{AreTaken}
+use Rattle.lk_gc.specs.Walking.{AreAsked, AreTaken}
+use Rattle.lk_gc.proofs.EdgeLemmas.{asked_none}
 use Rattle.lk_gc.proofs.GroupLemmas.{none_taken}
 use Rattle.lk_gc.proofs.SymbolNumbers.{inputs_few}
 use Rattle.lk_gc.proofs.WalkLemmas.{start_sized, walked, walking_from}
@@ -18,6 +19,12 @@ take_stack-requires-clause-taken c =
     let link = c.args.link.now in
     let count : c.input_count.result ≡ length (all_inputs link.groups) = omega (arith, inputs_follow.count link.groups, inputs_few link c.requires) in
     subst (λ ms. AreTaken link ms c.take_roots.new.self.marks.items) (sym (c.in_ok-taken.ensures ∙ ap (λ n. replicate n false) count)) (none_taken link c.take_roots.new.self.marks.items)
+
+pub take_stack-requires-clause-edges : goal.take_stack-requires-clause-edges
+take_stack-requires-clause-edges c =
+    let link = c.args.link.now in
+    let walk = c.take_roots.new.self in
+    subst (λ ms. AreAsked link ms walk) (sym c.in_ok-edges.ensures) (asked_none link _ walk)
 
 pub returns : goal.returns
 returns c = walked c.args.link.now _ c.in_ok-take_stack.ensures.0 c.in_ok-take_stack.ensures.1

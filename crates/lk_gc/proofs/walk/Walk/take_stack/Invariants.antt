@@ -1,9 +1,9 @@
 use Rattle.std.proofs.Common.{◌+◌, length}
-use Rattle.lk_gc.specs.Walking.{AreTaken, IsWalking, unmarked}
+use Rattle.lk_gc.specs.Walking.{AreAsked, AreTaken, IsWalking, unmarked}
 use Rattle.lk_gc.proofs.walk.Walk.take_stack.Given as goal
 
 abbrev pub invariant-loop-number : goal.invariant-loop-number
-invariant-loop-number l = IsWalking l.link l.self × AreTaken l.link l.taken.items l.self.marks.items
+invariant-loop-number l = IsWalking l.link l.self × AreTaken l.link l.taken.items l.self.marks.items × AreAsked l.link l.edges.taken.items l.self
 
 -- units that aren't marked can still come onto the stack, once each
 abbrev pub decreases-loop-number : goal.decreases-loop-number

@@ -5,7 +5,7 @@ use Rattle.lk_gc.specs.Faults.{faults_by, reference_faults}
 use Rattle.lk_gc.specs.Marks.{flag_words, reached_marks}
 use Rattle.lk_gc.specs.Reach.{AreLive, live_by}
 use Rattle.lk_gc.proofs.Living.{are_live}
-use Rattle.lk_gc.proofs.traverse.traverse_alone.Goals as goal
+use Rattle.lk_gc.proofs.traversal.traverse_alone.Goals as goal
 
 pub returns : goal.returns
 returns c =

@@ -2,7 +2,7 @@ use Rattle.std.proofs.Common.{◌≡◌, map}
 use Rattle.std.specs.List.{list_any, range_with_len}
 use Rattle.lk_link.specs.Inputs.{all_inputs}
 use Rattle.lk_gc.specs.Reach.{keeps_output, marked}
-use Rattle.lk_gc.proofs.keep.kept_marks.Given as goal
+use Rattle.lk_gc.proofs.keep.kept_by_sections.Given as goal
 
 -- the marks of the output sections so far
 abbrev pub invariant-loop-section : goal.invariant-loop-section

@@ -1,12 +1,12 @@
 use Rattle.std.proofs.Common.{◌≡◌, [], Some, sym, ap, ◌∙◌}
-use Rattle.std.specs.Option.{option_map_or, option_to_list}
+use Rattle.std.specs.Option.{option_map_or}
 use Rattle.std.proofs.lemmas.Option.{MatchOption-at_none, MatchOption-at_some, none-some}
 use Rattle.lk_link.specs.Files.{file_in}
 use Rattle.lk_link.specs.Symbols.{IsSymbolIn, symbol_at}
-use Rattle.lk_gc.specs.Units.{symbol_asks}
+use Rattle.lk_gc.specs.Units.{all_of, symbol_asks}
 use Rattle.lk_gc.proofs.Numbered.{are_numbered}
 use Rattle.lk_gc.proofs.SymbolNumbers.{no_symbol, symbol_follows, symbol_has}
-use Rattle.lk_gc.proofs.reaching.symbol_section.Goals as goal
+use Rattle.lk_gc.proofs.reaching.symbol_asks.Goals as goal
 
 pub file_of_symbol-requires : goal.file_of_symbol-requires
 file_of_symbol-requires c = are_numbered c.args.link.now c.requires
@@ -14,7 +14,7 @@ file_of_symbol-requires c = are_numbered c.args.link.now c.requires
 pub returns-in_err-id : goal.returns-in_err-id
 returns-in_err-id c =
     let past = MatchOption-at_none _ _ c.in_err-id.was c.file_of_symbol.ensures in
-    ap option_to_list c.from_residual.ensures ∙ ap (λ o. option_map_or symbol_asks o []) (sym (no_symbol c.args.link.now.groups c.args.symbol past))
+    ap all_of c.from_residual.ensures ∙ ap (λ o. option_map_or (symbol_asks c.args.link.now.groups c.args.symbol) o []) (sym (no_symbol c.args.link.now.groups c.args.symbol past))
 
 pub returns-in_err-file : goal.returns-in_err-file
 returns-in_err-file c =
@@ -34,4 +34,4 @@ returns c =
     let h : IsSymbolIn c.args.link.now.groups c.in_ok-id.id c.args.symbol = MatchOption-at_some _ _ c.in_ok-id.id c.in_ok-id.was c.file_of_symbol.ensures in
     let file : file_in c.args.link.now.groups c.in_ok-id.id ≡ Some c.in_ok-file.file.now = sym c.in_ok-file.ensures in
     let own : symbol_at c.args.link.now.groups c.args.symbol ≡ Some c.in_ok-own.own.now = sym c.in_ok-own.ensures in
-    c.placed_section.ensures ∙ sym (symbol_follows c.args.link.now c.in_ok-id.id c.args.symbol c.in_ok-file.file.now c.in_ok-own.own.now h file own)
+    c.kind_asks.ensures ∙ sym (symbol_follows c.args.link.now c.in_ok-id.id c.args.symbol c.in_ok-file.file.now c.in_ok-own.own.now h file own)

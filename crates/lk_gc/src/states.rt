@@ -1,0 +1,280 @@
+//! Files in the traversal: what each is called, which symbols it has, and what it adds to what waits where one of its symbols is
+//! asked for.
+
+ghost use Rattle.std.specs.Prelude.{◌≡◌, ◌++◌, OnErr, OnOk, Some};
+ghost use Rattle.lk_link.specs.Files.{file_in};
+ghost use Rattle.lk_link.specs.SymbolRanges.{IsWithin};
+ghost use Rattle.lk_link.specs.Symbols.{definition_of};
+ghost use Rattle.lk_link.specs.WellFormed.{IsWellFormed};
+ghost use Rattle.lk_link.specs.declared.ids.FileId.{FileId};
+ghost use Rattle.lk_link.specs.declared.ids.SymbolIdRange.{SymbolIdRange};
+ghost use Rattle.lk_gc.specs.Units.{follows};
+ghost use Rattle.lk_gc.specs.Work.{items_of};
+ghost use Rattle.lk_gc.specs.declared.units.Unit.TheVariants.{Sym};
+
+use crate::reaching::successors;
+use crate::units::Unit;
+use crate::work::LocalWorkQueue;
+use lk_link::{FileId, FileKind, FileRef, LinkInput, SymbolId, SymbolIdRange};
+use std::alloc::AllocError;
+use std::fmt;
+
+/// A file that has symbols (libwild: `HandlerData`).
+pub trait HandlerData {
+    /// The file.
+    ghost file: { Self → FileId };
+
+    /// The numbers of its symbols.
+    ghost symbols: { Self → SymbolIdRange };
+
+    /// The numbers of its symbols.
+    fn symbol_id_range(&self) -> SymbolIdRange
+        ensures { result ≡ symbols self.now };
+
+    /// The file, by its group and its index there.
+    fn file_id(&self) -> FileId
+        ensures { result ≡ file self.now };
+}
+
+/// A file that loads what its symbols need (libwild: `SymbolRequestHandler`).
+pub trait SymbolRequestHandler: fmt::Display + HandlerData {
+    /// Adds to the queue what a symbol of the file asks for, if the symbol stands for itself: its sections to be loaded, and the
+    /// symbols that it refers to, to be loaded or exported. It sets no flags. Without memory the queue stays as it is.
+    fn load_symbol(
+        &self,
+        symbol: SymbolId,
+        link: &LinkInput,
+        queue: &mut LocalWorkQueue,
+    ) -> Result<(), AllocError>
+        requires well_formed { IsWellFormed link.now }
+        requires canonical { definition_of link.now.groups symbol ≡ Some symbol }
+        requires own { IsWithin (Self.symbols self.now) symbol }
+        ensures added { OnOk result (queue.new ≡ queue.old ++ items_of (follows link.now (Sym symbol))) }
+        ensures kept { OnErr result (queue.new ≡ queue.old) }
+    {
+        queue.add(successors(link, Unit::Sym(symbol)))
+    }
+}
+
+/// An object in the traversal (libwild: `ObjectLayoutState`).
+pub struct ObjectLayoutState<'data> {
+    pub file_id: FileId,
+    pub symbol_id_range: SymbolIdRange,
+    pub name: &'data str,
+}
+
+/// A shared object in the traversal (libwild: `DynamicLayoutState`).
+pub struct DynamicLayoutState<'data> {
+    pub file_id: FileId,
+    pub symbol_id_range: SymbolIdRange,
+    pub name: &'data str,
+}
+
+/// The linker's own file in the traversal (libwild: `PreludeLayoutState`).
+pub struct PreludeLayoutState {
+    pub file_id: FileId,
+    pub symbol_id_range: SymbolIdRange,
+}
+
+/// A linker script in the traversal (libwild: `LinkerScriptLayoutState`).
+pub struct LinkerScriptLayoutState<'data> {
+    pub file_id: FileId,
+    pub symbol_id_range: SymbolIdRange,
+    pub name: &'data str,
+}
+
+/// Symbols that the linker makes, in the traversal (libwild: `SyntheticSymbolsLayoutState`).
+pub struct SyntheticSymbolsLayoutState {
+    pub file_id: FileId,
+    pub symbol_id_range: SymbolIdRange,
+}
+
+/// What comes behind all files (libwild: `EpilogueLayoutState`).
+pub struct EpilogueLayoutState {}
+
+/// A file of any kind in the traversal (libwild: `FileLayoutState`).
+pub enum FileLayoutState<'data> {
+    Prelude(PreludeLayoutState),
+    Object(ObjectLayoutState<'data>),
+    Dynamic(DynamicLayoutState<'data>),
+    SyntheticSymbols(SyntheticSymbolsLayoutState),
+    Epilogue(EpilogueLayoutState),
+    LinkerScript(LinkerScriptLayoutState<'data>),
+    NotLoaded,
+}
+
+impl HandlerData for ObjectLayoutState<'_> {
+    ghost file = { λ state. state.file_id };
+
+    ghost symbols = { λ state. state.symbol_id_range };
+
+    fn symbol_id_range(&self) -> SymbolIdRange {
+        self.symbol_id_range
+    }
+
+    fn file_id(&self) -> FileId {
+        self.file_id
+    }
+}
+
+impl SymbolRequestHandler for ObjectLayoutState<'_> {}
+
+impl HandlerData for DynamicLayoutState<'_> {
+    ghost file = { λ state. state.file_id };
+
+    ghost symbols = { λ state. state.symbol_id_range };
+
+    fn symbol_id_range(&self) -> SymbolIdRange {
+        self.symbol_id_range
+    }
+
+    fn file_id(&self) -> FileId {
+        self.file_id
+    }
+}
+
+impl SymbolRequestHandler for DynamicLayoutState<'_> {}
+
+impl HandlerData for PreludeLayoutState {
+    ghost file = { λ state. state.file_id };
+
+    ghost symbols = { λ state. state.symbol_id_range };
+
+    fn symbol_id_range(&self) -> SymbolIdRange {
+        self.symbol_id_range
+    }
+
+    fn file_id(&self) -> FileId {
+        self.file_id
+    }
+}
+
+impl SymbolRequestHandler for PreludeLayoutState {}
+
+impl HandlerData for LinkerScriptLayoutState<'_> {
+    ghost file = { λ state. state.file_id };
+
+    ghost symbols = { λ state. state.symbol_id_range };
+
+    fn symbol_id_range(&self) -> SymbolIdRange {
+        self.symbol_id_range
+    }
+
+    fn file_id(&self) -> FileId {
+        self.file_id
+    }
+}
+
+impl SymbolRequestHandler for LinkerScriptLayoutState<'_> {}
+
+impl HandlerData for SyntheticSymbolsLayoutState {
+    ghost file = { λ state. state.file_id };
+
+    ghost symbols = { λ state. state.symbol_id_range };
+
+    fn symbol_id_range(&self) -> SymbolIdRange {
+        self.symbol_id_range
+    }
+
+    fn file_id(&self) -> FileId {
+        self.file_id
+    }
+}
+
+impl SymbolRequestHandler for SyntheticSymbolsLayoutState {}
+
+/// As `a.o (1.0)`: its name, and its group and index there.
+impl fmt::Display for ObjectLayoutState<'_> {
+    ghost use Rattle.std.specs.Prelude.{Some};
+    ghost use Rattle.lk_gc.specs.StateTexts.{placed_name};
+
+    ghost output = { λ state. Some (placed_name state.name.now state.file_id) };
+
+    fn fmt<W: fmt::Write>(&self, f: &mut fmt::Formatter<W>) -> fmt::Result {
+        let name = self.name;
+        let id = self.file_id;
+        write!(f, "{name} ({id})")
+    }
+}
+
+/// As `libc.so (1.0)`: its name, and its group and index there.
+impl fmt::Display for DynamicLayoutState<'_> {
+    ghost use Rattle.std.specs.Prelude.{Some};
+    ghost use Rattle.lk_gc.specs.StateTexts.{placed_name};
+
+    ghost output = { λ state. Some (placed_name state.name.now state.file_id) };
+
+    fn fmt<W: fmt::Write>(&self, f: &mut fmt::Formatter<W>) -> fmt::Result {
+        let name = self.name;
+        let id = self.file_id;
+        write!(f, "{name} ({id})")
+    }
+}
+
+/// As `<prelude>`.
+impl fmt::Display for PreludeLayoutState {
+    ghost use Rattle.std.specs.Prelude.{Some};
+    ghost use Rattle.lk_gc.specs.StateTexts.{prelude_name};
+
+    ghost output = { λ state. Some (prelude_name) };
+
+    fn fmt<W: fmt::Write>(&self, f: &mut fmt::Formatter<W>) -> fmt::Result {
+        f.write_str("<prelude>")
+    }
+}
+
+/// As its name.
+impl fmt::Display for LinkerScriptLayoutState<'_> {
+    ghost use Rattle.std.specs.Prelude.{Some};
+    ghost use Rattle.lk_gc.specs.StateTexts.{script_name};
+
+    ghost output = { λ state. Some (script_name state.name.now) };
+
+    fn fmt<W: fmt::Write>(&self, f: &mut fmt::Formatter<W>) -> fmt::Result {
+        f.write_str(self.name)
+    }
+}
+
+/// As `<synthetic>`.
+impl fmt::Display for SyntheticSymbolsLayoutState {
+    ghost use Rattle.std.specs.Prelude.{Some};
+    ghost use Rattle.lk_gc.specs.StateTexts.{synthetic_name};
+
+    ghost output = { λ state. Some (synthetic_name) };
+
+    fn fmt<W: fmt::Write>(&self, f: &mut fmt::Formatter<W>) -> fmt::Result {
+        f.write_str("<synthetic>")
+    }
+}
+
+/// As `<epilogue>`.
+impl fmt::Display for EpilogueLayoutState {
+    ghost use Rattle.std.specs.Prelude.{Some};
+    ghost use Rattle.lk_gc.specs.StateTexts.{epilogue_name};
+
+    ghost output = { λ state. Some (epilogue_name) };
+
+    fn fmt<W: fmt::Write>(&self, f: &mut fmt::Formatter<W>) -> fmt::Result {
+        f.write_str("<epilogue>")
+    }
+}
+
+/// As the file of its kind.
+impl fmt::Display for FileLayoutState<'_> {
+    ghost use Rattle.std.specs.Prelude.{Some};
+    ghost use Rattle.lk_gc.specs.StateTexts.{state_name};
+
+    ghost output = { λ state. Some (state_name state) };
+
+    fn fmt<W: fmt::Write>(&self, f: &mut fmt::Formatter<W>) -> fmt::Result {
+        match self {
+            FileLayoutState::Prelude(state) => fmt::Display::fmt(state, f),
+            FileLayoutState::Object(state) => fmt::Display::fmt(state, f),
+            FileLayoutState::Dynamic(state) => fmt::Display::fmt(state, f),
+            FileLayoutState::SyntheticSymbols(state) => fmt::Display::fmt(state, f),
+            FileLayoutState::Epilogue(state) => fmt::Display::fmt(state, f),
+            FileLayoutState::LinkerScript(state) => fmt::Display::fmt(state, f),
+            FileLayoutState::NotLoaded => f.write_str("<not-loaded>"),
+        }
+    }
+}
