@@ -1,5 +1,5 @@
 -- Live sections, flags and kept output sections, one more at a time.
-use Rattle.std.proofs.Common.{◌≡◌, ℕ, suc, ◌+◌, ◌-◌, ◌<◌, ◌≤◌, Bool, true, false, ◌&&◌, ◌||◌, ◌==◌, not, List, [], ◌∷◌, ◌++◌, length, map, take, Some, refl, sym, ap, ◌∙◌, arith, get_or, nat_le, nat_lt}
+use Rattle.std.proofs.Common.{◌≡◌, ℕ, suc, ◌+◌, ◌-◌, ◌<◌, ◌≤◌, Bool, true, false, ◌&&◌, ◌||◌, ◌==◌, not, if◌then◌else◌, List, [], ◌∷◌, ◌++◌, length, map, take, Some, refl, sym, ap, ◌∙◌, arith, get_or, nat_le, nat_lt}
 use Rattle.std.specs.List.{enumerate_from, list_any, range_with_len, slice_get}
 use Rattle.std.proofs.lemmas.Option.{get_or_from_slice_get, slice_get_within}
 use Rattle.std.proofs.lemmas.Bool.{and_from, and_parts, eq-eqb, eqb-true, le-leb, leb-true, lt-ltb, ltb-true}
@@ -53,14 +53,29 @@ or_assoc : (a b c : Bool) → ((a || b) || c) ≡ (a || (b || c))
 or_assoc true b c = refl
 or_assoc false b c = refl
 
+-- one section more, with its mark
+marked_push : (live : List Bool) (m : Bool) (xs : List Input) (x : Input) → length live ≡ length xs → marked (live ++ m ∷ []) (xs ++ x ∷ []) ≡ marked live xs ++ (if m then x ∷ [] else [])
+marked_push [] m [] x h = refl
+marked_push [] m (y ∷ xs) x h = absurd (omega (arith, h))
+marked_push (l ∷ live) m [] x h = absurd (omega (arith, h))
+marked_push (true ∷ live) m (y ∷ xs) x h = ap (λ ys. y ∷ ys) (marked_push live m xs x (omega (arith, h)))
+marked_push (false ∷ live) m (y ∷ xs) x h = marked_push live m xs x (omega (arith, h))
+
+one_marked : (test : Input → Bool) (m : Bool) (x : Input) → list_any test (if m then x ∷ [] else []) ≡ (m && test x)
+one_marked test true x = or_last (test x)
+one_marked test false x = refl
+
 -- one section more that may keep a part
-pub part_next : (p : ℕ) (done : List InputRef) (x : InputRef) (old new : Bool) → old ≡ list_any (λ y. keeps_part p y.section) (map input_of done) → new ≡ (old || keeps_part p x.section.now)
-    → new ≡ list_any (λ y. keeps_part p y.section) (map input_of (done ++ x ∷ []))
-part_next p done x old new so_far step =
+pub part_next : (p : ℕ) (done : List InputRef) (x : InputRef) (live : List Bool) (m old new : Bool) → length live ≡ length (map input_of done)
+    → old ≡ list_any (λ y. keeps_part p y.section) (marked live (map input_of done)) → new ≡ (old || (m && keeps_part p x.section.now))
+    → new ≡ list_any (λ y. keeps_part p y.section) (marked (live ++ m ∷ []) (map input_of (done ++ x ∷ [])))
+part_next p done x live m old new many so_far step =
     let test : Input → Bool = λ y. keeps_part p y.section in
-    step ∙ ap (λ b. b || keeps_part p x.section.now) so_far
-    ∙ ap (λ b. list_any test (map input_of done) || b) (sym (or_last (keeps_part p x.section.now)))
-    ∙ sym (list_any-append test (map input_of done) (input_of x ∷ [])) ∙ ap (list_any test) (sym (map_push input_of done x))
+    let before : List Input = map input_of done in
+    step ∙ ap (λ b. b || (m && keeps_part p x.section.now)) so_far
+    ∙ ap (λ b. list_any test (marked live before) || b) (sym (one_marked test m (input_of x)))
+    ∙ sym (list_any-append test (marked live before) (if m then input_of x ∷ [] else []))
+    ∙ ap (list_any test) (sym (marked_push live m before (input_of x) many) ∙ ap (marked (live ++ m ∷ [])) (sym (map_push input_of done x)))
 
 -- ---- output sections
 

@@ -1,12 +1,12 @@
 -- Symbols by their numbers, each with its file.
-use Rattle.std.proofs.Common.{◌≡◌, ℕ, ◌+◌, ◌-◌, ◌^◌, ◌<◌, ◌≤◌, true, get_or, List, [], length, map, take, Option, Some, None, sum_by, refl, sym, ap, ◌∙◌, subst, inl, inr, arith, is_some, ltb}
+use Rattle.std.proofs.Common.{◌≡◌, ℕ, ◌+◌, ◌-◌, ◌^◌, ◌<◌, ◌≤◌, true, get_or, List, [], length, map, take, Option, Some, None, sum_by, refl, sym, ap, ◌∙◌, subst, inl, inr, arith, is_some, ltb, option_map}
 use Rattle.std.specs.List.{All, flat_map, range_with_len, slice_get}
 use Rattle.std.specs.Option.{IsSome, option_map_or}
 use Rattle.std.proofs.lemmas.Bool.{ltb-true}
 use Rattle.std.proofs.lemmas.List.{length-map}
 use Rattle.std.proofs.lemmas.List.Concat.{length-flat_map}
 use Rattle.std.proofs.lemmas.List.Sums.{sum_by-take-le, sum_by_more, sum_by_more_le}
-use Rattle.std.proofs.lemmas.Option.{get_or_from_slice_get, slice_get-get_or, slice_get_past, slice_get_within}
+use Rattle.std.proofs.lemmas.Option.{get_or_from_slice_get, none-some, slice_get-get_or, slice_get_past, slice_get_within}
 use Rattle.lk_link.specs.declared.fault.Limited.TheVariants as limited
 use Rattle.lk_link.specs.declared.file.FileKind.{FileKind}
 use Rattle.lk_link.specs.declared.file.FileKind.TheVariants as kind
@@ -28,6 +28,7 @@ use Rattle.lk_link.specs.Symbols.{IsSymbolIn, all_files, all_symbols, file_numbe
 use Rattle.lk_link.proofs.Elements.{append_at, at_index, flat_map_at, map_at}
 use Rattle.lk_link.proofs.InputLemmas.{file_stands, files_from_are, inputs_follow, sum_mapped, sum_taken}
 use Rattle.lk_link.proofs.SymbolLemmas.{files_have_numbers, symbols_have_files, symbols_follow, symbols_within}
+use Rattle.lk_gc.specs.declared.units.Ask.{Ask}
 use Rattle.lk_gc.specs.declared.units.Unit.{Unit as LinkUnit}
 use Rattle.lk_gc.specs.declared.units.Unit.TheVariants.{Sym, Sec}
 use Rattle.lk_gc.specs.Marks.{IsUnit, all_units, symbols_in_all, unit_at, unit_number}
@@ -127,6 +128,27 @@ symbol_has groups id s h =
     let at = symbols_have_files.at groups id s h in
     let x = at_index h.file.symbols (s - first_symbol groups id) at.1 in
     (x.0, at.2 ∙ x.1)
+
+abbrev pub told : ℕ → NumberedFile × InputSymbol → ℕ × NumberedFile × InputSymbol
+told s q = (s, q.0, q.1)
+
+abbrev file_told : ℕ × NumberedFile × InputSymbol → NumberedFile × InputSymbol
+file_told t = (t.1, t.2)
+
+abbrev or_file_told : NumberedFile × InputSymbol → Option (ℕ × NumberedFile × InputSymbol) → NumberedFile × InputSymbol
+or_file_told q None = q
+or_file_told q (Some t) = file_told t
+
+-- by a look-up that gives a symbol with its number and its file
+pub none_known : (s : ℕ) (asks : NumberedFile × InputSymbol → List Ask) (o : Option (NumberedFile × InputSymbol))
+    → None ≡ option_map (told s) o → option_map_or asks o [] ≡ []
+none_known s asks None h = refl
+none_known s asks (Some q) h = absurd (none-some (told s q) h)
+
+pub one_known : (s : ℕ) (t : ℕ × NumberedFile × InputSymbol) (asks : NumberedFile × InputSymbol → List Ask) (o : Option (NumberedFile × InputSymbol))
+    → Some t ≡ option_map (told s) o → option_map_or asks o [] ≡ asks (t.1, t.2)
+one_known s t asks None h = absurd (none-some t (sym h))
+one_known s t asks (Some q) h = ap asks (sym (ap (or_file_told q) h))
 
 -- what the symbol of a file asks for
 pub symbol_follows : (link : LinkInput) (id : FileId) (s : ℕ) (file : InputFile) (x : InputSymbol) → IsSymbolIn link.groups id s → file_in link.groups id ≡ Some file → symbol_at link.groups s ≡ Some x

@@ -9,7 +9,7 @@ ghost use Rattle.lk_gc.specs.Reach.{for_sections, kept_marks, live_by, live_mark
 ghost use Rattle.lk_gc.specs.Units.{flags_from};
 ghost use Rattle.lk_gc.specs.Walking.{AreFew, AreKeptParts, keeps_part};
 
-use crate::live::{Live, LiveInputs};
+use crate::live::Live;
 use crate::named::keep_named;
 use crate::walk::Walk;
 use lk_link::marks::is_marked;
@@ -22,28 +22,42 @@ pub(crate) fn live_after(alloc: Global, link: &LinkInput, walk: &Walk) -> Result
     requires few { AreFew walk.now.words.items }
     ensures { IfOk result (λ live. live ≡ live_by link.now walk.now.marks.items walk.now.words.items) }
 {
-    let marks = live_marks(alloc, link, walk.marks.as_slice())?;
+    let LivePass { live, parts } = live_pass(alloc, link, walk.marks.as_slice())?;
     let flags = symbol_flags(alloc, walk.words.as_slice())?;
-    let kept = kept_marks(alloc, link, marks.as_slice(), walk.marks.as_slice())?;
+    let kept = kept_marks(alloc, link, &live, &parts, walk.marks.as_slice())?;
     Ok(Live {
-        marks: List::from_vec(marks),
+        marks: List::from_vec(live),
         flags: List::from_vec(flags),
         kept: List::from_vec(kept),
     })
 }
 
-/// For each input section whether its unit is marked and its slot lets it be kept.
-fn live_marks(alloc: Global, link: &LinkInput, marks: &[bool]) -> Result<Vec<bool>, AllocError>
+/// What one look at each input section tells.
+#[derive(Drop)]
+struct LivePass {
+    /// For each input section whether it is live.
+    live: Vec<bool>,
+    /// For each part whether a live section without bytes, that isn't debug data, goes to it.
+    parts: Vec<bool>,
+}
+
+/// Which input sections are live, those whose units are marked and whose slots let them be kept, and which parts they keep. Looks
+/// at each input section once.
+fn live_pass(alloc: Global, link: &LinkInput, marks: &[bool]) -> Result<LivePass, AllocError>
     requires { IsWellFormed link.now }
-    ensures { IfOk result (λ live. live.items ≡ live_marks link.now marks.now) }
+    ensures live { IfOk result (λ pass. pass.live.items ≡ live_marks link.now marks.now) }
+    ensures parts { IfOk result (λ pass. AreKeptParts link.now pass.live.items pass.parts.items) }
 {
     let symbols = link.groups.symbol_count() as usize;
     let mut live = Vec::with_capacity(alloc, link.groups.input_count() as usize)?;
+    let mut parts = no_parts(alloc, link.plan.sections.parts().len())?;
     for input in link.groups.inputs() {
         let unit = symbols + live.len();
-        live.push(is_live(marks, unit, input.section.slot))?;
+        let alive = is_live(marks, unit, input.section.slot);
+        keep_part(&mut parts, alive, input.section);
+        live.push(alive)?;
     }
-    Ok(live)
+    Ok(LivePass { live, parts })
 }
 
 /// Whether a unit is marked, and its slot lets it be kept.
@@ -77,32 +91,39 @@ fn flags_of(alloc: Global, words: &[u64]) -> Result<Vec<ValueFlags>, AllocError>
 }
 
 /// For each output section whether a live section without bytes keeps it, or a redirect that is reached. `marks` tells of each
-/// unit whether it is.
+/// unit whether it is, and `parts` of each part whether a live section keeps it.
 fn kept_marks(
     alloc: Global,
     link: &LinkInput,
     live: &[bool],
+    parts: &[bool],
     marks: &[bool],
 ) -> Result<Vec<bool>, AllocError>
-    requires { IsWellFormed link.now }
+    requires well_formed { IsWellFormed link.now }
+    requires parts { AreKeptParts link.now live.now parts.now }
     ensures { IfOk result (λ kept. kept.items ≡ kept_marks link.now live.now marks.now) }
 {
-    let mut kept = kept_by_sections(alloc, link, live)?;
+    let mut kept = kept_by_sections(alloc, link, live, parts)?;
     keep_named(&mut kept, link, marks);
     Ok(kept)
 }
 
 /// For each output section whether a live section without bytes keeps it.
-fn kept_by_sections(alloc: Global, link: &LinkInput, live: &[bool]) -> Result<Vec<bool>, AllocError>
-    requires { IsWellFormed link.now }
-    ensures { IfOk result (λ kept. kept.items ≡ for_sections (section_keeps link.now live.now) link.now) }
+fn kept_by_sections(
+    alloc: Global,
+    link: &LinkInput,
+    _live: &[bool],
+    parts: &[bool],
+) -> Result<Vec<bool>, AllocError>
+    requires well_formed { IsWellFormed link.now }
+    requires parts { AreKeptParts link.now _live.now parts.now }
+    ensures { IfOk result (λ kept. kept.items ≡ for_sections (section_keeps link.now _live.now) link.now) }
 {
-    let parts = kept_parts(alloc, link, live)?;
     let sections = link.plan.sections.len();
     let mut kept = Vec::with_capacity(alloc, sections)?;
     for section in 0..sections {
         let (first, behind) = link.plan.sections.part_range(section);
-        kept.push(any_marked(parts.as_slice(), first, behind))?;
+        kept.push(any_marked(parts, first, behind))?;
     }
     Ok(kept)
 }
@@ -115,19 +136,6 @@ fn any_marked(marks: &[bool], first: usize, behind: usize) -> bool
     (first..behind).any(|number| is_marked(marks, number))
 }
 
-/// For each part whether a live section without bytes, that isn't debug data, goes to it.
-fn kept_parts(alloc: Global, link: &LinkInput, live: &[bool]) -> Result<Vec<bool>, AllocError>
-    requires { IsWellFormed link.now }
-    ensures { IfOk result (λ parts. AreKeptParts link.now live.now parts.items) }
-{
-    let mut parts = no_parts(alloc, link.plan.sections.parts().len())?;
-    let inputs = LiveInputs::new(live, link.groups.inputs());
-    for input in inputs {
-        keep_part(&mut parts, input.section);
-    }
-    Ok(parts)
-}
-
 /// So many parts, none of them kept.
 fn no_parts(alloc: Global, count: usize) -> Result<Vec<bool>, AllocError>
     ensures { IfOk result (λ parts. parts.items ≡ replicate count false) }
@@ -135,14 +143,14 @@ fn no_parts(alloc: Global, count: usize) -> Result<Vec<bool>, AllocError>
     vec![in alloc; false; count]
 }
 
-/// Keeps the part of a section, if the section has no bytes and isn't debug data.
-fn keep_part(parts: &mut Vec<bool>, section: &InputSection)
+/// Keeps the part of a section, if the section is live, has no bytes and isn't debug data.
+fn keep_part(parts: &mut Vec<bool>, live: bool, section: &InputSection)
     ensures count { length parts.new.items ≡ length parts.old.items }
     ensures marks { (p : ℕ) → p < length parts.old.items
-        → is_marked parts.new.items p ≡ (is_marked parts.old.items p || keeps_part p section.now) }
+        → is_marked parts.new.items p ≡ (is_marked parts.old.items p || (live && keeps_part p section.now)) }
 {
     let part = section.part.as_usize();
-    if section.size == 0 && !section.slot.is_debug() && part < parts.len() {
+    if live && section.size == 0 && !section.slot.is_debug() && part < parts.len() {
         parts[part] = true;
     }
 }

@@ -92,10 +92,14 @@ fn symbol_asks<'a>(link: &'a LinkInput, symbol: SymbolId) -> Option<Successors<'
     requires { IsWellFormed link.now }
     ensures { all_of result ≡ follows link.now (Sym symbol) }
 {
-    let id = link.groups.file_of_symbol(symbol)?;
-    let file = link.groups.file(id)?;
-    let own = link.groups.symbol(symbol)?;
-    Some(kind_asks(&link.groups, symbol, id, file, own))
+    match link.groups.symbol_in_file(symbol) {
+        Some(found) => {
+            let file = found.file;
+            let own = found.symbol;
+            Some(kind_asks(&link.groups, symbol, file.id, file.file, own))
+        }
+        None => None,
+    }
 }
 
 /// What a symbol of this file asks for, by the kind of the file.

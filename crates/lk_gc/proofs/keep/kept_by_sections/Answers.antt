@@ -16,11 +16,11 @@ any_marked-requires c = omega (arith, first_part-rises c.args.link.now.plan.sect
 pub loop-section-preserved : goal.loop-section-preserved
 loop-section-preserved c =
     let link = c.args.link.now in
-    let live : List Bool = c.args.live.now in
+    let live : List Bool = c.args._live.now in
     let o = c.loop-section.section in
     let f : ℕ → Bool = λ n. list_any (keeps_output link n) (marked live (all_inputs link.groups)) in
-    let parts : List Bool = c.as_slice.result.now in
-    let kept : AreKeptParts link live parts = subst (AreKeptParts link live) (sym c.as_slice.ensures.value) c.in_ok-parts.ensures in
+    let parts : List Bool = c.args.parts.now in
+    let kept : AreKeptParts link live parts = c.requires.parts in
     let first = c.part_range-first.result.0 in
     let behind = c.part_range-first.result.1 in
     let same : list_any (is_marked parts) (range_with_len first (behind - first)) ≡ f o = kept_same link o live parts first behind kept c.part_range-first.ensures.first c.part_range-first.ensures.behind in
@@ -30,7 +30,7 @@ loop-section-preserved c =
 pub returns : goal.returns
 returns c =
     let link = c.args.link.now in
-    let live : List Bool = c.args.live.now in
+    let live : List Bool = c.args._live.now in
     let f : ℕ → Bool = λ n. list_any (keeps_output link n) (marked live (all_inputs link.groups)) in
     let sections : List PlanSection = link.plan.sections in
     let all : c.loop-section.section ≡ length sections = omega (arith, c.len-sections.ensures) in

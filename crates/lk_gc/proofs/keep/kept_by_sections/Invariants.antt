@@ -6,4 +6,4 @@ use Rattle.lk_gc.proofs.keep.kept_by_sections.Given as goal
 
 -- the marks of the output sections so far
 abbrev pub invariant-loop-section : goal.invariant-loop-section
-invariant-loop-section l = l.kept.items ≡ map (λ o. list_any (keeps_output l.link o) (marked l.live (all_inputs l.link.groups))) (range_with_len 0 l.section)
+invariant-loop-section l = l.kept.items ≡ map (λ o. list_any (keeps_output l.link o) (marked l._live (all_inputs l.link.groups))) (range_with_len 0 l.section)
