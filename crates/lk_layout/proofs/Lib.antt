@@ -1,4 +1,5 @@
 mod Answering
+pub mod CarriedLooks
 mod CarriedPlans
 mod ImagesShow
 mod Imaging

@@ -1,4 +1,5 @@
 pub mod Carried
+pub mod CarriedWords
 pub mod Defined
 pub mod Errors
 pub mod Kept

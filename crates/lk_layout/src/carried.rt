@@ -3,7 +3,7 @@
 //! Each thing is looked for by itself, in a fixed order, so that a description with several of them is always told by the
 //! same one. What comes later takes a line away here.
 
-ghost use Rattle.std.specs.Prelude.{◌≡◌, ◌||◌, is_some};
+ghost use Rattle.std.specs.Prelude.{◌≡◌, ◌||◌, find, is_some};
 ghost use Rattle.std.specs.List.{list_any};
 ghost use Rattle.lk_link.specs.InputSlots.{is_debug};
 ghost use Rattle.lk_link.specs.OutputKinds.{is_loaded_dynamically, is_partial};
@@ -12,7 +12,8 @@ ghost use Rattle.lk_link.specs.Relocations.{wants_entry};
 ghost use Rattle.lk_link.specs.Rules.{moves_location};
 ghost use Rattle.lk_link.specs.SegmentKinds.{is_tls};
 ghost use Rattle.lk_link.specs.SymbolPlacements.{is_common};
-ghost use Rattle.lk_layout.specs.Carried.{any_file, file_has, first_uncarried, has, is_special_plan, is_special_section};
+ghost use Rattle.lk_layout.specs.CarriedWords.{has_any, has_outside, is_of_uncarried_kind, section_has_any};
+ghost use Rattle.lk_layout.specs.Carried.{all_uncarried, any_file, file_has, first_uncarried, has, is_special_plan, is_special_section};
 
 use crate::error::Uncarried;
 use lk_link::file::InputFile;
@@ -35,12 +36,94 @@ const ALL_UNCARRIED: [Uncarried; 11] = [
     Uncarried::Symbol,
 ];
 
-/// The first thing that the description has and that isn't laid out yet; none where all is.
-#[tactic(auto, unfolding(crate::specs::Carried::first_uncarried))]
+/// The first thing that the description has and that isn't laid out yet; none where all is. Looks once at each section, each of
+/// its relocations and each symbol, and again only where one of them isn't carried.
 pub fn first_uncarried(link: &LinkInput) -> Option<Uncarried>
     ensures { result ≡ first_uncarried link.now }
 {
+    if any_file_has_any(link) {
+        first_of_all(link)
+    } else {
+        first_outside(link)
+    }
+}
+
+/// The same, where files are looked through for each thing.
+#[tactic(auto, unfolding(crate::specs::Carried::first_uncarried))]
+fn first_of_all(link: &LinkInput) -> Option<Uncarried>
+    ensures { result ≡ first_uncarried link.now }
+{
     ALL_UNCARRIED.iter().copied().find(|what| has(link, *what))
+}
+
+/// The first thing that the description has outside its files.
+fn first_outside(link: &LinkInput) -> Option<Uncarried>
+    ensures { result ≡ find (has_outside link.now) all_uncarried }
+{
+    ALL_UNCARRIED
+        .iter()
+        .copied()
+        .find(|what| has_outside(link, *what))
+}
+
+/// Whether the description has it outside its files.
+fn has_outside(link: &LinkInput, what: Uncarried) -> bool
+    ensures { result ≡ has_outside link.now what }
+{
+    match what {
+        Uncarried::Output => link.options.output.is_loaded_dynamically(),
+        Uncarried::Table => link.plan.named.names_table(),
+        Uncarried::Plan => is_special_plan(&link.plan),
+        Uncarried::Partial => { link.options.output.is_partial() || link.plan.singletons.is_some() }
+        Uncarried::Primary => link.plan.named.primary.is_some(),
+        Uncarried::Relax => link.options.relax,
+        _ => false,
+    }
+}
+
+/// Whether a file has anything that isn't laid out yet.
+fn any_file_has_any(link: &LinkInput) -> bool
+    ensures { result ≡ any_file has_any link.now }
+{
+    link.groups
+        .as_slice()
+        .iter()
+        .any(|files| any_of_group_has_any(files.as_slice()))
+}
+
+/// Whether a file of a group has anything that isn't laid out yet.
+fn any_of_group_has_any(files: &[InputFile]) -> bool
+    ensures { result ≡ list_any has_any files.now }
+{
+    files.iter().any(has_any)
+}
+
+/// Whether a file has anything that isn't laid out yet.
+fn has_any(file: &InputFile) -> bool
+    ensures { result ≡ has_any file.now }
+{
+    is_of_uncarried_kind(file) || any_section_has_any(file) || has_common(file)
+}
+
+/// Whether a file is of a kind that isn't laid out yet, or has symbols that its kind can't have yet.
+fn is_of_uncarried_kind(file: &InputFile) -> bool
+    ensures { result ≡ is_of_uncarried_kind file.now }
+{
+    file_has(file, Uncarried::File) || file_has(file, Uncarried::Symbol)
+}
+
+/// Whether a section of a file has anything that isn't laid out yet.
+fn any_section_has_any(file: &InputFile) -> bool
+    ensures { result ≡ list_any section_has_any file.now.sections }
+{
+    file.sections.as_slice().iter().any(section_has_any)
+}
+
+/// Whether a section has anything that isn't laid out yet.
+fn section_has_any(section: &InputSection) -> bool
+    ensures { result ≡ section_has_any section.now }
+{
+    section.slot.is_debug() || section.group.is_some() || section.sorted || wants_entries(section)
 }
 
 /// Whether the description has it.
