@@ -3,6 +3,7 @@ pub mod Addressing
 pub mod DynamicLemmas
 pub mod Emitting
 pub mod Fitting
+pub mod HeaderLemmas
 pub mod ImageLemmas
 pub mod ImagePlaces
 pub mod ImageStarts

@@ -5,6 +5,7 @@ pub mod Dynamic
 pub mod DynamicWords
 pub mod Emitted
 pub mod Header
+pub mod HeaderParts
 pub mod Images
 pub mod Kept
 pub mod Late

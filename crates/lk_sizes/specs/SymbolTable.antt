@@ -14,10 +14,14 @@ use Rattle.lk_sizes.specs.Late.{flags_at, late_flags}
 
 -- ---- entries
 
--- one that takes bytes of a table: the table itself, for the entry that each begins with, or a symbol by its number
+-- one that takes bytes of a table: the table itself, for the entry that each begins with; a symbol by its number; the file, a segment or
+-- an output section, for its header or its name
 pub data TableOwner : Type 0 where
   FirstEntry : TableOwner
   SymbolEntry : ℕ → TableOwner
+  FileEntry : TableOwner
+  SegmentEntry : ℕ → TableOwner
+  SectionEntry : ℕ → TableOwner
 
 -- an entry of a table: whose it is, and its bytes
 pub record TableEntry : Type 0 where
