@@ -16,6 +16,7 @@ pub mod Marks
 pub mod Numbering
 pub mod Overflowing
 pub mod TableSums
+pub mod TableTiling
 pub mod TableTotals
 pub mod Tiling
 pub mod Walking

@@ -13,6 +13,7 @@ pub mod LiveSections
 pub mod Owners
 pub mod SymbolEntries
 pub mod SymbolTable
+pub mod TableTiles
 pub mod TableWords
 pub mod Tables
 pub mod Tiles

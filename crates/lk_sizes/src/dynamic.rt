@@ -3,20 +3,23 @@
 //! The dynamic symbols of the files come first, and what is exported behind them, each by number: two passes over the symbols
 //! of all files. A third pass, over the entries, gives each symbol its number; of two entries the later one counts.
 
-ghost use Rattle.std.specs.Prelude.{◌≡◌, ◌==◌, ◌+◌, ◌++◌, ◌∷◌, [], ◌-◌, ◌<◌, ◌^◌, ℕ, IfOk, OnOk, Some, None, if◌then◌else◌, length};
+ghost use Rattle.std.specs.Prelude.{◌≡◌, ◌==◌, ◌+◌, ◌++◌, ◌∷◌, [], ◌-◌, ◌<◌, ◌^◌, ℕ, IfOk, OnOk, Some, None, if◌then◌else◌, length, sum_by};
 ghost use Rattle.std.specs.List.{enumerate_from, flat_map, slice_index_or};
 ghost use Rattle.lk_link.specs.Files.{file_in};
 ghost use Rattle.lk_link.specs.Inputs.{numbered_files};
 ghost use Rattle.lk_link.specs.Walks.{file_of};
 ghost use Rattle.lk_link.specs.WellFormed.{IsWellFormed};
-ghost use Rattle.lk_sizes.specs.Dynamic.{dynamic_index, dynamic_table, exports, is_dynamic_symbol, is_export, is_redirect};
+ghost use Rattle.lk_sizes.specs.Dynamic.{dynamic_index, dynamic_sizes, dynamic_table, exports, is_dynamic_symbol, is_export, is_redirect, loaded_sizes, symbol_name_bytes};
+ghost use Rattle.lk_sizes.specs.HeaderParts.{told_sum};
 ghost use Rattle.lk_sizes.specs.DynamicWords.{file_numbers, has_entry, numbers_of};
 
 use crate::copied::{is_canonical, is_wanted};
 use crate::header::HeaderInfo;
 use crate::symbol_table::{Given, flags_at, late_flags};
 use lk_gc::Live;
-use lk_link::{FileKind, FileRef, InputSymbol, LinkInput, SymbolId, SymbolPlacement, ValueFlags};
+use lk_link::{
+    FileKind, FileRef, InputSymbol, LinkInput, Platform, SymbolId, SymbolPlacement, ValueFlags,
+};
 use std::alloc::{AllocError, Global};
 
 /// Whether the dynamic linker gives the value of a symbol of a file, with its number, and it has a resolution.
@@ -199,4 +202,62 @@ pub fn dynamic_indexes(
         set_index(&mut indexes, symbol.as_usize(), place as u32 + 1);
     }
     Ok(indexes)
+}
+
+/// Bytes of the dynamic symbol table and of its names; a sum past 2^128 - 1 is given as that.
+#[derive(Clone, Copy, Debug, PartialEq, Eq)]
+pub struct DynamicSizes {
+    pub dynsym: u128,
+    pub dynstr: u128,
+}
+
+/// The bytes of a symbol's name, with a zero byte behind it.
+fn name_bytes(link: &LinkInput, symbol: SymbolId) -> u128
+    ensures { result ≡ symbol_name_bytes link.now symbol }
+{
+    match link.groups.symbol(symbol) {
+        Some(own) => own.name.len() as u128 + 1,
+        None => 1,
+    }
+}
+
+/// Those of the names of some symbols, behind an empty one.
+#[tactic(auto, using(std::proofs::lemmas::List::Sums::sum_by_more))]
+fn names_bytes(link: &LinkInput, table: &[SymbolId]) -> u128
+    ensures { result ≡ told_sum (1 + sum_by (symbol_name_bytes link.now) table.now) }
+{
+    let mut sum = 1u128;
+    for symbol in table {
+        sum = sum.saturating_add(name_bytes(link, *symbol));
+    }
+    sum
+}
+
+/// What the dynamic symbol table and its names take, with entries of so many bytes, by whose they are.
+fn loaded_sizes(entry: u64, link: &LinkInput, table: &[SymbolId]) -> DynamicSizes
+    ensures { result ≡ loaded_sizes entry link.now table.now }
+{
+    DynamicSizes {
+        dynsym: u128::from(entry).saturating_mul(table.len() as u128 + 1),
+        dynstr: names_bytes(link, table),
+    }
+}
+
+/// What the dynamic symbol table and its names take, by whose the entries behind the first one are; nothing where no dynamic
+/// linker loads the output. Takes logarithmic time for each entry (libwild: `EpilogueLayoutState::apply_late_size_adjustments`).
+pub fn dynamic_sizes<P: Platform>(
+    link: &LinkInput,
+    platform: &P,
+    table: &[SymbolId],
+) -> DynamicSizes
+    ensures { result ≡ dynamic_sizes (P.table_sizes platform.now).symbol_entry link.now table.now }
+{
+    if link.options.output.is_loaded_dynamically() {
+        loaded_sizes(platform.symbol_entry(), link, table)
+    } else {
+        DynamicSizes {
+            dynsym: 0,
+            dynstr: 0,
+        }
+    }
 }

@@ -3,6 +3,7 @@
 ghost use Rattle.lk_sizes.specs.Images.{ImagesAreOwners, ImagesStandWhereInputsGo};
 ghost use Rattle.lk_sizes.specs.LiveSections.{TableTellsLiveSections};
 ghost use Rattle.lk_sizes.specs.Owners.{FirstSizesAreSizes, LiveSectionsAreOwners};
+ghost use Rattle.lk_sizes.specs.TableTiles.{EntriesTileTheirTable};
 ghost use Rattle.lk_sizes.specs.Tiles.{OwnersTileTheirPart, OwnersAreAligned};
 
 /// A law: the sizes that tell which sections are emitted are the sizes of the parts, where nothing changes them in between.
@@ -38,4 +39,9 @@ pub fn images_are_owners()
 /// A law: where a section that is merged goes, the image of its output section stands.
 pub fn images_stand_where_inputs_go()
     ensures { ImagesStandWhereInputsGo }
+{}
+
+/// A law: the entries of a table tile it. Each byte of the table has an entry, and no entry reaches out of it.
+pub fn entries_tile_their_table()
+    ensures { EntriesTileTheirTable }
 {}

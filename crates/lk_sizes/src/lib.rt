@@ -18,7 +18,7 @@ pub mod symbol_table;
 pub use addresses::{LiveSection, section_addresses};
 pub use attributes::propagate_section_attributes;
 pub use copied::SymbolCopyInfo;
-pub use dynamic::{dynamic_indexes, dynamic_table};
+pub use dynamic::{DynamicSizes, dynamic_indexes, dynamic_sizes, dynamic_table};
 pub use error::SizeError;
 pub use header::{HeaderInfo, determine_header_sizes};
 pub use headers::{HeaderSizes, header_sizes};
