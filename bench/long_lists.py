@@ -52,7 +52,7 @@ LONG_LISTS = (
         '{"slot":"must","group":7}',
         MILLION,
         "]}]]}",
-        "not carried: slot\n",
+        "layout\n",
     ),
     LongList(
         "discarded",

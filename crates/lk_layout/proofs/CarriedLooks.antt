@@ -1,18 +1,17 @@
 -- Where no file has anything that isn't laid out yet, what is outside the files is all there is.
-use Rattle.std.proofs.Common.{◌≡◌, Bool, true, false, ◌||◌, ◌&&◌, not, List, [], ◌∷◌, Option, Some, refl, sym, ap, ◌∙◌, if◌then◌else◌, is_some}
+use Rattle.std.proofs.Common.{◌≡◌, Bool, true, false, ◌||◌, ◌&&◌, not, List, [], ◌∷◌, Option, Some, refl, sym, ap, ◌∙◌, if◌then◌else◌}
 use Rattle.std.specs.Prelude.{find}
 use Rattle.std.specs.List.{list_any}
 use Rattle.lk_link.specs.declared.file.InputFile.{InputFile}
 use Rattle.lk_link.specs.declared.link.LinkInput.{LinkInput}
 use Rattle.lk_link.specs.declared.section.InputSection.{InputSection}
-use Rattle.lk_link.specs.InputSlots.{is_debug}
 use Rattle.lk_link.specs.PartRules.{names_table}
 use Rattle.lk_link.specs.Relocations.{wants_entry}
 use Rattle.lk_link.specs.SymbolPlacements.{is_common}
 use Rattle.lk_layout.specs.declared.error.Uncarried.{Uncarried}
 use Rattle.lk_layout.specs.declared.error.Uncarried.TheVariants as uncarried
 use Rattle.lk_layout.specs.Carried.{all_uncarried, any_file, file_has, first_uncarried, has}
-use Rattle.lk_layout.specs.CarriedWords.{has_any, has_outside, is_of_uncarried_kind, section_has_any}
+use Rattle.lk_layout.specs.CarriedWords.{has_any, has_outside, section_has_any}
 
 left : (a b : Bool) → (a || b) ≡ false → a ≡ false
 left true b h = h
@@ -35,45 +34,37 @@ or_none true = refl
 or_none false = refl
 
 module _ (f : InputFile) (h : has_any f ≡ false) where
-  abbrev by_kind : Bool
-  by_kind = is_of_uncarried_kind f
+  abbrev by_symbols : Bool
+  by_symbols = file_has uncarried.Symbol f
 
   abbrev by_sections : Bool
   by_sections = list_any section_has_any f.sections
 
-  abbrev by_symbols : Bool
-  by_symbols = list_any (λ x. is_common x.at) f.symbols
+  abbrev by_commons : Bool
+  by_commons = list_any (λ x. is_common x.at) f.symbols
 
-  kinds : is_of_uncarried_kind f ≡ false
-  kinds = left by_kind by_sections (left (by_kind || by_sections) by_symbols h)
+  symbols : file_has uncarried.Symbol f ≡ false
+  symbols = left by_symbols by_sections (left (by_symbols || by_sections) by_commons h)
 
   sections : list_any section_has_any f.sections ≡ false
-  sections = right by_kind by_sections (left (by_kind || by_sections) by_symbols h)
+  sections = right by_symbols by_sections (left (by_symbols || by_sections) by_commons h)
 
   common : list_any (λ x. is_common x.at) f.symbols ≡ false
-  common = right (by_kind || by_sections) by_symbols h
+  common = right (by_symbols || by_sections) by_commons h
 
 module _ (s : InputSection) (h : section_has_any s ≡ false) where
   abbrev enters : Bool
   enters = list_any (λ r. wants_entry r.kind) s.relocs
 
-  to_sorted : ((is_debug s.slot || is_some s.group) || s.sorted) ≡ false
-  to_sorted = left ((is_debug s.slot || is_some s.group) || s.sorted) enters h
-
-  section_slots : (is_debug s.slot || is_some s.group) ≡ false
-  section_slots = left (is_debug s.slot || is_some s.group) s.sorted to_sorted
-
   section_sorts : s.sorted ≡ false
-  section_sorts = right (is_debug s.slot || is_some s.group) s.sorted to_sorted
+  section_sorts = left s.sorted enters h
 
   section_enters : list_any (λ r. wants_entry r.kind) s.relocs ≡ false
-  section_enters = right ((is_debug s.slot || is_some s.group) || s.sorted) enters h
+  section_enters = right s.sorted enters h
 
 -- a file that has nothing of it has none of these
 has_none : (what : Uncarried) (f : InputFile) → has_any f ≡ false → file_has what f ≡ false
-has_none uncarried.Slot f h = none_passes (λ s. is_debug s.slot || is_some s.group) section_has_any f.sections section_slots (sections f h)
 has_none uncarried.Common f h = common f h
-has_none uncarried.File f h = left _ _ (kinds f h)
 has_none uncarried.Output f h = refl
 has_none uncarried.Table f h = none_passes (λ s. list_any (λ r. wants_entry r.kind) s.relocs) section_has_any f.sections section_enters (sections f h)
 has_none uncarried.Plan f h = refl
@@ -81,7 +72,7 @@ has_none uncarried.Partial f h = refl
 has_none uncarried.Sorted f h = none_passes (λ s. s.sorted) section_has_any f.sections section_sorts (sections f h)
 has_none uncarried.Primary f h = refl
 has_none uncarried.Relax f h = refl
-has_none uncarried.Symbol f h = right (file_has uncarried.File f) _ (kinds f h)
+has_none uncarried.Symbol f h = symbols f h
 
 no_file : (what : Uncarried) (link : LinkInput) → any_file has_any link ≡ false → any_file (file_has what) link ≡ false
 no_file what link h =
@@ -90,9 +81,7 @@ no_file what link h =
 
 outside : (what : Uncarried) (link : LinkInput) → any_file has_any link ≡ false → has_outside link what ≡ has link what
 unfolding has
-outside uncarried.Slot link h = sym (no_file uncarried.Slot link h)
 outside uncarried.Common link h = sym (no_file uncarried.Common link h)
-outside uncarried.File link h = sym (no_file uncarried.File link h)
 outside uncarried.Output link h = refl
 outside uncarried.Table link h = sym (ap (λ b. names_table link.plan.named || b) (no_file uncarried.Table link h) ∙ or_none (names_table link.plan.named))
 outside uncarried.Plan link h = refl

@@ -75,13 +75,13 @@ usual link carried =
     let plan : Plan = link.plan in
     usual_of plan plan.custom_base plan.custom_phdrs plan.phdrs_headers (length plan.regions == 0) (is_some (as_number plan.base))
     (list_any moves_location plan.events) (list_any is_special_section plan.sections) (list_any (λ (s : PlanSegment). is_tls s.kind) plan.segments) refl refl refl refl refl refl
-    (none_found (has link) all_uncarried 5 uncarried.Plan carried refl)
+    (none_found (has link) all_uncarried 3 uncarried.Plan carried refl)
 
 -- its output isn't an object file again
 whole_output : (link : LinkInput) → IsCarried link → is_partial link.options.output ≡ false
 unfolding first_uncarried has
 whole_output link carried =
-    (or_parts (is_partial link.options.output) (is_some link.plan.singletons) (none_found (has link) all_uncarried 6 uncarried.Partial carried refl)).0
+    (or_parts (is_partial link.options.output) (is_some link.plan.singletons) (none_found (has link) all_uncarried 4 uncarried.Partial carried refl)).0
 
 not_partial : (kind : OutputKind) → is_partial kind ≡ false → kind ≢ output.Partial
 not_partial kind h same = let yes : is_partial kind ≡ true = ap is_partial same in cc
@@ -171,7 +171,7 @@ carried_plans_are_plain link carried loads =
 pub keeps_sizes : (link : LinkInput) → IsCarried link → KeepsSizes link
 unfolding first_uncarried has
 keeps_sizes link carried = record {
-  relax = none_found (has link) all_uncarried 9 uncarried.Relax carried refl;
-  tables = (or_parts (names_table link.plan.named) (any_file (file_has uncarried.Table) link) (none_found (has link) all_uncarried 4 uncarried.Table carried refl)).0;
-  primary = none_found (has link) all_uncarried 8 uncarried.Primary carried refl;
+  relax = none_found (has link) all_uncarried 7 uncarried.Relax carried refl;
+  tables = (or_parts (names_table link.plan.named) (any_file (file_has uncarried.Table) link) (none_found (has link) all_uncarried 2 uncarried.Table carried refl)).0;
+  primary = none_found (has link) all_uncarried 6 uncarried.Primary carried refl;
 }

@@ -1,6 +1,6 @@
 -- The value of a symbol that stands for a place in a section is the section's address, as it is told, and the offset there.
 use Rattle.std.proofs.Common.{◌≡◌, ℕ, ◌+◌, ◌<◌, get_or, true, false, if◌then◌else◌, List, length, map, sum_by, take, Option, Some, None, refl, sym, ap, ◌∙◌, arith}
-use Rattle.std.specs.Prelude.{option_map, slice_get, unwrap_or}
+use Rattle.std.specs.Prelude.{◌||◌, option_map, slice_get, unwrap_or}
 use Rattle.std.specs.List.{enumerate_from, flat_map}
 use Rattle.std.proofs.lemmas.List.{length-map}
 use Rattle.std.proofs.lemmas.List.Concat.{get_or-flat_map, length-flat_map}
@@ -12,7 +12,7 @@ use Rattle.lk_link.specs.declared.link.LinkInput.{LinkInput}
 use Rattle.lk_link.specs.declared.symbol.InputSymbol.{InputSymbol}
 use Rattle.lk_link.specs.declared.symbol.SymbolPlacement.TheVariants as at
 use Rattle.lk_link.specs.Files.{file_in}
-use Rattle.lk_link.specs.FileKinds.{is_object}
+use Rattle.lk_link.specs.FileKinds.{is_dynamic, is_object}
 use Rattle.lk_link.specs.Inputs.{Input, NumberedFile, all_inputs, first_input, input_number, numbered_files}
 use Rattle.lk_link.specs.Marks.{is_marked}
 use Rattle.lk_link.specs.Symbols.{file_number, first_symbol, symbols_in}
@@ -27,7 +27,7 @@ use Rattle.lk_layout.specs.declared.layout.Layout.{Layout}
 use Rattle.lk_layout.specs.declared.resolution.Resolution.{Resolution}
 use Rattle.lk_layout.specs.Layouts.{told_live}
 use Rattle.lk_layout.specs.OutputContent.{output_content}
-use Rattle.lk_layout.specs.Resolutions.{Places, address_at, places_of, file_resolutions, flags_at, is_resolved, placed_value, resolution_at, resolution_of, symbol_resolutions}
+use Rattle.lk_layout.specs.Resolutions.{Places, address_at, places_of, file_resolutions, flags_at, has_resolutions, is_resolved, placed_value, resolution_at, resolution_of, symbol_resolutions}
 use Rattle.lk_layout.specs.Sound.{SymbolsStandInLiveSections, ValuesAreInLiveSections}
 use Rattle.lk_layout.proofs.Placing.{marked_in}
 
@@ -36,7 +36,7 @@ use Rattle.lk_layout.proofs.Placing.{marked_in}
 -- each symbol of a file has its place among the file's
 pub as_many : (places : Places) (link : LinkInput) (live : Live) (f : NumberedFile) → length (file_resolutions places live.flags link.groups f) ≡ symbols_in f.file
 as_many places link live f =
-    elim (is_object f.file.kind) as (λ b. length (if b then map (resolution_of places live.flags (first_input link.groups f.id)) (enumerate_from (first_symbol link.groups f.id) f.file.symbols)
+    elim (has_resolutions f.file.kind) as (λ b. length (if b then map (resolution_of places live.flags (first_input link.groups f.id)) (enumerate_from (first_symbol link.groups f.id) f.file.symbols)
     else map (λ _. None) f.file.symbols) ≡ symbols_in f.file) [
       | true ↦ length-map (enumerate_from (first_symbol link.groups f.id) f.file.symbols) (resolution_of places live.flags (first_input link.groups f.id))
           ∙ length-enumerate_from (first_symbol link.groups f.id) f.file.symbols
@@ -65,7 +65,7 @@ resolution_is link live starts id file k x there object at_k =
     let is_f : get_or files n f ≡ f = get_or_from_slice_get files n f f at_f in
     let within : k < length (of_file (get_or files n f)) = omega (arith, ap (λ (g : NumberedFile). length (of_file g)) is_f, as_many place link live f, few) in
     let here : slice_get (of_file f) k ≡ Some (one (first + k, x))
-    = ap (λ b. slice_get (if b then map one (enumerate_from first file.symbols) else map (λ _. None) file.symbols) k) object
+    = ap (λ b. slice_get (if b || is_dynamic file.kind then map one (enumerate_from first file.symbols) else map (λ _. None) file.symbols) k) object
     ∙ map_in one (enumerate_from first file.symbols) k (first + k, x) (numbered_get first file.symbols k x at_k) in
     ap (λ (m : ℕ). resolution_at (symbol_resolutions link live starts) (m + k)) (sym before)
     ∙ get_or-flat_map of_file files n k f None (slice_get_within files n f at_f) within

@@ -7,8 +7,7 @@ use Rattle.lk_link.specs.declared.plan.Plan.{Plan}
 use Rattle.lk_link.specs.declared.plan.PlanSection.{PlanSection}
 use Rattle.lk_link.specs.declared.plan.attributes.TheConstants.{TLS}
 use Rattle.lk_link.specs.Expressions.{as_number}
-use Rattle.lk_link.specs.FileKinds.{is_internal, is_object, is_prelude}
-use Rattle.lk_link.specs.InputSlots.{is_debug}
+use Rattle.lk_link.specs.FileKinds.{is_internal}
 use Rattle.lk_link.specs.OutputKinds.{is_loaded_dynamically, is_partial}
 use Rattle.lk_link.specs.PartRules.{names_table}
 use Rattle.lk_link.specs.PlanSections.{is_set}
@@ -44,9 +43,7 @@ is_special_plan plan =
 
 -- a file of the description has it
 abbrev pub file_has : Uncarried → InputFile → Bool
-file_has uncarried.Slot f = list_any (λ s. is_debug s.slot || is_some s.group) f.sections
 file_has uncarried.Common f = list_any (λ x. is_common x.at) f.symbols
-file_has uncarried.File f = not (is_prelude f.kind || is_object f.kind)
 file_has uncarried.Table f = list_any (λ s. list_any (λ r. wants_entry r.kind) s.relocs) f.sections
 file_has uncarried.Sorted f = list_any (λ s. s.sorted) f.sections
 file_has uncarried.Symbol f = is_internal f.kind && has_symbols f
@@ -65,7 +62,7 @@ has link what = any_file (file_has what) link
 -- the order in which it is looked for
 abbrev pub all_uncarried : List Uncarried
 all_uncarried =
-    uncarried.Slot ∷ uncarried.Common ∷ uncarried.File ∷ uncarried.Output ∷ uncarried.Table ∷ uncarried.Plan
+    uncarried.Common ∷ uncarried.Output ∷ uncarried.Table ∷ uncarried.Plan
     ∷ uncarried.Partial ∷ uncarried.Sorted ∷ uncarried.Primary ∷ uncarried.Relax ∷ uncarried.Symbol ∷ []
 
 -- what is found first

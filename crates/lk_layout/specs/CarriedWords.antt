@@ -4,7 +4,6 @@ use Rattle.std.specs.List.{list_any}
 use Rattle.lk_link.specs.declared.file.InputFile.{InputFile}
 use Rattle.lk_link.specs.declared.link.LinkInput.{LinkInput}
 use Rattle.lk_link.specs.declared.section.InputSection.{InputSection}
-use Rattle.lk_link.specs.InputSlots.{is_debug}
 use Rattle.lk_link.specs.OutputKinds.{is_loaded_dynamically, is_partial}
 use Rattle.lk_link.specs.PartRules.{names_table}
 use Rattle.lk_link.specs.Relocations.{wants_entry}
@@ -15,15 +14,11 @@ use Rattle.lk_layout.specs.Carried.{file_has, is_special_plan}
 
 -- a section has anything that isn't laid out yet
 abbrev pub section_has_any : InputSection → Bool
-section_has_any s = is_debug s.slot || is_some s.group || s.sorted || list_any (λ r. wants_entry r.kind) s.relocs
-
--- a file is of a kind that isn't laid out yet, or has symbols that its kind can't have yet
-abbrev pub is_of_uncarried_kind : InputFile → Bool
-is_of_uncarried_kind f = file_has uncarried.File f || file_has uncarried.Symbol f
+section_has_any s = s.sorted || list_any (λ r. wants_entry r.kind) s.relocs
 
 -- a file has anything that isn't laid out yet
 abbrev pub has_any : InputFile → Bool
-has_any f = is_of_uncarried_kind f || list_any section_has_any f.sections || list_any (λ x. is_common x.at) f.symbols
+has_any f = file_has uncarried.Symbol f || list_any section_has_any f.sections || list_any (λ x. is_common x.at) f.symbols
 
 -- the description has it outside its files
 abbrev pub has_outside : LinkInput → Uncarried → Bool

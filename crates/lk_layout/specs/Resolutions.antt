@@ -1,8 +1,9 @@
 -- The values of symbols, and the entry.
-use Rattle.std.specs.Prelude.{ℕ, ◌+◌, ◌==◌, ◌&&◌, not, if◌then◌else◌, List, Option, Some}
+use Rattle.std.specs.Prelude.{ℕ, ◌+◌, ◌==◌, ◌&&◌, ◌||◌, not, if◌then◌else◌, List, Option, Some}
 use Rattle.std.specs.Prelude.{None, Result, Ok, Err, map, option_and_then, option_map, slice_get, slice_index, unwrap_or, Bool}
 use Rattle.std.specs.List.{enumerate_from, flat_map, slice_index_or}
 use Rattle.std.specs.Option.{option_map_or}
+use Rattle.lk_link.specs.declared.file.FileKind.{FileKind}
 use Rattle.lk_link.specs.declared.file.InputFile.{InputFile}
 use Rattle.lk_link.specs.declared.flags.TheConstants.ValueFlags as flag
 use Rattle.lk_link.specs.declared.flags.ValueFlags.{ValueFlags}
@@ -10,7 +11,7 @@ use Rattle.lk_link.specs.declared.link.LinkInput.{LinkInput}
 use Rattle.lk_link.specs.declared.symbol.InputSymbol.{InputSymbol}
 use Rattle.lk_link.specs.declared.symbol.SymbolPlacement.{SymbolPlacement}
 use Rattle.lk_link.specs.declared.symbol.SymbolPlacement.TheVariants as at
-use Rattle.lk_link.specs.FileKinds.{is_object}
+use Rattle.lk_link.specs.FileKinds.{is_dynamic, is_object}
 use Rattle.lk_link.specs.Flags.{has_flag, has_resolution}
 use Rattle.lk_link.specs.Inputs.{NumberedFile, all_inputs, first_input, numbered_files}
 use Rattle.lk_link.specs.Marks.{is_marked}
@@ -59,7 +60,7 @@ pub record Places : Type 0 where
 abbrev pub places_of : LinkInput → Live → List ℕ → Places
 places_of link live starts = record { live = address_at link live starts; merged = merged_value link (images_at link live starts) }
 
--- the value of a placement in an object, of the symbol s; `first` is the number of the object's first input section: a place in a live
+-- the value of a placement in an object or a dynamic file, of the symbol s; `first` is the number of the object's first input section: a place in a live
 -- section, or in a merged one; or a number; 0 for what is defined nowhere
 abbrev pub placed_value : Places → ℕ → ℕ → SymbolPlacement → ℕ
 placed_value places first s (at.Section index offset) = unwrap_or (places.live (first + index) offset) (places.merged s)
@@ -76,17 +77,21 @@ is_resolved s x flags = unwrap_or x.def s == s && has_resolution flags.0
 abbrev pub flags_at : List ValueFlags → ℕ → ValueFlags
 flags_at flags s = slice_index_or flags s (record { 0 = 0 })
 
--- the resolution of an object's symbol, with its number, if it has one
+-- the resolution of a symbol of such a file, with its number, if it has one
 abbrev pub resolution_of : Places → List ValueFlags → ℕ → ℕ × InputSymbol → Option Resolution
 resolution_of places flags first q =
     if is_resolved q.0 q.1 (flags_at flags q.0)
     then Some (record { raw_value = placed_value places first q.0 q.1.at; flags = flags_at flags q.0 })
     else None
 
--- for each symbol of a file its resolution, if it has one: symbols of objects alone do
+-- a file whose symbols may have resolutions: an object, or a dynamic file, whose symbols are 0 here
+abbrev pub has_resolutions : FileKind → Bool
+has_resolutions kind = is_object kind || is_dynamic kind
+
+-- for each symbol of a file its resolution, if it has one
 abbrev pub file_resolutions : Places → List ValueFlags → List (List InputFile) → NumberedFile → List (Option Resolution)
 file_resolutions places flags groups f =
-    if is_object f.file.kind
+    if has_resolutions f.file.kind
     then map (resolution_of places flags (first_input groups f.id)) (enumerate_from (first_symbol groups f.id) f.file.symbols)
     else map (λ _. None) f.file.symbols
 

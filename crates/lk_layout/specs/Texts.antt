@@ -16,9 +16,7 @@ use Rattle.lk_layout.specs.declared.outside.MergeOffsetPlace.TheVariants.{OfRelo
 
 -- what isn't laid out yet, in a word
 unfoldable pub uncarried_text : Uncarried → List ℕ
-uncarried_text uncarried.Slot = codes "slot"
 uncarried_text uncarried.Common = codes "common"
-uncarried_text uncarried.File = codes "file"
 uncarried_text uncarried.Output = codes "output"
 uncarried_text uncarried.Table = codes "table"
 uncarried_text uncarried.Plan = codes "plan"

@@ -3,16 +3,15 @@
 //! Each thing is looked for by itself, in a fixed order, so that a description with several of them is always told by the
 //! same one. What comes later takes a line away here.
 
-ghost use Rattle.std.specs.Prelude.{◌≡◌, ◌||◌, find, is_some};
+ghost use Rattle.std.specs.Prelude.{◌≡◌, find};
 ghost use Rattle.std.specs.List.{list_any};
-ghost use Rattle.lk_link.specs.InputSlots.{is_debug};
 ghost use Rattle.lk_link.specs.OutputKinds.{is_loaded_dynamically, is_partial};
 ghost use Rattle.lk_link.specs.PartRules.{names_table};
 ghost use Rattle.lk_link.specs.Relocations.{wants_entry};
 ghost use Rattle.lk_link.specs.Rules.{moves_location};
 ghost use Rattle.lk_link.specs.SegmentKinds.{is_tls};
 ghost use Rattle.lk_link.specs.SymbolPlacements.{is_common};
-ghost use Rattle.lk_layout.specs.CarriedWords.{has_any, has_outside, is_of_uncarried_kind, section_has_any};
+ghost use Rattle.lk_layout.specs.CarriedWords.{has_any, has_outside, section_has_any};
 ghost use Rattle.lk_layout.specs.Carried.{all_uncarried, any_file, file_has, first_uncarried, has, is_special_plan, is_special_section};
 
 use crate::error::Uncarried;
@@ -22,10 +21,8 @@ use lk_link::plan::{OrderEvent, Plan, PlanSection, PlanSegment, attributes};
 use lk_link::section::InputSection;
 
 /// What is looked for, in this order.
-const ALL_UNCARRIED: [Uncarried; 11] = [
-    Uncarried::Slot,
+const ALL_UNCARRIED: [Uncarried; 9] = [
     Uncarried::Common,
-    Uncarried::File,
     Uncarried::Output,
     Uncarried::Table,
     Uncarried::Plan,
@@ -102,14 +99,7 @@ fn any_of_group_has_any(files: &[InputFile]) -> bool
 fn has_any(file: &InputFile) -> bool
     ensures { result ≡ has_any file.now }
 {
-    is_of_uncarried_kind(file) || any_section_has_any(file) || has_common(file)
-}
-
-/// Whether a file is of a kind that isn't laid out yet, or has symbols that its kind can't have yet.
-fn is_of_uncarried_kind(file: &InputFile) -> bool
-    ensures { result ≡ is_of_uncarried_kind file.now }
-{
-    file_has(file, Uncarried::File) || file_has(file, Uncarried::Symbol)
+    file_has(file, Uncarried::Symbol) || any_section_has_any(file) || has_common(file)
 }
 
 /// Whether a section of a file has anything that isn't laid out yet.
@@ -123,7 +113,7 @@ fn any_section_has_any(file: &InputFile) -> bool
 fn section_has_any(section: &InputSection) -> bool
     ensures { result ≡ section_has_any section.now }
 {
-    section.slot.is_debug() || section.group.is_some() || section.sorted || wants_entries(section)
+    section.sorted || wants_entries(section)
 }
 
 /// Whether the description has it.
@@ -204,22 +194,12 @@ fn file_has(file: &InputFile, what: Uncarried) -> bool
     ensures { result ≡ file_has what file.now }
 {
     match what {
-        Uncarried::Slot => has_debug_or_group(file),
         Uncarried::Common => has_common(file),
-        Uncarried::File => !(file.kind.is_prelude() || file.kind.is_object()),
         Uncarried::Table => has_entry(file),
         Uncarried::Sorted => has_sorted(file),
         Uncarried::Symbol => file.kind.is_internal() && !file.symbols.is_empty(),
         _ => false,
     }
-}
-
-/// Whether a section has debug data, or is in a section group.
-fn has_debug_or_group(file: &InputFile) -> bool
-    ensures { result ≡ list_any (λ s. is_debug s.slot || is_some s.group) file.now.sections }
-{
-    file.sections.as_slice().iter().any(|section| section.slot.is_debug()
-        || section.group.is_some())
 }
 
 /// Whether a symbol is common.

@@ -18,12 +18,8 @@ use std::fmt;
 /// What a description may have that isn't laid out yet, in the order in which it is looked for.
 #[derive(Clone, Copy, Debug, PartialEq, Eq)]
 pub enum Uncarried {
-    /// A section of debug data, or one in a section group.
-    Slot,
     /// A common symbol.
     Common,
-    /// A file that is neither the prelude nor an object.
-    File,
     /// Output that a dynamic linker loads.
     Output,
     /// A table part, the comment part, or a relocation that wants an entry of a table.
@@ -108,9 +104,7 @@ impl Uncarried {
         ensures { result.now ≡ uncarried_text self }
     {
         match self {
-            Uncarried::Slot => "slot",
             Uncarried::Common => "common",
-            Uncarried::File => "file",
             Uncarried::Output => "output",
             Uncarried::Table => "table",
             Uncarried::Plan => "plan",
@@ -198,7 +192,7 @@ impl fmt::Display for FullBucket {
     }
 }
 
-/// In a word, as `slot`.
+/// In a word, as `common`.
 impl fmt::Display for Uncarried {
     ghost use Rattle.std.specs.Prelude.{Some};
     ghost use Rattle.lk_layout.specs.Texts.{uncarried_text};

@@ -2,7 +2,7 @@
 //!
 //! A table has the address of each live input section, by its number over all files. One pass over the symbols, file by file,
 //! gives each that stands for itself and is asked for its value: a place in a live section is the section's address and the
-//! offset there, a number stays, and what is defined nowhere is 0. A named symbol in a merged section stands where its piece does,
+//! offset there, a number stays, and what is defined nowhere, or in a dynamic file, is 0. A named symbol in a merged section stands where its piece does,
 //! which takes logarithmic time; any other symbol takes constant time.
 
 ghost use Rattle.std.specs.Prelude.{◌≡◌, ◌+◌, ◌<◌, ◌^◌, ◌++◌, All, IfOk, OnOk, Some, None, true, map, length};
@@ -13,11 +13,12 @@ ghost use Rattle.lk_link.specs.Marks.{is_marked};
 ghost use Rattle.lk_link.specs.Walks.{file_of};
 ghost use Rattle.lk_link.specs.WellFormed.{IsWellFormed};
 ghost use Rattle.lk_layout.specs.Kept.{IsAskedFor};
-ghost use Rattle.lk_layout.specs.Resolutions.{entry_symbol, entry_value, file_resolutions, placed_value, resolution_of};
+ghost use Rattle.lk_layout.specs.Resolutions.{entry_symbol, entry_value, file_resolutions, has_resolutions, placed_value, resolution_of};
 ghost use Rattle.lk_layout.specs.Tables.{AreMergedOf, HasRoom, HaveRoom, place_in, places_in};
 
 use crate::merged::{Merged, merged_value};
 use crate::symbol_resolutions::SymbolResolutions;
+use lk_link::file::FileKind;
 use lk_link::marks::is_marked;
 use lk_link::{FileRef, InputSymbol, LinkInput, SymbolId, SymbolPlacement, ValueFlags};
 use std::alloc::{AllocError, Global};
@@ -108,7 +109,7 @@ fn push_file_resolutions(
         (file_of file.entry)) }
 {
     let symbols = file.file.symbols.as_slice();
-    if !file.file.kind.is_object() {
+    if !has_resolutions(file.file.kind) {
         return push_unresolved(resolutions, symbols);
     }
     if let Some(first) = link.groups.input_start(file.id) {
@@ -118,6 +119,13 @@ fn push_file_resolutions(
         }
     }
     Ok(())
+}
+
+/// Whether symbols of such a file may have resolutions: of an object, or of a dynamic file.
+fn has_resolutions(kind: FileKind) -> bool
+    ensures { result ≡ has_resolutions kind }
+{
+    kind.is_object() || kind.is_dynamic()
 }
 
 /// Adds for each of some symbols that it has no resolution.
@@ -133,7 +141,7 @@ fn push_unresolved(
     Ok(())
 }
 
-/// Adds for each symbol of an object its resolution, if it has one. `first` is the number of the object's first input section,
+/// Adds for each symbol of a file its resolution, if it has one. `first` is the number of the file's first input section,
 /// `number` that of its first symbol.
 fn push_resolutions(
     resolutions: &mut SymbolResolutions,
@@ -159,7 +167,7 @@ fn push_resolutions(
     Ok(())
 }
 
-/// The resolution of an object's symbol with this number, if it has one.
+/// The resolution of the symbol with this number, if it has one.
 fn resolve(
     tables: Tables<'_>,
     merged: Merged<'_>,
@@ -186,7 +194,7 @@ fn resolve(
     Some(Resolution { raw_value, flags })
 }
 
-/// The value of an object's symbol with this number.
+/// The value of the symbol with this number.
 fn symbol_value(
     tables: Tables<'_>,
     merged: Merged<'_>,

@@ -2,12 +2,11 @@ use Rattle.std.proofs.Common.{◌≡◌, ℕ, ◌++◌, true, if◌then◌else�
 use Rattle.std.specs.List.{enumerate_from}
 use Rattle.lk_link.specs.declared.file.InputFile.{InputFile}
 use Rattle.lk_link.specs.declared.symbol.InputSymbol.{InputSymbol}
-use Rattle.lk_link.specs.FileKinds.{is_object}
 use Rattle.lk_link.specs.Inputs.{first_input}
 use Rattle.lk_link.specs.Symbols.{AreSymbolsOf, first_symbol}
 use Rattle.lk_gc.proofs.SymbolNumbers.{first_within, inputs_few, symbols_few}
 use Rattle.lk_layout.specs.declared.resolution.Resolution.{Resolution}
-use Rattle.lk_layout.specs.Resolutions.{resolution_of}
+use Rattle.lk_layout.specs.Resolutions.{has_resolutions, resolution_of}
 use Rattle.lk_layout.specs.Tables.{places_in}
 use Rattle.lk_layout.proofs.resolution.push_file_resolutions.Goals as goal
 
@@ -47,11 +46,11 @@ returns-in_ok-push_resolutions c =
     let old : List (Option Resolution) = c.args.resolutions.now in
     let made : ℕ → ℕ → List InputSymbol → List (Option Resolution) = λ first number symbols. map (resolution_of places c.args.tables.flags.now first) (enumerate_from number symbols) in
     let range : AreSymbolsOf groups c.args.file.id c.in-Some-symbol_id_range.numbers = c.in-Some-symbol_id_range.ensures in
-    let object : is_object c.args.file.file.now.kind ≡ true = sym c.is_object.ensures ∙ c.if-not-is_object.false in
+    let has : has_resolutions c.args.file.file.now.kind ≡ true = sym c.has_resolutions.ensures ∙ c.if-not-has_resolutions.false in
     let number : c.as_u32-number.result ≡ first_symbol groups c.args.file.id = c.as_u32-number.ensures ∙ c.start.ensures ∙ range.start in
     let all : List (Option Resolution) = made (first_input groups c.args.file.id) (first_symbol groups c.args.file.id) c.args.file.file.now.symbols in
     c.in_ok-push_resolutions.ensures
     ∙ ap (λ first. old ++ made first c.as_u32-number.result c.as_slice-symbols.result.now) c.in-Some.ensures.1
     ∙ ap (λ n. old ++ made (first_input groups c.args.file.id) n c.as_slice-symbols.result.now) number
     ∙ ap (λ xs. old ++ made (first_input groups c.args.file.id) (first_symbol groups c.args.file.id) xs) c.as_slice-symbols.ensures
-    ∙ ap (λ b. old ++ (if b then all else map (λ (x : InputSymbol). let none : Option Resolution = None in none) c.args.file.file.now.symbols)) (sym object)
+    ∙ ap (λ b. old ++ (if b then all else map (λ (x : InputSymbol). let none : Option Resolution = None in none) c.args.file.file.now.symbols)) (sym has)
