@@ -1,4 +1,4 @@
-use Rattle.std.proofs.Common.{◌≡◌, ◌∙◌, sym, false}
+use Rattle.std.proofs.Common.{◌∙◌, sym}
 use Rattle.lk_layout.proofs.CarriedLooks.{found_outside}
 use Rattle.lk_layout.proofs.carried.first_uncarried.Goals as goal
 
