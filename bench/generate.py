@@ -13,6 +13,12 @@ file of it is held at a time. SHAPE says what the bytes go to:
     linked    objects with symbols, relocations and names, from which dead code leaves
     chain     objects of sections of which each refers to the next, over all objects
     star      objects of sections that all refer to one symbol, eight times each
+    tenth     strings that are merged, of 30 bytes, a tenth of them different
+    distinct  the same, all different
+    equal     the same, all equal
+    one       one string that is merged
+    empty     sections without data that are merged
+    named     strings that are merged, each with a symbol that a relocation names
     whole     linked ones with section groups, merge data, debug data and tables
 
 The last shape isn't laid out yet, but read and checked; the others are laid out.
@@ -24,6 +30,7 @@ import sys
 
 from attributes import ALLOCATED, EXECUTABLE, WRITABLE, ZERO_FILL
 from forms import LINKED, WHOLE
+from merges import MERGES, put_merges
 from ways import put_ways
 from whole import put_whole_link
 
@@ -34,7 +41,7 @@ MOST_OUTPUT_SECTIONS = 65_000
 MOST_SEGMENTS = 8
 FORMS = {"linked": LINKED, "whole": WHOLE}
 WAYS = ("chain", "star")
-SHAPES = ("objects", "plan", "files", "single", *WAYS, *FORMS)
+SHAPES = ("objects", "plan", "files", "single", *WAYS, *MERGES, *FORMS)
 
 # Share of the output sections, attributes, name, and alignments to choose from. The order is the
 # order in memory: within a segment nothing with file bytes follows a zero-filled section.
@@ -177,6 +184,9 @@ def generate(stream, total, seed, shape):
         return
     if shape in WAYS:
         put_ways(writer, total, files_of_group(total, shape), PAGE, BASE, shape)
+        return
+    if shape in MERGES:
+        put_merges(writer, total, files_of_group(total, shape), PAGE, BASE, shape)
         return
     parts = put_plan(writer, rng, output_section_count(total, shape))
     writer.put('"groups":[\n[{"kind":"prelude"}]')

@@ -1,7 +1,7 @@
 #!/usr/bin/env python3
 """Measure the program on generated descriptions, and print ratios.
 
-usage: run.py [PROGRAM [MEGABYTES..]]
+usage: run.py [--merges] [PROGRAM [MEGABYTES..]]
        run.py --long [PROGRAM]
        run.py --memory [PROGRAM]
 
@@ -11,6 +11,8 @@ the last to be read, so that it is read and no more; as it is; and whole as a me
 that it is parsed and let go. The run fails where an answer isn't of the kind that is wanted or two runs
 over the same bytes differ. Seconds are processor seconds, the least of the runs. None of them is judged:
 each is set against others of the same run.
+
+With --merges, the descriptions are of strings that are merged, and little else.
 
 With --long, each description has one list that is as long as it may be, or millions long. The run fails
 where the program crashes, runs out of its stack of 8 MB or answers something else.
@@ -28,6 +30,7 @@ import tempfile
 
 import long_lists
 import memory
+from merges import MERGES
 
 HERE = os.path.dirname(os.path.abspath(__file__))
 DEFAULT_PROGRAM = os.path.join(HERE, "..", "crates", "lk_program", "out", "lk_program")
@@ -66,7 +69,7 @@ REST_COLUMNS = (
 )
 REST_LEGEND = """\
 parse: ms/MB of making one JSON value of the whole text; rest: ms/MB of all after reading; growth: the powers
-of the size by which they grow. Aim: rest/parse at most 0.25.
+of the size by which they grow. Aim: rest/parse at most 0.25, where strings are merged 0.2.
 """
 MEMORY_COLUMNS = (
     *(("MB", 6), ("sections", 9), ("symbols", 9), ("reading", 8), ("read", 6), ("after", 7)),
@@ -345,6 +348,8 @@ def main(words):
         with tempfile.TemporaryDirectory() as folder:
             OTHER_MEASURES[words[0]](os.path.abspath((words + [DEFAULT_PROGRAM])[1]), folder)
         return
+    merges = words[:1] == ["--merges"]
+    words = words[1:] if merges else words
     program = os.path.abspath(words[0] if words else DEFAULT_PROGRAM)
     sizes = sorted(map(int, words[1:])) or DEFAULT_MEGABYTES
 
@@ -352,13 +357,16 @@ def main(words):
         return SHAPE_MEGABYTES if shape in SMALL_SHAPES else sizes
 
     with tempfile.TemporaryDirectory() as folder:
-        laid_out = [Series(program, folder, shape) for shape in (*LARGE_SHAPES, *SMALL_SHAPES)]
+        shapes = MERGES if merges else (*LARGE_SHAPES, *SMALL_SHAPES)
+        laid_out = [Series(program, folder, shape) for shape in shapes]
         rows = Series.laid_out_row, Series.rest_row
         (rest,) = print_table(LAID_OUT_COLUMNS, LAID_OUT_LEGEND, laid_out, sizes_of, *rows)
         print_headings(REST_COLUMNS)
         for line in rest:
             print_line(REST_COLUMNS, line)
         print(REST_LEGEND)
+        if merges:
+            return
         checked = [Series(program, folder, "whole")]
         print_table(CHECKED_COLUMNS, CHECKED_LEGEND, checked, sizes_of, Series.checked_row)
 

@@ -42,6 +42,7 @@ def kind_of(status, text):
         return "references that can't be met"
     line = re.sub("description:.*", "description", shown(text).strip())
     line = re.sub("(link: rule [0-9]+|overflow: [a-z]+|too many [a-z ]+).*", r"\1", line)
+    line = re.sub("(merge offset: [a-z]*|not null-terminated|bucket too large).*", r"\1", line)
     return re.sub("section [0-9]+", "section", line)
 
 

@@ -5,6 +5,7 @@ import json
 import reference
 from rules import listed
 
+from .merges import add_merges
 from .references import add_references
 from .values import ALIGNMENTS, ATTRIBUTES, BASES, NAMES, PAGES, TRUTHS, all_inputs, optional
 
@@ -19,10 +20,11 @@ OPTIONS = {
     "stack": (0, 1, 7, 4096, 2**63, 2**64 - 1),
     "relax": (False,),
     "branch_range": (0, 0, 2_097_153, 3_145_728, 2**64 - 1),
-    "bucket_limit": (0, 1, 268_435_456),
+    "bucket_limit": (1, 600, 268_435_456, 268_435_456),
     "merge_group": (1, 140_000, 4_294_967_296),
 }
 REFERRING_SHARE = 0.7
+MERGING_SHARE = 0.4
 
 
 def random_size(rng):
@@ -163,6 +165,8 @@ def good_description(rng):
     description = {"plan": plan, "groups": groups}
     if rng.random() < 0.4:
         description["options"] = random_options(rng)
+    if rng.random() < MERGING_SHARE:
+        add_merges(rng, description)
     if rng.random() < REFERRING_SHARE:
         add_references(rng, description)
     return description

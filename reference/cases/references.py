@@ -4,7 +4,7 @@ from rules import listed
 
 from .values import NAMES, TRUTHS, all_files, all_inputs, all_symbols, objects, optional, pick
 
-ADDENDS = (0, 0, -4, 1, 2**63 - 1, -(2**63))
+ADDENDS = (0, 0, 0, -4, -1, 1, 2, 5, 256, 2**63 - 1, -(2**63))
 # What a discarded section may say of itself.
 ODD_RELOCATIONS = ([[2**64 - 1, "None", 77, 0, True]], [[0, "Absolute", 2**32 - 1, -1, False]])
 ODD_RELAXATIONS = ([[9, 9, 9, 0], [0, 0, 0, 99]], [[2**64 - 1, 2**32 - 1, 0, 2**64 - 1]])
@@ -27,9 +27,16 @@ def object_placement(rng, file):
             index = rng.randrange(len(held))
         length = length_of(held[index])
         if held[index]["slot"] == "merge":
-            return ["sec", index, rng.choice((0, length, 1000, 2**64 - 1))]
+            return ["sec", index, merged_offset(rng, length)]
         return ["sec", index, rng.choice((0, length // 2, length))]
     return rng.choice((["abs", 0], ["abs", 7], ["abs", 2**64 - 1], ["undef"], ["undef"]))
+
+
+def merged_offset(rng, length):
+    """An offset in data that are merged: mostly of one of their bytes, else at their end or anywhere."""
+    if length and rng.random() < 0.85:
+        return rng.choice((0, length - 1, rng.randrange(length)))
+    return rng.choice((0, length, 256, 1000, 2**64 - 1))
 
 
 def mark_symbol(rng, symbol):
@@ -137,6 +144,8 @@ def choose_slots(rng, description):
     """Some sections that are kept only if something refers to them, and a few that are left out."""
     share = rng.choice((0.3, 0.6, 0.9))
     for entry in all_inputs(description):
+        if entry["slot"] == "merge":
+            continue
         if rng.random() < share:
             entry["slot"] = "unloaded"
         elif rng.random() < 0.04:

@@ -66,18 +66,12 @@ def add_input(rng, description, **fields):
     fitting = [
         part
         for part in free_parts(description)
-        if (fields["slot"] != "merge" or parts[part][0] == 1)
-        and not (fields.get("sorted") and parts[part][1])
+        if not (fields.get("sorted") and parts[part][1])
     ]
     if not fitting:
         fitting = [add_section(description, [[1, False]])]
     entry = {"part": rng.choice(fitting), **fields}
-    if fields["slot"] == "merge":
-        optional(rng, entry, "data", 0.9, ("", "00", "6100", "0aFF", "00" * 300))
-        optional(rng, entry, "strings", 0.5, TRUTHS)
-        optional(rng, entry, "size", 0.2, (0, 1, 2**64 - 1))
-    else:
-        entry["size"] = rng.choice((0, 1, 4, 8, 100))
+    entry["size"] = rng.choice((0, 1, 4, 8, 100))
     optional(rng, entry, "attrs", 0.2, (2, 4, 6))
     optional(rng, entry, "name", 0.3, NAMES)
     put_section(rng, an_object(rng, description), entry)
@@ -115,10 +109,6 @@ def add_symbols(rng, description, file):
 
 
 # What isn't laid out yet
-
-
-def add_merge(rng, description):
-    add_input(rng, description, slot="merge")
 
 
 def add_debug(rng, description):
@@ -271,7 +261,7 @@ def add_prelude_symbol(rng, description):
 
 
 ADDITIONS = (
-    *(add_merge, add_debug, add_group, add_common, add_file, add_location, set_output),
+    *(add_debug, add_group, add_common, add_file, add_location, set_output),
     *(add_table, add_comment, add_table_relocation, add_candidates, set_plan, set_plan, set_plan),
     *(add_thread_local_segment, set_partial, add_sorted, set_primary, set_relax),
     add_prelude_symbol,

@@ -376,7 +376,6 @@ def uncarried(link):
     grouped = any(entry.group is not None for entry in inputs)
     symbols = symbols_of(link)
     owners = {file.kind for file, _ in symbols}
-    yield "merge", "merge" in slots
     yield "slot", "debug" in slots or "mustdebug" in slots or grouped
     yield "common", any(symbol.at[0] == "common" for _, symbol in symbols)
     yield "file", any(file.kind not in ("prelude", "object") for _, _, file in files_of(link))

@@ -1,9 +1,10 @@
 """The layout of a checked description: sizes, places, segments, symbols, and the lines of the report."""
 
 from .links import parts_of, section_order, segments_inside
-from .listed import ALLOCATED, FLAGS, HAS_RESOLUTION, ZERO_FILL
+from .listed import ALLOCATED, FLAGS, FLAGS_OF, HAS_RESOLUTION, ZERO_FILL
+from .merging import merged_sections
 from .reach import reach_of
-from .refusal import address_overflow, in_no_segment
+from .refusal import address_overflow, in_no_segment, merge_offset
 
 LARGEST_ADDRESS = 2**64 - 1
 
@@ -18,10 +19,12 @@ def fitting(number, place):
     return number
 
 
-def place_inputs(live, parts):
-    """The bytes of each part, and the place of each live section in its part."""
+def place_inputs(live, merged, parts):
+    """The bytes of each part, and the place of each live section in its part, behind what is merged there."""
     sizes = [0] * len(parts)
     places = {}
+    for part, image in merged_parts(merged):
+        sizes[part] = image.length
     for place, _, entry in live:
         _, alignment, packed = parts[entry.part]
         places[place] = sizes[entry.part]
@@ -30,6 +33,11 @@ def place_inputs(live, parts):
     for part, size in enumerate(sizes):
         total = fitting(total + size, "part %d" % part)
     return sizes, places
+
+
+def merged_parts(merged):
+    """What is merged, with the part where it stands: the one that its sections go to."""
+    return [(image.entries[0].part, image) for image in merged if image.entries]
 
 
 class Record:
@@ -123,9 +131,10 @@ class Walk:
         self.section_records[section] = hull([self.part_records[part] for part in walked])
 
 
-def emitted_sections(link, live, parts):
-    """The output index of each section that something live stands in or that is always emitted."""
+def emitted_sections(link, live, merged, parts):
+    """The output index of each section that something live or merged bytes stand in or that is always emitted."""
     used = {parts[entry.part][0] for _, _, entry in live}
+    used.update(section for section, image in enumerate(merged) if image.length)
     emits = [section.emit for section in link.plan.sections]
     emitted = [
         section
@@ -159,10 +168,10 @@ def segment_records(link, walk, emitted):
 # The report
 
 
-def joined_attributes(link, live, parts):
-    """The attributes of each output section, with those of its live sections."""
+def joined_attributes(link, live, merged, parts):
+    """The attributes of each output section, with those of its live and merged sections."""
     attributes = [section.attrs for section in link.plan.sections]
-    for _, _, entry in live:
+    for entry in [entry for _, _, entry in live] + [entry for image in merged for entry in image.entries]:
         attributes[parts[entry.part][0]] |= entry.attrs
     return attributes
 
@@ -190,21 +199,91 @@ def live_lines(live, addresses):
         yield "live %d %d %d 0x%x %d" % (*place, addresses[place], entry.size)
 
 
+def merged_lines(merged, addresses):
+    """A line for each output section that something is merged into, and then one for each distinct piece."""
+    for section, image in enumerate(merged):
+        if image.entries:
+            counts = image.length, len(image.distinct), len(image.pieces), sum(map(len, image.pieces))
+            yield "merged %d %d %d %d %d 0x%x" % (section, *counts, addresses[section])
+    for section, image in enumerate(merged):
+        for piece in image.distinct:
+            yield "piece %d 0x%x %d" % (section, addresses[section] + image.places[piece], len(piece))
+
+
 # Symbols
+
+
+def merged_target(reach, number):
+    """The merge section that a symbol stands in, and the offset there; nothing if it stands elsewhere."""
+    file, symbol = reach.symbols[number]
+    if symbol.at[0] != "sec":
+        return None
+    entry = file.sections[symbol.at[1]]
+    return (entry, symbol.at[2]) if entry.slot == "merge" else None
+
+
+def resolved_symbols(reach):
+    """The numbers of the symbols that stand for themselves and are needed, with what they are."""
+    for number, (file, symbol) in enumerate(reach.symbols):
+        if reach.definitions[number] == number and reach.flags[number] & HAS_RESOLUTION:
+            yield number, file, symbol
+
+
+def is_past_end(reach, number, addend):
+    """Whether a reference to a symbol chooses no byte of its merge section. By a name the addend isn't looked at."""
+    target = merged_target(reach, number)
+    if target is None:
+        return False
+    entry, offset = target
+    if not reach.symbols[number][1].name:
+        offset = (offset + addend) % 2**64
+    return offset >= len(entry.data)
+
+
+def check_merge_offsets(reach):
+    """Refuses the first symbol with a name, and then the first relocation, that chooses no byte of a merge section."""
+    for number, _, symbol in resolved_symbols(reach):
+        if symbol.name and is_past_end(reach, number, 0):
+            raise merge_offset("symbol %d" % number)
+    for place, _, entry in reach.live:
+        for index, (_, kind, symbol, addend, _) in enumerate(entry.relocs):
+            if FLAGS_OF[kind] and is_past_end(reach, reach.definition(place, symbol), addend):
+                raise merge_offset("%d %d %d relocation %d" % (*place, index))
+
+
+class Addresses:
+    """Where live sections and what is merged stand."""
+
+    def __init__(self, live, merged, parts, walk, places):
+        self.merged, self.parts = merged, parts
+        self.live = {
+            place: walk.part_records[entry.part].memory + places[place] for place, _, entry in live
+        }
+        self.images = {parts[part][0]: walk.part_records[part].memory for part, _ in merged_parts(merged)}
+
+    def in_merged(self, entry, offset):
+        """The address of an offset inside the data of a merge section."""
+        section = self.parts[entry.part][0]
+        return self.images[section] + self.merged[section].place_of(entry, offset)
+
+
+def symbol_value(reach, addresses, number, file, symbol):
+    """What a symbol that is needed stands for. One without a name in a merge section is 0."""
+    target = merged_target(reach, number)
+    if target is not None:
+        return addresses.in_merged(*target) if symbol.name else 0
+    kind, *operands = symbol.at
+    if kind == "sec":
+        return addresses.live[(*reach.places[id(file)], operands[0])] + operands[1]
+    return operands[0] if kind == "abs" else 0
 
 
 def symbol_values(reach, addresses):
     """The value of each symbol that stands for itself and is needed, by its number."""
-    values = {}
-    for number, (file, symbol) in enumerate(reach.symbols):
-        if reach.definitions[number] == number and reach.flags[number] & HAS_RESOLUTION:
-            kind, *operands = symbol.at
-            values[number] = 0
-            if kind == "sec":
-                values[number] = addresses[(*reach.places[id(file)], operands[0])] + operands[1]
-            elif kind == "abs":
-                values[number] = operands[0]
-    return values
+    return {
+        number: symbol_value(reach, addresses, number, file, symbol)
+        for number, file, symbol in resolved_symbols(reach)
+    }
 
 
 def entry_text(reach, values):
@@ -221,23 +300,24 @@ def entry_text(reach, values):
 
 def report(link):
     """The lines of the layout of a link."""
+    merged = merged_sections(link)
     reach = reach_of(link)
     parts = parts_of(link)
-    sizes, places = place_inputs(reach.live, parts)
+    sizes, places = place_inputs(reach.live, merged, parts)
     walk = Walk(link, parts, sizes)
     walk.run()
-    emitted = emitted_sections(link, reach.live, parts)
+    emitted = emitted_sections(link, reach.live, merged, parts)
     segments = segment_records(link, walk, emitted)
-    addresses = {
-        place: walk.part_records[entry.part].memory + places[place] for place, _, entry in reach.live
-    }
+    check_merge_offsets(reach)
+    addresses = Addresses(reach.live, merged, parts, walk, places)
     values = symbol_values(reach, addresses)
     yield "layout"
-    yield from section_lines(walk, emitted, joined_attributes(link, reach.live, parts))
+    yield from section_lines(walk, emitted, joined_attributes(link, reach.live, merged, parts))
     yield from part_lines(walk)
     for segment, record in segments.items():
         yield "segment %d %s" % (segment, record.line())
-    yield from live_lines(reach.live, addresses)
+    yield from live_lines(reach.live, addresses.live)
+    yield from merged_lines(merged, addresses.images)
     for number, value in values.items():
         yield "symbol %d 0x%x %d got - plt - dyn -" % (number, value, reach.flags[number])
     yield "entry " + entry_text(reach, values)

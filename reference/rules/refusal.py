@@ -32,6 +32,20 @@ def not_carried(what):
     return Refusal(REFUSED, "not carried: " + what)
 
 
+def not_terminated(section, number):
+    text = "String in merge-string section is not null-terminated: section %d, input %d"
+    return Refusal(REFUSED, text % (section, number))
+
+
+def too_large(section, bucket, offset, length):
+    text = "Merge-string bucket too large: section %d, bucket %d, offset %d, length %d"
+    return Refusal(REFUSED, text % (section, bucket, offset, length))
+
+
+def merge_offset(place):
+    return Refusal(REFUSED, "merge offset: " + place)
+
+
 def references(lines):
     return Refusal(REFUSED, *lines)
 

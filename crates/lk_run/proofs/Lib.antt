@@ -4,6 +4,7 @@ pub mod Digits
 pub mod Lines
 pub mod LiveLines
 pub mod Past
+pub mod PieceLines
 pub mod Refusals
 pub mod RunLaws
 pub mod SoundRuns

@@ -41,5 +41,5 @@ pub ends : {X : Type 0} (f : ℕ → X → List ℕ) (n : ℕ) (xs : List X) (i 
 ends f n xs i text whole h left = cc (past f n xs i h, append-nil text)
 
 -- what was written piece by piece is the pieces in a row
-pub in_a_row : (text s t u v w x : List ℕ) → text ≡ (((([] ++ s) ++ t) ++ u) ++ v) ++ w ++ x → text ≡ s ++ (t ++ (u ++ (v ++ (w ++ x))))
-in_a_row text s t u v w x h = h ∙ simp append_assoc
+pub in_a_row : (text s t u v w x y : List ℕ) → text ≡ ((((([] ++ s) ++ t) ++ u) ++ v) ++ w) ++ x ++ y → text ≡ s ++ (t ++ (u ++ (v ++ (w ++ (x ++ y)))))
+in_a_row text s t u v w x y h = h ∙ simp append_assoc

@@ -1,9 +1,9 @@
 -- Refusals that are answered.
-use Rattle.std.proofs.Common.{◌≡◌, ◌≢◌, refl, Result, Err}
+use Rattle.std.proofs.Common.{◌≢◌, refl, Err}
 use Rattle.lk_link.specs.declared.link.LinkInput.{LinkInput}
 use Rattle.lk_link.specs.Target.{Target}
 use Rattle.lk_layout.specs.declared.error.LayoutError.{LayoutError}
-use Rattle.lk_layout.specs.declared.error.LayoutError.TheVariants.{NoMemory, TooMany, BadLink, NotCarried, References, AddressOverflow, RegionDuplicate, Expression, BaseTooLow, SectionOutsideSegments}
+use Rattle.lk_layout.specs.declared.error.LayoutError.TheVariants.{NoMemory, TooMany, BadLink, NotCarried, References, MergeNotTerminated, MergeTooLarge, MergeOffset, AddressOverflow, RegionDuplicate, Expression, BaseTooLow, SectionOutsideSegments}
 use Rattle.lk_layout.specs.Defined.{Gives, IsDefined}
 
 -- what is answered is defined, but for want of memory
@@ -13,6 +13,9 @@ refusal_is_defined target link (TooMany what count limit) given memory = given
 refusal_is_defined target link (BadLink rule place) given memory = given
 refusal_is_defined target link (NotCarried what) given memory = given
 refusal_is_defined target link (References faults) given memory = given
+refusal_is_defined target link (MergeNotTerminated section input) given memory = given
+refusal_is_defined target link (MergeTooLarge section bucket offset len) given memory = given
+refusal_is_defined target link (MergeOffset place) given memory = given
 refusal_is_defined target link (AddressOverflow place) given memory = given
 refusal_is_defined target link (RegionDuplicate region) given memory = given
 refusal_is_defined target link (Expression place cause) given memory = given

@@ -2,6 +2,7 @@ pub mod Complete
 pub mod Device
 pub mod FaultText
 pub mod Memory
+pub mod MergedLines
 pub mod Program
 pub mod ReadAll
 pub mod Report

@@ -1,7 +1,7 @@
 -- The report: the lines that tell where everything of a link stands.
-use Rattle.std.specs.Prelude.{ℕ, suc, ◌+◌, ◌==◌, ◌&&◌, ◌||◌, not, nat_lt, Bool, false, if◌then◌else◌, List, [], ◌∷◌, ◌++◌, Option, Some}
-use Rattle.std.specs.Prelude.{None, Result, Ok, Err, codes, slice_get, slice_index, slice_range}
-use Rattle.std.specs.List.{flat_map, list_any}
+use Rattle.std.specs.Prelude.{ℕ, suc, ◌+◌, ◌%◌, ◌^◌, ◌==◌, ◌&&◌, ◌||◌, not, nat_lt, Bool, false, if◌then◌else◌, List, [], ◌∷◌, ◌++◌, Option, Some}
+use Rattle.std.specs.Prelude.{None, Result, Ok, Err, codes, length, slice_get, slice_index, slice_range}
+use Rattle.std.specs.List.{concat, flat_map, list_any}
 use Rattle.std.specs.Fmt.{decimal, digits}
 use Rattle.lk_link.specs.declared.link.LinkInput.{LinkInput}
 use Rattle.lk_link.specs.declared.plan.PlanSection.{PlanSection}
@@ -14,6 +14,10 @@ use Rattle.lk_layout.specs.declared.resolution.EntryFault.{EntryFault}
 use Rattle.lk_layout.specs.declared.resolution.EntryFault.TheVariants.{NotAnAddress, NotLoaded}
 use Rattle.lk_layout.specs.declared.resolution.Resolution.{Resolution}
 use Rattle.lk_layout.specs.Layouts.{resolved_entry, told_live}
+use Rattle.lk_merge.specs.Addresses.{image_start}
+use Rattle.lk_merge.specs.Hash.{fnv64}
+use Rattle.lk_merge.specs.Image.{all_pieces, image, image_pieces, image_place}
+use Rattle.lk_merge.specs.Pieces.{Piece, MergeInput}
 use Rattle.lk_sizes.specs.declared.addresses.LiveSection.{LiveSection}
 use Rattle.lk_place.specs.declared.segments.SegmentLayout.{SegmentLayout}
 use Rattle.lk_place.specs.Records.{Record}
@@ -124,6 +128,45 @@ abbrev pub input_text : Layout → ℕ × Input → List ℕ
 input_text layout q =
     if is_marked layout.live_marks q.0 then live_line (told_at q.1 (slice_index layout.section_addresses q.0)) else []
 
+-- ---- merged strings
+
+-- the line of an output section into which these inputs are merged, and whose image starts at an address: the bytes and the number of
+-- its distinct pieces, the number and the bytes of all pieces
+unfoldable pub merged_line : ℕ → ℕ → List MergeInput → List ℕ
+merged_line s start inputs = joined (
+    codes "merged " ∷ decimal s ∷ codes " " ∷ decimal (length (image fnv64 (all_pieces inputs))) ∷
+    codes " " ∷ decimal (length (image_pieces fnv64 (all_pieces inputs))) ∷ codes " " ∷ decimal (length (all_pieces inputs)) ∷
+    codes " " ∷ decimal (length (concat (all_pieces inputs))) ∷ codes " 0x" ∷ hexadecimal start ∷ codes "\n" ∷ [])
+
+-- the same, where something is merged there, be it without bytes; else nothing
+unfoldable pub merged_text : List ℕ → ℕ → List MergeInput → List ℕ
+merged_text starts s inputs = if not (length inputs == 0) then merged_line s (image_start starts s) inputs else []
+
+-- the lines of all output sections into which something is merged, by number
+abbrev pub merged_lines : List (List MergeInput) → List ℕ → List ℕ
+merged_lines merged starts = each (merged_text starts) 0 merged
+
+-- the line of a distinct piece of an output section, with its address and its bytes
+unfoldable pub piece_line : ℕ → ℕ → ℕ → List ℕ
+piece_line s address len = joined (
+    codes "piece " ∷ decimal s ∷ codes " 0x" ∷ hexadecimal address ∷ codes " " ∷ decimal len ∷ codes "\n" ∷ [])
+
+-- an address so many bytes behind another, within 64 bits
+abbrev pub bytes_behind : ℕ → ℕ → ℕ
+bytes_behind address bytes = (address + bytes) % 2 ^ 64
+
+-- the lines of the distinct pieces of an output section whose image starts at an address: in its order, each where the image has it
+abbrev pub piece_lines : ℕ → ℕ → List Piece → List ℕ
+piece_lines s start pieces = flat_map (λ p. piece_line s (bytes_behind start (image_place fnv64 pieces p)) (length p)) (image_pieces fnv64 pieces)
+
+-- those of all output sections, by number
+abbrev pub all_piece_lines : List (List MergeInput) → List ℕ → List ℕ
+all_piece_lines merged starts = each (λ s inputs. piece_lines s (image_start starts s) (all_pieces inputs)) 0 merged
+
+-- the lines on what is merged: of all output sections, and then of all distinct pieces
+abbrev pub merged_report : List (List MergeInput) → List ℕ → List ℕ
+merged_report merged starts = merged_lines merged starts ++ all_piece_lines merged starts
+
 -- ---- symbols and the entry
 
 -- the line of a symbol with this resolution, whose entries stand at these places in got and plt, and which has this number
@@ -164,6 +207,7 @@ report link layout = joined (
     codes "layout\n" ∷
     record_lines link layout ∷
     live_lines (told_live link layout) ∷
+    merged_report layout.merged_strings layout.merged_string_start_addresses ∷
     symbol_lines layout.symbol_resolutions ∷
     entry_line (resolved_entry layout) ∷
     codes "end\n" ∷ [])

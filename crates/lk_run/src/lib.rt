@@ -8,6 +8,7 @@ pub mod laws;
 pub mod limit;
 mod line;
 pub mod memory;
+mod merged;
 pub mod program;
 pub mod report;
 pub mod run;

@@ -12,6 +12,7 @@ ghost use Rattle.lk_run.specs.Report.{segment_line, segment_lines, record_lines,
 ghost use Rattle.lk_run.specs.Report.{symbol_line, symbol_text, symbol_lines, entry_line};
 
 use crate::line::{Line, ROOM};
+use crate::merged::{merged_room, write_merged};
 use lk_layout::resolution::{EntryFault, Resolution};
 use lk_layout::{Layout, SymbolResolutions};
 use lk_link::InputRef;
@@ -78,9 +79,13 @@ impl fmt::Display for IndexText {
 }
 
 /// The report of a link's layout: a line for each output section, each part that has bytes or is the first of a section
-/// without bytes, each active segment, each live section and each symbol with a resolution, and one for the entry. What the
-/// layout has no record of is left out.
-pub fn report_text(alloc: Global, link: &LinkInput, layout: &Layout) -> Result<String, AllocError>
+/// without bytes, each active segment, each live section, each output section into which something is merged, each distinct piece
+/// and each symbol with a resolution, and one for the entry. What the layout has no record of is left out.
+pub fn report_text(
+    alloc: Global,
+    link: &LinkInput,
+    layout: &Layout<'_>,
+) -> Result<String, AllocError>
     requires good { IsWellFormed link.now }
     ensures { IfOk result (λ text. string_bytes text ≡ report link.now layout.now) }
 {
@@ -88,6 +93,11 @@ pub fn report_text(alloc: Global, link: &LinkInput, layout: &Layout) -> Result<S
     text.push_str("layout\n")?;
     write_records(&mut text, link, layout)?;
     write_live_sections(&mut text, link, layout)?;
+    write_merged(
+        &mut text,
+        layout.merged_strings.as_slice(),
+        &layout.merged_string_start_addresses,
+    )?;
     write_symbols(&mut text, &layout.symbol_resolutions)?;
     write_entry(&mut text, layout.resolved_entry_symbol_address())?;
     text.push_str("end\n")?;
@@ -95,7 +105,7 @@ pub fn report_text(alloc: Global, link: &LinkInput, layout: &Layout) -> Result<S
 }
 
 /// How many bytes the report mostly has, so that its text seldom grows.
-fn room_of(layout: &Layout) -> usize {
+fn room_of(layout: &Layout<'_>) -> usize {
     let records = layout
         .section_layouts
         .len()
@@ -105,17 +115,18 @@ fn room_of(layout: &Layout) -> usize {
     records
         .saturating_mul(RECORD_LINE)
         .saturating_add(count_live(layout).saturating_mul(LIVE_LINE))
+        .saturating_add(merged_room(layout.merged_strings.as_slice()))
         .saturating_add(count_resolved(layout).saturating_mul(SYMBOL_LINE))
 }
 
 /// How many input sections are live.
-fn count_live(layout: &Layout) -> usize {
+fn count_live(layout: &Layout<'_>) -> usize {
     let marks = layout.live_marks.as_slice();
     marks.iter().filter(|mark| **mark).count()
 }
 
 /// How many symbols have a resolution.
-fn count_resolved(layout: &Layout) -> usize {
+fn count_resolved(layout: &Layout<'_>) -> usize {
     let resolutions = &layout.symbol_resolutions;
     (0..resolutions.len())
         .filter(|number| resolutions.nth(*number).is_some())
@@ -123,7 +134,7 @@ fn count_resolved(layout: &Layout) -> usize {
 }
 
 /// The lines of sections, parts and segments.
-fn write_records(text: &mut String, link: &LinkInput, layout: &Layout) -> Result<(), AllocError>
+fn write_records(text: &mut String, link: &LinkInput, layout: &Layout<'_>) -> Result<(), AllocError>
     ensures { IfOk result (λ _. string_bytes text.new ≡ string_bytes text.old ++ record_lines link.now layout.now) }
 {
     let sections = &link.plan.sections;
@@ -136,7 +147,7 @@ fn write_records(text: &mut String, link: &LinkInput, layout: &Layout) -> Result
 fn write_sections(
     text: &mut String,
     sections: &[PlanSection],
-    layout: &Layout,
+    layout: &Layout<'_>,
 ) -> Result<(), AllocError>
     ensures { IfOk result (λ _. string_bytes text.new ≡ string_bytes text.old ++ section_lines sections.now layout.now) }
 {
@@ -148,7 +159,7 @@ fn write_sections(
 
 /// The line of an output section that the layout has a record of.
 #[tactic(auto, unfolding(crate::specs::Report::section_text))]
-fn write_section(text: &mut String, number: usize, layout: &Layout) -> Result<(), AllocError>
+fn write_section(text: &mut String, number: usize, layout: &Layout<'_>) -> Result<(), AllocError>
     ensures { IfOk result (λ _. string_bytes text.new ≡ string_bytes text.old ++ laid_out_text layout.now number) }
 {
     let range = layout.section_layouts.get(number);
@@ -299,7 +310,7 @@ fn write_segment(text: &mut String, segment: &SegmentLayout) -> Result<(), Alloc
 fn write_live_sections(
     text: &mut String,
     link: &LinkInput,
-    layout: &Layout,
+    layout: &Layout<'_>,
 ) -> Result<(), AllocError>
     requires good { IsWellFormed link.now }
     ensures { IfOk result (λ _. string_bytes text.new ≡ string_bytes text.old ++ live_lines (told_live link.now layout.now)) }
@@ -315,7 +326,7 @@ fn write_live_sections(
 /// The line of the input section with this number over all files, if it is live.
 fn write_input(
     text: &mut String,
-    layout: &Layout,
+    layout: &Layout<'_>,
     number: usize,
     input: InputRef<'_>,
 ) -> Result<(), AllocError>

@@ -91,7 +91,7 @@ fn read_source<S: Source>(alloc: Global, source: &mut S) -> Result<Reading, Stat
 fn answer_computed(
     alloc: Global,
     link: &LinkInput,
-    computed: Result<Layout, LayoutError>,
+    computed: Result<Layout<'_>, LayoutError>,
 ) -> Result<Answer, AllocError>
     requires { Gives small64 link.now computed }
     ensures { IfOk result (λ answer. IsAnswerToReading (Ok link.now) answer) }
@@ -125,7 +125,7 @@ fn tell<K: Sink>(sink: &mut K, answer: &Answer) -> Status
 fn tell_computed<K: Sink>(
     alloc: Global,
     link: &LinkInput,
-    computed: Result<Layout, LayoutError>,
+    computed: Result<Layout<'_>, LayoutError>,
     sink: &mut K,
 ) -> Status
     requires { Gives small64 link.now computed }

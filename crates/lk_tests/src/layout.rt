@@ -311,7 +311,6 @@ const REFUSED: &str = r#"
 {"kind":"script"},{"kind":"object","symbols":[{"at":["common",0,4]}]} => 1 not carried: common
 # and in an object with a symbol.
 @ {"plan":{"page":16,"sections":[{"parts":[[1,false]]}],"events":[["sec",0]]},"groups":[[{"kind":"prelude"},{"kind":"object","symbols":[{"at":["undef"]}],"sections":[...]}]]}
-{"slot":"merge","data":"00"} => 1 not carried: merge
 {"slot":"debug"} => 1 not carried: slot
 {"slot":"mustdebug"} => 1 not carried: slot
 {"slot":"must","group":7} => 1 not carried: slot
@@ -320,7 +319,7 @@ const REFUSED: &str = r#"
 {"slot":"discard","relocs":[[9,"PltRelative",5,0,false]]} => 1 bad link: rule 12, input 0 1 0
 {"slot":"must","sorted":true} => 1 not carried: sorted
 {"slot":"discard","sorted":true} => 1 not carried: sorted
-{"slot":"must","group":7},{"slot":"merge","data":"00"} => 1 not carried: merge
+{"slot":"must","group":7},{"slot":"merge","strings":true,"data":"61"} => 1 not carried: slot
 # Relocations that want entries of tables, and a candidate that is no section.
 @ {"plan":{"page":16,"sections":[{"parts":[[2,false],[1,false]]}],"events":[["sec",0]],"got":0},"groups":[[{"kind":"prelude"},{"kind":"object","symbols":[{"at":["undef"]}],"sections":[{"slot":"must","part":1,"size":1,"relocs":[...]}]}]]}
 [0,"GotTpOff",0,0,false] => 1 not carried: table

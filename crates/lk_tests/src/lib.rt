@@ -10,6 +10,8 @@ mod layout;
 #[cfg(test)]
 mod look_ups;
 #[cfg(test)]
+mod merged_links;
+#[cfg(test)]
 mod merging;
 #[cfg(test)]
 mod plans;

@@ -8,6 +8,7 @@ use lk_check::check_link;
 use lk_layout::resolution::Resolution;
 use lk_layout::{Layout, SymbolResolutions};
 use lk_link::{Alignment, LinkInput, List, SegmentId, SymbolId, ValueFlags};
+use lk_merge::MergedStringStartAddresses;
 use lk_place::{OutputRecordLayout, SegmentLayout};
 use lk_run::report::report_text;
 use std::alloc::{AllocError, Global};
@@ -51,7 +52,7 @@ fn segment() -> SegmentLayout {
 }
 
 /// A layout of nothing.
-fn empty_layout(alloc: Global) -> Result<Layout, AllocError> {
+fn empty_layout(alloc: Global) -> Result<Layout<'static>, AllocError> {
     Ok(Layout {
         section_layouts: List::new(alloc),
         section_part_layouts: List::new(alloc),
@@ -60,13 +61,15 @@ fn empty_layout(alloc: Global) -> Result<Layout, AllocError> {
         segment_layouts: List::new(alloc),
         live_marks: List::new(alloc),
         section_addresses: List::new(alloc),
+        merged_strings: List::new(alloc),
+        merged_string_start_addresses: MergedStringStartAddresses::compute(alloc, &[], &[])?,
         symbol_resolutions: SymbolResolutions::with_capacity(alloc, 0)?,
         entry_symbol_id: None,
     })
 }
 
 /// Gives a layout the records of three sections and five parts, and attributes and indexes of sections.
-fn fill_sections(alloc: Global, layout: &mut Layout) -> Result<(), AllocError> {
+fn fill_sections(alloc: Global, layout: &mut Layout<'_>) -> Result<(), AllocError> {
     let (none, some) = (record_of(false), record_of(true));
     layout.section_layouts = list_of(alloc, &[none, some, none])?;
     layout.section_part_layouts = list_of(alloc, &[none, none, none, some, none])?;
@@ -76,7 +79,7 @@ fn fill_sections(alloc: Global, layout: &mut Layout) -> Result<(), AllocError> {
 }
 
 /// Gives a layout a segment and a live section, the third of four.
-fn fill_others(alloc: Global, layout: &mut Layout) -> Result<(), AllocError> {
+fn fill_others(alloc: Global, layout: &mut Layout<'_>) -> Result<(), AllocError> {
     layout.segment_layouts = list_of(alloc, &[segment()])?;
     layout.live_marks = list_of(alloc, &[false, false, true])?;
     layout.section_addresses = list_of(alloc, &[0, 0, 4112])?;
@@ -88,7 +91,7 @@ fn add_layout(
     alloc: Global,
     line: &mut String,
     link: &LinkInput,
-    layout: &mut Layout,
+    layout: &mut Layout<'_>,
 ) -> Result<(), AllocError>
     requires { IsWellFormed link.now }
 {
@@ -122,7 +125,7 @@ fn add_resolution(
 }
 
 /// A layout of four symbols.
-fn layout_of_symbols(alloc: Global) -> Result<Layout, AllocError> {
+fn layout_of_symbols(alloc: Global) -> Result<Layout<'static>, AllocError> {
     let mut layout = empty_layout(alloc)?;
     let mut resolutions = SymbolResolutions::with_capacity(alloc, 4)?;
     add_resolution(&mut resolutions, 0, 0)?;
@@ -134,7 +137,11 @@ fn layout_of_symbols(alloc: Global) -> Result<Layout, AllocError> {
 }
 
 /// The report of a layout; nothing where the link isn't well formed.
-pub fn report_of(alloc: Global, link: &LinkInput, layout: &Layout) -> Result<String, AllocError> {
+pub fn report_of(
+    alloc: Global,
+    link: &LinkInput,
+    layout: &Layout<'_>,
+) -> Result<String, AllocError> {
     if check_link(link).is_err() {
         return Ok(String::new(alloc));
     }
