@@ -1,6 +1,7 @@
 mod Answering
 pub mod CarriedLooks
 mod CarriedPlans
+mod Fitting
 mod ImagesShow
 mod Imaging
 mod LaidOut

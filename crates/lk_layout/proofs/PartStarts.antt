@@ -51,14 +51,14 @@ reaches sizes least n (p ∷ parts) (suc j) d below full =
 
 -- ---- the section of a part
 
-record HasSection (sections : List PlanSection) (p : ℕ) : Type 0 where
-  section : ℕ
-  place : ℕ
-  there : section < length sections
-  within : place < part_count sections section
-  is : p ≡ part_number sections section place
+pub record HasSection (sections : List PlanSection) (p : ℕ) : Type 0 where
+  pub section : ℕ
+  pub place : ℕ
+  pub there : section < length sections
+  pub within : place < part_count sections section
+  pub is : p ≡ part_number sections section place
 
-section_in : (sections : List PlanSection) (p : ℕ) → p < length (all_parts sections) → HasSection sections p
+pub section_in : (sections : List PlanSection) (p : ℕ) → p < length (all_parts sections) → HasSection sections p
 section_in [] p h = absurd (omega arith)
 section_in (x ∷ xs) p h =
     elim (cases_lt p (length x.parts)) [

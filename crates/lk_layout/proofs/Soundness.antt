@@ -17,7 +17,7 @@ use Rattle.lk_link.specs.Parts.{all_parts, part_at}
 use Rattle.lk_link.specs.Target.{IsLawful, Target}
 use Rattle.lk_link.specs.WellFormed.{IsWellFormed}
 use Rattle.lk_place.specs.Laws.{FileRangesAreDisjoint, IsSoundlySet, KeepAlignments, MemoryRangesAreDisjoint, PlainMemoryIsCongruent, PlainMemoryIsDisjoint, RecordsKeepAlignments}
-use Rattle.lk_place.specs.PlacementLaws.{PartsTakeTheirBytes}
+use Rattle.lk_place.specs.PlacementLaws.{PartsTakeTheirBytes, RefusedExactlyPast}
 use Rattle.lk_place.specs.Plain.{IsPlain}
 use Rattle.lk_place.specs.Ranges.{FileIsDisjoint, MemoryIsDisjoint}
 use Rattle.lk_place.specs.Records.{Record, nowhere, record_at}
@@ -34,6 +34,7 @@ use Rattle.lk_layout.specs.Layouts.{told_live}
 use Rattle.lk_layout.specs.Laws.{DefinedLayoutsAreSound, LaidOutMemoryIsDisjoint, LaidOutSectionsAreApart}
 use Rattle.lk_layout.specs.Resolutions.{symbol_resolutions}
 use Rattle.lk_layout.specs.Sound.{OwnersAreApart, IsInSection, IsSharedOut, IsSound, IsTold, LiveSectionsAreAligned, LiveSectionsAreApart, MemoryIsCongruent, part_record}
+use Rattle.lk_layout.proofs.Fitting.{buckets_start}
 use Rattle.lk_layout.proofs.LaidOut.{IsLaidOut, laid_out}
 use Rattle.lk_layout.proofs.ImagesShow.{images_stand}
 use Rattle.lk_layout.proofs.NamedSymbols.{named_symbols_show}
@@ -214,15 +215,16 @@ congruent in_step keep target link layout laid lawful plain i s k p places backe
     subst (λ (l : Layout). IsCongruentAt link l i p) (sym laid.same) there
 
 -- what is laid out is sound
-is_sound : OwnersTileTheirPart → OwnersAreAligned → LiveSectionsAreOwners → PartsTakeTheirBytes → FileRangesAreDisjoint → PlainMemoryIsDisjoint → PlainMemoryIsCongruent → RecordsKeepAlignments
+is_sound : OwnersTileTheirPart → OwnersAreAligned → LiveSectionsAreOwners → PartsTakeTheirBytes → RefusedExactlyPast → FileRangesAreDisjoint → PlainMemoryIsDisjoint → PlainMemoryIsCongruent → RecordsKeepAlignments
     → (target : Target) (link : LinkInput) (layout : Layout) (laid : IsLaidOut target link layout) → IsLawful target → IsSound link laid.live layout
-is_sound tile aligned owners mass file memory in_step keep target link layout laid lawful =
+is_sound tile aligned owners mass refused file memory in_step keep target link layout laid lawful =
     let records : List Record = layout.section_part_layouts in
     record {
       met = laid.met;
       reached = laid.are_live;
       shown = shown target link layout laid;
       merged = ap (λ (l : Layout). l.merged_strings) laid.same;
+      starts = buckets_start refused mass target link layout laid;
       images = images_stand target link layout laid;
       named = named_symbols_show target link layout laid;
       inside = laid.inside;
@@ -246,11 +248,11 @@ is_sound tile aligned owners mass file memory in_step keep target link layout la
           };
     }
 
-pub sound : WellFormedExactlyUnfaulted → OwnersTileTheirPart → OwnersAreAligned → LiveSectionsAreOwners → PartsTakeTheirBytes → FileRangesAreDisjoint → PlainMemoryIsDisjoint → PlainMemoryIsCongruent → RecordsKeepAlignments
+pub sound : WellFormedExactlyUnfaulted → OwnersTileTheirPart → OwnersAreAligned → LiveSectionsAreOwners → PartsTakeTheirBytes → RefusedExactlyPast → FileRangesAreDisjoint → PlainMemoryIsDisjoint → PlainMemoryIsCongruent → RecordsKeepAlignments
     → DefinedLayoutsAreSound
-sound exactly tile aligned owners mass file memory in_step keep target link layout lawful defined =
+sound exactly tile aligned owners mass refused file memory in_step keep target link layout lawful defined =
     let laid = laid_out exactly target link layout defined in
-    (laid.live, is_sound tile aligned owners mass file memory in_step keep target link layout laid lawful)
+    (laid.live, is_sound tile aligned owners mass refused file memory in_step keep target link layout laid lawful)
 
 -- under a placeable plan, the memory of a layout is disjoint
 pub memory_disjoint : WellFormedExactlyUnfaulted → MemoryRangesAreDisjoint → LaidOutMemoryIsDisjoint

@@ -19,7 +19,7 @@ use Rattle.lk_gc.specs.declared.live.Live.{Live}
 use Rattle.lk_gc.specs.Faults.{reference_faults}
 use Rattle.lk_gc.specs.Reach.{AreLive, live_inputs}
 use Rattle.lk_gc.specs.Units.{section_of}
-use Rattle.lk_merge.specs.Addresses.{image_start}
+use Rattle.lk_merge.specs.Addresses.{AreStartsOf, image_start}
 use Rattle.lk_merge.specs.Hash.{fnv64}
 use Rattle.lk_merge.specs.Image.{all_pieces, image, image_place, is_among}
 use Rattle.lk_merge.specs.LinkInputs.{link_inputs, merge_input, merge_inputs, part_sections}
@@ -165,8 +165,8 @@ pub record IsSoundInMemory (link : LinkInput) (live : Live) (layout : Layout) : 
   pub congruent : MemoryIsCongruent link layout
 
 -- a sound layout: all references are met; the live sections are those that are reached, each where its part's owners let it
--- stand, aligned; what is merged is all that the link has to merge, each image stands in a part, with its pieces apart, and shows its
--- inputs, and nothing refers outside their data; each symbol that is asked for stands for a place in a live section, at its address, or
+-- stand, aligned; what is merged is all that the link has to merge, with the starts of its buckets, each image stands in a part, with its
+-- pieces apart, and shows its inputs, and nothing refers outside their data; each symbol that is asked for stands for a place in a live section, at its address, or
 -- in merged data, or for a number; each byte of a part has one owner; no two parts share a byte of the file; and under a plain plan the
 -- same holds of memory
 pub record IsSound (link : LinkInput) (live : Live) (layout : Layout) : Type 0 where
@@ -174,6 +174,7 @@ pub record IsSound (link : LinkInput) (live : Live) (layout : Layout) : Type 0 w
   pub reached : AreLive link live
   pub shown : told_live link layout ≡ live_sections link (output_content link live) (starts_of layout.section_part_layouts)
   pub merged : layout.merged_strings ≡ (link_inputs link).outputs
+  pub starts : AreStartsOf layout.merged_strings layout.merged_string_start_addresses
   pub images : ImagesStand link live layout
   pub named : NamedSymbolsShow link live layout
   pub inside : merge_offsets link live ≡ []

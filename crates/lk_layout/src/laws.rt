@@ -9,6 +9,7 @@ use lk_gc::{live_exists, live_is_one};
 use lk_place::laws::{
     file_ranges_are_disjoint, memory_ranges_are_disjoint, parts_take_their_bytes, placement_exists,
     placement_is_one, plain_memory_is_congruent, plain_memory_is_disjoint, records_keep_alignments,
+    refused_exactly_past,
 };
 use lk_sizes::laws::{live_sections_are_owners, owners_are_aligned, owners_tile_their_part};
 
@@ -46,6 +47,7 @@ pub fn defined_layouts_are_sound()
     owners_are_aligned();
     live_sections_are_owners();
     parts_take_their_bytes();
+    refused_exactly_past();
     file_ranges_are_disjoint();
     plain_memory_is_disjoint();
     plain_memory_is_congruent();
