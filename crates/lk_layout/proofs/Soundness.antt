@@ -261,10 +261,11 @@ memory_disjoint exactly memory target link layout placeable lawful defined =
     subst (MemoryIsDisjoint link.plan) (sym (parts_are target link layout laid))
     (memory (setting target link laid.live) laid.states laid.records (soundly_set target link layout laid lawful) placeable)
 
--- and so are its live sections
+-- and so are its live sections, and all owners
 pub laid_out_apart : WellFormedExactlyUnfaulted → LiveSectionsAreOwners → DefinedLayoutsAreSound → LaidOutMemoryIsDisjoint → LaidOutSectionsAreApart
 laid_out_apart exactly owners sound disjoint target link layout placeable lawful defined =
     let good : IsWellFormed link = (laid_out exactly target link layout defined).good in
     let found = sound target link layout lawful defined in
     let is : IsSound link found.0 layout = found.1 in
-    (found.0, is, sections_apart owners link found.0 layout good is.reached is.shown is.shared (disjoint target link layout placeable lawful defined))
+    let memory : MemoryIsDisjoint link.plan layout.section_part_layouts = disjoint target link layout placeable lawful defined in
+    (found.0, is, sections_apart owners link found.0 layout good is.reached is.shown is.shared memory, owners_apart link found.0 layout is.shared memory)

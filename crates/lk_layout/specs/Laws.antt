@@ -15,7 +15,7 @@ use Rattle.lk_layout.specs.declared.error.LayoutError.{LayoutError}
 use Rattle.lk_layout.specs.declared.layout.Layout.{Layout}
 use Rattle.lk_layout.specs.Carried.{IsCarried}
 use Rattle.lk_layout.specs.Defined.{IsDefined}
-use Rattle.lk_layout.specs.Sound.{IsSound, LiveSectionsAreApart, SymbolsStandInLiveSections}
+use Rattle.lk_layout.specs.Sound.{IsSound, LiveSectionsAreApart, OwnersAreApart, SymbolsStandInLiveSections}
 
 -- every link has a defined answer
 abbrev pub DefinedAnswerExists : Type 0
@@ -40,11 +40,12 @@ abbrev pub LaidOutMemoryIsDisjoint : Type 0
 LaidOutMemoryIsDisjoint = (target : Target) (link : LinkInput) (layout : Layout) → IsPlaceable link.plan link.options.output
     → IsLawful target → IsDefined target link (Ok layout) → MemoryIsDisjoint link.plan layout.section_part_layouts
 
--- and so are its live sections
+-- and so are its live sections, and the owners of its parts: nor does an image share an address with a live section, or with another
+-- image
 abbrev pub LaidOutSectionsAreApart : Type 0
 LaidOutSectionsAreApart = (target : Target) (link : LinkInput) (layout : Layout) → IsPlaceable link.plan link.options.output
     → IsLawful target → IsDefined target link (Ok layout)
-    → (live : Live) × IsSound link live layout × LiveSectionsAreApart link live layout
+    → (live : Live) × IsSound link live layout × LiveSectionsAreApart link live layout × OwnersAreApart link live layout
 
 -- a link of which all is laid out has a placeable plan
 abbrev pub CarriedPlansArePlaceable : Type 0

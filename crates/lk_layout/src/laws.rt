@@ -62,7 +62,7 @@ pub fn laid_out_memory_is_disjoint()
     memory_ranges_are_disjoint();
 }
 
-/// A law: nor do two live sections.
+/// A law: nor do two live sections, nor two owners of any kind: an image and a live section, or two images.
 pub fn laid_out_sections_are_apart()
     ensures { LaidOutSectionsAreApart }
 {
