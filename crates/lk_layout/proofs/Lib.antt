@@ -9,6 +9,7 @@ mod NamedSymbols
 mod NothingMerged
 mod OneAnswer
 mod PartStarts
+mod ReferencesShow
 mod Resolved
 mod Placing
 mod Settings

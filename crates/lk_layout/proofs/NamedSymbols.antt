@@ -81,11 +81,11 @@ names link id file i offset k x section s =
 
 -- ---- it stands inside the data
 
-past_tells : (m n : ℕ) → n ≤ m → ltb m n ≡ false
+pub past_tells : (m n : ℕ) → n ≤ m → ltb m n ≡ false
 past_tells m n h = grind (arith, nat_tests)
 
 -- a list that is empty has no element
-has_none : (places : List MergeOffsetPlace) (n : ℕ) (place : MergeOffsetPlace) → places ≡ [] → slice_get places n ≡ Some place → ⊥
+pub has_none : (places : List MergeOffsetPlace) (n : ℕ) (place : MergeOffsetPlace) → places ≡ [] → slice_get places n ≡ Some place → ⊥
 has_none [] n place is h = absurd (cc)
 has_none (x ∷ places) n place is h = absurd (cc)
 

@@ -39,6 +39,7 @@ use Rattle.lk_layout.proofs.LaidOut.{IsLaidOut, laid_out}
 use Rattle.lk_layout.proofs.ImagesShow.{images_stand}
 use Rattle.lk_layout.proofs.NamedSymbols.{named_symbols_show}
 use Rattle.lk_layout.proofs.PartStarts.{part_starts}
+use Rattle.lk_layout.proofs.ReferencesShow.{references_show}
 use Rattle.lk_layout.proofs.Placing.{size-le}
 use Rattle.lk_layout.proofs.Resolved.{resolved_sections_are_live}
 use Rattle.lk_layout.proofs.Settings.{ready, size_of, takes}
@@ -227,6 +228,7 @@ is_sound tile aligned owners mass refused file memory in_step keep target link l
       starts = buckets_start refused mass target link layout laid;
       images = images_stand target link layout laid;
       named = named_symbols_show target link layout laid;
+      references = references_show target link layout laid;
       inside = laid.inside;
       resolved = resolved target link layout laid;
       placed = resolved_sections_are_live link laid.live laid.good laid.are_live laid.met;

@@ -1,29 +1,31 @@
 -- What a layout keeps apart, and what it keeps in step.
-use Rattle.std.specs.Prelude.{◌≡◌, ◌≢◌, ◌⊎◌, [], List, ℕ, ◌+◌, ◌%◌, ◌<◌, ◌≤◌, ◌==◌, true, false, Some, length, option_map, slice_get, slice_index}
+use Rattle.std.specs.Prelude.{◌≡◌, ◌≢◌, ◌⊎◌, [], List, ℕ, ◌+◌, ◌%◌, ◌<◌, ◌≤◌, ◌==◌, true, false, if◌then◌else◌, Some, Ok, length, option_map, slice_get, slice_index}
 use Rattle.std.specs.Int.{◌∣◌}
 use Rattle.lk_link.specs.declared.file.InputFile.{InputFile}
 use Rattle.lk_link.specs.declared.ids.FileId.{FileId}
 use Rattle.lk_link.specs.declared.link.LinkInput.{LinkInput}
+use Rattle.lk_link.specs.declared.relocation.Relocation.{Relocation}
 use Rattle.lk_link.specs.declared.section.InputSection.{InputSection}
 use Rattle.lk_link.specs.declared.symbol.InputSymbol.{InputSymbol}
 use Rattle.lk_link.specs.declared.symbol.SymbolPlacement.TheVariants as at
 use Rattle.lk_link.specs.FileKinds.{is_object}
 use Rattle.lk_link.specs.Files.{file_in}
 use Rattle.lk_link.specs.Inputs.{Input, input_number}
-use Rattle.lk_link.specs.InputSlots.{is_merge}
+use Rattle.lk_link.specs.InputSlots.{is_merge, is_regular}
 use Rattle.lk_link.specs.Marks.{is_marked}
 use Rattle.lk_link.specs.Parts.{all_parts, part_at}
 use Rattle.lk_link.specs.PlanSections.{is_file_backed}
+use Rattle.lk_link.specs.Relocations.{resolution_flags}
 use Rattle.lk_link.specs.Symbols.{first_symbol}
 use Rattle.lk_gc.specs.declared.live.Live.{Live}
 use Rattle.lk_gc.specs.Faults.{reference_faults}
 use Rattle.lk_gc.specs.Reach.{AreLive, live_inputs}
-use Rattle.lk_gc.specs.Units.{section_of}
+use Rattle.lk_gc.specs.Units.{local_definition, section_of}
 use Rattle.lk_merge.specs.Addresses.{AreStartsOf, image_start}
 use Rattle.lk_merge.specs.Hash.{fnv64}
 use Rattle.lk_merge.specs.Image.{all_pieces, image, image_place, is_among}
 use Rattle.lk_merge.specs.LinkInputs.{link_inputs, merge_input, merge_inputs, part_sections}
-use Rattle.lk_merge.specs.OutputAddresses.{Shows, offset_place, output_of}
+use Rattle.lk_merge.specs.OutputAddresses.{MergePlace, Shows, merged_address, offset_place, output_of, plus_addend, symbol_place}
 use Rattle.lk_merge.specs.Pieces.{Piece, MergeInput}
 use Rattle.lk_place.specs.Plain.{IsPlain, PlacesInLoad}
 use Rattle.lk_place.specs.Ranges.{FileIsDisjoint, HasPart, MemoryIsDisjoint, TakesMemory}
@@ -36,7 +38,7 @@ use Rattle.lk_sizes.specs.Tiles.{HasByte, IsTiled}
 use Rattle.lk_layout.specs.declared.layout.Layout.{Layout}
 use Rattle.lk_layout.specs.Defined.{starts_of}
 use Rattle.lk_layout.specs.Layouts.{told_live}
-use Rattle.lk_layout.specs.Outside.{merge_offsets}
+use Rattle.lk_layout.specs.Outside.{chosen_offset, merge_offsets}
 use Rattle.lk_layout.specs.Resolutions.{entry_symbol, flags_at, is_resolved, resolution_at, symbol_resolutions}
 use Rattle.lk_layout.specs.OutputContent.{output_content}
 
@@ -146,6 +148,25 @@ NamedSymbolsShow link live layout = (id : FileId) (file : InputFile) (i offset :
     × (option_map (λ r. r.raw_value) (resolution_at layout.symbol_resolutions (first_symbol link.groups id + s.index)) ≡ Some address)
     × ShowsAt link layout (output_of link section) (merge_input (input_number link.groups id i) section) offset address
 
+-- a relocation of a live regular section that asks for flags, by its file, its section's index and its own
+pub record IsReference (link : LinkInput) (live : Live) (id : FileId) (file : InputFile) (i k : ℕ) (r : Relocation) : Type 0 where
+  pub there : file_in link.groups id ≡ Some file
+  pub section : InputSection
+  pub at : slice_get file.sections i ≡ Some section
+  pub lives : is_marked live.marks (input_number link.groups id i) ≡ true
+  pub regular : is_regular section.slot ≡ true
+  pub relocation : slice_get section.relocs k ≡ Some r
+  pub asks : (resolution_flags r.kind == 0) ≡ false
+
+-- where such a one's definition is placed in merged data, the image shows at an address what stands at the chosen offset; that is the
+-- address of the reference, if the definition is unnamed, and behind it by the addend, if it is named
+abbrev pub ReferencesShow : LinkInput → Live → Layout → Type 0
+ReferencesShow link live layout = (id : FileId) (file : InputFile) (i k : ℕ) (r : Relocation) (place : MergePlace) → IsReference link live id file i k r
+    → symbol_place link.groups (local_definition (first_symbol link.groups id) file.symbols r.symbol) ≡ Some place → (address : ℕ)
+    × (merged_address link (image_start layout.merged_string_start_addresses) (local_definition (first_symbol link.groups id) file.symbols r.symbol) r.addend false
+    ≡ Ok (Some (if place.named then plus_addend address r.addend else address)))
+    × ShowsAt link layout (output_of link place.section) (merge_input place.number place.section) (chosen_offset place r.addend) address
+
 -- no two owners share an address, if they go to parts of sections that take addresses: neither live sections nor images
 abbrev pub OwnersAreApart : LinkInput → Live → Layout → Type 0
 OwnersAreApart link live layout = (p q j k address : ℕ) → p < length (all_parts link.plan.sections) → q < length (all_parts link.plan.sections)
@@ -166,7 +187,7 @@ pub record IsSoundInMemory (link : LinkInput) (live : Live) (layout : Layout) : 
 
 -- a sound layout: all references are met; the live sections are those that are reached, each where its part's owners let it
 -- stand, aligned; what is merged is all that the link has to merge, with the starts of its buckets, each image stands in a part, with its
--- pieces apart, and shows its inputs, and nothing refers outside their data; each symbol that is asked for stands for a place in a live section, at its address, or
+-- pieces apart, and shows its inputs, nothing refers outside their data, and references into it have addresses that show what they choose; each symbol that is asked for stands for a place in a live section, at its address, or
 -- in merged data, or for a number; each byte of a part has one owner; no two parts share a byte of the file; and under a plain plan the
 -- same holds of memory
 pub record IsSound (link : LinkInput) (live : Live) (layout : Layout) : Type 0 where
@@ -177,6 +198,7 @@ pub record IsSound (link : LinkInput) (live : Live) (layout : Layout) : Type 0 w
   pub starts : AreStartsOf layout.merged_strings layout.merged_string_start_addresses
   pub images : ImagesStand link live layout
   pub named : NamedSymbolsShow link live layout
+  pub references : ReferencesShow link live layout
   pub inside : merge_offsets link live ≡ []
   pub resolved : layout.symbol_resolutions ≡ symbol_resolutions link live (starts_of layout.section_part_layouts)
   pub placed : SymbolsStandInLiveSections link live
