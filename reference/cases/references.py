@@ -150,12 +150,37 @@ def choose_slots(rng, description):
             entry["slot"] = "unloaded"
         elif rng.random() < 0.04:
             discard(rng, entry)
+        elif rng.random() < 0.3:
+            entry["slot"] = rng.choice(("debug", "debug", "mustdebug"))
+
+
+def choose_groups(rng, description):
+    """Groups of sections of one file."""
+    share = rng.choice((0, 0, 0.3, 0.7))
+    for entry in all_inputs(description):
+        optional(rng, entry, "group", share, (0, 1, 2**32 - 1))
+
+
+def add_other_files(rng, description):
+    """Files that aren't objects: dynamic ones and such as aren't loaded, with symbols; made ones and scripts without."""
+    for _ in range(rng.choice((0, 0, 1, 2))):
+        file = {"kind": rng.choice(("dynamic", "dynamic", "notloaded", "synthetic", "script"))}
+        optional(rng, file, "check", 0.5, TRUTHS)
+        if file["kind"] in listed.OUTSIDE_FILES:
+            count = rng.choice((0, 1, 2, 4))
+            placements = [[rng.choice(("dyn", "undef"))] for _ in range(count)]
+            file["symbols"] = [mark_symbol(rng, {"at": placement}) for placement in placements]
+        group = rng.choice(description["groups"])
+        group.insert(rng.randrange(1, len(group) + 1) if group else 0, file)
 
 
 def choose_options(rng, description):
     options = {}
     optional(rng, options, "gc", 0.2, (False, False, True))
     optional(rng, options, "error_objects", 0.35, (False, False, True))
+    optional(rng, options, "error_dynamics", 0.35, (False, False, True))
+    optional(rng, options, "restrictive", 0.2, TRUTHS)
+    optional(rng, options, "export_list", 0.2, ([], [""], ["a.o"]))
     if options:
         description.setdefault("options", {}).update(options)
 
@@ -163,10 +188,12 @@ def choose_options(rng, description):
 def add_references(rng, description):
     """Symbols, sections that aren't kept in any case, and what refers to what."""
     choose_slots(rng, description)
+    choose_groups(rng, description)
     choose_options(rng, description)
     for file in objects(description):
         count = rng.choice((0, 1, 2, 3, 6))
         symbols = [mark_symbol(rng, {"at": object_placement(rng, file)}) for _ in range(count)]
         if symbols:
             file["symbols"] = symbols
+    add_other_files(rng, description)
     connect(rng, description)

@@ -371,14 +371,10 @@ def uncarried(link):
     """What isn't laid out yet, in the order in which it is looked for, with whether the link has it."""
     plan, output = link.plan, link.options.output
     inputs = [entry for _, _, entry in inputs_of(link)]
-    slots = {entry.slot for entry in inputs}
     kinds = {kind for entry in inputs for _, kind, _, _, _ in entry.relocs}
-    grouped = any(entry.group is not None for entry in inputs)
     symbols = symbols_of(link)
     owners = {file.kind for file, _ in symbols}
-    yield "slot", "debug" in slots or "mustdebug" in slots or grouped
     yield "common", any(symbol.at[0] == "common" for _, symbol in symbols)
-    yield "file", any(file.kind not in ("prelude", "object") for _, _, file in files_of(link))
     yield "output", output in ("dynamic", "shared")
     has_table = table_parts(link) or plan.named["comment"] is not None
     yield "table", has_table or kinds.intersection(listed.TABLE_RELOCATIONS)

@@ -3,7 +3,7 @@
 from .links import parts_of, section_order, segments_inside
 from .listed import ALLOCATED, FLAGS, FLAGS_OF, HAS_RESOLUTION, ZERO_FILL
 from .merging import merged_sections
-from .reach import reach_of
+from .reach import FOLLOWED, reach_of
 from .refusal import address_overflow, in_no_segment, merge_offset
 
 LARGEST_ADDRESS = 2**64 - 1
@@ -133,7 +133,7 @@ class Walk:
 
 def emitted_sections(link, live, merged, parts):
     """The output index of each section that something live or merged bytes stand in or that is always emitted."""
-    used = {parts[entry.part][0] for _, _, entry in live}
+    used = {parts[entry.part][0] for _, _, entry in live if entry.size or entry.slot in FOLLOWED}
     used.update(section for section, image in enumerate(merged) if image.length)
     emits = [section.emit for section in link.plan.sections]
     emitted = [
@@ -223,9 +223,10 @@ def merged_target(reach, number):
 
 
 def resolved_symbols(reach):
-    """The numbers of the symbols that stand for themselves and are needed, with what they are."""
+    """The numbers of the symbols of loaded files that stand for themselves and are needed, with what they are."""
     for number, (file, symbol) in enumerate(reach.symbols):
-        if reach.definitions[number] == number and reach.flags[number] & HAS_RESOLUTION:
+        is_needed = reach.definitions[number] == number and reach.flags[number] & HAS_RESOLUTION
+        if is_needed and file.kind != "notloaded":
             yield number, file, symbol
 
 
@@ -246,7 +247,8 @@ def check_merge_offsets(reach):
         if symbol.name and is_past_end(reach, number, 0):
             raise merge_offset("symbol %d" % number)
     for place, _, entry in reach.live:
-        for index, (_, kind, symbol, addend, _) in enumerate(entry.relocs):
+        relocations = entry.relocs if entry.slot in FOLLOWED else []
+        for index, (_, kind, symbol, addend, _) in enumerate(relocations):
             if FLAGS_OF[kind] and is_past_end(reach, reach.definition(place, symbol), addend):
                 raise merge_offset("%d %d %d relocation %d" % (*place, index))
 

@@ -303,23 +303,16 @@ const REFUSED: &str = r#"
 "at":["num",1] => 1 not carried: plan
 # behind the prelude,
 @ {"plan":{"page":16,"sections":[{"parts":[[1,false]]}],"events":[["sec",0]]},"groups":[[{"kind":"prelude"},...]]}
-{"kind":"dynamic"} => 1 not carried: file
-{"kind":"notloaded"} => 1 not carried: file
-{"kind":"synthetic"} => 1 not carried: file
-{"kind":"script"} => 1 not carried: file
 {"kind":"object","symbols":[{"at":["common",0,4]}]} => 1 not carried: common
 {"kind":"script"},{"kind":"object","symbols":[{"at":["common",0,4]}]} => 1 not carried: common
 # and in an object with a symbol.
 @ {"plan":{"page":16,"sections":[{"parts":[[1,false]]}],"events":[["sec",0]]},"groups":[[{"kind":"prelude"},{"kind":"object","symbols":[{"at":["undef"]}],"sections":[...]}]]}
-{"slot":"debug"} => 1 not carried: slot
-{"slot":"mustdebug"} => 1 not carried: slot
-{"slot":"must","group":7} => 1 not carried: slot
-{"slot":"discard","group":0} => 1 not carried: slot
 {"slot":"must","size":1,"relocs":[[0,"GotTpOff",0,0,false]]} => 1 bad link: rule 12, input 0 1 0
 {"slot":"discard","relocs":[[9,"PltRelative",5,0,false]]} => 1 bad link: rule 12, input 0 1 0
 {"slot":"must","sorted":true} => 1 not carried: sorted
 {"slot":"discard","sorted":true} => 1 not carried: sorted
-{"slot":"must","group":7},{"slot":"merge","strings":true,"data":"61"} => 1 not carried: slot
+{"slot":"must","sorted":true},{"slot":"merge","strings":true,"data":"61"} => 1 not carried: sorted
+{"slot":"must","group":7},{"slot":"merge","strings":true,"data":"61"} => 1 String in merge-string section is not null-terminated: section 0, input 0
 # Relocations that want entries of tables, and a candidate that is no section.
 @ {"plan":{"page":16,"sections":[{"parts":[[2,false],[1,false]]}],"events":[["sec",0]],"got":0},"groups":[[{"kind":"prelude"},{"kind":"object","symbols":[{"at":["undef"]}],"sections":[{"slot":"must","part":1,"size":1,"relocs":[...]}]}]]}
 [0,"GotTpOff",0,0,false] => 1 not carried: table

@@ -6,6 +6,8 @@ mod checking;
 #[cfg(test)]
 mod devices;
 #[cfg(test)]
+mod groups;
+#[cfg(test)]
 mod layout;
 #[cfg(test)]
 mod look_ups;
