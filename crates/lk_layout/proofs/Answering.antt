@@ -7,7 +7,7 @@ use Rattle.lk_link.specs.declared.fault.LinkFault.{LinkFault}
 use Rattle.lk_link.specs.declared.link.LinkInput.{LinkInput}
 use Rattle.lk_link.specs.Target.{Target}
 use Rattle.lk_layout.specs.declared.error.LayoutError.{LayoutError}
-use Rattle.lk_layout.specs.declared.error.LayoutError.TheVariants.{NoMemory, TooMany, BadLink, NotCarried, MergeNotTerminated, MergeOffset, MergeTooLarge, References, AddressOverflow, RegionDuplicate, Expression, BaseTooLow, SectionOutsideSegments}
+use Rattle.lk_layout.specs.declared.error.LayoutError.TheVariants.{NoMemory, TooMany, BadLink, NotCarried, MergeNotTerminated, MergeOffset, MergeTooLarge, References, AddressOverflow, RegionDuplicate, Expression, BaseTooLow, RegionUnknown, RegionOverflow, OutsideRegion, LocationBackwards, SectionOutsideSegments}
 use Rattle.lk_layout.specs.declared.error.Uncarried.{Uncarried}
 use Rattle.lk_layout.specs.declared.layout.Layout.{Layout}
 use Rattle.lk_layout.specs.declared.resolution.Resolution.{Resolution}
@@ -53,6 +53,10 @@ with_error P (References faults) h = h (λ is. cc)
 with_error P (AddressOverflow place) h = h (λ is. cc)
 with_error P (RegionDuplicate region) h = h (λ is. cc)
 with_error P (Expression place cause) h = h (λ is. cc)
+with_error P (RegionUnknown s) h = h (λ is. cc)
+with_error P (RegionOverflow region by) h = h (λ is. cc)
+with_error P (OutsideRegion event address) h = h (λ is. cc)
+with_error P (LocationBackwards from to) h = h (λ is. cc)
 with_error P (BaseTooLow base headers) h = h (λ is. cc)
 with_error P (SectionOutsideSegments s) h = h (λ is. cc)
 with_error P (MergeOffset place) h = h (λ is. cc)
@@ -68,6 +72,10 @@ error_with P (References faults) h memory = h
 error_with P (AddressOverflow place) h memory = h
 error_with P (RegionDuplicate region) h memory = h
 error_with P (Expression place cause) h memory = h
+error_with P (RegionUnknown s) h memory = h
+error_with P (RegionOverflow region by) h memory = h
+error_with P (OutsideRegion event address) h memory = h
+error_with P (LocationBackwards from to) h memory = h
 error_with P (BaseTooLow base headers) h memory = h
 error_with P (SectionOutsideSegments s) h memory = h
 error_with P (MergeOffset place) h memory = h
@@ -123,6 +131,10 @@ given_refusal link (References faults) h memory = h
 given_refusal link (AddressOverflow place) h memory = h
 given_refusal link (RegionDuplicate region) h memory = h
 given_refusal link (Expression place cause) h memory = h
+given_refusal link (RegionUnknown s) h memory = h
+given_refusal link (RegionOverflow region by) h memory = h
+given_refusal link (OutsideRegion event address) h memory = h
+given_refusal link (LocationBackwards from to) h memory = h
 given_refusal link (BaseTooLow base headers) h memory = h
 given_refusal link (SectionOutsideSegments s) h memory = h
 given_refusal link (MergeOffset place) h memory = h

@@ -23,7 +23,7 @@ use Rattle.lk_link.specs.PartRules.{names_table}
 use Rattle.lk_link.specs.PlanSections.{is_set, is_singletons, is_thread_local, is_zero_fill_thread_local, no_section, own_attributes, section_at}
 use Rattle.lk_link.specs.SegmentKinds.{is_tls}
 use Rattle.lk_link.specs.WellFormed.{IsAboutPlace}
-use Rattle.lk_place.specs.Plans.{IsPlaceable, IsPlaceableSection}
+use Rattle.lk_place.specs.Plans.{IsPlaceableSection, IsUnmoved}
 use Rattle.lk_sizes.specs.Owners.{KeepsSizes}
 use Rattle.lk_layout.specs.declared.error.Uncarried.TheVariants as uncarried
 use Rattle.lk_layout.specs.Carried.{IsCarried, all_uncarried, any_file, file_has, first_uncarried, has, is_special_section}
@@ -132,19 +132,20 @@ placeable_section plan s none =
 
 -- ---- plans
 
--- the plan of a link of which all is laid out is one that is placed
-pub placeable : CarriedPlansArePlaceable
-placeable link carried =
+-- the plan of a link of which all is laid out is one that is placed, and in which nothing moves
+unmoved : (link : LinkInput) → IsCarried link → IsUnmoved link.plan link.options.output
+unmoved link carried =
     let is : IsUsual link.plan = usual link carried in
     record {
       whole = not_partial link.options.output (whole_output link carried);
-      base = is.base;
-      unasked = is.unasked;
-      headers = is.headers;
-      regions = no_regions link.plan.regions is.regions;
       events = λ k e there. about_place e (none_at moves_location link.plan.events k e is.unmoved there);
       sections = λ s. placeable_section link.plan s is.sections;
     }
+
+pub placeable : CarriedPlansArePlaceable
+placeable link carried =
+    let is : IsUnmoved link.plan link.options.output = unmoved link carried in
+    record { whole = is.whole; sections = is.sections }
 
 -- no section of it has zero-fill thread-local data
 pub no_zero_fill : (link : LinkInput) (s : ℕ) → IsCarried link → is_zero_fill_thread_local link.plan s ≡ false
@@ -153,10 +154,10 @@ no_zero_fill link s carried = ap (λ b. b && is_set NOBITS (own_attributes link.
 -- where all is laid out, a plan with plain load segments is plain
 pub carried_plans_are_plain : CarriedPlansArePlain
 carried_plans_are_plain link carried loads =
-    let is : IsPlaceable link.plan link.options.output = placeable link carried in
+    let is : IsUnmoved link.plan link.options.output = unmoved link carried in
     record {
       whole = is.whole;
-      regions = is.regions;
+      regions = no_regions link.plan.regions (usual link carried).regions;
       unmoved = is.events;
       apart = loads.apart;
       settled = λ i k s opens last. no_zero_fill link s carried;

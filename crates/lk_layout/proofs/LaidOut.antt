@@ -36,7 +36,7 @@ pub record IsLaidOut (target : Target) (link : LinkInput) (layout : Layout) : Ty
   pub states : List Cursors
   pub records : List Record
   pub is : IsPlaced (setting target link live) states records
-  pub unrefused : placement_refusal (setting target link live) states ≡ None
+  pub unrefused : placement_refusal (setting target link live) states records ≡ None
   pub inside : merge_offsets link live ≡ []
   pub same : layout ≡ layout_of link live records
 
@@ -64,7 +64,7 @@ laid_out exactly target link layout defined =
     let reached = met.1 in
     let sizes = passed (sizes_refusal link reached.0) layout _ reached.2 in
     let placed = sizes.1 in
-    let walk = passed (walk_refusal target link reached.0 placed.0) layout _ placed.3 in
+    let walk = passed (walk_refusal target link reached.0 placed.0 placed.1) layout _ placed.3 in
     let segments = passed (segment_refusal link reached.0 placed.1) layout _ walk.1 in
     let offsets = passed (offsets_refusal link reached.0) layout _ segments.1 in
     let is : layout ≡ layout_of link reached.0 placed.1 = let given : Ok layout ≡ Ok (layout_of link reached.0 placed.1) = offsets.1 in cc in
@@ -78,7 +78,7 @@ laid_out exactly target link layout defined =
       states = placed.0;
       records = placed.1;
       is = placed.2;
-      unrefused = none_of place_error (placement_refusal (setting target link reached.0) placed.0) walk.0;
+      unrefused = none_of place_error (placement_refusal (setting target link reached.0) placed.0 placed.1) walk.0;
       inside = none_first (merge_offsets link reached.0) (none_of offset_error (slice_get (merge_offsets link reached.0) 0) offsets.0);
       same = is;
     }

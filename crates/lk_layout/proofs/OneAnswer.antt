@@ -46,7 +46,7 @@ placed_exists link live records =
 sized_exists : PlacementExists → (target : Target) (link : LinkInput) (live : Live) → IsWellFormed link → IsCarried link → (answer : Result Layout LayoutError) × IsSizedAnswer target link live answer
 sized_exists placement target link live good carried =
     let p = placement (setting target link live) (ready target link live good) (placeable link carried) in
-    let rest = unless_exists (walk_refusal target link live p.0) (IsPlacedAnswer link live p.1) (λ none. placed_exists link live p.1) in
+    let rest = unless_exists (walk_refusal target link live p.0 p.1) (IsPlacedAnswer link live p.1) (λ none. placed_exists link live p.1) in
     (rest.0, (p.0, p.1, p.2, rest.1))
 
 merged_exists : LiveExists → PlacementExists → (target : Target) (link : LinkInput) → IsWellFormed link → IsCarried link → (answer : Result Layout LayoutError) × IsMergedAnswer target link answer
@@ -79,7 +79,7 @@ placed_one link live records a b h g = unless_one (segment_refusal link live rec
 
 -- where the states and the records are the same, so is what comes behind
 abbrev Behind : Target → LinkInput → Live → Result Layout LayoutError → List Cursors → List Record → Type 0
-Behind target link live answer states records = Unless (walk_refusal target link live states) answer (IsPlacedAnswer link live records answer)
+Behind target link live answer states records = Unless (walk_refusal target link live states records) answer (IsPlacedAnswer link live records answer)
 
 sized_one : PlacementIsOne → (target : Target) (link : LinkInput) (live : Live) (a b : Result Layout LayoutError) → IsWellFormed link
     → IsSizedAnswer target link live a → IsSizedAnswer target link live b → a ≡ b
@@ -87,7 +87,7 @@ sized_one placement target link live a b good h g =
     let one = placement (setting target link live) h.0 g.0 h.1 g.1 (ready target link live good) h.2 g.2 in
     let moved : Behind target link live a g.0 h.1 = subst (λ states. Behind target link live a states h.1) one.0 h.3 in
     let there : Behind target link live a g.0 g.1 = subst (λ records. Behind target link live a g.0 records) one.1 moved in
-    unless_one (walk_refusal target link live g.0) a b _ _ there g.3 (λ none x y. placed_one link live g.1 a b x y)
+    unless_one (walk_refusal target link live g.0 g.1) a b _ _ there g.3 (λ none x y. placed_one link live g.1 a b x y)
 
 merged_one : LiveIsOne → PlacementIsOne → (target : Target) (link : LinkInput) (a b : Result Layout LayoutError) → IsWellFormed link
     → IsMergedAnswer target link a → IsMergedAnswer target link b → a ≡ b

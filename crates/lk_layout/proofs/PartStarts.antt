@@ -72,7 +72,7 @@ section_in (x ∷ xs) p h =
 -- ---- the law
 
 pub part_starts : (target : Target) (link : LinkInput) (live : Live) (states : List Cursors) (records : List Record) (p : ℕ) → IsWellFormed link
-    → IsPlaced (setting target link live) states records → placement_refusal (setting target link live) states ≡ None
+    → IsPlaced (setting target link live) states records → placement_refusal (setting target link live) states records ≡ None
     → p < length (all_parts link.plan.sections) → 0 < size_at (part_sizes link (output_content link live)) p
     → (part_at link.plan.sections p).alignment ∣ (record_at records p).mem_offset
 part_starts target link live states records p good is unrefused within some =

@@ -57,7 +57,7 @@ size_of link live p within =
 
 -- each part that is placed takes the bytes of its owners
 pub takes : PartsTakeTheirBytes → (target : Target) (link : LinkInput) (live : Live) (states : List Cursors) (records : List Record) → IsWellFormed link
-    → IsPlaced (setting target link live) states records → placement_refusal (setting target link live) states ≡ None
+    → IsPlaced (setting target link live) states records → placement_refusal (setting target link live) states records ≡ None
     → (p : ℕ) → p < length records → (record_at records p).mem_size ≡ part_size link (output_content link live) p
 takes law target link live states records good is unrefused p below =
     let all : map (λ r. r.mem_size) records ≡ part_sizes link (output_content link live) = law (setting target link live) states records (ready target link live good) is unrefused in

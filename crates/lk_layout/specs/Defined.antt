@@ -66,13 +66,14 @@ offsets_refusal link live = option_map offset_error (slice_get (merge_offsets li
 abbrev pub sizes_refusal : LinkInput → Live → Option LayoutError
 sizes_refusal link live = option_map size_error (size_refusal link (output_content link live))
 
--- what is placed, for which machine, with the bytes of the parts
+-- what is placed, for which machine, with the bytes of the parts; the headers' bytes and symbols' places aren't told yet, as what is
+-- laid out asks for neither
 abbrev pub setting : Target → LinkInput → Live → Setting
-setting target link live = setting_of link target (part_sizes link (output_content link live))
+setting target link live = setting_of link target (part_sizes link (output_content link live)) 0 []
 
 -- an event that can't be carried out
-abbrev pub walk_refusal : Target → LinkInput → Live → List Cursors → Option LayoutError
-walk_refusal target link live states = option_map place_error (placement_refusal (setting target link live) states)
+abbrev pub walk_refusal : Target → LinkInput → Live → List Cursors → List Record → Option LayoutError
+walk_refusal target link live states records = option_map place_error (placement_refusal (setting target link live) states records)
 
 -- a section outside the segments
 abbrev pub segment_refusal : LinkInput → Live → List Record → Option LayoutError
@@ -118,7 +119,7 @@ IsPlacedAnswer link live records answer =
 abbrev pub IsSizedAnswer : Target → LinkInput → Live → Result Layout LayoutError → Type 0
 IsSizedAnswer target link live answer =
     (states : List Cursors) × (records : List Record) × IsPlaced (setting target link live) states records
-    × Unless (walk_refusal target link live states) answer (IsPlacedAnswer link live records answer)
+    × Unless (walk_refusal target link live states records) answer (IsPlacedAnswer link live records answer)
 
 -- of what is live: the part that overflows, and then
 abbrev pub IsLiveAnswer : Target → LinkInput → Live → Result Layout LayoutError → Type 0

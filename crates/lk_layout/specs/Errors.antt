@@ -12,8 +12,8 @@ use Rattle.lk_sizes.specs.declared.error.SizeError.TheVariants as size
 use Rattle.lk_layout.specs.declared.error.LayoutError.{LayoutError}
 use Rattle.lk_layout.specs.declared.error.LayoutError.TheVariants.{NoMemory, TooMany, BadLink, References}
 use Rattle.lk_layout.specs.declared.error.LayoutError.TheVariants.{MergeNotTerminated, MergeOffset, MergeTooLarge}
-use Rattle.lk_layout.specs.declared.error.LayoutError.TheVariants.{AddressOverflow, BaseTooLow, Expression}
-use Rattle.lk_layout.specs.declared.error.LayoutError.TheVariants.{RegionDuplicate, SectionOutsideSegments}
+use Rattle.lk_layout.specs.declared.error.LayoutError.TheVariants.{AddressOverflow, BaseTooLow, Expression, LocationBackwards, OutsideRegion}
+use Rattle.lk_layout.specs.declared.error.LayoutError.TheVariants.{RegionDuplicate, RegionOverflow, RegionUnknown, SectionOutsideSegments}
 use Rattle.lk_layout.specs.declared.outside.MergeOffsetPlace.{MergeOffsetPlace}
 
 -- for a fault of the link
@@ -46,6 +46,10 @@ abbrev pub place_error : PlaceError → LayoutError
 place_error (place.AddressOverflow at) = AddressOverflow at
 place_error (place.RegionDuplicate region) = RegionDuplicate region
 place_error (place.Expression at cause) = Expression at cause
+place_error (place.RegionUnknown section) = RegionUnknown section
+place_error (place.RegionOverflow region by) = RegionOverflow region by
+place_error (place.OutsideRegion event address) = OutsideRegion event address
+place_error (place.LocationBackwards from to) = LocationBackwards from to
 place_error (place.BaseTooLow base headers) = BaseTooLow base headers
 place_error (place.SectionOutsideSegments section) = SectionOutsideSegments section
 place_error place.NoMemory = NoMemory

@@ -9,7 +9,7 @@ use Rattle.lk_gc.specs.declared.live.Live.{Live}
 use Rattle.lk_gc.specs.Faults.{reference_faults}
 use Rattle.lk_gc.specs.Reach.{AreLive}
 use Rattle.lk_place.specs.Plain.{IsLoadSegment, IsPlain, OpensLoad, PlacesInLoad}
-use Rattle.lk_place.specs.Plans.{IsPlaceable}
+use Rattle.lk_place.specs.Plans.{IsPlaceable, IsUnmoved}
 use Rattle.lk_place.specs.Ranges.{MemoryIsDisjoint}
 use Rattle.lk_layout.specs.declared.error.LayoutError.{LayoutError}
 use Rattle.lk_layout.specs.declared.layout.Layout.{Layout}
@@ -35,15 +35,15 @@ abbrev pub DefinedLayoutsAreSound : Type 0
 DefinedLayoutsAreSound = (target : Target) (link : LinkInput) (layout : Layout)
     → IsLawful target → IsDefined target link (Ok layout) → (live : Live) × IsSound link live layout
 
--- under a placeable plan the memory of a defined layout is disjoint, also if the plan isn't plain
+-- under a plan in which nothing moves, the memory of a defined layout is disjoint, also if the plan isn't plain
 abbrev pub LaidOutMemoryIsDisjoint : Type 0
-LaidOutMemoryIsDisjoint = (target : Target) (link : LinkInput) (layout : Layout) → IsPlaceable link.plan link.options.output
+LaidOutMemoryIsDisjoint = (target : Target) (link : LinkInput) (layout : Layout) → IsUnmoved link.plan link.options.output
     → IsLawful target → IsDefined target link (Ok layout) → MemoryIsDisjoint link.plan layout.section_part_layouts
 
 -- and so are its live sections, and the owners of its parts: nor does an image share an address with a live section, or with another
 -- image
 abbrev pub LaidOutSectionsAreApart : Type 0
-LaidOutSectionsAreApart = (target : Target) (link : LinkInput) (layout : Layout) → IsPlaceable link.plan link.options.output
+LaidOutSectionsAreApart = (target : Target) (link : LinkInput) (layout : Layout) → IsUnmoved link.plan link.options.output
     → IsLawful target → IsDefined target link (Ok layout)
     → (live : Live) × IsSound link live layout × LiveSectionsAreApart link live layout × OwnersAreApart link live layout
 

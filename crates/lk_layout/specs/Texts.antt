@@ -52,6 +52,19 @@ merge_offset_text (OfSymbol symbol) = joined (codes "merge offset: symbol " ∷ 
 merge_offset_text (OfRelocation id section relocation) =
     joined (codes "merge offset: " ∷ input_text id section ∷ codes " relocation " ∷ decimal relocation ∷ [])
 
+-- a region whose sections take more bytes than it has
+unfoldable pub full_region_text : ℕ → ℕ → List ℕ
+full_region_text region by = joined (codes "region " ∷ decimal region ∷ codes " overflowed by " ∷ decimal by ∷ codes " bytes" ∷ [])
+
+-- a location outside its region
+unfoldable pub outside_text : ℕ → ℕ → List ℕ
+outside_text event address = joined (codes "address 0x" ∷ hexadecimal address ∷ codes " at event " ∷ decimal event ∷ codes " is outside its region" ∷ [])
+
+-- a location before where it may stand
+unfoldable pub backwards_text : ℕ → ℕ → List ℕ
+backwards_text from to =
+    joined (codes "Cannot move location counter backwards (from 0x" ∷ hexadecimal from ∷ codes " to 0x" ∷ hexadecimal to ∷ codes ")" ∷ [])
+
 -- references that can't be met, each on a line of its own behind another line
 abbrev pub further_lines : List ReferenceFault → List ℕ
 further_lines faults = flat_map (λ fault. codes "\n" ++ reference_text fault) faults
@@ -74,6 +87,10 @@ error_text (layout.AddressOverflow place) = joined (codes "address overflow: " �
 error_text (layout.RegionDuplicate region) = joined (codes "region " ∷ decimal region ∷ codes " already defined" ∷ [])
 error_text (layout.Expression place cause) =
     joined (codes "expression at " ∷ place_text place ∷ codes ": " ∷ cause_text cause ∷ [])
+error_text (layout.RegionUnknown section) = joined (codes "region of section " ∷ decimal section ∷ codes " not declared" ∷ [])
+error_text (layout.RegionOverflow region by) = full_region_text region by
+error_text (layout.OutsideRegion event address) = outside_text event address
+error_text (layout.LocationBackwards from to) = backwards_text from to
 error_text (layout.BaseTooLow base headers) = low_base_text base headers
 error_text (layout.SectionOutsideSegments section) = joined (codes "section " ∷ decimal section ∷ codes " is in no segment" ∷ [])
 error_text (layout.MergeOffset place) = merge_offset_text place

@@ -35,7 +35,7 @@ use lk_link::link::LinkInput;
 use lk_link::list::List;
 use lk_link::platform::Platform;
 use lk_place::laws::parts_take_their_bytes;
-use lk_place::{Placed, compute_layout_sections, compute_segment_layout};
+use lk_place::{Placed, SymbolPositions, compute_layout_sections, compute_segment_layout};
 use lk_sizes::laws::first_sizes_are_sizes;
 use lk_sizes::{
     PartContents, determine_header_sizes, part_contents, part_sizes, propagate_section_attributes,
@@ -107,7 +107,9 @@ fn lay_out_live<'data, P: Platform>(
 {
     let contents = part_contents(alloc, link, &live, &images.lens)?;
     let sizes = part_sizes(alloc, contents.as_slice())?;
-    let placed = compute_layout_sections(alloc, link, &sizes, platform)?;
+    // What is laid out asks for no place of a symbol and for no headers.
+    let positions = SymbolPositions::new(List::new(alloc));
+    let placed = compute_layout_sections(alloc, link, &sizes, &positions, 0, platform)?;
     // Laws, which do nothing: the parts end where their owners do, and the sizes so far are those that tell what is emitted.
     parts_take_their_bytes();
     first_sizes_are_sizes();

@@ -84,6 +84,25 @@ pub enum LayoutError {
         place: Place,
         cause: NoValue,
     },
+    /// A section that is placed names a region that isn't there.
+    RegionUnknown {
+        section: OutputSectionId,
+    },
+    /// The sections of a region take more bytes than it has, by so many.
+    RegionOverflow {
+        region: RegionId,
+        by: u64,
+    },
+    /// A location that the section of this event takes stands outside its region.
+    OutsideRegion {
+        event: usize,
+        address: u64,
+    },
+    /// A location stands before where it may.
+    LocationBackwards {
+        from: u64,
+        to: u64,
+    },
     /// A base that is asked for has no room for the headers below it.
     BaseTooLow {
         base: u64,
@@ -192,6 +211,75 @@ impl fmt::Display for FullBucket {
     }
 }
 
+/// A region whose sections take more bytes than it has.
+#[derive(Clone, Copy)]
+struct FullRegion {
+    region: u32,
+    by: u64,
+}
+
+/// With the region's number and the bytes too many.
+impl fmt::Display for FullRegion {
+    ghost use Rattle.std.specs.Prelude.{Some};
+    ghost use Rattle.lk_layout.specs.Texts.{full_region_text};
+
+    ghost output = { λ full. Some (full_region_text full.region full.by) };
+
+    #[tactic(auto, unfolding(crate::specs::Texts::full_region_text))]
+    fn fmt<W: fmt::Write>(&self, f: &mut fmt::Formatter<W>) -> fmt::Result {
+        let (region, by) = (self.region, self.by);
+        write!(f, "region {region} overflowed by {by} bytes")
+    }
+}
+
+/// A location outside its region.
+#[derive(Clone, Copy)]
+struct Outside {
+    event: usize,
+    address: u64,
+}
+
+/// With the address in hexadecimal.
+impl fmt::Display for Outside {
+    ghost use Rattle.std.specs.Prelude.{Some};
+    ghost use Rattle.lk_layout.specs.Texts.{outside_text};
+
+    ghost output = { λ outside. Some (outside_text outside.event outside.address) };
+
+    #[tactic(auto, unfolding(crate::specs::Texts::outside_text))]
+    fn fmt<W: fmt::Write>(&self, f: &mut fmt::Formatter<W>) -> fmt::Result {
+        let (event, address) = (self.event, self.address);
+        write!(
+            f,
+            "address 0x{address:x} at event {event} is outside its region"
+        )
+    }
+}
+
+/// A location before where it may stand.
+#[derive(Clone, Copy)]
+struct Backwards {
+    from: u64,
+    to: u64,
+}
+
+/// With both numbers, in hexadecimal.
+impl fmt::Display for Backwards {
+    ghost use Rattle.std.specs.Prelude.{Some};
+    ghost use Rattle.lk_layout.specs.Texts.{backwards_text};
+
+    ghost output = { λ back. Some (backwards_text back.from back.to) };
+
+    #[tactic(auto, unfolding(crate::specs::Texts::backwards_text))]
+    fn fmt<W: fmt::Write>(&self, f: &mut fmt::Formatter<W>) -> fmt::Result {
+        let (from, to) = (self.from, self.to);
+        write!(
+            f,
+            "Cannot move location counter backwards (from 0x{from:x} to 0x{to:x})"
+        )
+    }
+}
+
 /// In a word, as `common`.
 impl fmt::Display for Uncarried {
     ghost use Rattle.std.specs.Prelude.{Some};
@@ -259,6 +347,25 @@ impl fmt::Display for LayoutError {
                 write!(f, "region {region} already defined")
             }
             LayoutError::Expression { place, cause } => write!(f, "expression at {place}: {cause}"),
+            LayoutError::RegionUnknown { section } => {
+                let section = section.as_u32();
+                write!(f, "region of section {section} not declared")
+            }
+            LayoutError::RegionOverflow { region, by } => {
+                let (region, by) = (region.as_u32(), *by);
+                let full = FullRegion { region, by };
+                write!(f, "{full}")
+            }
+            LayoutError::OutsideRegion { event, address } => {
+                let (event, address) = (*event, *address);
+                let outside = Outside { event, address };
+                write!(f, "{outside}")
+            }
+            LayoutError::LocationBackwards { from, to } => {
+                let (from, to) = (*from, *to);
+                let back = Backwards { from, to };
+                write!(f, "{back}")
+            }
             LayoutError::BaseTooLow { base, headers } => {
                 let (base, headers) = (*base, *headers);
                 let low = LowBase { base, headers };
@@ -397,6 +504,14 @@ impl From<PlaceError> for LayoutError {
             PlaceError::AddressOverflow { place } => LayoutError::AddressOverflow { place },
             PlaceError::RegionDuplicate { region } => LayoutError::RegionDuplicate { region },
             PlaceError::Expression { place, cause } => LayoutError::Expression { place, cause },
+            PlaceError::RegionUnknown { section } => LayoutError::RegionUnknown { section },
+            PlaceError::RegionOverflow { region, by } => LayoutError::RegionOverflow { region, by },
+            PlaceError::OutsideRegion { event, address } => {
+                LayoutError::OutsideRegion { event, address }
+            }
+            PlaceError::LocationBackwards { from, to } => {
+                LayoutError::LocationBackwards { from, to }
+            }
             PlaceError::BaseTooLow { base, headers } => LayoutError::BaseTooLow { base, headers },
             PlaceError::SectionOutsideSegments { section } => {
                 LayoutError::SectionOutsideSegments { section }

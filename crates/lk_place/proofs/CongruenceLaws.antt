@@ -8,11 +8,13 @@ use Rattle.lk_link.specs.Inside.{is_open, placed_section}
 use Rattle.lk_link.specs.Parts.{first_part}
 use Rattle.lk_link.specs.PlanSections.{is_file_backed, is_zero_fill_thread_local}
 use Rattle.lk_link.specs.Rules.{is_start}
+use Rattle.lk_link.specs.WellFormed.{IsAboutPlace}
 use Rattle.lk_link.proofs.Events.{is_that_start}
 use Rattle.lk_link.proofs.PartNumbers.{first_part-suc}
 use Rattle.lk_place.specs.declared.cursors.Cursors.{Cursors}
 use Rattle.lk_place.specs.Alignments.{place_alignment}
 use Rattle.lk_place.specs.Laws.{IsSoundlySet, PlainMemoryIsCongruent}
+use Rattle.lk_place.specs.PlacedBefore.{Known, known_before}
 use Rattle.lk_place.specs.Placement.{IsPlaced, Places, PlacesSection, Steps, moved, state_at}
 use Rattle.lk_place.specs.Plain.{IsLoadSegment, IsPlain, OpensLoad, PlacesInLoad, last_before}
 use Rattle.lk_place.specs.Ranges.{HasPart}
@@ -26,7 +28,7 @@ use Rattle.lk_place.proofs.Insides.{placed_in_range}
 use Rattle.lk_place.proofs.Moves.{Enters, Moves, Stays, Opened, Entered, enters, moves, opens_load}
 use Rattle.lk_place.proofs.OpenSegments.{open_before, section_event}
 use Rattle.lk_place.proofs.PlainScanLaws.{last_is, last_stays}
-use Rattle.lk_place.proofs.Steps.{event_at, step_at}
+use Rattle.lk_place.proofs.Steps.{MovesNothing, event_at, never_waits, nothing_first, step_at}
 
 -- ---- the walk
 
@@ -61,45 +63,48 @@ first_of_two false b h none = absurd (cc)
 -- ---- what is saved
 
 -- an event that places nothing saves nothing
-unplaced_saves : (setting : Setting) (e : OrderEvent) (o : Option ℕ) (from entered to : Cursors) (records : List Record) → placed_section e ≡ o → o ≡ None
-    → moved setting e from ≡ Ok entered → Places setting o entered records to → to.saved ≡ from.saved
-unplaced_saves setting e (Some s) from entered to records named none h places = absurd (cc)
-unplaced_saves setting e None from entered to records named none h places =
-    elim (moves setting e from entered h) [
+unplaced_saves : (setting : Setting) (known : Known) (e : OrderEvent) (o : Option ℕ) (from entered to : Cursors) (records : List Record) → IsAboutPlace e → from.pending ≡ None → placed_section e ≡ o → o ≡ None
+    → moved setting known e from ≡ Ok entered → Places setting o entered records to → to.saved ≡ from.saved
+unplaced_saves setting known e (Some s) from entered to records about quiet named none h places = absurd (cc)
+unplaced_saves setting known e None from entered to records about quiet named none h places =
+    elim (moves setting known e from entered about quiet h) [
       | Stays same ↦ ap (λ (c : Cursors). c.saved) places ∙ ap (λ (c : Cursors). c.saved) same
       | Opened opens ↦ ap (λ (c : Cursors). c.saved) places ∙ opens.saved
       | Entered s is enters ↦ let place : Some s ≡ None = ap placed_section (sym is) ∙ named in absurd (cc)
     ]
 
 -- nothing is saved where the section placed last isn't zero-fill thread-local
-nothing_saved : (setting : Setting) (states : List Cursors) (records : List Record) → IsPlaced setting states records
+nothing_saved : (setting : Setting) (states : List Cursors) (records : List Record) → IsPlaced setting states records → MovesNothing setting.plan
     → (n : ℕ) → n < length states → ((s : ℕ) → last_before setting.plan.events n ≡ Some s → is_zero_fill_thread_local setting.plan s ≡ false) → (state_at states n).saved ≡ None
-nothing_saved setting states records is zero less filled = is.begins.saved
-nothing_saved setting states records is (suc n) less filled =
+nothing_saved setting states records is unmoved zero less filled = (nothing_first setting states is.begins less).0
+nothing_saved setting states records is unmoved (suc n) less filled =
     let events : List OrderEvent = setting.plan.events in
     let event = event_at setting states records n is (omega arith) in
     let e : OrderEvent = event.0 in
-    let step : Steps setting e (state_at states n) records (state_at states (n + 1)) = step_at setting states records n e is (omega arith) event.1 in
+    let known : Known = known_before setting.plan records n in
+    let about : IsAboutPlace e = unmoved n e event.1 in
+    let quiet : (state_at states n).pending ≡ None = never_waits setting states records is unmoved n (omega arith) in
+    let step : Steps setting known e (state_at states n) records (state_at states (n + 1)) = step_at setting states records n e is (omega arith) event.1 in
     ap (λ (m : ℕ). (state_at states m).saved) (sym (add-one n))
     ∙ elim (placed_section e) as (λ (o : Option ℕ). placed_section e ≡ o → Places setting o step.entered records (state_at states (n + 1)) → (state_at states (n + 1)).saved ≡ None) [
       | None ↦ λ none places.
-          unplaced_saves setting e None (state_at states n) step.entered (state_at states (n + 1)) records none refl step.moves places
-          ∙ nothing_saved setting states records is n (omega arith) (λ s last. filled s (last_stays None events n e event.1 none ∙ last))
+          unplaced_saves setting known e None (state_at states n) step.entered (state_at states (n + 1)) records about quiet none refl step.moves places
+          ∙ nothing_saved setting states records is unmoved n (omega arith) (λ s last. filled s (last_stays None events n e event.1 none ∙ last))
       | (Some s) ↦ λ named places.
           let at : e ≡ Section s = section_event e s named in
           let last : last_before events (suc n) ≡ Some s = last_is None events n s (event.1 ∙ ap (λ (x : OrderEvent). Some x) at) in
-          let begun = enters setting s (state_at states n) step.entered (ap (λ (x : OrderEvent). moved setting x (state_at states n)) (sym at) ∙ step.moves) in
+          let begun = enters setting known s (state_at states n) step.entered quiet (ap (λ (x : OrderEvent). moved setting known x (state_at states n)) (sym at) ∙ step.moves) in
           ap (λ (c : Cursors). c.saved) places.leaves ∙ (begun.taken (filled s last)).1
     ] refl step.places
 
 -- ---- one event
 
 -- where the segment opens, both agree
-opens_agree : (setting : Setting) (states : List Cursors) (records : List Record) (i : ℕ) (from to : Cursors) → IsSoundlySet setting states records
-    → IsLoadSegment setting.plan i → from.saved ≡ None → Steps setting (SegmentStart i) from records to → FreeAgrees (place_alignment setting i) to
-opens_agree setting states records i from to set load unsaved step =
+opens_agree : (setting : Setting) (states : List Cursors) (records : List Record) (known : Known) (i : ℕ) (from to : Cursors) → IsSoundlySet setting states records → from.pending ≡ None
+    → IsLoadSegment setting.plan i → from.saved ≡ None → Steps setting known (SegmentStart i) from records to → FreeAgrees (place_alignment setting i) to
+opens_agree setting states records known i from to set quiet load unsaved step =
     let place : ℕ = place_alignment setting i in
-    let there = opens_load setting i from step.entered load step.moves in
+    let there = opens_load setting known i from step.entered quiet load step.moves in
     let none : to.saved ≡ None = ap (λ (c : Cursors). c.saved) step.places ∙ there.2 ∙ unsaved in
     ap (λ (o : Option ℕ). unwrap_or o to.memory % place) none
     ∙ ap (λ (c : Cursors). c.memory % place) step.places
@@ -155,13 +160,14 @@ stays_agree setting place e None entered to records named none h places = subst 
 
 -- one event that does not open the segment
 step_agrees : (setting : Setting) (states : List Cursors) (records : List Record) (i s k : ℕ) → IsThrough setting states records i s k
-    → (n : ℕ) (e : OrderEvent) (from to : Cursors) → n < k → slice_get setting.plan.events n ≡ Some e → is_open i (take n setting.plan.events) ≡ true
-    → FreeAgrees (place_alignment setting i) from → Steps setting e from records to → FreeAgrees (place_alignment setting i) to
-step_agrees setting states records i s k t n e from to less here opened h step =
+    → (n : ℕ) (known : Known) (e : OrderEvent) (from to : Cursors) → n < k → slice_get setting.plan.events n ≡ Some e → is_open i (take n setting.plan.events) ≡ true
+    → from.pending ≡ None → FreeAgrees (place_alignment setting i) from → Steps setting known e from records to → FreeAgrees (place_alignment setting i) to
+step_agrees setting states records i s k t n known e from to less here opened quiet h step =
+    let about : IsAboutPlace e = t.plain.unmoved n e here in
     let place : ℕ = place_alignment setting i in
     elim (placed_section e) as (λ (o : Option ℕ). placed_section e ≡ o → Places setting o step.entered records to → FreeAgrees place to) [
       | None ↦ λ none places.
-          elim (moves setting e from step.entered step.moves) [
+          elim (moves setting known e from step.entered about quiet step.moves) [
             | Stays same ↦ stays_agree setting place e None step.entered to records none refl (subst (FreeAgrees place) (sym same) h) places
             | Opened opens ↦
                 let other : OpensLoad setting.plan opens.segment n = record { load = opens.load; here = here ∙ ap (λ (x : OrderEvent). Some x) opens.is } in
@@ -172,7 +178,7 @@ step_agrees setting states records i s k t n e from to less here opened h step =
       | (Some u) ↦ λ named places.
           let at : e ≡ Section u = section_event e u named in
           let there : PlacesInLoad setting.plan i u n = record { load = t.places.load; places = record { here = here ∙ ap (λ (x : OrderEvent). Some x) at; inside = opened } } in
-          let begun = enters setting u from step.entered (ap (λ (x : OrderEvent). moved setting x from) (sym at) ∙ step.moves) in
+          let begun = enters setting known u from step.entered quiet (ap (λ (x : OrderEvent). moved setting known x from) (sym at) ∙ step.moves) in
           section_agrees setting states records i s k t u n from step.entered to less there begun h places
     ] refl step.places
 
@@ -185,17 +191,19 @@ open_agrees setting states records i s k t (suc n) le opened =
     let early : n < length states - 1 = omega (arith, t.early) in
     let event = event_at setting states records n t.set.placed early in
     let e : OrderEvent = event.0 in
-    let step : Steps setting e (state_at states n) records (state_at states (n + 1)) = step_at setting states records n e t.set.placed early event.1 in
+    let known : Known = known_before setting.plan records n in
+    let quiet : (state_at states n).pending ≡ None = never_waits setting states records t.set.placed t.plain.unmoved n (omega arith) in
+    let step : Steps setting known e (state_at states n) records (state_at states (n + 1)) = step_at setting states records n e t.set.placed early event.1 in
     let agrees : FreeAgrees place (state_at states (n + 1))
     = elim (is_start i e) as (λ b. is_start i e ≡ b → FreeAgrees place (state_at states (n + 1))) [
       | true ↦ λ is.
           let opens : OpensLoad setting.plan i n = record { load = t.places.load; here = event.1 ∙ ap (λ (x : OrderEvent). Some x) (is_that_start i e is) } in
-          let unsaved = nothing_saved setting states records t.set.placed n (omega arith) (λ s last. t.plain.settled i n s opens last) in
-          opens_agree setting states records i (state_at states n) (state_at states (n + 1)) t.set t.places.load unsaved
-          (subst (λ x. Steps setting x (state_at states n) records (state_at states (n + 1))) (is_that_start i e is) step)
+          let unsaved = nothing_saved setting states records t.set.placed t.plain.unmoved n (omega arith) (λ s last. t.plain.settled i n s opens last) in
+          opens_agree setting states records known i (state_at states n) (state_at states (n + 1)) t.set quiet t.places.load unsaved
+          (subst (λ x. Steps setting known x (state_at states n) records (state_at states (n + 1))) (is_that_start i e is) step)
       | false ↦ λ unopened.
           let before : is_open i (take n setting.plan.events) ≡ true = open_before i n setting.plan.events e event.1 unopened opened in
-          step_agrees setting states records i s k t n e (state_at states n) (state_at states (n + 1)) (omega arith) event.1 before
+          step_agrees setting states records i s k t n known e (state_at states n) (state_at states (n + 1)) (omega arith) event.1 before quiet
           (open_agrees setting states records i s k t n (omega arith) before) step
     ] refl in
     subst (λ m. FreeAgrees place (state_at states m)) (add-one n) agrees
@@ -209,8 +217,10 @@ placed_agree setting states records i s k j t below =
     let place : ℕ = place_alignment setting i in
     let from : Cursors = state_at states k in
     let agrees : FreeAgrees place from = open_agrees setting states records i s k t k (omega arith) t.places.places.inside in
-    let step : Steps setting (Section s) from records (state_at states (k + 1)) = step_at setting states records k (Section s) t.set.placed t.early t.places.places.here in
-    let begun = enters setting s from step.entered step.moves in
+    let known : Known = known_before setting.plan records k in
+    let quiet : from.pending ≡ None = never_waits setting states records t.set.placed t.plain.unmoved k (omega (arith, t.early)) in
+    let step : Steps setting known (Section s) from records (state_at states (k + 1)) = step_at setting states records k (Section s) t.set.placed t.early t.places.places.here in
+    let begun = enters setting known s from step.entered quiet step.moves in
     let filled : is_zero_fill_thread_local setting.plan s ≡ false = elim (cases_Bool (is_zero_fill_thread_local setting.plan s)) [
       | inl fills ↦ let unbacked = t.plain.zero_fill i s k t.places fills in absurd (cc)
       | inr none ↦ none

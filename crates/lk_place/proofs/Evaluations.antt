@@ -7,11 +7,12 @@ use Rattle.lk_link.specs.declared.expression.Operand.{Operand}
 use Rattle.lk_link.specs.declared.expression.Operator.{Operator}
 use Rattle.lk_link.specs.declared.expression.Token.{Token}
 use Rattle.lk_link.specs.declared.expression.Token.TheVariants as token
+use Rattle.lk_link.specs.ExpressionRules.{depth}
 use Rattle.lk_link.specs.Expressions.{Term, Leaf, Node, postfix}
-use Rattle.lk_place.specs.declared.expressions.TheConstants.{MOST_DEPTH}
+use Rattle.lk_link.specs.declared.limits.TheConstants.{MOST_DEPTH}
 use Rattle.lk_place.specs.declared.expressions.no_value.NoValue.{NoValue}
 use Rattle.lk_place.specs.Evaluation.{HasRoom, HaveRoom, height_behind, on_top, run, stepped}
-use Rattle.lk_place.specs.Expressions.{IsShallow, Valued, ◌>>=◌, applied, depth, expression_value}
+use Rattle.lk_place.specs.Expressions.{IsShallow, Valued, ◌>>=◌, applied, expression_value}
 
 -- steps that follow each other can be grouped
 grouped : {A B C : Type 0} (x : Result A NoValue) (f : A → Result B NoValue) (g : B → Result C NoValue)

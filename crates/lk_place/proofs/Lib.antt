@@ -1,6 +1,7 @@
 pub mod AlignmentLaws
 mod ApartLaws
 mod BaseLaws
+mod Beginnings
 mod Checked
 mod Computing
 mod CongruenceLaws
@@ -11,6 +12,7 @@ mod GivenLists
 mod InsideLaws
 mod Insides
 mod KeptAlignments
+mod Knowing
 mod MassLaws
 mod Moves
 mod Multiples
@@ -18,6 +20,7 @@ mod OpenSegments
 mod OperandTests
 mod PlacedParts
 mod PlacedSections
+mod PlacedTables
 mod PlainLaws
 mod PlainScanLaws
 mod Ranges
@@ -25,6 +28,7 @@ mod RefusalLaws
 mod RegionLaws
 mod SectionEnds
 mod SegmentAlignments
+mod ShallowLinks
 mod Steps
 mod Tables
 mod WalkLaws

@@ -1,19 +1,24 @@
 -- What one event does to the cursors.
-use Rattle.std.proofs.Common.{◌≡◌, ℕ, ◌+◌, ◌-◌, ◌^◌, ◌≤◌, ◌<◌, Option, arith, true, false, Some, None, refl, sym, ap, subst, ◌∙◌, ◌⊎◌, inl, inr}
-use Rattle.std.specs.Prelude.{◌&&◌, if◌then◌else◌, nat_lt, unwrap_or, Result, Ok, Err}
+use Rattle.std.proofs.Common.{◌≡◌, ℕ, ◌+◌, ◌-◌, ◌^◌, ◌≤◌, ◌<◌, Bool, Option, arith, true, false, Some, None, refl, sym, ap, subst, ◌∙◌, ◌⊎◌, inl, inr}
+use Rattle.std.specs.Prelude.{◌&&◌, not, if◌then◌else◌, is_some, nat_lt, unwrap_or, Result, Ok, Err}
 use Rattle.std.specs.Int.{next_multiple_of}
 use Rattle.lk_link.specs.declared.plan.OrderEvent.{OrderEvent}
 use Rattle.lk_link.specs.declared.plan.OrderEvent.TheVariants.{SegmentStart, SegmentEnd, Section, SetLocation, SetLocationRelative, SetSectionAddress}
-use Rattle.lk_link.specs.PlanSections.{is_file_backed, is_zero_fill_thread_local}
+use Rattle.lk_link.specs.declared.plan.Plan.{Plan}
+use Rattle.lk_link.specs.Alignments.{next_congruent}
+use Rattle.lk_link.specs.PlanSections.{is_file_backed, is_zero_fill_thread_local, primary_of}
 use Rattle.lk_link.specs.SegmentKinds.{is_load, segment_at}
+use Rattle.lk_link.specs.WellFormed.{IsAboutPlace}
 use Rattle.lk_place.specs.declared.cursors.Cursors.{Cursors}
 use Rattle.lk_place.specs.declared.error.Refusal.{Refusal}
-use Rattle.lk_place.specs.declared.error.Refusal.TheVariants.{Overflow}
+use Rattle.lk_place.specs.declared.error.Refusal.TheVariants.{Backwards, Overflow}
 use Rattle.lk_place.specs.Alignments.{place_alignment, section_alignments, thread_local_alignment, thread_local_ones}
-use Rattle.lk_place.specs.Placement.{memory_moved, moved}
+use Rattle.lk_place.specs.Locations.{awaiting, behind_start, moved_along, moves_file, taken, within_64}
+use Rattle.lk_place.specs.PlacedBefore.{Known, value_at}
+use Rattle.lk_place.specs.Placement.{memory_moved, moved, opened}
 use Rattle.lk_place.specs.Plain.{IsLoadSegment}
 use Rattle.lk_place.specs.Setting.{Setting}
-use Rattle.lk_place.specs.ThreadLocal.{begins_run, free_memory, padded, restoring, run_begun, saved_or_restored, saving, within_64}
+use Rattle.lk_place.specs.ThreadLocal.{begins_run, free_memory, padded, restoring, run_begun, run_begun_behind, saved_or_restored, saving}
 use Rattle.lk_place.proofs.AlignmentLaws.{greatest_of-least}
 use Rattle.lk_link.proofs.Starts.{next_multiple_is_least}
 
@@ -25,34 +30,44 @@ pub record Opens (setting : Setting) (e : OrderEvent) (from entered : Cursors) :
   pub file : entered.file ≡ from.file
   pub memory : entered.memory ≡ setting.target.segment_start (place_alignment setting segment) from.file from.memory
   pub saved : entered.saved ≡ from.saved
+  pub pending : entered.pending ≡ from.pending
 
 -- memory that is moved is where it is moved to
-moved_to : (from entered : Cursors) (m : ℕ) → memory_moved from m ≡ Ok entered → (entered.file ≡ from.file) × (entered.memory ≡ m) × (entered.saved ≡ from.saved)
+moved_to : (from entered : Cursors) (m : ℕ) → memory_moved from m ≡ Ok entered
+    → (entered.file ≡ from.file) × (entered.memory ≡ m) × (entered.saved ≡ from.saved) × (entered.pending ≡ from.pending)
 moved_to from entered m =
     let there : Cursors = record from { memory = m } in
-    elim (nat_lt m (2 ^ 64)) as (λ b. (if b then Ok there else Err Overflow) ≡ Ok entered → (entered.file ≡ from.file) × (entered.memory ≡ m) × (entered.saved ≡ from.saved)) [
-      | true ↦ λ h. let same : entered ≡ there = cc in (ap (λ (c : Cursors). c.file) same, ap (λ (c : Cursors). c.memory) same, ap (λ (c : Cursors). c.saved) same)
+    elim (nat_lt m (2 ^ 64)) as (λ b. (if b then Ok there else Err Overflow) ≡ Ok entered
+    → (entered.file ≡ from.file) × (entered.memory ≡ m) × (entered.saved ≡ from.saved) × (entered.pending ≡ from.pending)) [
+      | true ↦ λ h. let same : entered ≡ there = cc in (ap (λ (c : Cursors). c.file) same, ap (λ (c : Cursors). c.memory) same, ap (λ (c : Cursors). c.saved) same, ap (λ (c : Cursors). c.pending) same)
       | false ↦ λ h. absurd (cc)
     ]
 
 same_of : (from entered : Cursors) (there : Result Cursors Refusal) → there ≡ Ok from → there ≡ Ok entered → entered ≡ from
 same_of from entered there h g = cc
 
-opened : (setting : Setting) (i : ℕ) (from entered : Cursors) → moved setting (SegmentStart i) from ≡ Ok entered → (entered ≡ from) ⊎ Opens setting (SegmentStart i) from entered
-opened setting i from entered =
+-- where no location waits, an opening is what the machine says
+opens_quietly : (setting : Setting) (known : Known) (i : ℕ) (from : Cursors) → from.pending ≡ None
+    → moved setting known (SegmentStart i) from
+    ≡ (if is_load (segment_at setting.plan.segments i).kind then memory_moved from (setting.target.segment_start (place_alignment setting i) from.file from.memory) else Ok from)
+opens_quietly setting known i from quiet = ap (λ (o : Option ℕ). if is_load (segment_at setting.plan.segments i).kind then opened setting i from o else Ok from) quiet
+
+opens_so : (setting : Setting) (i : ℕ) (from entered : Cursors)
+    → (if is_load (segment_at setting.plan.segments i).kind then memory_moved from (setting.target.segment_start (place_alignment setting i) from.file from.memory) else Ok from) ≡ Ok entered → (entered ≡ from) ⊎ Opens setting (SegmentStart i) from entered
+opens_so setting i from entered =
     let start : ℕ = setting.target.segment_start (place_alignment setting i) from.file from.memory in
     elim (is_load (segment_at setting.plan.segments i).kind) as (λ b. is_load (segment_at setting.plan.segments i).kind ≡ b
     → (if b then memory_moved from start else Ok from) ≡ Ok entered → (entered ≡ from) ⊎ Opens setting (SegmentStart i) from entered) [
-      | true ↦ λ load h. let there = moved_to from entered start h in inr (record { segment = i; load = load; is = refl; file = there.0; memory = there.1; saved = there.2 })
+      | true ↦ λ load h. let there = moved_to from entered start h in inr (record { segment = i; load = load; is = refl; file = there.0; memory = there.1; saved = there.2; pending = there.3 })
       | false ↦ λ load h. inl (same_of from entered (Ok from) refl h)
     ] refl
 
 -- where a load segment opens
-pub opens_load : (setting : Setting) (i : ℕ) (from entered : Cursors) → IsLoadSegment setting.plan i → moved setting (SegmentStart i) from ≡ Ok entered
-    → (entered.file ≡ from.file) × (entered.memory ≡ setting.target.segment_start (place_alignment setting i) from.file from.memory) × (entered.saved ≡ from.saved)
-opens_load setting i from entered load h =
+pub opens_load : (setting : Setting) (known : Known) (i : ℕ) (from entered : Cursors) → from.pending ≡ None → IsLoadSegment setting.plan i → moved setting known (SegmentStart i) from ≡ Ok entered
+    → (entered.file ≡ from.file) × (entered.memory ≡ setting.target.segment_start (place_alignment setting i) from.file from.memory) × (entered.saved ≡ from.saved) × (entered.pending ≡ from.pending)
+opens_load setting known i from entered quiet load h =
     let start : ℕ = setting.target.segment_start (place_alignment setting i) from.file from.memory in
-    moved_to from entered start (sym (ap (λ b. if b then memory_moved from start else Ok from) load) ∙ h)
+    moved_to from entered start (sym (opens_quietly setting known i from quiet ∙ ap (λ b. if b then memory_moved from start else Ok from) load) ∙ h)
 
 -- ---- a section begins
 
@@ -62,6 +77,7 @@ pub record Pads (setting : Setting) (s : ℕ) (from entered : Cursors) : Type 0 
   pub file : entered.file ≡ from.file + (if is_file_backed setting.plan s then padding else 0)
   pub memory : entered.memory ≡ from.memory + padding
   pub saved : entered.saved ≡ from.saved
+  pub pending : entered.pending ≡ from.pending
 
 given_within : (c entered : Cursors) → within_64 c ≡ Ok entered → c ≡ entered
 given_within c entered =
@@ -80,6 +96,7 @@ rounds setting s a from positive =
       file = elim (is_file_backed setting.plan s) as (λ b. (if b then from.file + padding else from.file) ≡ from.file + (if b then padding else 0)) [ true ↦ refl | false ↦ omega arith ];
       memory = omega (arith, reaches);
       saved = refl;
+      pending = refl;
     }
 
 unpadded : (setting : Setting) (s : ℕ) (from : Cursors) → Pads setting s from from
@@ -88,14 +105,15 @@ unpadded setting s from = record {
   file = elim (is_file_backed setting.plan s) as (λ b. from.file ≡ from.file + (if b then 0 else 0)) [ true ↦ omega arith | false ↦ omega arith ];
   memory = omega arith;
   saved = refl;
+  pending = refl;
 }
 
-run_pads : (setting : Setting) (s : ℕ) (from entered : Cursors) → run_begun setting s from ≡ Ok entered → Pads setting s from entered
-run_pads setting s from entered =
+run_pads : (setting : Setting) (s : ℕ) (took : Bool) (from entered : Cursors) → run_begun setting s took from ≡ Ok entered → Pads setting s from entered
+run_pads setting s took from entered =
     let a : ℕ = thread_local_alignment setting.plan setting.sizes in
     let to : Cursors = padded (is_file_backed setting.plan s) a from in
     let positive : 0 < a = omega (arith, greatest_of-least 1 (thread_local_ones setting.plan (section_alignments setting.plan setting.sizes))) in
-    elim (begins_run setting s from) as (λ b. (if b then within_64 to else Ok from) ≡ Ok entered → Pads setting s from entered) [
+    elim (begins_run setting s from && not took) as (λ b. (if b then within_64 to else Ok from) ≡ Ok entered → Pads setting s from entered) [
       | true ↦ λ h. subst (Pads setting s from) (given_within to entered h) (rounds setting s a from positive)
       | false ↦ λ h. let same : from ≡ entered = cc in subst (Pads setting s from) same (unpadded setting s from)
     ]
@@ -107,35 +125,109 @@ pub record Enters (setting : Setting) (s : ℕ) (from entered : Cursors) : Type 
   pub free : free_memory from ≤ free_memory entered
   pub taken : is_zero_fill_thread_local setting.plan s ≡ false → (entered.memory ≡ free_memory from + padding) × (entered.saved ≡ None)
   pub kept : is_zero_fill_thread_local setting.plan s ≡ true → entered.saved ≡ Some (free_memory from)
+  pub pending : entered.pending ≡ from.pending
 
 saves : (setting : Setting) (s : ℕ) (from entered : Cursors) → is_zero_fill_thread_local setting.plan s ≡ true → Pads setting s (saving from) entered → Enters setting s from entered
 saves setting s from entered fills pads =
     let along : free_memory entered ≡ free_memory from = ap (λ (o : Option ℕ). unwrap_or o entered.memory) pads.saved in
-    record { padding = pads.padding; file = pads.file; free = omega (arith, along); taken = λ none. absurd (cc); kept = λ is. pads.saved }
+    record { padding = pads.padding; file = pads.file; free = omega (arith, along); taken = λ none. absurd (cc); kept = λ is. pads.saved; pending = pads.pending }
 
 restores : (setting : Setting) (s : ℕ) (from entered : Cursors) → is_zero_fill_thread_local setting.plan s ≡ false → Pads setting s (restoring from) entered → Enters setting s from entered
 restores setting s from entered filled pads =
     let along : free_memory entered ≡ entered.memory = ap (λ (o : Option ℕ). unwrap_or o entered.memory) pads.saved in
-    record { padding = pads.padding; file = pads.file; free = omega (arith, along, pads.memory); taken = λ none. (pads.memory, pads.saved); kept = λ is. absurd (cc) }
+    record { padding = pads.padding; file = pads.file; free = omega (arith, along, pads.memory); taken = λ none. (pads.memory, pads.saved); kept = λ is. absurd (cc); pending = pads.pending }
 
-pub enters : (setting : Setting) (s : ℕ) (from entered : Cursors) → moved setting (Section s) from ≡ Ok entered → Enters setting s from entered
-enters setting s from entered h =
-    let pads : Pads setting s (saved_or_restored setting.plan s from) entered = run_pads setting s (saved_or_restored setting.plan s from) entered h in
+pub enters : (setting : Setting) (known : Known) (s : ℕ) (from entered : Cursors) → from.pending ≡ None → moved setting known (Section s) from ≡ Ok entered → Enters setting s from entered
+enters setting known s from entered quiet h =
+    let saved : Cursors = saved_or_restored setting.plan s from in
+    let plainly : run_begun setting s false saved ≡ Ok entered = sym (ap (λ (o : Option ℕ). run_begun_behind setting s (is_some o) (taken setting.plan s saved o)) quiet) ∙ h in
+    let pads : Pads setting s saved entered = run_pads setting s false saved entered plainly in
     elim (is_zero_fill_thread_local setting.plan s) as (λ b. is_zero_fill_thread_local setting.plan s ≡ b → Pads setting s (if b then saving from else restoring from) entered → Enters setting s from entered) [
       | true ↦ λ fills padded_too. saves setting s from entered fills padded_too
       | false ↦ λ filled padded_too. restores setting s from entered filled padded_too
     ] refl pads
 
--- an event moves nothing before it places its section, or opens a load segment, or begins a section
+-- an event that moves no location, where none waits, moves nothing before it places its section, or opens a load segment, or begins a
+-- section
 pub data Moves (setting : Setting) (e : OrderEvent) (from entered : Cursors) : Type 0 where
   Stays : entered ≡ from → Moves setting e from entered
   Opened : Opens setting e from entered → Moves setting e from entered
   Entered : (s : ℕ) → e ≡ Section s → Enters setting s from entered → Moves setting e from entered
 
-pub moves : (setting : Setting) (e : OrderEvent) (from entered : Cursors) → moved setting e from ≡ Ok entered → Moves setting e from entered
-moves setting (SegmentStart i) from entered h = elim (opened setting i from entered h) [ inl same ↦ Stays same | inr opens ↦ Opened opens ]
-moves setting (SegmentEnd i) from entered h = Stays (same_of from entered (Ok from) refl h)
-moves setting (Section s) from entered h = Entered s refl (enters setting s from entered h)
-moves setting (SetLocation x) from entered h = Stays (same_of from entered (Ok from) refl h)
-moves setting (SetLocationRelative x s) from entered h = Stays (same_of from entered (Ok from) refl h)
-moves setting (SetSectionAddress x) from entered h = Stays (same_of from entered (Ok from) refl h)
+pub moves : (setting : Setting) (known : Known) (e : OrderEvent) (from entered : Cursors) → IsAboutPlace e → from.pending ≡ None → moved setting known e from ≡ Ok entered → Moves setting e from entered
+moves setting known (SegmentStart i) from entered about quiet h = elim (opens_so setting i from entered (sym (opens_quietly setting known i from quiet) ∙ h)) [ inl same ↦ Stays same | inr opens ↦ Opened opens ]
+moves setting known (SegmentEnd i) from entered about quiet h = Stays (same_of from entered (Ok from) refl h)
+moves setting known (Section s) from entered about quiet h = Entered s refl (enters setting known s from entered quiet h)
+moves setting known (SetLocation x) from entered about quiet h = absurd about
+moves setting known (SetLocationRelative x s) from entered about quiet h = absurd about
+moves setting known (SetSectionAddress x) from entered about quiet h = absurd about
+
+-- no location waits behind it
+pub stays_quiet : (setting : Setting) (known : Known) (e : OrderEvent) (from entered : Cursors) → IsAboutPlace e → from.pending ≡ None → moved setting known e from ≡ Ok entered → entered.pending ≡ None
+stays_quiet setting known e from entered about quiet h =
+    elim (moves setting known e from entered about quiet h) [
+      | Stays same ↦ ap (λ (c : Cursors). c.pending) same ∙ quiet
+      | Opened opens ↦ opens.pending ∙ quiet
+      | Entered s is begun ↦ begun.pending ∙ quiet
+    ]
+
+-- ---- whatever an event does, the file never goes back
+
+awaits : (from entered : Cursors) (r : Result ℕ Refusal) → awaiting from r ≡ Ok entered → from.file ≤ entered.file
+awaits from entered (Ok l) h =
+    let there : Cursors = record from { pending = Some l } in
+    let same : there ≡ entered = cc in
+    let file : from.file ≡ entered.file = ap (λ (c : Cursors). c.file) same in
+    omega (arith, file)
+awaits from entered (Err refusal) h = absurd (cc)
+
+opens_file : (setting : Setting) (i : ℕ) (from entered : Cursors) (o : Option ℕ) → opened setting i from o ≡ Ok entered → from.file ≤ entered.file
+opens_file setting i from entered None h =
+    let there = moved_to from entered (setting.target.segment_start (place_alignment setting i) from.file from.memory) h in
+    omega (arith, there.0)
+opens_file setting i from entered (Some l) h =
+    let to : Cursors = record from { file = next_congruent (place_alignment setting i) l from.file; memory = l } in
+    let file : to.file ≡ entered.file = ap (λ (c : Cursors). c.file) (given_within to entered h) in
+    omega (arith, file)
+
+saved_file : (plan : Plan) (s : ℕ) (from : Cursors) → (saved_or_restored plan s from).file ≡ from.file
+saved_file plan s from = elim (is_zero_fill_thread_local plan s) as (λ b. (if b then saving from else restoring from).file ≡ from.file) [ true ↦ refl | false ↦ refl ]
+
+along_file : (from to : Cursors) (l : ℕ) → moved_along from l ≡ Ok to → from.file ≤ to.file
+along_file from to l =
+    let there : Cursors = record from { file = from.file + (l - from.memory); memory = l; pending = None } in
+    elim (nat_lt l from.memory) as (λ b. (if b then Err (Backwards from.memory l) else within_64 there) ≡ Ok to → from.file ≤ to.file) [
+      | true ↦ λ h. absurd (cc)
+      | false ↦ λ h. let file : there.file ≡ to.file = ap (λ (c : Cursors). c.file) (given_within there to h) in omega (arith, file)
+    ]
+
+taken_file : (plan : Plan) (s : ℕ) (from to : Cursors) (o : Option ℕ) → taken plan s from o ≡ Ok to → from.file ≤ to.file
+taken_file plan s from to None h = let same : from ≡ to = cc in omega (arith, ap (λ (c : Cursors). c.file) same)
+taken_file plan s from to (Some l) h =
+    let there : Cursors = record from { memory = l; pending = None } in
+    elim (moves_file plan s) as (λ b. (if b then moved_along from l else Ok there) ≡ Ok to → from.file ≤ to.file) [
+      | true ↦ λ g. along_file from to l g
+      | false ↦ λ g. let same : there ≡ to = cc in let file : there.file ≡ to.file = ap (λ (c : Cursors). c.file) same in omega (arith, file)
+    ] h
+
+begun_file : (setting : Setting) (s : ℕ) (took : Bool) (from entered : Cursors) (r : Result Cursors Refusal) → ((to : Cursors) → r ≡ Ok to → from.file ≤ to.file)
+    → run_begun_behind setting s took r ≡ Ok entered → from.file ≤ entered.file
+begun_file setting s took from entered (Ok to) rises h =
+    let pads : Pads setting s to entered = run_pads setting s took to entered h in
+    omega (arith, rises to refl, pads.file)
+begun_file setting s took from entered (Err refusal) rises h = absurd (cc)
+
+pub file_grows : (setting : Setting) (known : Known) (e : OrderEvent) (from entered : Cursors) → moved setting known e from ≡ Ok entered → from.file ≤ entered.file
+file_grows setting known (SegmentStart i) from entered h =
+    elim (is_load (segment_at setting.plan.segments i).kind) as (λ b. (if b then opened setting i from from.pending else Ok from) ≡ Ok entered → from.file ≤ entered.file) [
+      | true ↦ λ g. opens_file setting i from entered from.pending g
+      | false ↦ λ g. omega (arith, ap (λ (c : Cursors). c.file) (same_of from entered (Ok from) refl g))
+    ] h
+file_grows setting known (SegmentEnd i) from entered h = omega (arith, ap (λ (c : Cursors). c.file) (same_of from entered (Ok from) refl h))
+file_grows setting known (Section s) from entered h =
+    begun_file setting s (is_some from.pending) from entered (taken setting.plan s (saved_or_restored setting.plan s from) from.pending)
+    (λ to is. omega (arith, saved_file setting.plan s from, taken_file setting.plan s (saved_or_restored setting.plan s from) to from.pending is)) h
+file_grows setting known (SetLocation x) from entered h = awaits from entered (value_at setting known from x) h
+file_grows setting known (SetLocationRelative x s) from entered h =
+    awaits from entered (behind_start (known.section (primary_of setting.plan.sections s)) (value_at setting known from x)) h
+file_grows setting known (SetSectionAddress x) from entered h = awaits from entered (value_at setting known from x) h

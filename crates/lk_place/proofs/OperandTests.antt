@@ -7,7 +7,7 @@ use Rattle.lk_link.specs.declared.expression.Operand.{Operand}
 use Rattle.lk_link.specs.declared.expression.Token.{Token}
 use Rattle.lk_link.specs.declared.expression.Token.TheVariants as token
 use Rattle.lk_link.specs.Expressions.{Term, Leaf, Node, postfix}
-use Rattle.lk_place.specs.Constants.{all_operands, operand_passes}
+use Rattle.lk_link.specs.ExpressionRules.{all_operands, operand_passes}
 
 with_true : (b : Bool) → (b && true) ≡ b
 with_true true = refl

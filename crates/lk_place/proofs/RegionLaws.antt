@@ -5,7 +5,7 @@ use Rattle.std.specs.List.{slice_index_or}
 use Rattle.std.proofs.Math.Seq.{drop-cons, drop-length}
 use Rattle.lk_link.specs.declared.plan.Region.{Region}
 use Rattle.lk_place.specs.declared.error.PlaceError.{PlaceError}
-use Rattle.lk_place.specs.declared.error.PlaceError.TheVariants.{AddressOverflow, BaseTooLow, Expression, NoMemory, RegionDuplicate, SectionOutsideSegments}
+use Rattle.lk_place.specs.declared.error.PlaceError.TheVariants.{AddressOverflow, BaseTooLow, Expression, LocationBackwards, NoMemory, OutsideRegion, RegionDuplicate, RegionOverflow, RegionUnknown, SectionOutsideSegments}
 use Rattle.lk_place.specs.Regions.{GivesRegions, all_given, region_of, regions_of}
 use Rattle.lk_place.proofs.GivenLists.{behind, given_last, given_more, given_refused}
 
@@ -48,6 +48,10 @@ gives_refusal (AddressOverflow at) regions h = h
 gives_refusal (RegionDuplicate region) regions h = h
 gives_refusal (Expression at cause) regions h = h
 gives_refusal (BaseTooLow base headers) regions h = h
+gives_refusal (RegionUnknown s) regions h = h
+gives_refusal (RegionOverflow region by) regions h = h
+gives_refusal (OutsideRegion event address) regions h = h
+gives_refusal (LocationBackwards from to) regions h = h
 gives_refusal (SectionOutsideSegments s) regions h = h
 
 -- a refusal that is handed on

@@ -179,9 +179,9 @@ first_end setting s i begin walked =
 
 -- ---- the walk over the parts
 
--- there is one refusal
-refusal_one : (r : Refusal) → r ≡ Overflow
-refusal_one Overflow = refl
+-- what is refused passes 2^64 - 1
+refusal_one : {X : Type 0} (c : Offsets) (x : X) (r : Refusal) → Err r ≡ unless (overflow_at c) x → r ≡ Overflow
+refusal_one {X} c x r h = elim (is_below c) as (λ b. Err r ≡ unless {X = X} (cond b None (Some Overflow)) x → r ≡ Overflow) [ true ↦ λ e. absurd (cc) | false ↦ λ e. cc ] h
 
 -- what is given are the cursors themselves
 pub given_is : (c d : Offsets) → Ok d ≡ unless (overflow_at c) c → d ≡ c
@@ -219,7 +219,7 @@ pub part_refused : (setting : Setting) (s : ℕ) (begin from : Offsets) (j count
     → Err r ≡ unless (overflow_at (end_behind setting s begin count)) (end_behind setting s begin count)
 part_refused setting s begin from j count p r so_far less at refused =
     let same : next_end setting s (part_number setting.plan.sections s j) (end_behind setting s begin j) ≡ next_end setting s p from = cc in
-    let one : r ≡ Overflow = refusal_one r in
+    let one : r ≡ Overflow = refusal_one (next_end setting s p from) (next_end setting s p from) r refused in
     let here : unless (overflow_at (end_behind setting s begin (suc j))) (end_behind setting s begin (suc j)) ≡ Err Overflow =
     ap (λ (c : Offsets). unless (overflow_at c) c) same ∙ sym refused ∙ ap (λ (x : Refusal). Err x) one in
     ap (λ (x : Refusal). Err x) one ∙ sym (stays_past setting s begin (suc j) count (omega arith) here)
@@ -259,4 +259,4 @@ first_refused setting s begin first r ready below at refused =
     ∙ ap behind (sym at) in
     let past : unless (overflow_at (end_behind setting s begin (suc i))) (end_behind setting s begin (suc i)) ≡ Err Overflow =
     unless_past (end_behind setting s begin (suc i)) (λ fits. refused_past (behind first) first r refused (ap is_below (sym same) ∙ fits)) in
-    ap (λ (x : Refusal). Err x) (refusal_one r) ∙ sym (stays_past setting s begin (suc i) (part_count setting.plan.sections s) (omega (arith, walked.within)) past)
+    ap (λ (x : Refusal). Err x) (refusal_one (behind first) first r refused) ∙ sym (stays_past setting s begin (suc i) (part_count setting.plan.sections s) (omega (arith, walked.within)) past)

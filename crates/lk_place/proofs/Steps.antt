@@ -1,25 +1,32 @@
 -- What each event does to the cursors, and where the parts stand that it places.
-use Rattle.std.proofs.Common.{◌≡◌, ℕ, ◌+◌, ◌-◌, ◌≤◌, ◌<◌, Bool, true, false, List, length, Option, Some, None, Ok, refl, sym, ap, subst, ◌∙◌, inl, inr, arith}
-use Rattle.std.specs.Prelude.{if◌then◌else◌, slice_get, unwrap_or}
+use Rattle.std.proofs.Common.{◌≡◌, ℕ, zero, suc, ◌+◌, ◌-◌, ◌≤◌, ◌<◌, Bool, true, false, List, length, Option, Some, None, Ok, refl, sym, ap, subst, ◌∙◌, inl, inr, arith, add-one}
+use Rattle.std.specs.Prelude.{if◌then◌else◌, slice_get, unwrap_or, Result, Err}
 use Rattle.std.specs.List.{slice_index_or}
 use Rattle.std.proofs.lemmas.Bool.{and_parts, not-true}
-use Rattle.std.proofs.lemmas.Option.{slice_get-get_or}
+use Rattle.std.proofs.lemmas.Option.{get_or_from_slice_get, slice_get-get_or}
 use Rattle.lk_link.specs.declared.plan.OrderEvent.{OrderEvent}
 use Rattle.lk_link.specs.declared.plan.OrderEvent.TheVariants.{SegmentEnd, Section}
 use Rattle.lk_link.specs.Inside.{placed_section}
 use Rattle.lk_link.specs.Parts.{first_part}
+use Rattle.lk_link.specs.declared.plan.Plan.{Plan}
 use Rattle.lk_link.specs.PlanSections.{has_memory, is_allocated, is_zero_fill_thread_local}
+use Rattle.lk_link.specs.WellFormed.{IsAboutPlace}
 use Rattle.lk_place.specs.declared.cursors.Cursors.{Cursors}
 use Rattle.lk_place.specs.declared.cursors.Offsets.{Offsets}
+use Rattle.lk_place.specs.declared.error.PlaceError.{PlaceError}
 use Rattle.lk_place.specs.Alignments.{place_alignment}
 use Rattle.lk_place.specs.Laws.{IsSoundlySet}
+use Rattle.lk_place.specs.PlacedBefore.{Known, known_before}
 use Rattle.lk_place.specs.Placement.{IsPlaced, Places, PlacesSection, Steps, moved, reached, section_start, state_at}
 use Rattle.lk_place.specs.Records.{Record, file_end, mem_end}
 use Rattle.lk_place.specs.Setting.{Setting, part_count}
+use Rattle.lk_place.specs.Start.{BeginsAt, begun_memory, cursors_at, first_cursors, no_cursors, start}
 use Rattle.lk_place.specs.ThreadLocal.{free_memory}
+use Rattle.lk_place.specs.Walk.{first_state}
 use Rattle.lk_place.proofs.AlignmentLaws.{place_aligned}
-use Rattle.lk_place.proofs.Moves.{Moves, Stays, Opened, Entered, enters, moves}
+use Rattle.lk_place.proofs.Moves.{Moves, Stays, Opened, Entered, enters, file_grows, moves, stays_quiet}
 use Rattle.lk_place.proofs.Ranges.{Follow, file_ranges, memory_ranges, rises, section_follows}
+use Rattle.lk_place.proofs.WalkSteps.{has_first, start_given}
 
 -- what follows from low to high follows from lower to higher
 widened : (begin end : Record → ℕ) (records : List Record) (first count low high low' high' : ℕ) → Follow begin end records first count low high → low' ≤ low → high ≤ high'
@@ -37,21 +44,47 @@ event_at setting states records k is less =
     (slice_index_or setting.plan.events k (SegmentEnd 0), slice_get-get_or setting.plan.events k (SegmentEnd 0) (omega (arith, is.within)))
 
 pub step_at : (setting : Setting) (states : List Cursors) (records : List Record) (k : ℕ) (e : OrderEvent) → IsPlaced setting states records → k < length states - 1
-    → slice_get setting.plan.events k ≡ Some e → Steps setting e (state_at states k) records (state_at states (k + 1))
+    → slice_get setting.plan.events k ≡ Some e → Steps setting (known_before setting.plan records k) e (state_at states k) records (state_at states (k + 1))
 step_at setting states records k e is less here = (is.steps k e (omega arith) here).steps
+
+-- ---- no location waits
+
+-- nothing in a plan moves the location
+abbrev pub MovesNothing : Plan → Type 0
+MovesNothing plan = (k : ℕ) (e : OrderEvent) → slice_get plan.events k ≡ Some e → IsAboutPlace e
+
+waits_first : (r : Result ℕ PlaceError) (c : Cursors) → cursors_at r ≡ Ok c → (c.saved ≡ None) × (c.pending ≡ None)
+waits_first (Ok memory) c h = let same : first_cursors memory ≡ c = cc in (sym (ap (λ (d : Cursors). d.saved) same), sym (ap (λ (d : Cursors). d.pending) same))
+waits_first (Err e) c h = absurd (cc)
+
+-- before all events nothing is saved, and no location waits
+pub nothing_first : (setting : Setting) (states : List Cursors) → BeginsAt (start setting) states → 0 < length states → ((state_at states 0).saved ≡ None) × ((state_at states 0).pending ≡ None)
+nothing_first setting states begins some =
+    let given : start setting ≡ Ok (first_state setting) = start_given (start setting) states begins some in
+    let first : state_at states 0 ≡ first_state setting = get_or_from_slice_get states 0 (first_state setting) no_cursors (has_first (start setting) (first_state setting) states given begins) in
+    let none = waits_first (begun_memory setting.plan setting.groups setting.headers setting.positions) (first_state setting) given in
+    (ap (λ (c : Cursors). c.saved) first ∙ none.0, ap (λ (c : Cursors). c.pending) first ∙ none.1)
+
+places_quietly : (setting : Setting) (o : Option ℕ) (entered to : Cursors) (records : List Record) → Places setting o entered records to → to.pending ≡ entered.pending
+places_quietly setting None entered to records h = ap (λ (c : Cursors). c.pending) h
+places_quietly setting (Some s) entered to records h = ap (λ (c : Cursors). c.pending) h.leaves
+
+-- where nothing moves the location, none ever waits
+pub never_waits : (setting : Setting) (states : List Cursors) (records : List Record) → IsPlaced setting states records → MovesNothing setting.plan
+    → (k : ℕ) → k < length states → (state_at states k).pending ≡ None
+never_waits setting states records is unmoved zero less = (nothing_first setting states is.begins less).1
+never_waits setting states records is unmoved (suc k) less =
+    let event = event_at setting states records k is (omega arith) in
+    let step = step_at setting states records k event.0 is (omega arith) event.1 in
+    let before : (state_at states k).pending ≡ None = never_waits setting states records is unmoved k (omega arith) in
+    ap (λ (n : ℕ). (state_at states n).pending) (sym (add-one k))
+    ∙ places_quietly setting (placed_section event.0) step.entered (state_at states (k + 1)) records step.places
+    ∙ stays_quiet setting (known_before setting.plan records k) event.0 (state_at states k) step.entered (unmoved k event.0 event.1) before step.moves
 
 -- ---- in the file
 
 abbrev FollowInFile : Setting → List Record → ℕ → ℕ → ℕ → Type 0
 FollowInFile setting records s low high = Follow (λ r. r.file_offset) file_end records (first_part setting.plan.sections s) (part_count setting.plan.sections s) low high
-
-pub entered_file : (setting : Setting) (e : OrderEvent) (from entered : Cursors) → moved setting e from ≡ Ok entered → from.file ≤ entered.file
-entered_file setting e from entered h =
-    elim (moves setting e from entered h) [
-      | Stays same ↦ omega (arith, ap (λ (c : Cursors). c.file) same)
-      | Opened opens ↦ omega (arith, opens.file)
-      | Entered s is begun ↦ omega (arith, begun.file)
-    ]
 
 section_in_file : (setting : Setting) (s : ℕ) (entered to : Cursors) (records : List Record) → PlacesSection setting s entered records to → FollowInFile setting records s entered.file to.file
 section_in_file setting s entered to records h =
@@ -72,7 +105,7 @@ file_rises setting states records is k less =
     let step = step_at setting states records k event.0 is less event.1 in
     omega (
       arith,
-      entered_file setting event.0 (state_at states k) step.entered step.moves,
+      file_grows setting (known_before setting.plan records k) event.0 (state_at states k) step.entered step.moves,
       places_in_file setting (placed_section event.0) step.entered (state_at states (k + 1)) records step.places,
     )
 
@@ -84,7 +117,7 @@ file_follows setting states records is k s less here =
     let from : Cursors = state_at states k in
     let to : Cursors = state_at states (k + 1) in
     widened (λ r. r.file_offset) file_end records (first_part setting.plan.sections s) (part_count setting.plan.sections s) step.entered.file to.file from.file to.file
-    (section_in_file setting s step.entered to records step.places) (entered_file setting (Section s) from step.entered step.moves) (omega arith)
+    (section_in_file setting s step.entered to records step.places) (file_grows setting (known_before setting.plan records k) (Section s) from step.entered step.moves) (omega arith)
 
 -- ---- in memory
 
@@ -100,9 +133,9 @@ free_rises c d same rises =
     omega (arith, along, rest)
 
 entered_free : (setting : Setting) (states : List Cursors) (records : List Record) → IsSoundlySet setting states records
-    → (e : OrderEvent) (from entered : Cursors) → moved setting e from ≡ Ok entered → free_memory from ≤ free_memory entered
-entered_free setting states records set e from entered h =
-    elim (moves setting e from entered h) [
+    → (known : Known) (e : OrderEvent) (from entered : Cursors) → IsAboutPlace e → from.pending ≡ None → moved setting known e from ≡ Ok entered → free_memory from ≤ free_memory entered
+entered_free setting states records set known e from entered about quiet h =
+    elim (moves setting known e from entered about quiet h) [
       | Stays same ↦ omega (arith, ap free_memory same)
       | Opened opens ↦ free_rises from entered opens.saved (omega (
         arith,
@@ -136,27 +169,29 @@ places_in_memory setting (Some s) entered to records h =
     free_rises entered to (ap (λ (c : Cursors). c.saved) h.leaves) (section_in_place setting s entered to records (is_allocated setting.plan s) refl h)
 
 -- what is free of memory never falls
-pub memory_rises : (setting : Setting) (states : List Cursors) (records : List Record) → IsSoundlySet setting states records
+pub memory_rises : (setting : Setting) (states : List Cursors) (records : List Record) → IsSoundlySet setting states records → MovesNothing setting.plan
     → (k : ℕ) → k < length states - 1 → free_memory (state_at states k) ≤ free_memory (state_at states (k + 1))
-memory_rises setting states records set k less =
+memory_rises setting states records set unmoved k less =
     let event = event_at setting states records k set.placed less in
     let step = step_at setting states records k event.0 set.placed less event.1 in
     omega (
       arith,
-      entered_free setting states records set event.0 (state_at states k) step.entered step.moves,
+      entered_free setting states records set (known_before setting.plan records k) event.0 (state_at states k) step.entered (unmoved k event.0 event.1)
+          (never_waits setting states records set.placed unmoved k (omega arith)) step.moves,
       places_in_memory setting (placed_section event.0) step.entered (state_at states (k + 1)) records step.places,
     )
 
 -- the parts of a section that has memory follow one another in what is free between the cursors round its event
-pub memory_follows : (setting : Setting) (states : List Cursors) (records : List Record) → IsSoundlySet setting states records
+pub memory_follows : (setting : Setting) (states : List Cursors) (records : List Record) → IsSoundlySet setting states records → MovesNothing setting.plan
     → (k s : ℕ) → k < length states - 1 → slice_get setting.plan.events k ≡ Some (Section s) → has_memory setting.plan s ≡ true
     → FollowInMemory setting records s (free_memory (state_at states k)) (free_memory (state_at states (k + 1)))
-memory_follows setting states records set k s less here memory =
+memory_follows setting states records set unmoved k s less here memory =
     let step = step_at setting states records k (Section s) set.placed less here in
     let has = and_parts (is_allocated setting.plan s) _ memory in
     let from : Cursors = state_at states k in
     let to : Cursors = state_at states (k + 1) in
-    let taken = (enters setting s from step.entered step.moves).taken (not-true (is_zero_fill_thread_local setting.plan s) has.1) in
+    let quiet : from.pending ≡ None = never_waits setting states records set.placed unmoved k (omega arith) in
+    let taken = (enters setting (known_before setting.plan records k) s from step.entered quiet step.moves).taken (not-true (is_zero_fill_thread_local setting.plan s) has.1) in
     let places : PlacesSection setting s step.entered records to = step.places in
     let unsaved : to.saved ≡ None = ap (λ (c : Cursors). c.saved) places.leaves ∙ taken.1 in
     let behind : free_memory to ≡ to.memory = ap (λ (o : Option ℕ). unwrap_or o to.memory) unsaved in

@@ -5,8 +5,7 @@ use Rattle.std.proofs.lemmas.Bool.{cases_Bool, eqb-true}
 use Rattle.std.proofs.lemmas.Bool.Decides.{nat_tests}
 use Rattle.std.specs.List.{enumerate_from, slice_index_or}
 use Rattle.lk_link.proofs.Numbers.{length-made, made_at}
-use Rattle.lk_place.specs.Records.{Record}
-use Rattle.lk_place.specs.Walk.{lies_in}
+use Rattle.lk_place.specs.PlacedBefore.{lies_in}
 
 among_last : (first j : ℕ) → lies_in first (j + 1) (first + j) ≡ true
 among_last first j = grind (arith, nat_tests)
@@ -15,11 +14,11 @@ among_other : (first j p : ℕ) → (p == first + j) ≡ false → lies_in first
 among_other first j p h = grind (arith, nat_tests)
 
 -- a range that is filled up to j, and one more
-pub range_grows : (new old base f : ℕ → Record) (first j q : ℕ) → q ≡ first + j
+pub range_grows : {X : Type 0} (new old base f : ℕ → X) (first j q : ℕ) → q ≡ first + j
     → ((p : ℕ) → new p ≡ (if p == q then f q else old p))
     → ((p : ℕ) → old p ≡ (if lies_in first j p then f p else base p))
     → (p : ℕ) → new p ≡ (if lies_in first (j + 1) p then f p else base p)
-range_grows new old base f first j q at writes filled p =
+range_grows {X} new old base f first j q at writes filled p =
     elim (cases_Bool (p == q)) [
       | inl here ↦
           let same : p ≡ q = eqb-true p q here in

@@ -4,7 +4,7 @@ use Rattle.std.specs.Prelude.{slice_get, option_map, Result, Ok, Err}
 use Rattle.std.specs.List.{enumerate_from, slice_index_or}
 use Rattle.std.proofs.lemmas.Bool.{cases_lt}
 use Rattle.std.proofs.lemmas.List.{ext_get_or, get_or_past}
-use Rattle.std.proofs.lemmas.Option.{slice_get-get_or}
+use Rattle.std.proofs.lemmas.Option.{get_or_from_slice_get, slice_get-get_or, slice_get_within}
 use Rattle.lk_link.specs.declared.plan.OrderEvent.{OrderEvent}
 use Rattle.lk_link.specs.declared.plan.OrderEvent.TheVariants.{SegmentStart, SegmentEnd, Section, SetLocation, SetLocationRelative, SetSectionAddress}
 use Rattle.lk_link.specs.Inside.{placed_section}
@@ -14,15 +14,18 @@ use Rattle.lk_link.proofs.PartNumbers.{parts_end-le}
 use Rattle.lk_place.specs.declared.cursors.Cursors.{Cursors}
 use Rattle.lk_place.specs.declared.error.PlaceError.{PlaceError}
 use Rattle.lk_place.specs.declared.error.Refusal.{Refusal}
-use Rattle.lk_place.specs.Placement.{IsFirst, IsPlaced, IsPlacedBefore, Passes, Places, Steps, event_refusal, moved, numbered, placement_refusal, refusal_behind_move, refusal_of, section_start, state_at, step_refusal}
+use Rattle.lk_place.specs.Placement.{IsPlaced, IsPlacedBefore, Passes, Places, Steps, event_refusal, first_refusal, moved, numbered, placement_refusal, refusal_behind, refusal_behind_move, refusal_of, section_start, state_at, step_refusal}
 use Rattle.lk_place.specs.PlacementLaws.{PlacementExists, PlacementIsOne}
+use Rattle.lk_place.specs.PlacedBefore.{Known, known_before}
 use Rattle.lk_place.specs.Plans.{IsPlaceable, IsPlaceableEvent}
 use Rattle.lk_place.specs.Records.{Record, nowhere, record_at}
-use Rattle.lk_place.specs.Setting.{IsReady, Setting, part_number}
-use Rattle.lk_place.specs.Walk.{AllPass, after_move, cursors_after, entered, left_behind, record_after, record_by, stepped}
+use Rattle.lk_place.specs.Setting.{IsReady, Setting, part_count, part_number}
+use Rattle.lk_place.specs.Start.{BeginsAt, no_cursors, start}
+use Rattle.lk_place.specs.Walk.{AllPass, after_move, cursors_after, entered, first_state, known_after, left_behind, records_after, refused_at, record_after, record_by, stepped}
 use Rattle.lk_place.proofs.PlacedSections.{AreMade, MakesSection, made_places, places_makes}
-use Rattle.lk_place.proofs.WalkRecords.{PlacesAt, placed_or_not, record_absent, record_placed, section_there}
-use Rattle.lk_place.proofs.WalkSteps.{cursors_first, cursors_next, first_from, first_is}
+use Rattle.lk_place.proofs.Knowing.{known_is}
+use Rattle.lk_place.proofs.WalkRecords.{PlacesAt, placed_below, placed_or_not, record_absent, record_kept, record_placed, section_there}
+use Rattle.lk_place.proofs.WalkSteps.{cursors_first, cursors_next, has_first, has_none, record_first, start_given, starts}
 
 -- ---- the states
 
@@ -47,6 +50,11 @@ states_to setting n = states_from setting 0 n
 
 state_is : (setting : Setting) (n k : ℕ) → k ≤ n → state_at (states_to setting n) k ≡ cursors_after setting k
 state_is setting n k h = states_at setting 0 n k h ∙ ap (cursors_after setting) (zero-add k)
+
+-- the first of them
+states_first : (setting : Setting) (k n : ℕ) → slice_get (states_from setting k n) 0 ≡ Some (cursors_after setting k)
+states_first setting k zero = refl
+states_first setting k (suc n) = refl
 
 -- ---- one event that isn't refused
 
@@ -78,62 +86,76 @@ event_places setting (Section s) c records to ready is there made = made_places 
 -- the walk over the first n events, of which none is refused; the next is, or there is none
 pub record IsWalk (setting : Setting) (n : ℕ) (records : List Record) : Type 0 where
   pub ready : IsReady setting
+  pub starts : start setting ≡ Ok (first_state setting)
   pub within : n ≤ length setting.plan.events
   pub pass : AllPass setting n
-  pub stops : refusal_of setting n (slice_get setting.plan.events n) (cursors_after setting n) ≡ None → n ≡ length setting.plan.events
+  pub stops : refused_at setting n ≡ None → n ≡ length setting.plan.events
   pub each : length records ≡ length (all_parts setting.plan.sections)
   pub at : (p : ℕ) → p < length (all_parts setting.plan.sections) → record_at records p ≡ record_after setting n p
+
+-- the records of a walk tell what it knows at each event
+pub walk_known : (setting : Setting) (n k : ℕ) (records : List Record) → IsWalk setting n records → k ≤ n → known_before setting.plan records k ≡ known_after setting k
+walk_known setting n k records walk le =
+    known_is setting k records walk.ready walk.each (λ p before.
+    let below : p < length (all_parts setting.plan.sections) = placed_below setting k p walk.ready before in
+    walk.at p below
+    ∙ record_kept setting k n p walk.ready le before
+    ∙ sym (made_at (record_after setting k) nowhere (all_parts setting.plan.sections) 0 p below ∙ ap (record_after setting k) (zero-add p)))
 
 -- each event of a plan that is placed is
 placeable_event : (setting : Setting) (k : ℕ) (e : OrderEvent) → IsPlaceable setting.plan setting.output → slice_get setting.plan.events k ≡ Some e
     → IsPlaceableEvent setting.plan e
-placeable_event setting k e may here = record { about = may.events k e here; section = λ s named. may.sections s }
+placeable_event setting k e may here = record { section = λ s named. may.sections s }
 
 walk_passes : (setting : Setting) (n : ℕ) (records : List Record) → IsPlaceable setting.plan setting.output → IsWalk setting n records
     → (k : ℕ) (e : OrderEvent) → k < n → slice_get setting.plan.events k ≡ Some e → Passes setting (states_to setting n) records k e
 walk_passes setting n records may walk k e less here =
     let from : Cursors = cursors_after setting k in
+    let known : Known = known_after setting k in
+    let same : known ≡ known_before setting.plan records k = sym (walk_known setting n k records walk (omega arith)) in
     let at : state_at (states_to setting n) k ≡ from = state_is setting n k (omega arith) in
-    let next : state_at (states_to setting n) (k + 1) ≡ left_behind setting (placed_section e) (entered setting e from) =
-    state_is setting n (k + 1) (omega arith) ∙ cursors_next setting k ∙ ap (λ (o : Option OrderEvent). stepped setting o from) here in
-    let unrefused : step_refusal setting k e from ≡ None = ap (λ (o : Option OrderEvent). refusal_of setting k o from) (sym here) ∙ walk.pass k less in
-    let gives : moved setting e from ≡ Ok (entered setting e from) = move_given setting (placed_section e) from (moved setting e from) (unnumbered k (event_refusal setting e from) unrefused) in
-    let places : Places setting (placed_section e) (entered setting e from) records (state_at (states_to setting n) (k + 1)) =
-    event_places setting e (entered setting e from) records (state_at (states_to setting n) (k + 1)) walk.ready next
+    let next : state_at (states_to setting n) (k + 1) ≡ left_behind setting (placed_section e) (entered setting known e from) =
+    state_is setting n (k + 1) (omega arith) ∙ cursors_next setting k ∙ ap (λ (o : Option OrderEvent). stepped setting known o from) here in
+    let unrefused : step_refusal setting known k e from ≡ None = ap (λ (o : Option OrderEvent). refusal_of setting known k o from) (sym here) ∙ walk.pass k less in
+    let gives : moved setting known e from ≡ Ok (entered setting known e from) = move_given setting (placed_section e) from (moved setting known e from) (unnumbered k (event_refusal setting known e from) unrefused) in
+    let places : Places setting (placed_section e) (entered setting known e from) records (state_at (states_to setting n) (k + 1)) =
+    event_places setting e (entered setting known e from) records (state_at (states_to setting n) (k + 1)) walk.ready next
     (λ s is. section_there setting k s walk.ready (here ∙ ap (λ (x : OrderEvent). Some x) is))
     (λ s is j within.
     let there : PlacesAt setting k s = here ∙ ap (λ (x : OrderEvent). Some x) is in
     walk.at (part_number setting.plan.sections s j) (omega (arith, parts_end-le setting.plan.sections s (section_there setting k s walk.ready there)))
     ∙ record_placed setting k s j n walk.ready there within less
-    ∙ ap (λ (x : OrderEvent). record_by setting s (section_start setting s (entered setting x from)) (part_number setting.plan.sections s j)) (sym is)) in
+    ∙ ap (λ (x : OrderEvent). record_by setting s (section_start setting s (entered setting known x from)) (part_number setting.plan.sections s j)) (sym is)) in
     record {
-      unrefused = ap (step_refusal setting k e) at ∙ unrefused;
+      unrefused = ap (λ (x : Known). step_refusal setting x k e (state_at (states_to setting n) k)) (sym same) ∙ ap (step_refusal setting known k e) at ∙ unrefused;
       steps = record {
         placeable = placeable_event setting k e may here;
-        entered = entered setting e from;
-        moves = ap (moved setting e) at ∙ gives;
+        entered = entered setting known e from;
+        moves = ap (λ (x : Known). moved setting x e (state_at (states_to setting n) k)) (sym same) ∙ ap (moved setting known e) at ∙ gives;
         places = places;
       };
     }
 
 -- what stands behind the states is what comes next
-pub walk_refusal : (setting : Setting) (n : ℕ) → placement_refusal setting (states_to setting n) ≡ refusal_of setting n (slice_get setting.plan.events n) (cursors_after setting n)
-walk_refusal setting n =
+pub walk_refusal : (setting : Setting) (n : ℕ) (records : List Record) → start setting ≡ Ok (first_state setting) → known_before setting.plan records n ≡ known_after setting n
+    → placement_refusal setting (states_to setting n) records ≡ refused_at setting n
+walk_refusal setting n records starts same =
     let last : length (states_to setting n) - 1 ≡ n = omega (arith, states_count setting 0 n) in
-    ap (λ (m : ℕ). refusal_of setting m (slice_get setting.plan.events m) (state_at (states_to setting n) m)) last
-    ∙ ap (refusal_of setting n (slice_get setting.plan.events n)) (state_is setting n n (omega arith))
+    ap (λ (r : Result Cursors PlaceError). first_refusal r (refusal_behind setting (states_to setting n) records)) starts
+    ∙ ap (λ (m : ℕ). refusal_of setting (known_before setting.plan records m) m (slice_get setting.plan.events m) (state_at (states_to setting n) m)) last
+    ∙ ap (λ (x : Known). refusal_of setting x n (slice_get setting.plan.events n) (state_at (states_to setting n) n)) same
+    ∙ ap (refusal_of setting (known_after setting n) n (slice_get setting.plan.events n)) (state_is setting n n (omega arith))
 
 pub walk_is_placed : (setting : Setting) (n : ℕ) (records : List Record) → IsPlaceable setting.plan setting.output → IsWalk setting n records
     → IsPlaced setting (states_to setting n) records
 walk_is_placed setting n records may walk =
     let count : length (states_to setting n) ≡ n + 1 = states_count setting 0 n in
     record {
-      some = omega (arith, count);
-      begins = subst (IsFirst setting) (cursors_first setting ∙ sym (state_is setting n 0 (omega arith))) (first_from setting may);
+      begins = subst (λ (r : Result Cursors PlaceError). BeginsAt r (states_to setting n)) (sym walk.starts) (states_first setting 0 n ∙ ap (λ (c : Cursors). Some c) (sym (cursors_first setting)));
       within = omega (arith, count, walk.within);
       steps = λ k e more here. walk_passes setting n records may walk k e (omega (arith, count)) here;
       refused = λ e here. placeable_event setting (length (states_to setting n) - 1) e may here;
-      ends = λ none. omega (arith, count, walk.stops (sym (walk_refusal setting n) ∙ none));
+      ends = λ none. omega (arith, count, walk.stops (sym (walk_refusal setting n records walk.starts (walk_known setting n n records walk (omega arith))) ∙ none));
       each = walk.each;
       others = λ p none.
           let last : length (states_to setting n) - 1 ≡ n = omega (arith, count) in
@@ -144,19 +166,19 @@ walk_is_placed setting n records may walk =
     }
 
 -- the first events pass, or one of them is the first that is refused
-pub stops_or_passes : (setting : Setting) (n : ℕ) → AllPass setting n ⊎ ((k : ℕ) × (k < n) × AllPass setting k × ((e : PlaceError) × (refusal_of setting k (slice_get setting.plan.events k) (cursors_after setting k) ≡ Some e)))
+pub stops_or_passes : (setting : Setting) (n : ℕ) → AllPass setting n ⊎ ((k : ℕ) × (k < n) × AllPass setting k × ((e : PlaceError) × (refused_at setting k ≡ Some e)))
 stops_or_passes setting zero = inl (λ k less. absurd (omega arith))
 stops_or_passes setting (suc n) =
     elim (stops_or_passes setting n) [
       | inr stop ↦ inr (stop.0, omega (arith, stop.1), stop.2, stop.3)
       | inl pass ↦
-          let here : Option PlaceError = refusal_of setting n (slice_get setting.plan.events n) (cursors_after setting n) in
-          elim here as (λ o. here ≡ o → AllPass setting (suc n) ⊎ ((k : ℕ) × (k < suc n) × AllPass setting k × ((e : PlaceError) × (refusal_of setting k (slice_get setting.plan.events k) (cursors_after setting k) ≡ Some e)))) [
+          let here : Option PlaceError = refused_at setting n in
+          elim here as (λ o. here ≡ o → AllPass setting (suc n) ⊎ ((k : ℕ) × (k < suc n) × AllPass setting k × ((e : PlaceError) × (refused_at setting k ≡ Some e)))) [
             | None ↦ λ none. inl (λ k less. elim (cases_lt k n) [
               | inl before ↦ pass k before
               | inr at ↦
                   let same : k ≡ n = omega arith in
-                  ap (λ (m : ℕ). refusal_of setting m (slice_get setting.plan.events m) (cursors_after setting m)) same ∙ none
+                  ap (refused_at setting) same ∙ none
             ])
             | (Some e) ↦ λ is. inr (n, omega arith, pass, (e, is))
           ] refl
@@ -164,12 +186,21 @@ stops_or_passes setting (suc n) =
 
 -- the records behind the first n events
 abbrev pub records_to : Setting → ℕ → List Record
-records_to setting n = map (λ q. record_after setting n q.0) (enumerate_from 0 (all_parts setting.plan.sections))
+records_to setting n = records_after setting n
 
-pub made_walk : (setting : Setting) (n : ℕ) → IsReady setting → n ≤ length setting.plan.events → AllPass setting n
-    → (refusal_of setting n (slice_get setting.plan.events n) (cursors_after setting n) ≡ None → n ≡ length setting.plan.events) → IsWalk setting n (records_to setting n)
-made_walk setting n ready within pass stops = record {
+-- before all events a part is nowhere, by its number
+nowhere_yet : (setting : Setting) (p : ℕ) → record_at (records_to setting 0) p ≡ nowhere
+nowhere_yet setting p =
+    elim (cases_lt p (length (all_parts setting.plan.sections))) [
+      | inl there ↦ made_at (record_after setting 0) nowhere (all_parts setting.plan.sections) 0 p there ∙ sym (record_first setting (0 + p))
+      | inr past ↦ get_or_past (records_to setting 0) p nowhere (omega (arith, length-made (record_after setting 0) (all_parts setting.plan.sections) 0))
+    ]
+
+pub made_walk : (setting : Setting) (n : ℕ) → IsReady setting → start setting ≡ Ok (first_state setting) → n ≤ length setting.plan.events → AllPass setting n
+    → (refused_at setting n ≡ None → n ≡ length setting.plan.events) → IsWalk setting n (records_to setting n)
+made_walk setting n ready starts within pass stops = record {
   ready = ready;
+  starts = starts;
   within = within;
   pass = pass;
   stops = stops;
@@ -177,15 +208,37 @@ made_walk setting n ready within pass stops = record {
   at = λ p below. made_at (record_after setting n) nowhere (all_parts setting.plan.sections) 0 p below ∙ ap (record_after setting n) (zero-add p);
 }
 
-pub placement_exists : PlacementExists
-placement_exists setting ready may =
+-- where the start isn't refused
+begun_exists : (setting : Setting) → IsReady setting → IsPlaceable setting.plan setting.output → start setting ≡ Ok (first_state setting)
+    → (states : List Cursors) × (records : List Record) × IsPlaced setting states records
+begun_exists setting ready may starts =
     let all : ℕ = length setting.plan.events in
     elim (stops_or_passes setting all) [
-      | inl pass ↦ (states_to setting all, records_to setting all, walk_is_placed setting all (records_to setting all) may (made_walk setting all ready (omega arith) pass (λ none. refl)))
+      | inl pass ↦ (states_to setting all, records_to setting all, walk_is_placed setting all (records_to setting all) may (made_walk setting all ready starts (omega arith) pass (λ none. refl)))
       | inr stop ↦
           let n : ℕ = stop.0 in
-          (states_to setting n, records_to setting n, walk_is_placed setting n (records_to setting n) may (made_walk setting n ready (omega (arith, stop.1)) stop.2 (λ none. absurd (cc (stop.3.1)))))
+          (states_to setting n, records_to setting n, walk_is_placed setting n (records_to setting n) may (made_walk setting n ready starts (omega (arith, stop.1)) stop.2 (λ none. absurd (cc (stop.3.1)))))
     ]
+
+-- where it is, there are no states
+pub unbegun : (setting : Setting) (e : PlaceError) → IsPlaceable setting.plan setting.output → start setting ≡ Err e → IsPlaced setting [] (records_to setting 0)
+unbegun setting e may refused =
+    record {
+      begins = subst (λ (r : Result Cursors PlaceError). BeginsAt r []) (sym refused) refl;
+      within = omega arith;
+      steps = λ k x more here. absurd (omega arith);
+      refused = λ x here. placeable_event setting 0 x may here;
+      ends = λ none. let some : placement_refusal setting [] (records_to setting 0) ≡ Some e = ap (λ (r : Result Cursors PlaceError). first_refusal r (refusal_behind setting [] (records_to setting 0))) refused in absurd (cc);
+      each = length-made (record_after setting 0) (all_parts setting.plan.sections) 0;
+      others = λ p none. nowhere_yet setting p;
+    }
+
+pub placement_exists : PlacementExists
+placement_exists setting ready may =
+    elim (start setting) as (λ (r : Result Cursors PlaceError). start setting ≡ r → (states : List Cursors) × (records : List Record) × IsPlaced setting states records) [
+      | (Ok c) ↦ λ is. begun_exists setting ready may (starts setting c is)
+      | (Err e) ↦ λ refused. ([], records_to setting 0, unbegun setting e may refused)
+    ] refl
 
 -- ---- it is one
 
@@ -200,61 +253,117 @@ event_makes setting (SetLocationRelative x t) c records to ready there places = 
 event_makes setting (SetSectionAddress x) c records to ready there places = places
 event_makes setting (Section s) c records to ready there places = (places_makes setting s c records to ready (there s refl) places).leaves
 
-entered_is : (setting : Setting) (e : OrderEvent) (from c : Cursors) (o : Result Cursors Refusal) → o ≡ Ok c → after_move from o ≡ c
-entered_is setting e from c o h = ap (after_move from) h
+entered_is : (from c : Cursors) (o : Result Cursors Refusal) → o ≡ Ok c → after_move from o ≡ c
+entered_is from c o h = ap (after_move from) h
 
--- the states are the cursors that the walk computes
-placed_states : (setting : Setting) (states : List Cursors) (records : List Record) → IsReady setting → IsPlaced setting states records
-    → (k : ℕ) → k < length states → state_at states k ≡ cursors_after setting k
-placed_states setting states records ready is zero less = first_is setting (state_at states 0) is.begins ∙ cursors_first setting
-placed_states setting states records ready is (suc k) less =
+-- the records of a section that event k places are those that the walk computes there, where the state before it is
+section_as_walked : (setting : Setting) (states : List Cursors) (records : List Record) (k s j n : ℕ) → IsReady setting → IsPlaced setting states records
+    → k + 1 < length states → slice_get setting.plan.events k ≡ Some (Section s) → j < part_count setting.plan.sections s → k < n
+    → state_at states k ≡ cursors_after setting k → known_before setting.plan records k ≡ known_after setting k
+    → record_at records (part_number setting.plan.sections s j) ≡ record_after setting n (part_number setting.plan.sections s j)
+section_as_walked setting states records k s j n ready is more here within early state same =
+    let e : OrderEvent = Section s in
+    let there : s < length setting.plan.sections = section_there setting k s ready here in
+    let steps : Steps setting (known_before setting.plan records k) e (state_at states k) records (state_at states (k + 1)) = (is.steps k e more here).steps in
+    let enters : steps.entered ≡ entered setting (known_after setting k) e (cursors_after setting k) =
+    sym (entered_is (state_at states k) steps.entered (moved setting (known_before setting.plan records k) e (state_at states k)) steps.moves)
+    ∙ ap (λ (x : Known). entered setting x e (state_at states k)) same ∙ ap (entered setting (known_after setting k) e) state in
+    let makes : MakesSection setting s steps.entered records (state_at states (k + 1)) =
+    places_makes setting s steps.entered records (state_at states (k + 1)) ready there steps.places in
+    makes.made j within
+    ∙ ap (λ (c : Cursors). record_by setting s (section_start setting s c) (part_number setting.plan.sections s j)) enters
+    ∙ sym (record_placed setting k s j n ready here within early)
+
+-- the records so far tell what the walk knows
+known_so_far : (setting : Setting) (k : ℕ) (records : List Record) → IsReady setting → length records ≡ length (all_parts setting.plan.sections)
+    → ((p : ℕ) → IsPlacedBefore setting k p → record_at records p ≡ record_after setting k p) → known_before setting.plan records k ≡ known_after setting k
+known_so_far setting k records ready each so_far =
+    known_is setting k records ready each (λ p before.
+    let below : p < length (all_parts setting.plan.sections) = placed_below setting k p ready before in
+    so_far p before ∙ sym (made_at (record_after setting k) nowhere (all_parts setting.plan.sections) 0 p below ∙ ap (record_after setting k) (zero-add p)))
+
+-- the states are the cursors that the walk computes, and the records of what is placed before them are its records
+record IsAsWalked (setting : Setting) (states : List Cursors) (records : List Record) (k : ℕ) : Type 0 where
+  state : state_at states k ≡ cursors_after setting k
+  so_far : (p : ℕ) → IsPlacedBefore setting k p → record_at records p ≡ record_after setting k p
+
+next_state : (setting : Setting) (states : List Cursors) (records : List Record) (k : ℕ) → IsReady setting → IsPlaced setting states records → k + 1 < length states
+    → IsAsWalked setting states records k → state_at states (k + 1) ≡ cursors_after setting (k + 1)
+next_state setting states records k ready is more before =
     let e : OrderEvent = slice_index_or setting.plan.events k (SegmentEnd 0) in
     let here : slice_get setting.plan.events k ≡ Some e = slice_get-get_or setting.plan.events k (SegmentEnd 0) (omega (arith, is.within)) in
-    let before : state_at states k ≡ cursors_after setting k = placed_states setting states records ready is k (omega arith) in
-    let steps : Steps setting e (state_at states k) records (state_at states (k + 1)) = (is.steps k e (omega arith) here).steps in
-    let enters : entered setting e (cursors_after setting k) ≡ steps.entered =
-    ap (entered setting e) (sym before) ∙ entered_is setting e (state_at states k) steps.entered (moved setting e (state_at states k)) steps.moves in
-    ap (state_at states) (sym (add-one k))
-    ∙ event_makes setting e steps.entered records (state_at states (k + 1)) ready (λ s same. section_there setting k s ready (here ∙ ap (λ (x : OrderEvent). Some x) same)) steps.places
+    let same = known_so_far setting k records ready is.each before.so_far in
+    let steps : Steps setting (known_before setting.plan records k) e (state_at states k) records (state_at states (k + 1)) = (is.steps k e more here).steps in
+    let enters : entered setting (known_after setting k) e (cursors_after setting k) ≡ steps.entered =
+    ap (entered setting (known_after setting k) e) (sym before.state)
+    ∙ ap (λ (x : Known). entered setting x e (state_at states k)) (sym same)
+    ∙ entered_is (state_at states k) steps.entered (moved setting (known_before setting.plan records k) e (state_at states k)) steps.moves in
+    event_makes setting e steps.entered records (state_at states (k + 1)) ready (λ s at. section_there setting k s ready (here ∙ ap (λ (x : OrderEvent). Some x) at)) steps.places
     ∙ ap (left_behind setting (placed_section e)) (sym enters)
-    ∙ ap (λ (o : Option OrderEvent). stepped setting o (cursors_after setting k)) (sym here)
+    ∙ ap (λ (o : Option OrderEvent). stepped setting (known_after setting k) o (cursors_after setting k)) (sym here)
     ∙ sym (cursors_next setting k)
-    ∙ ap (cursors_after setting) (add-one k)
+
+next_records : (setting : Setting) (states : List Cursors) (records : List Record) (k p : ℕ) → IsReady setting → IsPlaced setting states records → k + 1 < length states
+    → IsAsWalked setting states records k → IsPlacedBefore setting (k + 1) p → record_at records p ≡ record_after setting (k + 1) p
+next_records setting states records k p ready is more before h =
+    elim (cases_lt h.k k) [
+      | inl early ↦
+          let earlier : IsPlacedBefore setting k p = record { k = h.k; s = h.s; j = h.j; early = early; places = h.places; within = h.within; is = h.is } in
+          before.so_far p earlier ∙ sym (record_kept setting k (k + 1) p ready (omega arith) earlier)
+      | inr late ↦
+          let at : h.k ≡ k = omega (arith, h.early) in
+          let here : slice_get setting.plan.events k ≡ Some (Section h.s) = ap (slice_get setting.plan.events) (sym at) ∙ h.places in
+          ap (record_at records) h.is
+          ∙ section_as_walked setting states records k h.s h.j (k + 1) ready is more here h.within (omega arith) before.state (known_so_far setting k records ready is.each before.so_far)
+          ∙ ap (record_after setting (k + 1)) (sym h.is)
+    ]
+
+as_walked : (setting : Setting) (states : List Cursors) (records : List Record) → IsReady setting → IsPlaced setting states records
+    → (k : ℕ) → k < length states → IsAsWalked setting states records k
+as_walked setting states records ready is zero less =
+    let given : start setting ≡ Ok (first_state setting) = start_given (start setting) states is.begins less in
+    record {
+      state = get_or_from_slice_get states 0 (first_state setting) no_cursors (has_first (start setting) (first_state setting) states given is.begins) ∙ cursors_first setting;
+      so_far = λ p h. absurd (omega (arith, h.early));
+    }
+as_walked setting states records ready is (suc k) less =
+    let before : IsAsWalked setting states records k = as_walked setting states records ready is k (omega arith) in
+    subst (IsAsWalked setting states records) (add-one k)
+    (record {
+      state = next_state setting states records k ready is (omega arith) before;
+      so_far = λ p h. next_records setting states records k p ready is (omega arith) before h;
+    })
 
 -- a placement is the walk over as many events
-pub placed_is_walk : (setting : Setting) (states : List Cursors) (records : List Record) → IsReady setting → IsPlaced setting states records → IsWalk setting (length states - 1) records
-placed_is_walk setting states records ready is =
+pub placed_is_walk : (setting : Setting) (states : List Cursors) (records : List Record) → IsReady setting → 0 < length states → IsPlaced setting states records → IsWalk setting (length states - 1) records
+placed_is_walk setting states records ready some is =
     let n : ℕ = length states - 1 in
-    let state : (k : ℕ) → k < length states → state_at states k ≡ cursors_after setting k = placed_states setting states records ready is in
+    let given : start setting ≡ Ok (first_state setting) = start_given (start setting) states is.begins some in
+    let walked : (k : ℕ) → k < length states → IsAsWalked setting states records k = as_walked setting states records ready is in
+    let last : IsAsWalked setting states records n = walked n (omega (arith, some)) in
     record {
       ready = ready;
+      starts = given;
       within = omega (arith, is.within);
       pass = λ k less.
           let e : OrderEvent = slice_index_or setting.plan.events k (SegmentEnd 0) in
           let here : slice_get setting.plan.events k ≡ Some e = slice_get-get_or setting.plan.events k (SegmentEnd 0) (omega (arith, is.within)) in
-          ap (λ (o : Option OrderEvent). refusal_of setting k o (cursors_after setting k)) here
-          ∙ ap (step_refusal setting k e) (sym (state k (omega arith)))
+          let at : IsAsWalked setting states records k = walked k (omega arith) in
+          ap (λ (o : Option OrderEvent). refusal_of setting (known_after setting k) k o (cursors_after setting k)) here
+          ∙ ap (step_refusal setting (known_after setting k) k e) (sym at.state)
+          ∙ ap (λ (x : Known). step_refusal setting x k e (state_at states k)) (sym (known_so_far setting k records ready is.each at.so_far))
           ∙ (is.steps k e (omega arith) here).unrefused;
       stops = λ none.
-          let same : placement_refusal setting states ≡ None = ap (refusal_of setting n (slice_get setting.plan.events n)) (state n (omega (arith, is.some))) ∙ none in
-          omega (arith, is.ends same);
+          let same : placement_refusal setting states records ≡ None =
+          ap (λ (r : Result Cursors PlaceError). first_refusal r (refusal_behind setting states records)) given
+          ∙ ap (λ (x : Known). refusal_of setting x n (slice_get setting.plan.events n) (state_at states n)) (known_so_far setting n records ready is.each last.so_far)
+          ∙ ap (refusal_of setting (known_after setting n) n (slice_get setting.plan.events n)) last.state ∙ none in
+          omega (arith, is.ends same, some);
       each = is.each;
       at = λ p below.
           elim (placed_or_not setting n p) [
             | inr none ↦ is.others p none ∙ sym (record_absent setting n p none)
-            | inl h ↦
-                let e : OrderEvent = Section h.s in
-                let there : h.s < length setting.plan.sections = section_there setting h.k h.s ready h.places in
-                let steps : Steps setting e (state_at states h.k) records (state_at states (h.k + 1)) = (is.steps h.k e (omega (arith, h.early)) h.places).steps in
-                let enters : steps.entered ≡ entered setting e (cursors_after setting h.k) =
-                sym (ap (entered setting e) (sym (state h.k (omega (arith, h.early)))) ∙ entered_is setting e (state_at states h.k) steps.entered (moved setting e (state_at states h.k)) steps.moves) in
-                let makes : MakesSection setting h.s steps.entered records (state_at states (h.k + 1)) =
-                places_makes setting h.s steps.entered records (state_at states (h.k + 1)) ready there steps.places in
-                ap (record_at records) h.is
-                ∙ makes.made h.j h.within
-                ∙ ap (λ (c : Cursors). record_by setting h.s (section_start setting h.s c) (part_number setting.plan.sections h.s h.j)) enters
-                ∙ sym (record_placed setting h.k h.s h.j n ready h.places h.within h.early)
-                ∙ ap (record_after setting n) (sym h.is)
+            | inl h ↦ last.so_far p h
           ];
     }
 
@@ -262,12 +371,14 @@ placed_is_walk setting states records ready is =
 not_longer : (setting : Setting) (m n : ℕ) (records others : List Record) → IsWalk setting m records → IsWalk setting n others → m < n → ⊥
 not_longer setting m n records others one two less = absurd (omega (arith, one.stops (two.pass m less), two.within))
 
-pub placement_is_one : PlacementIsOne
-placement_is_one setting states states' records records' ready h g =
+-- where the start isn't refused
+begun_is_one : (setting : Setting) (states states' : List Cursors) (records records' : List Record) → IsReady setting → 0 < length states → 0 < length states'
+    → IsPlaced setting states records → IsPlaced setting states' records' → (states ≡ states') × (records ≡ records')
+begun_is_one setting states states' records records' ready some some' h g =
     let n : ℕ = length states - 1 in
     let n' : ℕ = length states' - 1 in
-    let one : IsWalk setting n records = placed_is_walk setting states records ready h in
-    let two : IsWalk setting n' records' = placed_is_walk setting states' records' ready g in
+    let one : IsWalk setting n records = placed_is_walk setting states records ready some h in
+    let two : IsWalk setting n' records' = placed_is_walk setting states' records' ready some' g in
     let same : n ≡ n' =
     elim (cases_lt n n') [
       | inl less ↦ absurd (not_longer setting n n' records records' one two less)
@@ -276,9 +387,29 @@ placement_is_one setting states states' records records' ready h g =
         | inr both ↦ omega arith
       ]
     ] in
-    let count : length states ≡ length states' = omega (arith, h.some, g.some, same) in (
-      ext_get_or (record { file = 0; memory = 0; saved = None; in_run = false }) states states' count
-          (λ k below. placed_states setting states records ready h k below ∙ sym (placed_states setting states' records' ready g k (omega (arith, count)))),
+    let count : length states ≡ length states' = omega (arith, some, some', same) in (
+      ext_get_or no_cursors states states' count
+          (λ k below. (as_walked setting states records ready h k below).state ∙ sym ((as_walked setting states' records' ready g k (omega (arith, count))).state)),
       ext_get_or nowhere records records' (h.each ∙ sym g.each)
           (λ p below. one.at p (omega (arith, one.each)) ∙ ap (λ (m : ℕ). record_after setting m p) same ∙ sym (two.at p (omega (arith, one.each)))),
     )
+
+-- where it is refused nothing is placed
+unbegun_nowhere : (setting : Setting) (states : List Cursors) (records : List Record) → states ≡ [] → IsPlaced setting states records → (p : ℕ) → record_at records p ≡ nowhere
+unbegun_nowhere setting states records empty is p =
+    is.others p (λ (h : IsPlacedBefore setting (length states - 1) p). absurd (omega (arith, h.early, ap length empty)))
+
+pub placement_is_one : PlacementIsOne
+placement_is_one setting states states' records records' ready h g =
+    elim (start setting) as (λ (r : Result Cursors PlaceError). start setting ≡ r → (states ≡ states') × (records ≡ records')) [
+      | (Ok c) ↦ λ is.
+          begun_is_one setting states states' records records' ready
+          (slice_get_within states 0 c (has_first (start setting) c states is h.begins)) (slice_get_within states' 0 c (has_first (start setting) c states' is g.begins)) h g
+      | (Err e) ↦ λ refused.
+          let none : states ≡ [] = has_none (start setting) e states refused h.begins in
+          let none' : states' ≡ [] = has_none (start setting) e states' refused g.begins in (
+            none ∙ sym none',
+            ext_get_or nowhere records records' (h.each ∙ sym g.each)
+                (λ p below. unbegun_nowhere setting states records none h p ∙ sym (unbegun_nowhere setting states' records' none' g p)),
+          )
+    ] refl

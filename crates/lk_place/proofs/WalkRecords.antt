@@ -6,14 +6,15 @@ use Rattle.std.proofs.lemmas.Bool.Decides.{nat_tests}
 use Rattle.lk_link.specs.declared.plan.OrderEvent.{OrderEvent}
 use Rattle.lk_link.specs.declared.plan.OrderEvent.TheVariants.{SegmentStart, SegmentEnd, Section, SetLocation, SetLocationRelative, SetSectionAddress}
 use Rattle.lk_link.specs.declared.plan.PlanSection.{PlanSection}
-use Rattle.lk_link.specs.Parts.{first_part}
-use Rattle.lk_link.proofs.PartNumbers.{first_part-suc}
+use Rattle.lk_link.specs.Parts.{all_parts, first_part}
+use Rattle.lk_link.proofs.PartNumbers.{first_part-suc, parts_end-le}
 use Rattle.lk_place.specs.declared.cursors.Cursors.{Cursors}
 use Rattle.lk_place.specs.Placement.{IsPlacedBefore, section_start}
+use Rattle.lk_place.specs.PlacedBefore.{Known, lies_in}
 use Rattle.lk_place.specs.Ranges.{HasPart}
 use Rattle.lk_place.specs.Records.{Record, nowhere}
 use Rattle.lk_place.specs.Setting.{IsReady, Setting, part_count, part_number}
-use Rattle.lk_place.specs.Walk.{cursors_after, entered, lies_in, record_after, record_by, recorded, rewritten}
+use Rattle.lk_place.specs.Walk.{cursors_after, entered, known_after, record_after, record_by, recorded, rewritten, walk_after}
 use Rattle.lk_place.proofs.ApartLaws.{section_one}
 use Rattle.lk_place.proofs.Insides.{placed_in_range}
 
@@ -27,17 +28,17 @@ section_there setting k s ready here = placed_in_range setting.plan (Section s) 
 
 -- ---- whether a part is one of a section
 
-among_part : (first count j : ℕ) → j < count → lies_in first count (first + j) ≡ true
+pub among_part : (first count j : ℕ) → j < count → lies_in first count (first + j) ≡ true
 among_part first count j h = grind (arith, nat_tests)
 
-among_is : (first count p : ℕ) → lies_in first count p ≡ true → (j : ℕ) × (j < count) × (p ≡ first + j)
+pub among_is : (first count p : ℕ) → lies_in first count p ≡ true → (j : ℕ) × (j < count) × (p ≡ first + j)
 among_is first count p h =
     let from : first ≤ p = grind (arith, nat_tests) in
     let below : p < first + count = grind (arith, nat_tests) in
     (p - first, omega arith, omega arith)
 
 -- a part of one section isn't one of another
-among_other : (setting : Setting) (s t j : ℕ) → s < length setting.plan.sections → t < length setting.plan.sections → (s ≡ t → ⊥) → j < part_count setting.plan.sections s
+pub among_other : (setting : Setting) (s t j : ℕ) → s < length setting.plan.sections → t < length setting.plan.sections → (s ≡ t → ⊥) → j < part_count setting.plan.sections s
     → lies_in (first_part setting.plan.sections t) (part_count setting.plan.sections t) (part_number setting.plan.sections s j) ≡ false
 among_other setting s t j below there other less =
     let sections : List PlanSection = setting.plan.sections in
@@ -54,38 +55,38 @@ among_other setting s t j below there other less =
 -- ---- one event
 
 -- an event that places section s makes the records of its parts
-recorded_here : (setting : Setting) (s j : ℕ) (c : Cursors) (old : Record) → j < part_count setting.plan.sections s
-    → recorded setting (Some (Section s)) c (part_number setting.plan.sections s j) old ≡ record_by setting s (section_start setting s (entered setting (Section s) c)) (part_number setting.plan.sections s j)
+recorded_here : (setting : Setting) (known : Known) (s j : ℕ) (c : Cursors) (old : Record) → j < part_count setting.plan.sections s
+    → recorded setting known (Some (Section s)) c (part_number setting.plan.sections s j) old ≡ record_by setting s (section_start setting s (entered setting known (Section s) c)) (part_number setting.plan.sections s j)
 unfolding rewritten
-recorded_here setting s j c old less =
+recorded_here setting known s j c old less =
     let p : ℕ = part_number setting.plan.sections s j in
-    ap (λ (b : Bool). cond b (record_by setting s (section_start setting s (entered setting (Section s) c)) p) old) (among_part (first_part setting.plan.sections s) (part_count setting.plan.sections s) j less)
+    ap (λ (b : Bool). cond b (record_by setting s (section_start setting s (entered setting known (Section s) c)) p) old) (among_part (first_part setting.plan.sections s) (part_count setting.plan.sections s) j less)
 
 -- and leaves a part that isn't one of them
-recorded_miss : (setting : Setting) (t p : ℕ) (c : Cursors) (old : Record) → lies_in (first_part setting.plan.sections t) (part_count setting.plan.sections t) p ≡ false
-    → recorded setting (Some (Section t)) c p old ≡ old
+recorded_miss : (setting : Setting) (known : Known) (t p : ℕ) (c : Cursors) (old : Record) → lies_in (first_part setting.plan.sections t) (part_count setting.plan.sections t) p ≡ false
+    → recorded setting known (Some (Section t)) c p old ≡ old
 unfolding rewritten
-recorded_miss setting t p c old miss = ap (λ (b : Bool). cond b (record_by setting t (section_start setting t (entered setting (Section t) c)) p) old) miss
+recorded_miss setting known t p c old miss = ap (λ (b : Bool). cond b (record_by setting t (section_start setting t (entered setting known (Section t) c)) p) old) miss
 
 -- an event leaves each part that isn't one of its section
-recorded_other : (setting : Setting) (o : Option OrderEvent) (p : ℕ) (c : Cursors) (old : Record)
+recorded_other : (setting : Setting) (known : Known) (o : Option OrderEvent) (p : ℕ) (c : Cursors) (old : Record)
     → ((t : ℕ) → o ≡ Some (Section t) → lies_in (first_part setting.plan.sections t) (part_count setting.plan.sections t) p ≡ false)
-    → recorded setting o c p old ≡ old
+    → recorded setting known o c p old ≡ old
 unfolding rewritten
-recorded_other setting None p c old miss = refl
-recorded_other setting (Some (SegmentStart i)) p c old miss = refl
-recorded_other setting (Some (SegmentEnd i)) p c old miss = refl
-recorded_other setting (Some (SetLocation x)) p c old miss = refl
-recorded_other setting (Some (SetLocationRelative x t)) p c old miss = refl
-recorded_other setting (Some (SetSectionAddress x)) p c old miss = refl
-recorded_other setting (Some (Section t)) p c old miss = recorded_miss setting t p c old (miss t refl)
+recorded_other setting known None p c old miss = refl
+recorded_other setting known (Some (SegmentStart i)) p c old miss = refl
+recorded_other setting known (Some (SegmentEnd i)) p c old miss = refl
+recorded_other setting known (Some (SetLocation x)) p c old miss = refl
+recorded_other setting known (Some (SetLocationRelative x t)) p c old miss = refl
+recorded_other setting known (Some (SetSectionAddress x)) p c old miss = refl
+recorded_other setting known (Some (Section t)) p c old miss = recorded_miss setting known t p c old (miss t refl)
 
 -- ---- some events
 
 -- the records of a section that one of them places are those that the walk computes for it
 pub record_placed : (setting : Setting) (k s j n : ℕ) → IsReady setting → PlacesAt setting k s → j < part_count setting.plan.sections s → k < n
-    → record_after setting n (part_number setting.plan.sections s j) ≡ record_by setting s (section_start setting s (entered setting (Section s) (cursors_after setting k))) (part_number setting.plan.sections s j)
-unfolding record_after
+    → record_after setting n (part_number setting.plan.sections s j) ≡ record_by setting s (section_start setting s (entered setting (known_after setting k) (Section s) (cursors_after setting k))) (part_number setting.plan.sections s j)
+unfolding walk_after
 record_placed setting k s j zero ready here less early = absurd (omega arith)
 record_placed setting k s j (suc m) ready here less early =
     let p : ℕ = part_number setting.plan.sections s j in
@@ -96,12 +97,12 @@ record_placed setting k s j (suc m) ready here less early =
           = λ t there.
           among_other setting s t j (section_there setting k s ready here) (section_there setting m t ready there)
           (λ same. absurd (omega (arith, ready.events.once k m (Section t) tt (here ∙ ap (λ (n : ℕ). Some (Section n)) same) there))) less in
-          recorded_other setting (slice_get setting.plan.events m) p (cursors_after setting m) old other ∙ record_placed setting k s j m ready here less before
+          recorded_other setting (known_after setting m) (slice_get setting.plan.events m) p (cursors_after setting m) old other ∙ record_placed setting k s j m ready here less before
       | inr at ↦
           let same : m ≡ k = omega arith in
-          ap (λ (i : ℕ). recorded setting (slice_get setting.plan.events i) (cursors_after setting i) p old) same
-          ∙ ap (λ (o : Option OrderEvent). recorded setting o (cursors_after setting k) p old) here
-          ∙ recorded_here setting s j (cursors_after setting k) old less
+          ap (λ (i : ℕ). recorded setting (known_after setting i) (slice_get setting.plan.events i) (cursors_after setting i) p old) same
+          ∙ ap (λ (o : Option OrderEvent). recorded setting (known_after setting k) o (cursors_after setting k) p old) here
+          ∙ recorded_here setting (known_after setting k) s j (cursors_after setting k) old less
     ]
 
 -- a part that an earlier event places is placed before a later one
@@ -110,7 +111,7 @@ placed_earlier setting m n p le h = record { k = h.k; s = h.s; j = h.j; early = 
 
 -- what none of them places is nowhere
 pub record_absent : (setting : Setting) (n p : ℕ) → (IsPlacedBefore setting n p → ⊥) → record_after setting n p ≡ nowhere
-unfolding record_after
+unfolding walk_after
 record_absent setting zero p none = refl
 record_absent setting (suc m) p none =
     let other : (t : ℕ) → slice_get setting.plan.events m ≡ Some (Section t) → lies_in (first_part setting.plan.sections t) (part_count setting.plan.sections t) p ≡ false
@@ -121,7 +122,7 @@ record_absent setting (suc m) p none =
           absurd (none (record { k = m; s = t; j = at.0; early = omega arith; places = there; within = at.1; is = at.2 }))
       | inr miss ↦ miss
     ] in
-    recorded_other setting (slice_get setting.plan.events m) p (cursors_after setting m) (record_after setting m p) other
+    recorded_other setting (known_after setting m) (slice_get setting.plan.events m) p (cursors_after setting m) (record_after setting m p) other
     ∙ record_absent setting m p (λ h. none (placed_earlier setting m (suc m) p (omega arith) h))
 
 -- ---- whether a part is placed
@@ -166,3 +167,17 @@ placed_or_not setting (suc m) p =
             ])
       ]
     ]
+
+-- ---- what is known
+
+-- a part that an earlier event places keeps its record
+pub record_kept : (setting : Setting) (k n p : ℕ) → IsReady setting → k ≤ n → IsPlacedBefore setting k p → record_after setting n p ≡ record_after setting k p
+record_kept setting k n p ready le h =
+    ap (record_after setting n) h.is
+    ∙ record_placed setting h.k h.s h.j n ready h.places h.within (omega (arith, h.early))
+    ∙ sym (record_placed setting h.k h.s h.j k ready h.places h.within h.early)
+    ∙ ap (record_after setting k) (sym h.is)
+
+-- a part that is placed is there
+pub placed_below : (setting : Setting) (k p : ℕ) → IsReady setting → IsPlacedBefore setting k p → p < length (all_parts setting.plan.sections)
+placed_below setting k p ready h = omega (arith, h.is, h.within, parts_end-le setting.plan.sections h.s (section_there setting h.k h.s ready h.places))

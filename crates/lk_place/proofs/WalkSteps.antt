@@ -1,64 +1,60 @@
 -- One event more of the walk.
-use Rattle.std.proofs.Common.{◌≡◌, ℕ, ◌+◌, ◌<◌, List, length, Bool, true, false, Option, Some, None, refl, sym, ap, subst, ◌∙◌, add-one, below_more}
-use Rattle.std.specs.Prelude.{slice_get, option_map, Result, Ok, Err, OnOk, IsErrAnd, is_some, unwrap_or}
+use Rattle.std.proofs.Common.{◌≡◌, ℕ, ◌+◌, ◌<◌, List, [], length, Option, arith, Some, None, refl, sym, ap, subst, ◌∙◌, add-one, below_more}
+use Rattle.std.specs.Prelude.{slice_get, option_map, Result, Ok, Err, OnOk, IsErrAnd}
 use Rattle.std.specs.List.{slice_index_or}
 use Rattle.std.proofs.lemmas.Option.{slice_get-get_or}
 use Rattle.lk_link.specs.declared.plan.OrderEvent.{OrderEvent}
-use Rattle.lk_link.specs.Expressions.{as_number}
 use Rattle.lk_place.specs.declared.cursors.Cursors.{Cursors}
 use Rattle.lk_place.specs.declared.error.PlaceError.{PlaceError}
 use Rattle.lk_place.specs.declared.error.Refusal.{Refusal}
-use Rattle.lk_place.specs.Placement.{IsFirst, event_refusal, numbered, refusal_of}
-use Rattle.lk_place.specs.Plans.{IsPlaceable}
+use Rattle.lk_place.specs.Placement.{event_refusal, numbered, refusal_of}
+use Rattle.lk_place.specs.PlacedBefore.{Known}
 use Rattle.lk_place.specs.Records.{Record, nowhere}
 use Rattle.lk_place.specs.Setting.{Setting}
-use Rattle.lk_place.specs.Walk.{AllPass, GivesWalked, StopsBy, at_event, cursors_after, first_state, record_after, recorded, stepped, unless}
+use Rattle.lk_place.specs.Start.{BeginsAt, start}
+use Rattle.lk_place.specs.Walk.{AllPass, GivesWalked, StopsBy, at_event, begun, cursors_after, first_state, known_after, refused_at, walk_after, record_after, recorded, stepped, unless}
 
 -- the walk begins where the placement does
-pub starts_at : (setting : Setting) (c : Cursors) → c.file ≡ 0 → as_number setting.plan.base ≡ Some c.memory → c.saved ≡ None → c.in_run ≡ false → c ≡ first_state setting
-starts_at setting c file memory saved in_run =
-    ap (λ (n : ℕ). let at : Cursors = record { file = n; memory = c.memory; saved = c.saved; in_run = c.in_run } in at) file
-    ∙ ap (λ (o : Option ℕ). let at : Cursors = record { file = 0; memory = unwrap_or o 0; saved = c.saved; in_run = c.in_run } in at) (sym memory)
-    ∙ ap (λ (o : Option ℕ). let at : Cursors = record { file = 0; memory = unwrap_or (as_number setting.plan.base) 0; saved = o; in_run = c.in_run } in at) saved
-    ∙ ap (λ (b : Bool). let at : Cursors = record { file = 0; memory = unwrap_or (as_number setting.plan.base) 0; saved = None; in_run = b } in at) in_run
+pub starts_at : (setting : Setting) (c : Cursors) → start setting ≡ Ok c → c ≡ first_state setting
+starts_at setting c h = sym (ap begun h)
 
-pub first_is : (setting : Setting) (c : Cursors) → IsFirst setting c → c ≡ first_state setting
-first_is setting c h = starts_at setting c h.file h.memory h.saved h.in_run
+-- where the start isn't refused
+pub starts : (setting : Setting) (c : Cursors) → start setting ≡ Ok c → start setting ≡ Ok (first_state setting)
+starts setting c h = h ∙ ap (λ (d : Cursors). Ok d) (starts_at setting c h)
 
-unwrapped : (o : Option ℕ) → is_some o ≡ true → o ≡ Some (unwrap_or o 0)
-unwrapped None h = absurd (cc)
-unwrapped (Some n) h = refl
+-- there is a first state
+pub has_first : (r : Result Cursors PlaceError) (c : Cursors) (states : List Cursors) → r ≡ Ok c → BeginsAt r states → slice_get states 0 ≡ Some c
+has_first (Ok d) c states h begins = let same : d ≡ c = cc in begins ∙ ap (λ (x : Cursors). Some x) same
+has_first (Err e) c states h begins = absurd (cc)
 
-pub first_from : (setting : Setting) → IsPlaceable setting.plan setting.output → IsFirst setting (first_state setting)
-first_from setting may = record {
-  whole = may.whole;
-  unasked = may.unasked;
-  headers = may.headers;
-  regions = may.regions;
-  file = refl;
-  memory = unwrapped (as_number setting.plan.base) may.base;
-  saved = refl;
-  in_run = refl;
-}
+-- there is none
+pub has_none : (r : Result Cursors PlaceError) (e : PlaceError) (states : List Cursors) → r ≡ Err e → BeginsAt r states → states ≡ []
+has_none (Ok d) e states h begins = absurd (cc)
+has_none (Err x) e states h begins = begins
+
+-- where there is a state the start isn't refused
+pub start_given : (r : Result Cursors PlaceError) (states : List Cursors) → BeginsAt r states → 0 < length states → r ≡ Ok (begun r)
+start_given (Ok c) states begins some = refl
+start_given (Err e) states begins some = absurd (omega (arith, ap length begins))
 
 -- before all events the cursors are at the start
 pub cursors_first : (setting : Setting) → first_state setting ≡ cursors_after setting 0
-unfolding cursors_after
+unfolding walk_after
 cursors_first setting = refl
 
 -- and nothing is placed
 pub record_first : (setting : Setting) (p : ℕ) → nowhere ≡ record_after setting 0 p
-unfolding record_after
+unfolding walk_after
 record_first setting p = refl
 
 -- behind one event more they are where it leaves them
-pub cursors_next : (setting : Setting) (k : ℕ) → cursors_after setting (k + 1) ≡ stepped setting (slice_get setting.plan.events k) (cursors_after setting k)
-unfolding cursors_after
+pub cursors_next : (setting : Setting) (k : ℕ) → cursors_after setting (k + 1) ≡ stepped setting (known_after setting k) (slice_get setting.plan.events k) (cursors_after setting k)
+unfolding walk_after
 cursors_next setting k = ap (cursors_after setting) (add-one k)
 
 -- and a record is what it makes of it
-pub record_next : (setting : Setting) (k p : ℕ) → record_after setting (k + 1) p ≡ recorded setting (slice_get setting.plan.events k) (cursors_after setting k) p (record_after setting k p)
-unfolding record_after
+pub record_next : (setting : Setting) (k p : ℕ) → record_after setting (k + 1) p ≡ recorded setting (known_after setting k) (slice_get setting.plan.events k) (cursors_after setting k) p (record_after setting k p)
+unfolding walk_after
 record_next setting k p = ap (λ (n : ℕ). record_after setting n p) (add-one k)
 
 -- ---- an event that is carried out
@@ -67,7 +63,7 @@ record_next setting k p = ap (λ (n : ℕ). record_after setting n p) (add-one k
 pub record IsTried (setting : Setting) (k : ℕ) (e : OrderEvent) (from : Cursors) (end : Result Cursors Refusal) : Type 0 where
   pub here : slice_get setting.plan.events k ≡ Some e
   pub so_far : from ≡ cursors_after setting k
-  pub gave : end ≡ unless (event_refusal setting e from) (stepped setting (Some e) from)
+  pub gave : end ≡ unless (event_refusal setting (known_after setting k) e from) (stepped setting (known_after setting k) (Some e) from)
   pub before : AllPass setting k
 
 told_refused : (setting : Setting) (k : ℕ) (x : Cursors) (o : Option Refusal) (err : PlaceError) → Err err ≡ at_event (unless o x) k → option_map (numbered k) o ≡ Some err
@@ -81,46 +77,47 @@ told_passed k x to (Some r) h = absurd (cc)
 -- its refusal is the first
 pub stops : (setting : Setting) (k : ℕ) (e : OrderEvent) (from : Cursors) (end : Result Cursors Refusal) (err : PlaceError) → IsTried setting k e from end → Err err ≡ at_event end k → StopsBy setting err
 stops setting k e from end err tried h =
-    let there : Err err ≡ at_event (unless (event_refusal setting e from) (stepped setting (Some e) from)) k = h ∙ ap (λ (r : Result Cursors Refusal). at_event r k) tried.gave in
-    let refused : refusal_of setting k (Some e) from ≡ Some err = told_refused setting k (stepped setting (Some e) from) (event_refusal setting e from) err there in
+    let known : Known = known_after setting k in
+    let there : Err err ≡ at_event (unless (event_refusal setting known e from) (stepped setting known (Some e) from)) k = h ∙ ap (λ (r : Result Cursors Refusal). at_event r k) tried.gave in
+    let refused : refusal_of setting known k (Some e) from ≡ Some err = told_refused setting k (stepped setting known (Some e) from) (event_refusal setting known e from) err there in
     record {
       k = k;
       before = tried.before;
-      here = ap (λ (o : Option OrderEvent). refusal_of setting k o (cursors_after setting k)) tried.here ∙ ap (refusal_of setting k (Some e)) (sym tried.so_far) ∙ refused;
+      here = ap (λ (o : Option OrderEvent). refusal_of setting known k o (cursors_after setting k)) tried.here ∙ ap (refusal_of setting known k (Some e)) (sym tried.so_far) ∙ refused;
     }
 
 passed : (setting : Setting) (k : ℕ) (e : OrderEvent) (from to : Cursors) (end : Result Cursors Refusal) → IsTried setting k e from end → Ok to ≡ at_event end k
-    → (event_refusal setting e from ≡ None) × (to ≡ stepped setting (Some e) from)
+    → (event_refusal setting (known_after setting k) e from ≡ None) × (to ≡ stepped setting (known_after setting k) (Some e) from)
 passed setting k e from to end tried h =
-    told_passed k (stepped setting (Some e) from) to (event_refusal setting e from) (h ∙ ap (λ (r : Result Cursors Refusal). at_event r k) tried.gave)
+    told_passed k (stepped setting (known_after setting k) (Some e) from) to (event_refusal setting (known_after setting k) e from) (h ∙ ap (λ (r : Result Cursors Refusal). at_event r k) tried.gave)
 
 -- the cursors behind it
 pub goes_on : (setting : Setting) (k : ℕ) (e : OrderEvent) (from to : Cursors) (end : Result Cursors Refusal) → IsTried setting k e from end → Ok to ≡ at_event end k → to ≡ cursors_after setting (k + 1)
 goes_on setting k e from to end tried h =
     (passed setting k e from to end tried h).1
-    ∙ ap (stepped setting (Some e)) tried.so_far
-    ∙ ap (λ (o : Option OrderEvent). stepped setting o (cursors_after setting k)) (sym tried.here)
+    ∙ ap (stepped setting (known_after setting k) (Some e)) tried.so_far
+    ∙ ap (λ (o : Option OrderEvent). stepped setting (known_after setting k) o (cursors_after setting k)) (sym tried.here)
     ∙ sym (cursors_next setting k)
 
 -- none up to it is refused
 pub passes_on : (setting : Setting) (k : ℕ) (e : OrderEvent) (from to : Cursors) (end : Result Cursors Refusal) → IsTried setting k e from end → Ok to ≡ at_event end k → AllPass setting (k + 1)
 passes_on setting k e from to end tried h =
-    let here : refusal_of setting k (slice_get setting.plan.events k) (cursors_after setting k) ≡ None =
-    ap (λ (o : Option OrderEvent). refusal_of setting k o (cursors_after setting k)) tried.here
-    ∙ ap (refusal_of setting k (Some e)) (sym tried.so_far)
+    let here : refused_at setting k ≡ None =
+    ap (λ (o : Option OrderEvent). refusal_of setting (known_after setting k) k o (cursors_after setting k)) tried.here
+    ∙ ap (refusal_of setting (known_after setting k) k (Some e)) (sym tried.so_far)
     ∙ ap (option_map (numbered k)) (passed setting k e from to end tried h).0 in
-    below_more (λ (j : ℕ). refusal_of setting j (slice_get setting.plan.events j) (cursors_after setting j) ≡ None) k tried.before here
+    below_more (λ (j : ℕ). refused_at setting j ≡ None) k tried.before here
 
 -- the records behind it
 pub records_on : (setting : Setting) (k : ℕ) (e : OrderEvent) (from to : Cursors) (end : Result Cursors Refusal) (old new : ℕ → Record) → IsTried setting k e from end → Ok to ≡ at_event end k
-    → OnOk end ((p : ℕ) → new p ≡ recorded setting (Some e) from p (old p)) → ((p : ℕ) → old p ≡ record_after setting k p)
+    → OnOk end ((p : ℕ) → new p ≡ recorded setting (known_after setting k) (Some e) from p (old p)) → ((p : ℕ) → old p ≡ record_after setting k p)
     → (p : ℕ) → new p ≡ record_after setting (k + 1) p
 records_on setting k e from to (Err r) old new tried h writes so_far p = absurd (cc)
 records_on setting k e from to (Ok x) old new tried h writes so_far p =
     writes p
-    ∙ ap (recorded setting (Some e) from p) (so_far p)
-    ∙ ap (λ (c : Cursors). recorded setting (Some e) c p (record_after setting k p)) tried.so_far
-    ∙ ap (λ (o : Option OrderEvent). recorded setting o (cursors_after setting k) p (record_after setting k p)) (sym tried.here)
+    ∙ ap (recorded setting (known_after setting k) (Some e) from p) (so_far p)
+    ∙ ap (λ (c : Cursors). recorded setting (known_after setting k) (Some e) c p (record_after setting k p)) tried.so_far
+    ∙ ap (λ (o : Option OrderEvent). recorded setting (known_after setting k) o (cursors_after setting k) p (record_after setting k p)) (sym tried.here)
     ∙ sym (record_next setting k p)
 
 -- a refusal that is handed on

@@ -2,8 +2,8 @@
 use Rattle.std.specs.Prelude.{◌≡◌, List, Some, None, Result, Ok, Err}
 use Rattle.lk_place.specs.declared.cursors.Cursors.{Cursors}
 use Rattle.lk_place.specs.declared.error.PlaceError.{PlaceError}
-use Rattle.lk_place.specs.declared.error.PlaceError.TheVariants.{AddressOverflow, BaseTooLow, Expression}
-use Rattle.lk_place.specs.declared.error.PlaceError.TheVariants.{NoMemory, RegionDuplicate, SectionOutsideSegments}
+use Rattle.lk_place.specs.declared.error.PlaceError.TheVariants.{AddressOverflow, BaseTooLow, Expression, LocationBackwards, OutsideRegion}
+use Rattle.lk_place.specs.declared.error.PlaceError.TheVariants.{NoMemory, RegionDuplicate, RegionOverflow, RegionUnknown, SectionOutsideSegments}
 use Rattle.lk_place.specs.declared.walk.Placed.{Placed}
 use Rattle.lk_place.specs.Placement.{IsPlaced, placement_refusal}
 use Rattle.lk_place.specs.Records.{Record}
@@ -14,7 +14,7 @@ use Rattle.lk_place.specs.Setting.{Setting}
 pub record ArePlaced (setting : Setting) (placed : Placed) : Type 0 where
   pub states : List Cursors
   pub is : IsPlaced setting states placed.parts
-  pub unrefused : placement_refusal setting states ≡ None
+  pub unrefused : placement_refusal setting states placed.parts ≡ None
   pub sections : placed.sections ≡ section_records setting.plan.sections placed.parts
 
 -- this is the first refusal of the placement
@@ -22,7 +22,7 @@ pub record IsRefused (setting : Setting) (e : PlaceError) : Type 0 where
   pub states : List Cursors
   pub records : List Record
   pub is : IsPlaced setting states records
-  pub refused : placement_refusal setting states ≡ Some e
+  pub refused : placement_refusal setting states records ≡ Some e
 
 -- the placement, or its first refusal, or want of memory
 abbrev pub GivesPlaced : Setting → Result Placed PlaceError → Type 0
@@ -31,5 +31,9 @@ GivesPlaced setting (Err NoMemory) = Unit {0}
 GivesPlaced setting (Err (AddressOverflow place)) = IsRefused setting (AddressOverflow place)
 GivesPlaced setting (Err (RegionDuplicate region)) = IsRefused setting (RegionDuplicate region)
 GivesPlaced setting (Err (Expression place cause)) = IsRefused setting (Expression place cause)
+GivesPlaced setting (Err (RegionUnknown s)) = IsRefused setting (RegionUnknown s)
+GivesPlaced setting (Err (RegionOverflow region by)) = IsRefused setting (RegionOverflow region by)
+GivesPlaced setting (Err (OutsideRegion event address)) = IsRefused setting (OutsideRegion event address)
+GivesPlaced setting (Err (LocationBackwards from to)) = IsRefused setting (LocationBackwards from to)
 GivesPlaced setting (Err (BaseTooLow base headers)) = IsRefused setting (BaseTooLow base headers)
 GivesPlaced setting (Err (SectionOutsideSegments s)) = IsRefused setting (SectionOutsideSegments s)

@@ -1,5 +1,5 @@
 -- Where memory begins: at the base, or below it where headers are to stand there.
-use Rattle.std.specs.Prelude.{◌≡◌, ℕ, ◌-◌, ◌%◌, ◌<◌, ◌≤◌, ◌&&◌, ◌||◌, not, Bool, true, if◌then◌else◌, nat_le, nat_lt, List, [], Option, Result, Ok, Err}
+use Rattle.std.specs.Prelude.{◌≡◌, ℕ, ◌-◌, ◌%◌, ◌<◌, ◌≤◌, ◌&&◌, ◌||◌, not, Bool, true, if◌then◌else◌, nat_le, nat_lt, List, None, Option, Result, Ok, Err}
 use Rattle.lk_link.specs.declared.fault.Place.TheVariants as place
 use Rattle.lk_link.specs.declared.file.InputFile.{InputFile}
 use Rattle.lk_link.specs.declared.plan.Plan.{Plan}
@@ -18,8 +18,8 @@ known_first groups headers regions constants positions = record {
   headers = headers;
   regions = regions;
   constants = constants;
-  sections = [];
-  parts = [];
+  section = λ s. None;
+  part = λ p. None;
   positions = positions;
 }
 

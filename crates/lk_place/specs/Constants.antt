@@ -3,13 +3,12 @@ use Rattle.std.specs.Prelude.{ℕ, ◌==◌, ◌&&◌, ◌||◌, ◌++◌, All, 
 use Rattle.std.specs.Prelude.{fold, is_some, length, slice_get, unwrap_or}
 use Rattle.lk_link.specs.declared.expression.Operand.{Operand}
 use Rattle.lk_link.specs.declared.expression.Operand.TheVariants as operand
-use Rattle.lk_link.specs.declared.expression.Token.{Token}
-use Rattle.lk_link.specs.declared.expression.Token.TheVariants as token
 use Rattle.lk_link.specs.declared.file.InputFile.{InputFile}
 use Rattle.lk_link.specs.declared.symbol.InputSymbol.{InputSymbol}
 use Rattle.lk_link.specs.declared.symbol.SymbolPlacement.{SymbolPlacement}
 use Rattle.lk_link.specs.declared.symbol.SymbolPlacement.TheVariants as at
-use Rattle.lk_link.specs.Expressions.{Term, Leaf, Node}
+use Rattle.lk_link.specs.ExpressionRules.{all_operands}
+use Rattle.lk_link.specs.Expressions.{Term}
 use Rattle.lk_link.specs.FileKinds.{is_prelude, is_script}
 use Rattle.lk_link.specs.SymbolRules.{file_symbols}
 use Rattle.lk_link.specs.Symbols.{all_files, definition_of, symbol_at}
@@ -51,16 +50,6 @@ constant_operand known constants (operand.Length r) = Some (told (λ p. p.1) (sl
 constant_operand known constants operand.SizeOfHeaders = Some (Ok known.headers)
 
 -- ---- expressions
-
--- whether all operands of an expression pass a test
-unfoldable pub all_operands : (Operand → Bool) → Term → Bool
-all_operands test (Leaf o) = test o
-all_operands test (Node o l r) = all_operands test l && all_operands test r
-
--- whether a token passes it, if it is an operand
-abbrev pub operand_passes : (Operand → Bool) → Token → Bool
-operand_passes test (token.Operand o) = test o
-operand_passes test (token.Operator o) = true
 
 -- the value of an expression, which may be a cause, if all its operands are constants
 abbrev pub constant_expression : Before → List (Option Valued) → Term → Option Valued

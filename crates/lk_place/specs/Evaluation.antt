@@ -5,7 +5,7 @@ use Rattle.std.specs.List.{slice_index_or}
 use Rattle.lk_link.specs.declared.expression.Operand.{Operand}
 use Rattle.lk_link.specs.declared.expression.Token.{Token}
 use Rattle.lk_link.specs.declared.expression.Token.TheVariants as token
-use Rattle.lk_place.specs.declared.expressions.TheConstants.{MOST_DEPTH}
+use Rattle.lk_link.specs.declared.limits.TheConstants.{MOST_DEPTH}
 use Rattle.lk_place.specs.declared.expressions.no_value.NoValue.{NoValue}
 use Rattle.lk_place.specs.Expressions.{Valued, ◌>>=◌, applied}
 

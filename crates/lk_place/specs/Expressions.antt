@@ -4,8 +4,9 @@ use Rattle.std.specs.Int.{next_multiple_of}
 use Rattle.lk_link.specs.declared.expression.Operand.{Operand}
 use Rattle.lk_link.specs.declared.expression.Operator.{Operator}
 use Rattle.lk_link.specs.declared.expression.Operator.TheVariants.{Add, Align, Divide, Max, Min, Multiply, Subtract}
+use Rattle.lk_link.specs.declared.limits.TheConstants.{MOST_DEPTH}
+use Rattle.lk_link.specs.ExpressionRules.{depth}
 use Rattle.lk_link.specs.Expressions.{Term, Leaf, Node}
-use Rattle.lk_place.specs.declared.expressions.TheConstants.{MOST_DEPTH}
 use Rattle.lk_place.specs.declared.expressions.no_value.NoValue.{NoValue}
 use Rattle.lk_place.specs.declared.expressions.no_value.NoValue.TheVariants.{DivideByZero, Overflow}
 
@@ -44,11 +45,6 @@ expression_value given (Node o l r) = do
   a ← expression_value given l
   b ← expression_value given r
   applied o a b
-
--- how deep an expression is: an operand is 1 deep, and what joins two is one deeper than the deeper one
-unfoldable pub depth : Term → ℕ
-depth (Leaf o) = 1
-depth (Node o l r) = max (depth l) (depth r) + 1
 
 -- an expression that isn't too deep
 abbrev pub IsShallow : Term → Type 0

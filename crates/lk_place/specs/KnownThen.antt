@@ -1,8 +1,10 @@
 -- What the code knows when it evaluates expressions, as definitions see it.
+use Rattle.std.specs.Prelude.{ℕ, Option}
 use Rattle.lk_place.specs.declared.expressions.constants.Known.{Known}
 use Rattle.lk_place.specs.declared.expressions.early.EarlySurroundings.{EarlySurroundings}
 use Rattle.lk_place.specs.declared.expressions.late.LateSurroundings.{LateSurroundings}
 use Rattle.lk_place.specs.Constants.{Before}
+use Rattle.lk_place.specs.Records.{Record}
 use Rattle.lk_place.specs.Surroundings.{Early, Late}
 
 -- before anything is placed
@@ -10,15 +12,15 @@ abbrev pub before_of : Known → Before
 before_of known = record { groups = known.link.now.groups; headers = known.headers; regions = known.regions.now }
 
 -- while sections are placed
-abbrev pub early_of : EarlySurroundings → Early
-early_of known = record {
+abbrev pub early_of : {R : Type 0} → (R → ℕ → Option Record) → (R → ℕ → Option Record) → EarlySurroundings R → Early
+early_of section part known = record {
   groups = known.link.now.groups;
   dot = known.dot;
   headers = known.headers;
   regions = known.regions.now;
   constants = known.constants.now;
-  sections = known.sections.now;
-  parts = known.parts.now;
+  section = section known.records.now;
+  part = part known.records.now;
   positions = known.positions.now;
 }
 

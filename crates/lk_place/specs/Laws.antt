@@ -14,7 +14,7 @@ use Rattle.lk_place.specs.declared.cursors.Cursors.{Cursors}
 use Rattle.lk_place.specs.Alignments.{place_alignment, section_alignment}
 use Rattle.lk_place.specs.Placement.{IsPlaced}
 use Rattle.lk_place.specs.Plain.{IsLoadSegment, IsPlain, PlacesInLoad}
-use Rattle.lk_place.specs.Plans.{IsPlaceable}
+use Rattle.lk_place.specs.Plans.{IsUnmoved}
 use Rattle.lk_place.specs.Ranges.{FileIsDisjoint, HasPart, MemoryIsDisjoint}
 use Rattle.lk_place.specs.Records.{Record, record_at}
 use Rattle.lk_place.specs.Segments.{alignment_inside, section_records}
@@ -34,11 +34,11 @@ abbrev pub FileRangesAreDisjoint : Type 0
 FileRangesAreDisjoint = (setting : Setting) (states : List Cursors) (records : List Record)
     → IsReady setting → IsPlaced setting states records → FileIsDisjoint records
 
--- under a plan that is placed, no two parts of sections that take addresses share one (regions, given addresses and moves of the
--- location may break this)
+-- under a plan in which nothing moves the location, no two parts of sections that take addresses share one (regions, given addresses
+-- and moves of the location may break this)
 abbrev pub MemoryRangesAreDisjoint : Type 0
 MemoryRangesAreDisjoint = (setting : Setting) (states : List Cursors) (records : List Record)
-    → IsSoundlySet setting states records → IsPlaceable setting.plan setting.output → MemoryIsDisjoint setting.plan records
+    → IsSoundlySet setting states records → IsUnmoved setting.plan setting.output → MemoryIsDisjoint setting.plan records
 
 -- under a plain plan no two share one
 abbrev pub PlainMemoryIsDisjoint : Type 0

@@ -8,6 +8,8 @@ pub mod ExpressionTexts
 pub mod Expressions
 pub mod KnownThen
 pub mod Laws
+pub mod Locations
+pub mod PlacedBefore
 pub mod Placement
 pub mod PlacementLaws
 pub mod Plain
@@ -18,7 +20,10 @@ pub mod Records
 pub mod Regions
 pub mod Segments
 pub mod Setting
+pub mod Shallow
 pub mod Spans
+pub mod Start
 pub mod Surroundings
+pub mod Tables
 pub mod ThreadLocal
 pub mod Walk

@@ -1,30 +1,31 @@
 -- Where everything is placed: the cursors round each event up to the first that is refused, and the records of all parts.
 use Rattle.std.specs.Prelude.{◌≡◌, ◌≢◌, ℕ, zero, suc, ◌+◌, ◌-◌, ◌^◌, ◌<◌, ◌≤◌, ◌==◌, ◌&&◌, ◌||◌, Bool, true, false, MatchBool, if◌then◌else◌}
-use Rattle.std.specs.Prelude.{List, [], length, min, nat_lt, slice_get, Option, Some, None, Result, Ok, Err, option_map, unwrap_or}
+use Rattle.std.specs.Prelude.{List, [], length, min, nat_lt, slice_get, Option, Some, None, Result, Ok, Err, is_some, option_map, unwrap_or}
 use Rattle.std.specs.Prelude.{position}
 use Rattle.std.specs.Int.{next_multiple_of}
 use Rattle.std.specs.List.{slice_index_or}
 use Rattle.lk_link.specs.declared.fault.Place.TheVariants as place
-use Rattle.lk_link.specs.declared.options.OutputKind.TheVariants.{Partial}
 use Rattle.lk_link.specs.declared.plan.OrderEvent.{OrderEvent}
-use Rattle.lk_link.specs.declared.plan.OrderEvent.TheVariants.{SegmentStart, Section}
+use Rattle.lk_link.specs.declared.plan.OrderEvent.TheVariants.{Section, SegmentEnd, SegmentStart, SetLocation, SetLocationRelative, SetSectionAddress}
 use Rattle.lk_link.specs.Alignments.{IsLeastMultiple}
-use Rattle.lk_link.specs.Expressions.{as_number}
 use Rattle.lk_link.specs.Inside.{placed_section}
 use Rattle.lk_link.specs.Parts.{all_parts, part_at}
-use Rattle.lk_link.specs.PlanSections.{is_allocated, is_file_backed, is_thread_local}
+use Rattle.lk_link.specs.PlanSections.{is_allocated, is_file_backed, is_thread_local, primary_of}
 use Rattle.lk_link.specs.SegmentKinds.{is_load, segment_at}
 use Rattle.lk_place.specs.declared.cursors.Cursors.{Cursors}
 use Rattle.lk_place.specs.declared.cursors.Offsets.{Offsets}
 use Rattle.lk_place.specs.declared.error.PlaceError.{PlaceError}
-use Rattle.lk_place.specs.declared.error.PlaceError.TheVariants.{AddressOverflow}
+use Rattle.lk_place.specs.declared.error.PlaceError.TheVariants.{AddressOverflow, Expression, LocationBackwards}
 use Rattle.lk_place.specs.declared.error.Refusal.{Refusal}
-use Rattle.lk_place.specs.declared.error.Refusal.TheVariants.{Overflow}
+use Rattle.lk_place.specs.declared.error.Refusal.TheVariants.{Backwards, NoValue, Overflow}
 use Rattle.lk_place.specs.Alignments.{place_alignment, section_alignment}
+use Rattle.lk_place.specs.Locations.{awaiting, behind_start, opened_at, taken}
+use Rattle.lk_place.specs.PlacedBefore.{Known, known_before, value_at}
 use Rattle.lk_place.specs.Plans.{IsPlaceableEvent}
 use Rattle.lk_place.specs.Records.{Record, file_end, mem_end, nowhere, record_at}
 use Rattle.lk_place.specs.Setting.{Setting, has_bytes, of_parts, part_count, part_number, size_at}
-use Rattle.lk_place.specs.ThreadLocal.{run_begun, saved_or_restored}
+use Rattle.lk_place.specs.Start.{BeginsAt, no_cursors, start}
+use Rattle.lk_place.specs.ThreadLocal.{run_begun_behind, saved_or_restored}
 
 -- ---- the parts of a section
 
@@ -121,22 +122,32 @@ Places setting (Some s) from records to = PlacesSection setting s from records t
 abbrev pub memory_moved : Cursors → ℕ → Result Cursors Refusal
 memory_moved from memory = if nat_lt memory (2 ^ 64) then Ok (record from { memory = memory }) else Err Overflow
 
--- what an event does to the cursors before it places a section, or why it is refused: a load segment begins where the
--- platform lets it, by its place alignment; a section saves memory or goes on where it was saved, and may begin a run; and nothing
--- else that has a step moves anything
-abbrev pub moved : Setting → OrderEvent → Cursors → Result Cursors Refusal
-moved setting (SegmentStart i) from =
-    let start = setting.target.segment_start (place_alignment setting i) from.file from.memory in
-    if is_load (segment_at setting.plan.segments i).kind then memory_moved from start else Ok from
-moved setting (Section s) from = run_begun setting s (saved_or_restored setting.plan s from)
-moved setting _ from = Ok from
+-- a load segment opens: where the platform lets it, by its place alignment, or at a location that waits
+abbrev pub opened : Setting → ℕ → Cursors → Option ℕ → Result Cursors Refusal
+opened setting i from None = memory_moved from (setting.target.segment_start (place_alignment setting i) from.file from.memory)
+opened setting i from (Some l) = opened_at (place_alignment setting i) from l
 
--- an event moves the cursors, and then places its section, if it has one; what isn't placed yet has no step: what moves the
--- location, gives an address, or places a section that stands in a region or is loaded elsewhere
-pub record Steps (setting : Setting) (e : OrderEvent) (from : Cursors) (records : List Record) (to : Cursors) : Type 0 where
+-- a section begins: it saves memory or goes on where it was saved, takes a location that waits, and may begin a run
+abbrev pub begun_section : Setting → ℕ → Cursors → Result Cursors Refusal
+begun_section setting s from = run_begun_behind setting s (is_some from.pending) (taken setting.plan s (saved_or_restored setting.plan s from) from.pending)
+
+-- what an event does to the cursors before it places a section, or why it is refused: a load segment opens; a section begins; and what
+-- moves the location leaves it waiting, relative to a section not before its primary's start, if that is placed; nothing else moves
+-- anything
+abbrev pub moved : Setting → Known → OrderEvent → Cursors → Result Cursors Refusal
+moved setting known (SegmentStart i) from = if is_load (segment_at setting.plan.segments i).kind then opened setting i from from.pending else Ok from
+moved setting known (Section s) from = begun_section setting s from
+moved setting known (SetLocation e) from = awaiting from (value_at setting known from e)
+moved setting known (SetLocationRelative e s) from = awaiting from (behind_start (known.section (primary_of setting.plan.sections s)) (value_at setting known from e))
+moved setting known (SetSectionAddress e) from = awaiting from (value_at setting known from e)
+moved setting known (SegmentEnd i) from = Ok from
+
+-- an event moves the cursors, and then places its section, if it has one; what isn't placed yet has no step: what places a section
+-- that stands in a region or is loaded elsewhere
+pub record Steps (setting : Setting) (known : Known) (e : OrderEvent) (from : Cursors) (records : List Record) (to : Cursors) : Type 0 where
   pub placeable : IsPlaceableEvent setting.plan e
   pub entered : Cursors
-  pub moves : moved setting e from ≡ Ok entered
+  pub moves : moved setting known e from ≡ Ok entered
   pub places : Places setting (placed_section e) entered records to
 
 -- ---- refusals
@@ -181,51 +192,49 @@ refusal_behind_move setting s (Ok entered) = section_refusal setting s entered
 refusal_behind_move setting s (Err refusal) = Some refusal
 
 -- the first refusal of an event's steps
-abbrev pub event_refusal : Setting → OrderEvent → Cursors → Option Refusal
-event_refusal setting e from = refusal_behind_move setting (placed_section e) (moved setting e from)
+abbrev pub event_refusal : Setting → Known → OrderEvent → Cursors → Option Refusal
+event_refusal setting known e from = refusal_behind_move setting (placed_section e) (moved setting known e from)
 
 -- a refusal, told with the event's number
 abbrev pub numbered : ℕ → Refusal → PlaceError
 numbered k Overflow = AddressOverflow (place.Event k)
+numbered k (NoValue cause) = Expression (place.Event k) cause
+numbered k (Backwards from to) = LocationBackwards from to
 
 -- the same of event k
-abbrev pub step_refusal : Setting → ℕ → OrderEvent → Cursors → Option PlaceError
-step_refusal setting k e from = option_map (numbered k) (event_refusal setting e from)
+abbrev pub step_refusal : Setting → Known → ℕ → OrderEvent → Cursors → Option PlaceError
+step_refusal setting known k e from = option_map (numbered k) (event_refusal setting known e from)
 
 -- ---- the placement
 
--- the cursors before the first event: the file begins at 0, and memory at the number that is the plan's base; nothing is saved, and
--- no run is begun. Partial output, a base that is asked for or is no number, headers before the first section and regions have no
--- first state: they aren't placed yet
-pub record IsFirst (setting : Setting) (c : Cursors) : Type 0 where
-  pub whole : setting.output ≢ Partial
-  pub unasked : setting.plan.custom_base ≡ false
-  pub headers : setting.plan.phdrs_headers ≡ false
-  pub regions : setting.plan.regions ≡ []
-  pub file : c.file ≡ 0
-  pub memory : as_number setting.plan.base ≡ Some c.memory
-  pub saved : c.saved ≡ None
-  pub in_run : c.in_run ≡ false
-
 -- the cursors before event k, among the states
 abbrev pub state_at : List Cursors → ℕ → Cursors
-state_at states k = slice_index_or states k (record { file = 0; memory = 0; saved = None; in_run = false })
+state_at states k = slice_index_or states k no_cursors
 
 -- the refusal of the event with this number, if there is one
-abbrev pub refusal_of : Setting → ℕ → Option OrderEvent → Cursors → Option PlaceError
-refusal_of setting k None from = None
-refusal_of setting k (Some e) from = step_refusal setting k e from
+abbrev pub refusal_of : Setting → Known → ℕ → Option OrderEvent → Cursors → Option PlaceError
+refusal_of setting known k None from = None
+refusal_of setting known k (Some e) from = step_refusal setting known k e from
 
 -- the refusal of the event behind the last state, if there is one
-abbrev pub placement_refusal : Setting → List Cursors → Option PlaceError
-placement_refusal setting states =
+abbrev pub refusal_behind : Setting → List Cursors → List Record → Option PlaceError
+refusal_behind setting states records =
     let k = length states - 1 in
-    refusal_of setting k (slice_get setting.plan.events k) (state_at states k)
+    refusal_of setting (known_before setting.plan records k) k (slice_get setting.plan.events k) (state_at states k)
+
+-- the refusal of a start, else another, if there is one
+abbrev pub first_refusal : Result Cursors PlaceError → Option PlaceError → Option PlaceError
+first_refusal (Err e) o = Some e
+first_refusal (Ok c) o = o
+
+-- the first refusal: of the start, else of the event behind the last state
+abbrev pub placement_refusal : Setting → List Cursors → List Record → Option PlaceError
+placement_refusal setting states records = first_refusal (start setting) (refusal_behind setting states records)
 
 -- event k takes the state before it to the next, and isn't refused
 pub record Passes (setting : Setting) (states : List Cursors) (records : List Record) (k : ℕ) (e : OrderEvent) : Type 0 where
-  pub unrefused : step_refusal setting k e (state_at states k) ≡ None
-  pub steps : Steps setting e (state_at states k) records (state_at states (k + 1))
+  pub unrefused : step_refusal setting (known_before setting.plan records k) k e (state_at states k) ≡ None
+  pub steps : Steps setting (known_before setting.plan records k) e (state_at states k) records (state_at states (k + 1))
 
 -- a section that one of the first n events places has this part
 pub record IsPlacedBefore (setting : Setting) (n p : ℕ) : Type 0 where
@@ -238,15 +247,14 @@ pub record IsPlacedBefore (setting : Setting) (n p : ℕ) : Type 0 where
   pub is : p ≡ part_number setting.plan.sections s j
 
 -- states are the cursors before each event up to the first that is refused (of those that are placed, too), and behind the last
--- where none is; records are those of all parts by number, nowhere where no event before the last state places them (libwild:
--- `compute_layout_sections`)
+-- where none is; there are none where the start is refused. Records are those of all parts by number, nowhere where no event before
+-- the last state places them (libwild: `compute_layout_sections`)
 pub record IsPlaced (setting : Setting) (states : List Cursors) (records : List Record) : Type 0 where
-  pub some : 0 < length states
-  pub begins : IsFirst setting (state_at states 0)
+  pub begins : BeginsAt (start setting) states
   pub within : length states ≤ length setting.plan.events + 1
   pub steps : (k : ℕ) (e : OrderEvent) → k + 1 < length states → slice_get setting.plan.events k ≡ Some e
       → Passes setting states records k e
   pub refused : (e : OrderEvent) → slice_get setting.plan.events (length states - 1) ≡ Some e → IsPlaceableEvent setting.plan e
-  pub ends : placement_refusal setting states ≡ None → length states ≡ length setting.plan.events + 1
+  pub ends : placement_refusal setting states records ≡ None → length states ≡ length setting.plan.events + 1
   pub each : length records ≡ length (all_parts setting.plan.sections)
   pub others : (p : ℕ) → (IsPlacedBefore setting (length states - 1) p → ⊥) → record_at records p ≡ nowhere

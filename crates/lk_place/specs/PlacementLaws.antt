@@ -19,7 +19,7 @@ PlacementIsOne = (setting : Setting) (states states' : List Cursors) (records re
 -- where nothing is refused, the record of each part takes exactly its bytes in memory
 abbrev pub PartsTakeTheirBytes : Type 0
 PartsTakeTheirBytes = (setting : Setting) (states : List Cursors) (records : List Record) → IsReady setting
-    → IsPlaced setting states records → placement_refusal setting states ≡ None → map (λ r. r.mem_size) records ≡ setting.sizes
+    → IsPlaced setting states records → placement_refusal setting states records ≡ None → map (λ r. r.mem_size) records ≡ setting.sizes
 
 -- in a plan that is placed, a section whose parts are placed from the cursors on is refused there exactly where one of them ends
 -- past 2^64 - 1

@@ -1,10 +1,9 @@
--- Which plans are placed: those that ask no more of the walk than to place parts behind one another, from a number on.
-use Rattle.std.specs.Prelude.{◌≡◌, ◌≢◌, ℕ, true, false, [], None, Some, is_some, slice_get}
+-- Which plans are placed: those that ask no more of the walk than to place parts behind one another.
+use Rattle.std.specs.Prelude.{◌≡◌, ◌≢◌, ℕ, None, Some, slice_get}
 use Rattle.lk_link.specs.declared.options.OutputKind.{OutputKind}
 use Rattle.lk_link.specs.declared.options.OutputKind.TheVariants.{Partial}
 use Rattle.lk_link.specs.declared.plan.OrderEvent.{OrderEvent}
 use Rattle.lk_link.specs.declared.plan.Plan.{Plan}
-use Rattle.lk_link.specs.Expressions.{as_number}
 use Rattle.lk_link.specs.Inside.{placed_section}
 use Rattle.lk_link.specs.PlanSections.{section_at}
 use Rattle.lk_link.specs.WellFormed.{IsAboutPlace}
@@ -14,18 +13,17 @@ pub record IsPlaceableSection (plan : Plan) (s : ℕ) : Type 0 where
   pub region : (section_at plan.sections s).region ≡ None
   pub at : (section_at plan.sections s).at ≡ None
 
--- an event that is placed: it moves no location and gives no address, and the section that it places, if it has one, is such
+-- an event that is placed: the section that it places, if it has one, is such
 pub record IsPlaceableEvent (plan : Plan) (e : OrderEvent) : Type 0 where
-  pub about : IsAboutPlace e
   pub section : (s : ℕ) → placed_section e ≡ Some s → IsPlaceableSection plan s
 
--- a plan that is placed: for whole output, from a number on that isn't asked for and has no headers before it, without regions and
--- without events that move the location or give an address
+-- a plan that is placed: for whole output, without sections in regions or with load addresses
 pub record IsPlaceable (plan : Plan) (output : OutputKind) : Type 0 where
   pub whole : output ≢ Partial
-  pub base : is_some (as_number plan.base) ≡ true
-  pub unasked : plan.custom_base ≡ false
-  pub headers : plan.phdrs_headers ≡ false
-  pub regions : plan.regions ≡ []
+  pub sections : (s : ℕ) → IsPlaceableSection plan s
+
+-- a plan that is placed, and in which nothing moves the location
+pub record IsUnmoved (plan : Plan) (output : OutputKind) : Type 0 where
+  pub whole : output ≢ Partial
   pub events : (k : ℕ) (e : OrderEvent) → slice_get plan.events k ≡ Some e → IsAboutPlace e
   pub sections : (s : ℕ) → IsPlaceableSection plan s

@@ -1,6 +1,7 @@
--- What a placement depends on: the plan, the kind of output, the machine, and the bytes of the plan's parts.
-use Rattle.std.specs.Prelude.{◌≡◌, ℕ, ◌+◌, Bool, true, List, length, nat_lt, slice_index, slice_range}
+-- What a placement depends on: the plan, the kind of output, the machine, the bytes of the plan's parts, and what expressions speak of.
+use Rattle.std.specs.Prelude.{◌≡◌, ℕ, ◌+◌, Bool, true, List, Option, length, nat_lt, slice_index, slice_range}
 use Rattle.std.specs.List.{list_all}
+use Rattle.lk_link.specs.declared.file.InputFile.{InputFile}
 use Rattle.lk_link.specs.declared.link.LinkInput.{LinkInput}
 use Rattle.lk_link.specs.declared.options.OutputKind.{OutputKind}
 use Rattle.lk_link.specs.declared.plan.Plan.{Plan}
@@ -10,17 +11,30 @@ use Rattle.lk_link.specs.PlanSections.{section_at}
 use Rattle.lk_link.specs.Rules.{is_good_section}
 use Rattle.lk_link.specs.Target.{Target}
 use Rattle.lk_link.specs.WellFormed.{IsEventOrder}
+use Rattle.lk_place.specs.declared.expressions.positions.SymbolPosition.{SymbolPosition}
 
--- what is placed, for which output and machine, and the bytes of each part, by its number over all sections
+-- what is placed, for which output and machine; the bytes of each part, by its number over all sections; and the files whose symbols
+-- expressions name, the bytes of the headers, and the place of each symbol that stands in a part
 pub record Setting : Type 0 where
   pub plan : Plan
   pub output : OutputKind
   pub target : Target
   pub sizes : List ℕ
+  pub groups : List (List InputFile)
+  pub headers : ℕ
+  pub positions : List (Option SymbolPosition)
 
--- the setting of a link, a machine and the parts' bytes
-abbrev pub setting_of : LinkInput → Target → List ℕ → Setting
-setting_of link target sizes = record { plan = link.plan; output = link.options.output; target = target; sizes = sizes }
+-- the setting of a link, a machine, the parts' bytes, the headers' bytes, and the places of symbols
+abbrev pub setting_of : LinkInput → Target → List ℕ → ℕ → List (Option SymbolPosition) → Setting
+setting_of link target sizes headers positions = record {
+  plan = link.plan;
+  output = link.options.output;
+  target = target;
+  sizes = sizes;
+  groups = link.groups;
+  headers = headers;
+  positions = positions;
+}
 
 -- the bytes of the part with this number
 abbrev pub size_at : List ℕ → ℕ → ℕ

@@ -56,15 +56,16 @@ symbol_value f groups s = by_definition f groups (definition_of groups s)
 
 -- ---- while sections are placed
 
--- what is known then: regions as origin and length; constants and positions by symbol; what isn't placed yet has no record
+-- what is known then: regions as origin and length; constants and positions by symbol; and records of sections and parts by their
+-- numbers, of which what isn't placed yet has none
 pub record Early : Type 0 where
   pub groups : List (List InputFile)
   pub dot : ℕ
   pub headers : ℕ
   pub regions : List (ℕ × ℕ)
   pub constants : List (Option Valued)
-  pub sections : List (Option Record)
-  pub parts : List (Option Record)
+  pub section : ℕ → Option Record
+  pub part : ℕ → Option Record
   pub positions : List (Option SymbolPosition)
 
 -- so far behind where a part starts, if the part is placed
@@ -73,9 +74,9 @@ behind_start offset None = Err NoAddress
 behind_start offset (Some r) = bounded (r.mem_offset + offset)
 
 -- the address of a place in a part
-abbrev pub address_of : List (Option Record) → Option SymbolPosition → Valued
-address_of parts None = Err NoAddress
-address_of parts (Some p) = behind_start p.offset (flat (slice_get parts p.part))
+abbrev pub address_of : (ℕ → Option Record) → Option SymbolPosition → Valued
+address_of part None = Err NoAddress
+address_of part (Some p) = behind_start p.offset (part p.part)
 
 -- the value of a constant, which may be a cause
 abbrev pub constant_value : Option Valued → Valued
@@ -85,7 +86,7 @@ constant_value (Some value) = value
 -- symbol d, which stands for itself: a number, a place in a placed part, or a constant redirect
 abbrev pub early_symbol : Early → ℕ → SymbolPlacement → Valued
 early_symbol known d (at.Absolute n) = Ok n
-early_symbol known d (at.Section i offset) = address_of known.parts (flat (slice_get known.positions d))
+early_symbol known d (at.Section i offset) = address_of known.part (flat (slice_get known.positions d))
 early_symbol known d (at.Redirect e l provide) = constant_value (flat (slice_get known.constants d))
 early_symbol known d _ = Err NoAddress
 
@@ -94,8 +95,8 @@ abbrev pub early_operand : Early → Operand → Valued
 early_operand known (operand.Number n) = Ok n
 early_operand known (operand.Symbol s) = symbol_value (early_symbol known) known.groups s
 early_operand known operand.Dot = Ok known.dot
-early_operand known (operand.Address s) = told (λ r. r.mem_offset) (flat (slice_get known.sections s))
-early_operand known (operand.SizeOf s) = told (λ r. r.mem_size) (flat (slice_get known.sections s))
+early_operand known (operand.Address s) = told (λ r. r.mem_offset) (known.section s)
+early_operand known (operand.SizeOf s) = told (λ r. r.mem_size) (known.section s)
 early_operand known (operand.Origin r) = told (λ p. p.0) (slice_get known.regions r)
 early_operand known (operand.Length r) = told (λ p. p.1) (slice_get known.regions r)
 early_operand known operand.SizeOfHeaders = Ok known.headers

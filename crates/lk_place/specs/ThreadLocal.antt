@@ -1,14 +1,14 @@
 -- What thread-local sections do to memory: zero-fill ones take no addresses from what comes behind, and each run of them begins at
 -- the greatest alignment of all.
-use Rattle.std.specs.Prelude.{ℕ, ◌+◌, ◌-◌, ◌^◌, ◌&&◌, not, Bool, if◌then◌else◌, nat_lt, Some, None, Result, Ok, Err, unwrap_or}
+use Rattle.std.specs.Prelude.{ℕ, ◌+◌, ◌-◌, ◌&&◌, not, Bool, if◌then◌else◌, Some, None, Result, Ok, Err, unwrap_or}
 use Rattle.std.specs.Int.{next_multiple_of}
 use Rattle.lk_link.specs.declared.plan.Plan.{Plan}
 use Rattle.lk_link.specs.OutputKinds.{is_partial}
 use Rattle.lk_link.specs.PlanSections.{is_file_backed, is_thread_local, is_zero_fill_thread_local}
 use Rattle.lk_place.specs.declared.cursors.Cursors.{Cursors}
 use Rattle.lk_place.specs.declared.error.Refusal.{Refusal}
-use Rattle.lk_place.specs.declared.error.Refusal.TheVariants.{Overflow}
 use Rattle.lk_place.specs.Alignments.{thread_local_alignment}
+use Rattle.lk_place.specs.Locations.{within_64}
 use Rattle.lk_place.specs.Setting.{Setting}
 
 -- ---- what is saved
@@ -40,12 +40,14 @@ padded backed a from =
     let memory = next_multiple_of from.memory a in
     record from { file = if backed then from.file + (memory - from.memory) else from.file; memory = memory }
 
--- cursors, unless one is past 2^64 - 1
-abbrev pub within_64 : Cursors → Result Cursors Refusal
-within_64 c = if nat_lt c.file (2 ^ 64) && nat_lt c.memory (2 ^ 64) then Ok c else Err Overflow
-
--- the first section of a run begins at the greatest alignment of all thread-local sections, but in partial output
-abbrev pub run_begun : Setting → ℕ → Cursors → Result Cursors Refusal
-run_begun setting s from =
+-- the first section of a run begins at the greatest alignment of all thread-local sections, but in partial output, and where it took a
+-- location
+abbrev pub run_begun : Setting → ℕ → Bool → Cursors → Result Cursors Refusal
+run_begun setting s took from =
     let alignment = thread_local_alignment setting.plan setting.sizes in
-    if begins_run setting s from then within_64 (padded (is_file_backed setting.plan s) alignment from) else Ok from
+    if begins_run setting s from && not took then within_64 (padded (is_file_backed setting.plan s) alignment from) else Ok from
+
+-- the same behind a step that may be refused
+abbrev pub run_begun_behind : Setting → ℕ → Bool → Result Cursors Refusal → Result Cursors Refusal
+run_begun_behind setting s took (Ok from) = run_begun setting s took from
+run_begun_behind setting s took (Err refusal) = Err refusal

@@ -1,13 +1,13 @@
 -- The placement, computed from front to back. Contracts of private functions speak of it; that it is the placement that
 -- `Placement` defines is proved by lemmas.
-use Rattle.std.specs.Prelude.{◌≡◌, ℕ, zero, suc, ◌+◌, ◌-◌, ◌==◌, ◌&&◌, Bool, true, false, ◌<◌, if◌then◌else◌, List, length, nat_le, nat_lt}
+use Rattle.std.specs.Prelude.{◌≡◌, ℕ, zero, suc, ◌+◌, ◌-◌, ◌==◌, ◌&&◌, Bool, true, false, ◌<◌, if◌then◌else◌, List, length, map}
 use Rattle.std.specs.Prelude.{slice_get, Option, Some, None, Result, Ok, Err, unwrap_or}
 use Rattle.std.specs.Int.{next_multiple_of}
+use Rattle.std.specs.List.{enumerate_from}
 use Rattle.lk_link.specs.declared.plan.OrderEvent.{OrderEvent}
 use Rattle.lk_link.specs.declared.plan.Plan.{Plan}
-use Rattle.lk_link.specs.Expressions.{as_number}
 use Rattle.lk_link.specs.Inside.{placed_section}
-use Rattle.lk_link.specs.Parts.{first_part, part_at}
+use Rattle.lk_link.specs.Parts.{all_parts, first_part, part_at}
 use Rattle.lk_link.specs.PlanSections.{is_file_backed}
 use Rattle.lk_link.specs.Target.{platform_target}
 use Rattle.lk_place.specs.declared.alignments.Alignments.{Alignments}
@@ -20,16 +20,25 @@ use Rattle.lk_place.specs.declared.walk.Walk.{Walk}
 use Rattle.lk_place.specs.Alignments.{section_alignment, section_alignments, segment_alignments, thread_local_alignment}
 use Rattle.lk_place.specs.Placement.{end_behind, first_walked, is_below, is_walked, left_at, moved, numbered, overflow_at, refusal_of}
 use Rattle.lk_place.specs.Placement.{resting, section_end, section_start, walk_alignment}
+use Rattle.lk_place.specs.PlacedBefore.{Known, given_regions, known_before, lies_in}
 use Rattle.lk_place.specs.Records.{Record, nowhere, record_at}
 use Rattle.lk_place.specs.Setting.{IsReady, Setting, part_count, setting_of, size_at}
+use Rattle.lk_place.specs.Regions.{regions_of}
+use Rattle.lk_place.specs.Start.{constants_by, first_cursors, start}
+use Rattle.lk_place.specs.Tables.{ArePlacedAt}
 
--- the cursors at which the walk begins: those of the placement, where the base is a number
+-- the cursors of a start that isn't refused
+abbrev pub begun : Result Cursors PlaceError → Cursors
+begun (Ok c) = c
+begun (Err e) = first_cursors 0
+
+-- the cursors at which the walk begins: those of the placement
 abbrev pub first_state : Setting → Cursors
-first_state setting = record { file = 0; memory = unwrap_or (as_number setting.plan.base) 0; saved = None; in_run = false }
+first_state setting = begun (start setting)
 
 -- the setting of a walk
 abbrev pub setting_in : {P : Type 0} → (P → ℕ → ℕ → ℕ → ℕ) → Walk P → Setting
-setting_in start walk = setting_of walk.link.now (platform_target (start walk.platform.now)) walk.sizes.now
+setting_in start walk = setting_of walk.link.now (platform_target (start walk.platform.now)) walk.sizes.now walk.unplaced.now.headers walk.unplaced.now.positions.now
 
 -- these are the alignments of the sections and segments of a plan, and the greatest of its thread-local sections
 pub record AreAlignments (plan : Plan) (sizes : List ℕ) (all : Alignments) : Type 0 where
@@ -37,10 +46,15 @@ pub record AreAlignments (plan : Plan) (sizes : List ℕ) (all : Alignments) : T
   pub segments : all.segments ≡ segment_alignments plan sizes
   pub thread_local : all.thread_local ≡ thread_local_alignment plan sizes
 
--- the plan of a walk can be walked, and the alignments of its sections and segments are at hand
+-- the plan of a walk can be walked, and the alignments of its sections and segments, what expressions speak of, and the events that
+-- place parts are at hand
 pub record IsWalkable {P : Type 0} (start : P → ℕ → ℕ → ℕ → ℕ) (walk : Walk P) : Type 0 where
   pub ready : IsReady (setting_in start walk)
   pub aligned : AreAlignments walk.link.now.plan walk.sizes.now walk.alignments.now
+  pub groups : walk.unplaced.now.link.now.groups ≡ walk.link.now.groups
+  pub regions : walk.unplaced.now.regions.now ≡ given_regions (regions_of walk.link.now.plan.regions)
+  pub constants : walk.unplaced.now.constants.now ≡ constants_by walk.link.now.groups walk.unplaced.now.headers walk.unplaced.now.regions.now
+  pub placed_at : ArePlacedAt walk.link.now.plan (length walk.link.now.plan.events) walk.placed_at.now
 
 -- the refusal, if there is one, else what there is
 abbrev pub unless : {X E : Type 0} → Option E → X → Result X E
@@ -95,10 +109,6 @@ record_by setting s begin p = next_record setting s begin p (end_behind setting 
 abbrev pub one_written : Setting → ℕ → Offsets → ℕ → Offsets → ℕ → Record → Record
 one_written setting s begin q from p old = if p == q then next_record setting s begin q from else old
 
--- whether part p is one of n from the first on
-abbrev pub lies_in : ℕ → ℕ → ℕ → Bool
-lies_in first n p = nat_le first p && nat_lt p (first + n)
-
 -- what the parts of a section that begin here make of the record of part p
 abbrev pub all_written : Setting → ℕ → Offsets → ℕ → Record → Record
 all_written setting s begin p old =
@@ -122,40 +132,63 @@ after_move from (Ok entered) = entered
 after_move from (Err refusal) = from
 
 -- the cursors behind what an event does before it places a section
-abbrev pub entered : Setting → OrderEvent → Cursors → Cursors
-entered setting e from = after_move from (moved setting e from)
+abbrev pub entered : Setting → Known → OrderEvent → Cursors → Cursors
+entered setting known e from = after_move from (moved setting known e from)
 
 -- the cursors behind an event
-abbrev pub stepped : Setting → Option OrderEvent → Cursors → Cursors
-stepped setting None from = from
-stepped setting (Some e) from = left_behind setting (placed_section e) (entered setting e from)
+abbrev pub stepped : Setting → Known → Option OrderEvent → Cursors → Cursors
+stepped setting known None from = from
+stepped setting known (Some e) from = left_behind setting (placed_section e) (entered setting known e from)
 
 -- what an event makes of the record of part p
-abbrev pub recorded : Setting → Option OrderEvent → Cursors → ℕ → Record → Record
-recorded setting None from p old = old
-recorded setting (Some e) from p old = rewritten setting (placed_section e) (entered setting e from) p old
+abbrev pub recorded : Setting → Known → Option OrderEvent → Cursors → ℕ → Record → Record
+recorded setting known None from p old = old
+recorded setting known (Some e) from p old = rewritten setting (placed_section e) (entered setting known e from) p old
 
 -- ---- all events
 
--- the cursors behind the first k events
-unfoldable pub cursors_after : Setting → ℕ → Cursors
-cursors_after setting zero = first_state setting
-cursors_after setting (suc k) = stepped setting (slice_get setting.plan.events k) (cursors_after setting k)
+-- a list of records by part
+abbrev pub listed : Setting → (ℕ → Record) → List Record
+listed setting f = map (λ q. f q.0) (enumerate_from 0 (all_parts setting.plan.sections))
 
--- the record of part p behind the first k events
-unfoldable pub record_after : Setting → ℕ → ℕ → Record
-record_after setting zero p = nowhere
-record_after setting (suc k) p = recorded setting (slice_get setting.plan.events k) (cursors_after setting k) p (record_after setting k p)
+-- the cursors and the record of each part behind the first k events
+unfoldable pub walk_after : Setting → ℕ → Cursors × (ℕ → Record)
+walk_after setting zero = (first_state setting, λ p. nowhere)
+walk_after setting (suc k) =
+    let before = walk_after setting k in
+    let known = known_before setting.plan (listed setting before.1) k in
+    let event = slice_get setting.plan.events k in
+    (stepped setting known event before.0, λ p. recorded setting known event before.0 p (before.1 p))
+
+-- the cursors alone
+abbrev pub cursors_after : Setting → ℕ → Cursors
+cursors_after setting k = (walk_after setting k).0
+
+-- the record of part p alone
+abbrev pub record_after : Setting → ℕ → ℕ → Record
+record_after setting k p = (walk_after setting k).1 p
+
+-- the records of all parts
+abbrev pub records_after : Setting → ℕ → List Record
+records_after setting k = listed setting (walk_after setting k).1
+
+-- what is known then
+abbrev pub known_after : Setting → ℕ → Known
+known_after setting k = known_before setting.plan (records_after setting k) k
+
+-- the refusal of event k, if there is one
+abbrev pub refused_at : Setting → ℕ → Option PlaceError
+refused_at setting k = refusal_of setting (known_after setting k) k (slice_get setting.plan.events k) (cursors_after setting k)
 
 -- none of the first n events is refused
 abbrev pub AllPass : Setting → ℕ → Type 0
-AllPass setting n = (k : ℕ) → k < n → refusal_of setting k (slice_get setting.plan.events k) (cursors_after setting k) ≡ None
+AllPass setting n = (k : ℕ) → k < n → refused_at setting k ≡ None
 
 -- an event is refused by this, and none before it
 pub record StopsBy (setting : Setting) (e : PlaceError) : Type 0 where
   pub k : ℕ
   pub before : AllPass setting k
-  pub here : refusal_of setting k (slice_get setting.plan.events k) (cursors_after setting k) ≡ Some e
+  pub here : refused_at setting k ≡ Some e
 
 -- the records behind all events, or the first refusal
 abbrev pub GivesWalked : Setting → Result (Unit {0}) PlaceError → List Record → Type 0

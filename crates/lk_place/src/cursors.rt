@@ -21,4 +21,6 @@ pub struct Cursors {
     pub saved: Option<u64>,
     /// Whether the section that was placed last is thread-local.
     pub in_run: bool,
+    /// A location that no section has taken yet.
+    pub pending: Option<u64>,
 }

@@ -10,6 +10,10 @@ use std::alloc::{AllocError, AllocFailed};
 pub enum Refusal {
     /// A cursor or an end passes 2^64 - 1.
     Overflow,
+    /// An expression has no value.
+    NoValue(NoValue),
+    /// A location stands before where it may.
+    Backwards { from: u64, to: u64 },
 }
 
 /// Why a link isn't placed: the first refusal, or want of memory.
@@ -22,6 +26,14 @@ pub enum PlaceError {
     RegionDuplicate { region: RegionId },
     /// An expression has no value.
     Expression { place: Place, cause: NoValue },
+    /// A section that is placed names a region that isn't there.
+    RegionUnknown { section: OutputSectionId },
+    /// The sections of a region take more bytes than it has, by so many.
+    RegionOverflow { region: RegionId, by: u64 },
+    /// A location that the section of this event takes stands outside its region.
+    OutsideRegion { event: usize, address: u64 },
+    /// A location stands before where it may.
+    LocationBackwards { from: u64, to: u64 },
     /// A base that is asked for has no room for the headers below it.
     BaseTooLow { base: u64, headers: u64 },
     /// A section with memory, which is emitted or has bytes, stands in no segment; the first in the order of events.

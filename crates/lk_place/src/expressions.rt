@@ -4,9 +4,9 @@
 //! an array of fixed length, since an expression is at most `MOST_DEPTH` deep: so it takes no memory, and no call stack that grows.
 //! The first cause ends it, which is the first from left to right.
 
-ghost use Rattle.std.specs.Prelude.{◌≡◌};
+ghost use Rattle.std.specs.Prelude.{◌≡◌, slice_get};
 ghost use Rattle.lk_place.specs.Expressions.{IsShallow, expression_value};
-ghost use Rattle.lk_place.specs.Surroundings.{early_operand, late_operand, number_alone};
+ghost use Rattle.lk_place.specs.Surroundings.{early_operand, flat, late_operand, number_alone};
 
 mod constants;
 mod early;
@@ -16,8 +16,10 @@ mod late;
 mod no_value;
 mod numbers;
 mod operators;
+mod placed;
 mod positions;
 mod stack;
+mod walking;
 
 use crate::record::OutputRecordLayout;
 pub use constants::{Constant, constant_redirects};
@@ -29,10 +31,10 @@ use lk_link::ids::SymbolId;
 use lk_link::link::LinkInput;
 pub use no_value::NoValue;
 use numbers::NumbersAlone;
+use placed::GivenRecords;
+pub(crate) use placed::{PlacedRecords, RecordsBefore};
 pub use positions::{SymbolPosition, SymbolPositions};
-
-/// The most that an expression may be deep.
-pub const MOST_DEPTH: usize = 100;
+pub(crate) use walking::{Unplaced, evaluate_before};
 
 /// The value of an expression of numbers and arithmetic alone; all else in it has no address.
 pub fn evaluate_const(_link: &LinkInput, expression: &Expression) -> Result<u64, NoValue>
@@ -63,19 +65,19 @@ pub fn evaluate_early_expression(
       headers = headers;
       regions = regions.now;
       constants = constants.now;
-      sections = sections.now;
-      parts = parts.now;
+      section = λ s. flat (slice_get sections.now s);
+      part = λ p. flat (slice_get parts.now p);
       positions = positions.now;
     })) expression.now }
 {
+    let records = GivenRecords { sections, parts };
     let known = EarlySurroundings {
         link,
         dot,
         headers,
         regions,
         constants,
-        sections,
-        parts,
+        records: &records,
         positions,
     };
     evaluate(&known, expression)

@@ -61,7 +61,7 @@ pub(crate) fn nothing() -> OutputRecordLayout
 }
 
 /// The hull of several records.
-fn hull_of(records: &[OutputRecordLayout]) -> OutputRecordLayout
+pub(crate) fn hull_of(records: &[OutputRecordLayout]) -> OutputRecordLayout
     ensures { result ≡ hull records.now }
 {
     let mut all = None;

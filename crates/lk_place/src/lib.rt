@@ -8,11 +8,14 @@ pub mod error;
 pub mod expressions;
 pub mod hulls;
 pub mod laws;
+mod locations;
+mod placed_at;
 mod placement;
 pub mod plain;
 pub mod record;
 pub mod regions;
 pub mod segments;
+mod start;
 pub mod walk;
 
 pub use crate::alignments::compute_segment_alignments;

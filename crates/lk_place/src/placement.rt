@@ -285,8 +285,8 @@ impl<P: Platform> Walk<'_, P> {
         Ok(Cursors {
             file: end.file,
             memory: if allocated { end.memory } else { from.memory },
-            saved: from.saved,
             in_run: self.link.plan.is_thread_local(section),
+            ..from
         })
     }
 }

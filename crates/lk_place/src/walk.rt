@@ -3,31 +3,45 @@
 //! The walk goes through the events once, with a cursor in the file and one in memory. A load segment moves memory to where
 //! the platform lets it begin; a section places its parts from the cursors on and moves them behind the last. One that isn't
 //! zero-fill thread-local data begins where memory stood before any that is; the first of a run of thread-local sections begins at
-//! the greatest alignment of all. Nothing else moves anything. The records go into one table by part number, which the walk is
-//! lent, so that it takes no memory. It ends at the first event with a number past 2^64 - 1.
+//! the greatest alignment of all. A location waits for the next section, which begins there. The records go into one table by part
+//! number, which the walk is lent, so that it takes no memory; expressions read those of what is placed, which another table tells
+//! that is made before. It ends at the first event that is refused.
 
-ghost use Rattle.std.specs.Prelude.{◌≡◌, ◌<◌, ◌^◌, ◌&&◌, ℕ, Some, SomeIff, IfOk, OnOk, length, nat_lt, true};
-ghost use Rattle.lk_link.specs.Expressions.{as_number};
+ghost use Rattle.std.specs.Prelude.{◌≡◌, ◌<◌, ◌^◌, ◌&&◌, ℕ, Ok, Some, if◌then◌else◌, SomeIff, IfOk, OnOk, length, nat_lt, true};
 ghost use Rattle.lk_link.specs.Inside.{placed_section};
 ghost use Rattle.lk_link.specs.Parts.{all_parts};
 ghost use Rattle.lk_link.specs.WellFormed.{IsInRange, IsWellFormed};
 ghost use Rattle.lk_link.specs.Target.{platform_target};
 ghost use Rattle.lk_place.specs.Alignments.{place_alignment};
 ghost use Rattle.lk_place.specs.Answers.{GivesPlaced};
-ghost use Rattle.lk_place.specs.Placement.{event_refusal, memory_moved, moved, section_refusal};
+ghost use Rattle.lk_place.specs.Expressions.{IsShallow};
+ghost use Rattle.lk_place.specs.Locations.{behind_start, within_64};
+ghost use Rattle.lk_place.specs.PlacedBefore.{known_before, value_at};
+ghost use Rattle.lk_place.specs.Placement.{begun_section, event_refusal, memory_moved, moved, opened, section_refusal};
 ghost use Rattle.lk_place.specs.Plans.{IsPlaceable};
 ghost use Rattle.lk_place.specs.Records.{nowhere, record_at};
 ghost use Rattle.lk_place.specs.Setting.{setting_of};
-ghost use Rattle.lk_place.specs.ThreadLocal.{begins_run, padded, run_begun, saved_or_restored, within_64};
+ghost use Rattle.lk_place.specs.Shallow.{AreShallowEvents, IsShallowEvent};
+ghost use Rattle.lk_place.specs.Start.{first_cursors, start};
+ghost use Rattle.lk_place.specs.ThreadLocal.{begins_run, padded, run_begun, saved_or_restored};
+ghost use Rattle.lk_link.specs.PlanSections.{primary_of};
+ghost use Rattle.lk_link.specs.SegmentKinds.{is_load, segment_at};
 ghost use Rattle.lk_place.specs.Walk.{GivesWalked, IsWalkable, Rewrites, left_behind, recorded, setting_in, stepped};
 ghost use Rattle.lk_place.specs.Walk.{at_event, rewritten, unless};
 
 use crate::alignments::{Alignments, compute_alignments};
 use crate::cursors::Cursors;
 use crate::error::{PlaceError, Refusal};
+use crate::expressions::{
+    PlacedRecords, RecordsBefore, SymbolPositions, Unplaced, evaluate_before,
+};
 use crate::hulls::{nothing, span_sections};
+use crate::locations::{not_before, open_at, refuse, take_location, wait_at};
+use crate::placed_at::events_of_parts;
 use crate::record::OutputRecordLayout;
+use crate::start::begin;
 use lk_link::alignment::Alignment;
+use lk_link::expression::Expression;
 use lk_link::fault::Place;
 use lk_link::ids::{OutputSectionId, SegmentId};
 use lk_link::link::LinkInput;
@@ -69,14 +83,16 @@ fn pad(backed: bool, alignment: Alignment, from: Cursors) -> Result<Cursors, Ref
     fit_pad(backed, alignment, from).ok_or(Refusal::Overflow)
 }
 
-/// What a walk goes by: the link, the bytes of each part of its plan by number, the alignments of its sections and segments, and
-/// the machine.
+/// What a walk goes by: the link, the bytes of each part of its plan by number, the alignments of its sections and segments, the
+/// machine, what expressions may speak of that isn't placed by it, and by part the event that places it.
 #[derive(Drop)]
 pub(crate) struct Walk<'a, P: Platform> {
     pub(crate) link: &'a LinkInput,
     pub(crate) sizes: &'a [u64],
     pub(crate) alignments: &'a Alignments,
     pub(crate) platform: &'a P,
+    pub(crate) unplaced: &'a Unplaced<'a>,
+    pub(crate) placed_at: &'a [usize],
 }
 
 impl<P: Platform> Walk<'_, P> {
@@ -103,18 +119,22 @@ impl<P: Platform> Walk<'_, P> {
         self.alignments.segments.as_slice()[segment.as_usize()]
     }
 
-    /// The cursors behind the opening of a segment: a load segment begins where the platform lets it, and another moves
-    /// nothing.
+    /// The cursors behind the opening of a segment: a load segment begins where the platform lets it, or at a location that
+    /// waits, and another moves nothing.
     fn open_segment(&self, segment: SegmentId, from: Cursors) -> Result<Cursors, Refusal>
         requires walkable { IsWalkable P.segment_start self.now }
         requires in_range { segment < length self.now.link.now.plan.segments }
-        ensures { result ≡ moved (setting_in P.segment_start self.now) (OrderEvent.SegmentStart segment) from }
+        ensures { result ≡ (if is_load (segment_at self.now.link.now.plan.segments segment).kind
+            then opened (setting_in P.segment_start self.now) segment from from.pending else Ok from) }
     {
         if self.link.plan.segments.as_slice()[segment.as_usize()]
             .kind
             .is_load()
         {
-            self.begin_load(self.place_alignment(segment), from)
+            match from.pending {
+                None => self.begin_load(self.place_alignment(segment), from),
+                Some(location) => open_at(self.place_alignment(segment), location, from),
+            }
         } else {
             Ok(from)
         }
@@ -149,12 +169,17 @@ impl<P: Platform> Walk<'_, P> {
             && !self.link.options.output.is_partial()
     }
 
-    /// The cursors behind a section's start: the first of a run of thread-local sections begins at the greatest alignment of all.
-    fn begin_run(&self, section: OutputSectionId, from: Cursors) -> Result<Cursors, Refusal>
+    /// The first of a run of thread-local sections begins at the greatest alignment of all, but where it took a location.
+    fn begin_run(
+        &self,
+        section: OutputSectionId,
+        took: bool,
+        from: Cursors,
+    ) -> Result<Cursors, Refusal>
         requires walkable { IsWalkable P.segment_start self.now }
-        ensures { result ≡ run_begun (setting_in P.segment_start self.now) section from }
+        ensures { result ≡ run_begun (setting_in P.segment_start self.now) section took from }
     {
-        if self.begins_run(section, from) {
+        if self.begins_run(section, from) && !took {
             let backed = self.link.plan.is_file_backed(section);
             pad(backed, self.alignments.thread_local, from)
         } else {
@@ -162,18 +187,96 @@ impl<P: Platform> Walk<'_, P> {
         }
     }
 
+    /// The cursors behind a section's start: it saves memory or goes on where it was saved, takes a location that waits, and may
+    /// begin a run.
+    fn begin_section(&self, section: OutputSectionId, from: Cursors) -> Result<Cursors, Refusal>
+        requires walkable { IsWalkable P.segment_start self.now }
+        ensures { result ≡ begun_section (setting_in P.segment_start self.now) section from }
+    {
+        let saved = self.saved_or_restored(section, from);
+        let taken = take_location(&self.link.plan, section, saved, from.pending)?;
+        self.begin_run(section, from.pending.is_some(), taken)
+    }
+
+    /// The value of an expression at an event, by the records of what is placed before it.
+    fn value(
+        &self,
+        event: usize,
+        expression: &Expression,
+        from: Cursors,
+        records: &[OutputRecordLayout],
+    ) -> Result<u64, Refusal>
+        requires walkable { IsWalkable P.segment_start self.now }
+        requires each { length records.now ≡ length (all_parts self.now.link.now.plan.sections) }
+        requires early { event < length self.now.link.now.plan.events }
+        requires shallow { IsShallow expression.now }
+        ensures { result ≡ value_at (setting_in P.segment_start self.now)
+            (known_before self.now.link.now.plan records.now event) from expression.now }
+    {
+        let before = RecordsBefore {
+            sections: &self.link.plan.sections,
+            events: self.placed_at,
+            records,
+            event,
+        };
+        let dot = from.pending.unwrap_or(from.memory);
+        refuse(evaluate_before(self.unplaced, &before, dot, expression))
+    }
+
+    /// A location that isn't to be before the start of a section's primary, where that is placed before an event.
+    fn stay_behind(
+        &self,
+        event: usize,
+        section: OutputSectionId,
+        location: Result<u64, Refusal>,
+        records: &[OutputRecordLayout],
+    ) -> Result<u64, Refusal>
+        requires walkable { IsWalkable P.segment_start self.now }
+        requires each { length records.now ≡ length (all_parts self.now.link.now.plan.sections) }
+        requires early { event < length self.now.link.now.plan.events }
+        ensures { let known = known_before self.now.link.now.plan records.now event
+            in result ≡ behind_start (known.section (primary_of self.now.link.now.plan.sections section)) location }
+    {
+        let before = RecordsBefore {
+            sections: &self.link.plan.sections,
+            events: self.placed_at,
+            records,
+            event,
+        };
+        let primary = self.link.plan.sections.primary_of(section);
+        not_before(before.section(primary), location)
+    }
+
     /// The cursors after what an event does before it places a section.
-    fn moved(&self, event: &OrderEvent, from: Cursors) -> Result<Cursors, Refusal>
+    fn moved(
+        &self,
+        number: usize,
+        event: &OrderEvent,
+        from: Cursors,
+        records: &[OutputRecordLayout],
+    ) -> Result<Cursors, Refusal>
         requires walkable { IsWalkable P.segment_start self.now }
         requires in_range { IsInRange self.now.link.now.plan event.now }
-        ensures { result ≡ moved (setting_in P.segment_start self.now) event.now from }
+        requires each { length records.now ≡ length (all_parts self.now.link.now.plan.sections) }
+        requires early { number < length self.now.link.now.plan.events }
+        requires shallow { IsShallowEvent event.now }
+        ensures { result ≡ moved (setting_in P.segment_start self.now)
+            (known_before self.now.link.now.plan records.now number) event.now from }
     {
-        match *event {
-            OrderEvent::SegmentStart(segment) => { self.open_segment(segment, from) }
-            OrderEvent::Section(section) => {
-                self.begin_run(section, self.saved_or_restored(section, from))
+        match event {
+            OrderEvent::SegmentStart(segment) => self.open_segment(*segment, from),
+            OrderEvent::SegmentEnd(_) => Ok(from),
+            OrderEvent::Section(section) => self.begin_section(*section, from),
+            OrderEvent::SetLocation(location) => {
+                wait_at(from, self.value(number, location, from, records))
             }
-            _ => Ok(from),
+            OrderEvent::SetLocationRelative(location, section) => {
+                let value = self.value(number, location, from, records);
+                wait_at(from, self.stay_behind(number, *section, value, records))
+            }
+            OrderEvent::SetSectionAddress(location) => {
+                wait_at(from, self.value(number, location, from, records))
+            }
         }
     }
 
@@ -203,6 +306,7 @@ impl<P: Platform> Walk<'_, P> {
     /// it.
     fn carry_out(
         &self,
+        number: usize,
         event: &OrderEvent,
         from: Cursors,
         records: &mut [OutputRecordLayout],
@@ -210,21 +314,24 @@ impl<P: Platform> Walk<'_, P> {
         requires walkable { IsWalkable P.segment_start self.now }
         requires in_range { IsInRange self.now.link.now.plan event.now }
         requires each { length records.old ≡ length (all_parts self.now.link.now.plan.sections) }
-        ensures ends { let setting = setting_in P.segment_start self.now
-            in result ≡ unless (event_refusal setting event.now from) (stepped setting (Some event.now) from) }
-        ensures records { let setting = setting_in P.segment_start self.now
-            in OnOk result (Rewrites (recorded setting (Some event.now) from) records.old records.new) }
+        requires early { number < length self.now.link.now.plan.events }
+        requires shallow { IsShallowEvent event.now }
+        ensures ends { let setting = setting_in P.segment_start self.now in let known = known_before setting.plan records.old number
+            in result ≡ unless (event_refusal setting known event.now from) (stepped setting known (Some event.now) from) }
+        ensures records { let setting = setting_in P.segment_start self.now in let known = known_before setting.plan records.old number
+            in OnOk result (Rewrites (recorded setting known (Some event.now) from) records.old records.new) }
     {
-        let entered = self.moved(event, from)?;
+        let entered = self.moved(number, event, from, &*records)?;
         self.place(event, entered, records)
     }
 
     /// Carries out all events in their order, up to the first that is refused. `records` has nothing yet.
     fn walk(&self, base: u64, records: &mut [OutputRecordLayout]) -> Result<(), PlaceError>
         requires walkable { IsWalkable P.segment_start self.now }
-        requires starts { as_number self.now.link.now.plan.base ≡ Some base }
+        requires starts { start (setting_in P.segment_start self.now) ≡ Ok (first_cursors base) }
         requires each { length records.old ≡ length (all_parts self.now.link.now.plan.sections) }
         requires nothing { (p : ℕ) → record_at records.old p ≡ nowhere }
+        requires shallow { AreShallowEvents self.now.link.now.plan.events }
         ensures { GivesWalked (setting_in P.segment_start self.now) result records.new }
     {
         let mut cursors = Cursors {
@@ -232,9 +339,10 @@ impl<P: Platform> Walk<'_, P> {
             memory: base,
             saved: None,
             in_run: false,
+            pending: None,
         };
         for (number, event) in self.link.plan.events.as_slice().iter().enumerate() {
-            let end = self.carry_out(event, cursors, records);
+            let end = self.carry_out(number, event, cursors, records);
             cursors = at_event(end, number)?;
         }
         Ok(())
@@ -250,6 +358,11 @@ fn at_event(end: Result<Cursors, Refusal>, event: usize) -> Result<Cursors, Plac
         Err(Refusal::Overflow) => Err(PlaceError::AddressOverflow {
             place: Place::Event(event),
         }),
+        Err(Refusal::NoValue(cause)) => Err(PlaceError::Expression {
+            place: Place::Event(event),
+            cause,
+        }),
+        Err(Refusal::Backwards { from, to }) => Err(PlaceError::LocationBackwards { from, to }),
     }
 }
 
@@ -265,31 +378,44 @@ fn unplaced(alloc: Global, parts: usize) -> Result<Vec<OutputRecordLayout>, Allo
     Ok(records)
 }
 
-/// Where all parts and output sections stand, by the bytes of each part; or the first event with a number past 2^64 - 1.
+/// Where all parts and output sections stand, by the bytes of each part, the bytes of the headers and the places of symbols; or the
+/// first refusal: of a region, in their order, of the base, or of an event, where a number passes 2^64 - 1, an expression has no
+/// value, or a location stands before where it may.
 /// Offsets and addresses are in bytes (libwild: `compute_layout_sections`). Takes plans that ask no more of the walk than it does:
-/// for whole output, from a number on that isn't asked for, with no headers in a segment, no region, no load
-/// address, and no event that moves the location or gives an address.
+/// for whole output, with no section in a region or with a load address.
 pub fn compute_layout_sections<P: Platform>(
     alloc: Global,
     link: &LinkInput,
     sizes: &[u64],
+    positions: &SymbolPositions,
+    headers: u64,
     platform: &P,
 ) -> Result<Placed, PlaceError>
     requires well_formed { IsWellFormed link.now }
     requires placeable { IsPlaceable link.now.plan link.now.options.output }
     requires each { length sizes.now ≡ length (all_parts link.now.plan.sections) }
-    ensures { GivesPlaced (setting_of link.now (platform_target (P.segment_start platform.now)) sizes.now) result }
+    ensures { GivesPlaced (setting_of link.now (platform_target (P.segment_start platform.now)) sizes.now headers positions.now) result }
 {
+    let beginning = begin(alloc, link, headers, positions)?;
     let alignments = compute_alignments(alloc, link, sizes)?;
     let mut parts = unplaced(alloc, sizes.len())?;
-    let base = link.plan.base.as_number().unwrap();
+    let placed_at = events_of_parts(alloc, &link.plan)?;
+    let unplaced = Unplaced {
+        link,
+        headers,
+        regions: beginning.regions.as_slice(),
+        constants: &beginning.constants,
+        positions,
+    };
     let walk = Walk {
         link,
         sizes,
         alignments: &alignments,
         platform,
+        unplaced: &unplaced,
+        placed_at: &placed_at,
     };
-    walk.walk(base, &mut parts)?;
+    walk.walk(beginning.memory, &mut parts)?;
     let sections = span_sections(alloc, &link.plan.sections, &parts)?;
     Ok(Placed {
         parts: List::from_vec(parts),

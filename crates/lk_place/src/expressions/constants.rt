@@ -39,8 +39,9 @@ pub(super) struct Constants<'a, 'l> {
 }
 
 impl Constants<'_, '_> {
-    ghost use Rattle.lk_place.specs.Constants.{all_operands, constant_definition, constant_expression, constant_operand};
-    ghost use Rattle.lk_place.specs.Constants.{constant_redirect, constant_symbol, next_constant, operand_passes};
+    ghost use Rattle.lk_link.specs.ExpressionRules.{all_operands, operand_passes};
+    ghost use Rattle.lk_place.specs.Constants.{constant_definition, constant_expression, constant_operand};
+    ghost use Rattle.lk_place.specs.Constants.{constant_redirect, constant_symbol, next_constant};
     ghost use Rattle.lk_place.specs.Expressions.{IsShallow};
 
     /// A symbol that stands for itself, if it is a constant, by its placement.

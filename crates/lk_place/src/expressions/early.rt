@@ -7,8 +7,8 @@ ghost use Rattle.lk_place.specs.Surroundings.{by_definition, early_operand, earl
 use super::evaluation::Surroundings;
 use super::known::{is_undefined, item, length, origin, size_of, start_of};
 use super::no_value::NoValue;
+use super::placed::PlacedRecords;
 use super::positions::SymbolPositions;
-use crate::record::OutputRecordLayout;
 use lk_link::expression::Operand;
 use lk_link::ids::{OutputSectionId, SymbolId};
 use lk_link::link::LinkInput;
@@ -16,7 +16,7 @@ use lk_link::symbol::SymbolPlacement;
 
 /// What is known while sections are placed.
 #[derive(Drop)]
-pub(super) struct EarlySurroundings<'a> {
+pub(super) struct EarlySurroundings<'a, R: PlacedRecords> {
     pub(super) link: &'a LinkInput,
     /// The location counter.
     pub(super) dot: u64,
@@ -25,25 +25,23 @@ pub(super) struct EarlySurroundings<'a> {
     pub(super) regions: &'a [(u64, u64)],
     /// By symbol: what constant redirects are worth.
     pub(super) constants: &'a [Option<Result<u64, NoValue>>],
-    /// None where not placed.
-    pub(super) sections: &'a [Option<OutputRecordLayout>],
-    /// None where not placed.
-    pub(super) parts: &'a [Option<OutputRecordLayout>],
+    /// What is placed.
+    pub(super) records: &'a R,
     pub(super) positions: &'a SymbolPositions,
 }
 
-impl EarlySurroundings<'_> {
+impl<R: PlacedRecords> EarlySurroundings<'_, R> {
     ghost use Rattle.std.specs.Prelude.{Some, slice_get};
     ghost use Rattle.lk_place.specs.Surroundings.{address_of, constant_value, flat};
 
     /// The address of a symbol that has a place in a part.
     fn address(&self, definition: SymbolId) -> Result<u64, NoValue>
-        ensures { result ≡ address_of self.now.parts.now (flat (slice_get self.now.positions.now definition)) }
+        ensures { result ≡ address_of (R.part_of self.now.records.now) (flat (slice_get self.now.positions.now definition)) }
     {
         let Some(position) = self.positions.get(definition) else {
             return Err(NoValue::NoAddress);
         };
-        match item(self.parts, position.part.as_usize()) {
+        match self.records.part(position.part) {
             None => Err(NoValue::NoAddress),
             Some(part) => part
                 .mem_offset
@@ -64,7 +62,7 @@ impl EarlySurroundings<'_> {
 
     /// The value of a symbol that stands for itself, by its placement.
     fn placed(&self, definition: SymbolId, placement: &SymbolPlacement) -> Result<u64, NoValue>
-        ensures { result ≡ early_symbol (early_of self.now) definition placement.now }
+        ensures { result ≡ early_symbol (early_of R.section_of R.part_of self.now) definition placement.now }
     {
         match placement {
             SymbolPlacement::Absolute(number) => Ok(*number),
@@ -76,7 +74,7 @@ impl EarlySurroundings<'_> {
 
     /// The value of a symbol that stands for itself.
     fn definition(&self, definition: SymbolId) -> Result<u64, NoValue>
-        ensures { result ≡ by_definition (early_symbol (early_of self.now)) self.now.link.now.groups (Some definition) }
+        ensures { result ≡ by_definition (early_symbol (early_of R.section_of R.part_of self.now)) self.now.link.now.groups (Some definition) }
     {
         match self.link.groups.symbol(definition) {
             None => Err(NoValue::Missing),
@@ -87,7 +85,7 @@ impl EarlySurroundings<'_> {
 
     /// The value of a symbol, by what stands for it.
     fn symbol(&self, symbol: SymbolId) -> Result<u64, NoValue>
-        ensures { result ≡ symbol_value (early_symbol (early_of self.now)) self.now.link.now.groups symbol }
+        ensures { result ≡ symbol_value (early_symbol (early_of R.section_of R.part_of self.now)) self.now.link.now.groups symbol }
     {
         match self.link.groups.definition(symbol) {
             None => Err(NoValue::Missing),
@@ -96,19 +94,19 @@ impl EarlySurroundings<'_> {
     }
 }
 
-impl Surroundings for EarlySurroundings<'_> {
+impl<R: PlacedRecords> Surroundings for EarlySurroundings<'_, R> {
     ghost use Rattle.lk_place.specs.KnownThen.{early_of};
     ghost use Rattle.lk_place.specs.Surroundings.{early_operand};
 
-    ghost worth = { λ known. early_operand (early_of known) };
+    ghost worth = { λ known. early_operand (early_of R.section_of R.part_of known) };
 
     fn value(&self, operand: Operand) -> Result<u64, NoValue> {
         match operand {
             Operand::Number(number) => Ok(number),
             Operand::Symbol(symbol) => self.symbol(symbol),
             Operand::Dot => Ok(self.dot),
-            Operand::Address(section) => start_of(item(self.sections, section.as_usize())),
-            Operand::SizeOf(section) => size_of(item(self.sections, section.as_usize())),
+            Operand::Address(section) => start_of(self.records.section(section)),
+            Operand::SizeOf(section) => size_of(self.records.section(section)),
             Operand::Origin(region) => origin(self.regions, region),
             Operand::Length(region) => length(self.regions, region),
             Operand::SizeOfHeaders => Ok(self.headers),

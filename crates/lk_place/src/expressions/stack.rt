@@ -1,6 +1,6 @@
 //! The numbers that wait for an operator while an expression is evaluated.
 
-use super::MOST_DEPTH;
+use lk_link::limits::MOST_DEPTH;
 use std::marker::Model;
 
 /// Numbers, of which only the last is at hand, and as many as an expression may be deep. They fill their room from its end on.
@@ -13,7 +13,7 @@ pub(super) struct Stack {
 
 impl Model for Stack {
     ghost use Rattle.std.specs.Prelude.{ℕ, ◌≤◌, List, drop};
-    ghost use Rattle.lk_place.specs.declared.expressions.TheConstants.{MOST_DEPTH};
+    ghost use Rattle.lk_link.specs.declared.limits.TheConstants.{MOST_DEPTH};
 
     ghost Value = { List ℕ };
 
@@ -24,7 +24,7 @@ impl Model for Stack {
 
 impl Stack {
     ghost use Rattle.std.specs.Prelude.{◌≡◌, ◌<◌, [], ◌∷◌, length};
-    ghost use Rattle.lk_place.specs.declared.expressions.TheConstants.{MOST_DEPTH};
+    ghost use Rattle.lk_link.specs.declared.limits.TheConstants.{MOST_DEPTH};
 
     /// No numbers.
     pub(super) fn new() -> Stack

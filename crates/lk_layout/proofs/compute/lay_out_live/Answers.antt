@@ -1,6 +1,7 @@
-use Rattle.std.proofs.Common.{◌≡◌, ℕ, List, length, sym, ap, ◌∙◌}
+use Rattle.std.proofs.Common.{◌≡◌, ℕ, List, [], length, sym, ap, subst, ◌∙◌}
 use Rattle.lk_gc.specs.declared.live.Live.{Live}
 use Rattle.lk_place.specs.Answers.{ArePlaced}
+use Rattle.lk_place.specs.Setting.{setting_of}
 use Rattle.lk_link.specs.Target.{platform_target}
 use Rattle.lk_sizes.specs.Contents.{part_contents}
 use Rattle.lk_sizes.specs.Owners.{content_of, part_size, part_sizes}
@@ -44,5 +45,8 @@ lay_out_placed-requires-clause-takes g c =
     let lens : c.deref.result.now ≡ image_lens link = c.deref.ensures.value ∙ c.requires.images.lens in
     let contents : c.as_slice.result.now ≡ part_contents link (output_content link live) = c.as_slice.ensures ∙ c.in_ok-contents.ensures.1 ∙ ap (λ (ls : List ℕ). part_contents link (content_of live ls)) lens in
     let sizes : c.deref-2.result.now ≡ part_sizes link (output_content link live) = c.deref-2.ensures.value ∙ c.in_ok-sizes.ensures.sizes link (output_content link live) contents in
-    let are : ArePlaced (setting target link live) c.in_ok-placed.placed = rw sizes at c.in_ok-placed.ensures in
+    let all : List ℕ = part_sizes link (output_content link live) in
+    let none : c.new-positions.result ≡ [] = c.new-positions.ensures ∙ c.new.ensures in
+    let at : ArePlaced (setting_of link target all 0 c.new-positions.result) c.in_ok-placed.placed = rw sizes at c.in_ok-placed.ensures in
+    let are : ArePlaced (setting target link live) c.in_ok-placed.placed = subst (λ positions. ArePlaced (setting_of link target all 0 positions) c.in_ok-placed.placed) none at in
     takes c.parts_take_their_bytes.ensures target link live are.states c.in_ok-placed.placed.parts c.requires.good are.is are.unrefused

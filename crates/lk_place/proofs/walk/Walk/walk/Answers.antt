@@ -1,8 +1,11 @@
-use Rattle.std.proofs.Common.{◌≡◌, ℕ, ◌∙◌, false, None, Some, arith, refl}
+use Rattle.std.proofs.Common.{◌≡◌, ℕ, ◌∙◌, Some, arith}
 use Rattle.std.specs.Prelude.{slice_get}
 use Rattle.lk_place.specs.declared.cursors.Cursors.{Cursors}
 use Rattle.lk_place.specs.Records.{record_at}
+use Rattle.lk_place.specs.Start.{first_cursors}
 use Rattle.lk_place.specs.Walk.{setting_in}
+use Rattle.std.proofs.lemmas.Option.{slice_get_within}
+use Rattle.lk_place.proofs.Knowing.{known_table, recorded_as, tried_as}
 use Rattle.lk_place.proofs.WalkSteps.{IsTried, cursors_first, goes_on, passes_on, read_there, record_first, records_on, starts_at, stops, walk_refused}
 use Rattle.lk_place.proofs.walk.Walk.walk.Goals as goal
 
@@ -10,9 +13,10 @@ pub loop-number-init : goal.loop-number-init
 loop-number-init g c =
     let setting = setting_in g.P.Platform.segment_start c.args.self.now in
     record {
-      ends = starts_at setting (record { file = 0; memory = c.args.base; saved = None; in_run = false }) refl c.requires.starts refl refl ∙ cursors_first setting;
+      ends = starts_at setting (first_cursors c.args.base) c.requires.starts ∙ cursors_first setting;
       records = λ p. c.requires.nothing p ∙ record_first setting p;
       pass = λ k below. absurd (omega arith);
+      each = c.requires.each;
     }
 
 pub carry_out-end-requires-clause-in_range : goal.carry_out-end-requires-clause-in_range
@@ -20,6 +24,21 @@ carry_out-end-requires-clause-in_range g c =
     let here : slice_get c.args.self.now.link.now.plan.events c.loop-number.number ≡ Some c.event-item.result =
     read_there c.args.self.now.link.now.plan.events c.as_slice-event-items.result.now c.loop-number.number c.event-item.result c.as_slice-event-items.ensures c.loop-number-test.true c.event-item.is in
     c.requires.walkable.ready.events.in_range c.loop-number.number c.event-item.result here
+
+pub carry_out-end-requires-clause-early : goal.carry_out-end-requires-clause-early
+carry_out-end-requires-clause-early g c =
+    let here : slice_get c.args.self.now.link.now.plan.events c.loop-number.number ≡ Some c.event-item.result =
+    read_there c.args.self.now.link.now.plan.events c.as_slice-event-items.result.now c.loop-number.number c.event-item.result c.as_slice-event-items.ensures c.loop-number-test.true c.event-item.is in
+    slice_get_within c.args.self.now.link.now.plan.events c.loop-number.number c.event-item.result here
+
+pub carry_out-end-requires-clause-shallow : goal.carry_out-end-requires-clause-shallow
+carry_out-end-requires-clause-shallow g c =
+    let here : slice_get c.args.self.now.link.now.plan.events c.loop-number.number ≡ Some c.event-item.result =
+    read_there c.args.self.now.link.now.plan.events c.as_slice-event-items.result.now c.loop-number.number c.event-item.result c.as_slice-event-items.ensures c.loop-number-test.true c.event-item.is in
+    c.requires.shallow c.loop-number.number c.event-item.result here
+
+pub carry_out-end-requires-clause-each : goal.carry_out-end-requires-clause-each
+carry_out-end-requires-clause-each g c = c.loop-number.invariant.each
 
 pub returns-in_err-cursors : goal.returns-in_err-cursors
 returns-in_err-cursors g c =
@@ -29,7 +48,7 @@ returns-in_err-cursors g c =
     let tried : IsTried setting c.loop-number.number c.event-item.result c.loop-number.cursors c.carry_out-end.result = record {
       here = here;
       so_far = c.loop-number.invariant.ends;
-      gave = c.carry_out-end.ensures.ends;
+      gave = tried_as setting c.loop-number.number c.event-item.result c.loop-number.cursors c.carry_out-end.result (known_table setting c.loop-number.number c.loop-number.records c.requires.walkable.ready c.loop-number.invariant.each c.loop-number.invariant.records) c.carry_out-end.ensures.ends;
       before = c.loop-number.invariant.pass;
     } in
     walk_refused setting c.from_residual.result c.in_err-cursors.field-0.0 c.carry_out-end.new.records c.from_residual.ensures.1
@@ -45,12 +64,14 @@ loop-number-preserved g c =
     let tried : IsTried setting k c.event-item.result c.loop-number.cursors c.carry_out-end.result = record {
       here = here;
       so_far = c.loop-number.invariant.ends;
-      gave = c.carry_out-end.ensures.ends;
+      gave = tried_as setting c.loop-number.number c.event-item.result c.loop-number.cursors c.carry_out-end.result (known_table setting c.loop-number.number c.loop-number.records c.requires.walkable.ready c.loop-number.invariant.each c.loop-number.invariant.records) c.carry_out-end.ensures.ends;
       before = c.loop-number.invariant.pass;
     } in
     record {
       ends = goes_on setting k c.event-item.result c.loop-number.cursors to c.carry_out-end.result tried c.in_ok-cursors.ensures;
       records = records_on setting k c.event-item.result c.loop-number.cursors to c.carry_out-end.result (record_at c.loop-number.records) (record_at c.carry_out-end.new.records) tried c.in_ok-cursors.ensures
-          c.carry_out-end.ensures.records c.loop-number.invariant.records;
+          (recorded_as setting k c.event-item.result c.loop-number.cursors c.carry_out-end.result (record_at c.loop-number.records) (record_at c.carry_out-end.new.records)
+          (known_table setting k c.loop-number.records c.requires.walkable.ready c.loop-number.invariant.each c.loop-number.invariant.records) c.carry_out-end.ensures.records) c.loop-number.invariant.records;
       pass = passes_on setting k c.event-item.result c.loop-number.cursors to c.carry_out-end.result tried c.in_ok-cursors.ensures;
+      each = c.carry_out-end.auto.records ∙ c.loop-number.invariant.each;
     }

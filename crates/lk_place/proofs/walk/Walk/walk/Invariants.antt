@@ -1,4 +1,5 @@
-use Rattle.std.proofs.Common.{◌≡◌, ℕ}
+use Rattle.std.proofs.Common.{◌≡◌, ℕ, length}
+use Rattle.lk_link.specs.Parts.{all_parts}
 use Rattle.lk_place.specs.Records.{record_at}
 use Rattle.lk_place.specs.Walk.{AllPass, cursors_after, record_after, setting_in}
 use Rattle.lk_place.proofs.walk.Walk.walk.Given as goal
@@ -11,4 +12,5 @@ invariant-loop-number g l =
       ends : l.cursors ≡ cursors_after setting l.number;
       records : (p : ℕ) → record_at l.records p ≡ record_after setting l.number p;
       pass : AllPass setting l.number;
+      each : length l.records ≡ length (all_parts setting.plan.sections);
     }

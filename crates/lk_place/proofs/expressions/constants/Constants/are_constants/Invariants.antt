@@ -1,7 +1,8 @@
 use Rattle.std.proofs.Common.{◌≡◌, drop}
 use Rattle.std.specs.Prelude.{is_some}
 use Rattle.std.specs.List.{list_all}
-use Rattle.lk_place.specs.Constants.{all_operands, constant_operand, operand_passes}
+use Rattle.lk_link.specs.ExpressionRules.{all_operands, operand_passes}
+use Rattle.lk_place.specs.Constants.{constant_operand}
 use Rattle.lk_place.specs.KnownThen.{before_of}
 use Rattle.lk_place.proofs.expressions.constants.Constants.are_constants.Given as goal
 

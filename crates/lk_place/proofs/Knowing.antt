@@ -1,0 +1,142 @@
+-- What expressions read of what earlier events place goes by the records of just that.
+use Rattle.std.proofs.Common.{◌≡◌, ℕ, ◌+◌, ◌-◌, ◌≤◌, ◌<◌, Bool, true, false, List, length, take, drop, Option, Some, None, refl, sym, ap, subst, ◌∙◌, arith, eq-eqb}
+use Rattle.std.specs.Prelude.{if◌then◌else◌, slice_get, ◌==◌, OnOk, Result}
+use Rattle.std.specs.List.{list_any, slice_index_or}
+use Rattle.std.proofs.Math.Path.{fun_ext}
+use Rattle.std.proofs.lemmas.Bool.{eqb-true}
+use Rattle.std.proofs.lemmas.List.{ext_get_or, get_or-drop, get_or-take, length-drop, length-take}
+use Rattle.lk_link.specs.declared.plan.OrderEvent.{OrderEvent}
+use Rattle.lk_link.specs.declared.plan.OrderEvent.TheVariants.{SegmentStart, SegmentEnd, Section, SetLocation, SetLocationRelative, SetSectionAddress}
+use Rattle.lk_link.specs.declared.plan.PlanSection.{PlanSection}
+use Rattle.lk_link.specs.Parts.{all_parts, first_part}
+use Rattle.lk_link.proofs.Numbers.{length-made, made_of_or}
+use Rattle.lk_link.proofs.PartNumbers.{first_part-le, first_part-suc}
+use Rattle.lk_link.proofs.Places.{found}
+use Rattle.lk_place.specs.declared.cursors.Cursors.{Cursors}
+use Rattle.lk_place.specs.declared.error.Refusal.{Refusal}
+use Rattle.lk_place.specs.Placement.{IsPlacedBefore, event_refusal}
+use Rattle.lk_place.specs.PlacedBefore.{Known, is_placing, is_placing_part, known_before, lies_in}
+use Rattle.lk_place.specs.Records.{Record, nowhere, record_at}
+use Rattle.lk_place.specs.Segments.{hull, part_records}
+use Rattle.lk_place.specs.Setting.{IsReady, Setting, part_count, part_number}
+use Rattle.lk_place.specs.Walk.{known_after, listed, record_after, recorded, records_after, stepped, unless}
+use Rattle.lk_place.proofs.WalkRecords.{among_is, record_kept, section_there}
+
+-- ---- what is placed before
+
+pub placing_event : (e : OrderEvent) (s : ℕ) → is_placing s e ≡ true → e ≡ Section s
+placing_event (Section t) s h = ap (λ n. Section n) (eqb-true t s h)
+placing_event (SegmentStart i) s h = absurd (cc)
+placing_event (SegmentEnd i) s h = absurd (cc)
+placing_event (SetLocation x) s h = absurd (cc)
+placing_event (SetLocationRelative x t) s h = absurd (cc)
+placing_event (SetSectionAddress x) s h = absurd (cc)
+
+pub placing_part : (sections : List PlanSection) (e : OrderEvent) (p : ℕ) → is_placing_part sections p e ≡ true
+    → (s : ℕ) × (e ≡ Section s) × (lies_in (first_part sections s) (part_count sections s) p ≡ true)
+placing_part sections (Section t) p h = (t, refl, h)
+placing_part sections (SegmentStart i) p h = absurd (cc)
+placing_part sections (SegmentEnd i) p h = absurd (cc)
+placing_part sections (SetLocation x) p h = absurd (cc)
+placing_part sections (SetLocationRelative x t) p h = absurd (cc)
+placing_part sections (SetSectionAddress x) p h = absurd (cc)
+
+-- a part that is known is placed before
+pub part_placed : (setting : Setting) (k p : ℕ) → list_any (is_placing_part setting.plan.sections p) (take k setting.plan.events) ≡ true → IsPlacedBefore setting k p
+part_placed setting k p h =
+    let there = found (is_placing_part setting.plan.sections p) setting.plan.events k h in
+    let at = placing_part setting.plan.sections there.1 p there.4 in
+    let place = among_is (first_part setting.plan.sections at.0) (part_count setting.plan.sections at.0) p at.2 in
+    record { k = there.0; s = at.0; j = place.0; early = there.2; places = there.3 ∙ ap (λ (e : OrderEvent). Some e) at.1; within = place.1; is = place.2 }
+
+-- the parts of a section that is known are
+pub section_placed : (setting : Setting) (k s j : ℕ) → list_any (is_placing s) (take k setting.plan.events) ≡ true → j < part_count setting.plan.sections s
+    → IsPlacedBefore setting k (part_number setting.plan.sections s j)
+section_placed setting k s j h within =
+    let there = found (is_placing s) setting.plan.events k h in
+    record { k = there.0; s = s; j = j; early = there.2; places = there.3 ∙ ap (λ (e : OrderEvent). Some e) (placing_event there.1 s there.4); within = within; is = refl }
+
+-- ---- the records of a section
+
+part_of : (sections : List PlanSection) (records : List Record) (s j : ℕ) → s < length sections → j < part_count sections s
+    → slice_index_or (part_records sections records s) j nowhere ≡ record_at records (part_number sections s j)
+part_of sections records s j below within =
+    let first : ℕ = first_part sections s in
+    get_or-take (first_part sections (s + 1) - first) (drop first records) j nowhere (omega (arith, first_part-suc sections s below)) ∙ get_or-drop first records j nowhere
+
+parts_count : (sections : List PlanSection) (records : List Record) (s : ℕ) → length records ≡ length (all_parts sections) → s < length sections
+    → length (part_records sections records s) ≡ part_count sections s
+parts_count sections records s each below =
+    omega (
+      arith,
+      length-take (first_part sections (s + 1) - first_part sections s) (drop (first_part sections s) records),
+      length-drop (first_part sections s) records,
+      first_part-suc sections s below,
+      first_part-le sections (s + 1),
+      each,
+    )
+
+parts_alike : (sections : List PlanSection) (r r' : List Record) (s : ℕ) → length r ≡ length (all_parts sections) → length r' ≡ length (all_parts sections) → s < length sections
+    → ((j : ℕ) → j < part_count sections s → record_at r (part_number sections s j) ≡ record_at r' (part_number sections s j))
+    → part_records sections r s ≡ part_records sections r' s
+parts_alike sections r r' s each each' below alike =
+    ext_get_or nowhere (part_records sections r s) (part_records sections r' s) (parts_count sections r s each below ∙ sym (parts_count sections r' s each' below))
+    (λ j less.
+    let within : j < part_count sections s = omega (arith, parts_count sections r s each below) in
+    part_of sections r s j below within ∙ alike j within ∙ sym (part_of sections r' s j below within))
+
+-- ---- what is known
+
+-- where the records of what is placed before are the same, so is what is known
+pub known_alike : (setting : Setting) (k : ℕ) (r r' : List Record) → IsReady setting → length r ≡ length (all_parts setting.plan.sections) → length r' ≡ length (all_parts setting.plan.sections)
+    → ((p : ℕ) → IsPlacedBefore setting k p → record_at r p ≡ record_at r' p) → known_before setting.plan r k ≡ known_before setting.plan r' k
+known_alike setting k r r' ready each each' alike =
+    let sections : List PlanSection = setting.plan.sections in
+    let section : List Record → ℕ → Option Record = λ rs s. if list_any (is_placing s) (take k setting.plan.events) then Some (hull (part_records sections rs s)) else None in
+    let part : List Record → ℕ → Option Record = λ rs p. if list_any (is_placing_part sections p) (take k setting.plan.events) then Some (record_at rs p) else None in
+    let same_section : section r ≡ section r' = fun_ext (λ s.
+    elim (list_any (is_placing s) (take k setting.plan.events)) as (λ b. list_any (is_placing s) (take k setting.plan.events) ≡ b
+    → (if b then Some (hull (part_records sections r s)) else None) ≡ (if b then Some (hull (part_records sections r' s)) else None)) [
+      | true ↦ λ is.
+          let there = found (is_placing s) setting.plan.events k is in
+          let below : s < length sections = section_there setting there.0 s ready (there.3 ∙ ap (λ (e : OrderEvent). Some e) (placing_event there.1 s there.4)) in
+          ap (λ rs. Some (hull rs)) (parts_alike sections r r' s each each' below (λ j within. alike (part_number sections s j) (section_placed setting k s j is within)))
+      | false ↦ λ is. refl
+    ] refl) in
+    let same_part : part r ≡ part r' = fun_ext (λ p.
+    elim (list_any (is_placing_part sections p) (take k setting.plan.events)) as (λ b. list_any (is_placing_part sections p) (take k setting.plan.events) ≡ b
+    → (if b then Some (record_at r p) else None) ≡ (if b then Some (record_at r' p) else None)) [
+      | true ↦ λ is. ap (λ (x : Record). Some x) (alike p (part_placed setting k p is))
+      | false ↦ λ is. refl
+    ] refl) in
+    let of : (ℕ → Option Record) → (ℕ → Option Record) → Known = λ f g. record { section = f; part = g } in
+    ap (λ f. of f (part r)) same_section ∙ ap (of (section r')) same_part
+
+-- ---- what the walk knows
+
+listed_count : (setting : Setting) (f : ℕ → Record) → length (listed setting f) ≡ length (all_parts setting.plan.sections)
+listed_count setting f = length-made f (all_parts setting.plan.sections) 0
+
+-- records that agree with those behind the first k events on what these place tell what the walk knows
+pub known_is : (setting : Setting) (k : ℕ) (r : List Record) → IsReady setting → length r ≡ length (all_parts setting.plan.sections)
+    → ((p : ℕ) → IsPlacedBefore setting k p → record_at r p ≡ record_at (records_after setting k) p) → known_before setting.plan r k ≡ known_after setting k
+known_is setting k r ready each alike = known_alike setting k r (records_after setting k) ready each (listed_count setting (record_after setting k)) alike
+
+-- a table of the records behind the first k events is their list
+pub table_is : (setting : Setting) (k : ℕ) (r : List Record) → length r ≡ length (all_parts setting.plan.sections) → ((p : ℕ) → record_at r p ≡ record_after setting k p)
+    → r ≡ records_after setting k
+table_is setting k r each at = made_of_or (record_after setting k) nowhere r (all_parts setting.plan.sections) each (λ p below. at p)
+
+-- what a table of the records behind the first k events tells is what the walk knows
+pub known_table : (setting : Setting) (k : ℕ) (r : List Record) → IsReady setting → length r ≡ length (all_parts setting.plan.sections) → ((p : ℕ) → record_at r p ≡ record_after setting k p)
+    → known_before setting.plan r k ≡ known_after setting k
+known_table setting k r ready each at = ap (λ rs. known_before setting.plan rs k) (table_is setting k r each at)
+
+-- what carrying out an event gave, by what the walk knows
+pub tried_as : (setting : Setting) (k : ℕ) (e : OrderEvent) (from : Cursors) (end : Result Cursors Refusal) {known : Known} → known ≡ known_after setting k
+    → end ≡ unless (event_refusal setting known e from) (stepped setting known (Some e) from) → end ≡ unless (event_refusal setting (known_after setting k) e from) (stepped setting (known_after setting k) (Some e) from)
+tried_as setting k e from end same gave = gave ∙ ap (λ (x : Known). unless (event_refusal setting x e from) (stepped setting x (Some e) from)) same
+
+pub recorded_as : (setting : Setting) (k : ℕ) (e : OrderEvent) (from : Cursors) (end : Result Cursors Refusal) (old new : ℕ → Record) {known : Known} → known ≡ known_after setting k
+    → OnOk end ((p : ℕ) → new p ≡ recorded setting known (Some e) from p (old p)) → OnOk end ((p : ℕ) → new p ≡ recorded setting (known_after setting k) (Some e) from p (old p))
+recorded_as setting k e from end old new same writes = subst (λ (x : Known). OnOk end ((p : ℕ) → new p ≡ recorded setting x (Some e) from p (old p))) same writes

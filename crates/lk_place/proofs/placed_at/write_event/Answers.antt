@@ -1,0 +1,8 @@
+use Rattle.std.proofs.Common.{◌≡◌, ◌<◌, Some, length, ap, arith}
+use Rattle.lk_link.specs.Inside.{placed_section}
+use Rattle.lk_place.proofs.placed_at.write_event.Goals as goal
+
+pub part_range-first-requires : goal.part_range-first-requires
+part_range-first-requires c =
+    let below : c.in-Section.section < length c.args.sections.now = c.requires.in_range c.in-Section.section (ap placed_section c.in-Section.is) in
+    omega (arith, c.as_usize.ensures, below)

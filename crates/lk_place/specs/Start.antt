@@ -1,0 +1,68 @@
+-- Where the walk begins, if it does: regions are evaluated first, then constants by them, and then the base.
+use Rattle.std.specs.Prelude.{◌≡◌, ℕ, List, [], None, Some, Option, Result, Ok, Err, slice_get, false}
+use Rattle.lk_link.specs.declared.file.InputFile.{InputFile}
+use Rattle.lk_link.specs.declared.plan.Plan.{Plan}
+use Rattle.lk_place.specs.declared.cursors.Cursors.{Cursors}
+use Rattle.lk_place.specs.declared.error.PlaceError.{PlaceError}
+use Rattle.lk_place.specs.declared.error.PlaceError.TheVariants.{NoMemory}
+use Rattle.lk_place.specs.declared.expressions.positions.SymbolPosition.{SymbolPosition}
+use Rattle.lk_place.specs.declared.start.Beginning.{Beginning}
+use Rattle.lk_place.specs.Base.{first_memory, known_first}
+use Rattle.lk_place.specs.Constants.{constants_of}
+use Rattle.lk_place.specs.Expressions.{Valued, expression_value}
+use Rattle.lk_place.specs.Regions.{regions_of}
+use Rattle.lk_place.specs.Setting.{Setting}
+use Rattle.lk_place.specs.Surroundings.{early_operand}
+
+-- what constant redirects are worth, by the headers, and by origin and length of each region
+abbrev pub constants_by : List (List InputFile) → ℕ → List (ℕ × ℕ) → List (Option Valued)
+constants_by groups headers regions = constants_of (record { groups = groups; headers = headers; regions = regions })
+
+-- the first memory by the regions, unless one of them is refused: the base may speak of them and of constants, and of nothing that is
+-- placed
+abbrev pub memory_by : Plan → List (List InputFile) → ℕ → List (Option SymbolPosition) → Result (List (ℕ × ℕ)) PlaceError → Result ℕ PlaceError
+memory_by plan groups headers positions (Ok regions) =
+    let known = known_first groups headers regions (constants_by groups headers regions) positions in
+    first_memory plan headers (expression_value (early_operand known) plan.base)
+memory_by plan groups headers positions (Err e) = Err e
+
+-- where memory begins: the first refusal of the regions, else what the base gives
+abbrev pub begun_memory : Plan → List (List InputFile) → ℕ → List (Option SymbolPosition) → Result ℕ PlaceError
+begun_memory plan groups headers positions = memory_by plan groups headers positions (regions_of plan.regions)
+
+-- the cursors before the first event, where memory begins here: the file begins at 0, nothing is saved, no run is begun, and no
+-- location waits
+abbrev pub first_cursors : ℕ → Cursors
+first_cursors memory = record { file = 0; memory = memory; saved = None; in_run = false; pending = None }
+
+-- stand for cursors where there are none
+abbrev pub no_cursors : Cursors
+no_cursors = first_cursors 0
+
+-- the same, unless memory doesn't begin
+abbrev pub cursors_at : Result ℕ PlaceError → Result Cursors PlaceError
+cursors_at (Ok memory) = Ok (first_cursors memory)
+cursors_at (Err e) = Err e
+
+-- where the walk begins
+abbrev pub start : Setting → Result Cursors PlaceError
+start setting = cursors_at (begun_memory setting.plan setting.groups setting.headers setting.positions)
+
+-- states begin there; where that is refused, there are none
+abbrev pub BeginsAt : Result Cursors PlaceError → List Cursors → Type 0
+BeginsAt (Ok c) states = slice_get states 0 ≡ Some c
+BeginsAt (Err e) states = states ≡ []
+
+-- ---- what the code makes of it
+
+-- what is known before the first event is so
+pub record IsBegun (plan : Plan) (groups : List (List InputFile)) (headers : ℕ) (positions : List (Option SymbolPosition)) (b : Beginning) : Type 0 where
+  pub regions : regions_of plan.regions ≡ Ok b.regions
+  pub constants : b.constants.items ≡ constants_by groups headers b.regions
+  pub memory : begun_memory plan groups headers positions ≡ Ok b.memory
+
+-- that, or the refusal, or want of memory
+abbrev pub GivesBeginning : Plan → List (List InputFile) → ℕ → List (Option SymbolPosition) → Result Beginning PlaceError → Type 0
+GivesBeginning plan groups headers positions (Ok b) = IsBegun plan groups headers positions b
+GivesBeginning plan groups headers positions (Err NoMemory) = Unit {0}
+GivesBeginning plan groups headers positions (Err e) = begun_memory plan groups headers positions ≡ Err e

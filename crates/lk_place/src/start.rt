@@ -1,0 +1,49 @@
+//! Where the walk begins.
+//!
+//! Before the first event regions are evaluated, then constant redirects, which may speak of them, and then the base, which may speak
+//! of both. The first refusal of these ends the placement before it begins.
+
+ghost use Rattle.lk_link.specs.WellFormed.{IsWellFormed};
+ghost use Rattle.lk_place.specs.Shallow.{AreShallow};
+ghost use Rattle.lk_place.specs.Start.{GivesBeginning};
+
+use crate::base::first_memory;
+use crate::error::PlaceError;
+use crate::expressions::{Constant, SymbolPositions, constant_redirects};
+use crate::regions::evaluate_regions;
+use lk_link::link::LinkInput;
+use lk_link::list::List;
+use std::alloc::Global;
+
+/// What is known before the first event.
+#[derive(Drop)]
+pub(crate) struct Beginning {
+    /// Origin and length of each region.
+    pub(crate) regions: List<(u64, u64)>,
+    /// By symbol: what constant redirects are worth.
+    pub(crate) constants: Vec<Option<Constant>>,
+    /// The address at which memory begins.
+    pub(crate) memory: u64,
+}
+
+/// Evaluates the regions, the constants and the base, by the bytes of the headers and the places of symbols; or tells the first
+/// refusal: of a region, in their order, else of the base.
+pub(crate) fn begin(
+    alloc: Global,
+    link: &LinkInput,
+    headers: u64,
+    positions: &SymbolPositions,
+) -> Result<Beginning, PlaceError>
+    requires well_formed { IsWellFormed link.now }
+    requires shallow { AreShallow link.now }
+    ensures { GivesBeginning link.now.plan link.now.groups headers positions.now result }
+{
+    let regions = evaluate_regions(alloc, link)?;
+    let constants = constant_redirects(alloc, link, headers, regions.as_slice())?;
+    let memory = first_memory(link, headers, regions.as_slice(), &constants, positions)?;
+    Ok(Beginning {
+        regions,
+        constants,
+        memory,
+    })
+}
