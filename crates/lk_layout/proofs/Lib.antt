@@ -12,6 +12,7 @@ mod PartStarts
 mod ReferencesShow
 mod Resolved
 mod Placing
+mod PlacingRefused
 mod Settings
 mod Stopping
 mod Soundness
