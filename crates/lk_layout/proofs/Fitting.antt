@@ -12,6 +12,7 @@ use Rattle.lk_merge.specs.Addresses.{AreStartsOf}
 use Rattle.lk_merge.specs.LinkInputs.{link_inputs}
 use Rattle.lk_merge.proofs.AddressLemmas.{are_starts}
 use Rattle.lk_place.specs.declared.error.Refusal.{Refusal}
+use Rattle.lk_place.specs.PlacedBefore.{known_before}
 use Rattle.lk_place.specs.Placement.{event_refusal, numbered, refusal_behind_move, section_refusal, state_at}
 use Rattle.lk_place.specs.PlacementLaws.{PartsTakeTheirBytes, RefusedExactlyPast}
 use Rattle.lk_place.specs.Records.{Record, mem_end, nowhere, record_at}
@@ -42,7 +43,7 @@ part_fits refused target link layout laid p within =
     let event = laid.good.events.placed t at.there in
     let early : event.0 + 1 < length laid.states = omega (arith, laid.is.ends laid.unrefused, slice_get_within link.plan.events event.0 (Section t) event.1) in
     let step = laid.is.steps event.0 (Section t) early event.1 in
-    let none = no_refusal event.0 (event_refusal s (Section t) (state_at laid.states event.0)) step.unrefused in
+    let none = no_refusal event.0 (event_refusal s (known_before link.plan laid.records event.0) (Section t) (state_at laid.states event.0)) step.unrefused in
     let unrefused : section_refusal s (Some t) step.steps.entered ≡ None = ap (refusal_behind_move s (Some t)) (sym step.steps.moves) ∙ none in
     let fit = (refused s t step.steps.entered laid.records (state_at laid.states (event.0 + 1)) (ready target link laid.live laid.good) (placeable link laid.carried) at.there step.steps.places).0
     unrefused at.place at.within in
