@@ -96,7 +96,7 @@ LONG_LISTS = (
     ),
     LongList(
         "candidates",
-        EMPTY_PLAN + OBJECT + '"candidates":[',
+        ONE_SECTION + OBJECT + '"sections":[{"slot":"must","size":1}],"candidates":[',
         "[0,1,0,0]",
         MILLION,
         "]}]]}",
