@@ -32,6 +32,8 @@ mod shown;
 #[cfg(test)]
 mod sizes;
 #[cfg(test)]
+mod tables;
+#[cfg(test)]
 mod texts;
 #[cfg(test)]
 mod traversal;

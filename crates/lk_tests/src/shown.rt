@@ -8,6 +8,7 @@ use crate::reading::summary::{add_groups, add_options, add_plan};
 use crate::report::{add_entries, add_report};
 use crate::rows::add;
 use crate::sizes::{add_live, add_sizes};
+use crate::tables::add_tables;
 use crate::traversal::{add_asks, add_reached};
 use lk_layout::first_uncarried;
 use lk_link::LinkInput;
@@ -38,6 +39,8 @@ pub enum Shown {
     /// What is live, and what that brings to parts and sections.
     Live,
     Sizes,
+    /// What symbols and headers take in tables.
+    Tables,
     /// What is merged.
     Merging(Merging),
     /// What isn't carried.
@@ -70,6 +73,7 @@ pub fn add_shown(
         Shown::Reached => add_reached(alloc, line, link),
         Shown::Live => add_live(alloc, line, link),
         Shown::Sizes => add_sizes(alloc, line, link),
+        Shown::Tables => add_tables(alloc, line, link),
         Shown::Merging(told) => add_merging(alloc, line, told, link),
         Shown::Report => add_report(alloc, line, link),
         Shown::Entries => add_entries(alloc, line, link),
