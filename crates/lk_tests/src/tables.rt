@@ -18,9 +18,10 @@ use std::alloc::{AllocError, Global};
 use std::test::Fail;
 
 /// The names under which symbols are copied, the bytes of each file in the symbol table and its names, those in `got` and `plt`,
-/// those of headers, whose the entries of the dynamic symbol table are, its bytes, and the numbers of symbols there: of a symbol that is downgraded to local; of local ones, with names
-/// of assemblers, to be left out, of a section group, hidden, undefined and without a name; of a link without a symbol table; of
-/// two that are exported; of one that is exported and dynamic; and of symbols of the prelude, which are marked late.
+/// those of headers, whose the entries of the dynamic symbol table are, its bytes, and the numbers of symbols there: of a symbol
+/// that is downgraded to local; of local ones, with names of assemblers, to be left out, of a section group, hidden, undefined and
+/// without a name; of a link without a symbol table; of two that are exported; of one that is exported and dynamic; of symbols of
+/// the prelude, which are marked late; of one with entries in both tables; and of headers that stand in parts.
 const TABLES: &str = r#"
 {"plan":{"page":16,"sections":[{"attrs":0,"parts":[[8,false],[4,false]]},{"attrs":1,"parts":[[1,false]]}],"segments":[{"kind":"load"}],"events":[["seg",0],["sec",0],["sec",1],["endseg",0]]},"groups":[[{"kind":"prelude"}],[{"kind":"object","sections":[{"slot":"must","part":2,"size":1}],"symbols":[{"at":["sec",0,0],"name":"x","flags":8}]}]]} => copied [Some("x")] symbols [(FileId { group: 0, file: 0 }, 24, 0, 1), (FileId { group: 1, file: 0 }, 0, 24, 2)] entries [(FileId { group: 0, file: 0 }, 0, 0), (FileId { group: 1, file: 0 }, 0, 0)] headers HeaderSizes { file_header: 64, program_headers: 56, section_headers: 64, shstrtab: 1 } dynamic [] sizes DynamicSizes { dynsym: 0, dynstr: 0 } indexes [None]
 {"options":{"strip_names":["s"]},"plan":{"page":16},"groups":[[{"kind":"prelude"}],[{"kind":"object","symbols":[{"at":["abs",1],"name":".Lx","local":true},{"at":["abs",1],"name":"s"},{"at":["abs",1],"name":"l","local":true},{"at":["abs",1],"name":"h","hidden":true},{"at":["abs",1],"name":".Lg","local":true,"flags":16},{"at":["undef"],"name":"u"},{"at":["abs",1]}]}]]} => copied [None, None, Some("l"), Some("h"), Some(".Lg"), None, None] symbols [(FileId { group: 0, file: 0 }, 24, 0, 1), (FileId { group: 1, file: 0 }, 48, 24, 8)] entries [(FileId { group: 0, file: 0 }, 0, 0), (FileId { group: 1, file: 0 }, 0, 0)] headers HeaderSizes { file_header: 64, program_headers: 0, section_headers: 0, shstrtab: 0 } dynamic [] sizes DynamicSizes { dynsym: 0, dynstr: 0 } indexes [None, None, None, None, None, None, None]
