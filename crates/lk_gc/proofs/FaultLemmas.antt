@@ -12,9 +12,9 @@ use Rattle.lk_link.specs.Inputs.{NumberedFile, numbered_files}
 use Rattle.lk_link.specs.Marks.{is_marked}
 use Rattle.lk_link.specs.Symbols.{all_symbols}
 use Rattle.lk_link.proofs.InputLemmas.{files_from_are}
-use Rattle.lk_gc.specs.declared.units.Unit.TheVariants.{Sec}
+use Rattle.lk_reach.specs.declared.units.Unit.TheVariants.{Sec}
 use Rattle.lk_gc.specs.Faults.{marked_faults, section_faults, undefined_placements}
-use Rattle.lk_gc.specs.Marks.{unit_number}
+use Rattle.lk_reach.specs.Marks.{unit_number}
 
 -- one element more, with its number
 pub numbered_more : {X : Type 0} (o n : ℕ) (xs : List X) (d : X) → n < length xs → enumerate_from o (take (suc n) xs) ≡ enumerate_from o (take n xs) ++ (o + n, get_or xs n d) ∷ []

@@ -1,6 +1,8 @@
 -- The references that are told are those that can't be met.
-use Rattle.std.proofs.Common.{◌≡◌, ℕ, zero, suc, ◌+◌, Bool, true, false, if◌then◌else◌, ◌&&◌, ◌==◌, not, List, [], ◌∷◌, Option, Some, None, refl, sym, ap, ◌∙◌, subst, inl, inr, ◌⊎◌, arith}
+use Rattle.std.proofs.Common.{◌≡◌, ℕ, zero, suc, ◌+◌, ◌<◌, Bool, true, false, if◌then◌else◌, ◌&&◌, ◌==◌, not, List, [], ◌∷◌, length, Option, Some, None, unwrap_or, refl, sym, ap, ◌∙◌, subst, inl, inr, ◌⊎◌, arith}
 use Rattle.std.specs.List.{Contains, cons_option, enumerate_from, filter_map, slice_get}
+use Rattle.std.specs.Option.{option_map_or}
+use Rattle.std.proofs.lemmas.Option.{slice_get_within}
 use Rattle.std.proofs.lemmas.Bool.{and_from, and_parts, cases_Bool}
 use Rattle.lk_link.specs.declared.file.InputFile.{InputFile}
 use Rattle.lk_link.specs.declared.ids.FileId.{FileId}
@@ -10,25 +12,29 @@ use Rattle.lk_link.specs.declared.section.InputSection.{InputSection}
 use Rattle.lk_link.specs.declared.section.InputSlot.{InputSlot}
 use Rattle.lk_link.specs.declared.section.InputSlot.TheVariants as slot
 use Rattle.lk_link.specs.declared.symbol.InputSymbol.{InputSymbol}
+use Rattle.lk_link.specs.FileKinds.{is_dynamic}
 use Rattle.lk_link.specs.Files.{file_in}
 use Rattle.lk_link.specs.Inputs.{NumberedFile, numbered_files}
 use Rattle.lk_link.specs.InputSlots.{is_discarded, is_regular}
 use Rattle.lk_link.specs.Marks.{is_marked}
-use Rattle.lk_link.specs.Symbols.{file_number, first_symbol}
+use Rattle.lk_link.specs.Relocations.{resolution_flags}
+use Rattle.lk_link.specs.SymbolPlacements.{is_undefined}
+use Rattle.lk_link.specs.Symbols.{all_symbols, file_number, first_symbol}
 use Rattle.lk_link.specs.WellFormed.{IsWellFormed}
-use Rattle.lk_link.proofs.Elements.{append_at, append_left, append_right, at_contained, contains_at, flat_map_at, flat_map_in, numbered_at}
+use Rattle.lk_link.proofs.Elements.{append_at, append_left, append_right, at_contained, at_index, contains_at, flat_map_at, flat_map_in, numbered_at}
+use Rattle.lk_link.proofs.GoodInputs.{inputs_are_good}
 use Rattle.lk_link.proofs.InputLemmas.{file_stands, numbered_get}
 use Rattle.lk_gc.specs.declared.error.ReferenceFault.{ReferenceFault}
 use Rattle.lk_gc.specs.declared.error.ReferenceFault.TheVariants.{Discarded, Undefined, UndefinedDynamic}
-use Rattle.lk_gc.specs.declared.units.Unit.TheVariants.{Sec}
-use Rattle.lk_gc.specs.FaultLaws.{FaultsAreThese, IsDiscardedFault, IsDynamicFault, IsFault, IsReachedSection, IsUndefinedFault}
-use Rattle.lk_gc.specs.Faults.{dynamic_fault, dynamic_faults, file_faults, held_faults, is_looked_at, lacks_symbol, marked_faults, reference_faults, relocation_fault, relocation_faults, section_faults, undefined_symbols}
-use Rattle.lk_gc.specs.Marks.{reached_marks, unit_number}
-use Rattle.lk_gc.specs.Reach.{IsReached}
-use Rattle.lk_gc.specs.Units.{local_definition}
-use Rattle.lk_gc.proofs.Numbered.{file_at}
-use Rattle.lk_gc.proofs.ReachLemmas.{marks_are_reached}
-use Rattle.lk_gc.proofs.UnitLemmas.{section_unit}
+use Rattle.lk_reach.specs.declared.units.Unit.TheVariants.{Sec}
+use Rattle.lk_gc.specs.FaultLaws.{FaultsAreThese, IsDiscardedFault, IsDynamicFault, IsFault, IsReachedSection, IsUndefinedFault, LacksDefinition}
+use Rattle.lk_gc.specs.Faults.{dynamic_fault, dynamic_faults, file_faults, held_faults, is_looked_at, is_weak, lacks_symbol, marked_faults, reference_faults, relocation_fault, relocation_faults, section_faults, undefined_placements, undefined_symbols}
+use Rattle.lk_reach.specs.Marks.{reached_marks, unit_number}
+use Rattle.lk_reach.specs.Reach.{IsReached}
+use Rattle.lk_reach.specs.Units.{local_definition}
+use Rattle.lk_reach.proofs.Numbered.{file_at}
+use Rattle.lk_reach.proofs.ReachLemmas.{marks_are_reached}
+use Rattle.lk_reach.proofs.UnitLemmas.{section_unit}
 
 -- ---- lists of what there may be
 
@@ -82,15 +88,54 @@ regular_stays slot.DebugInfo h = refl
 regular_stays slot.MustLoadDebugInfo h = refl
 regular_stays slot.Merge h = refl
 
+-- ---- symbols that lack their definitions
+
+undefined_given : (xs : List InputSymbol) (n : ℕ) → is_marked (undefined_placements xs) n ≡ true → (x : InputSymbol) × (slice_get xs n ≡ Some x) × (is_undefined x.at ≡ true)
+undefined_given [] n h = absurd (cc)
+undefined_given (x ∷ xs) zero h = (x, refl, h)
+undefined_given (x ∷ xs) (suc n) h = undefined_given xs n h
+
+undefined_marked : (xs : List InputSymbol) (n : ℕ) (x : InputSymbol) → slice_get xs n ≡ Some x → is_undefined x.at ≡ true → is_marked (undefined_placements xs) n ≡ true
+undefined_marked [] n x h e = absurd (cc)
+undefined_marked (y ∷ xs) zero x h e = let same : y ≡ x = cc in ap (λ (z : InputSymbol). is_undefined z.at) same ∙ e
+undefined_marked (y ∷ xs) (suc n) x h e = undefined_marked xs n x h e
+
+weak_at : (xs : List InputSymbol) (i : ℕ) (x : InputSymbol) → slice_get xs i ≡ Some x → is_weak xs i ≡ x.weak
+weak_at xs i x h = ap (λ o. option_map_or (λ (s : InputSymbol). s.weak) o false) h
+
+stands_at : (first : ℕ) (xs : List InputSymbol) (i : ℕ) (x : InputSymbol) → slice_get xs i ≡ Some x → local_definition first xs i ≡ unwrap_or x.def (first + i)
+stands_at first xs i x h = ap (λ o. option_map_or (λ (s : InputSymbol). unwrap_or s.def (first + i)) o (first + i)) h
+
+-- by the table of undefined symbols, and by the symbols themselves
+lacking : (link : LinkInput) (file : InputFile) (first i : ℕ) → i < length file.symbols → not (is_weak file.symbols i) ≡ true → is_marked (undefined_symbols link.groups) (local_definition first file.symbols i) ≡ true
+    → LacksDefinition link file i (first + i) (local_definition first file.symbols i)
+lacking link file first i lt strong marked =
+    let x = at_index file.symbols i lt in
+    let given = undefined_given (all_symbols link.groups) (local_definition first file.symbols i) marked in
+    record {
+      symbol = x.0;
+      named = x.1;
+      strong = is_false x.0.weak (ap not (sym (weak_at file.symbols i x.0 x.1)) ∙ strong);
+      stands = sym (stands_at first file.symbols i x.0 x.1);
+      undefined = record { symbol = given.0; there = given.1; undefined = given.2 };
+    }
+
+lacked : (link : LinkInput) (file : InputFile) (first i n s : ℕ) → first + i ≡ n → (l : LacksDefinition link file i n s)
+    → (not (is_weak file.symbols i) ≡ true) × (local_definition first file.symbols i ≡ s) × (is_marked (undefined_symbols link.groups) (local_definition first file.symbols i) ≡ true)
+lacked link file first i n s number l =
+    let same : local_definition first file.symbols i ≡ s = stands_at first file.symbols i l.symbol l.named ∙ ap (unwrap_or l.symbol.def) number ∙ l.stands in
+    let marked = undefined_marked (all_symbols link.groups) s l.undefined.symbol l.undefined.there l.undefined.undefined in
+    (ap not (weak_at file.symbols i l.symbol l.named ∙ l.strong), same, ap (is_marked (undefined_symbols link.groups)) same ∙ marked)
+
 -- ---- what is told can't be met
 
-of_section : (link : LinkInput) (f : NumberedFile) (i : ℕ) (place : IsReachedSection link f.id i) (k : ℕ) (fault : ReferenceFault) (b : Bool) → place.file ≡ f.file → is_discarded place.section.slot ≡ b
+of_section : (link : LinkInput) (f : NumberedFile) (i : ℕ) (place : IsReachedSection link f.id i) (k : ℕ) (fault : ReferenceFault) (b : Bool) → IsWellFormed link → place.file ≡ f.file → is_discarded place.section.slot ≡ b
     → slice_get (if b then Discarded f.id i ∷ [] else if is_regular place.section.slot && link.options.error_objects then relocation_faults link.groups f i place.section.relocs else []) k ≡ Some fault → IsFault link fault
-of_section link f i place k fault true one is h =
+of_section link f i place k fault true wf one is h =
     let same = single_at (Discarded f.id i) fault k h in
     let mine : IsFault link (Discarded f.id i) = record { place = place; discarded = is } in
     subst (IsFault link) same mine
-of_section link f i place k fault false one is h =
+of_section link f i place k fault false wf one is h =
     let told = if_list (is_regular place.section.slot && link.options.error_objects) (relocation_faults link.groups f i place.section.relocs) k fault h in
     let both = and_parts (is_regular place.section.slot) link.options.error_objects told.0 in
     let first = first_symbol link.groups f.id in
@@ -100,6 +145,12 @@ of_section link f i place k fault false one is h =
     let at = numbered_at 0 place.section.relocs r.0 q r.2 in
     let number : q.0 ≡ r.0 = omega (arith, at.0) in
     let made = if_some (lacks_symbol undefined first f.file.symbols q.1) (Undefined (local_definition first f.file.symbols q.1.symbol) f.id i q.0) fault r.3 in
+    let symbols : List InputSymbol = place.file.symbols in
+    let wants = and_parts (not (resolution_flags q.1.kind == 0)) (not (is_weak symbols q.1.symbol) && is_marked undefined (local_definition first symbols q.1.symbol))
+    (ap (λ (g : InputFile). lacks_symbol undefined first g.symbols q.1) one ∙ made.0) in
+    let strong = and_parts (not (is_weak symbols q.1.symbol)) (is_marked undefined (local_definition first symbols q.1.symbol)) wants.1 in
+    let good = inputs_are_good link f.id i place.file place.section wf place.there place.at is in
+    let lacks = lacking link place.file first q.1.symbol (good.in_relocs r.0 q.1 at.1).1 strong.0 strong.1 in
     let mine : IsFault link (Undefined (local_definition first f.file.symbols q.1.symbol) f.id i q.0)
     = record {
       place = place;
@@ -107,8 +158,8 @@ of_section link f i place k fault false one is h =
       refused = both.1;
       relocation = q.1;
       at = ap (slice_get place.section.relocs) number ∙ at.1;
-      lacks = ap (λ (g : InputFile). lacks_symbol undefined first g.symbols q.1) one ∙ made.0;
-      symbol = ap (λ (g : InputFile). local_definition first g.symbols q.1.symbol) one;
+      wants = is_false (resolution_flags q.1.kind == 0) wants.0;
+      lacks = subst (LacksDefinition link place.file q.1.symbol (first + q.1.symbol)) (ap (λ (g : InputFile). local_definition first g.symbols q.1.symbol) one) lacks;
     } in
     subst (IsFault link) made.1 mine
 
@@ -129,7 +180,7 @@ of_held link f k fault wf there h =
       at = at_q;
       reached = (marks_are_reached link (Sec f.id q.0) wf (section_unit link.groups f.id f.file q.0 q.1 there at_q)).0 told.0;
     } in
-    of_section link f q.0 place at.inner fault (is_discarded q.1.slot) refl refl told.1
+    of_section link f q.0 place at.inner fault (is_discarded q.1.slot) wf refl refl told.1
 
 of_dynamic : (link : LinkInput) (f : NumberedFile) (k : ℕ) (fault : ReferenceFault) → file_in link.groups f.id ≡ Some f.file → slice_get (dynamic_faults link f) k ≡ Some fault → IsFault link fault
 of_dynamic link f k fault there h =
@@ -142,17 +193,20 @@ of_dynamic link f k fault there h =
     let number : q.0 ≡ r.0 = omega (arith, at.0) in
     let made = if_some (not q.1.weak && is_marked undefined (local_definition first f.file.symbols q.0)) (UndefinedDynamic (first + q.0) f.id) fault r.3 in
     let both = and_parts (not q.1.weak) (is_marked undefined (local_definition first f.file.symbols q.0)) made.0 in
+    let looked = and_parts (is_dynamic f.file.kind && f.file.check) link.options.error_dynamics told.0 in
+    let says = and_parts (is_dynamic f.file.kind) f.file.check looked.0 in
+    let at_q : slice_get f.file.symbols q.0 ≡ Some q.1 = ap (slice_get f.file.symbols) number ∙ at.1 in
     let mine : IsFault link (UndefinedDynamic (first + q.0) f.id)
     = record {
       file = f.file;
       there = there;
-      looked = told.0;
+      dynamic = says.0;
+      says = says.1;
+      refused = looked.1;
       index = q.0;
-      symbol = q.1;
-      at = ap (slice_get f.file.symbols) number ∙ at.1;
-      strong = is_false q.1.weak both.0;
-      undefined = both.1;
       number = refl;
+      definition = local_definition first f.file.symbols q.0;
+      lacks = lacking link f.file first q.0 (slice_get_within f.file.symbols q.0 q.1 at_q) (ap not (weak_at f.file.symbols q.0 q.1 at_q) ∙ both.0) both.1;
     } in
     subst (IsFault link) made.1 mine
 
@@ -207,8 +261,13 @@ is_told link (Undefined s id i r) wf x =
     let shown : ℕ → Option (ℕ × Relocation) = λ n. Some (n, x.relocation) in
     let zero_more : 0 + r ≡ r = omega arith in
     let numbered : slice_get (enumerate_from 0 section.relocs) r ≡ Some (r, x.relocation) = numbered_get 0 section.relocs r x.relocation x.at ∙ ap shown zero_more in
+    let symbols : List InputSymbol = x.place.file.symbols in
+    let l = lacked link x.place.file first x.relocation.symbol (first + x.relocation.symbol) s refl x.lacks in
+    let lacks : lacks_symbol undefined first symbols x.relocation ≡ true
+    = and_from (not (resolution_flags x.relocation.kind == 0)) (not (is_weak symbols x.relocation.symbol) && is_marked undefined (local_definition first symbols x.relocation.symbol)) (ap not x.wants)
+    (and_from (not (is_weak symbols x.relocation.symbol)) (is_marked undefined (local_definition first symbols x.relocation.symbol)) l.0 l.2) in
     let made : relocation_fault undefined first f i (r, x.relocation) ≡ Some (Undefined s id i r)
-    = ap (λ b. if b then Some (Undefined (local_definition first x.place.file.symbols x.relocation.symbol) id i r) else None) x.lacks ∙ ap (λ n. Some (Undefined n id i r)) x.symbol in
+    = ap (λ b. if b then Some (Undefined (local_definition first symbols x.relocation.symbol) id i r) else None) lacks ∙ ap (λ n. Some (Undefined n id i r)) l.1 in
     let one = filter_map_in (relocation_fault undefined first f i) (enumerate_from 0 section.relocs) r (r, x.relocation) (Undefined s id i r) numbered made in
     let both = and_from (is_regular section.slot) link.options.error_objects x.regular x.refused in
     of_place link id i x.place one.0 (Undefined s id i r) wf
@@ -219,14 +278,16 @@ is_told link (UndefinedDynamic s id) wf x =
     let first = first_symbol link.groups id in
     let undefined : List Bool = undefined_symbols link.groups in
     let faults : List ReferenceFault = filter_map (dynamic_fault undefined first f) (enumerate_from 0 x.file.symbols) in
-    let shown : ℕ → Option (ℕ × InputSymbol) = λ n. Some (n, x.symbol) in
+    let shown : ℕ → Option (ℕ × InputSymbol) = λ n. Some (n, x.lacks.symbol) in
     let zero_more : 0 + x.index ≡ x.index = omega arith in
-    let numbered : slice_get (enumerate_from 0 x.file.symbols) x.index ≡ Some (x.index, x.symbol) = numbered_get 0 x.file.symbols x.index x.symbol x.at ∙ ap shown zero_more in
-    let may = and_from (not x.symbol.weak) (is_marked undefined (local_definition first x.file.symbols x.index)) (ap not x.strong) x.undefined in
-    let made : dynamic_fault undefined first f (x.index, x.symbol) ≡ Some (UndefinedDynamic s id)
+    let numbered : slice_get (enumerate_from 0 x.file.symbols) x.index ≡ Some (x.index, x.lacks.symbol) = numbered_get 0 x.file.symbols x.index x.lacks.symbol x.lacks.named ∙ ap shown zero_more in
+    let l = lacked link x.file first x.index s x.definition x.number x.lacks in
+    let may = and_from (not x.lacks.symbol.weak) (is_marked undefined (local_definition first x.file.symbols x.index)) (ap not x.lacks.strong) l.2 in
+    let looked : is_looked_at link x.file ≡ true = and_from (is_dynamic x.file.kind && x.file.check) link.options.error_dynamics (and_from (is_dynamic x.file.kind) x.file.check x.dynamic x.says) x.refused in
+    let made : dynamic_fault undefined first f (x.index, x.lacks.symbol) ≡ Some (UndefinedDynamic s id)
     = ap (λ b. if b then Some (UndefinedDynamic (first + x.index) id) else None) may ∙ ap (λ n. Some (UndefinedDynamic n id)) x.number in
-    let one = filter_map_in (dynamic_fault undefined first f) (enumerate_from 0 x.file.symbols) x.index (x.index, x.symbol) (UndefinedDynamic s id) numbered made in
-    let here : slice_get (dynamic_faults link f) one.0 ≡ Some (UndefinedDynamic s id) = ap (λ b. slice_get (if b then faults else []) one.0) x.looked ∙ one.1 in
+    let one = filter_map_in (dynamic_fault undefined first f) (enumerate_from 0 x.file.symbols) x.index (x.index, x.lacks.symbol) (UndefinedDynamic s id) numbered made in
+    let here : slice_get (dynamic_faults link f) one.0 ≡ Some (UndefinedDynamic s id) = ap (λ b. slice_get (if b then faults else []) one.0) looked ∙ one.1 in
     let held : List ReferenceFault = held_faults link (reached_marks link) f in
     of_file link f _ (UndefinedDynamic s id) x.there (append_right held (dynamic_faults link f) one.0 _ (UndefinedDynamic s id) refl here)
 

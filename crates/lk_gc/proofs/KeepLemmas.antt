@@ -1,7 +1,6 @@
 -- Live sections, flags and kept output sections, one more at a time.
-use Rattle.std.proofs.Common.{◌≡◌, ℕ, suc, ◌+◌, ◌-◌, ◌<◌, ◌≤◌, Bool, true, false, ◌&&◌, ◌||◌, ◌==◌, not, if◌then◌else◌, List, [], ◌∷◌, ◌++◌, length, map, take, Some, refl, sym, ap, ◌∙◌, arith, get_or, nat_le, nat_lt}
-use Rattle.std.specs.List.{enumerate_from, list_any, range_with_len, slice_get}
-use Rattle.std.proofs.lemmas.Option.{get_or_from_slice_get, slice_get_within}
+use Rattle.std.proofs.Common.{◌≡◌, ℕ, suc, ◌+◌, ◌-◌, ◌<◌, ◌≤◌, Bool, true, false, ◌&&◌, ◌||◌, ◌==◌, not, if◌then◌else◌, List, [], ◌∷◌, ◌++◌, length, map, take, refl, sym, ap, ◌∙◌, arith, get_or, nat_le, nat_lt}
+use Rattle.std.specs.List.{enumerate_from, list_any, range_with_len}
 use Rattle.std.proofs.lemmas.Bool.{and_from, and_parts, eq-eqb, eqb-true, le-leb, leb-true, lt-ltb, ltb-true}
 use Rattle.std.proofs.lemmas.List.{ext_get_or, length-map, map_push}
 use Rattle.std.proofs.lemmas.List.Folds.{Any-from_list_any, list_any-append, list_any-from_Any, list_any_at}
@@ -21,8 +20,9 @@ use Rattle.lk_link.specs.Walks.{file_of}
 use Rattle.lk_link.specs.declared.symbol.InputSymbol.{InputSymbol}
 use Rattle.lk_link.proofs.Numbers.{length-made, made_at}
 use Rattle.lk_gc.proofs.FaultLemmas.{numbered_more}
+use Rattle.lk_reach.proofs.Passing.{or_last}
 use Rattle.lk_gc.specs.Reach.{for_sections, keeps_output, kept_marks, marked, redirect_keeps, script_keeps, section_keeps}
-use Rattle.lk_gc.specs.Walking.{AreKeptParts, keeps_part}
+use Rattle.lk_gc.specs.KeptParts.{AreKeptParts, keeps_part}
 
 -- ---- live sections
 
@@ -44,10 +44,6 @@ live_next f done x live new so_far step =
     ∙ ap (λ xs. map f (enumerate_from 0 xs)) (sym (map_push input_of done x))
 
 -- ---- parts
-
-pub or_last : (b : Bool) → (b || false) ≡ b
-or_last true = refl
-or_last false = refl
 
 or_assoc : (a b c : Bool) → ((a || b) || c) ≡ (a || (b || c))
 or_assoc true b c = refl
@@ -123,6 +119,11 @@ pub by_number : {X Y : Type 0} (f : ℕ → Y) (o : ℕ) (xs : List X) → map f
 by_number f o [] = refl
 by_number f o (x ∷ xs) = ap (λ ys. f o ∷ ys) (by_number f (o + 1) xs)
 
+-- two tests of numbers that agree give the same marks
+pub same_for_all : {X Y : Type 0} (f g : ℕ → Y) → ((o : ℕ) → f o ≡ g o) → (k : ℕ) (xs : List X) → map (λ q. f q.0) (enumerate_from k xs) ≡ map (λ q. g q.0) (enumerate_from k xs)
+same_for_all f g same k [] = refl
+same_for_all f g same k (x ∷ xs) = ap (λ y. y ∷ map (λ q. f q.0) (enumerate_from (k + 1) xs)) (same k) ∙ ap (λ ys. g k ∷ ys) (same_for_all f g same (k + 1) xs)
+
 -- what sections keep, and then what redirects keep, is all that is kept
 pub kept_whole : (link : LinkInput) (live marks old new : List Bool) → old ≡ for_sections (section_keeps link live) link → length new ≡ length old
     → ((o : ℕ) → o < length old → is_marked new o ≡ (is_marked old o || redirect_keeps link marks o)) → new ≡ kept_marks link live marks
@@ -138,10 +139,6 @@ kept_whole link live marks old new by_sections count each =
     each o inside ∙ ap (λ b. b || redirect_keeps link marks o) read ∙ sym (made_at both false sections 0 o here ∙ ap both zero_more))
 
 -- ---- redirects
-
--- one element for which it holds
-pub some_holds : {X : Type 0} (p : X → Bool) (xs : List X) (k : ℕ) (x : X) → slice_get xs k ≡ Some x → p x ≡ true → list_any p xs ≡ true
-some_holds p xs k x h e = list_any-from_Any p xs (k, x, slice_get_within xs k x h, get_or_from_slice_get xs k x x h, e)
 
 -- one file more that may keep an output section
 pub file_next : (link : LinkInput) (marks : List Bool) (o : ℕ) (done : List FileRef) (x : FileRef) (first old new : Bool)

@@ -1,6 +1,6 @@
--- Further laws on what is reached and live.
+-- Further laws on what is live.
 use Rattle.std.proofs.Common.{◌≡◌, ℕ, true, false, if◌then◌else◌, eqb, not, List, [], Some, refl, sym, ap, ◌∙◌, subst, inl, inr}
-use Rattle.std.specs.List.{All, Contains, slice_get}
+use Rattle.std.specs.List.{Contains, slice_get}
 use Rattle.std.specs.Option.{option_map_or}
 use Rattle.std.proofs.lemmas.Bool.{and_from, cases_Bool, eqb-true}
 use Rattle.std.proofs.lemmas.List.Elements.{Contains-append_left}
@@ -14,30 +14,29 @@ use Rattle.lk_link.specs.Inputs.{Input}
 use Rattle.lk_link.specs.InputSlots.{can_be_kept}
 use Rattle.lk_link.specs.SectionGroups.{GroupMembersRise, group_members}
 use Rattle.lk_link.proofs.Elements.{at_contained, contains_at, filter_in, map_in}
-use Rattle.lk_gc.specs.declared.units.Ask.TheVariants.{Section}
-use Rattle.lk_gc.specs.Laws.{AllIsLive, ClosedWordsHoldFlags, GroupsStayTogether}
-use Rattle.lk_gc.specs.Marks.{IsJoined, asking, unit_number, word_of}
-use Rattle.lk_gc.specs.declared.units.Unit.TheVariants.{Sec}
-use Rattle.lk_gc.specs.Reach.{IsReached}
-use Rattle.lk_gc.specs.Units.{asked_members, asked_references, comes_along, follows, group_asks, is_coming, is_other, is_root, member_asks, other_asks, roots, unit_of}
+use Rattle.lk_reach.specs.declared.units.Ask.TheVariants.{Section}
+use Rattle.lk_gc.specs.Laws.{AllIsLive, AskedForIsLive, GroupsStayTogether, LiveWasAskedFor}
+use Rattle.lk_reach.specs.declared.units.Unit.TheVariants.{Sec}
+use Rattle.lk_reach.specs.Reach.{IsReached}
+use Rattle.lk_reach.specs.Units.{IsRoot, asked_members, asked_references, comes_along, follows, group_asks, is_coming, is_other, is_root, member_asks, other_asks, unit_of}
 use Rattle.lk_gc.proofs.Living.{roots_are_live}
-use Rattle.lk_gc.proofs.Numbered.{file_of_input}
-use Rattle.lk_gc.proofs.ReachLemmas.{ask_set, closed_marks_hold_reach, follows_at, handed_set, reach_more, reached_unit}
+use Rattle.lk_reach.proofs.Numbered.{file_of_input}
+use Rattle.lk_reach.proofs.ReachLemmas.{last_asks, reach_more, reach_root}
 
--- ---- closed words
+-- ---- asked for
 
-pub closed_words_hold_flags : ClosedWordsHoldFlags
-closed_words_hold_flags link marks words s i wf closed handed flag = elim flag [
-  | inl first ↦ handed (word_of s) i (handed_set link s i first)
-  | inr set ↦ elim set [
-    | inl root ↦ ask_set words (roots link) s i (λ k d lt. (closed.by_roots k d lt).1) root
-    | inr unit ↦
-        let n = unit_number link.groups unit.unit in
-        let marked = closed_marks_hold_reach link marks words unit.unit wf closed unit.reached in
-        let asks = follows_at link n unit.unit (reached_unit link unit.unit wf unit.reached) in
-        let all : All (IsJoined words) ((asking link).follows n) = λ k d lt. (closed.by_units n marked k d lt).1 in
-        ask_set words (follows link unit.unit) s i (subst (All (IsJoined words)) asks all) unit.asks
-  ]
+pub live_was_asked_for : LiveWasAskedFor
+live_was_asked_for link x live =
+    let r = live.reached in
+    elim (last_asks link r.first r.rest (unit_of x) (reach_root link r.first r.root) r.path) [
+      | inl same ↦ inl (subst (IsRoot link) same r.root)
+      | inr asked ↦ inr asked
+    ]
+
+pub asked_for_is_live : AskedForIsLive
+asked_for_is_live link x asked kept = elim asked [
+  | inl root ↦ record { reached = reach_root link (unit_of x) root; slot = kept }
+  | inr unit ↦ record { reached = reach_more link unit.0 (unit_of x) unit.1 unit.2; slot = kept }
 ]
 
 -- ---- without collection

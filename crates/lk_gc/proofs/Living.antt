@@ -28,16 +28,17 @@ use Rattle.lk_link.proofs.SymbolLemmas.{symbols_within}
 use Rattle.lk_link.proofs.Numbers.{length-made, made_at}
 use Rattle.lk_gc.specs.declared.live.Live.{Live}
 use Rattle.lk_gc.specs.Laws.{LiveExists, LiveIsOne, RootsAreLive}
-use Rattle.lk_gc.specs.Marks.{IsMarked, IsUnit, asked, asking, flag_words, handed_in, reached_marks, symbols_in_all, unit_at, unit_number, word_of}
-use Rattle.lk_gc.specs.declared.units.Unit.TheVariants.{Sym}
-use Rattle.lk_gc.specs.Reach.{AreLive, IsKeptByRedirect, IsLive, IsReached, keeps_output, kept_marks, live_by, live_marks, marked, names_output, redirect_keeps, redirect_output, script_keeps, section_keeps}
-use Rattle.lk_gc.specs.Units.{ask_for, export_roots, file_roots, flags_from, is_root, kind_roots, roots, section_roots, unit_of}
+use Rattle.lk_reach.specs.Marks.{IsMarked, IsUnit, asked, asking, flag_words, handed_in, reached_marks, symbols_in_all, unit_at, unit_number, word_of}
+use Rattle.lk_reach.specs.declared.units.Unit.TheVariants.{Sym}
+use Rattle.lk_gc.specs.Reach.{AreLive, IsKeptByRedirect, IsLive, keeps_output, kept_marks, live_by, live_marks, marked, names_output, redirect_keeps, redirect_output, script_keeps, section_keeps}
+use Rattle.lk_reach.specs.Reach.{IsReached}
+use Rattle.lk_reach.specs.Units.{ask_for, export_roots, file_roots, flags_from, is_root, kind_roots, roots, section_roots, unit_of}
 use Rattle.lk_link.proofs.Elements.{numbered_at, append_left, at_index, contains_at, filter_in, flat_map_at, flat_map_in, map_at, map_in}
-use Rattle.lk_gc.proofs.Numbered.{IsSectionOf, file_at, section_of, sections_of}
-use Rattle.lk_gc.proofs.KeepLemmas.{some_holds}
-use Rattle.lk_gc.proofs.ReachLemmas.{handed_length, marks_are_reached, reach_root, words_are_flags}
-use Rattle.lk_gc.proofs.UnitLemmas.{input_place, input_unit, symbol_unit, symbols_length}
-use Rattle.lk_gc.proofs.WordLemmas.{join_all_length, same_flags}
+use Rattle.lk_reach.proofs.Numbered.{IsSectionOf, file_at, section_of, sections_of}
+use Rattle.lk_reach.proofs.Passing.{some_holds}
+use Rattle.lk_reach.proofs.ReachLemmas.{handed_length, marks_are_reached, reach_root, words_are_flags}
+use Rattle.lk_reach.proofs.UnitLemmas.{input_place, input_unit, symbol_unit, symbols_length}
+use Rattle.lk_reach.proofs.WordLemmas.{join_all_length, same_flags}
 
 -- ---- input sections
 

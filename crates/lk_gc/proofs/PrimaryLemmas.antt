@@ -14,11 +14,11 @@ use Rattle.lk_link.specs.Walks.{input_of}
 use Rattle.lk_gc.specs.declared.live.Live.{Live}
 use Rattle.lk_gc.specs.Primary.{IsInputOf, is_primary_symbol, primary_symbols}
 use Rattle.lk_gc.specs.Reach.{live_inputs, marked}
-use Rattle.lk_gc.specs.Units.{numbered_symbols, symbols_of}
-use Rattle.lk_gc.proofs.LiveWalk.{turn}
-use Rattle.lk_gc.proofs.Numbered.{file_of_input}
-use Rattle.lk_gc.proofs.SymbolNumbers.{numbered_count}
-use Rattle.lk_gc.proofs.UnitLemmas.{symbols_length}
+use Rattle.lk_reach.specs.Units.{numbered_symbols, symbols_of}
+use Rattle.lk_reach.proofs.LiveWalk.{turn}
+use Rattle.lk_reach.proofs.Numbered.{file_of_input}
+use Rattle.lk_reach.proofs.SymbolNumbers.{numbered_count}
+use Rattle.lk_reach.proofs.UnitLemmas.{symbols_length}
 
 abbrev told : LinkInput → NumberedFile × InputSymbol → Bool
 told link q = is_primary_symbol link q.0.file q.1

@@ -3,7 +3,7 @@ use Rattle.std.proofs.Common.{◌≡◌, ◌++◌, List, [], ◌∷◌, Option, 
 use Rattle.std.specs.List.{cons_option, filter_map}
 use Rattle.std.specs.Option.{option_to_list}
 use Rattle.std.proofs.lemmas.List.Elements.{filter_map-append}
-use Rattle.lk_gc.specs.declared.units.Ask.{Ask}
+use Rattle.lk_reach.specs.declared.units.Ask.{Ask}
 use Rattle.lk_gc.specs.declared.work.WorkItem.{WorkItem}
 use Rattle.lk_gc.specs.Work.{item_of, items_of}
 

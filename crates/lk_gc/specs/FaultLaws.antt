@@ -1,22 +1,23 @@
--- References at fault, in words of reach.
-use Rattle.std.specs.Prelude.{◌≡◌, ◌↔◌, ℕ, ◌+◌, true, false, Some, Contains, slice_get}
+-- References at fault, in words of reach and of symbols.
+use Rattle.std.specs.Prelude.{◌≡◌, ◌↔◌, ℕ, ◌+◌, ◌==◌, true, false, Some, Contains, slice_get, unwrap_or}
 use Rattle.lk_link.specs.declared.file.InputFile.{InputFile}
 use Rattle.lk_link.specs.declared.ids.FileId.{FileId}
 use Rattle.lk_link.specs.declared.link.LinkInput.{LinkInput}
 use Rattle.lk_link.specs.declared.relocation.Relocation.{Relocation}
 use Rattle.lk_link.specs.declared.section.InputSection.{InputSection}
 use Rattle.lk_link.specs.declared.symbol.InputSymbol.{InputSymbol}
+use Rattle.lk_link.specs.FileKinds.{is_dynamic}
 use Rattle.lk_link.specs.Files.{file_in}
 use Rattle.lk_link.specs.InputSlots.{is_discarded, is_regular}
-use Rattle.lk_link.specs.Marks.{is_marked}
-use Rattle.lk_link.specs.Symbols.{first_symbol}
+use Rattle.lk_link.specs.Relocations.{resolution_flags}
+use Rattle.lk_link.specs.SymbolPlacements.{is_undefined}
+use Rattle.lk_link.specs.Symbols.{first_symbol, symbol_at}
 use Rattle.lk_link.specs.WellFormed.{IsWellFormed}
 use Rattle.lk_gc.specs.declared.error.ReferenceFault.{ReferenceFault}
 use Rattle.lk_gc.specs.declared.error.ReferenceFault.TheVariants.{Discarded, Undefined, UndefinedDynamic}
-use Rattle.lk_gc.specs.declared.units.Unit.TheVariants.{Sec}
-use Rattle.lk_gc.specs.Faults.{is_looked_at, lacks_symbol, reference_faults, undefined_symbols}
-use Rattle.lk_gc.specs.Reach.{IsReached}
-use Rattle.lk_gc.specs.Units.{local_definition}
+use Rattle.lk_gc.specs.Faults.{reference_faults}
+use Rattle.lk_reach.specs.declared.units.Unit.TheVariants.{Sec}
+use Rattle.lk_reach.specs.Reach.{IsReached}
 
 -- a section of a file that is reached
 pub record IsReachedSection (link : LinkInput) (id : FileId) (i : ℕ) : Type 0 where
@@ -31,27 +32,41 @@ pub record IsDiscardedFault (link : LinkInput) (id : FileId) (i : ℕ) : Type 0 
   pub place : IsReachedSection link id i
   pub discarded : is_discarded place.section.slot ≡ true
 
--- it is a regular one, and a relocation of it needs a symbol that is undefined, where these are refused
+-- a symbol of the link, by its number, is undefined
+pub record IsUndefinedSymbol (link : LinkInput) (s : ℕ) : Type 0 where
+  pub symbol : InputSymbol
+  pub there : symbol_at link.groups s ≡ Some symbol
+  pub undefined : is_undefined symbol.at ≡ true
+
+-- a symbol of a file, by its index there and its own number, may not stay undefined, and what stands for it is s, which is undefined
+pub record LacksDefinition (link : LinkInput) (file : InputFile) (index number s : ℕ) : Type 0 where
+  pub symbol : InputSymbol
+  pub named : slice_get file.symbols index ≡ Some symbol
+  pub strong : symbol.weak ≡ false
+  pub stands : unwrap_or symbol.def number ≡ s
+  pub undefined : IsUndefinedSymbol link s
+
+-- it is a regular one, and a relocation of it wants something of a symbol that lacks its definition, where these are refused
 pub record IsUndefinedFault (link : LinkInput) (s : ℕ) (id : FileId) (i r : ℕ) : Type 0 where
   pub place : IsReachedSection link id i
   pub regular : is_regular place.section.slot ≡ true
   pub refused : link.options.error_objects ≡ true
   pub relocation : Relocation
   pub at : slice_get place.section.relocs r ≡ Some relocation
-  pub lacks : lacks_symbol (undefined_symbols link.groups) (first_symbol link.groups id) place.file.symbols relocation ≡ true
-  pub symbol : local_definition (first_symbol link.groups id) place.file.symbols relocation.symbol ≡ s
+  pub wants : (resolution_flags relocation.kind == 0) ≡ false
+  pub lacks : LacksDefinition link place.file relocation.symbol (first_symbol link.groups id + relocation.symbol) s
 
--- a symbol of a dynamic file that is looked at is undefined, and may not stay so
+-- a symbol of a dynamic file that says so lacks its definition, where these are refused; it is told by its own number
 pub record IsDynamicFault (link : LinkInput) (s : ℕ) (id : FileId) : Type 0 where
   pub file : InputFile
   pub there : file_in link.groups id ≡ Some file
-  pub looked : is_looked_at link file ≡ true
+  pub dynamic : is_dynamic file.kind ≡ true
+  pub says : file.check ≡ true
+  pub refused : link.options.error_dynamics ≡ true
   pub index : ℕ
-  pub symbol : InputSymbol
-  pub at : slice_get file.symbols index ≡ Some symbol
-  pub strong : symbol.weak ≡ false
-  pub undefined : is_marked (undefined_symbols link.groups) (local_definition (first_symbol link.groups id) file.symbols index) ≡ true
   pub number : first_symbol link.groups id + index ≡ s
+  pub definition : ℕ
+  pub lacks : LacksDefinition link file index s definition
 
 -- a reference that can't be met
 abbrev pub IsFault : LinkInput → ReferenceFault → Type 0

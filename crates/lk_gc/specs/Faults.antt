@@ -15,14 +15,14 @@ use Rattle.lk_link.specs.Marks.{is_marked}
 use Rattle.lk_link.specs.Symbols.{all_symbols, first_symbol}
 use Rattle.lk_gc.specs.declared.error.ReferenceFault.{ReferenceFault}
 use Rattle.lk_gc.specs.declared.error.ReferenceFault.TheVariants.{Discarded, Undefined, UndefinedDynamic}
-use Rattle.lk_gc.specs.Marks.{reached_marks, unit_number}
-use Rattle.lk_gc.specs.Placements.{is_undefined_placement}
-use Rattle.lk_gc.specs.declared.units.Unit.TheVariants.{Sec}
-use Rattle.lk_gc.specs.Units.{local_definition}
+use Rattle.lk_reach.specs.Marks.{reached_marks, unit_number}
+use Rattle.lk_link.specs.SymbolPlacements.{is_undefined}
+use Rattle.lk_reach.specs.declared.units.Unit.TheVariants.{Sec}
+use Rattle.lk_reach.specs.Units.{local_definition}
 
 -- for each of some symbols whether it is undefined, and for all symbols
 abbrev pub undefined_placements : List InputSymbol → List Bool
-undefined_placements symbols = map (λ x. is_undefined_placement x.at) symbols
+undefined_placements symbols = map (λ x. is_undefined x.at) symbols
 
 abbrev pub undefined_symbols : List (List InputFile) → List Bool
 undefined_symbols groups = undefined_placements (all_symbols groups)

@@ -13,8 +13,8 @@ use Rattle.lk_link.specs.Marks.{is_marked}
 use Rattle.lk_link.specs.Symbols.{all_symbols, first_symbol}
 use Rattle.lk_gc.specs.declared.live.Live.{Live}
 use Rattle.lk_gc.specs.Reach.{live_inputs}
-use Rattle.lk_gc.specs.Placements.{section_of}
-use Rattle.lk_gc.specs.Units.{is_primary_section, local_definition, numbered_symbols}
+use Rattle.lk_reach.specs.Placements.{section_of}
+use Rattle.lk_reach.specs.Units.{is_primary_section, local_definition, numbered_symbols}
 
 -- whether a symbol of a file stands in a section of the primary part
 abbrev pub is_primary_symbol : LinkInput → InputFile → InputSymbol → Bool

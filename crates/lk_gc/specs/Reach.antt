@@ -1,4 +1,4 @@
--- What is reached, and what is live.
+-- What is live.
 use Rattle.std.specs.Prelude.{◌≡◌, ◌≢◌, ◌↔◌, ◌⊎◌, ℕ, ◌+◌, ◌<◌, ◌==◌, ◌&&◌, ◌||◌, not, Bool, true, false, if◌then◌else◌, List, [], ◌∷◌, Option, Some, None, Result, Ok, Err, drop, length, map, slice_get}
 use Rattle.std.specs.Int.{bit_at}
 use Rattle.std.specs.List.{enumerate_from, list_any, slice_index_or}
@@ -18,47 +18,15 @@ use Rattle.lk_link.specs.Inputs.{Input, NumberedFile, all_inputs, numbered_files
 use Rattle.lk_link.specs.InputSlots.{can_be_kept, is_debug}
 use Rattle.lk_link.specs.Marks.{is_marked}
 use Rattle.lk_link.specs.PartRules.{is_part_of}
-use Rattle.lk_link.specs.Symbols.{all_symbols, first_symbol, symbol_at}
+use Rattle.lk_link.specs.Symbols.{all_symbols, first_symbol}
 use Rattle.lk_gc.specs.declared.error.GcError.{GcError}
 use Rattle.lk_gc.specs.declared.error.GcError.TheVariants.{NoMemory, References}
 use Rattle.lk_gc.specs.declared.live.Live.{Live}
-use Rattle.lk_gc.specs.declared.units.Unit.{Unit as LinkUnit}
-use Rattle.lk_gc.specs.declared.units.Unit.TheVariants.{Sym}
+use Rattle.lk_reach.specs.declared.units.Unit.TheVariants.{Sym}
 use Rattle.lk_gc.specs.Faults.{reference_faults}
-use Rattle.lk_gc.specs.Marks.{symbols_in_all}
-use Rattle.lk_gc.specs.Units.{AskFlag, AsksFor, IsRoot, flags_from, follows, roots, unit_of}
-
--- ---- reached
-
--- each unit asks for the next, from the first on to the last
-abbrev pub IsPath : LinkInput → LinkUnit → List LinkUnit → LinkUnit → Type 0
-IsPath link first [] last = first ≡ last
-IsPath link first (next ∷ rest) last = AsksFor link first next × IsPath link next rest last
-
--- a path leads to the unit from one that a root asks for (libwild: `traverse_reference_graph`)
-pub record IsReached (link : LinkInput) (unit : LinkUnit) : Type 0 where
-  pub first : LinkUnit
-  pub rest : List LinkUnit
-  pub root : IsRoot link first
-  pub path : IsPath link first rest unit
-
--- ---- flags
-
--- a bit of a symbol's flags is handed in
-pub record IsHandedIn (link : LinkInput) (s i : ℕ) : Type 0 where
-  pub symbol : InputSymbol
-  pub there : symbol_at link.groups s ≡ Some symbol
-  pub bit : bit_at symbol.flags.0 i ≡ 1
-
--- a unit that is reached sets a bit of a symbol's flags
-pub record IsSetByUnit (link : LinkInput) (s i : ℕ) : Type 0 where
-  pub unit : LinkUnit
-  pub reached : IsReached link unit
-  pub asks : AskFlag (follows link unit) s i
-
--- a bit of a symbol's flags is handed in, or set by a root or by a unit that is reached (libwild: `per_symbol_flags`)
-abbrev pub HasFlag : LinkInput → ℕ → ℕ → Type 0
-HasFlag link s i = IsHandedIn link s i ⊎ (AskFlag (roots link) s i ⊎ IsSetByUnit link s i)
+use Rattle.lk_reach.specs.Marks.{symbols_in_all}
+use Rattle.lk_reach.specs.Reach.{HasFlag, IsReached}
+use Rattle.lk_reach.specs.Units.{flags_from, unit_of}
 
 -- ---- live
 

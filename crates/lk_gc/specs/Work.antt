@@ -3,8 +3,8 @@ use Rattle.std.specs.Prelude.{ℕ, ◌==◌, if◌then◌else◌, List, Option, 
 use Rattle.std.specs.List.{filter_map}
 use Rattle.lk_link.specs.declared.flags.TheConstants.ValueFlags as flag
 use Rattle.lk_link.specs.declared.flags.ValueFlags.{ValueFlags}
-use Rattle.lk_gc.specs.declared.units.Ask.{Ask}
-use Rattle.lk_gc.specs.declared.units.Ask.TheVariants.{Reference, Section, Mark}
+use Rattle.lk_reach.specs.declared.units.Ask.{Ask}
+use Rattle.lk_reach.specs.declared.units.Ask.TheVariants.{Reference, Section, Mark}
 use Rattle.lk_gc.specs.declared.work.WorkItem.{WorkItem}
 use Rattle.lk_gc.specs.declared.work.WorkItem.TheVariants.{LoadGlobalSymbol, LoadGcUnit, ExportDynamic}
 

@@ -8,17 +8,13 @@ ghost use Rattle.lk_link.specs.Symbols.{first_symbol};
 ghost use Rattle.lk_link.specs.Walks.{file_of};
 ghost use Rattle.lk_link.specs.WellFormed.{IsWellFormed};
 ghost use Rattle.lk_link.specs.declared.relocation.Relocation.{Relocation};
-ghost use Rattle.lk_gc.specs.Placements.{is_undefined_placement};
 ghost use Rattle.lk_gc.specs.Faults.{dynamic_fault, dynamic_faults, faults_by, file_faults, held_faults, is_looked_at, is_weak, relocation_fault, section_faults, undefined_placements, undefined_symbols};
 
-use crate::asks::local_definition;
 use crate::error::ReferenceFault;
-use crate::walk::section_number;
 use lk_link::marks::is_marked;
 use lk_link::relocation::resolution_flags;
-use lk_link::{
-    FileRef, InputFile, InputSection, InputSymbol, LinkInput, Relocation, SymbolId, SymbolPlacement,
-};
+use lk_link::{FileRef, InputFile, InputSection, InputSymbol, LinkInput, Relocation, SymbolId};
+use lk_reach::{local_definition, section_number};
 use std::alloc::{AllocError, Global};
 
 /// All references at fault, by file, section and relocation. `marks` tells of each unit whether it is reached.
@@ -55,19 +51,9 @@ fn push_undefined(undefined: &mut Vec<bool>, symbols: &[InputSymbol]) -> Result<
     ensures { OnOk result (undefined.new.items ≡ undefined.old.items ++ undefined_placements symbols.now) }
 {
     for symbol in symbols {
-        undefined.push(is_undefined(&symbol.at))?;
+        undefined.push(symbol.at.is_undefined())?;
     }
     Ok(())
-}
-
-/// Whether a placement leaves its symbol undefined.
-pub(crate) fn is_undefined(at: &SymbolPlacement) -> bool
-    ensures { result ≡ is_undefined_placement at.now }
-{
-    matches!(
-        at,
-        SymbolPlacement::Undef | SymbolPlacement::Undefined | SymbolPlacement::ForceUndefined
-    )
 }
 
 /// Adds what is at fault in a file: in its sections, then in its symbols where it is a dynamic one.

@@ -5,15 +5,16 @@ ghost use Rattle.std.specs.List.{list_any, range_with_len};
 ghost use Rattle.lk_link.specs.InputSlots.{can_be_kept};
 ghost use Rattle.lk_link.specs.Marks.{is_marked};
 ghost use Rattle.lk_link.specs.WellFormed.{IsWellFormed};
-ghost use Rattle.lk_gc.specs.Reach.{for_sections, kept_marks, live_by, live_marks, section_keeps};
-ghost use Rattle.lk_gc.specs.Units.{flags_from};
-ghost use Rattle.lk_gc.specs.Walking.{AreFew, AreKeptParts, keeps_part};
+ghost use Rattle.lk_gc.specs.Reach.{for_sections, kept_marks, live_by, live_marks};
+ghost use Rattle.lk_reach.specs.Units.{flags_from};
+ghost use Rattle.lk_reach.specs.Marks.{AreFew};
+ghost use Rattle.lk_gc.specs.KeptParts.{AreKeptParts, keeps_part, part_keeps};
 
 use crate::live::Live;
 use crate::named::keep_named;
-use crate::walk::Walk;
 use lk_link::marks::is_marked;
 use lk_link::{InputSection, InputSlot, LinkInput, List, ValueFlags};
+use lk_reach::Walk;
 use std::alloc::{AllocError, Global};
 
 /// What is live after a walk.
@@ -22,11 +23,11 @@ pub(crate) fn live_after(alloc: Global, link: &LinkInput, walk: &Walk) -> Result
     requires few { AreFew walk.now.words.items }
     ensures { IfOk result (λ live. live ≡ live_by link.now walk.now.marks.items walk.now.words.items) }
 {
-    let LivePass { live, parts } = live_pass(alloc, link, walk.marks.as_slice())?;
+    let pass = live_pass(alloc, link, walk.marks.as_slice())?;
     let flags = symbol_flags(alloc, walk.words.as_slice())?;
-    let kept = kept_marks(alloc, link, &live, &parts, walk.marks.as_slice())?;
+    let kept = kept_marks(alloc, link, &pass, walk.marks.as_slice())?;
     Ok(Live {
-        marks: List::from_vec(live),
+        marks: List::from_vec(pass.live),
         flags: List::from_vec(flags),
         kept: List::from_vec(kept),
     })
@@ -91,33 +92,25 @@ fn flags_of(alloc: Global, words: &[u64]) -> Result<Vec<ValueFlags>, AllocError>
 }
 
 /// For each output section whether a live section without bytes keeps it, or a redirect that is reached. `marks` tells of each
-/// unit whether it is, and `parts` of each part whether a live section keeps it.
+/// unit whether it is.
 fn kept_marks(
     alloc: Global,
     link: &LinkInput,
-    live: &[bool],
-    parts: &[bool],
+    pass: &LivePass,
     marks: &[bool],
 ) -> Result<Vec<bool>, AllocError>
     requires well_formed { IsWellFormed link.now }
-    requires parts { AreKeptParts link.now live.now parts.now }
-    ensures { IfOk result (λ kept. kept.items ≡ kept_marks link.now live.now marks.now) }
+    requires parts { AreKeptParts link.now pass.now.live.items pass.now.parts.items }
+    ensures { IfOk result (λ kept. kept.items ≡ kept_marks link.now pass.now.live.items marks.now) }
 {
-    let mut kept = kept_by_sections(alloc, link, live, parts)?;
+    let mut kept = kept_by_parts(alloc, link, pass.parts.as_slice())?;
     keep_named(&mut kept, link, marks);
     Ok(kept)
 }
 
-/// For each output section whether a live section without bytes keeps it.
-fn kept_by_sections(
-    alloc: Global,
-    link: &LinkInput,
-    _live: &[bool],
-    parts: &[bool],
-) -> Result<Vec<bool>, AllocError>
-    requires well_formed { IsWellFormed link.now }
-    requires parts { AreKeptParts link.now _live.now parts.now }
-    ensures { IfOk result (λ kept. kept.items ≡ for_sections (section_keeps link.now _live.now) link.now) }
+/// For each output section whether one of its parts has a mark.
+fn kept_by_parts(alloc: Global, link: &LinkInput, parts: &[bool]) -> Result<Vec<bool>, AllocError>
+    ensures { IfOk result (λ kept. kept.items ≡ for_sections (part_keeps link.now parts.now) link.now) }
 {
     let sections = link.plan.sections.len();
     let mut kept = Vec::with_capacity(alloc, sections)?;

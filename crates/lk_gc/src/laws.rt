@@ -1,49 +1,14 @@
-//! Laws on what is reached, and on what is live.
+//! Laws on what is live, beside those on what is reached.
 
 ghost use Rattle.lk_gc.specs.FaultLaws.{FaultsAreThese};
-ghost use Rattle.lk_gc.specs.Laws.{AllIsLive, AsksAreInside, ClosedAndReachedIsAll, ClosedMarksHoldReach, ClosedWordsHoldFlags, GroupsStayTogether, LiveExists, LiveIsOne, LiveWasAskedFor, MarksAreReached, MoreRootsReachMore, ReachIsClosed, ResolvedIsReached, RootsAreLive, WordsAreFlags};
+ghost use Rattle.lk_gc.specs.Laws.{AllIsLive, AskedForIsLive, GroupsStayTogether, LiveExists, LiveIsOne, LiveWasAskedFor, RootsAreLive};
 
 use lk_link::file::group_members_rise;
-
-/// A law: what roots and units of a well-formed link ask for is there: units that have numbers, and symbols of the link.
-pub fn asks_are_inside()
-    ensures { AsksAreInside }
-{}
-
-/// A law: a unit of a well-formed link is reached by a path exactly where rounds of marking mark it.
-pub fn marks_are_reached()
-    ensures { MarksAreReached }
-{}
-
-/// A law: a bit of a symbol's joined word is set exactly where it was handed in, or a root or a reached unit sets it.
-pub fn words_are_flags()
-    ensures { WordsAreFlags }
-{}
-
-/// A law: what is reached and its flags are closed: nothing that is marked asks for anything that isn't there.
-pub fn reach_is_closed()
-    ensures { ReachIsClosed }
-{}
-
-/// A law: marks that are closed hold all that is reached.
-pub fn closed_marks_hold_reach()
-    ensures { ClosedMarksHoldReach }
-{}
-
-/// A law: words that are closed, and hold what is handed in, hold all flags.
-pub fn closed_words_hold_flags()
-    ensures { ClosedWordsHoldFlags }
-{}
-
-/// A law: marks and words that are closed, and hold nothing but what is reached and its flags, hold just that.
-pub fn closed_and_reached_is_all()
-    ensures { ClosedAndReachedIsAll }
-{}
-
-/// A law: a symbol with a flag for which it gets a resolution is reached.
-pub fn resolved_is_reached()
-    ensures { ResolvedIsReached }
-{}
+pub use lk_reach::laws::{
+    asks_are_inside, closed_and_reached_is_all, closed_marks_hold_reach, closed_words_hold_flags,
+    marks_are_reached, more_roots_reach_more, reach_is_closed, resolved_is_reached,
+    words_are_flags,
+};
 
 /// A law: every well-formed link has its live sections.
 pub fn live_exists()
@@ -53,11 +18,6 @@ pub fn live_exists()
 /// A law: what is live of a link is one.
 pub fn live_is_one()
     ensures { LiveIsOne }
-{}
-
-/// A law: where units ask for the same, more roots reach no less.
-pub fn more_roots_reach_more()
-    ensures { MoreRootsReachMore }
 {}
 
 /// A law: a section that its object asks for is live: one that is kept in any case, and without collection any that can be.
@@ -76,6 +36,12 @@ pub fn groups_stay_together()
 {
     group_members_rise();
 }
+
+/// A law: a section that is asked for, by a root or by a unit that is reached, is live if it can be kept: so are sections that
+/// an entry, a redirect, an export or a list of candidates leads to, and those above are cases of it.
+pub fn asked_for_is_live()
+    ensures { AskedForIsLive }
+{}
 
 /// A law: what is live was asked for by a root or by a unit that is reached.
 pub fn live_was_asked_for()

@@ -22,7 +22,7 @@ pub struct Live {
     pub marks: List<bool>,
     /// For each symbol its flags: those handed in, and those that roots and reached units set.
     pub flags: List<ValueFlags>,
-    /// For each output section whether a live section without bytes keeps it.
+    /// For each output section whether a live section without bytes keeps it, or a redirect that is reached.
     pub kept: List<bool>,
 }
 

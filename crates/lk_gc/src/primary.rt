@@ -10,12 +10,12 @@ ghost use Rattle.lk_link.specs.declared.relocation.Relocation.{Relocation};
 ghost use Rattle.lk_link.specs.declared.symbol.InputSymbol.{InputSymbol};
 ghost use Rattle.lk_gc.specs.Primary.{ArePrimaryReferences, IsInputOf, is_primary_symbol, names_primary, names_symbol, primary_symbols};
 
-use crate::asks::local_definition;
 use crate::live::Live;
-use crate::reaching::is_primary_section;
-use crate::walk::unmarked;
 use lk_link::marks::is_marked;
 use lk_link::{InputFile, InputRef, InputSymbol, LinkInput, Relocation, SymbolPlacement};
+use lk_reach::local_definition;
+use lk_reach::reaching::is_primary_section;
+use lk_reach::walk::unmarked;
 use std::alloc::{AllocError, Global};
 
 /// For each symbol whether it stands in the primary part and a live section of another part names it where a thunk may stand

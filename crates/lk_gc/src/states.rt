@@ -8,14 +8,14 @@ ghost use Rattle.lk_link.specs.Symbols.{definition_of};
 ghost use Rattle.lk_link.specs.WellFormed.{IsWellFormed};
 ghost use Rattle.lk_link.specs.declared.ids.FileId.{FileId};
 ghost use Rattle.lk_link.specs.declared.ids.SymbolIdRange.{SymbolIdRange};
-ghost use Rattle.lk_gc.specs.Units.{follows};
+ghost use Rattle.lk_reach.specs.Units.{follows};
+ghost use Rattle.lk_gc.specs.States.{IsStateBy};
 ghost use Rattle.lk_gc.specs.Work.{items_of};
-ghost use Rattle.lk_gc.specs.declared.units.Unit.TheVariants.{Sym};
+ghost use Rattle.lk_reach.specs.declared.units.Unit.TheVariants.{Sym};
 
-use crate::reaching::successors;
-use crate::units::Unit;
 use crate::work::LocalWorkQueue;
-use lk_link::{FileId, FileKind, FileRef, LinkInput, SymbolId, SymbolIdRange};
+use lk_link::{FileId, FileKind, InputFile, LinkInput, SymbolId, SymbolIdRange};
+use lk_reach::{Unit, successors};
 use std::alloc::AllocError;
 use std::fmt;
 
@@ -57,6 +57,7 @@ pub trait SymbolRequestHandler: fmt::Display + HandlerData {
 }
 
 /// An object in the traversal (libwild: `ObjectLayoutState`).
+#[derive(Drop)]
 pub struct ObjectLayoutState<'data> {
     pub file_id: FileId,
     pub symbol_id_range: SymbolIdRange,
@@ -64,6 +65,7 @@ pub struct ObjectLayoutState<'data> {
 }
 
 /// A shared object in the traversal (libwild: `DynamicLayoutState`).
+#[derive(Drop)]
 pub struct DynamicLayoutState<'data> {
     pub file_id: FileId,
     pub symbol_id_range: SymbolIdRange,
@@ -71,12 +73,14 @@ pub struct DynamicLayoutState<'data> {
 }
 
 /// The linker's own file in the traversal (libwild: `PreludeLayoutState`).
+#[derive(Drop)]
 pub struct PreludeLayoutState {
     pub file_id: FileId,
     pub symbol_id_range: SymbolIdRange,
 }
 
 /// A linker script in the traversal (libwild: `LinkerScriptLayoutState`).
+#[derive(Drop)]
 pub struct LinkerScriptLayoutState<'data> {
     pub file_id: FileId,
     pub symbol_id_range: SymbolIdRange,
@@ -84,15 +88,18 @@ pub struct LinkerScriptLayoutState<'data> {
 }
 
 /// Symbols that the linker makes, in the traversal (libwild: `SyntheticSymbolsLayoutState`).
+#[derive(Drop)]
 pub struct SyntheticSymbolsLayoutState {
     pub file_id: FileId,
     pub symbol_id_range: SymbolIdRange,
 }
 
 /// What comes behind all files (libwild: `EpilogueLayoutState`).
+#[derive(Drop)]
 pub struct EpilogueLayoutState {}
 
 /// A file of any kind in the traversal (libwild: `FileLayoutState`).
+#[derive(Drop)]
 pub enum FileLayoutState<'data> {
     Prelude(PreludeLayoutState),
     Object(ObjectLayoutState<'data>),
@@ -101,6 +108,63 @@ pub enum FileLayoutState<'data> {
     Epilogue(EpilogueLayoutState),
     LinkerScript(LinkerScriptLayoutState<'data>),
     NotLoaded,
+}
+
+impl<'data> FileLayoutState<'data> {
+    ghost use Rattle.std.specs.Prelude.{◌≡◌, MatchOption, None};
+    ghost use Rattle.lk_link.specs.Files.{file_in};
+    ghost use Rattle.lk_link.specs.WellFormed.{IsWellFormed};
+    ghost use Rattle.lk_gc.specs.States.{IsStateOf};
+
+    /// The state of a file of a link, by its kind, with the numbers of its symbols and its name, lent; none where there is no
+    /// such file. Takes constant time and no memory. No file is the epilogue.
+    pub fn of_file(link: &'data LinkInput, file_id: FileId) -> Option<FileLayoutState<'data>>
+        requires { IsWellFormed link.now }
+        ensures { MatchOption result (file_in link.now.groups file_id ≡ None) (IsStateOf link.now file_id) }
+    {
+        let file = link.groups.file(file_id)?;
+        let symbol_id_range = link.groups.symbol_id_range(file_id)?;
+        Some(state_of(file, file_id, symbol_id_range))
+    }
+}
+
+/// The state of a file with this number, whose symbols have these numbers.
+fn state_of(
+    file: &InputFile,
+    file_id: FileId,
+    symbol_id_range: SymbolIdRange,
+) -> FileLayoutState<'_>
+    ensures { IsStateBy file.now file_id symbol_id_range result }
+{
+    let name = file.name.as_str();
+    match file.kind {
+        FileKind::Prelude => FileLayoutState::Prelude(PreludeLayoutState {
+            file_id,
+            symbol_id_range,
+        }),
+        FileKind::Object => FileLayoutState::Object(ObjectLayoutState {
+            file_id,
+            symbol_id_range,
+            name,
+        }),
+        FileKind::Dynamic => FileLayoutState::Dynamic(DynamicLayoutState {
+            file_id,
+            symbol_id_range,
+            name,
+        }),
+        FileKind::LinkerScript => FileLayoutState::LinkerScript(LinkerScriptLayoutState {
+            file_id,
+            symbol_id_range,
+            name,
+        }),
+        FileKind::SyntheticSymbols => {
+            FileLayoutState::SyntheticSymbols(SyntheticSymbolsLayoutState {
+                file_id,
+                symbol_id_range,
+            })
+        }
+        FileKind::NotLoaded => FileLayoutState::NotLoaded,
+    }
 }
 
 impl HandlerData for ObjectLayoutState<'_> {

@@ -8,15 +8,15 @@ use crate::error::GcError;
 use crate::faults::reference_faults;
 use crate::keep::live_after;
 use crate::live::Live;
-use crate::walk::Walk;
 use lk_link::{Gate, LinkInput, List};
+use lk_reach::Walk;
 use std::alloc::Global;
 use std::sync::Wait;
 use std::thread::Threads;
 
 /// What is live of a link, by what `file_roots` and `successors` tell, where no reference is at fault; else all that are, by
-/// file, section and relocation; unless memory runs out. Looks once at each unit that is reached and at each of its relocations, and takes a mark for each unit and a word
-/// for each symbol (libwild: `traverse_reference_graph`).
+/// file, section and relocation; unless memory runs out. Looks once at each unit that is reached and at each of its relocations,
+/// and takes a mark for each unit and a word for each symbol (libwild: `traverse_reference_graph`).
 pub fn traverse_alone(alloc: Global, link: &LinkInput) -> Result<Live, GcError>
     requires { IsWellFormed link.now }
     ensures { GivesLive link.now result }

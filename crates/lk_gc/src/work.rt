@@ -4,9 +4,8 @@ ghost use Rattle.std.specs.Prelude.{◌≡◌, ◌==◌, ◌++◌, ◌∷◌, []
 ghost use Rattle.std.specs.Option.{option_to_list};
 ghost use Rattle.lk_gc.specs.Work.{item_of, items_of, symbol_item};
 
-use crate::asks::Successors;
-use crate::units::Ask;
 use lk_link::{FileId, SectionGcUnit, SymbolId, ValueFlags};
+use lk_reach::{Ask, Successors};
 use std::alloc::{AllocError, Global};
 use std::marker::Model;
 

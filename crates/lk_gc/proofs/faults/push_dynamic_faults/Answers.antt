@@ -2,7 +2,7 @@ use Rattle.std.proofs.Common.{◌≡◌, length, ap, ◌∙◌, arith}
 use Rattle.std.proofs.lemmas.Option.{MatchOption-at_some}
 use Rattle.lk_link.specs.Symbols.{AreSymbolsOf, first_symbol}
 use Rattle.lk_link.proofs.SymbolLemmas.{symbols_within}
-use Rattle.lk_gc.proofs.SymbolNumbers.{symbols_few}
+use Rattle.lk_reach.proofs.SymbolNumbers.{symbols_few}
 use Rattle.lk_gc.proofs.faults.push_dynamic_faults.Goals as goal
 
 pub symbol_id_range-requires : goal.symbol_id_range-requires

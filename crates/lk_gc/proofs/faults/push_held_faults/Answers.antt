@@ -5,11 +5,11 @@ use Rattle.std.proofs.lemmas.Option.{slice_get-get_or}
 use Rattle.lk_link.specs.declared.section.InputSection.{InputSection}
 use Rattle.lk_link.specs.Walks.{file_of}
 use Rattle.lk_gc.specs.declared.error.ReferenceFault.{ReferenceFault}
-use Rattle.lk_gc.specs.declared.units.Unit.TheVariants.{Sec}
+use Rattle.lk_reach.specs.declared.units.Unit.TheVariants.{Sec}
 use Rattle.lk_gc.specs.Faults.{marked_faults}
-use Rattle.lk_gc.specs.Marks.{unit_number}
+use Rattle.lk_reach.specs.Marks.{unit_number}
 use Rattle.lk_gc.proofs.FaultLemmas.{faults_if_marked, section_next}
-use Rattle.lk_gc.proofs.SymbolNumbers.{first_within, inputs_few, sections_few, symbols_few}
+use Rattle.lk_reach.proofs.SymbolNumbers.{first_within, inputs_few, sections_few, symbols_few}
 use Rattle.lk_gc.proofs.faults.push_held_faults.Goals as goal
 use Rattle.lk_gc.proofs.faults.push_held_faults.Goals.{then-is_marked+in_ok-push_section_faults, else-is_marked}
 

@@ -3,7 +3,7 @@ use Rattle.std.proofs.lemmas.Option.{MatchOption-at_some}
 use Rattle.lk_link.specs.InputSlots.{is_regular}
 use Rattle.lk_link.specs.Symbols.{AreSymbolsOf, first_symbol}
 use Rattle.lk_link.proofs.GoodInputs.{lists_of}
-use Rattle.lk_gc.proofs.SymbolNumbers.{relocations_from, symbols_few}
+use Rattle.lk_reach.proofs.SymbolNumbers.{relocations_from, symbols_few}
 use Rattle.lk_gc.proofs.faults.push_section_faults.Goals as goal
 
 pub symbol_id_range-requires : goal.symbol_id_range-requires

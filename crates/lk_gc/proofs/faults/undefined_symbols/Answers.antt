@@ -3,8 +3,8 @@ use Rattle.std.specs.List.{flat_map}
 use Rattle.lk_link.specs.Inputs.{NumberedFile, numbered_files}
 use Rattle.lk_gc.specs.Faults.{undefined_placements}
 use Rattle.lk_gc.proofs.FaultLemmas.{placements_whole}
-use Rattle.lk_gc.proofs.Numbered.{are_numbered}
-use Rattle.lk_gc.proofs.WalkLemmas.{all_files_done}
+use Rattle.lk_reach.proofs.Numbered.{are_numbered}
+use Rattle.lk_reach.proofs.WalkLemmas.{all_files_done}
 use Rattle.lk_gc.proofs.faults.undefined_symbols.Goals as goal
 
 pub files-file-items-requires : goal.files-file-items-requires

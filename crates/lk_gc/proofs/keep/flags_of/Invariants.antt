@@ -1,5 +1,5 @@
 use Rattle.std.proofs.Common.{◌≡◌, map, take}
-use Rattle.lk_gc.specs.Units.{flags_from}
+use Rattle.lk_reach.specs.Units.{flags_from}
 use Rattle.lk_gc.proofs.keep.flags_of.Given as goal
 
 -- the flags of the words so far

@@ -1,6 +1,15 @@
-use Rattle.lk_gc.proofs.KeepLemmas.{kept_whole}
+use Rattle.std.proofs.Common.{◌+◌, ap, ◌∙◌, Bool, List, refl}
+use Rattle.lk_link.specs.Parts.{first_part}
+use Rattle.lk_gc.specs.KeptParts.{part_keeps}
+use Rattle.lk_gc.specs.Reach.{for_sections, section_keeps}
+use Rattle.lk_gc.proofs.KeepLemmas.{kept_same, kept_whole, same_for_all}
 use Rattle.lk_gc.proofs.keep.kept_marks.Goals as goal
 
 pub returns : goal.returns
 returns c =
-    kept_whole c.args.link.now c.args.live.now c.args.marks.now c.in_ok-kept.kept.items c.keep_named.new.kept.items c.in_ok-kept.ensures c.keep_named.ensures.count c.keep_named.ensures.marks
+    let link = c.args.link.now in
+    let live : List Bool = c.args.pass.now.live.items in
+    let parts : List Bool = c.args.pass.now.parts.items in
+    let same = same_for_all (part_keeps link parts) (section_keeps link live)
+    (λ o. kept_same link o live parts (first_part link.plan.sections o) (first_part link.plan.sections (o + 1)) c.requires.parts refl refl) 0 link.plan.sections in
+    kept_whole link live c.args.marks.now c.in_ok-kept.kept.items c.keep_named.new.kept.items (c.in_ok-kept.ensures ∙ ap (λ ps. for_sections (part_keeps link ps) link) c.as_slice.ensures.value ∙ same) c.keep_named.ensures.count c.keep_named.ensures.marks

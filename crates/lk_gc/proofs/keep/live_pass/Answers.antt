@@ -6,12 +6,12 @@ use Rattle.lk_link.specs.Inputs.{Input}
 use Rattle.lk_link.specs.InputSlots.{can_be_kept}
 use Rattle.lk_link.specs.Marks.{is_marked}
 use Rattle.lk_link.specs.Walks.{input_of}
-use Rattle.lk_gc.specs.Marks.{symbols_in_all}
+use Rattle.lk_reach.specs.Marks.{symbols_in_all}
 use Rattle.lk_gc.specs.Reach.{live_mark, marked}
-use Rattle.lk_gc.specs.Walking.{keeps_part}
+use Rattle.lk_gc.specs.KeptParts.{keeps_part}
 use Rattle.lk_gc.proofs.KeepLemmas.{live_next, part_next}
-use Rattle.lk_gc.proofs.Numbered.{are_numbered}
-use Rattle.lk_gc.proofs.SymbolNumbers.{symbols_few}
+use Rattle.lk_reach.proofs.Numbered.{are_numbered}
+use Rattle.lk_reach.proofs.SymbolNumbers.{symbols_few}
 use Rattle.lk_gc.proofs.keep.live_pass.Goals as goal
 
 pub inputs-input-items-requires : goal.inputs-input-items-requires

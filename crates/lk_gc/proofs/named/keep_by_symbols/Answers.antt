@@ -2,7 +2,8 @@ use Rattle.std.proofs.Common.{◌≡◌, ◌+◌, ◌<◌, ◌||◌, length, tak
 use Rattle.std.specs.List.{enumerate_from, list_any}
 use Rattle.lk_link.specs.Marks.{is_marked}
 use Rattle.lk_gc.specs.Reach.{names_output}
-use Rattle.lk_gc.proofs.KeepLemmas.{or_last, symbol_next}
+use Rattle.lk_reach.proofs.Passing.{or_last}
+use Rattle.lk_gc.proofs.KeepLemmas.{symbol_next}
 use Rattle.lk_gc.proofs.named.keep_by_symbols.Goals as goal
 
 pub loop-index-init : goal.loop-index-init

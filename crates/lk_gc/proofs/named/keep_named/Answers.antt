@@ -4,9 +4,10 @@ use Rattle.lk_link.specs.Inputs.{numbered_files}
 use Rattle.lk_link.specs.Marks.{is_marked}
 use Rattle.lk_link.specs.Walks.{file_of}
 use Rattle.lk_gc.specs.Reach.{script_keeps}
-use Rattle.lk_gc.proofs.KeepLemmas.{file_next, or_last}
-use Rattle.lk_gc.proofs.Numbered.{are_numbered, file_at}
-use Rattle.lk_gc.proofs.WalkLemmas.{all_files_done, file_turn}
+use Rattle.lk_gc.proofs.KeepLemmas.{file_next}
+use Rattle.lk_reach.proofs.Passing.{or_last}
+use Rattle.lk_reach.proofs.Numbered.{are_numbered, file_at}
+use Rattle.lk_reach.proofs.WalkLemmas.{all_files_done, file_turn}
 use Rattle.lk_gc.proofs.named.keep_named.Goals as goal
 
 pub files-file-items-requires : goal.files-file-items-requires

@@ -2,7 +2,7 @@ use Rattle.std.proofs.Common.{◌≡◌, true, sym, ◌∙◌}
 use Rattle.std.proofs.lemmas.Option.{MatchOption-at_some}
 use Rattle.lk_link.specs.InputSlots.{is_regular}
 use Rattle.lk_link.specs.Symbols.{AreSymbolsOf, first_symbol}
-use Rattle.lk_gc.proofs.SymbolNumbers.{relocations_from, symbols_few}
+use Rattle.lk_reach.proofs.SymbolNumbers.{relocations_from, symbols_few}
 use Rattle.lk_gc.proofs.primary.mark_named.Goals as goal
 
 pub symbol_id_range-requires : goal.symbol_id_range-requires

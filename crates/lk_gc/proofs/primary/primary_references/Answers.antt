@@ -3,7 +3,7 @@ use Rattle.std.proofs.lemmas.List.{length-replicate}
 use Rattle.lk_link.specs.Marks.{is_marked}
 use Rattle.lk_link.specs.Walks.{input_of}
 use Rattle.lk_gc.specs.Primary.{names_primary, primary_symbols}
-use Rattle.lk_gc.proofs.Numbered.{are_numbered}
+use Rattle.lk_reach.proofs.Numbered.{are_numbered}
 use Rattle.lk_gc.proofs.PrimaryLemmas.{input_turn, named_next, none_named, primary_count}
 use Rattle.lk_gc.proofs.primary.primary_references.Goals as goal
 

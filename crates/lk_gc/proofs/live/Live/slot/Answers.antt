@@ -2,7 +2,7 @@ use Rattle.std.proofs.Common.{◌≡◌, Some, sym, arith}
 use Rattle.std.specs.List.{slice_get}
 use Rattle.std.proofs.lemmas.Option.{slice_get_within}
 use Rattle.lk_link.specs.Files.{file_in}
-use Rattle.lk_gc.proofs.SymbolNumbers.{first_within, inputs_few, sections_within}
+use Rattle.lk_reach.proofs.SymbolNumbers.{first_within, inputs_few, sections_within}
 use Rattle.lk_gc.proofs.live.Live.slot.Goals as goal
 
 pub input_start-requires : goal.input_start-requires

@@ -1,5 +1,0 @@
-use Rattle.lk_gc.proofs.ReachLemmas.{marks_are_reached}
-use Rattle.lk_gc.proofs.laws.marks_are_reached.Goals as goal
-
-pub returns : goal.returns
-returns c = marks_are_reached

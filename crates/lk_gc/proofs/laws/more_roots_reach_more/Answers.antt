@@ -1,5 +1,0 @@
-use Rattle.lk_gc.proofs.ReachLemmas.{more_roots_reach_more}
-use Rattle.lk_gc.proofs.laws.more_roots_reach_more.Goals as goal
-
-pub returns : goal.returns
-returns c = more_roots_reach_more

@@ -1,5 +1,0 @@
-use Rattle.lk_gc.proofs.ReachLemmas.{reach_is_closed}
-use Rattle.lk_gc.proofs.laws.reach_is_closed.Goals as goal
-
-pub returns : goal.returns
-returns c = reach_is_closed

@@ -1,5 +1,0 @@
-use Rattle.lk_gc.proofs.PlainAsks as lemma
-use Rattle.lk_gc.proofs.laws.resolved_is_reached.Goals as goal
-
-pub returns : goal.returns
-returns c = lemma.resolved_is_reached

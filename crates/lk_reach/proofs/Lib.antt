@@ -1,0 +1,15 @@
+pub mod ClosedWords
+pub mod EdgeLemmas
+pub mod GroupLemmas
+pub mod LiveWalk
+pub mod MarkLemmas
+pub mod Numbered
+pub mod Passing
+pub mod PlainAsks
+pub mod ReachLemmas
+pub mod SuccessorLemmas
+pub mod SymbolNumbers
+pub mod UnitLemmas
+pub mod WalkLemmas
+pub mod WholeLemmas
+pub mod WordLemmas

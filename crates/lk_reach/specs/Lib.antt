@@ -1,0 +1,9 @@
+pub mod Askers
+pub mod Edges
+pub mod Exports
+pub mod Laws
+pub mod Marks
+pub mod Placements
+pub mod Reach
+pub mod Units
+pub mod Walking
