@@ -27,6 +27,7 @@ took_none : (section limit b : ℕ) → HasTaken section limit b (bucket_list fn
 took_none section limit b = subst (λ l. HasTaken section limit b l (empty_state section limit b)) (sym (no_list b)) (record {
   refusal = sym (fine section limit b);
   holds = λ _. refl;
+  stopped = λ e some. absurd (cc);
 })
 
 pub merged_none : (section limit : ℕ) (merging : Merges) → merging.buckets.items ≡ map (empty_state section limit) (range_with_len 0 16)

@@ -1,13 +1,13 @@
 -- What a bucket answers, by its table.
-use Rattle.std.proofs.Common.{◌≡◌, ℕ, ◌+◌, ◌-◌, ◌^◌, ◌<◌, ◌≤◌, Bool, true, false, cond, ◌||◌, List, [], ◌∷◌, ◌++◌, length, map, None, Some, Ok, Err, inl, inr, refl, sym, ap, subst, ◌∙◌, arith, leb, suc, length-append}
+use Rattle.std.proofs.Common.{◌≡◌, ℕ, ◌+◌, ◌-◌, ◌/◌, ◌%◌, ◌^◌, ◌<◌, ◌≤◌, Bool, true, false, cond, ◌||◌, List, [], ◌∷◌, ◌++◌, length, map, None, Some, Ok, Err, inl, inr, refl, sym, ap, subst, ◌∙◌, arith, leb, suc, length-append}
 use Rattle.std.specs.List.{concat, slice_get}
 use Rattle.std.specs.Map.{keys_of, lookup}
 use Rattle.std.proofs.lemmas.Bool.{le-leb, lt-leb}
 use Rattle.std.proofs.lemmas.List.{map-append}
 use Rattle.lk_merge.specs.declared.error.MergeError.TheVariants.{TooLarge}
 use Rattle.lk_merge.specs.declared.string.MergeString.{MergeString}
-use Rattle.lk_merge.specs.Buckets.{Bucket, bucket_place, fits_behind, adding, with_piece}
-use Rattle.lk_merge.specs.BucketTables.{piece_of, placed_from, IsTable}
+use Rattle.lk_merge.specs.Buckets.{Bucket, Tells, bucket_place, fits_behind, adding, piece_of, with_piece}
+use Rattle.lk_merge.specs.BucketTables.{placed_from, IsTable}
 use Rattle.lk_merge.specs.Image.{is_among, place_in}
 use Rattle.lk_merge.specs.Pieces.{Piece}
 use Rattle.lk_merge.proofs.AmongLemmas.{place_within}
@@ -21,6 +21,10 @@ stored entries = map piece_of (keys_of entries)
 -- the bucket that has a table
 abbrev pub bucket_by : ℕ → ℕ → ℕ → List (MergeString × ℕ) → Bucket
 bucket_by section number limit entries = record { section = section; number = number; limit = limit; pieces = stored entries }
+
+-- a bucket and an offset below 2^28 come back from their place
+pub tells : (number offset at place : ℕ) → place ≡ bucket_place number offset → offset < 2 ^ 28 → offset ≡ at → Tells number at place
+tells number offset at place is below same = (omega (arith, is, below), omega (arith, is, below, same))
 
 module _ (section number limit next : ℕ) (entries : List (MergeString × ℕ)) (table : IsTable number limit next entries) (p : Piece) where
   by_key : (t : Bool) → is_among (stored entries) p ≡ t → lookup (is_key p) entries ≡ cond t (Some (place_in (stored entries) p)) None
@@ -47,6 +51,13 @@ module _ (section number limit next : ℕ) (entries : List (MergeString × ℕ))
       let found = there v h in
       let within = place_within (stored entries) p found.0 in
       omega (arith, found.1, within, table.ends, table.within, table.limited)
+
+  -- so is the end, where a piece goes next
+  pub next_small : 0 < length p → length p ≤ limit - next → next < 2 ^ 28
+  next_small some short = omega (arith, some, short, table.limited, table.within)
+
+  pub next_is : lookup (is_key p) entries ≡ None → next ≡ place_in (stored entries) p
+  next_is h = table.ends ∙ sym (place_behind (stored entries) p (absent h))
 
   pub answer_there : (v : ℕ) → lookup (is_key p) entries ≡ Some v
       → (adding (bucket_by section number limit entries) p ≡ Ok (bucket_place number v))

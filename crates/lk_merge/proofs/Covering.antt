@@ -8,6 +8,7 @@ use Rattle.lk_merge.specs.Groups.{AreGroups, CutsNoConstant, GroupsCover, IsGrou
 use Rattle.lk_merge.specs.Inputs.{Located, located, padded_total}
 use Rattle.lk_merge.specs.Pieces.{Piece, MergeInput}
 use Rattle.lk_merge.proofs.GoodPieces.{good_pieces}
+use Rattle.lk_merge.proofs.GroupsThere.{groups_there}
 use Rattle.lk_merge.proofs.InputLemmas.{pieces_located_from}
 use Rattle.lk_merge.proofs.LocatedLemmas.{Rise, between_from, rise_from}
 
@@ -214,5 +215,6 @@ groups_cover = record {
       pieces_from xs size 0 gs (rise_from 0 0 xs good_ones)
       (λ k l e. let b = between_from 0 0 xs k l good_ones e in let some = b.some in let to = b.to in omega (arith, some, to)) h
       ∙ ap (map piece) (all_from (located xs)) ∙ pieces_located_from 0 0 xs;
+  there = λ xs size some. groups_there xs size some (padded_total xs) 0 (omega arith) (omega arith);
   one = λ xs size gs hs. one_list xs size 0 gs hs;
 }

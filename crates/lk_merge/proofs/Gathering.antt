@@ -16,9 +16,10 @@ use Rattle.lk_link.specs.Inputs.{Input, all_inputs}
 use Rattle.lk_link.specs.Limits.{merge_bytes, merge_size}
 use Rattle.lk_link.specs.WellFormed.{IsWellFormed}
 use Rattle.lk_link.proofs.Elements.{append_right, filter_at, map_at, numbered_at}
+use Rattle.lk_link.specs.Parts.{part_sections}
 use Rattle.lk_merge.specs.Inputs.{padded_len, padded_total}
 use Rattle.lk_merge.specs.LinkInputTables.{CanGo}
-use Rattle.lk_merge.specs.LinkInputs.{inputs_among, is_merged_into, merge_input, merge_inputs, part_sections}
+use Rattle.lk_merge.specs.LinkInputs.{inputs_among, is_merged_into, merge_input, merge_inputs}
 use Rattle.lk_merge.specs.Pieces.{MergeInput}
 use Rattle.lk_merge.proofs.MergeBytes.{among_le, merge_part, part_goes, sum_inputs, sum_numbered}
 
@@ -49,16 +50,6 @@ each_with sections outputs t number x after h there within is s = by (eqb t s) r
     by false e =
         let differ : s ≢ t = λ same. eqb-false t s e (sym same) in
         get_or-set_other outputs t s after [] differ ∙ sym (append-nil (get_or outputs s [])) ∙ ap (λ c. get_or outputs s [] ++ cond c one []) (sym (goes ∙ e))
-
--- the sections of parts, one section further
-pub sections_next : (numbers : List ℕ) (sections : List PlanSection) (k : ℕ) (s : PlanSection) → k < length sections → s ≡ get_or sections k s
-    → numbers ++ flat_map (λ (q : ℕ × PlanSection). map (λ p. q.0) q.1.parts) (enumerate_from k (drop k sections))
-    ≡ (numbers ++ map (λ p. k) s.parts) ++ flat_map (λ (q : ℕ × PlanSection). map (λ p. q.0) q.1.parts) (enumerate_from (k + 1) (drop (k + 1) sections))
-sections_next numbers sections k s within is =
-    let numbered : ℕ × PlanSection → List ℕ = λ q. map (λ p. q.0) q.1.parts in
-    let split : drop k sections ≡ s ∷ drop (k + 1) sections = drop_more sections k s within ∙ ap (λ (x : PlanSection). x ∷ drop (k + 1) sections) (sym is) in
-    ap (λ (l : List PlanSection). numbers ++ flat_map numbered (enumerate_from k l)) split
-    ∙ sym (append_assoc numbers (map (λ p. k) s.parts) (flat_map numbered (enumerate_from (k + 1) (drop (k + 1) sections))))
 
 -- ---- all that has been gathered
 

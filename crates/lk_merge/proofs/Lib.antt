@@ -11,6 +11,7 @@ pub mod FindingSteps
 pub mod Gathering
 pub mod GoodPieces
 pub mod Grouping
+pub mod GroupsThere
 pub mod Growing
 pub mod Halving
 pub mod InputLemmas
@@ -20,7 +21,7 @@ pub mod LocatedLemmas
 pub mod MergeBytes
 pub mod MergedLemmas
 pub mod Numbers
-pub mod OutputSections
+pub mod Outside
 pub mod PieceLemmas
 pub mod PlaceInInput
 pub mod PlaceLemmas

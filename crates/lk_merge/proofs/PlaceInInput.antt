@@ -7,23 +7,24 @@ use Rattle.std.proofs.lemmas.Option.{get_or_from_slice_get}
 use Rattle.lk_link.specs.declared.link.LinkInput.{LinkInput}
 use Rattle.lk_link.specs.declared.section.InputSection.{InputSection}
 use Rattle.lk_link.specs.InputSlots.{is_merge}
-use Rattle.lk_link.specs.Parts.{all_parts}
+use Rattle.lk_link.specs.Parts.{all_parts, part_sections}
 use Rattle.lk_link.specs.WellFormed.{IsWellFormed}
 use Rattle.lk_link.proofs.Elements.{map_at}
 use Rattle.lk_merge.specs.declared.inputs.StringMergeInputSection.{StringMergeInputSection}
 use Rattle.lk_merge.specs.declared.offset_map.PieceEntry.{PieceEntry}
 use Rattle.lk_merge.specs.Addresses.{AreStartsOf, image_start}
 use Rattle.lk_merge.specs.Buckets.{Bucket}
+use Rattle.lk_merge.specs.Groups.{input_start}
 use Rattle.lk_merge.specs.Hash.{fnv64}
 use Rattle.lk_merge.specs.Image.{all_pieces, bucket_list, image_place, is_among, place_in}
 use Rattle.lk_merge.specs.Inputs.{AreInputs, input_of, padded_total}
-use Rattle.lk_merge.specs.LinkInputs.{link_inputs, merge_input, merge_inputs, part_sections}
+use Rattle.lk_merge.specs.LinkInputs.{link_inputs, merge_input, merge_inputs}
 use Rattle.lk_merge.specs.MergedTables.{IsMerged}
 use Rattle.lk_merge.specs.Merging.{found_place, last_from, place_at, place_of}
 use Rattle.lk_merge.specs.OutputAddresses.{MergePlace, offset_place}
-use Rattle.lk_merge.specs.OutputAddressTables.{IsMergePlace, IsPlaceAt}
+use Rattle.lk_merge.specs.OutputAddressTables.{IsMergePlace}
 use Rattle.lk_merge.specs.Pieces.{Piece, MergeInput, pieces_of}
-use Rattle.lk_merge.specs.Places.{bucket_start}
+use Rattle.lk_merge.specs.Places.{IsPlaceAt, bucket_start}
 use Rattle.lk_merge.proofs.AmongLemmas.{place_within}
 use Rattle.lk_merge.proofs.Finding.{last_found, starts_behind}
 use Rattle.lk_merge.proofs.GoodPieces.{concat_pieces, piece_at_some, terminated_at}
@@ -113,6 +114,13 @@ module _ (xs : List MergeInput) (buckets : List Bucket) (entries : List PieceEnt
       let last : last_from 0 xs start ≡ Some x = ap (last_from 0 xs) begins ∙ last_is xs k x there (omega (arith, short)) in
       let found : result ≡ Some place.0 = is ∙ ap (λ o. option_and_then (λ (y : MergeInput). place_at fnv64 xs y offset) o) last ∙ place.1 in
       subst (λ o. MatchOption o ⊥ (IsPlaceAt xs x offset)) (sym found) place.2
+
+-- what is found for an input that has the offset can be taken apart
+pub apart : (xs ys : List MergeInput) (buckets : List Bucket) (entries : List PieceEntry) → IsMerged xs buckets entries → xs ≡ ys → (start offset : ℕ) (result : Option ℕ)
+    → result ≡ found_place fnv64 ys start offset → (k : ℕ) (x : MergeInput) → slice_get ys k ≡ Some x → input_start ys k ≡ start → offset < length x.bytes
+    → MatchOption result ⊥ (IsPlaceAt ys x offset)
+apart xs ys buckets entries m same start offset result is k x there begins short =
+    found_in ys buckets entries (subst (λ (zs : List MergeInput). IsMerged zs buckets entries) same m) k x start offset result there short (sym begins) is
 
 -- ---- the address
 

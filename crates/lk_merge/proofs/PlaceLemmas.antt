@@ -145,7 +145,11 @@ shown_at hash pieces p d h inside =
 
 pub offsets_have_places : OffsetsHavePlaces
 offsets_have_places = record {
-  inside = λ x offset h below. let n : length (concat (pieces_of x)) ≡ length x.bytes = ap length (concat_pieces x h) in piece_at_some (pieces_of x) offset (omega (arith, n, below));
+  inside = λ x offset h below.
+      let n : length (concat (pieces_of x)) ≡ length x.bytes = ap length (concat_pieces x h) in
+      let found = piece_at_some (pieces_of x) offset (omega (arith, n, below)) in
+      let holds = holds_at (pieces_of x) offset found.0 found.1 found.2 in
+      (found.0, found.1, found.2, holds.inside);
   outside = λ hash inputs x offset h past.
       let n : length (concat (pieces_of x)) ≡ length x.bytes = ap length (concat_pieces x h) in
       ap (option_map (λ (q : Piece × ℕ). place_of hash (all_pieces inputs) q.0 + q.1)) (piece_at_past (pieces_of x) offset (omega (arith, n, past)));

@@ -6,17 +6,17 @@ use Rattle.lk_merge.specs.declared.error.MergeError.{MergeError}
 use Rattle.lk_merge.specs.declared.error.MergeError.TheVariants.{NotTerminated, TooLarge, NoMemory}
 use Rattle.lk_merge.specs.Hash.{fnv64}
 use Rattle.lk_merge.specs.LinkInputs.{AllMergeInputs, GivesAllMerged, first_refusal}
-use Rattle.lk_merge.specs.Merging.{GivesMerged, merge_refusal}
+use Rattle.lk_merge.specs.Merging.{first_of, GivesMerged, merge_refusal}
 use Rattle.lk_merge.specs.Pieces.{MergeInput}
 use Rattle.lk_merge.proofs.TooLong.{none_first, some_first}
 
 refusal_none : (limit section : ℕ) → first_refusal fnv64 limit section [] ≡ None
-unfolding first_refusal
+unfolding first_of
 refusal_none limit section = refl
 
 refusal_step : (limit section : ℕ) (inputs : List MergeInput) (rest : List (List MergeInput))
     → first_refusal fnv64 limit section (inputs ∷ rest) ≡ first_some (merge_refusal fnv64 section limit inputs) (first_refusal fnv64 limit (section + 1) rest)
-unfolding first_refusal
+unfolding first_of
 refusal_step limit section inputs rest = refl
 
 -- the refusal from a section on is its own, or that behind it

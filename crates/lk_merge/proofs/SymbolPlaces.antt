@@ -1,26 +1,24 @@
 -- Symbols by their numbers, each with its file, and the places that they name in merged sections.
-use Rattle.std.proofs.Common.{◌≡◌, ℕ, zero, suc, ◌+◌, ◌-◌, ◌<◌, ◌≤◌, Bool, true, List, [], ◌∷◌, ◌++◌, length, filter, map, take, Some, None, sum_by, refl, sym, ap, ◌∙◌, arith}
-use Rattle.std.specs.List.{enumerate_from, flat_map, slice_get}
+use Rattle.std.proofs.Common.{◌≡◌, ℕ, ◌+◌, ◌-◌, ◌<◌, ◌≤◌, Bool, true, List, [], length, filter, Option, Some, None, option_and_then, option_map, refl, sym, ap, ◌∙◌, subst, arith}
+use Rattle.std.specs.List.{enumerate_from, slice_get}
 use Rattle.std.proofs.lemmas.Bool.{eq-eqb}
-use Rattle.std.proofs.lemmas.List.{length-map}
-use Rattle.std.proofs.lemmas.List.Concat.{length-flat_map}
 use Rattle.std.proofs.lemmas.List.FromFn.{get_or-map-range_with_len, length-map-range_with_len}
-use Rattle.std.proofs.lemmas.List.Sums.{sum_by-cons}
-use Rattle.std.proofs.lemmas.Option.{slice_get-get_or, slice_get_past}
+use Rattle.std.proofs.lemmas.Option.{slice_get-get_or}
 use Rattle.lk_link.specs.declared.file.InputFile.{InputFile}
 use Rattle.lk_link.specs.declared.ids.FileId.{FileId}
 use Rattle.lk_link.specs.declared.link.LinkInput.{LinkInput}
 use Rattle.lk_link.specs.declared.symbol.InputSymbol.{InputSymbol}
 use Rattle.lk_link.specs.Files.{file_in}
 use Rattle.lk_link.specs.InputSlots.{is_merge}
-use Rattle.lk_link.specs.Inputs.{Input, NumberedFile, all_inputs, numbered_files}
-use Rattle.lk_link.specs.Parts.{all_parts}
-use Rattle.lk_link.specs.Symbols.{IsSymbolIn, all_files, file_number, first_symbol, symbol_at, symbol_count, symbols_before, symbols_in}
-use Rattle.lk_link.proofs.Elements.{append_left, append_right, at_index, filter_in, map_in}
-use Rattle.lk_link.proofs.InputLemmas.{file_stands, files_from_are, numbered_get, sum_mapped, sum_taken}
+use Rattle.lk_link.specs.Inputs.{Input, NumberedFile, all_inputs, group_files, numbered_file, numbered_files}
+use Rattle.lk_link.specs.NumberedSymbols.{known_symbol, numbered_symbols, symbols_of}
+use Rattle.lk_link.specs.Parts.{all_parts, part_sections}
+use Rattle.lk_link.specs.Symbols.{IsSymbolIn, first_symbol, symbol_at}
+use Rattle.lk_link.proofs.Elements.{filter_in, flat_map_at, map_at, map_in, numbered_at}
+use Rattle.lk_link.proofs.InputLemmas.{numbered_get}
+use Rattle.lk_link.proofs.NumberedSymbolLemmas.{stands}
 use Rattle.lk_link.proofs.SymbolLemmas.{symbols_have_files}
-use Rattle.lk_merge.specs.LinkInputs.{is_merged_into, link_inputs, merge_input, merge_inputs, part_sections}
-use Rattle.lk_merge.specs.OutputAddresses.{numbered_symbols}
+use Rattle.lk_merge.specs.LinkInputs.{is_merged_into, link_inputs, merge_input, merge_inputs}
 use Rattle.lk_merge.specs.Pieces.{MergeInput}
 use Rattle.lk_merge.proofs.Gathering.{goes_to}
 use Rattle.lk_merge.proofs.MergeBytes.{part_goes}
@@ -28,56 +26,58 @@ use Rattle.lk_merge.proofs.MergeBytes.{part_goes}
 pub some_one : {X : Type 0} (a b : X) → Some a ≡ Some b → a ≡ b
 some_one a b e = cc
 
--- an element of a list that is made of lists stands behind all those before its own
-pub flat_in : {X Y : Type 0} (f : X → List Y) (xs : List X) (k i : ℕ) (x : X) (y : Y) → slice_get xs k ≡ Some x → slice_get (f x) i ≡ Some y
-    → slice_get (flat_map f xs) (sum_by (λ z. length (f z)) (take k xs) + i) ≡ Some y
-flat_in f [] k i x y there inner = absurd (cc)
-flat_in f (z ∷ xs) zero i x y there inner =
-    let same : z ≡ x = cc in
-    let first : sum_by (λ w. length (f w)) (take 0 (z ∷ xs)) + i ≡ i = omega arith in
-    ap (slice_get (f z ++ flat_map f xs)) first ∙ append_left (f z) (flat_map f xs) i y (ap (λ w. slice_get (f w) i) same ∙ inner)
-flat_in f (z ∷ xs) (suc k) i x y there inner =
-    let more = sum_by-cons (λ w. length (f w)) z (take k xs) in
-    append_right (f z) (flat_map f xs) (sum_by (λ w. length (f w)) (take k xs) + i) (sum_by (λ w. length (f w)) (z ∷ take k xs) + i) y (omega (arith, more)) (flat_in f xs k i x y there inner)
-
 -- ---- symbols
-
-abbrev symbols_of : NumberedFile → List (NumberedFile × InputSymbol)
-symbols_of f = map (λ s. (f, s)) f.file.symbols
-
-many : (f : NumberedFile) → length (symbols_of f) ≡ symbols_in f.file
-many f = length-map f.file.symbols (λ s. (f, s))
-
-numbered_count : (groups : List (List InputFile)) → length (numbered_symbols groups) ≡ symbol_count (all_files groups)
-numbered_count groups =
-    length-flat_map symbols_of (numbered_files groups)
-    ∙ sum_mapped (λ f. length (symbols_of f)) symbols_in (λ f. f.file) many (numbered_files groups)
-    ∙ ap (sum_by symbols_in) (files_from_are 0 groups)
-
-pub no_symbol : (groups : List (List InputFile)) (s : ℕ) → symbol_count (all_files groups) ≤ s → slice_get (numbered_symbols groups) s ≡ None
-no_symbol groups s past = slice_get_past (numbered_symbols groups) s (omega (arith, numbered_count groups))
-
-pub symbol_has : (groups : List (List InputFile)) (id : FileId) (s : ℕ) → IsSymbolIn groups id s → (x : InputSymbol) × (symbol_at groups s ≡ Some x)
-symbol_has groups id s h =
-    let at = symbols_have_files.at groups id s h in
-    let x = at_index h.file.symbols (s - first_symbol groups id) at.1 in
-    (x.0, at.2 ∙ x.1)
 
 -- the symbol of a file stands under its number, with the file
 pub symbol_numbered : (groups : List (List InputFile)) (id : FileId) (s : ℕ) (file : InputFile) (x : InputSymbol) → IsSymbolIn groups id s → file_in groups id ≡ Some file → symbol_at groups s ≡ Some x
     → slice_get (numbered_symbols groups) s ≡ Some (record { id = id; file = file }, x)
 symbol_numbered groups id s file x h there is =
-    let f : NumberedFile = record { id = id; file = file } in
-    let k : ℕ = file_number groups id in
     let i : ℕ = s - first_symbol groups id in
     let at = symbols_have_files.at groups id s h in
     let same : h.file ≡ file = some_one h.file file (sym h.there ∙ there) in
     let inner : slice_get file.symbols i ≡ Some x = ap (λ (g : InputFile). slice_get g.symbols i) (sym same) ∙ sym at.2 ∙ is in
-    let before : sum_by (λ g. length (symbols_of g)) (take k (numbered_files groups)) ≡ first_symbol groups id
-    = sum_taken (λ g. length (symbols_of g)) symbols_in (λ g. g.file) many k (numbered_files groups) ∙ ap (λ fs. symbols_before k fs) (files_from_are 0 groups) in
-    let place : sum_by (λ g. length (symbols_of g)) (take k (numbered_files groups)) + i ≡ s = omega (arith, before, at.0) in
-    ap (slice_get (numbered_symbols groups)) (sym place)
-    ∙ flat_in symbols_of (numbered_files groups) k i f (f, x) (file_stands groups id file there) (map_in (λ y. (f, y)) file.symbols i x inner)
+    let place : first_symbol groups id + i ≡ s = omega (arith, at.0) in
+    ap (slice_get (numbered_symbols groups)) (sym place) ∙ stands groups id file i x there inner
+
+-- a symbol with its number and its file
+abbrev told : ℕ → Option (NumberedFile × InputSymbol) → Option (ℕ × NumberedFile × InputSymbol)
+told s o = option_map (λ q. (s, q.0, q.1)) o
+
+-- a symbol that is known stands under its number
+pub known_symbol_is : (groups : List (List InputFile)) (s n : ℕ) (f : NumberedFile) (x : InputSymbol) (r : ℕ × NumberedFile × InputSymbol) → r ≡ (n, f, x)
+    → Some r ≡ known_symbol groups s → slice_get (numbered_symbols groups) s ≡ Some (f, x)
+known_symbol_is groups s n f x r same is = by (slice_get (numbered_symbols groups) s) refl is
+  where
+    by : (o : Option (NumberedFile × InputSymbol)) → slice_get (numbered_symbols groups) s ≡ o → Some r ≡ told s o → slice_get (numbered_symbols groups) s ≡ Some (f, x)
+    by None at e = absurd (cc)
+    by (Some q) at e =
+        let t : ℕ × NumberedFile × InputSymbol = (s, q.0, q.1) in
+        let triple : t ≡ (n, f, x) = sym (some_one r t e) ∙ same in
+        at ∙ (λ i. Some ((triple i).1, (triple i).2))
+
+abbrev files_of : ℕ × List InputFile → List NumberedFile
+files_of q = group_files q.0 0 q.1
+
+file_there : (groups : List (List InputFile)) (k : ℕ) (f : NumberedFile) → slice_get (numbered_files groups) k ≡ Some f → file_in groups f.id ≡ Some f.file
+file_there groups k f h =
+    let at = flat_map_at files_of (enumerate_from 0 groups) k f h in
+    let group = numbered_at 0 groups at.outer at.from at.there in
+    let file = map_at (numbered_file at.from.0) (enumerate_from 0 at.from.1) at.inner f at.gives in
+    let index = numbered_at 0 at.from.1 at.inner file.0 file.1 in
+    let in_group : slice_get at.from.1 file.0.0 ≡ Some file.0.1 = ap (slice_get at.from.1) (omega (arith, index.0)) ∙ index.1 in
+    let found : slice_get groups at.from.0 ≡ Some at.from.1 = ap (slice_get groups) (omega (arith, group.0)) ∙ group.1 in
+    let there : file_in groups (numbered_file at.from.0 file.0).id ≡ Some file.0.1 = ap (option_and_then (λ files. slice_get files file.0.0)) found ∙ in_group in
+    subst (λ (g : NumberedFile). file_in groups g.id ≡ Some g.file) file.2 there
+
+-- a symbol that stands under a number is in the file that is told with it
+pub file_of_symbol : (groups : List (List InputFile)) (s : ℕ) (f : NumberedFile) (x : InputSymbol) → slice_get (numbered_symbols groups) s ≡ Some (f, x)
+    → file_in groups f.id ≡ Some f.file
+file_of_symbol groups s f x h =
+    let at = flat_map_at symbols_of (numbered_files groups) s (f, x) h in
+    let pair : InputSymbol → NumberedFile × InputSymbol = λ y. (at.from, y) in
+    let own = map_at pair at.from.file.symbols at.inner (f, x) at.gives in
+    let same : at.from ≡ f = ap (λ (q : NumberedFile × InputSymbol). q.0) own.2 in
+    subst (λ (g : NumberedFile). file_in groups g.id ≡ Some g.file) same (file_there groups at.outer at.from at.there)
 
 -- ---- what is merged of a link
 

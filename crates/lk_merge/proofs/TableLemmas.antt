@@ -5,7 +5,8 @@ use Rattle.std.specs.Map.{keys_of, lookup}
 use Rattle.std.specs.Str.{bytes_eq}
 use Rattle.std.proofs.lemmas.Bool.{true≢false}
 use Rattle.lk_merge.specs.declared.string.MergeString.{MergeString}
-use Rattle.lk_merge.specs.BucketTables.{piece_of, placed_from}
+use Rattle.lk_merge.specs.BucketTables.{placed_from}
+use Rattle.lk_merge.specs.Buckets.{piece_of}
 use Rattle.lk_merge.specs.Image.{is_among, place_in}
 use Rattle.lk_merge.specs.Pieces.{Piece}
 use Rattle.lk_merge.proofs.AmongLemmas.{concat-append, place_step, place_none}

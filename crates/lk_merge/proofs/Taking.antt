@@ -1,15 +1,16 @@
 -- The state of a bucket with one more piece.
-use Rattle.std.proofs.Common.{◌≡◌, ℕ, true, false, List, [], ◌∷◌, ◌++◌, Option, None, Some, Result, Ok, Err, is_some, refl, sym, ap, ◌∙◌, inl, inr}
+use Rattle.std.proofs.Common.{◌≡◌, ℕ, ◌≤◌, Bool, true, false, cond, List, length, [], ◌∷◌, ◌++◌, Option, None, Some, Result, Ok, Err, is_some, refl, sym, ap, ◌∙◌, inl, inr, append_assoc, arith}
+use Rattle.std.specs.List.{concat}
 use Rattle.std.proofs.lemmas.Bool.{true≢false}
 use Rattle.lk_merge.specs.declared.error.MergeError.{MergeError}
 use Rattle.lk_merge.specs.declared.error.MergeError.TheVariants.{NotTerminated, TooLarge, NoMemory}
 use Rattle.lk_merge.specs.declared.merging.BucketState.{BucketState}
 use Rattle.lk_merge.specs.Buckets.{Bucket, Adds, bucket_place, adding, with_piece}
-use Rattle.lk_merge.specs.Image.{firsts_behind, place_in}
+use Rattle.lk_merge.specs.Image.{firsts_behind, is_among, place_in}
 use Rattle.lk_merge.specs.Merging.{bucket_refusal}
-use Rattle.lk_merge.specs.MergingTables.{HasTaken}
+use Rattle.lk_merge.specs.MergingTables.{HasTaken, StopsBefore}
 use Rattle.lk_merge.specs.Pieces.{Piece}
-use Rattle.lk_merge.proofs.TooLong.{stays_refused, one_more}
+use Rattle.lk_merge.proofs.TooLong.{fits_from_none, one_more, stays_refused, unrefused_list, wider_is}
 
 -- one answer
 ok_same : (r : Result ℕ MergeError) (a b : ℕ) → r ≡ Ok a → r ≡ Ok b → a ≡ b
@@ -28,6 +29,23 @@ module _ (section limit b : ℕ) (pieces : List Piece) (p : Piece) (state : Buck
   abbrev place : ℕ
   place = bucket_place b (place_in wide p)
 
+  -- more pieces come behind the one before which a bucket has stopped
+  stopped_still : StopsBefore section limit b (firsts_behind [] pieces) state.bucket → StopsBefore section limit b wide state.bucket
+  stopped_still s = by (is_among (firsts_behind [] pieces) p) refl
+    where
+      by : (t : Bool) → is_among (firsts_behind [] pieces) p ≡ t → StopsBefore section limit b wide state.bucket
+      by t e =
+          let more : List Piece = cond t [] (p ∷ []) in
+          record {
+            held = s.held;
+            piece = s.piece;
+            rest = s.rest ++ more;
+            split = wider_is section limit b pieces p t e ∙ ap (λ (l : List Piece). l ++ more) s.split ∙ append_assoc s.held (s.piece ∷ s.rest) more;
+            fits = s.fits;
+            long = s.long;
+            holds = s.holds;
+          }
+
   -- one that has stopped stays as it is
   pub stopped : true ≡ is_some state.refusal → HasTaken section limit b wide state × (state.refusal ≡ None → None ≡ Some place)
   stopped stop = by state.refusal refl
@@ -39,6 +57,7 @@ module _ (section limit b : ℕ) (pieces : List Piece) (p : Piece) (state : Buck
             record {
               refusal = e ∙ sym later;
               holds = λ none. absurd (let some : Some error ≡ None = sym later ∙ none in cc);
+              stopped = λ _ _. stopped_still (h.stopped error e);
             },
             λ none. absurd (let some : Some error ≡ None = sym e ∙ none in cc),
           )
@@ -63,6 +82,7 @@ module _ (section limit b : ℕ) (pieces : List Piece) (p : Piece) (state : Buck
               record {
                 refusal = none ∙ sym t.refusal;
                 holds = λ _. is ∙ ap (λ k. with_piece k p) before ∙ t.holds;
+                stopped = λ e some. absurd (let both : None ≡ Some e = sym none ∙ some in cc);
               },
               λ _. ap (λ (n : ℕ). Some n) same,
             )
@@ -70,23 +90,37 @@ module _ (section limit b : ℕ) (pieces : List Piece) (p : Piece) (state : Buck
       ]
 
   -- one that goes on and stops at the piece
-  refused : (error : MergeError) (new : Bucket) → false ≡ is_some state.refusal → adding state.bucket p ≡ Err error
+  refused : (error : MergeError) (new : Bucket) → false ≡ is_some state.refusal → adding state.bucket p ≡ Err error → new ≡ state.bucket
       → HasTaken section limit b wide (record { bucket = new; refusal = Some error }) × (Some error ≡ None → None ≡ Some place)
-  refused error new go answer =
+  refused error new go answer is =
       let fine : bucket_refusal section limit b (firsts_behind [] pieces) ≡ None = sym h.refusal ∙ unstopped go in
       let before = h.holds fine in
       elim (one_more section limit b pieces p fine) [
         | inl t ↦ absurd (ok_or_err (adding state.bucket p) place error (ap (λ k. adding k p) before ∙ t.answer) answer)
         | inr s ↦
             let same : error ≡ s.error = err_same (adding state.bucket p) error s.error answer (ap (λ k. adding k p) before ∙ s.answer) in
+            let ends = fits_from_none limit 0 (firsts_behind [] pieces) (omega arith) (unrefused_list section limit b (firsts_behind [] pieces) fine) in
+            let fits : length (concat (firsts_behind [] pieces)) ≤ limit = omega (arith, ends) in
             let later : Some error ≡ bucket_refusal section limit b wide = ap (λ (e : MergeError). Some e) same ∙ sym s.refusal in (
-              record { refusal = later; holds = λ none. absurd (let some : Some error ≡ None = later ∙ none in cc) },
+              record {
+                refusal = later;
+                holds = λ none. absurd (let some : Some error ≡ None = later ∙ none in cc);
+                stopped = λ _ _. record {
+                  held = firsts_behind [] pieces;
+                  piece = p;
+                  rest = [];
+                  split = s.more;
+                  fits = fits;
+                  long = s.long;
+                  holds = is ∙ before;
+                };
+              },
               λ none. absurd (cc),
             )
       ]
 
   pub stops : (error : MergeError) (new : Bucket) → false ≡ is_some state.refusal → (error ≡ NoMemory → ⊥) → Adds state.bucket p (Err error) new
       → HasTaken section limit b wide (record { bucket = new; refusal = Some error }) × (Some error ≡ None → None ≡ Some place)
-  stops (NotTerminated s i) new go some adds = refused (NotTerminated s i) new go adds.0
-  stops (TooLarge s k o n) new go some adds = refused (TooLarge s k o n) new go adds.0
+  stops (NotTerminated s i) new go some adds = refused (NotTerminated s i) new go adds.0 adds.1
+  stops (TooLarge s k o n) new go some adds = refused (TooLarge s k o n) new go adds.0 adds.1
   stops NoMemory new go some adds = absurd (some refl)

@@ -91,7 +91,7 @@ module _ (section limit b : ℕ) (pieces : List Piece) (p : Piece) where
   abbrev bucket : Bucket
   bucket = record { section = section; number = b; limit = limit; pieces = kept }
 
-  wider_is : (t : Bool) → is_among kept p ≡ t → wider ≡ kept ++ cond t [] (p ∷ [])
+  pub wider_is : (t : Bool) → is_among kept p ≡ t → wider ≡ kept ++ cond t [] (p ∷ [])
   wider_is t h = firsts_push [] pieces p t (sym (among-firsts pieces p) ∙ h)
 
   -- a bucket that has stopped stays so
@@ -121,6 +121,8 @@ module _ (section limit b : ℕ) (pieces : List Piece) (p : Piece) where
     pub error : MergeError
     pub refusal : bucket_refusal section limit b wider ≡ Some error
     pub answer : adding bucket p ≡ Err error
+    pub more : wider ≡ kept ++ p ∷ []
+    pub long : limit < length (concat kept) + length p
 
   pub one_more : bucket_refusal section limit b kept ≡ None → Taken ⊎ Stopped
   one_more h = by (is_among kept p) (fits_behind bucket p) refl refl
@@ -168,4 +170,6 @@ module _ (section limit b : ℕ) (pieces : List Piece) (p : Piece) where
             error = TooLarge section b (length (concat kept)) (length p);
             refusal = ap (bucket_refusal section limit b) more ∙ ap (option_map (λ q. TooLarge section b q.0 q.1)) (last_long true long);
             answer = whole false false e g;
+            more = more;
+            long = leb-false _ _ g;
           })

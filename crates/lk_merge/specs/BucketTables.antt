@@ -3,11 +3,7 @@ use Rattle.std.specs.Prelude.{◌≡◌, ℕ, ◌+◌, ◌^◌, ◌<◌, ◌≤�
 use Rattle.std.specs.List.{concat}
 use Rattle.std.specs.Map.{keys_of}
 use Rattle.lk_merge.specs.declared.string.MergeString.{MergeString}
-use Rattle.lk_merge.specs.Pieces.{Piece}
-
--- a string, as its bytes
-abbrev pub piece_of : MergeString → Piece
-piece_of s = s.bytes.now
+use Rattle.lk_merge.specs.Buckets.{piece_of}
 
 -- strings, each with the place where it starts
 abbrev pub placed_from : ℕ → List MergeString → List (MergeString × ℕ)

@@ -41,7 +41,7 @@ IsWholeOrOutside inputs g k x = (input_start inputs k + padded_len x ≤ g.start
     ⊎ ((g.start ≤ input_start inputs k) × (input_start inputs k + padded_len x ≤ g.end))
 
 -- the groups of inputs hold each padded offset once, in order; none is empty; none cuts a constant; each piece is in the group in which it
--- starts; and there is one list of them
+-- starts; and for each size above 0 there is one list of them
 pub record GroupsCover : Type 0 where
   pub each : (inputs : List MergeInput) (size : ℕ) (gs : List SectionGroup) (at : ℕ) → AreGroups inputs size 0 gs → at < padded_total inputs
       → (k : ℕ) × (g : SectionGroup) × (slice_get gs k ≡ Some g) × (g.start ≤ at) × (at < g.end)
@@ -53,4 +53,5 @@ pub record GroupsCover : Type 0 where
       → slice_get gs j ≡ Some g → slice_get inputs k ≡ Some x → x.strings ≡ false → IsWholeOrOutside inputs g k x
   pub pieces : (inputs : List MergeInput) (size : ℕ) (gs : List SectionGroup) → list_all is_terminated inputs ≡ true → AreGroups inputs size 0 gs
       → flat_map (group_pieces inputs) gs ≡ all_pieces inputs
+  pub there : (inputs : List MergeInput) (size : ℕ) → 0 < size → (gs : List SectionGroup) × AreGroups inputs size 0 gs
   pub one : (inputs : List MergeInput) (size : ℕ) (gs hs : List SectionGroup) → AreGroups inputs size 0 gs → AreGroups inputs size 0 hs → gs ≡ hs

@@ -12,6 +12,7 @@ pub mod MergedTables
 pub mod Merging
 pub mod MergingTables
 pub mod OffsetMaps
+pub mod OffsetsOutside
 pub mod OutputAddresses
 pub mod OutputAddressTables
 pub mod Pieces

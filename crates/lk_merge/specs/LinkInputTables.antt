@@ -1,5 +1,5 @@
 -- Of the gathering of what is merged. Cited by private parts alone.
-use Rattle.std.specs.Prelude.{◌≡◌, ℕ, ◌+◌, ◌<◌, ◌^◌, List, Some, length, slice_get}
+use Rattle.std.specs.Prelude.{◌≡◌, ℕ, ◌+◌, ◌<◌, ◌≤◌, ◌^◌, List, Some, length, slice_get}
 use Rattle.lk_link.specs.declared.section.InputSection.{InputSection}
 use Rattle.lk_merge.specs.Inputs.{padded_len, padded_total}
 use Rattle.lk_merge.specs.LinkInputs.{merge_input}
@@ -17,3 +17,9 @@ pub record CanGo (sections : List ℕ) (outputs : List (List MergeInput)) (numbe
   pub goes : slice_get sections x.part ≡ Some output
   pub there : output < length outputs
   pub room : (inputs : List MergeInput) → slice_get outputs output ≡ Some inputs → HaveRoom inputs number x
+
+-- the most bytes of a bucket, and about how many are merged in one go, are in their ranges
+pub record AreSettings (limit group : ℕ) : Type 0 where
+  pub limited : limit ≤ 2 ^ 28
+  pub some : 0 < group
+  pub most : group ≤ 2 ^ 32

@@ -1,21 +1,17 @@
 -- Which input sections of a link are merged into which output section.
 use Rattle.std.specs.Prelude.{◌≡◌, ℕ, ◌+◌, ◌==◌, ◌&&◌, Bool, false, List, [], ◌∷◌, Option, None, Some, Result, Ok, Err, filter, length, map, slice_get}
-use Rattle.std.specs.List.{enumerate_from, flat_map, range_with_len}
+use Rattle.std.specs.Int.{next_multiple_of}
+use Rattle.std.specs.List.{enumerate_from, range_with_len}
 use Rattle.std.specs.Option.{option_map_or}
 use Rattle.lk_link.specs.declared.link.LinkInput.{LinkInput}
-use Rattle.lk_link.specs.declared.plan.PlanSection.{PlanSection}
 use Rattle.lk_link.specs.declared.section.InputSection.{InputSection}
-use Rattle.lk_link.specs.Files.{first_some}
 use Rattle.lk_link.specs.InputSlots.{is_merge}
 use Rattle.lk_link.specs.Inputs.{Input, all_inputs}
+use Rattle.lk_link.specs.Parts.{part_sections}
 use Rattle.lk_merge.specs.declared.error.MergeError.{MergeError}
 use Rattle.lk_merge.specs.declared.error.MergeError.TheVariants.{NoMemory}
-use Rattle.lk_merge.specs.Merging.{merge_refusal}
+use Rattle.lk_merge.specs.Merging.{first_of, merge_refusal}
 use Rattle.lk_merge.specs.Pieces.{Piece, MergeInput}
-
--- the output section of each part, by the part's number: each section's number, once for each of its parts
-abbrev pub part_sections : List PlanSection → List ℕ
-part_sections sections = flat_map (λ q. map (λ p. q.0) q.1.parts) (enumerate_from 0 sections)
 
 -- a section is merged into an output section, where the sections of the parts are these
 abbrev pub is_merged_into : List ℕ → ℕ → InputSection → Bool
@@ -47,10 +43,13 @@ link_inputs link = record {
   group = link.options.merge_group;
 }
 
--- the refusal of the first output section that has one, from a section on
-unfoldable pub first_refusal : (Piece → ℕ) → ℕ → ℕ → List (List MergeInput) → Option MergeError
-first_refusal hash limit section [] = None
-first_refusal hash limit section (inputs ∷ rest) = first_some (merge_refusal hash section limit inputs) (first_refusal hash limit (section + 1) rest)
+-- the size of groups: about as many bytes as are merged in one go, rounded up to a multiple of 256
+abbrev pub group_size : ℕ → ℕ
+group_size group = next_multiple_of group 256
+
+-- the first refusal among some output sections, the first of which has this number
+abbrev pub first_refusal : (Piece → ℕ) → ℕ → ℕ → List (List MergeInput) → Option MergeError
+first_refusal hash limit section outputs = first_of (λ q. merge_refusal hash q.0 limit q.1) (enumerate_from section outputs)
 
 -- what merging answers: the inputs of each output section merged, or the first refusal; nothing is said for want of memory
 abbrev pub GivesAllMerged : (Piece → ℕ) → AllMergeInputs → Result (List (List MergeInput)) MergeError → Type 0

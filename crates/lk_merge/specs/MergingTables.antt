@@ -1,22 +1,34 @@
 -- Of the insides of merging: what the pieces so far have made of the buckets and of the offset map. Cited by private parts
 -- alone.
-use Rattle.std.specs.Prelude.{◌≡◌, ℕ, ◌+◌, ◌<◌, ◌≤◌, ◌^◌, List, ◌++◌, None, Some, Result, Ok, Err, length, map, slice_get}
+use Rattle.std.specs.Prelude.{◌≡◌, ℕ, ◌+◌, ◌<◌, ◌≤◌, ◌^◌, List, ◌∷◌, ◌++◌, None, Some, Result, Ok, Err, length, map, slice_get}
 use Rattle.std.specs.List.{concat}
 use Rattle.lk_merge.specs.declared.error.MergeError.{MergeError}
 use Rattle.lk_merge.specs.declared.error.MergeError.TheVariants.{NoMemory}
 use Rattle.lk_merge.specs.declared.merging.BucketState.{BucketState}
 use Rattle.lk_merge.specs.declared.merging.Merging.{Merging}
 use Rattle.lk_merge.specs.declared.offset_map.PieceEntry.{PieceEntry}
+use Rattle.lk_merge.specs.Buckets.{Bucket}
 use Rattle.lk_merge.specs.Hash.{fnv64}
 use Rattle.lk_merge.specs.Image.{bucket_list}
 use Rattle.lk_merge.specs.Inputs.{Located, located, located_in}
 use Rattle.lk_merge.specs.Merging.{bucket_refusal, long_refusal, place_of}
 use Rattle.lk_merge.specs.Pieces.{Piece, MergeInput, IsString}
 
+-- a bucket has stopped before one of the pieces that it should keep: it holds those that stand before it, which fit, and that one would not
+pub record StopsBefore (section limit b : ℕ) (kept : List Piece) (bucket : Bucket) : Type 0 where
+  pub held : List Piece
+  pub piece : Piece
+  pub rest : List Piece
+  pub split : kept ≡ held ++ piece ∷ rest
+  pub fits : length (concat held) ≤ limit
+  pub long : limit < length (concat held) + length piece
+  pub holds : bucket ≡ record { section = section; number = b; limit = limit; pieces = held }
+
 -- the state of a bucket after the pieces that it should keep: it has them, or has stopped at its first one that is too long
 pub record HasTaken (section limit b : ℕ) (kept : List Piece) (state : BucketState) : Type 0 where
   pub refusal : state.refusal ≡ bucket_refusal section limit b kept
   pub holds : bucket_refusal section limit b kept ≡ None → state.bucket ≡ record { section = section; number = b; limit = limit; pieces = kept }
+  pub stopped : (e : MergeError) → state.refusal ≡ Some e → StopsBefore section limit b kept state.bucket
 
 -- the pieces of some located ones
 abbrev pub pieces_in : List Located → List Piece

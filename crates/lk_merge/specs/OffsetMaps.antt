@@ -13,6 +13,10 @@ pub record IsLastAt (entries : List PieceEntry) (offset k : ℕ) : Type 0 where
   pub from : entry.start ≤ offset
   pub later : (j : ℕ) (e : PieceEntry) → k < j → slice_get entries j ≡ Some e → offset < e.start
 
+-- such an entry
+abbrev pub IsLast : List PieceEntry → ℕ → PieceEntry → Type 0
+IsLast entries offset e = (k : ℕ) × IsLastAt entries offset k × (slice_get entries k ≡ Some e)
+
 -- no entry starts there or before
 abbrev pub NoneAt : List PieceEntry → ℕ → Type 0
 NoneAt entries offset = (j : ℕ) (e : PieceEntry) → slice_get entries j ≡ Some e → offset < e.start

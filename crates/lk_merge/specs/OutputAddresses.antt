@@ -1,7 +1,7 @@
 -- The addresses of what symbols refer to in merged sections.
-use Rattle.std.specs.Prelude.{◌≡◌, ℕ, ℤ, ◌+◌, ◌-◌, ◌%◌, ◌^◌, ◌<◌, ◌≤◌, ◌==◌, not, Bool, true, List, Option, None, Some, Result, Ok, Err, if◌then◌else◌, length, drop, map, nat_lt, option_and_then, slice_get, slice_index, take}
+use Rattle.std.specs.Prelude.{◌≡◌, ℕ, ℤ, ◌+◌, ◌-◌, ◌%◌, ◌^◌, ◌<◌, ◌≤◌, ◌==◌, not, Bool, true, List, Option, None, Some, Result, Ok, Err, if◌then◌else◌, length, drop, nat_lt, option_and_then, slice_get, slice_index, take}
 use Rattle.std.specs.Int.{cast_unsigned, w64}
-use Rattle.std.specs.List.{flat_map, list_all}
+use Rattle.std.specs.List.{list_all}
 use Rattle.std.specs.Option.{option_map_or}
 use Rattle.lk_link.specs.declared.file.InputFile.{InputFile}
 use Rattle.lk_link.specs.declared.link.LinkInput.{LinkInput}
@@ -10,11 +10,13 @@ use Rattle.lk_link.specs.declared.symbol.InputSymbol.{InputSymbol}
 use Rattle.lk_link.specs.declared.symbol.SymbolPlacement.{SymbolPlacement}
 use Rattle.lk_link.specs.declared.symbol.SymbolPlacement.TheVariants as at
 use Rattle.lk_link.specs.InputSlots.{is_merge}
-use Rattle.lk_link.specs.Inputs.{NumberedFile, input_number, numbered_files}
+use Rattle.lk_link.specs.Inputs.{NumberedFile, input_number}
+use Rattle.lk_link.specs.NumberedSymbols.{numbered_symbol}
+use Rattle.lk_link.specs.Parts.{part_sections}
 use Rattle.lk_merge.specs.declared.output_address.OffsetPastEnd.{OffsetPastEnd}
 use Rattle.lk_merge.specs.Hash.{fnv64}
 use Rattle.lk_merge.specs.Image.{all_pieces, image, image_place, piece_at}
-use Rattle.lk_merge.specs.LinkInputs.{merge_input, merge_inputs, part_sections}
+use Rattle.lk_merge.specs.LinkInputs.{merge_input, merge_inputs}
 use Rattle.lk_merge.specs.Pieces.{Piece, MergeInput, is_terminated, pieces_of}
 
 -- ---- places in merged sections
@@ -41,13 +43,9 @@ placed_in groups f named _ = None
 abbrev pub merge_place : List (List InputFile) → NumberedFile × InputSymbol → Option MergePlace
 merge_place groups q = placed_in groups q.0 (not (length q.1.name == 0)) q.1.at
 
--- all symbols by their numbers, each with its file
-abbrev pub numbered_symbols : List (List InputFile) → List (NumberedFile × InputSymbol)
-numbered_symbols groups = flat_map (λ f. map (λ s. (f, s)) f.file.symbols) (numbered_files groups)
-
 -- that of the symbol with a number
 abbrev pub symbol_place : List (List InputFile) → ℕ → Option MergePlace
-symbol_place groups s = option_and_then (merge_place groups) (slice_get (numbered_symbols groups) s)
+symbol_place groups s = option_and_then (merge_place groups) (numbered_symbol groups s)
 
 -- ---- addresses
 
@@ -58,6 +56,10 @@ past_end = record {}
 -- an addend added within 64 bits
 abbrev pub plus_addend : ℕ → ℤ → ℕ
 plus_addend n addend = (n + cast_unsigned w64 addend) % 2 ^ 64
+
+-- the offset that a reference to such a place chooses: of a named symbol its own; of an unnamed one that, moved by the addend
+abbrev pub chosen_offset : MergePlace → ℤ → ℕ
+chosen_offset place addend = if place.named then place.offset else plus_addend place.offset addend
 
 -- the output section that a merged section goes to
 abbrev pub output_of : LinkInput → InputSection → ℕ
@@ -71,13 +73,13 @@ address_in link starts place offset =
     + offset_place fnv64 (merge_inputs link (output_of link place.section)) (merge_input place.number place.section) offset)
     else None
 
--- the address of a reference: a named symbol is looked up as it is, and its address is moved by the addend; an unnamed one is
--- moved by it before it is looked up, and may be asked to be 0
+-- the address of a reference: that of the offset that it chooses; of a named symbol it is moved by the addend; an unnamed one may
+-- be asked to be 0
 abbrev pub reference_address : LinkInput → (ℕ → ℕ) → ℤ → Bool → MergePlace → Result (Option ℕ) OffsetPastEnd
 reference_address link starts addend zero_unnamed place =
-    if place.named then option_map_or (λ a. Ok (Some (plus_addend a addend))) (address_in link starts place place.offset) (Err past_end)
+    if place.named then option_map_or (λ a. Ok (Some (plus_addend a addend))) (address_in link starts place (chosen_offset place addend)) (Err past_end)
     else if zero_unnamed then Ok (Some 0)
-    else option_map_or (λ a. Ok (Some a)) (address_in link starts place (plus_addend place.offset addend)) (Err past_end)
+    else option_map_or (λ a. Ok (Some a)) (address_in link starts place (chosen_offset place addend)) (Err past_end)
 
 -- that of a reference to a symbol; none where the symbol isn't placed in a merged section (libwild: `get_merged_string_output_address`)
 abbrev pub merged_address : LinkInput → (ℕ → ℕ) → ℕ → ℤ → Bool → Result (Option ℕ) OffsetPastEnd

@@ -5,8 +5,7 @@
 
 ghost use Rattle.std.specs.Prelude.{◌≡◌, ◌^◌, ◌<◌, ◌≤◌, length, map};
 ghost use Rattle.std.specs.List.{concat};
-ghost use Rattle.lk_merge.specs.Buckets.{Adds, empty_bucket};
-ghost use Rattle.lk_merge.specs.BucketTables.{piece_of};
+ghost use Rattle.lk_merge.specs.Buckets.{Adds, empty_bucket, piece_of};
 
 use crate::error::MergeError;
 use crate::offset::BucketOffset;
@@ -38,7 +37,8 @@ impl<'data> Model for MergeStringsSectionBucket<'data> {
     ghost Value = { Bucket };
 
     ghost use Rattle.std.specs.Map.{keys_of};
-    ghost use Rattle.lk_merge.specs.BucketTables.{IsTable, piece_of};
+    ghost use Rattle.lk_merge.specs.Buckets.{piece_of};
+    ghost use Rattle.lk_merge.specs.BucketTables.{IsTable};
 
     ghost view = { λ a. record { section = a.section; number = a.number; limit = a.limit; pieces = map piece_of (keys_of a.strings.entries) } };
 

@@ -2,6 +2,7 @@
 
 ghost use Rattle.lk_merge.specs.Groups.{GroupsCover};
 ghost use Rattle.lk_merge.specs.Image.{BucketsGrow};
+ghost use Rattle.lk_merge.specs.OffsetsOutside.{OutsideIsRefused};
 ghost use Rattle.lk_merge.specs.OutputAddresses.{MergedAddressesShow};
 ghost use Rattle.lk_merge.specs.Pieces.{PiecesAreOne};
 ghost use Rattle.lk_merge.specs.Places.{BucketsStart, ImageIsDistinct, OffsetsHavePlaces, PiecesHavePlaces};
@@ -40,7 +41,7 @@ pub fn image_is_distinct()
 {}
 
 /// A law: the groups into which inputs are cut hold each padded offset once, in order; none is empty, and none cuts a constant;
-/// each piece is in the group in which it starts.
+/// each piece is in the group in which it starts; and for each size above 0 there is one list of them.
 pub fn groups_cover()
     ensures { GroupsCover }
 {}
@@ -48,4 +49,10 @@ pub fn groups_cover()
 /// A law: at the address of a reference the image shows what the input has, from the chosen offset to its piece's end.
 pub fn merged_addresses_show()
     ensures { MergedAddressesShow }
+{}
+
+/// A law: exactly the references that choose an offset outside the data have no address, and exactly the named symbols that
+/// are placed there no value.
+pub fn outside_is_refused()
+    ensures { OutsideIsRefused }
 {}

@@ -1,14 +1,15 @@
 //! What is merged of a link: its merge sections, by the output section that they go to.
 
-ghost use Rattle.std.specs.Prelude.{◌≡◌, ◌++◌, ◌<◌, ◌≤◌, ◌^◌, ℕ, [], ◌∷◌, true, if◌then◌else◌, IfOk, OnOk, length, map, replicate};
+ghost use Rattle.std.specs.Prelude.{◌≡◌, ◌++◌, ◌<◌, ◌≤◌, ◌%◌, ◌^◌, ℕ, [], ◌∷◌, true, if◌then◌else◌, IfOk, OnOk, length, map, replicate};
 ghost use Rattle.std.specs.List.{range_with_len, slice_index_or};
 ghost use Rattle.lk_link.specs.InputSlots.{is_merge};
 ghost use Rattle.lk_link.specs.WellFormed.{IsWellFormed};
 ghost use Rattle.lk_merge.specs.LinkInputTables.{CanGo};
-ghost use Rattle.lk_merge.specs.LinkInputs.{is_merged_into, link_inputs, merge_input, merge_inputs, part_sections};
+ghost use Rattle.lk_merge.specs.LinkInputs.{group_size, is_merged_into, link_inputs, merge_input, merge_inputs};
 
-use crate::inputs::StringMergeInputSections;
-use lk_link::{InputSection, LinkInput, PlanPart, PlanSection};
+use crate::inputs::{BLOCK_SIZE, StringMergeInputSections};
+use lk_link::part_sections::section_of_parts;
+use lk_link::{InputSection, LinkInput};
 use std::alloc::{AllocError, Global};
 use std::marker::Model;
 
@@ -19,19 +20,21 @@ pub struct StringMergeInputs<'data> {
     outputs: Vec<StringMergeInputSections<'data>>,
     /// The most bytes of a bucket.
     bucket_limit: u64,
-    /// About how many bytes are merged in one go.
+    /// About how many bytes are merged in one go, from 1 to 2^32.
     merge_group: u64,
 }
 
 impl<'data> Model for StringMergeInputs<'data> {
-    ghost use Rattle.std.specs.Prelude.{◌≤◌, ◌<◌, ◌^◌, length};
+    ghost use Rattle.std.specs.Prelude.{◌<◌, ◌^◌, length};
     ghost use Rattle.lk_merge.specs.LinkInputs.{AllMergeInputs};
 
     ghost Value = { AllMergeInputs };
 
     ghost view = { λ a. record { outputs = a.outputs.items; limit = a.bucket_limit; group = a.merge_group } };
 
-    ghost invariant = { λ a. (a.bucket_limit ≤ 2 ^ 28) × (length a.outputs.items < 2 ^ 32) };
+    ghost use Rattle.lk_merge.specs.LinkInputTables.{AreSettings};
+
+    ghost invariant = { λ a. AreSettings a.bucket_limit a.merge_group × (length a.outputs.items < 2 ^ 32) };
 }
 
 impl<'data> StringMergeInputs<'data> {
@@ -66,34 +69,24 @@ impl<'data> StringMergeInputs<'data> {
         self.bucket_limit
     }
 
-    /// About how many bytes are merged in one go.
+    /// About how many bytes are merged in one go, as the options say; from 1 to 2^32.
     pub fn merge_group(&self) -> u64
-        ensures { result ≡ self.now.group }
+        ensures group { result ≡ self.now.group }
+        ensures positive { 0 < result }
+        ensures small { result ≤ 2 ^ 32 }
     {
         self.merge_group
     }
-}
 
-/// Adds the number of an output section for each of its parts.
-fn push_numbers(numbers: &mut Vec<u32>, number: u32, parts: &[PlanPart]) -> Result<(), AllocError>
-    ensures { OnOk result (numbers.new.items ≡ numbers.old.items ++ map (λ p. number) parts.now) }
-{
-    for _part in parts {
-        numbers.push(number)?;
+    /// The size of groups that `split_sections` takes: about how many bytes are merged in one go, rounded up to a multiple of
+    /// 256.
+    pub fn group_size(&self) -> u64
+        ensures size { result ≡ group_size self.now.group }
+        ensures positive { 0 < result }
+        ensures blocks { result % 256 ≡ 0 }
+    {
+        self.merge_group.next_multiple_of(BLOCK_SIZE)
     }
-    Ok(())
-}
-
-/// The output section of each part.
-fn section_of_parts(alloc: Global, sections: &[PlanSection]) -> Result<Vec<u32>, AllocError>
-    requires { length sections.now < 2 ^ 32 }
-    ensures { IfOk result (λ numbers. numbers.items ≡ part_sections sections.now) }
-{
-    let mut numbers = Vec::new(alloc);
-    for (number, section) in sections.iter().enumerate() {
-        push_numbers(&mut numbers, number as u32, section.parts.as_slice())?;
-    }
-    Ok(numbers)
 }
 
 /// Adds an input section to those that are merged, if it is one.

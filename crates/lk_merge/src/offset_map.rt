@@ -1,7 +1,7 @@
 //! From input offsets to places in buckets.
 
 ghost use Rattle.std.specs.Prelude.{◌≡◌, [], MatchOption, length};
-ghost use Rattle.lk_merge.specs.OffsetMaps.{IsLastAt, NoneAt, StartsRise};
+ghost use Rattle.lk_merge.specs.OffsetMaps.{IsLast, IsLastAt, NoneAt, StartsRise};
 
 use crate::offset::BucketOffset;
 use std::alloc::Global;
@@ -57,16 +57,19 @@ impl OffsetMap {
         self.entries.len()
     }
 
-    /// All entries, lent.
-    pub(crate) fn as_slice(&self) -> &[PieceEntry]
-        ensures { result.now ≡ self.now }
+    /// The last piece that starts at an offset or before it, if there is one. Takes logarithmic time.
+    pub(crate) fn last_at(&self, offset: u64) -> Option<PieceEntry>
+        requires { StartsRise self.now }
+        ensures { MatchOption result (NoneAt self.now offset) (IsLast self.now offset) }
     {
-        self.entries.as_slice()
+        let entries = self.entries.as_slice();
+        let last = last_at(entries, offset)?;
+        Some(entries[last])
     }
 }
 
 /// The index of the last piece that starts at an offset or before it, if there is one. Takes logarithmic time.
-pub(crate) fn last_at(entries: &[PieceEntry], offset: u64) -> Option<usize>
+fn last_at(entries: &[PieceEntry], offset: u64) -> Option<usize>
     requires { StartsRise entries.now }
     ensures { MatchOption result (NoneAt entries.now offset) (IsLastAt entries.now offset) }
 {

@@ -1,22 +1,21 @@
 //! The addresses of what symbols refer to in merged sections.
 
-ghost use Rattle.std.specs.Prelude.{◌≡◌, ◌+◌, ◌*◌, ◌<◌, ℕ, ℤ, Some, length, nat_lt, option_map, slice_get};
+ghost use Rattle.std.specs.Prelude.{◌≡◌, ℕ, ℤ, Some, length, nat_lt, option_map};
 ghost use Rattle.std.specs.Option.{option_map_or};
 ghost use Rattle.lk_link.specs.Files.{file_in};
-ghost use Rattle.lk_link.specs.Parts.{all_parts};
+ghost use Rattle.lk_link.specs.Walks.{file_of};
 ghost use Rattle.lk_link.specs.WellFormed.{IsWellFormed};
 ghost use Rattle.lk_merge.specs.Addresses.{AreStartsOf, image_start};
-ghost use Rattle.lk_merge.specs.LinkInputs.{link_inputs, part_sections};
-ghost use Rattle.lk_merge.specs.OutputAddresses.{address_in, merge_place, merged_address, symbol_place};
+ghost use Rattle.lk_merge.specs.LinkInputs.{link_inputs};
+ghost use Rattle.lk_merge.specs.OffsetsOutside.{chooses_outside};
+ghost use Rattle.lk_merge.specs.OutputAddresses.{address_in, chosen_offset, merge_place, merged_address, symbol_place};
 ghost use Rattle.lk_merge.specs.OutputAddressTables.{IsMergePlace, lent_place};
 ghost use Rattle.lk_merge.specs.declared.output_address.SymbolPlace.{SymbolPlace};
 
 use crate::addresses::MergedStringStartAddresses;
 use crate::section::MergedStringsSection;
-use lk_link::plan::PlanSections;
-use lk_link::{
-    FileId, InputFile, InputSection, InputSymbol, LinkInput, PartId, SymbolId, SymbolPlacement,
-};
+use lk_link::part_sections::section_of_part;
+use lk_link::{FileRef, InputSection, InputSymbol, LinkInput, SymbolId, SymbolPlacement};
 
 /// The offset that a reference chooses is at the end of its section's data or past it.
 #[derive(Clone, Copy, Debug, PartialEq, Eq)]
@@ -24,13 +23,35 @@ pub struct OffsetPastEnd;
 
 /// What a symbol that is placed in a merged section names.
 #[derive(Clone, Copy)]
-struct SymbolPlace<'link> {
+pub(crate) struct SymbolPlace<'link> {
     /// The number of the section over all input sections.
     number: u32,
     section: &'link InputSection,
     /// The offset there, in bytes.
     offset: u64,
-    is_named: bool,
+    /// Whether the symbol has a name.
+    pub(crate) is_named: bool,
+}
+
+impl SymbolPlace<'_> {
+    /// The offset that a reference chooses, with an addend: of a named symbol its own; of an unnamed one that, moved by the
+    /// addend. The sum wraps.
+    fn chosen_offset(self, addend: i64) -> u64
+        ensures { result ≡ chosen_offset (lent_place self.entry) addend }
+    {
+        if self.is_named {
+            self.offset
+        } else {
+            self.offset.wrapping_add(addend.cast_unsigned())
+        }
+    }
+
+    /// Whether a reference, with an addend, chooses an offset outside the section's data.
+    pub(crate) fn chooses_outside(self, addend: i64) -> bool
+        ensures { result ≡ chooses_outside addend (lent_place self.entry) }
+    {
+        self.chosen_offset(addend) >= self.section.bytes.len() as u64
+    }
 }
 
 /// The address that a reference to a symbol, with an addend, has in a merged section; none where the symbol isn't placed in
@@ -50,54 +71,52 @@ pub fn get_merged_string_output_address(
     requires starts { AreStartsOf merged.now starts.now }
     ensures { result ≡ merged_address link.now (image_start starts.now) symbol addend zero_unnamed }
 {
-    let addend = addend.cast_unsigned();
     let Some(place) = symbol_place(link, symbol) else {
         return Ok(None);
     };
+    let offset = place.chosen_offset(addend);
     if place.is_named {
-        let address = address_in(link, merged, starts, place, place.offset).ok_or(OffsetPastEnd)?;
-        return Ok(Some(address.wrapping_add(addend)));
+        let address = address_in(link, merged, starts, place, offset).ok_or(OffsetPastEnd)?;
+        return Ok(Some(address.wrapping_add(addend.cast_unsigned())));
     }
     if zero_unnamed {
         return Ok(Some(0));
     }
-    let offset = place.offset.wrapping_add(addend);
     let address = address_in(link, merged, starts, place, offset).ok_or(OffsetPastEnd)?;
     Ok(Some(address))
 }
 
-/// What a symbol names, if it is placed in a merged section.
-fn symbol_place(link: &LinkInput, symbol: SymbolId) -> Option<SymbolPlace<'_>>
+/// What a symbol names, if it is placed in a merged section. Takes logarithmic time.
+pub(crate) fn symbol_place(link: &LinkInput, symbol: SymbolId) -> Option<SymbolPlace<'_>>
     requires { IsWellFormed link.now }
     ensures names { option_map lent_place result ≡ symbol_place link.now.groups symbol }
     ensures there { (p : SymbolPlace) → result ≡ Some p → IsMergePlace link.now (lent_place p) }
 {
-    let id = link.groups.file_of_symbol(symbol)?;
-    let file = link.groups.file(id)?;
-    let own = link.groups.symbol(symbol)?;
-    place_in(link, id, file, own)
+    match link.groups.symbol_in_file(symbol) {
+        Some(found) => place_in(link, found.file, found.symbol),
+        None => None,
+    }
 }
 
-/// What a symbol of a file with this number names, if it is placed in a merged section.
-fn place_in<'link>(
+/// What a symbol of a file names, if it is placed in a merged section. Takes constant time.
+pub(crate) fn place_in<'link>(
     link: &'link LinkInput,
-    id: FileId,
-    file: &'link InputFile,
+    file: FileRef<'link>,
     symbol: &InputSymbol,
 ) -> Option<SymbolPlace<'link>>
     requires well_formed { IsWellFormed link.now }
-    requires there { file_in link.now.groups id ≡ Some file.now }
-    ensures names { option_map lent_place result ≡ merge_place link.now.groups (record { id = id; file = file.now }, symbol.now) }
+    requires there { file_in link.now.groups file.id ≡ Some file.file.now }
+    ensures names { option_map lent_place result ≡ merge_place link.now.groups (file_of file.entry, symbol.now) }
     ensures there { (p : SymbolPlace) → result ≡ Some p → IsMergePlace link.now (lent_place p) }
 {
     let SymbolPlacement::Section { index, offset } = &symbol.at else {
         return None;
     };
-    let section = file.sections.get(*index as usize)?;
+    let section = file.file.sections.get(*index as usize)?;
     if !section.slot.is_merge() {
         return None;
     }
-    let first = link.groups.input_start(id)?;
+    let first = link.groups.input_start(file.id)?;
     Some(SymbolPlace {
         number: first as u32 + *index,
         section,
@@ -123,26 +142,7 @@ fn address_in(
     if offset >= place.section.bytes.len() as u64 {
         return None;
     }
-    let output = output_of(&link.plan.sections, place.section.part);
+    let output = section_of_part(&link.plan.sections, place.section.part);
     let found = merged[output].place_in_input(place.number, offset)?;
     Some(starts.bucket(output, found.bucket()) + found.offset_in_bucket())
-}
-
-/// The output section of a part. Takes logarithmic time.
-fn output_of(sections: &PlanSections, part: PartId) -> usize
-    requires { part < length (all_parts sections.now) }
-    ensures { slice_get (part_sections sections.now) part ≡ Some result }
-{
-    let part = part.as_usize();
-    let mut low = 0;
-    let mut high = sections.len();
-    while high - low > 1 {
-        let middle = low + (high - low) / 2;
-        if sections.first_part(middle) <= part {
-            low = middle;
-        } else {
-            high = middle;
-        }
-    }
-    low
 }

@@ -7,13 +7,14 @@ ghost use Rattle.lk_merge.specs.Hash.{fnv64};
 ghost use Rattle.lk_merge.specs.Image.{all_pieces, bucket_list, image, image_pieces};
 ghost use Rattle.lk_merge.specs.MergedTables.{IsMerged};
 ghost use Rattle.lk_merge.specs.Merging.{found_place, kept_lists};
-ghost use Rattle.lk_merge.specs.OutputAddressTables.{IsPlaceAt};
+ghost use Rattle.lk_merge.specs.Groups.{input_start};
 ghost use Rattle.lk_merge.specs.Pieces.{MergeInput};
+ghost use Rattle.lk_merge.specs.Places.{IsPlaceAt};
 
 use crate::bucket::MergeStringsSectionBucket;
 use crate::inputs::StringMergeInputSections;
 use crate::offset::{BucketOffset, LinearInputOffset};
-use crate::offset_map::{OffsetMap, last_at};
+use crate::offset_map::OffsetMap;
 use std::alloc::Global;
 use std::marker::Model;
 
@@ -156,12 +157,13 @@ pub fn find_string(
     start: LinearInputOffset,
     offset: u64,
 ) -> Option<BucketOffset>
-    ensures { result ≡ found_place fnv64 section.now start offset }
+    ensures found { result ≡ found_place fnv64 section.now start offset }
+    ensures apart { (k : ℕ) (x : MergeInput) → slice_get section.now k ≡ Some x → input_start section.now k ≡ start → offset < length x.bytes
+        → MatchOption result ⊥ (IsPlaceAt section.now x offset) }
 {
-    let entries = section.string_offsets.as_slice();
     let inputs = section.inputs.as_slice();
     let at = start.as_u64().checked_add(offset)?;
-    let entry = &entries[last_at(entries, at)?];
+    let entry = section.string_offsets.last_at(at)?;
     let input = &inputs[entry.input as usize];
     if input.start_input_offset.as_u64() != start.as_u64() {
         return None;

@@ -1,11 +1,12 @@
 use Rattle.std.proofs.Common.{◌≡◌, ℕ, ◌+◌, ◌≤◌, List, [], ◌∷◌, ◌++◌, length, map, get_or, cond, sym, ap, ◌∙◌, subst, arith}
 use Rattle.std.proofs.lemmas.List.{length-map, map-append, length-append, length_push}
 use Rattle.lk_link.specs.Inputs.{Input, all_inputs}
+use Rattle.lk_link.specs.Parts.{part_sections}
 use Rattle.lk_link.specs.Walks.{input_of}
 use Rattle.lk_link.proofs.GoodLinks.{few}
 use Rattle.lk_link.proofs.InputLemmas.{inputs_follow}
 use Rattle.lk_merge.specs.LinkInputTables.{CanGo}
-use Rattle.lk_merge.specs.LinkInputs.{is_merged_into, merge_input, part_sections}
+use Rattle.lk_merge.specs.LinkInputs.{is_merged_into, merge_input}
 use Rattle.lk_merge.proofs.Gathering.{AreAmong, can_go, gathered_next, gathered_all}
 use Rattle.lk_merge.proofs.InputWalk.{turn, finish}
 use Rattle.lk_merge.proofs.link_inputs.gather.Goals as goal

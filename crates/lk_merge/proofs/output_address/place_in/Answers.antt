@@ -16,23 +16,23 @@ pub overflow_cast-result : goal.overflow_cast-result
 overflow_cast-result c =
     let groups = c.args.link.now.groups in
     let f = few c.args.link.now c.requires.well_formed in
-    let at = inputs_follow.at groups c.args.id c.args.file.now c.in-Section.index c.in_ok-section.section.now c.requires.there (sym c.in_ok-section.ensures) in
-    let within = slice_within (all_inputs groups) (input_number groups c.args.id c.in-Section.index) _ at in
+    let at = inputs_follow.at groups c.args.file.id c.args.file.file.now c.in-Section.index c.in_ok-section.section.now c.requires.there (sym c.in_ok-section.ensures) in
+    let within = slice_within (all_inputs groups) (input_number groups c.args.file.id c.in-Section.index) _ at in
     omega (arith, f.inputs, within, inputs_follow.count groups, c.in_ok-first.ensures.1)
 
 pub overflow_add-result : goal.overflow_add-result
 overflow_add-result c =
     let groups = c.args.link.now.groups in
     let f = few c.args.link.now c.requires.well_formed in
-    let at = inputs_follow.at groups c.args.id c.args.file.now c.in-Section.index c.in_ok-section.section.now c.requires.there (sym c.in_ok-section.ensures) in
-    let within = slice_within (all_inputs groups) (input_number groups c.args.id c.in-Section.index) _ at in
+    let at = inputs_follow.at groups c.args.file.id c.args.file.file.now c.in-Section.index c.in_ok-section.section.now c.requires.there (sym c.in_ok-section.ensures) in
+    let within = slice_within (all_inputs groups) (input_number groups c.args.file.id c.in-Section.index) _ at in
     omega (arith, f.inputs, within, inputs_follow.count groups, c.in_ok-first.ensures.1)
 
 pub returns-clause-there : goal.returns-clause-there
 returns-clause-there c p is =
     let groups = c.args.link.now.groups in
-    let at = inputs_follow.at groups c.args.id c.args.file.now c.in-Section.index c.in_ok-section.section.now c.requires.there (sym c.in_ok-section.ensures) in
-    let input : Input = record { file = c.args.id; index = c.in-Section.index; section = c.in_ok-section.section.now } in
+    let at = inputs_follow.at groups c.args.file.id c.args.file.file.now c.in-Section.index c.in_ok-section.section.now c.requires.there (sym c.in_ok-section.ensures) in
+    let input : Input = record { file = c.args.file.id; index = c.in-Section.index; section = c.in_ok-section.section.now } in
     subst (λ (z : SymbolPlace). IsMergePlace c.args.link.now (lent_place z)) (some_one _ _ is)
     (record {
       input = input;

@@ -2,9 +2,10 @@ use Rattle.std.proofs.Common.{◌≡◌, ℕ, ◌+◌, ◌-◌, ◌<◌, ◌≤�
 use Rattle.indexmap.proofs.CallerLemmas.{insert_entry-new}
 use Rattle.lk_merge.specs.declared.error.MergeError.TheVariants.{TooLarge}
 use Rattle.lk_merge.specs.declared.string.MergeString.{MergeString}
-use Rattle.lk_merge.specs.Buckets.{adding, with_piece, bucket_place}
+use Rattle.lk_merge.specs.Buckets.{Tells, adding, with_piece, bucket_place}
 use Rattle.lk_merge.specs.BucketTables.{IsTable}
-use Rattle.lk_merge.proofs.BucketLemmas.{small_place, answer_there, answer_refused, answer_added, bucket_by, table_more, bucket_more}
+use Rattle.lk_merge.specs.Image.{place_in}
+use Rattle.lk_merge.proofs.BucketLemmas.{next_is, next_small, stored, tells, there, small_place, answer_there, answer_refused, answer_added, bucket_by, table_more, bucket_more}
 use Rattle.lk_merge.proofs.bucket.MergeStringsSectionBucket.add_string.Goals as goal
 
 pub at-requires-clause-offset : goal.at-requires-clause-offset
@@ -22,6 +23,10 @@ returns-in-Some c =
     let place : bucket_place i.number v ≡ c.at.result = sym c.at.ensures in (
       subst (λ b. adding b p ≡ Ok c.at.result) c.self.view_is (r.0 ∙ ap (λ (n : ℕ). Ok n) place),
       subst (λ b. b ≡ with_piece b p) c.self.view_is r.1,
+      subst (λ b. Tells b.number (place_in b.pieces p) c.at.result) c.self.view_is
+          (tells i.number v (place_in (stored i.strings.entries) p) c.at.result c.at.ensures
+          (small_place i.section i.number i.limit i.next_offset i.strings.entries c.self.invariant p v c.requires (sym c.in-Some.ensures.value))
+          (there i.section i.number i.limit i.next_offset i.strings.entries c.self.invariant p v (sym c.in-Some.ensures.value)).1),
     )
 
 pub returns-then-len-self : goal.returns-then-len-self
@@ -61,4 +66,8 @@ returns c =
     let place : bucket_place i.number i.next_offset ≡ c.at-2.result = sym c.at-2.ensures in (
       subst (λ b. adding b p ≡ Ok c.at-2.result) c.self.view_is (r ∙ ap (λ (n : ℕ). Ok n) place),
       ap (bucket_by i.section i.number i.limit) entries ∙ subst (λ o. bucket_by i.section i.number i.limit (i.strings.entries ++ (s, i.next_offset) ∷ []) ≡ with_piece o p) c.self.view_is b,
+      subst (λ b. Tells b.number (place_in b.pieces p) c.at-2.result) c.self.view_is
+          (tells i.number i.next_offset (place_in (stored i.strings.entries) p) c.at-2.result c.at-2.ensures
+          (next_small i.section i.number i.limit i.next_offset i.strings.entries c.self.invariant p c.requires short)
+          (next_is i.section i.number i.limit i.next_offset i.strings.entries c.self.invariant p none)),
     )

@@ -5,7 +5,7 @@ use Rattle.lk_merge.specs.declared.inputs.StringMergeInputSection.{StringMergeIn
 use Rattle.lk_merge.specs.Hash.{fnv64}
 use Rattle.lk_merge.specs.Inputs.{input_of, padded_total}
 use Rattle.lk_merge.specs.Merging.{found_place}
-use Rattle.lk_merge.specs.OutputAddressTables.{IsPlaceAt}
+use Rattle.lk_merge.specs.Places.{IsPlaceAt}
 use Rattle.lk_merge.specs.Pieces.{MergeInput}
 use Rattle.lk_merge.proofs.Grouping.{start_at}
 use Rattle.lk_merge.proofs.PlaceInInput.{found_in, one_number}
@@ -28,5 +28,5 @@ returns c k x at is short =
     ∙ start_at (padded_total i.inputs) ss c.as_slice.ensures.places j found.0 (ap (λ (xs : List MergeInput). slice_get xs j) are ∙ found.1) c.index-as_slice-input.result c.index-as_slice-input.is
     ∙ ap (λ (n : ℕ). padded_total (take n (map input_of ss))) same ∙ ap (λ (xs : List MergeInput). padded_total (take k xs)) are in
     let place = found_in i.inputs i.buckets.items i.string_offsets c.self.invariant k x start c.args.offset c.find_string.result there short begins
-    (c.find_string.ensures ∙ sym (ap (λ (xs : List MergeInput). found_place fnv64 xs start c.args.offset) c.self.view_is)) in
+    (c.find_string.ensures.found ∙ sym (ap (λ (xs : List MergeInput). found_place fnv64 xs start c.args.offset) c.self.view_is)) in
     subst (λ (xs : List MergeInput). MatchOption c.find_string.result ⊥ (IsPlaceAt xs x c.args.offset)) c.self.view_is place

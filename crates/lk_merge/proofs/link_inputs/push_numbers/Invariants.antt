@@ -1,6 +1,0 @@
-use Rattle.std.proofs.Common.{◌≡◌, ◌++◌, replicate}
-use Rattle.lk_merge.proofs.link_inputs.push_numbers.Given as goal
-
--- the number once for each part so far
-abbrev pub invariant-loop-part : goal.invariant-loop-part
-invariant-loop-part l = l.numbers.items ≡ l.initial.numbers.items ++ replicate l._part-index l.number

@@ -1,8 +1,0 @@
-use Rattle.std.proofs.Common.{◌≡◌, ◌++◌, drop, map}
-use Rattle.std.specs.List.{enumerate_from, flat_map}
-use Rattle.lk_merge.specs.LinkInputs.{part_sections}
-use Rattle.lk_merge.proofs.link_inputs.section_of_parts.Given as goal
-
--- the numbers so far, followed by those of the sections that are left, are all
-abbrev pub invariant-loop-number : goal.invariant-loop-number
-invariant-loop-number l = l.numbers.items ++ flat_map (λ q. map (λ p. q.0) q.1.parts) (enumerate_from l.number (drop l.number l.sections)) ≡ part_sections l.sections
