@@ -2,6 +2,7 @@
 use Rattle.std.proofs.Common.{◌≡◌, ◌≢◌, ℕ, ◌+◌, ◌-◌, ◌≤◌, ◌<◌, true, List, length, Some, sym, ap, subst, ◌∙◌, inl, inr, arith}
 use Rattle.std.specs.Prelude.{slice_get}
 use Rattle.std.proofs.lemmas.Bool.{cases_lt}
+use Rattle.lk_link.specs.declared.options.OutputKind.TheVariants as output
 use Rattle.lk_link.specs.declared.plan.Plan.{Plan}
 use Rattle.lk_link.specs.declared.plan.PlanSection.{PlanSection}
 use Rattle.lk_link.specs.declared.plan.OrderEvent.TheVariants.{Section}
@@ -17,7 +18,7 @@ use Rattle.lk_place.specs.Setting.{IsReady, Setting, part_count}
 use Rattle.lk_place.specs.ThreadLocal.{free_memory}
 use Rattle.lk_place.proofs.Insides.{placed_in_range}
 use Rattle.lk_place.proofs.Ranges.{Follow, IsWithin, follow-disjoint, follow-within, rises}
-use Rattle.lk_place.proofs.Steps.{MovesNothing, file_follows, file_rises, memory_follows, memory_rises}
+use Rattle.lk_place.proofs.Steps.{MovesNothing, file_follows, file_rises, memory_follows, memory_rises, plain_plan, unmoved_plan}
 
 -- ---- the section of a part
 
@@ -110,17 +111,17 @@ file_ranges_are_disjoint setting states records ready is p q o other here there 
     (record { none = omega arith; rises = file_rises setting states records is; follows = λ k s less event has. file_follows setting states records is k s less event })
     p q o other (λ a. tt) (λ b. tt) (here.begins, here.ends) (there.begins, there.ends)
 
-memory_is_disjoint : (setting : Setting) (states : List Cursors) (records : List Record) → IsSoundlySet setting states records → MovesNothing setting.plan → MemoryIsDisjoint setting.plan records
-memory_is_disjoint setting states records set unmoved p q o other one two here there =
+memory_is_disjoint : (setting : Setting) (states : List Cursors) (records : List Record) → IsSoundlySet setting states records → MovesNothing setting.plan → setting.output ≢ output.Partial → MemoryIsDisjoint setting.plan records
+memory_is_disjoint setting states records set unmoved whole p q o other one two here there =
     let n : ℕ = length states - 1 in
     let has : (m : ℕ) → TakesMemory setting.plan m → (a : IsPlacedBefore setting n m) → has_memory setting.plan a.s ≡ true
     = λ m h a. ap (has_memory setting.plan) (section_one setting.plan a.s h.section m (placed_of setting n m set.ready a) h.part) ∙ h.memory in
     apart (λ r. r.mem_offset) mem_end setting states records (λ k. free_memory (state_at states k)) (λ s. has_memory setting.plan s ≡ true) set.placed
-    (record { none = omega arith; rises = memory_rises setting states records set unmoved; follows = memory_follows setting states records set unmoved })
+    (record { none = omega arith; rises = memory_rises setting states records set unmoved; follows = memory_follows setting states records set unmoved whole })
     p q o other (has p one) (has q two) (here.begins, here.ends) (there.begins, there.ends)
 
 pub memory_ranges_are_disjoint : MemoryRangesAreDisjoint
-memory_ranges_are_disjoint setting states records set may = memory_is_disjoint setting states records set may.events
+memory_ranges_are_disjoint setting states records set may = memory_is_disjoint setting states records set (unmoved_plan setting.plan setting.output may) may.whole
 
 pub plain_memory_is_disjoint : PlainMemoryIsDisjoint
-plain_memory_is_disjoint setting states records set plain = memory_is_disjoint setting states records set plain.unmoved
+plain_memory_is_disjoint setting states records set plain = memory_is_disjoint setting states records set (plain_plan setting.plan setting.output plain) plain.whole

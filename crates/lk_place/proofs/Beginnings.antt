@@ -15,7 +15,7 @@ use Rattle.lk_place.specs.Base.{first_memory, known_first}
 use Rattle.lk_place.specs.Constants.{constants_of}
 use Rattle.lk_place.specs.Expressions.{Valued, expression_value}
 use Rattle.lk_place.specs.Regions.{regions_of}
-use Rattle.lk_place.specs.Start.{GivesBeginning, begun_memory, constants_by, memory_by}
+use Rattle.lk_place.specs.Start.{GivesBeginning, base_by, begun_memory, constants_by, memory_by}
 use Rattle.lk_place.specs.Surroundings.{early_operand}
 
 -- regions are few enough for their numbers
@@ -34,6 +34,16 @@ memory_given plan groups headers positions values regions regions' constants con
     let value : List (ℕ × ℕ) → List (Option Valued) → Result ℕ PlaceError = λ rs cs. first_memory plan headers (expression_value (early_operand (known_first groups headers rs cs positions)) plan.base) in
     let all : constants' ≡ constants_by groups headers values = same ∙ made ∙ ap (constants_by groups headers) is in
     sym (gives ∙ ap (λ rs. value rs constants') is' ∙ ap (value values) all ∙ ap (memory_by plan groups headers positions) given)
+
+-- the base, by regions and constants, is the value that was found
+pub based : (plan : Plan) (groups : List (List InputFile)) (headers : ℕ) (positions : List (Option SymbolPosition)) (values regions regions' : List (ℕ × ℕ)) (constants constants' : List (Option Valued)) (r : Valued)
+    → regions ≡ values → constants ≡ constants_of (record { groups = groups; headers = headers; regions = regions }) → regions' ≡ values → constants' ≡ constants
+    → r ≡ expression_value (early_operand (known_first groups headers regions' constants' positions)) plan.base
+    → base_by plan groups headers positions values ≡ r
+based plan groups headers positions values regions regions' constants constants' r is made is' same gives =
+    let value : List (ℕ × ℕ) → List (Option Valued) → Valued = λ rs cs. expression_value (early_operand (known_first groups headers rs cs positions)) plan.base in
+    let all : constants' ≡ constants_by groups headers values = same ∙ made ∙ ap (constants_by groups headers) is in
+    sym (gives ∙ ap (λ rs. value rs constants') is' ∙ ap (value values) all)
 
 gives_refusal : (plan : Plan) (groups : List (List InputFile)) (headers : ℕ) (positions : List (Option SymbolPosition)) (x : PlaceError) → begun_memory plan groups headers positions ≡ Err x → GivesBeginning plan groups headers positions (Err x)
 gives_refusal plan groups headers positions NoMemory h = tt

@@ -1,5 +1,5 @@
 -- What the walk gives is the placement or its first refusal.
-use Rattle.std.proofs.Common.{◌≡◌, ℕ, ◌<◌, List, [], ◌∷◌, ◌++◌, length, take, drop, Option, Some, None, refl, sym, ap, subst, ◌∙◌, arith}
+use Rattle.std.proofs.Common.{◌≡◌, ℕ, ◌+◌, ◌<◌, List, [], ◌∷◌, ◌++◌, length, take, drop, Option, Some, None, refl, sym, ap, subst, ◌∙◌, arith}
 use Rattle.std.specs.Prelude.{slice_get, Result, Ok, Err, IsErrAnd}
 use Rattle.std.proofs.Math.Seq.{take-append_seam}
 use Rattle.std.proofs.lemmas.Option.{slice_get_within}
@@ -11,15 +11,18 @@ use Rattle.lk_place.specs.declared.error.PlaceError.TheVariants.{AddressOverflow
 use Rattle.lk_place.specs.declared.start.Beginning.{Beginning}
 use Rattle.lk_place.specs.declared.walk.Placed.{Placed}
 use Rattle.lk_place.specs.Answers.{ArePlaced, GivesPlaced, IsRefused}
-use Rattle.lk_place.specs.Placement.{first_refusal, refusal_behind, refusal_of}
+use Rattle.std.specs.List.{enumerate_from, flat_map}
+use Rattle.lk_place.specs.Counters.{counters_of, told_counter}
+use Rattle.lk_place.specs.Placement.{first_refusal, refusal_behind, refusal_of, state_at}
 use Rattle.lk_place.specs.PlacedBefore.{Known}
 use Rattle.lk_place.specs.Plans.{IsPlaceable}
 use Rattle.lk_place.specs.Records.{Record, record_at}
+use Rattle.lk_place.specs.Regions.{given_regions}
 use Rattle.lk_place.specs.Segments.{section_records}
 use Rattle.lk_place.specs.Setting.{IsReady, Setting}
-use Rattle.lk_place.specs.Start.{GivesBeginning, IsBegun, cursors_at, first_cursors, start}
-use Rattle.lk_place.specs.Walk.{AllPass, StopsBy, cursors_after, first_state, known_after, record_after}
-use Rattle.lk_place.proofs.WalkLaws.{IsWalk, made_walk, records_to, states_to, unbegun, walk_is_placed, walk_known, walk_refusal}
+use Rattle.lk_place.specs.Start.{GivesBeginning, IsBegun, base_by, base_value, cursors_at, first_cursors, start}
+use Rattle.lk_place.specs.Walk.{AllPass, GivesWalked, StopsBy, counters_after, told_after, cursors_after, first_state, known_after, record_after}
+use Rattle.lk_place.proofs.WalkLaws.{IsWalk, made_walk, records_to, states_to, state_is, unbegun, walk_is_placed, walk_known, walk_refusal}
 use Rattle.lk_place.proofs.WalkSteps.{starts}
 
 -- there is nothing behind the end
@@ -36,11 +39,27 @@ refused_there : (setting : Setting) (known : Known) (k : ℕ) (c : Cursors) (e :
 refused_there setting known k c e None at h = absurd (cc)
 refused_there setting known k c e (Some x) at h = slice_get_within setting.plan.events k x at
 
+-- what events tell of the location counter is what the states tell
+told_alike : (f g : ℕ × OrderEvent → List ℕ) (i : ℕ) (xs : List OrderEvent) → ((j : ℕ) (e : OrderEvent) → j < i + length xs → f (j, e) ≡ g (j, e))
+    → flat_map f (enumerate_from i xs) ≡ flat_map g (enumerate_from i xs)
+told_alike f g i [] same = refl
+told_alike f g i (x ∷ xs) same =
+    ap (λ (ns : List ℕ). ns ++ flat_map f (enumerate_from (i + 1) xs)) (same i x (omega arith))
+    ∙ ap (λ (ns : List ℕ). g (i, x) ++ ns) (told_alike f g (i + 1) xs (λ j e less. same j e (omega (arith, less))))
+
+counters_are : (setting : Setting) (base : ℕ) → base ∷ counters_after setting ≡ counters_of setting.plan (states_to setting (length setting.plan.events)) base
+counters_are setting base =
+    let n : ℕ = length setting.plan.events in
+    ap (λ (ns : List ℕ). base ∷ ns)
+    (told_alike (told_after setting) (λ q. told_counter q.1 (state_at (states_to setting n) (q.0 + 1)).pending) 0 setting.plan.events
+    (λ j e less. ap (λ (c : Cursors). told_counter e c.pending) (sym (state_is setting n (j + 1) (omega (arith, less))))))
+
 -- a walk to the end is the placement
-pub walked_placed : (setting : Setting) (records sections : List Record) → IsReady setting → start setting ≡ Ok (first_state setting) → IsPlaceable setting.plan setting.output → length records ≡ length (all_parts setting.plan.sections)
+pub walked_placed : (setting : Setting) (records sections : List Record) (counters : List ℕ) (base : ℕ) → IsReady setting → start setting ≡ Ok (first_state setting) → IsPlaceable setting.plan setting.output → length records ≡ length (all_parts setting.plan.sections)
     → AllPass setting (length setting.plan.events) → ((p : ℕ) → record_at records p ≡ record_after setting (length setting.plan.events) p)
-    → sections ≡ section_records setting.plan.sections records → ArePlaced setting (record { parts = records; sections = sections })
-walked_placed setting records sections ready starts may each pass at is =
+    → sections ≡ section_records setting.plan.sections records → base_value setting ≡ Ok base → counters ≡ base ∷ counters_after setting
+    → ArePlaced setting (record { parts = records; sections = sections; counters = counters })
+walked_placed setting records sections counters base ready starts may each pass at is based told =
     let n : ℕ = length setting.plan.events in
     let walk : IsWalk setting n records = record { ready = ready; starts = starts; within = omega arith; pass = pass; stops = λ none. refl; each = each; at = λ p below. at p } in
     record {
@@ -49,6 +68,9 @@ walked_placed setting records sections ready starts may each pass at is =
       unrefused = walk_refusal setting n records starts (walk_known setting n n records walk (omega arith))
           ∙ ap (λ (o : Option OrderEvent). refusal_of setting (known_after setting n) n o (cursors_after setting n)) (none_behind setting.plan.events);
       sections = is;
+      base = base;
+      based = based;
+      counters = told ∙ counters_are setting base;
     }
 
 -- a walk that stops tells the first refusal
@@ -56,11 +78,12 @@ pub stopped_refused : (setting : Setting) (e : PlaceError) → IsReady setting �
 stopped_refused setting e ready starts may stop =
     let n : ℕ = stop.k in
     let there : n < length setting.plan.events = refused_there setting (known_after setting n) n (cursors_after setting n) e (slice_get setting.plan.events n) refl stop.here in
+    let walk : IsWalk setting n (records_to setting n) = made_walk setting n ready starts (omega arith) stop.before (λ none. absurd (cc (stop.here))) in
     record {
       states = states_to setting n;
       records = records_to setting n;
-      is = walk_is_placed setting n (records_to setting n) may (made_walk setting n ready starts (omega arith) stop.before (λ none. absurd (cc (stop.here))));
-      refused = walk_refusal setting n (records_to setting n) starts refl ∙ stop.here;
+      is = walk_is_placed setting n (records_to setting n) may walk;
+      refused = walk_refusal setting n (records_to setting n) starts (walk_known setting n n (records_to setting n) walk (omega arith)) ∙ stop.here;
     }
 
 -- a start that is refused tells its refusal
@@ -86,24 +109,31 @@ told_begun setting x (OutsideRegion event address) same other gives = ap cursors
 told_begun setting x (LocationBackwards from to) same other gives = ap cursors_at gives ∙ ap (λ (y : PlaceError). Err y) (sym same)
 told_begun setting x (SectionOutsideSegments s) same other gives = ap cursors_at gives ∙ ap (λ (y : PlaceError). Err y) (sym same)
 
-refused_gives : (setting : Setting) (e : PlaceError) → IsRefused setting e → GivesPlaced setting (Err e)
-refused_gives setting NoMemory refused = tt
-refused_gives setting (AddressOverflow place) refused = refused
-refused_gives setting (RegionDuplicate region) refused = refused
-refused_gives setting (Expression place cause) refused = refused
-refused_gives setting (BaseTooLow base headers) refused = refused
-refused_gives setting (RegionUnknown s) refused = refused
-refused_gives setting (RegionOverflow region by) refused = refused
-refused_gives setting (OutsideRegion event address) refused = refused
-refused_gives setting (LocationBackwards from to) refused = refused
-refused_gives setting (SectionOutsideSegments s) refused = refused
+stopped_gives : (setting : Setting) (x : PlaceError) → IsReady setting → start setting ≡ Ok (first_state setting) → IsPlaceable setting.plan setting.output
+    → (records : List Record) (before counters : List ℕ) → GivesWalked setting (Err x) records before counters → GivesPlaced setting (Err x)
+stopped_gives setting NoMemory ready starts may records before counters stop = tt
+stopped_gives setting (AddressOverflow place) ready starts may records before counters stop = stopped_refused setting (AddressOverflow place) ready starts may stop
+stopped_gives setting (RegionDuplicate region) ready starts may records before counters stop = stopped_refused setting (RegionDuplicate region) ready starts may stop
+stopped_gives setting (Expression place cause) ready starts may records before counters stop = stopped_refused setting (Expression place cause) ready starts may stop
+stopped_gives setting (BaseTooLow base headers) ready starts may records before counters stop = stopped_refused setting (BaseTooLow base headers) ready starts may stop
+stopped_gives setting (RegionUnknown s) ready starts may records before counters stop = stopped_refused setting (RegionUnknown s) ready starts may stop
+stopped_gives setting (RegionOverflow region by) ready starts may records before counters stop = stopped_refused setting (RegionOverflow region by) ready starts may stop
+stopped_gives setting (OutsideRegion event address) ready starts may records before counters stop = stopped_refused setting (OutsideRegion event address) ready starts may stop
+stopped_gives setting (LocationBackwards from to) ready starts may records before counters stop = stopped_refused setting (LocationBackwards from to) ready starts may stop
+stopped_gives setting (SectionOutsideSegments s) ready starts may records before counters stop = stopped_refused setting (SectionOutsideSegments s) ready starts may stop
 
 -- the same where it is handed on
-pub refused_answer : (setting : Setting) (r : Result Placed PlaceError) (e : PlaceError) → IsReady setting → start setting ≡ Ok (first_state setting) → IsPlaceable setting.plan setting.output → IsErrAnd r (λ x. x ≡ e) → StopsBy setting e → GivesPlaced setting r
-refused_answer setting (Ok placed) e ready starts may h stop = absurd h
-refused_answer setting (Err x) e ready starts may h stop = refused_gives setting x (stopped_refused setting x ready starts may (subst (StopsBy setting) (sym h) stop))
+pub refused_answer : (setting : Setting) (r : Result Placed PlaceError) (e : PlaceError) → IsReady setting → start setting ≡ Ok (first_state setting) → IsPlaceable setting.plan setting.output → IsErrAnd r (λ x. x ≡ e)
+    → (records : List Record) (before counters : List ℕ) → GivesWalked setting (Err e) records before counters → GivesPlaced setting r
+refused_answer setting (Ok placed) e ready starts may h records before counters stop = absurd h
+refused_answer setting (Err x) e ready starts may h records before counters stop =
+    stopped_gives setting x ready starts may records before counters (subst (λ (y : PlaceError). GivesWalked setting (Err y) records before counters) (sym h) stop)
 
 -- the walk begins where the beginning says
+-- the base has the value that the beginning says
+pub based_at : (setting : Setting) (b : Beginning) → IsBegun setting.plan setting.groups setting.headers setting.positions b → base_value setting ≡ Ok b.base
+based_at setting b h = ap (λ (r : Result (List (ℕ × ℕ)) PlaceError). base_by setting.plan setting.groups setting.headers setting.positions (given_regions r)) h.regions ∙ h.base
+
 pub begins_at : (setting : Setting) (b : Beginning) → IsBegun setting.plan setting.groups setting.headers setting.positions b → start setting ≡ Ok (first_cursors b.memory)
 begins_at setting b h = ap cursors_at h.memory
 

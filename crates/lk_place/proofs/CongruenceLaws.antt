@@ -14,8 +14,8 @@ use Rattle.lk_link.proofs.PartNumbers.{first_part-suc}
 use Rattle.lk_place.specs.declared.cursors.Cursors.{Cursors}
 use Rattle.lk_place.specs.Alignments.{place_alignment}
 use Rattle.lk_place.specs.Laws.{IsSoundlySet, PlainMemoryIsCongruent}
-use Rattle.lk_place.specs.PlacedBefore.{Known, known_before}
-use Rattle.lk_place.specs.Placement.{IsPlaced, Places, PlacesSection, Steps, moved, state_at}
+use Rattle.lk_place.specs.PlacedBefore.{Known}
+use Rattle.lk_place.specs.Placement.{IsPlaced, known_before, Places, PlacesSection, Steps, moved, state_at}
 use Rattle.lk_place.specs.Plain.{IsLoadSegment, IsPlain, OpensLoad, PlacesInLoad, last_before}
 use Rattle.lk_place.specs.Ranges.{HasPart}
 use Rattle.lk_place.specs.Records.{Record, nowhere, record_at}
@@ -25,10 +25,10 @@ use Rattle.lk_place.proofs.AlignmentLaws.{place_aligned, place_reaches}
 use Rattle.lk_place.proofs.ApartLaws.{placed_of, section_one}
 use Rattle.lk_place.proofs.Congruent.{CursorsAgree, FreeAgrees, KeepsAgreement, StartsAgree, more_agrees, part_starts, section_leaves, unbacked_leaves}
 use Rattle.lk_place.proofs.Insides.{placed_in_range}
-use Rattle.lk_place.proofs.Moves.{Enters, Moves, Stays, Opened, Entered, enters, moves, opens_load}
+use Rattle.lk_place.proofs.Moves.{Enters, IsFree, Stays, Opened, Entered, enters, moves, opens_load}
 use Rattle.lk_place.proofs.OpenSegments.{open_before, section_event}
 use Rattle.lk_place.proofs.PlainScanLaws.{last_is, last_stays}
-use Rattle.lk_place.proofs.Steps.{MovesNothing, event_at, never_waits, nothing_first, step_at}
+use Rattle.lk_place.proofs.Steps.{MovesNothing, addressed, event_at, never_waits, nothing_first, plain_plan, step_at}
 
 -- ---- the walk
 
@@ -51,7 +51,7 @@ keeps setting states records i s k t u n from there backed agrees = record {
   there = placed_in_range setting.plan (Section u) u (t.set.ready.events.in_range n (Section u) there.places.here) refl;
   within = place_reaches setting i u n there.places;
   backed = backed;
-  allocated = t.plain.allocated i u n there;
+  addressed = addressed setting u (t.plain.allocated i u n there) t.plain.whole;
   agrees = agrees;
 }
 
@@ -63,11 +63,11 @@ first_of_two false b h none = absurd (cc)
 -- ---- what is saved
 
 -- an event that places nothing saves nothing
-unplaced_saves : (setting : Setting) (known : Known) (e : OrderEvent) (o : Option ℕ) (from entered to : Cursors) (records : List Record) → IsAboutPlace e → from.pending ≡ None → placed_section e ≡ o → o ≡ None
+unplaced_saves : (setting : Setting) (known : Known) (e : OrderEvent) (o : Option ℕ) (from entered to : Cursors) (records : List Record) → IsFree setting.plan → IsAboutPlace e → from.pending ≡ None → placed_section e ≡ o → o ≡ None
     → moved setting known e from ≡ Ok entered → Places setting o entered records to → to.saved ≡ from.saved
-unplaced_saves setting known e (Some s) from entered to records about quiet named none h places = absurd (cc)
-unplaced_saves setting known e None from entered to records about quiet named none h places =
-    elim (moves setting known e from entered about quiet h) [
+unplaced_saves setting known e (Some s) from entered to records free about quiet named none h places = absurd (cc)
+unplaced_saves setting known e None from entered to records free about quiet named none h places =
+    elim (moves setting known e from entered free about quiet h) [
       | Stays same ↦ ap (λ (c : Cursors). c.saved) places ∙ ap (λ (c : Cursors). c.saved) same
       | Opened opens ↦ ap (λ (c : Cursors). c.saved) places ∙ opens.saved
       | Entered s is enters ↦ let place : Some s ≡ None = ap placed_section (sym is) ∙ named in absurd (cc)
@@ -81,19 +81,19 @@ nothing_saved setting states records is unmoved (suc n) less filled =
     let events : List OrderEvent = setting.plan.events in
     let event = event_at setting states records n is (omega arith) in
     let e : OrderEvent = event.0 in
-    let known : Known = known_before setting.plan records n in
-    let about : IsAboutPlace e = unmoved n e event.1 in
+    let known : Known = known_before setting states records n in
+    let about : IsAboutPlace e = unmoved.events n e event.1 in
     let quiet : (state_at states n).pending ≡ None = never_waits setting states records is unmoved n (omega arith) in
     let step : Steps setting known e (state_at states n) records (state_at states (n + 1)) = step_at setting states records n e is (omega arith) event.1 in
     ap (λ (m : ℕ). (state_at states m).saved) (sym (add-one n))
     ∙ elim (placed_section e) as (λ (o : Option ℕ). placed_section e ≡ o → Places setting o step.entered records (state_at states (n + 1)) → (state_at states (n + 1)).saved ≡ None) [
       | None ↦ λ none places.
-          unplaced_saves setting known e None (state_at states n) step.entered (state_at states (n + 1)) records about quiet none refl step.moves places
+          unplaced_saves setting known e None (state_at states n) step.entered (state_at states (n + 1)) records unmoved.free about quiet none refl step.moves places
           ∙ nothing_saved setting states records is unmoved n (omega arith) (λ s last. filled s (last_stays None events n e event.1 none ∙ last))
       | (Some s) ↦ λ named places.
           let at : e ≡ Section s = section_event e s named in
           let last : last_before events (suc n) ≡ Some s = last_is None events n s (event.1 ∙ ap (λ (x : OrderEvent). Some x) at) in
-          let begun = enters setting known s (state_at states n) step.entered quiet (ap (λ (x : OrderEvent). moved setting known x (state_at states n)) (sym at) ∙ step.moves) in
+          let begun = enters setting known s (state_at states n) step.entered unmoved.free quiet (ap (λ (x : OrderEvent). moved setting known x (state_at states n)) (sym at) ∙ step.moves) in
           ap (λ (c : Cursors). c.saved) places.leaves ∙ (begun.taken (filled s last)).1
     ] refl step.places
 
@@ -164,10 +164,11 @@ step_agrees : (setting : Setting) (states : List Cursors) (records : List Record
     → from.pending ≡ None → FreeAgrees (place_alignment setting i) from → Steps setting known e from records to → FreeAgrees (place_alignment setting i) to
 step_agrees setting states records i s k t n known e from to less here opened quiet h step =
     let about : IsAboutPlace e = t.plain.unmoved n e here in
+    let free : IsFree setting.plan = (plain_plan setting.plan setting.output t.plain).free in
     let place : ℕ = place_alignment setting i in
     elim (placed_section e) as (λ (o : Option ℕ). placed_section e ≡ o → Places setting o step.entered records to → FreeAgrees place to) [
       | None ↦ λ none places.
-          elim (moves setting known e from step.entered about quiet step.moves) [
+          elim (moves setting known e from step.entered free about quiet step.moves) [
             | Stays same ↦ stays_agree setting place e None step.entered to records none refl (subst (FreeAgrees place) (sym same) h) places
             | Opened opens ↦
                 let other : OpensLoad setting.plan opens.segment n = record { load = opens.load; here = here ∙ ap (λ (x : OrderEvent). Some x) opens.is } in
@@ -178,7 +179,7 @@ step_agrees setting states records i s k t n known e from to less here opened qu
       | (Some u) ↦ λ named places.
           let at : e ≡ Section u = section_event e u named in
           let there : PlacesInLoad setting.plan i u n = record { load = t.places.load; places = record { here = here ∙ ap (λ (x : OrderEvent). Some x) at; inside = opened } } in
-          let begun = enters setting known u from step.entered quiet (ap (λ (x : OrderEvent). moved setting known x from) (sym at) ∙ step.moves) in
+          let begun = enters setting known u from step.entered free quiet (ap (λ (x : OrderEvent). moved setting known x from) (sym at) ∙ step.moves) in
           section_agrees setting states records i s k t u n from step.entered to less there begun h places
     ] refl step.places
 
@@ -191,14 +192,14 @@ open_agrees setting states records i s k t (suc n) le opened =
     let early : n < length states - 1 = omega (arith, t.early) in
     let event = event_at setting states records n t.set.placed early in
     let e : OrderEvent = event.0 in
-    let known : Known = known_before setting.plan records n in
-    let quiet : (state_at states n).pending ≡ None = never_waits setting states records t.set.placed t.plain.unmoved n (omega arith) in
+    let known : Known = known_before setting states records n in
+    let quiet : (state_at states n).pending ≡ None = never_waits setting states records t.set.placed (plain_plan setting.plan setting.output t.plain) n (omega arith) in
     let step : Steps setting known e (state_at states n) records (state_at states (n + 1)) = step_at setting states records n e t.set.placed early event.1 in
     let agrees : FreeAgrees place (state_at states (n + 1))
     = elim (is_start i e) as (λ b. is_start i e ≡ b → FreeAgrees place (state_at states (n + 1))) [
       | true ↦ λ is.
           let opens : OpensLoad setting.plan i n = record { load = t.places.load; here = event.1 ∙ ap (λ (x : OrderEvent). Some x) (is_that_start i e is) } in
-          let unsaved = nothing_saved setting states records t.set.placed t.plain.unmoved n (omega arith) (λ s last. t.plain.settled i n s opens last) in
+          let unsaved = nothing_saved setting states records t.set.placed (plain_plan setting.plan setting.output t.plain) n (omega arith) (λ s last. t.plain.settled i n s opens last) in
           opens_agree setting states records known i (state_at states n) (state_at states (n + 1)) t.set quiet t.places.load unsaved
           (subst (λ x. Steps setting known x (state_at states n) records (state_at states (n + 1))) (is_that_start i e is) step)
       | false ↦ λ unopened.
@@ -217,10 +218,10 @@ placed_agree setting states records i s k j t below =
     let place : ℕ = place_alignment setting i in
     let from : Cursors = state_at states k in
     let agrees : FreeAgrees place from = open_agrees setting states records i s k t k (omega arith) t.places.places.inside in
-    let known : Known = known_before setting.plan records k in
-    let quiet : from.pending ≡ None = never_waits setting states records t.set.placed t.plain.unmoved k (omega (arith, t.early)) in
+    let known : Known = known_before setting states records k in
+    let quiet : from.pending ≡ None = never_waits setting states records t.set.placed (plain_plan setting.plan setting.output t.plain) k (omega (arith, t.early)) in
     let step : Steps setting known (Section s) from records (state_at states (k + 1)) = step_at setting states records k (Section s) t.set.placed t.early t.places.places.here in
-    let begun = enters setting known s from step.entered quiet step.moves in
+    let begun = enters setting known s from step.entered (plain_plan setting.plan setting.output t.plain).free quiet step.moves in
     let filled : is_zero_fill_thread_local setting.plan s ≡ false = elim (cases_Bool (is_zero_fill_thread_local setting.plan s)) [
       | inl fills ↦ let unbacked = t.plain.zero_fill i s k t.places fills in absurd (cc)
       | inr none ↦ none

@@ -8,7 +8,7 @@ use Rattle.std.proofs.lemmas.List.{get_or_past}
 use Rattle.lk_link.specs.declared.plan.PlanPart.{PlanPart}
 use Rattle.lk_link.specs.Alignments.{is_alignment, IsLeastMultiple}
 use Rattle.lk_link.specs.Parts.{all_parts, part_at}
-use Rattle.lk_link.specs.PlanSections.{is_allocated, is_file_backed}
+use Rattle.lk_link.specs.PlanSections.{is_file_backed}
 use Rattle.lk_link.proofs.Powers.{alignment-pos, alignment_divides, min_aligned}
 use Rattle.lk_link.proofs.Starts.{next_multiple_is_least}
 use Rattle.lk_place.specs.declared.cursors.Cursors.{Cursors}
@@ -16,7 +16,7 @@ use Rattle.lk_place.specs.declared.cursors.Offsets.{Offsets}
 use Rattle.lk_place.specs.Alignments.{section_alignment}
 use Rattle.lk_place.specs.Placement.{IsPlacedAt, PlacesSection, behind, first_walked, is_walked, reached, section_start, walk_alignment}
 use Rattle.lk_place.specs.Records.{Record, record_at}
-use Rattle.lk_place.specs.Setting.{IsReady, Setting, part_count, part_number, size_at}
+use Rattle.lk_place.specs.Setting.{IsReady, Setting, part_count, part_number, size_at, takes_addresses}
 use Rattle.lk_place.specs.ThreadLocal.{free_memory}
 use Rattle.lk_place.proofs.AlignmentLaws.{section_aligned}
 use Rattle.lk_place.proofs.Checked.{one_aligned}
@@ -98,7 +98,7 @@ pub record KeepsAgreement (setting : Setting) (place s : ℕ) (from : Cursors) :
   pub there : s < length setting.plan.sections
   pub within : section_alignment setting s ≤ place
   pub backed : is_file_backed setting.plan s ≡ true
-  pub allocated : is_allocated setting.plan s ≡ true
+  pub addressed : takes_addresses setting s ≡ true
   pub agrees : CursorsAgree place from
 
 -- a walked part is placed with its bytes in the file
@@ -113,7 +113,7 @@ walked_at setting place s j from to records k h below walked =
 -- the cursors behind each part agree
 reached_agrees : (setting : Setting) (place s j : ℕ) (from to : Cursors) (records : List Record) → KeepsAgreement setting place s from → PlacesSection setting s from records to
     → j ≤ part_count setting.plan.sections s → OffsetsAgree place (reached setting s records (section_start setting s from) j)
-reached_agrees setting place s zero from to records k h le = ap (λ b. (if b then from.memory else 0) % place) k.allocated ∙ k.agrees
+reached_agrees setting place s zero from to records k h le = ap (λ b. (if b then from.memory else 0) % place) k.addressed ∙ k.agrees
 reached_agrees setting place s (suc j) from to records k h le =
     let p : ℕ = part_number setting.plan.sections s j in
     let aligned = walk_aligned setting s p k.ready in
@@ -124,7 +124,7 @@ reached_agrees setting place s (suc j) from to records k h le =
 pub section_leaves : (setting : Setting) (place s : ℕ) (from to : Cursors) (records : List Record) → KeepsAgreement setting place s from → PlacesSection setting s from records to → CursorsAgree place to
 section_leaves setting place s from to records k h =
     let end : Offsets = reached setting s records (section_start setting s from) (part_count setting.plan.sections s) in
-    let memory : to.memory ≡ end.memory = ap (λ (c : Cursors). c.memory) h.leaves ∙ ap (λ b. if b then end.memory else from.memory) k.allocated in
+    let memory : to.memory ≡ end.memory = ap (λ (c : Cursors). c.memory) h.leaves ∙ ap (λ b. if b then end.memory else from.memory) k.addressed in
     let file : to.file ≡ end.file = ap (λ (c : Cursors). c.file) h.leaves in
     ap (λ n. n % place) memory ∙ reached_agrees setting place s (part_count setting.plan.sections s) from to records k h (omega arith) ∙ ap (λ n. n % place) (sym file)
 

@@ -1,7 +1,7 @@
 -- What expressions read of what earlier events place goes by the records of just that.
-use Rattle.std.proofs.Common.{◌≡◌, ℕ, ◌+◌, ◌-◌, ◌≤◌, ◌<◌, Bool, true, false, List, length, take, drop, Option, Some, None, refl, sym, ap, subst, ◌∙◌, arith, eq-eqb}
-use Rattle.std.specs.Prelude.{if◌then◌else◌, slice_get, ◌==◌, OnOk, Result}
-use Rattle.std.specs.List.{list_any, slice_index_or}
+use Rattle.std.proofs.Common.{◌≡◌, ℕ, zero, suc, ◌+◌, ◌-◌, ◌≤◌, ◌<◌, Bool, true, false, List, length, take, drop, Option, Some, None, refl, sym, ap, subst, ◌∙◌, arith}
+use Rattle.std.specs.Prelude.{if◌then◌else◌, slice_get, OnOk, Result}
+use Rattle.std.specs.List.{list_any, slice_index, slice_index_or}
 use Rattle.std.proofs.Math.Path.{fun_ext}
 use Rattle.std.proofs.lemmas.Bool.{eqb-true}
 use Rattle.std.proofs.lemmas.List.{ext_get_or, get_or-drop, get_or-take, length-drop, length-take}
@@ -14,13 +14,14 @@ use Rattle.lk_link.proofs.PartNumbers.{first_part-le, first_part-suc}
 use Rattle.lk_link.proofs.Places.{found}
 use Rattle.lk_place.specs.declared.cursors.Cursors.{Cursors}
 use Rattle.lk_place.specs.declared.error.Refusal.{Refusal}
-use Rattle.lk_place.specs.Placement.{IsPlacedBefore, event_refusal}
-use Rattle.lk_place.specs.PlacedBefore.{Known, is_placing, is_placing_part, known_before, lies_in}
+use Rattle.lk_place.specs.Placement.{IsPlacedBefore, event_refusal, known_before, state_at}
+use Rattle.lk_place.specs.InRegions.{goes_on_by, places_in}
+use Rattle.lk_place.specs.PlacedBefore.{Known, Standing, is_placing, is_placing_part, lies_in, standing_before}
 use Rattle.lk_place.specs.Records.{Record, nowhere, record_at}
 use Rattle.lk_place.specs.Segments.{hull, part_records}
 use Rattle.lk_place.specs.Setting.{IsReady, Setting, part_count, part_number}
-use Rattle.lk_place.specs.Walk.{known_after, listed, record_after, recorded, records_after, stepped, unless}
-use Rattle.lk_place.proofs.WalkRecords.{among_is, record_kept, section_there}
+use Rattle.lk_place.specs.Walk.{GoesOn, cursors_after, goes_on_after, known_after, known_in, listed, walk_after, record_after, recorded, records_after, stepped, unless}
+use Rattle.lk_place.proofs.WalkRecords.{among_is, section_there}
 
 -- ---- what is placed before
 
@@ -87,10 +88,10 @@ parts_alike sections r r' s each each' below alike =
 
 -- ---- what is known
 
--- where the records of what is placed before are the same, so is what is known
-pub known_alike : (setting : Setting) (k : ℕ) (r r' : List Record) → IsReady setting → length r ≡ length (all_parts setting.plan.sections) → length r' ≡ length (all_parts setting.plan.sections)
-    → ((p : ℕ) → IsPlacedBefore setting k p → record_at r p ≡ record_at r' p) → known_before setting.plan r k ≡ known_before setting.plan r' k
-known_alike setting k r r' ready each each' alike =
+-- where the records of what is placed before are the same, so is what stands
+pub standing_alike : (setting : Setting) (k : ℕ) (r r' : List Record) → IsReady setting → length r ≡ length (all_parts setting.plan.sections) → length r' ≡ length (all_parts setting.plan.sections)
+    → ((p : ℕ) → IsPlacedBefore setting k p → record_at r p ≡ record_at r' p) → standing_before setting.plan r k ≡ standing_before setting.plan r' k
+standing_alike setting k r r' ready each each' alike =
     let sections : List PlanSection = setting.plan.sections in
     let section : List Record → ℕ → Option Record = λ rs s. if list_any (is_placing s) (take k setting.plan.events) then Some (hull (part_records sections rs s)) else None in
     let part : List Record → ℕ → Option Record = λ rs p. if list_any (is_placing_part sections p) (take k setting.plan.events) then Some (record_at rs p) else None in
@@ -109,7 +110,7 @@ known_alike setting k r r' ready each each' alike =
       | true ↦ λ is. ap (λ (x : Record). Some x) (alike p (part_placed setting k p is))
       | false ↦ λ is. refl
     ] refl) in
-    let of : (ℕ → Option Record) → (ℕ → Option Record) → Known = λ f g. record { section = f; part = g } in
+    let of : (ℕ → Option Record) → (ℕ → Option Record) → Standing = λ f g. record { section = f; part = g } in
     ap (λ f. of f (part r)) same_section ∙ ap (of (section r')) same_part
 
 -- ---- what the walk knows
@@ -117,20 +118,39 @@ known_alike setting k r r' ready each each' alike =
 listed_count : (setting : Setting) (f : ℕ → Record) → length (listed setting f) ≡ length (all_parts setting.plan.sections)
 listed_count setting f = length-made f (all_parts setting.plan.sections) 0
 
--- records that agree with those behind the first k events on what these place tell what the walk knows
-pub known_is : (setting : Setting) (k : ℕ) (r : List Record) → IsReady setting → length r ≡ length (all_parts setting.plan.sections)
-    → ((p : ℕ) → IsPlacedBefore setting k p → record_at r p ≡ record_at (records_after setting k) p) → known_before setting.plan r k ≡ known_after setting k
-known_is setting k r ready each alike = known_alike setting k r (records_after setting k) ready each (listed_count setting (record_after setting k)) alike
+-- where memory is the walk's behind each event, so is where a region goes on
+went_alike : (setting : Setting) (memory : ℕ → ℕ) (k r : ℕ) → ((j : ℕ) → j ≤ k → memory j ≡ (cursors_after setting j).memory) → goes_on_by setting memory k r ≡ goes_on_after setting k r
+unfolding walk_after
+went_alike setting memory zero r same = refl
+went_alike setting memory (suc k) r same =
+    let hit : Bool = places_in setting.plan r (slice_get setting.plan.events k) in
+    ap (λ (m : ℕ). if hit then m else goes_on_by setting memory k r) (same (suc k) (omega arith))
+    ∙ ap (λ (m : ℕ). if hit then (cursors_after setting (suc k)).memory else m) (went_alike setting memory k r (λ j le. same j (omega arith)))
+
+abbrev known_of : Standing → (ℕ → ℕ) → Known
+known_of standing goes_on = record { standing = standing; goes_on = goes_on }
+
+-- states and records that agree with those of the walk up to event k tell what the walk knows
+pub known_is : (setting : Setting) (k : ℕ) (states : List Cursors) (r : List Record) → IsReady setting → length r ≡ length (all_parts setting.plan.sections)
+    → ((p : ℕ) → IsPlacedBefore setting k p → record_at r p ≡ record_at (records_after setting k) p)
+    → ((j : ℕ) → j ≤ k → state_at states j ≡ cursors_after setting j) → known_before setting states r k ≡ known_after setting k
+known_is setting k states r ready each alike same =
+    let memory : ℕ → ℕ = λ j. (state_at states j).memory in
+    let standing = standing_alike setting k r (records_after setting k) ready each (listed_count setting (record_after setting k)) alike in
+    let goes_on : goes_on_by setting memory k ≡ goes_on_after setting k = fun_ext (λ q. went_alike setting memory k q (λ j le. ap (λ (c : Cursors). c.memory) (same j le))) in
+    ap (λ x. known_of x (goes_on_by setting memory k)) standing ∙ ap (known_of (standing_before setting.plan (records_after setting k) k)) goes_on
 
 -- a table of the records behind the first k events is their list
 pub table_is : (setting : Setting) (k : ℕ) (r : List Record) → length r ≡ length (all_parts setting.plan.sections) → ((p : ℕ) → record_at r p ≡ record_after setting k p)
     → r ≡ records_after setting k
 table_is setting k r each at = made_of_or (record_after setting k) nowhere r (all_parts setting.plan.sections) each (λ p below. at p)
 
--- what a table of the records behind the first k events tells is what the walk knows
-pub known_table : (setting : Setting) (k : ℕ) (r : List Record) → IsReady setting → length r ≡ length (all_parts setting.plan.sections) → ((p : ℕ) → record_at r p ≡ record_after setting k p)
-    → known_before setting.plan r k ≡ known_after setting k
-known_table setting k r ready each at = ap (λ rs. known_before setting.plan rs k) (table_is setting k r each at)
+-- what tables of the records and the regions behind the first k events tell is what the walk knows
+pub known_table : (setting : Setting) (k : ℕ) (r : List Record) (g : List ℕ) → length r ≡ length (all_parts setting.plan.sections) → ((p : ℕ) → record_at r p ≡ record_after setting k p)
+    → ((q : ℕ) → slice_index g q ≡ goes_on_after setting k q) → known_in setting.plan r g k ≡ known_after setting k
+known_table setting k r g each at goes_on =
+    let regions : slice_index g ≡ goes_on_after setting k = fun_ext (λ q. goes_on q) in
+    ap (λ rs. known_of (standing_before setting.plan rs k) (slice_index g)) (table_is setting k r each at) ∙ ap (known_of (standing_before setting.plan (records_after setting k) k)) regions
 
 -- what carrying out an event gave, by what the walk knows
 pub tried_as : (setting : Setting) (k : ℕ) (e : OrderEvent) (from : Cursors) (end : Result Cursors Refusal) {known : Known} → known ≡ known_after setting k
@@ -140,3 +160,7 @@ tried_as setting k e from end same gave = gave ∙ ap (λ (x : Known). unless (e
 pub recorded_as : (setting : Setting) (k : ℕ) (e : OrderEvent) (from : Cursors) (end : Result Cursors Refusal) (old new : ℕ → Record) {known : Known} → known ≡ known_after setting k
     → OnOk end ((p : ℕ) → new p ≡ recorded setting known (Some e) from p (old p)) → OnOk end ((p : ℕ) → new p ≡ recorded setting (known_after setting k) (Some e) from p (old p))
 recorded_as setting k e from end old new same writes = subst (λ (x : Known). OnOk end ((p : ℕ) → new p ≡ recorded setting x (Some e) from p (old p))) same writes
+
+pub went_as : (setting : Setting) (k : ℕ) (e : OrderEvent) (from : Cursors) (end : Result Cursors Refusal) (old new : List ℕ) {known : Known} → known ≡ known_after setting k
+    → OnOk end (GoesOn setting.plan (Some e) (stepped setting known (Some e) from) old new) → OnOk end (GoesOn setting.plan (Some e) (stepped setting (known_after setting k) (Some e) from) old new)
+went_as setting k e from end old new same writes = subst (λ (x : Known). OnOk end (GoesOn setting.plan (Some e) (stepped setting x (Some e) from) old new)) same writes

@@ -26,8 +26,11 @@ mod PlainScanLaws
 mod Ranges
 mod RefusalLaws
 mod RegionLaws
+mod SecondaryLaws
 mod SectionEnds
+mod SectionRegions
 mod SegmentAlignments
+mod SegmentFiles
 mod ShallowLinks
 mod Steps
 mod Tables

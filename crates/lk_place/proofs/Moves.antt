@@ -11,14 +11,18 @@ use Rattle.lk_link.specs.SegmentKinds.{is_load, segment_at}
 use Rattle.lk_link.specs.WellFormed.{IsAboutPlace}
 use Rattle.lk_place.specs.declared.cursors.Cursors.{Cursors}
 use Rattle.lk_place.specs.declared.error.Refusal.{Refusal}
-use Rattle.lk_place.specs.declared.error.Refusal.TheVariants.{Backwards, Overflow}
+use Rattle.lk_place.specs.declared.error.Refusal.TheVariants.{Backwards, Outside, Overflow}
+use Rattle.lk_place.specs.declared.regions.SectionRegion.{SectionRegion}
+use Rattle.lk_place.specs.declared.regions.SectionRegion.TheVariants.{Free, Undeclared, Within}
 use Rattle.lk_place.specs.Alignments.{place_alignment, section_alignments, thread_local_alignment, thread_local_ones}
+use Rattle.lk_place.specs.Expressions.{◌>>=◌}
+use Rattle.lk_place.specs.InRegions.{in_region, inside_region, lies_outside, span_of, stands_in}
 use Rattle.lk_place.specs.Locations.{awaiting, behind_start, moved_along, moves_file, taken, within_64}
 use Rattle.lk_place.specs.PlacedBefore.{Known, value_at}
-use Rattle.lk_place.specs.Placement.{memory_moved, moved, opened}
+use Rattle.lk_place.specs.Placement.{begun_section, memory_moved, moved, opened}
 use Rattle.lk_place.specs.Plain.{IsLoadSegment}
 use Rattle.lk_place.specs.Setting.{Setting}
-use Rattle.lk_place.specs.ThreadLocal.{begins_run, free_memory, padded, restoring, run_begun, run_begun_behind, saved_or_restored, saving}
+use Rattle.lk_place.specs.ThreadLocal.{begins_run, free_memory, padded, restoring, run_begun, saved_or_restored, saving}
 use Rattle.lk_place.proofs.AlignmentLaws.{greatest_of-least}
 use Rattle.lk_link.proofs.Starts.{next_multiple_is_least}
 
@@ -137,10 +141,29 @@ restores setting s from entered filled pads =
     let along : free_memory entered ≡ entered.memory = ap (λ (o : Option ℕ). unwrap_or o entered.memory) pads.saved in
     record { padding = pads.padding; file = pads.file; free = omega (arith, along, pads.memory); taken = λ none. (pads.memory, pads.saved); kept = λ is. absurd (cc); pending = pads.pending }
 
-pub enters : (setting : Setting) (known : Known) (s : ℕ) (from entered : Cursors) → from.pending ≡ None → moved setting known (Section s) from ≡ Ok entered → Enters setting s from entered
-enters setting known s from entered quiet h =
+-- no section stands in a region
+abbrev pub IsFree : Plan → Type 0
+IsFree plan = (s r : ℕ) → stands_in plan s ≡ Within r → ⊥
+
+-- a section that stands in none begins where memory goes on
+begins_freely : (setting : Setting) (goes_on : ℕ → ℕ) (s : ℕ) (from entered : Cursors) → IsFree setting.plan → begun_section setting goes_on s from ≡ Ok entered
+    → (taken setting.plan s (saved_or_restored setting.plan s from) from.pending >>= run_begun setting s (is_some from.pending)) ≡ Ok entered
+begins_freely setting goes_on s from entered free h =
     let saved : Cursors = saved_or_restored setting.plan s from in
-    let plainly : run_begun setting s false saved ≡ Ok entered = sym (ap (λ (o : Option ℕ). run_begun_behind setting s (is_some o) (taken setting.plan s saved o)) quiet) ∙ h in
+    let begun : SectionRegion → Result Cursors Refusal
+    = λ room. in_region goes_on s room saved >>= λ there. inside_region setting room there from.pending >>= λ inside. taken setting.plan s inside from.pending >>= run_begun setting s (is_some from.pending) in
+    elim (stands_in setting.plan s) as (λ room. stands_in setting.plan s ≡ room → begun room ≡ Ok entered
+    → (taken setting.plan s saved from.pending >>= run_begun setting s (is_some from.pending)) ≡ Ok entered) [
+      | Free ↦ λ is g. g
+      | Undeclared ↦ λ is g. absurd (cc)
+      | (Within r) ↦ λ is g. absurd (free s r is)
+    ] refl h
+
+pub enters : (setting : Setting) (known : Known) (s : ℕ) (from entered : Cursors) → IsFree setting.plan → from.pending ≡ None → moved setting known (Section s) from ≡ Ok entered → Enters setting s from entered
+enters setting known s from entered free quiet h =
+    let saved : Cursors = saved_or_restored setting.plan s from in
+    let plainly : run_begun setting s false saved ≡ Ok entered =
+    sym (ap (λ (o : Option ℕ). taken setting.plan s saved o >>= run_begun setting s (is_some o)) quiet) ∙ begins_freely setting known.goes_on s from entered free h in
     let pads : Pads setting s saved entered = run_pads setting s false saved entered plainly in
     elim (is_zero_fill_thread_local setting.plan s) as (λ b. is_zero_fill_thread_local setting.plan s ≡ b → Pads setting s (if b then saving from else restoring from) entered → Enters setting s from entered) [
       | true ↦ λ fills padded_too. saves setting s from entered fills padded_too
@@ -154,18 +177,18 @@ pub data Moves (setting : Setting) (e : OrderEvent) (from entered : Cursors) : T
   Opened : Opens setting e from entered → Moves setting e from entered
   Entered : (s : ℕ) → e ≡ Section s → Enters setting s from entered → Moves setting e from entered
 
-pub moves : (setting : Setting) (known : Known) (e : OrderEvent) (from entered : Cursors) → IsAboutPlace e → from.pending ≡ None → moved setting known e from ≡ Ok entered → Moves setting e from entered
-moves setting known (SegmentStart i) from entered about quiet h = elim (opens_so setting i from entered (sym (opens_quietly setting known i from quiet) ∙ h)) [ inl same ↦ Stays same | inr opens ↦ Opened opens ]
-moves setting known (SegmentEnd i) from entered about quiet h = Stays (same_of from entered (Ok from) refl h)
-moves setting known (Section s) from entered about quiet h = Entered s refl (enters setting known s from entered quiet h)
-moves setting known (SetLocation x) from entered about quiet h = absurd about
-moves setting known (SetLocationRelative x s) from entered about quiet h = absurd about
-moves setting known (SetSectionAddress x) from entered about quiet h = absurd about
+pub moves : (setting : Setting) (known : Known) (e : OrderEvent) (from entered : Cursors) → IsFree setting.plan → IsAboutPlace e → from.pending ≡ None → moved setting known e from ≡ Ok entered → Moves setting e from entered
+moves setting known (SegmentStart i) from entered free about quiet h = elim (opens_so setting i from entered (sym (opens_quietly setting known i from quiet) ∙ h)) [ inl same ↦ Stays same | inr opens ↦ Opened opens ]
+moves setting known (SegmentEnd i) from entered free about quiet h = Stays (same_of from entered (Ok from) refl h)
+moves setting known (Section s) from entered free about quiet h = Entered s refl (enters setting known s from entered free quiet h)
+moves setting known (SetLocation x) from entered free about quiet h = absurd about
+moves setting known (SetLocationRelative x s) from entered free about quiet h = absurd about
+moves setting known (SetSectionAddress x) from entered free about quiet h = absurd about
 
 -- no location waits behind it
-pub stays_quiet : (setting : Setting) (known : Known) (e : OrderEvent) (from entered : Cursors) → IsAboutPlace e → from.pending ≡ None → moved setting known e from ≡ Ok entered → entered.pending ≡ None
-stays_quiet setting known e from entered about quiet h =
-    elim (moves setting known e from entered about quiet h) [
+pub stays_quiet : (setting : Setting) (known : Known) (e : OrderEvent) (from entered : Cursors) → IsFree setting.plan → IsAboutPlace e → from.pending ≡ None → moved setting known e from ≡ Ok entered → entered.pending ≡ None
+stays_quiet setting known e from entered free about quiet h =
+    elim (moves setting known e from entered free about quiet h) [
       | Stays same ↦ ap (λ (c : Cursors). c.pending) same ∙ quiet
       | Opened opens ↦ opens.pending ∙ quiet
       | Entered s is begun ↦ begun.pending ∙ quiet
@@ -210,12 +233,42 @@ taken_file plan s from to (Some l) h =
       | false ↦ λ g. let same : there ≡ to = cc in let file : there.file ≡ to.file = ap (λ (c : Cursors). c.file) same in omega (arith, file)
     ] h
 
-begun_file : (setting : Setting) (s : ℕ) (took : Bool) (from entered : Cursors) (r : Result Cursors Refusal) → ((to : Cursors) → r ≡ Ok to → from.file ≤ to.file)
-    → run_begun_behind setting s took r ≡ Ok entered → from.file ≤ entered.file
-begun_file setting s took from entered (Ok to) rises h =
-    let pads : Pads setting s to entered = run_pads setting s took to entered h in
-    omega (arith, rises to refl, pads.file)
-begun_file setting s took from entered (Err refusal) rises h = absurd (cc)
+region_file : (goes_on : ℕ → ℕ) (s : ℕ) (room : SectionRegion) (from to : Cursors) → in_region goes_on s room from ≡ Ok to → from.file ≡ to.file
+region_file goes_on s Free from to h = let same : from ≡ to = cc in ap (λ (c : Cursors). c.file) same
+region_file goes_on s Undeclared from to h = absurd (cc)
+region_file goes_on s (Within r) from to h =
+    let there : Cursors = record from { memory = goes_on r } in
+    let same : there ≡ to = cc in
+    ap (λ (c : Cursors). c.file) same
+
+inside_stays : (setting : Setting) (room : SectionRegion) (from to : Cursors) (waiting : Option ℕ) → inside_region setting room from waiting ≡ Ok to → from ≡ to
+inside_stays setting Free from to waiting h = cc
+inside_stays setting Undeclared from to waiting h = cc
+inside_stays setting (Within r) from to None h = cc
+inside_stays setting (Within r) from to (Some l) h =
+    elim (lies_outside from.memory (span_of setting r).1 l) as (λ b. (if b then Err (Outside l) else Ok from) ≡ Ok to → from ≡ to) [ true ↦ λ g. absurd (cc) | false ↦ λ g. cc ] h
+
+run_file : (setting : Setting) (s : ℕ) (took : Bool) (from entered : Cursors) → run_begun setting s took from ≡ Ok entered → from.file ≤ entered.file
+run_file setting s took from entered h = let pads : Pads setting s from entered = run_pads setting s took from entered h in omega (arith, pads.file)
+
+-- two steps of which neither lets the file go back
+both_grow : (from entered : Cursors) (r : Result Cursors Refusal) (f : Cursors → Result Cursors Refusal) → ((to : Cursors) → r ≡ Ok to → from.file ≤ to.file)
+    → ((c to : Cursors) → f c ≡ Ok to → c.file ≤ to.file) → (r >>= f) ≡ Ok entered → from.file ≤ entered.file
+both_grow from entered (Ok to) f rises more h = omega (arith, rises to refl, more to entered h)
+both_grow from entered (Err refusal) f rises more h = absurd (cc)
+
+begun_file : (setting : Setting) (goes_on : ℕ → ℕ) (s : ℕ) (from entered : Cursors) → begun_section setting goes_on s from ≡ Ok entered → from.file ≤ entered.file
+begun_file setting goes_on s from entered h =
+    let room : SectionRegion = stands_in setting.plan s in
+    let waiting : Option ℕ = from.pending in
+    let run : Cursors → Result Cursors Refusal = run_begun setting s (is_some waiting) in
+    let take : Cursors → Result Cursors Refusal = λ inside. taken setting.plan s inside waiting >>= run in
+    let stay : Cursors → Result Cursors Refusal = λ there. inside_region setting room there waiting >>= take in
+    let saved : Cursors = saved_or_restored setting.plan s from in
+    both_grow from entered (in_region goes_on s room saved) stay (λ to is. omega (arith, saved_file setting.plan s from, region_file goes_on s room saved to is))
+    (λ there to. both_grow there to (inside_region setting room there waiting) take (λ inside is. omega (arith, ap (λ (c : Cursors). c.file) (inside_stays setting room there inside waiting is)))
+    (λ inside end. both_grow inside end (taken setting.plan s inside waiting) run (λ c is. taken_file setting.plan s inside c waiting is) (λ c last is. run_file setting s (is_some waiting) c last is)))
+    h
 
 pub file_grows : (setting : Setting) (known : Known) (e : OrderEvent) (from entered : Cursors) → moved setting known e from ≡ Ok entered → from.file ≤ entered.file
 file_grows setting known (SegmentStart i) from entered h =
@@ -224,10 +277,8 @@ file_grows setting known (SegmentStart i) from entered h =
       | false ↦ λ g. omega (arith, ap (λ (c : Cursors). c.file) (same_of from entered (Ok from) refl g))
     ] h
 file_grows setting known (SegmentEnd i) from entered h = omega (arith, ap (λ (c : Cursors). c.file) (same_of from entered (Ok from) refl h))
-file_grows setting known (Section s) from entered h =
-    begun_file setting s (is_some from.pending) from entered (taken setting.plan s (saved_or_restored setting.plan s from) from.pending)
-    (λ to is. omega (arith, saved_file setting.plan s from, taken_file setting.plan s (saved_or_restored setting.plan s from) to from.pending is)) h
-file_grows setting known (SetLocation x) from entered h = awaits from entered (value_at setting known from x) h
+file_grows setting known (Section s) from entered h = begun_file setting known.goes_on s from entered h
+file_grows setting known (SetLocation x) from entered h = awaits from entered (value_at setting known.standing from x) h
 file_grows setting known (SetLocationRelative x s) from entered h =
-    awaits from entered (behind_start (known.section (primary_of setting.plan.sections s)) (value_at setting known from x)) h
-file_grows setting known (SetSectionAddress x) from entered h = awaits from entered (value_at setting known from x) h
+    awaits from entered (behind_start (known.standing.section (primary_of setting.plan.sections s)) (value_at setting known.standing from x)) h
+file_grows setting known (SetSectionAddress x) from entered h = awaits from entered (value_at setting known.standing from x) h

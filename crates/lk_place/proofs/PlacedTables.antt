@@ -1,33 +1,28 @@
 -- A table of the events that place parts tells what is placed before an event.
-use Rattle.std.proofs.Common.{◌≡◌, ℕ, zero, suc, ◌+◌, ◌-◌, ◌≤◌, ◌<◌, Bool, true, false, cond, List, length, take, Option, Some, None, refl, sym, ap, subst, ◌∙◌, arith, inl, inr, eq-eqb, add-zero}
-use Rattle.std.specs.Prelude.{◌&&◌, ◌==◌, if◌then◌else◌, nat_le, nat_lt, slice_get, slice_index, Result, Ok, Err}
-use Rattle.std.specs.List.{list_any, slice_index_or}
+use Rattle.std.proofs.Common.{◌≡◌, ℕ, ◌+◌, ◌<◌, Bool, true, false, cond, List, length, take, Option, Some, None, refl, sym, ap, ◌∙◌, arith, inl, inr, eq-eqb, add-zero}
+use Rattle.std.specs.Prelude.{◌&&◌, if◌then◌else◌, nat_le, nat_lt, slice_get, slice_index}
+use Rattle.std.specs.List.{list_any}
 use Rattle.std.specs.Option.{option_map_or}
 use Rattle.std.proofs.Math.Path.{fun_ext}
-use Rattle.std.proofs.lemmas.Bool.{cases_Bool, cases_lt}
+use Rattle.std.proofs.lemmas.Bool.{cases_lt}
 use Rattle.std.proofs.lemmas.Bool.Decides.{nat_tests}
 use Rattle.std.proofs.lemmas.Option.{slice_get-get_or, slice_get_past, slice_get_within}
-use Rattle.lk_link.specs.declared.expression.Operand.{Operand}
 use Rattle.lk_link.specs.declared.file.InputFile.{InputFile}
 use Rattle.lk_link.specs.declared.plan.OrderEvent.{OrderEvent}
-use Rattle.lk_link.specs.declared.plan.OrderEvent.TheVariants.{SegmentStart, SegmentEnd, Section, SetLocation, SetLocationRelative, SetSectionAddress}
+use Rattle.lk_link.specs.declared.plan.OrderEvent.TheVariants.{Section}
 use Rattle.lk_link.specs.declared.plan.Plan.{Plan}
 use Rattle.lk_link.specs.declared.plan.PlanSection.{PlanSection}
 use Rattle.lk_link.specs.Expressions.{Term}
-use Rattle.lk_link.specs.Inside.{placed_section}
 use Rattle.lk_link.specs.Parts.{all_parts, first_part}
 use Rattle.lk_link.specs.WellFormed.{IsEventOrder}
 use Rattle.lk_link.proofs.PartNumbers.{first_part-le, first_part-suc, parts_end-le}
 use Rattle.lk_link.proofs.Places.{among, found}
 use Rattle.lk_place.specs.declared.cursors.Cursors.{Cursors}
-use Rattle.lk_place.specs.declared.error.Refusal.{Refusal}
-use Rattle.lk_place.specs.declared.expressions.positions.SymbolPosition.{SymbolPosition}
 use Rattle.lk_place.specs.Expressions.{Valued, expression_value}
-use Rattle.lk_place.specs.Placement.{IsPlacedBefore}
-use Rattle.lk_place.specs.PlacedBefore.{Known, dot_of, early_known, given_regions, is_placing, is_placing_part, known_before, lies_in, refusing, value_at}
+use Rattle.lk_place.specs.PlacedBefore.{Standing, dot_of, early_known, is_placing, is_placing_part, standing_before, lies_in, refusing, value_at}
 use Rattle.lk_place.specs.Ranges.{HasPart}
 use Rattle.lk_place.specs.Records.{Record, nowhere, record_at}
-use Rattle.lk_place.specs.Regions.{regions_of}
+use Rattle.lk_place.specs.Regions.{given_regions, regions_of}
 use Rattle.lk_place.specs.Segments.{hull, part_records}
 use Rattle.lk_place.specs.Setting.{IsReady, Setting, part_count, part_number}
 use Rattle.lk_place.specs.Start.{constants_by}
@@ -94,7 +89,7 @@ section_told setting table records n s ready at each below =
 
 sections_tell : (setting : Setting) (table : List ℕ) (records : List Record) (n s : ℕ) → IsReady setting → ArePlacedAt setting.plan (length setting.plan.events) table
     → length records ≡ length (all_parts setting.plan.sections)
-    → section_before setting.plan.sections table records n s ≡ (known_before setting.plan records n).section s
+    → section_before setting.plan.sections table records n s ≡ (standing_before setting.plan records n).section s
 sections_tell setting table records n s ready at each =
     let spans : Option Record = Some (hull (part_records setting.plan.sections records s)) in
     elim (cases_lt s (length setting.plan.sections)) [
@@ -130,7 +125,7 @@ placed_alone plan s i k j x order here within there is =
 
 parts_tell : (setting : Setting) (table : List ℕ) (records : List Record) (n p : ℕ) → IsReady setting → ArePlacedAt setting.plan (length setting.plan.events) table
     → length records ≡ length (all_parts setting.plan.sections)
-    → part_before table records n p ≡ (known_before setting.plan records n).part p
+    → part_before table records n p ≡ (standing_before setting.plan records n).part p
 parts_tell setting table records n p ready at each =
     let sections : List PlanSection = setting.plan.sections in
     elim (cases_lt p (length (all_parts sections))) [
@@ -174,9 +169,9 @@ pub value_known : (setting : Setting) (table : List ℕ) (records : List Record)
       part = part_before table records n;
       positions = setting.positions;
     })) e
-    → refusing r ≡ value_at setting (known_before setting.plan records n) from e
+    → refusing r ≡ value_at setting (standing_before setting.plan records n) from e
 value_known setting table records n from e dot groups regions constants r ready at each same_dot same_groups same_regions same_constants gives =
-    let known : Known = known_before setting.plan records n in
+    let known : Standing = standing_before setting.plan records n in
     let all : ℕ → List (List InputFile) → List (ℕ × ℕ) → List (Option Valued) → (ℕ → Option Record) → (ℕ → Option Record) → Early
     = λ d gs rs cs section part. record { groups = gs; dot = d; headers = setting.headers; regions = rs; constants = cs; section = section; part = part; positions = setting.positions } in
     let section : section_before setting.plan.sections table records n ≡ known.section = fun_ext (λ s. sections_tell setting table records n s ready at each) in
@@ -194,7 +189,7 @@ value_known setting table records n from e dot groups regions constants r ready 
 
 -- what the table tells of a section is known at the event
 pub section_known : (setting : Setting) (table : List ℕ) (records : List Record) (n s : ℕ) (o : Option Record) → IsReady setting → ArePlacedAt setting.plan (length setting.plan.events) table
-    → length records ≡ length (all_parts setting.plan.sections) → o ≡ section_before setting.plan.sections table records n s → o ≡ (known_before setting.plan records n).section s
+    → length records ≡ length (all_parts setting.plan.sections) → o ≡ section_before setting.plan.sections table records n s → o ≡ (standing_before setting.plan records n).section s
 section_known setting table records n s o ready at each is = is ∙ sections_tell setting table records n s ready at each
 
 -- ---- how the table is made

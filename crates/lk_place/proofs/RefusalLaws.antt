@@ -62,7 +62,7 @@ rests_fit setting s first own r h is =
     record { file = omega (arith, h.file); mem = omega (arith, h.mem) }
 
 pub refused_exactly_past : RefusedExactlyPast
-refused_exactly_past setting s from records to ready may below places =
+refused_exactly_past setting s from records to ready below places =
     let begin : Offsets = section_start setting s from in
     let count : ℕ = part_count setting.plan.sections s in
     let number : ℕ → ℕ = part_number setting.plan.sections s in

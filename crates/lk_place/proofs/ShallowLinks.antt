@@ -1,5 +1,5 @@
 -- No expression of a well-formed link is too deep.
-use Rattle.std.proofs.Common.{◌≡◌, ℕ, ◌<◌, Some, List, length, ap, ◌∙◌}
+use Rattle.std.proofs.Common.{◌≡◌, Some, List, ap, ◌∙◌}
 use Rattle.std.specs.Prelude.{option_and_then, slice_get}
 use Rattle.std.specs.List.{slice_index_or}
 use Rattle.std.proofs.lemmas.Option.{slice_get-get_or}

@@ -1,7 +1,7 @@
 -- The computed walk is the placement that `Placement` defines, and no other is.
-use Rattle.std.proofs.Common.{◌≡◌, ℕ, zero, suc, ◌+◌, ◌-◌, ◌≤◌, ◌<◌, ◌⊎◌, false, List, [], ◌∷◌, length, map, Option, Some, None, refl, sym, ap, subst, ◌∙◌, arith, inl, inr, add-one, add-zero, zero-add}
+use Rattle.std.proofs.Common.{◌≡◌, ℕ, zero, suc, ◌+◌, ◌-◌, ◌≤◌, ◌<◌, ◌⊎◌, List, [], ◌∷◌, length, Option, Some, None, refl, sym, ap, subst, ◌∙◌, arith, inl, inr, add-one, add-zero, zero-add}
 use Rattle.std.specs.Prelude.{slice_get, option_map, Result, Ok, Err}
-use Rattle.std.specs.List.{enumerate_from, slice_index_or}
+use Rattle.std.specs.List.{slice_index_or}
 use Rattle.std.proofs.lemmas.Bool.{cases_lt}
 use Rattle.std.proofs.lemmas.List.{ext_get_or, get_or_past}
 use Rattle.std.proofs.lemmas.Option.{get_or_from_slice_get, slice_get-get_or, slice_get_within}
@@ -14,9 +14,9 @@ use Rattle.lk_link.proofs.PartNumbers.{parts_end-le}
 use Rattle.lk_place.specs.declared.cursors.Cursors.{Cursors}
 use Rattle.lk_place.specs.declared.error.PlaceError.{PlaceError}
 use Rattle.lk_place.specs.declared.error.Refusal.{Refusal}
-use Rattle.lk_place.specs.Placement.{IsPlaced, IsPlacedBefore, Passes, Places, Steps, event_refusal, first_refusal, moved, numbered, placement_refusal, refusal_behind, refusal_behind_move, refusal_of, section_start, state_at, step_refusal}
+use Rattle.lk_place.specs.Placement.{IsPlaced, known_before, IsPlacedBefore, Passes, Places, Steps, event_refusal, first_refusal, moved, numbered, placement_refusal, refusal_behind, refusal_behind_move, refusal_of, section_start, state_at, step_refusal}
 use Rattle.lk_place.specs.PlacementLaws.{PlacementExists, PlacementIsOne}
-use Rattle.lk_place.specs.PlacedBefore.{Known, known_before}
+use Rattle.lk_place.specs.PlacedBefore.{Known}
 use Rattle.lk_place.specs.Plans.{IsPlaceable, IsPlaceableEvent}
 use Rattle.lk_place.specs.Records.{Record, nowhere, record_at}
 use Rattle.lk_place.specs.Setting.{IsReady, Setting, part_count, part_number}
@@ -48,7 +48,7 @@ states_at setting k (suc n) (suc j) h = states_at setting (k + 1) n j (omega ari
 abbrev pub states_to : Setting → ℕ → List Cursors
 states_to setting n = states_from setting 0 n
 
-state_is : (setting : Setting) (n k : ℕ) → k ≤ n → state_at (states_to setting n) k ≡ cursors_after setting k
+pub state_is : (setting : Setting) (n k : ℕ) → k ≤ n → state_at (states_to setting n) k ≡ cursors_after setting k
 state_is setting n k h = states_at setting 0 n k h ∙ ap (cursors_after setting) (zero-add k)
 
 -- the first of them
@@ -94,13 +94,14 @@ pub record IsWalk (setting : Setting) (n : ℕ) (records : List Record) : Type 0
   pub at : (p : ℕ) → p < length (all_parts setting.plan.sections) → record_at records p ≡ record_after setting n p
 
 -- the records of a walk tell what it knows at each event
-pub walk_known : (setting : Setting) (n k : ℕ) (records : List Record) → IsWalk setting n records → k ≤ n → known_before setting.plan records k ≡ known_after setting k
+pub walk_known : (setting : Setting) (n k : ℕ) (records : List Record) → IsWalk setting n records → k ≤ n → known_before setting (states_to setting n) records k ≡ known_after setting k
 walk_known setting n k records walk le =
-    known_is setting k records walk.ready walk.each (λ p before.
+    known_is setting k (states_to setting n) records walk.ready walk.each (λ p before.
     let below : p < length (all_parts setting.plan.sections) = placed_below setting k p walk.ready before in
     walk.at p below
     ∙ record_kept setting k n p walk.ready le before
     ∙ sym (made_at (record_after setting k) nowhere (all_parts setting.plan.sections) 0 p below ∙ ap (record_after setting k) (zero-add p)))
+    (λ j early. state_is setting n j (omega (arith, early, le)))
 
 -- each event of a plan that is placed is
 placeable_event : (setting : Setting) (k : ℕ) (e : OrderEvent) → IsPlaceable setting.plan setting.output → slice_get setting.plan.events k ≡ Some e
@@ -112,7 +113,7 @@ walk_passes : (setting : Setting) (n : ℕ) (records : List Record) → IsPlacea
 walk_passes setting n records may walk k e less here =
     let from : Cursors = cursors_after setting k in
     let known : Known = known_after setting k in
-    let same : known ≡ known_before setting.plan records k = sym (walk_known setting n k records walk (omega arith)) in
+    let same : known ≡ known_before setting (states_to setting n) records k = sym (walk_known setting n k records walk (omega arith)) in
     let at : state_at (states_to setting n) k ≡ from = state_is setting n k (omega arith) in
     let next : state_at (states_to setting n) (k + 1) ≡ left_behind setting (placed_section e) (entered setting known e from) =
     state_is setting n (k + 1) (omega arith) ∙ cursors_next setting k ∙ ap (λ (o : Option OrderEvent). stepped setting known o from) here in
@@ -137,12 +138,12 @@ walk_passes setting n records may walk k e less here =
     }
 
 -- what stands behind the states is what comes next
-pub walk_refusal : (setting : Setting) (n : ℕ) (records : List Record) → start setting ≡ Ok (first_state setting) → known_before setting.plan records n ≡ known_after setting n
+pub walk_refusal : (setting : Setting) (n : ℕ) (records : List Record) → start setting ≡ Ok (first_state setting) → known_before setting (states_to setting n) records n ≡ known_after setting n
     → placement_refusal setting (states_to setting n) records ≡ refused_at setting n
 walk_refusal setting n records starts same =
     let last : length (states_to setting n) - 1 ≡ n = omega (arith, states_count setting 0 n) in
     ap (λ (r : Result Cursors PlaceError). first_refusal r (refusal_behind setting (states_to setting n) records)) starts
-    ∙ ap (λ (m : ℕ). refusal_of setting (known_before setting.plan records m) m (slice_get setting.plan.events m) (state_at (states_to setting n) m)) last
+    ∙ ap (λ (m : ℕ). refusal_of setting (known_before setting (states_to setting n) records m) m (slice_get setting.plan.events m) (state_at (states_to setting n) m)) last
     ∙ ap (λ (x : Known). refusal_of setting x n (slice_get setting.plan.events n) (state_at (states_to setting n) n)) same
     ∙ ap (refusal_of setting (known_after setting n) n (slice_get setting.plan.events n)) (state_is setting n n (omega arith))
 
@@ -259,14 +260,14 @@ entered_is from c o h = ap (after_move from) h
 -- the records of a section that event k places are those that the walk computes there, where the state before it is
 section_as_walked : (setting : Setting) (states : List Cursors) (records : List Record) (k s j n : ℕ) → IsReady setting → IsPlaced setting states records
     → k + 1 < length states → slice_get setting.plan.events k ≡ Some (Section s) → j < part_count setting.plan.sections s → k < n
-    → state_at states k ≡ cursors_after setting k → known_before setting.plan records k ≡ known_after setting k
+    → state_at states k ≡ cursors_after setting k → known_before setting states records k ≡ known_after setting k
     → record_at records (part_number setting.plan.sections s j) ≡ record_after setting n (part_number setting.plan.sections s j)
 section_as_walked setting states records k s j n ready is more here within early state same =
     let e : OrderEvent = Section s in
     let there : s < length setting.plan.sections = section_there setting k s ready here in
-    let steps : Steps setting (known_before setting.plan records k) e (state_at states k) records (state_at states (k + 1)) = (is.steps k e more here).steps in
+    let steps : Steps setting (known_before setting states records k) e (state_at states k) records (state_at states (k + 1)) = (is.steps k e more here).steps in
     let enters : steps.entered ≡ entered setting (known_after setting k) e (cursors_after setting k) =
-    sym (entered_is (state_at states k) steps.entered (moved setting (known_before setting.plan records k) e (state_at states k)) steps.moves)
+    sym (entered_is (state_at states k) steps.entered (moved setting (known_before setting states records k) e (state_at states k)) steps.moves)
     ∙ ap (λ (x : Known). entered setting x e (state_at states k)) same ∙ ap (entered setting (known_after setting k) e) state in
     let makes : MakesSection setting s steps.entered records (state_at states (k + 1)) =
     places_makes setting s steps.entered records (state_at states (k + 1)) ready there steps.places in
@@ -275,16 +276,17 @@ section_as_walked setting states records k s j n ready is more here within early
     ∙ sym (record_placed setting k s j n ready here within early)
 
 -- the records so far tell what the walk knows
-known_so_far : (setting : Setting) (k : ℕ) (records : List Record) → IsReady setting → length records ≡ length (all_parts setting.plan.sections)
-    → ((p : ℕ) → IsPlacedBefore setting k p → record_at records p ≡ record_after setting k p) → known_before setting.plan records k ≡ known_after setting k
-known_so_far setting k records ready each so_far =
-    known_is setting k records ready each (λ p before.
+known_so_far : (setting : Setting) (k : ℕ) (states : List Cursors) (records : List Record) → ((j : ℕ) → j ≤ k → state_at states j ≡ cursors_after setting j) → IsReady setting → length records ≡ length (all_parts setting.plan.sections)
+    → ((p : ℕ) → IsPlacedBefore setting k p → record_at records p ≡ record_after setting k p) → known_before setting states records k ≡ known_after setting k
+known_so_far setting k states records same ready each so_far =
+    known_is setting k states records ready each (λ p before.
     let below : p < length (all_parts setting.plan.sections) = placed_below setting k p ready before in
     so_far p before ∙ sym (made_at (record_after setting k) nowhere (all_parts setting.plan.sections) 0 p below ∙ ap (record_after setting k) (zero-add p)))
+    same
 
 -- the states are the cursors that the walk computes, and the records of what is placed before them are its records
 record IsAsWalked (setting : Setting) (states : List Cursors) (records : List Record) (k : ℕ) : Type 0 where
-  state : state_at states k ≡ cursors_after setting k
+  walked : (j : ℕ) → j ≤ k → state_at states j ≡ cursors_after setting j
   so_far : (p : ℕ) → IsPlacedBefore setting k p → record_at records p ≡ record_after setting k p
 
 next_state : (setting : Setting) (states : List Cursors) (records : List Record) (k : ℕ) → IsReady setting → IsPlaced setting states records → k + 1 < length states
@@ -292,12 +294,12 @@ next_state : (setting : Setting) (states : List Cursors) (records : List Record)
 next_state setting states records k ready is more before =
     let e : OrderEvent = slice_index_or setting.plan.events k (SegmentEnd 0) in
     let here : slice_get setting.plan.events k ≡ Some e = slice_get-get_or setting.plan.events k (SegmentEnd 0) (omega (arith, is.within)) in
-    let same = known_so_far setting k records ready is.each before.so_far in
-    let steps : Steps setting (known_before setting.plan records k) e (state_at states k) records (state_at states (k + 1)) = (is.steps k e more here).steps in
+    let same = known_so_far setting k states records before.walked ready is.each before.so_far in
+    let steps : Steps setting (known_before setting states records k) e (state_at states k) records (state_at states (k + 1)) = (is.steps k e more here).steps in
     let enters : entered setting (known_after setting k) e (cursors_after setting k) ≡ steps.entered =
-    ap (entered setting (known_after setting k) e) (sym before.state)
+    ap (entered setting (known_after setting k) e) (sym (before.walked k (omega arith)))
     ∙ ap (λ (x : Known). entered setting x e (state_at states k)) (sym same)
-    ∙ entered_is (state_at states k) steps.entered (moved setting (known_before setting.plan records k) e (state_at states k)) steps.moves in
+    ∙ entered_is (state_at states k) steps.entered (moved setting (known_before setting states records k) e (state_at states k)) steps.moves in
     event_makes setting e steps.entered records (state_at states (k + 1)) ready (λ s at. section_there setting k s ready (here ∙ ap (λ (x : OrderEvent). Some x) at)) steps.places
     ∙ ap (left_behind setting (placed_section e)) (sym enters)
     ∙ ap (λ (o : Option OrderEvent). stepped setting (known_after setting k) o (cursors_after setting k)) (sym here)
@@ -314,7 +316,7 @@ next_records setting states records k p ready is more before h =
           let at : h.k ≡ k = omega (arith, h.early) in
           let here : slice_get setting.plan.events k ≡ Some (Section h.s) = ap (slice_get setting.plan.events) (sym at) ∙ h.places in
           ap (record_at records) h.is
-          ∙ section_as_walked setting states records k h.s h.j (k + 1) ready is more here h.within (omega arith) before.state (known_so_far setting k records ready is.each before.so_far)
+          ∙ section_as_walked setting states records k h.s h.j (k + 1) ready is more here h.within (omega arith) (before.walked k (omega arith)) (known_so_far setting k states records before.walked ready is.each before.so_far)
           ∙ ap (record_after setting (k + 1)) (sym h.is)
     ]
 
@@ -323,14 +325,23 @@ as_walked : (setting : Setting) (states : List Cursors) (records : List Record) 
 as_walked setting states records ready is zero less =
     let given : start setting ≡ Ok (first_state setting) = start_given (start setting) states is.begins less in
     record {
-      state = get_or_from_slice_get states 0 (first_state setting) no_cursors (has_first (start setting) (first_state setting) states given is.begins) ∙ cursors_first setting;
+      walked = λ j le.
+          ap (state_at states) (omega arith)
+          ∙ get_or_from_slice_get states 0 (first_state setting) no_cursors (has_first (start setting) (first_state setting) states given is.begins) ∙ cursors_first setting
+          ∙ ap (cursors_after setting) (omega arith);
       so_far = λ p h. absurd (omega (arith, h.early));
     }
 as_walked setting states records ready is (suc k) less =
     let before : IsAsWalked setting states records k = as_walked setting states records ready is k (omega arith) in
     subst (IsAsWalked setting states records) (add-one k)
     (record {
-      state = next_state setting states records k ready is (omega arith) before;
+      walked = λ j le.
+          elim (cases_lt j (k + 1)) [
+            | inl early ↦ before.walked j (omega (arith, early))
+            | inr late ↦
+                let at : j ≡ k + 1 = omega (arith, le, late) in
+                ap (state_at states) at ∙ next_state setting states records k ready is (omega arith) before ∙ ap (cursors_after setting) (sym at)
+          ];
       so_far = λ p h. next_records setting states records k p ready is (omega arith) before h;
     })
 
@@ -350,14 +361,14 @@ placed_is_walk setting states records ready some is =
           let here : slice_get setting.plan.events k ≡ Some e = slice_get-get_or setting.plan.events k (SegmentEnd 0) (omega (arith, is.within)) in
           let at : IsAsWalked setting states records k = walked k (omega arith) in
           ap (λ (o : Option OrderEvent). refusal_of setting (known_after setting k) k o (cursors_after setting k)) here
-          ∙ ap (step_refusal setting (known_after setting k) k e) (sym at.state)
-          ∙ ap (λ (x : Known). step_refusal setting x k e (state_at states k)) (sym (known_so_far setting k records ready is.each at.so_far))
+          ∙ ap (step_refusal setting (known_after setting k) k e) (sym (at.walked k (omega arith)))
+          ∙ ap (λ (x : Known). step_refusal setting x k e (state_at states k)) (sym (known_so_far setting k states records at.walked ready is.each at.so_far))
           ∙ (is.steps k e (omega arith) here).unrefused;
       stops = λ none.
           let same : placement_refusal setting states records ≡ None =
           ap (λ (r : Result Cursors PlaceError). first_refusal r (refusal_behind setting states records)) given
-          ∙ ap (λ (x : Known). refusal_of setting x n (slice_get setting.plan.events n) (state_at states n)) (known_so_far setting n records ready is.each last.so_far)
-          ∙ ap (refusal_of setting (known_after setting n) n (slice_get setting.plan.events n)) last.state ∙ none in
+          ∙ ap (λ (x : Known). refusal_of setting x n (slice_get setting.plan.events n) (state_at states n)) (known_so_far setting n states records last.walked ready is.each last.so_far)
+          ∙ ap (refusal_of setting (known_after setting n) n (slice_get setting.plan.events n)) (last.walked n (omega arith)) ∙ none in
           omega (arith, is.ends same, some);
       each = is.each;
       at = λ p below.
@@ -389,7 +400,7 @@ begun_is_one setting states states' records records' ready some some' h g =
     ] in
     let count : length states ≡ length states' = omega (arith, some, some', same) in (
       ext_get_or no_cursors states states' count
-          (λ k below. (as_walked setting states records ready h k below).state ∙ sym ((as_walked setting states' records' ready g k (omega (arith, count))).state)),
+          (λ k below. (as_walked setting states records ready h k below).walked k (omega arith) ∙ sym ((as_walked setting states' records' ready g k (omega (arith, count))).walked k (omega arith))),
       ext_get_or nowhere records records' (h.each ∙ sym g.each)
           (λ p below. one.at p (omega (arith, one.each)) ∙ ap (λ (m : ℕ). record_after setting m p) same ∙ sym (two.at p (omega (arith, one.each)))),
     )

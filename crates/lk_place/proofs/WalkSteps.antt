@@ -1,18 +1,23 @@
 -- One event more of the walk.
-use Rattle.std.proofs.Common.{◌≡◌, ℕ, ◌+◌, ◌<◌, List, [], length, Option, arith, Some, None, refl, sym, ap, subst, ◌∙◌, add-one, below_more}
+use Rattle.std.proofs.Common.{◌≡◌, ℕ, suc, ◌+◌, ◌<◌, List, [], ◌∷◌, ◌++◌, drop, length, Option, arith, Some, None, refl, sym, ap, subst, ◌∙◌, add-one, below_more}
 use Rattle.std.specs.Prelude.{slice_get, option_map, Result, Ok, Err, OnOk, IsErrAnd}
-use Rattle.std.specs.List.{slice_index_or}
-use Rattle.std.proofs.lemmas.Option.{slice_get-get_or}
+use Rattle.std.specs.List.{enumerate_from, flat_map, slice_index, slice_index_or}
+use Rattle.std.proofs.Math.Seq.{drop-cons, drop-length}
+use Rattle.std.proofs.lemmas.List.{append_assoc, append-nil}
+use Rattle.std.proofs.lemmas.Option.{get_or_from_slice_get, slice_get-get_or, slice_get_within}
 use Rattle.lk_link.specs.declared.plan.OrderEvent.{OrderEvent}
 use Rattle.lk_place.specs.declared.cursors.Cursors.{Cursors}
 use Rattle.lk_place.specs.declared.error.PlaceError.{PlaceError}
+use Rattle.lk_place.specs.declared.error.PlaceError.TheVariants.{AddressOverflow, BaseTooLow, Expression, LocationBackwards, NoMemory, OutsideRegion, RegionDuplicate, RegionOverflow, RegionUnknown, SectionOutsideSegments}
 use Rattle.lk_place.specs.declared.error.Refusal.{Refusal}
 use Rattle.lk_place.specs.Placement.{event_refusal, numbered, refusal_of}
+use Rattle.lk_place.specs.Counters.{told_counter}
+use Rattle.lk_place.specs.InRegions.{span_of}
 use Rattle.lk_place.specs.PlacedBefore.{Known}
 use Rattle.lk_place.specs.Records.{Record, nowhere}
 use Rattle.lk_place.specs.Setting.{Setting}
 use Rattle.lk_place.specs.Start.{BeginsAt, start}
-use Rattle.lk_place.specs.Walk.{AllPass, GivesWalked, StopsBy, at_event, begun, cursors_after, first_state, known_after, refused_at, walk_after, record_after, recorded, stepped, unless}
+use Rattle.lk_place.specs.Walk.{AllPass, GivesWalked, GoesOn, goes_on_after, told_after, went_on, StopsBy, at_event, begun, cursors_after, first_state, known_after, refused_at, walk_after, record_after, recorded, stepped, unless}
 
 -- the walk begins where the placement does
 pub starts_at : (setting : Setting) (c : Cursors) → start setting ≡ Ok c → c ≡ first_state setting
@@ -56,6 +61,17 @@ cursors_next setting k = ap (cursors_after setting) (add-one k)
 pub record_next : (setting : Setting) (k p : ℕ) → record_after setting (k + 1) p ≡ recorded setting (known_after setting k) (slice_get setting.plan.events k) (cursors_after setting k) p (record_after setting k p)
 unfolding walk_after
 record_next setting k p = ap (λ (n : ℕ). record_after setting n p) (add-one k)
+
+-- and each region goes on where it makes it
+pub goes_on_next : (setting : Setting) (k r : ℕ)
+    → goes_on_after setting (k + 1) r ≡ went_on setting.plan (slice_get setting.plan.events k) (stepped setting (known_after setting k) (slice_get setting.plan.events k) (cursors_after setting k)) r (goes_on_after setting k r)
+unfolding walk_after
+goes_on_next setting k r = ap (λ (n : ℕ). goes_on_after setting n r) (add-one k)
+
+-- before all events each goes on at its origin
+pub goes_on_first : (setting : Setting) (r : ℕ) → (span_of setting r).0 ≡ goes_on_after setting 0 r
+unfolding walk_after
+goes_on_first setting r = refl
 
 -- ---- an event that is carried out
 
@@ -120,10 +136,62 @@ records_on setting k e from to (Ok x) old new tried h writes so_far p =
     ∙ ap (λ (o : Option OrderEvent). recorded setting (known_after setting k) o (cursors_after setting k) p (record_after setting k p)) (sym tried.here)
     ∙ sym (record_next setting k p)
 
+-- where regions go on behind it
+pub regions_on : (setting : Setting) (k : ℕ) (e : OrderEvent) (from to : Cursors) (end : Result Cursors Refusal) (old new : List ℕ) → IsTried setting k e from end → Ok to ≡ at_event end k
+    → OnOk end (GoesOn setting.plan (Some e) (stepped setting (known_after setting k) (Some e) from) old new) → ((r : ℕ) → slice_index old r ≡ goes_on_after setting k r)
+    → (r : ℕ) → slice_index new r ≡ goes_on_after setting (k + 1) r
+regions_on setting k e from to (Err x) old new tried h writes so_far r = absurd (cc)
+regions_on setting k e from to (Ok x) old new tried h writes so_far r =
+    let known : Known = known_after setting k in
+    let wanted : Option OrderEvent → Cursors → ℕ → ℕ = λ o c before. went_on setting.plan o (stepped setting known o c) r before in
+    writes r
+    ∙ ap (wanted (Some e) from) (so_far r)
+    ∙ ap (λ (c : Cursors). wanted (Some e) c (goes_on_after setting k r)) tried.so_far
+    ∙ ap (λ (o : Option OrderEvent). wanted o (cursors_after setting k) (goes_on_after setting k r)) (sym tried.here)
+    ∙ sym (goes_on_next setting k r)
+
 -- a refusal that is handed on
-pub walk_refused : (setting : Setting) (r : Result (Unit {0}) PlaceError) (err : PlaceError) (records : List Record) → IsErrAnd r (λ e. e ≡ err) → StopsBy setting err → GivesWalked setting r records
-walk_refused setting (Ok done) err records h stop = absurd h
-walk_refused setting (Err e) err records h stop = subst (StopsBy setting) (sym h) stop
+stopped : (setting : Setting) (e : PlaceError) (records : List Record) (before counters : List ℕ) → StopsBy setting e → GivesWalked setting (Err e) records before counters
+stopped setting NoMemory records before counters stop = tt
+stopped setting (AddressOverflow place) records before counters stop = stop
+stopped setting (RegionDuplicate region) records before counters stop = stop
+stopped setting (Expression place cause) records before counters stop = stop
+stopped setting (RegionUnknown s) records before counters stop = stop
+stopped setting (RegionOverflow region by) records before counters stop = stop
+stopped setting (OutsideRegion event address) records before counters stop = stop
+stopped setting (LocationBackwards from to) records before counters stop = stop
+stopped setting (BaseTooLow base headers) records before counters stop = stop
+stopped setting (SectionOutsideSegments s) records before counters stop = stop
+
+pub walk_refused : (setting : Setting) (r : Result (Unit {0}) PlaceError) (err : PlaceError) (records : List Record) (before counters : List ℕ) → IsErrAnd r (λ e. e ≡ err) → StopsBy setting err
+    → GivesWalked setting r records before counters
+walk_refused setting (Ok done) err records before counters h stop = absurd h
+walk_refused setting (Err e) err records before counters h stop = stopped setting e records before counters (subst (StopsBy setting) (sym h) stop)
+
+-- ---- counters
+
+-- what one event more tells
+pub counters_on : (setting : Setting) (k : ℕ) (e : OrderEvent) (to : Cursors) (old new all : List ℕ) → slice_get setting.plan.events k ≡ Some e → to ≡ cursors_after setting (k + 1)
+    → new ≡ old ++ told_counter e to.pending
+    → old ++ flat_map (told_after setting) (enumerate_from k (drop k setting.plan.events)) ≡ all
+    → new ++ flat_map (told_after setting) (enumerate_from (k + 1) (drop (k + 1) setting.plan.events)) ≡ all
+counters_on setting k e to old new all here at writes so_far =
+    let events : List OrderEvent = setting.plan.events in
+    let rest : List ℕ = flat_map (told_after setting) (enumerate_from (k + 1) (drop (k + 1) events)) in
+    let split : drop k events ≡ e ∷ drop (k + 1) events =
+    drop-cons events k e (slice_get_within events k e here) ∙ ap (λ (x : OrderEvent). x ∷ drop (suc k) events) (get_or_from_slice_get events k e e here) ∙ ap (λ (n : ℕ). e ∷ drop n events) (sym (add-one k)) in
+    ap (λ (cs : List ℕ). cs ++ rest) writes
+    ∙ ap (λ (c : Cursors). (old ++ told_counter e c.pending) ++ rest) at
+    ∙ append_assoc old (told_after setting (k, e)) rest
+    ∙ sym (ap (λ (xs : List OrderEvent). old ++ flat_map (told_after setting) (enumerate_from k xs)) split)
+    ∙ so_far
+
+-- none is left behind the last
+pub counters_all : (setting : Setting) (k : ℕ) (counters all : List ℕ) → k ≡ length setting.plan.events
+    → counters ++ flat_map (told_after setting) (enumerate_from k (drop k setting.plan.events)) ≡ all → counters ≡ all
+counters_all setting k counters all last so_far =
+    let none : drop k setting.plan.events ≡ [] = ap (λ (n : ℕ). drop n setting.plan.events) last ∙ drop-length setting.plan.events in
+    sym (append-nil counters) ∙ sym (ap (λ (xs : List OrderEvent). counters ++ flat_map (told_after setting) (enumerate_from k xs)) none) ∙ so_far
 
 -- an element that is read at its number
 pub read_there : {X : Type 0} (xs ys : List X) (k : ℕ) (x : X) → ys ≡ xs → k < length ys → x ≡ slice_index_or ys k x → slice_get xs k ≡ Some x

@@ -1,21 +1,26 @@
 -- What a placement answers.
-use Rattle.std.specs.Prelude.{◌≡◌, List, Some, None, Result, Ok, Err}
+use Rattle.std.specs.Prelude.{◌≡◌, ℕ, List, Some, None, Result, Ok, Err}
 use Rattle.lk_place.specs.declared.cursors.Cursors.{Cursors}
 use Rattle.lk_place.specs.declared.error.PlaceError.{PlaceError}
 use Rattle.lk_place.specs.declared.error.PlaceError.TheVariants.{AddressOverflow, BaseTooLow, Expression, LocationBackwards, OutsideRegion}
 use Rattle.lk_place.specs.declared.error.PlaceError.TheVariants.{NoMemory, RegionDuplicate, RegionOverflow, RegionUnknown, SectionOutsideSegments}
 use Rattle.lk_place.specs.declared.walk.Placed.{Placed}
+use Rattle.lk_place.specs.Counters.{counters_of}
 use Rattle.lk_place.specs.Placement.{IsPlaced, placement_refusal}
 use Rattle.lk_place.specs.Records.{Record}
 use Rattle.lk_place.specs.Segments.{section_records}
 use Rattle.lk_place.specs.Setting.{Setting}
+use Rattle.lk_place.specs.Start.{base_value}
 
--- the records are those of the placement, in which nothing is refused
+-- the records and the counters are those of the placement, in which nothing is refused
 pub record ArePlaced (setting : Setting) (placed : Placed) : Type 0 where
   pub states : List Cursors
   pub is : IsPlaced setting states placed.parts
   pub unrefused : placement_refusal setting states placed.parts ≡ None
   pub sections : placed.sections ≡ section_records setting.plan.sections placed.parts
+  pub base : ℕ
+  pub based : base_value setting ≡ Ok base
+  pub counters : placed.counters ≡ counters_of setting.plan states base
 
 -- this is the first refusal of the placement
 pub record IsRefused (setting : Setting) (e : PlaceError) : Type 0 where

@@ -14,9 +14,9 @@ use Rattle.lk_place.specs.declared.expressions.no_value.NoValue.TheVariants.{Div
 abbrev pub Valued : Type 0
 Valued = Result ℕ NoValue
 
--- what is made of a number, if there is one
+-- what is made of what there is, unless it is refused
 infixl 10 ◌>>=◌
-abbrev pub ◌>>=◌ : {A B : Type 0} → Result A NoValue → (A → Result B NoValue) → Result B NoValue
+abbrev pub ◌>>=◌ : {A B E : Type 0} → Result A E → (A → Result B E) → Result B E
 (Ok x) >>= f = f x
 (Err cause) >>= f = Err cause
 

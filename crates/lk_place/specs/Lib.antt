@@ -2,10 +2,13 @@ pub mod Alignments
 pub mod Answers
 pub mod Base
 pub mod Constants
+pub mod Counters
 pub mod Evaluation
 pub mod ExpressionLaws
 pub mod ExpressionTexts
 pub mod Expressions
+pub mod FileRange
+pub mod InRegions
 pub mod KnownThen
 pub mod Laws
 pub mod Locations
@@ -18,6 +21,8 @@ pub mod Plans
 pub mod Ranges
 pub mod Records
 pub mod Regions
+pub mod Secondaries
+pub mod SecondariesSoFar
 pub mod Segments
 pub mod Setting
 pub mod Shallow

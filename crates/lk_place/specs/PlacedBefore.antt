@@ -1,8 +1,7 @@
 -- What is placed before an event, and what expressions read of it there.
-use Rattle.std.specs.Prelude.{◌≡◌, ℕ, ◌+◌, ◌==◌, ◌&&◌, Bool, false, if◌then◌else◌, List, [], nat_le, nat_lt, Option, Some, None, Result, Ok, Err, take, unwrap_or}
+use Rattle.std.specs.Prelude.{ℕ, ◌+◌, ◌==◌, ◌&&◌, Bool, false, if◌then◌else◌, List, nat_le, nat_lt, Option, Some, None, Result, Ok, Err, take, unwrap_or}
 use Rattle.std.specs.List.{list_any}
 use Rattle.std.specs.Option.{option_map_or}
-use Rattle.lk_link.specs.declared.expression.Operand.{Operand}
 use Rattle.lk_link.specs.declared.plan.OrderEvent.{OrderEvent}
 use Rattle.lk_link.specs.declared.plan.Plan.{Plan}
 use Rattle.lk_link.specs.declared.plan.PlanSection.{PlanSection}
@@ -10,12 +9,11 @@ use Rattle.lk_link.specs.Expressions.{Term}
 use Rattle.lk_link.specs.Inside.{placed_section}
 use Rattle.lk_link.specs.Parts.{first_part}
 use Rattle.lk_place.specs.declared.cursors.Cursors.{Cursors}
-use Rattle.lk_place.specs.declared.error.PlaceError.{PlaceError}
 use Rattle.lk_place.specs.declared.error.Refusal.{Refusal}
 use Rattle.lk_place.specs.declared.error.Refusal.TheVariants.{NoValue}
 use Rattle.lk_place.specs.Expressions.{Valued, expression_value}
 use Rattle.lk_place.specs.Records.{Record, record_at}
-use Rattle.lk_place.specs.Regions.{regions_of}
+use Rattle.lk_place.specs.Regions.{given_regions, regions_of}
 use Rattle.lk_place.specs.Segments.{hull, part_records}
 use Rattle.lk_place.specs.Setting.{Setting, part_count}
 use Rattle.lk_place.specs.Start.{constants_by}
@@ -36,16 +34,21 @@ abbrev pub is_placing_part : List PlanSection → ℕ → OrderEvent → Bool
 is_placing_part sections p e = option_map_or (λ t. lies_in (first_part sections t) (part_count sections t) p) (placed_section e) false
 
 -- by their numbers, what sections span and the records of parts, of those that are placed
-pub record Known : Type 0 where
+pub record Standing : Type 0 where
   pub section : ℕ → Option Record
   pub part : ℕ → Option Record
 
--- what is known at event n: of what the events before it place, by the records of all parts
-abbrev pub known_before : Plan → List Record → ℕ → Known
-known_before plan records n = record {
+-- what stands before event n: what the events before it place, by the records of all parts
+abbrev pub standing_before : Plan → List Record → ℕ → Standing
+standing_before plan records n = record {
   section = λ s. if list_any (is_placing s) (take n plan.events) then Some (hull (part_records plan.sections records s)) else None;
   part = λ p. if list_any (is_placing_part plan.sections p) (take n plan.events) then Some (record_at records p) else None;
 }
+
+-- what is known at an event: what stands, and where each region goes on
+pub record Known : Type 0 where
+  pub standing : Standing
+  pub goes_on : ℕ → ℕ
 
 -- ---- expressions
 
@@ -53,21 +56,16 @@ known_before plan records n = record {
 abbrev pub dot_of : Cursors → ℕ
 dot_of c = unwrap_or c.pending c.memory
 
--- origin and length of each region, where none is refused
-abbrev pub given_regions : Result (List (ℕ × ℕ)) PlaceError → List (ℕ × ℕ)
-given_regions (Ok regions) = regions
-given_regions (Err e) = []
-
 -- what an operand may speak of while sections are placed
-abbrev pub early_known : Setting → Known → ℕ → Early
-early_known setting known dot = record {
+abbrev pub early_known : Setting → Standing → ℕ → Early
+early_known setting standing dot = record {
   groups = setting.groups;
   dot = dot;
   headers = setting.headers;
   regions = given_regions (regions_of setting.plan.regions);
   constants = constants_by setting.groups setting.headers (given_regions (regions_of setting.plan.regions));
-  section = known.section;
-  part = known.part;
+  section = standing.section;
+  part = standing.part;
   positions = setting.positions;
 }
 
@@ -77,5 +75,5 @@ refusing (Ok n) = Ok n
 refusing (Err cause) = Err (NoValue cause)
 
 -- the value of an expression at these cursors
-abbrev pub value_at : Setting → Known → Cursors → Term → Result ℕ Refusal
-value_at setting known from e = refusing (expression_value (early_operand (early_known setting known (dot_of from))) e)
+abbrev pub value_at : Setting → Standing → Cursors → Term → Result ℕ Refusal
+value_at setting standing from e = refusing (expression_value (early_operand (early_known setting standing (dot_of from))) e)

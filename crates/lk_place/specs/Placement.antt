@@ -1,6 +1,6 @@
 -- Where everything is placed: the cursors round each event up to the first that is refused, and the records of all parts.
-use Rattle.std.specs.Prelude.{◌≡◌, ◌≢◌, ℕ, zero, suc, ◌+◌, ◌-◌, ◌^◌, ◌<◌, ◌≤◌, ◌==◌, ◌&&◌, ◌||◌, Bool, true, false, MatchBool, if◌then◌else◌}
-use Rattle.std.specs.Prelude.{List, [], length, min, nat_lt, slice_get, Option, Some, None, Result, Ok, Err, is_some, option_map, unwrap_or}
+use Rattle.std.specs.Prelude.{◌≡◌, ℕ, zero, suc, ◌+◌, ◌-◌, ◌^◌, ◌<◌, ◌≤◌, ◌==◌, ◌&&◌, ◌||◌, Bool, true, false, MatchBool, if◌then◌else◌}
+use Rattle.std.specs.Prelude.{List, length, min, nat_lt, slice_get, Option, Some, None, Result, Ok, Err, is_some, option_map, unwrap_or}
 use Rattle.std.specs.Prelude.{position}
 use Rattle.std.specs.Int.{next_multiple_of}
 use Rattle.std.specs.List.{slice_index_or}
@@ -10,22 +10,24 @@ use Rattle.lk_link.specs.declared.plan.OrderEvent.TheVariants.{Section, SegmentE
 use Rattle.lk_link.specs.Alignments.{IsLeastMultiple}
 use Rattle.lk_link.specs.Inside.{placed_section}
 use Rattle.lk_link.specs.Parts.{all_parts, part_at}
-use Rattle.lk_link.specs.PlanSections.{is_allocated, is_file_backed, is_thread_local, primary_of}
+use Rattle.lk_link.specs.PlanSections.{is_file_backed, is_thread_local, primary_of}
 use Rattle.lk_link.specs.SegmentKinds.{is_load, segment_at}
 use Rattle.lk_place.specs.declared.cursors.Cursors.{Cursors}
 use Rattle.lk_place.specs.declared.cursors.Offsets.{Offsets}
 use Rattle.lk_place.specs.declared.error.PlaceError.{PlaceError}
-use Rattle.lk_place.specs.declared.error.PlaceError.TheVariants.{AddressOverflow, Expression, LocationBackwards}
+use Rattle.lk_place.specs.declared.error.PlaceError.TheVariants.{AddressOverflow, Expression, LocationBackwards, OutsideRegion, RegionOverflow, RegionUnknown}
 use Rattle.lk_place.specs.declared.error.Refusal.{Refusal}
-use Rattle.lk_place.specs.declared.error.Refusal.TheVariants.{Backwards, NoValue, Overflow}
+use Rattle.lk_place.specs.declared.error.Refusal.TheVariants.{Backwards, NoValue, Outside, Overflow, Past, Undeclared}
 use Rattle.lk_place.specs.Alignments.{place_alignment, section_alignment}
+use Rattle.lk_place.specs.Expressions.{◌>>=◌}
+use Rattle.lk_place.specs.InRegions.{goes_on_by, in_region, inside_region, past_region, stands_in}
 use Rattle.lk_place.specs.Locations.{awaiting, behind_start, opened_at, taken}
-use Rattle.lk_place.specs.PlacedBefore.{Known, known_before, value_at}
+use Rattle.lk_place.specs.PlacedBefore.{Known, standing_before, value_at}
 use Rattle.lk_place.specs.Plans.{IsPlaceableEvent}
 use Rattle.lk_place.specs.Records.{Record, file_end, mem_end, nowhere, record_at}
-use Rattle.lk_place.specs.Setting.{Setting, has_bytes, of_parts, part_count, part_number, size_at}
+use Rattle.lk_place.specs.Setting.{Setting, has_bytes, of_parts, part_count, part_number, size_at, takes_addresses}
 use Rattle.lk_place.specs.Start.{BeginsAt, no_cursors, start}
-use Rattle.lk_place.specs.ThreadLocal.{run_begun_behind, saved_or_restored}
+use Rattle.lk_place.specs.ThreadLocal.{run_begun, saved_or_restored}
 
 -- ---- the parts of a section
 
@@ -79,15 +81,15 @@ reached setting s records from (suc j) =
 
 -- ---- a section
 
--- where a section's parts begin: in place of memory one that isn't allocated counts from 0
+-- where a section's parts begin: in place of memory one that takes no addresses counts from 0
 abbrev pub section_start : Setting → ℕ → Cursors → Offsets
-section_start setting s from = record { file = from.file; memory = if is_allocated setting.plan s then from.memory else 0 }
+section_start setting s from = record { file = from.file; memory = if takes_addresses setting s then from.memory else 0 }
 
--- the cursors behind a section whose parts end here: one that isn't allocated leaves memory where it was
+-- the cursors behind a section whose parts end here: one that takes no addresses leaves memory where it was
 abbrev pub left_at : Setting → ℕ → Cursors → Offsets → Cursors
 left_at setting s from end = record from {
   file = end.file;
-  memory = if is_allocated setting.plan s then end.memory else from.memory;
+  memory = if takes_addresses setting s then end.memory else from.memory;
   in_run = is_thread_local setting.plan s;
 }
 
@@ -127,23 +129,28 @@ abbrev pub opened : Setting → ℕ → Cursors → Option ℕ → Result Cursor
 opened setting i from None = memory_moved from (setting.target.segment_start (place_alignment setting i) from.file from.memory)
 opened setting i from (Some l) = opened_at (place_alignment setting i) from l
 
--- a section begins: it saves memory or goes on where it was saved, takes a location that waits, and may begin a run
-abbrev pub begun_section : Setting → ℕ → Cursors → Result Cursors Refusal
-begun_section setting s from = run_begun_behind setting s (is_some from.pending) (taken setting.plan s (saved_or_restored setting.plan s from) from.pending)
+-- a section begins: it saves memory or goes on where it was saved, goes on where its region does, takes a location that waits, inside
+-- its region, and may begin a run
+abbrev pub begun_section : Setting → (ℕ → ℕ) → ℕ → Cursors → Result Cursors Refusal
+begun_section setting goes_on s from =
+    let region = stands_in setting.plan s in
+    in_region goes_on s region (saved_or_restored setting.plan s from) >>= λ there.
+    inside_region setting region there from.pending >>= λ inside.
+    taken setting.plan s inside from.pending >>= run_begun setting s (is_some from.pending)
 
 -- what an event does to the cursors before it places a section, or why it is refused: a load segment opens; a section begins; and what
 -- moves the location leaves it waiting, relative to a section not before its primary's start, if that is placed; nothing else moves
 -- anything
 abbrev pub moved : Setting → Known → OrderEvent → Cursors → Result Cursors Refusal
 moved setting known (SegmentStart i) from = if is_load (segment_at setting.plan.segments i).kind then opened setting i from from.pending else Ok from
-moved setting known (Section s) from = begun_section setting s from
-moved setting known (SetLocation e) from = awaiting from (value_at setting known from e)
-moved setting known (SetLocationRelative e s) from = awaiting from (behind_start (known.section (primary_of setting.plan.sections s)) (value_at setting known from e))
-moved setting known (SetSectionAddress e) from = awaiting from (value_at setting known from e)
+moved setting known (Section s) from = begun_section setting known.goes_on s from
+moved setting known (SetLocation e) from = awaiting from (value_at setting known.standing from e)
+moved setting known (SetLocationRelative e s) from = awaiting from (behind_start (known.standing.section (primary_of setting.plan.sections s)) (value_at setting known.standing from e))
+moved setting known (SetSectionAddress e) from = awaiting from (value_at setting known.standing from e)
 moved setting known (SegmentEnd i) from = Ok from
 
 -- an event moves the cursors, and then places its section, if it has one; what isn't placed yet has no step: what places a section
--- that stands in a region or is loaded elsewhere
+-- that is loaded elsewhere
 pub record Steps (setting : Setting) (known : Known) (e : OrderEvent) (from : Cursors) (records : List Record) (to : Cursors) : Type 0 where
   pub placeable : IsPlaceableEvent setting.plan e
   pub entered : Cursors
@@ -181,10 +188,23 @@ overflow_at c = if is_below c then None else Some Overflow
 abbrev pub section_end : Setting → ℕ → Offsets → Offsets
 section_end setting s begin = end_behind setting s begin (part_count setting.plan.sections s)
 
--- why a section can't be placed from the cursors on: its parts would end past 2^64 - 1
+-- the refusal of a section whose parts would end past 2^64 - 1
+abbrev pub section_overflow : Setting → ℕ → Cursors → Option Refusal
+section_overflow setting s from = overflow_at (section_end setting s (section_start setting s from))
+
+-- the cursors behind a section
+abbrev pub section_left : Setting → ℕ → Cursors → Cursors
+section_left setting s from = left_at setting s from (section_end setting s (section_start setting s from))
+
+-- the first of two refusals
+abbrev pub either_refusal : Option Refusal → Option Refusal → Option Refusal
+either_refusal None later = later
+either_refusal (Some first) later = Some first
+
+-- why a section can't be placed from the cursors on: its parts would end past 2^64 - 1, or behind them memory past its region
 abbrev pub section_refusal : Setting → Option ℕ → Cursors → Option Refusal
 section_refusal setting None from = None
-section_refusal setting (Some s) from = overflow_at (section_end setting s (section_start setting s from))
+section_refusal setting (Some s) from = either_refusal (section_overflow setting s from) (past_region setting (stands_in setting.plan s) (section_left setting s from).memory)
 
 -- the refusal of a move, else that of the section that is placed behind it
 abbrev pub refusal_behind_move : Setting → Option ℕ → Result Cursors Refusal → Option Refusal
@@ -200,6 +220,9 @@ abbrev pub numbered : ℕ → Refusal → PlaceError
 numbered k Overflow = AddressOverflow (place.Event k)
 numbered k (NoValue cause) = Expression (place.Event k) cause
 numbered k (Backwards from to) = LocationBackwards from to
+numbered k (Undeclared s) = RegionUnknown s
+numbered k (Outside l) = OutsideRegion k l
+numbered k (Past r by) = RegionOverflow r by
 
 -- the same of event k
 abbrev pub step_refusal : Setting → Known → ℕ → OrderEvent → Cursors → Option PlaceError
@@ -211,6 +234,13 @@ step_refusal setting known k e from = option_map (numbered k) (event_refusal set
 abbrev pub state_at : List Cursors → ℕ → Cursors
 state_at states k = slice_index_or states k no_cursors
 
+-- what is known before event n, by the states and the records of all parts
+abbrev pub known_before : Setting → List Cursors → List Record → ℕ → Known
+known_before setting states records n = record {
+  standing = standing_before setting.plan records n;
+  goes_on = goes_on_by setting (λ k. (state_at states k).memory) n;
+}
+
 -- the refusal of the event with this number, if there is one
 abbrev pub refusal_of : Setting → Known → ℕ → Option OrderEvent → Cursors → Option PlaceError
 refusal_of setting known k None from = None
@@ -220,7 +250,7 @@ refusal_of setting known k (Some e) from = step_refusal setting known k e from
 abbrev pub refusal_behind : Setting → List Cursors → List Record → Option PlaceError
 refusal_behind setting states records =
     let k = length states - 1 in
-    refusal_of setting (known_before setting.plan records k) k (slice_get setting.plan.events k) (state_at states k)
+    refusal_of setting (known_before setting states records k) k (slice_get setting.plan.events k) (state_at states k)
 
 -- the refusal of a start, else another, if there is one
 abbrev pub first_refusal : Result Cursors PlaceError → Option PlaceError → Option PlaceError
@@ -233,8 +263,8 @@ placement_refusal setting states records = first_refusal (start setting) (refusa
 
 -- event k takes the state before it to the next, and isn't refused
 pub record Passes (setting : Setting) (states : List Cursors) (records : List Record) (k : ℕ) (e : OrderEvent) : Type 0 where
-  pub unrefused : step_refusal setting (known_before setting.plan records k) k e (state_at states k) ≡ None
-  pub steps : Steps setting (known_before setting.plan records k) e (state_at states k) records (state_at states (k + 1))
+  pub unrefused : step_refusal setting (known_before setting states records k) k e (state_at states k) ≡ None
+  pub steps : Steps setting (known_before setting states records k) e (state_at states k) records (state_at states (k + 1))
 
 -- a section that one of the first n events places has this part
 pub record IsPlacedBefore (setting : Setting) (n p : ℕ) : Type 0 where

@@ -1,7 +1,7 @@
 -- Laws of the definition of placement: there is one, it is one, and parts take their bytes.
-use Rattle.std.specs.Prelude.{◌≡◌, ◌<◌, ◌↔◌, ℕ, List, Some, None, length, map}
+use Rattle.std.specs.Prelude.{◌≡◌, ◌<◌, ◌↔◌, ℕ, List, None, length, map}
 use Rattle.lk_place.specs.declared.cursors.Cursors.{Cursors}
-use Rattle.lk_place.specs.Placement.{IsPlaced, PlacesSection, placement_refusal, section_refusal}
+use Rattle.lk_place.specs.Placement.{IsPlaced, PlacesSection, placement_refusal, section_overflow}
 use Rattle.lk_place.specs.Plans.{IsPlaceable}
 use Rattle.lk_place.specs.Records.{Fits, Record, record_at}
 use Rattle.lk_place.specs.Setting.{IsReady, Setting, part_count, part_number}
@@ -21,10 +21,9 @@ abbrev pub PartsTakeTheirBytes : Type 0
 PartsTakeTheirBytes = (setting : Setting) (states : List Cursors) (records : List Record) → IsReady setting
     → IsPlaced setting states records → placement_refusal setting states records ≡ None → map (λ r. r.mem_size) records ≡ setting.sizes
 
--- in a plan that is placed, a section whose parts are placed from the cursors on is refused there exactly where one of them ends
--- past 2^64 - 1
+-- a section whose parts are placed from the cursors on overflows there exactly where one of them ends past 2^64 - 1
 abbrev pub RefusedExactlyPast : Type 0
 RefusedExactlyPast = (setting : Setting) (s : ℕ) (from : Cursors) (records : List Record) (to : Cursors)
-    → IsReady setting → IsPlaceable setting.plan setting.output → s < length setting.plan.sections → PlacesSection setting s from records to
-    → (section_refusal setting (Some s) from ≡ None) ↔ ((j : ℕ) → j < part_count setting.plan.sections s
+    → IsReady setting → s < length setting.plan.sections → PlacesSection setting s from records to
+    → (section_overflow setting s from ≡ None) ↔ ((j : ℕ) → j < part_count setting.plan.sections s
     → Fits (record_at records (part_number setting.plan.sections s j)))

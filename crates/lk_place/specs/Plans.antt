@@ -8,22 +8,16 @@ use Rattle.lk_link.specs.Inside.{placed_section}
 use Rattle.lk_link.specs.PlanSections.{section_at}
 use Rattle.lk_link.specs.WellFormed.{IsAboutPlace}
 
--- a section that stands behind what is placed before it, and nowhere else: it stands in no region, and is loaded from where it stands
-pub record IsPlaceableSection (plan : Plan) (s : ℕ) : Type 0 where
-  pub region : (section_at plan.sections s).region ≡ None
-  pub at : (section_at plan.sections s).at ≡ None
-
--- an event that is placed: the section that it places, if it has one, is such
+-- an event that is placed: the section that it places, if it has one, is loaded from where it stands
 pub record IsPlaceableEvent (plan : Plan) (e : OrderEvent) : Type 0 where
-  pub section : (s : ℕ) → placed_section e ≡ Some s → IsPlaceableSection plan s
+  pub section : (s : ℕ) → placed_section e ≡ Some s → (section_at plan.sections s).at ≡ None
 
--- a plan that is placed: for whole output, without sections in regions or with load addresses
+-- a plan that is placed: without load addresses
 pub record IsPlaceable (plan : Plan) (output : OutputKind) : Type 0 where
-  pub whole : output ≢ Partial
-  pub sections : (s : ℕ) → IsPlaceableSection plan s
+  pub sections : (s : ℕ) → (section_at plan.sections s).at ≡ None
 
--- a plan that is placed, and in which nothing moves the location
+-- a plan of whole output in which nothing moves the location, and no section stands in a region
 pub record IsUnmoved (plan : Plan) (output : OutputKind) : Type 0 where
   pub whole : output ≢ Partial
   pub events : (k : ℕ) (e : OrderEvent) → slice_get plan.events k ≡ Some e → IsAboutPlace e
-  pub sections : (s : ℕ) → IsPlaceableSection plan s
+  pub sections : (s : ℕ) → (section_at plan.sections s).region ≡ None

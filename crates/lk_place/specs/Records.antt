@@ -21,6 +21,10 @@ mem_end r = r.mem_offset + r.mem_size
 abbrev pub is_filled : Record → Bool
 is_filled r = nat_lt 0 r.mem_size
 
+-- whether it has bytes in the file
+abbrev pub has_file_bytes : Record → Bool
+has_file_bytes r = nat_lt 0 r.file_size
+
 -- both ends are below 2^64
 pub record Fits (r : Record) : Type 0 where
   pub file : file_end r < 2 ^ 64

@@ -1,5 +1,5 @@
 -- Memory regions: each has a name of its own, an origin and a length.
-use Rattle.std.specs.Prelude.{◌≡◌, ℕ, ◌+◌, All, Bool, if◌then◌else◌, List, [], ◌∷◌, Result, Ok, Err, take}
+use Rattle.std.specs.Prelude.{◌≡◌, ℕ, ◌+◌, Bool, if◌then◌else◌, List, [], ◌∷◌, Result, Ok, Err, take}
 use Rattle.std.specs.List.{list_any}
 use Rattle.std.specs.Str.{bytes_eq}
 use Rattle.lk_link.specs.declared.fault.Place.TheVariants as place
@@ -7,7 +7,7 @@ use Rattle.lk_link.specs.declared.plan.Region.{Region}
 use Rattle.lk_place.specs.declared.error.PlaceError.{PlaceError}
 use Rattle.lk_place.specs.declared.error.PlaceError.TheVariants.{Expression, NoMemory, RegionDuplicate}
 use Rattle.lk_place.specs.declared.expressions.no_value.NoValue.{NoValue}
-use Rattle.lk_place.specs.Expressions.{IsShallow, Valued, ◌>>=◌, expression_value}
+use Rattle.lk_place.specs.Expressions.{IsShallow, ◌>>=◌, expression_value}
 use Rattle.lk_place.specs.Surroundings.{number_alone}
 
 -- whether one of some regions has a name
@@ -44,6 +44,11 @@ all_given f i (a ∷ later) = with_first (f i a) (all_given f (i + 1) later)
 -- origin and length of each region, or the first refusal
 abbrev pub regions_of : List Region → Result (List (ℕ × ℕ)) PlaceError
 regions_of regions = all_given (region_of regions) 0 regions
+
+-- origin and length of each region, where none is refused
+abbrev pub given_regions : Result (List (ℕ × ℕ)) PlaceError → List (ℕ × ℕ)
+given_regions (Ok regions) = regions
+given_regions (Err e) = []
 
 -- or want of memory
 abbrev pub GivesRegions : Result (List (ℕ × ℕ)) PlaceError → List Region → Type 0

@@ -1,19 +1,26 @@
 -- What output sections and segments span.
-use Rattle.std.specs.Prelude.{◌≡◌, ℕ, ◌-◌, ◌==◌, ◌&&◌, ◌||◌, not, Bool, if◌then◌else◌, List, Option, Some, None, find, filter}
-use Rattle.std.specs.Prelude.{fold, map, max, min, unwrap_or}
-use Rattle.std.specs.List.{enumerate_from, filter_map, list_any}
+use Rattle.std.specs.Prelude.{◌≡◌, ℕ, ◌-◌, ◌^◌, ◌==◌, ◌&&◌, ◌||◌, not, Bool, if◌then◌else◌, List, [], Option, Some, None, find, filter}
+use Rattle.std.specs.Prelude.{fold, map, max, min, nat_lt, unwrap_or}
+use Rattle.std.specs.Int.{next_multiple_of}
+use Rattle.std.specs.List.{before_first, enumerate_from, filter_map, list_any}
+use Rattle.std.specs.Option.{option_and_then, option_or}
+use Rattle.lk_link.specs.declared.fault.Place.TheVariants as place
 use Rattle.lk_link.specs.declared.link.LinkInput.{LinkInput}
+use Rattle.lk_link.specs.declared.plan.OrderEvent.{OrderEvent}
 use Rattle.lk_link.specs.declared.plan.Plan.{Plan}
 use Rattle.lk_link.specs.declared.plan.PlanSection.{PlanSection}
 use Rattle.lk_link.specs.Inside.{placed_section, sections_inside, segment_insides}
 use Rattle.lk_link.specs.OutputKinds.{is_partial}
+use Rattle.lk_link.specs.Rules.{is_start}
 use Rattle.lk_link.specs.PlanSections.{primary_of, is_allocated, is_zero_fill_thread_local}
 use Rattle.lk_link.specs.SegmentKinds.{is_stack, is_tls, segment_at}
 use Rattle.lk_place.specs.declared.error.PlaceError.{PlaceError}
-use Rattle.lk_place.specs.declared.error.PlaceError.TheVariants.{NoMemory, SectionOutsideSegments}
+use Rattle.lk_place.specs.declared.error.PlaceError.TheVariants.{AddressOverflow, NoMemory, SectionOutsideSegments}
+use Rattle.lk_place.specs.declared.segments.SegmentFileLayout.{SegmentFileLayout}
+use Rattle.lk_place.specs.declared.segments.SegmentFileLayout.TheVariants as kind
 use Rattle.lk_place.specs.declared.segments.SegmentLayout.{SegmentLayout}
 use Rattle.lk_place.specs.Alignments.{greatest_of}
-use Rattle.lk_place.specs.Records.{Record, file_end, is_filled, mem_end, nowhere, record_at}
+use Rattle.lk_place.specs.Records.{Record, file_end, has_file_bytes, is_filled, mem_end, nowhere, record_at}
 use Rattle.lk_place.specs.Setting.{of_parts}
 
 -- ---- hulls
@@ -75,9 +82,50 @@ segment_record plan stack records emitted i =
     if is_stack (segment_at plan.segments i).kind then stack_record stack
     else hull (map (record_at records) (filter (counts plan records emitted i) (sections_inside plan.events i)))
 
+-- ---- compacted files
+
+-- the end in the file of the last section that these events place, of those that aren't skipped; this end where there is none
+abbrev pub end_behind : Plan → List Record → (ℕ → Bool) → ℕ → List OrderEvent → ℕ
+end_behind plan records emitted end events =
+    fold (λ _ s. file_end (record_at records s)) end (filter (λ s. not (is_skipped plan records emitted s)) (filter_map placed_section events))
+
+-- that of the events before the opening of a segment, 0 where there is none
+abbrev pub compact_start : Plan → List Record → (ℕ → Bool) → ℕ → ℕ
+compact_start plan records emitted i = end_behind plan records emitted 0 (before_first (is_start i) plan.events)
+
+-- the greatest end in the file of these sections, of those with bytes of the file, and at least this
+abbrev pub compact_end : List Record → ℕ → List ℕ → ℕ
+compact_end records least inside = fold max least (map file_end (filter has_file_bytes (map (record_at records) inside)))
+
+-- the sections inside a segment; the stack has none in the file
+abbrev pub in_file_inside : Plan → ℕ → List ℕ
+in_file_inside plan i = if is_stack (segment_at plan.segments i).kind then [] else sections_inside plan.events i
+
+-- a segment in a file without gaps between segments: from the end of what stands before it to the end of all that stands inside
+abbrev pub compacted : Plan → List Record → (ℕ → Bool) → ℕ → Record → Record
+compacted plan records emitted i r =
+    let start = compact_start plan records emitted i in
+    record r { file_offset = start; file_size = compact_end records start (in_file_inside plan i) - start }
+
+-- a segment's record in this kind of file
+abbrev pub in_file : SegmentFileLayout → Plan → List Record → (ℕ → Bool) → ℕ → Record → Record
+in_file kind.FromSections plan records emitted i r = r
+in_file kind.Compacted plan records emitted i r = compacted plan records emitted i r
+
+-- ---- the layouts
+
+-- the layout of a segment
+abbrev pub segment_layout : SegmentFileLayout → Plan → ℕ → List Record → (ℕ → Bool) → ℕ → SegmentLayout
+segment_layout kind plan stack records emitted i =
+    record { id = i; sizes = in_file kind plan records emitted i (segment_record plan stack records emitted i) }
+
 -- the layouts of these segments (libwild: `compute_segment_layout`)
-abbrev pub segment_layouts : Plan → ℕ → List Record → (ℕ → Bool) → List ℕ → List SegmentLayout
-segment_layouts plan stack records emitted active = map (λ i. record { id = i; sizes = segment_record plan stack records emitted i }) active
+abbrev pub segment_layouts : SegmentFileLayout → Plan → ℕ → List Record → (ℕ → Bool) → List ℕ → List SegmentLayout
+segment_layouts kind plan stack records emitted active = map (segment_layout kind plan stack records emitted) active
+
+-- the thread-local segment among these, if there is one
+abbrev pub thread_local_one : Plan → List SegmentLayout → Option SegmentLayout
+thread_local_one plan layouts = find (λ l. is_tls (segment_at plan.segments l.id).kind) layouts
 
 -- the greatest alignment of the sections inside a segment, by their records, and at least the page
 abbrev pub alignment_inside : Plan → List Record → ℕ → ℕ
@@ -110,6 +158,18 @@ first_outside link records emitted = if may_stand_outside link then None else fo
 abbrev pub outside_refusal : Option ℕ → Option PlaceError
 outside_refusal None = None
 outside_refusal (Some s) = Some (SectionOutsideSegments s)
+
+-- ---- the end of thread-local memory
+
+-- the refusal of a segment whose end, rounded up to its alignment, passes 2^64
+abbrev pub end_refusal : SegmentLayout → Option PlaceError
+end_refusal l = if nat_lt (next_multiple_of (mem_end l.sizes) l.sizes.alignment) (2 ^ 64) then None else Some (AddressOverflow (place.Segment l.id))
+
+-- the first refusal of segments: of a section outside them, else of the thread-local one
+abbrev pub segments_refusal : SegmentFileLayout → LinkInput → List Record → (ℕ → Bool) → List ℕ → Option PlaceError
+segments_refusal kind link records emitted active =
+    option_or (outside_refusal (first_outside link records emitted))
+    (option_and_then end_refusal (thread_local_one link.plan (segment_layouts kind link.plan link.options.stack records emitted active)))
 
 -- memory aside, a call refuses with this
 abbrev pub Refuses : PlaceError → Option PlaceError → Type 0

@@ -1,5 +1,5 @@
 -- What a placement depends on: the plan, the kind of output, the machine, the bytes of the plan's parts, and what expressions speak of.
-use Rattle.std.specs.Prelude.{◌≡◌, ℕ, ◌+◌, Bool, true, List, Option, length, nat_lt, slice_index, slice_range}
+use Rattle.std.specs.Prelude.{◌≡◌, ℕ, ◌+◌, ◌&&◌, not, Bool, true, List, Option, length, nat_lt, slice_index, slice_range}
 use Rattle.std.specs.List.{list_all}
 use Rattle.lk_link.specs.declared.file.InputFile.{InputFile}
 use Rattle.lk_link.specs.declared.link.LinkInput.{LinkInput}
@@ -7,7 +7,8 @@ use Rattle.lk_link.specs.declared.options.OutputKind.{OutputKind}
 use Rattle.lk_link.specs.declared.plan.Plan.{Plan}
 use Rattle.lk_link.specs.declared.plan.PlanSection.{PlanSection}
 use Rattle.lk_link.specs.Parts.{all_parts, first_part}
-use Rattle.lk_link.specs.PlanSections.{section_at}
+use Rattle.lk_link.specs.OutputKinds.{is_partial}
+use Rattle.lk_link.specs.PlanSections.{is_allocated, section_at}
 use Rattle.lk_link.specs.Rules.{is_good_section}
 use Rattle.lk_link.specs.Target.{Target}
 use Rattle.lk_link.specs.WellFormed.{IsEventOrder}
@@ -55,6 +56,10 @@ part_number sections s j = first_part sections s + j
 -- what belongs to a section's parts, of what belongs to all parts by number
 abbrev pub of_parts : {X : Type 0} → List PlanSection → List X → ℕ → List X
 of_parts sections all s = slice_range all (first_part sections s) (first_part sections (s + 1))
+
+-- whether a section's parts stand at addresses, and don't count from 0: where it is allocated, but in partial output
+abbrev pub takes_addresses : Setting → ℕ → Bool
+takes_addresses setting s = is_allocated setting.plan s && not (is_partial setting.output)
 
 -- events in order, good sections, and a size for each part
 pub record IsReady (setting : Setting) : Type 0 where

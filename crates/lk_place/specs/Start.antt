@@ -10,7 +10,7 @@ use Rattle.lk_place.specs.declared.start.Beginning.{Beginning}
 use Rattle.lk_place.specs.Base.{first_memory, known_first}
 use Rattle.lk_place.specs.Constants.{constants_of}
 use Rattle.lk_place.specs.Expressions.{Valued, expression_value}
-use Rattle.lk_place.specs.Regions.{regions_of}
+use Rattle.lk_place.specs.Regions.{given_regions, regions_of}
 use Rattle.lk_place.specs.Setting.{Setting}
 use Rattle.lk_place.specs.Surroundings.{early_operand}
 
@@ -18,12 +18,17 @@ use Rattle.lk_place.specs.Surroundings.{early_operand}
 abbrev pub constants_by : List (List InputFile) → ℕ → List (ℕ × ℕ) → List (Option Valued)
 constants_by groups headers regions = constants_of (record { groups = groups; headers = headers; regions = regions })
 
--- the first memory by the regions, unless one of them is refused: the base may speak of them and of constants, and of nothing that is
--- placed
+-- the base by the regions: it may speak of them and of constants, and of nothing that is placed
+abbrev pub base_by : Plan → List (List InputFile) → ℕ → List (Option SymbolPosition) → List (ℕ × ℕ) → Valued
+base_by plan groups headers positions regions = expression_value (early_operand (known_first groups headers regions (constants_by groups headers regions) positions)) plan.base
+
+-- the same, where no region is refused
+abbrev pub base_value : Setting → Valued
+base_value setting = base_by setting.plan setting.groups setting.headers setting.positions (given_regions (regions_of setting.plan.regions))
+
+-- the first memory by the regions, unless one of them is refused
 abbrev pub memory_by : Plan → List (List InputFile) → ℕ → List (Option SymbolPosition) → Result (List (ℕ × ℕ)) PlaceError → Result ℕ PlaceError
-memory_by plan groups headers positions (Ok regions) =
-    let known = known_first groups headers regions (constants_by groups headers regions) positions in
-    first_memory plan headers (expression_value (early_operand known) plan.base)
+memory_by plan groups headers positions (Ok regions) = first_memory plan headers (base_by plan groups headers positions regions)
 memory_by plan groups headers positions (Err e) = Err e
 
 -- where memory begins: the first refusal of the regions, else what the base gives
@@ -59,6 +64,7 @@ BeginsAt (Err e) states = states ≡ []
 pub record IsBegun (plan : Plan) (groups : List (List InputFile)) (headers : ℕ) (positions : List (Option SymbolPosition)) (b : Beginning) : Type 0 where
   pub regions : regions_of plan.regions ≡ Ok b.regions
   pub constants : b.constants.items ≡ constants_by groups headers b.regions
+  pub base : base_by plan groups headers positions b.regions ≡ Ok b.base
   pub memory : begun_memory plan groups headers positions ≡ Ok b.memory
 
 -- that, or the refusal, or want of memory

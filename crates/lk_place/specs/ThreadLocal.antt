@@ -1,6 +1,6 @@
 -- What thread-local sections do to memory: zero-fill ones take no addresses from what comes behind, and each run of them begins at
 -- the greatest alignment of all.
-use Rattle.std.specs.Prelude.{ℕ, ◌+◌, ◌-◌, ◌&&◌, not, Bool, if◌then◌else◌, Some, None, Result, Ok, Err, unwrap_or}
+use Rattle.std.specs.Prelude.{ℕ, ◌+◌, ◌-◌, ◌&&◌, not, Bool, if◌then◌else◌, Some, None, Result, Ok, unwrap_or}
 use Rattle.std.specs.Int.{next_multiple_of}
 use Rattle.lk_link.specs.declared.plan.Plan.{Plan}
 use Rattle.lk_link.specs.OutputKinds.{is_partial}
@@ -46,8 +46,3 @@ abbrev pub run_begun : Setting → ℕ → Bool → Cursors → Result Cursors R
 run_begun setting s took from =
     let alignment = thread_local_alignment setting.plan setting.sizes in
     if begins_run setting s from && not took then within_64 (padded (is_file_backed setting.plan s) alignment from) else Ok from
-
--- the same behind a step that may be refused
-abbrev pub run_begun_behind : Setting → ℕ → Bool → Result Cursors Refusal → Result Cursors Refusal
-run_begun_behind setting s took (Ok from) = run_begun setting s took from
-run_begun_behind setting s took (Err refusal) = Err refusal

@@ -1,9 +1,9 @@
 -- The placement, computed from front to back. Contracts of private functions speak of it; that it is the placement that
 -- `Placement` defines is proved by lemmas.
-use Rattle.std.specs.Prelude.{◌≡◌, ℕ, zero, suc, ◌+◌, ◌-◌, ◌==◌, ◌&&◌, Bool, true, false, ◌<◌, if◌then◌else◌, List, length, map}
-use Rattle.std.specs.Prelude.{slice_get, Option, Some, None, Result, Ok, Err, unwrap_or}
+use Rattle.std.specs.Prelude.{◌≡◌, ℕ, zero, suc, ◌+◌, ◌-◌, ◌==◌, Bool, true, ◌<◌, if◌then◌else◌, List, ◌++◌, length, map}
+use Rattle.std.specs.Prelude.{slice_get, Option, Some, None, Result, Ok, Err}
 use Rattle.std.specs.Int.{next_multiple_of}
-use Rattle.std.specs.List.{enumerate_from}
+use Rattle.std.specs.List.{enumerate_from, flat_map, slice_index}
 use Rattle.lk_link.specs.declared.plan.OrderEvent.{OrderEvent}
 use Rattle.lk_link.specs.declared.plan.Plan.{Plan}
 use Rattle.lk_link.specs.Inside.{placed_section}
@@ -14,16 +14,19 @@ use Rattle.lk_place.specs.declared.alignments.Alignments.{Alignments}
 use Rattle.lk_place.specs.declared.cursors.Cursors.{Cursors}
 use Rattle.lk_place.specs.declared.cursors.Offsets.{Offsets}
 use Rattle.lk_place.specs.declared.error.PlaceError.{PlaceError}
+use Rattle.lk_place.specs.declared.error.PlaceError.TheVariants.{NoMemory}
 use Rattle.lk_place.specs.declared.error.Refusal.{Refusal}
 use Rattle.lk_place.specs.declared.placement.Placing.{Placing}
 use Rattle.lk_place.specs.declared.walk.Walk.{Walk}
 use Rattle.lk_place.specs.Alignments.{section_alignment, section_alignments, segment_alignments, thread_local_alignment}
-use Rattle.lk_place.specs.Placement.{end_behind, first_walked, is_below, is_walked, left_at, moved, numbered, overflow_at, refusal_of}
-use Rattle.lk_place.specs.Placement.{resting, section_end, section_start, walk_alignment}
-use Rattle.lk_place.specs.PlacedBefore.{Known, given_regions, known_before, lies_in}
+use Rattle.lk_place.specs.Counters.{told_counter}
+use Rattle.lk_place.specs.InRegions.{named_region, places_in, span_of}
+use Rattle.lk_place.specs.Placement.{end_behind, first_walked, is_below, is_walked, moved, numbered, overflow_at, refusal_of}
+use Rattle.lk_place.specs.Placement.{resting, section_left, section_start, walk_alignment}
+use Rattle.lk_place.specs.PlacedBefore.{Known, lies_in, standing_before}
 use Rattle.lk_place.specs.Records.{Record, nowhere, record_at}
 use Rattle.lk_place.specs.Setting.{IsReady, Setting, part_count, setting_of, size_at}
-use Rattle.lk_place.specs.Regions.{regions_of}
+use Rattle.lk_place.specs.Regions.{given_regions, regions_of}
 use Rattle.lk_place.specs.Start.{constants_by, first_cursors, start}
 use Rattle.lk_place.specs.Tables.{ArePlacedAt}
 
@@ -54,6 +57,7 @@ pub record IsWalkable {P : Type 0} (start : P → ℕ → ℕ → ℕ → ℕ) (
   pub groups : walk.unplaced.now.link.now.groups ≡ walk.link.now.groups
   pub regions : walk.unplaced.now.regions.now ≡ given_regions (regions_of walk.link.now.plan.regions)
   pub constants : walk.unplaced.now.constants.now ≡ constants_by walk.link.now.groups walk.unplaced.now.headers walk.unplaced.now.regions.now
+  pub section_regions : walk.section_regions.now ≡ map (λ s. named_region walk.link.now.plan.regions s.region) walk.link.now.plan.sections
   pub placed_at : ArePlacedAt walk.link.now.plan (length walk.link.now.plan.events) walk.placed_at.now
 
 -- the refusal, if there is one, else what there is
@@ -68,6 +72,18 @@ fitting c = unless (overflow_at c) c
 -- each record is made what f makes of it, by its number
 abbrev pub Rewrites : (ℕ → Record → Record) → List Record → List Record → Type 0
 Rewrites f old new = (p : ℕ) → record_at new p ≡ f p (record_at old p)
+
+-- where a region goes on behind an event that leaves these cursors
+abbrev pub went_on : Plan → Option OrderEvent → Cursors → ℕ → ℕ → ℕ
+went_on plan event to r old = if places_in plan r event then to.memory else old
+
+-- each region goes on where an event that leaves these cursors makes it
+abbrev pub GoesOn : Plan → Option OrderEvent → Cursors → List ℕ → List ℕ → Type 0
+GoesOn plan event to old new = (r : ℕ) → slice_index new r ≡ went_on plan event to r (slice_index old r)
+
+-- what is known at an event, by the tables of records and of regions
+abbrev pub known_in : Plan → List Record → List ℕ → ℕ → Known
+known_in plan records goes_on n = record { standing = standing_before plan records n; goes_on = slice_index goes_on }
 
 -- ---- one section
 
@@ -122,7 +138,7 @@ rewritten setting (Some s) from p old = all_written setting s (section_start set
 -- the cursors behind it
 unfoldable pub left_behind : Setting → Option ℕ → Cursors → Cursors
 left_behind setting None from = from
-left_behind setting (Some s) from = left_at setting s from (section_end setting s (section_start setting s from))
+left_behind setting (Some s) from = section_left setting s from
 
 -- ---- one event
 
@@ -151,14 +167,21 @@ recorded setting known (Some e) from p old = rewritten setting (placed_section e
 abbrev pub listed : Setting → (ℕ → Record) → List Record
 listed setting f = map (λ q. f q.0) (enumerate_from 0 (all_parts setting.plan.sections))
 
--- the cursors and the record of each part behind the first k events
-unfoldable pub walk_after : Setting → ℕ → Cursors × (ℕ → Record)
-walk_after setting zero = (first_state setting, λ p. nowhere)
+-- what is known before event k, by the records so far and where regions go on
+abbrev pub known_by : Setting → (ℕ → Record) → (ℕ → ℕ) → ℕ → Known
+known_by setting records goes_on k = record { standing = standing_before setting.plan (listed setting records) k; goes_on = goes_on }
+
+-- the cursors, the record of each part and where each region goes on, behind the first k events
+unfoldable pub walk_after : Setting → ℕ → Cursors × (ℕ → Record) × (ℕ → ℕ)
+walk_after setting zero = (first_state setting, λ p. nowhere, λ r. (span_of setting r).0)
 walk_after setting (suc k) =
     let before = walk_after setting k in
-    let known = known_before setting.plan (listed setting before.1) k in
-    let event = slice_get setting.plan.events k in
-    (stepped setting known event before.0, λ p. recorded setting known event before.0 p (before.1 p))
+    let known = known_by setting before.1 before.2 k in
+    let event = slice_get setting.plan.events k in (
+      stepped setting known event before.0,
+      λ p. recorded setting known event before.0 p (before.1 p),
+      λ r. went_on setting.plan event (stepped setting known event before.0) r (before.2 r),
+    )
 
 -- the cursors alone
 abbrev pub cursors_after : Setting → ℕ → Cursors
@@ -168,13 +191,17 @@ cursors_after setting k = (walk_after setting k).0
 abbrev pub record_after : Setting → ℕ → ℕ → Record
 record_after setting k p = (walk_after setting k).1 p
 
+-- where region r goes on
+abbrev pub goes_on_after : Setting → ℕ → ℕ → ℕ
+goes_on_after setting k r = (walk_after setting k).2 r
+
 -- the records of all parts
 abbrev pub records_after : Setting → ℕ → List Record
 records_after setting k = listed setting (walk_after setting k).1
 
 -- what is known then
 abbrev pub known_after : Setting → ℕ → Known
-known_after setting k = known_before setting.plan (records_after setting k) k
+known_after setting k = known_by setting (record_after setting k) (goes_on_after setting k) k
 
 -- the refusal of event k, if there is one
 abbrev pub refused_at : Setting → ℕ → Option PlaceError
@@ -190,12 +217,25 @@ pub record StopsBy (setting : Setting) (e : PlaceError) : Type 0 where
   pub before : AllPass setting k
   pub here : refused_at setting k ≡ Some e
 
--- the records behind all events, or the first refusal
-abbrev pub GivesWalked : Setting → Result (Unit {0}) PlaceError → List Record → Type 0
-GivesWalked setting (Ok done) records =
+-- what event k tells of the location counter
+abbrev pub told_after : Setting → ℕ × OrderEvent → List ℕ
+told_after setting q = told_counter q.1 (cursors_after setting (q.0 + 1)).pending
+
+-- what all events tell of it
+abbrev pub counters_after : Setting → List ℕ
+counters_after setting = flat_map (told_after setting) (enumerate_from 0 setting.plan.events)
+
+-- the records behind all events, and what they tell of the location counter
+abbrev pub IsWalked : Setting → List Record → List ℕ → List ℕ → Type 0
+IsWalked setting records before counters =
     let n = length setting.plan.events in
-    AllPass setting n × ((p : ℕ) → record_at records p ≡ record_after setting n p)
-GivesWalked setting (Err e) records = StopsBy setting e
+    AllPass setting n × ((p : ℕ) → record_at records p ≡ record_after setting n p) × (counters ≡ before ++ counters_after setting)
+
+-- that, or the first refusal, or want of memory
+abbrev pub GivesWalked : Setting → Result (Unit {0}) PlaceError → List Record → List ℕ → List ℕ → Type 0
+GivesWalked setting (Ok done) records before counters = IsWalked setting records before counters
+GivesWalked setting (Err NoMemory) records before counters = Unit {0}
+GivesWalked setting (Err e) records before counters = StopsBy setting e
 
 -- what an event gave, its refusal told with the event's number
 abbrev pub at_event : Result Cursors Refusal → ℕ → Result Cursors PlaceError

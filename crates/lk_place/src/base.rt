@@ -28,7 +28,7 @@ fn page_for_headers(page: u64, headers: u64, base: u64) -> u64
 }
 
 /// Where memory begins, by the bytes of the headers and the base.
-fn begin_memory(plan: &Plan, headers: u64, base: u64) -> Result<u64, PlaceError>
+pub(crate) fn begin_memory(plan: &Plan, headers: u64, base: u64) -> Result<u64, PlaceError>
     requires { 0 < plan.now.page }
     ensures { result ≡ memory_begun plan.now headers base }
 {
@@ -40,6 +40,31 @@ fn begin_memory(plan: &Plan, headers: u64, base: u64) -> Result<u64, PlaceError>
     } else {
         Ok(base)
     }
+}
+
+/// The value of the plan's base, by the bytes of the headers, origin and length of each region, and constants; nothing is placed yet.
+pub(crate) fn base_value(
+    link: &LinkInput,
+    headers: u64,
+    regions: &[(u64, u64)],
+    constants: &[Option<Result<u64, NoValue>>],
+    positions: &SymbolPositions,
+) -> Result<u64, NoValue>
+    requires shallow { IsShallow link.now.plan.base }
+    ensures { let known = known_first link.now.groups headers regions.now constants.now positions.now
+        in result ≡ expression_value (early_operand known) link.now.plan.base }
+{
+    evaluate_early_expression(
+        link,
+        &link.plan.base,
+        0,
+        headers,
+        regions,
+        constants,
+        &[],
+        &[],
+        positions,
+    )
 }
 
 /// The address at which memory begins, by the plan's base and the bytes of the headers. `regions` has the origin and the length of
@@ -57,18 +82,7 @@ pub fn first_memory(
     ensures { let known = known_first link.now.groups headers regions.now constants.now positions.now
         in result ≡ first_memory link.now.plan headers (expression_value (early_operand known) link.now.plan.base) }
 {
-    let base = evaluate_early_expression(
-        link,
-        &link.plan.base,
-        0,
-        headers,
-        regions,
-        constants,
-        &[],
-        &[],
-        positions,
-    );
-    match base {
+    match base_value(link, headers, regions, constants, positions) {
         Ok(base) => begin_memory(&link.plan, headers, base),
         Err(cause) => Err(PlaceError::Expression {
             place: Place::Base,

@@ -14,6 +14,12 @@ pub enum Refusal {
     NoValue(NoValue),
     /// A location stands before where it may.
     Backwards { from: u64, to: u64 },
+    /// A section that is placed names a region that isn't there.
+    Undeclared(OutputSectionId),
+    /// A location stands outside the region of the section that takes it.
+    Outside(u64),
+    /// Memory stands past the end of a region, by so many bytes.
+    Past { region: RegionId, by: u64 },
 }
 
 /// Why a link isn't placed: the first refusal, or want of memory.

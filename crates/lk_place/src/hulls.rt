@@ -50,14 +50,7 @@ pub(crate) fn with_record(
 pub(crate) fn nothing() -> OutputRecordLayout
     ensures { result ≡ nowhere }
 {
-    OutputRecordLayout {
-        file_size: 0,
-        mem_size: 0,
-        alignment: Alignment::one(),
-        file_offset: 0,
-        mem_offset: 0,
-        lma_offset: 0,
-    }
+    OutputRecordLayout::default()
 }
 
 /// The hull of several records.

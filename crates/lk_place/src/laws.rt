@@ -1,7 +1,7 @@
 //! Laws of placement, each proved as the contract of a function that does nothing.
 
 ghost use Rattle.lk_place.specs.Base.{MemoryLeavesRoom};
-ghost use Rattle.lk_place.specs.ExpressionLaws.{ConstantsGoByThoseBefore};
+ghost use Rattle.lk_place.specs.ExpressionLaws.{ConstantsGoByThoseBefore, ExpressionsAreShallow};
 ghost use Rattle.lk_place.specs.Laws.{FileRangesAreDisjoint, InsideIsPlaced, MemoryRangesAreDisjoint, OneLoadSegmentIsPlain};
 ghost use Rattle.lk_place.specs.Laws.{PlainMemoryIsCongruent, PlainMemoryIsDisjoint, RecordsKeepAlignments};
 ghost use Rattle.lk_place.specs.PlacementLaws.{PartsTakeTheirBytes, PlacementExists, PlacementIsOne, RefusedExactlyPast};
@@ -17,8 +17,7 @@ pub fn placement_is_one()
     ensures { PlacementIsOne }
 {}
 
-/// A law: in a plan that is placed, a section that is placed from some cursors on is refused there exactly where one of its parts
-/// ends past 2^64 - 1.
+/// A law: a section that is placed from some cursors on overflows there exactly where one of its parts ends past 2^64 - 1.
 pub fn refused_exactly_past()
     ensures { RefusedExactlyPast }
 {}
@@ -33,8 +32,8 @@ pub fn file_ranges_are_disjoint()
     ensures { FileRangesAreDisjoint }
 {}
 
-/// A law: under each plan that is placed, no two parts of sections that have memory share an address, also where an event is
-/// refused.
+/// A law: in whole output, where nothing moves the location and no section stands in a region, no two parts of sections that have
+/// memory share an address, also where an event is refused.
 pub fn memory_ranges_are_disjoint()
     ensures { MemoryRangesAreDisjoint }
 {}
@@ -75,4 +74,9 @@ pub fn constants_go_by_those_before()
 /// A law: where headers are to stand below the base and have room there, memory begins at the last page that leaves it to them.
 pub fn memory_leaves_room()
     ensures { MemoryLeavesRoom }
+{}
+
+/// A law: no expression of a well-formed link is too deep to be evaluated while sections are placed.
+pub fn expressions_are_shallow()
+    ensures { ExpressionsAreShallow }
 {}

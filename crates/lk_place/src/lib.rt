@@ -6,7 +6,9 @@ pub mod base;
 pub mod cursors;
 pub mod error;
 pub mod expressions;
+pub mod file_range;
 pub mod hulls;
+mod in_region;
 pub mod laws;
 mod locations;
 mod placed_at;
@@ -14,6 +16,7 @@ mod placement;
 pub mod plain;
 pub mod record;
 pub mod regions;
+pub mod secondaries;
 pub mod segments;
 mod start;
 pub mod walk;
@@ -26,9 +29,13 @@ pub use crate::expressions::{
     Constant, NoValue, SymbolPosition, SymbolPositions, constant_redirects, evaluate_const,
     evaluate_early_expression, evaluate_expression,
 };
+pub use crate::file_range::assign_section_file_range;
 pub use crate::hulls::layout_section_from_part_layouts;
 pub use crate::plain::is_plain;
 pub use crate::record::OutputRecordLayout;
-pub use crate::regions::evaluate_regions;
-pub use crate::segments::{SegmentLayout, compute_segment_layout};
+pub use crate::regions::{SectionRegion, evaluate_regions};
+pub use crate::secondaries::merge_secondary_parts;
+pub use crate::segments::{
+    SegmentFileLayout, SegmentLayout, SegmentLayouts, compute_segment_layout,
+};
 pub use crate::walk::{Placed, compute_layout_sections};

@@ -9,8 +9,8 @@ ghost use Rattle.lk_link.specs.Alignments.{is_alignment};
 ghost use Rattle.lk_link.specs.Parts.{all_parts, part_at};
 ghost use Rattle.lk_place.specs.Alignments.{section_alignment};
 ghost use Rattle.lk_place.specs.Placement.{behind, first_walked, is_below, is_walked, next_end, overflow_at};
-ghost use Rattle.lk_place.specs.Placement.{resting, section_end, section_refusal, walk_alignment};
-ghost use Rattle.lk_place.specs.Setting.{size_at};
+ghost use Rattle.lk_place.specs.Placement.{resting, section_end, section_overflow, walk_alignment};
+ghost use Rattle.lk_place.specs.Setting.{size_at, takes_addresses};
 ghost use Rattle.lk_place.specs.Walk.{IsPlacing, IsWalkable, Rewrites, all_written, fitting, left_behind, one_written};
 ghost use Rattle.lk_place.specs.Walk.{placed_at, setting_in, unless, rewritten};
 
@@ -258,7 +258,14 @@ impl<P: Platform> Walk<'_, P> {
         })
     }
 
-    /// Places a section from the cursors on, and answers the cursors behind it. One that isn't allocated counts from 0 in
+    /// Whether the parts of a section stand at addresses, and don't count from 0.
+    fn takes_addresses(&self, section: OutputSectionId) -> bool
+        ensures { result ≡ takes_addresses (setting_in P.segment_start self.now) section }
+    {
+        self.link.plan.is_allocated(section) && !self.link.options.output.is_partial()
+    }
+
+    /// Places a section from the cursors on, and answers the cursors behind it. One that takes no addresses counts from 0 in
     /// place of memory.
     #[tactic(auto, unfolding(crate::specs::Walk::rewritten, crate::specs::Walk::left_behind))]
     pub(crate) fn place_section(
@@ -271,20 +278,20 @@ impl<P: Platform> Walk<'_, P> {
         requires in_range { section < length self.now.link.now.plan.sections }
         requires each { length records.old ≡ length (all_parts self.now.link.now.plan.sections) }
         ensures ends { let setting = setting_in P.segment_start self.now
-            in result ≡ unless (section_refusal setting (Some section) from) (left_behind setting (Some section) from) }
+            in result ≡ unless (section_overflow setting section from) (left_behind setting (Some section) from) }
         ensures records { let setting = setting_in P.segment_start self.now
             in OnOk result (Rewrites (rewritten setting (Some section) from) records.old records.new) }
     {
-        let allocated = self.link.plan.is_allocated(section);
+        let addressed = self.takes_addresses(section);
         let begin = Offsets {
             file: from.file,
-            memory: if allocated { from.memory } else { 0 },
+            memory: if addressed { from.memory } else { 0 },
         };
         let placing = self.placing(section, begin)?;
         let end = self.place_parts(&placing, records)?;
         Ok(Cursors {
             file: end.file,
-            memory: if allocated { end.memory } else { from.memory },
+            memory: if addressed { end.memory } else { from.memory },
             in_run: self.link.plan.is_thread_local(section),
             ..from
         })

@@ -53,6 +53,25 @@ impl Model for OutputRecordLayout {
     } };
 }
 
+impl Default for OutputRecordLayout {
+    ghost use Rattle.std.specs.Prelude.{◌≡◌};
+    ghost use Rattle.lk_place.specs.Records.{nowhere};
+
+    ghost is_default = { λ r. r ≡ nowhere };
+
+    /// Nothing, at the start of all.
+    fn default() -> OutputRecordLayout {
+        OutputRecordLayout {
+            file_size: 0,
+            mem_size: 0,
+            alignment: Alignment::one(),
+            file_offset: 0,
+            mem_offset: 0,
+            lma_offset: 0,
+        }
+    }
+}
+
 impl OutputRecordLayout {
     ghost use Rattle.lk_place.specs.Records.{file_end, is_filled, mem_end};
 

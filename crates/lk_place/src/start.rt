@@ -7,10 +7,11 @@ ghost use Rattle.lk_link.specs.WellFormed.{IsWellFormed};
 ghost use Rattle.lk_place.specs.Shallow.{AreShallow};
 ghost use Rattle.lk_place.specs.Start.{GivesBeginning};
 
-use crate::base::first_memory;
+use crate::base::{base_value, begin_memory};
 use crate::error::PlaceError;
 use crate::expressions::{Constant, SymbolPositions, constant_redirects};
 use crate::regions::evaluate_regions;
+use lk_link::fault::Place;
 use lk_link::link::LinkInput;
 use lk_link::list::List;
 use std::alloc::Global;
@@ -22,6 +23,8 @@ pub(crate) struct Beginning {
     pub(crate) regions: List<(u64, u64)>,
     /// By symbol: what constant redirects are worth.
     pub(crate) constants: Vec<Option<Constant>>,
+    /// The value of the base.
+    pub(crate) base: u64,
     /// The address at which memory begins.
     pub(crate) memory: u64,
 }
@@ -40,10 +43,20 @@ pub(crate) fn begin(
 {
     let regions = evaluate_regions(alloc, link)?;
     let constants = constant_redirects(alloc, link, headers, regions.as_slice())?;
-    let memory = first_memory(link, headers, regions.as_slice(), &constants, positions)?;
+    let base = match base_value(link, headers, regions.as_slice(), &constants, positions) {
+        Ok(base) => base,
+        Err(cause) => {
+            return Err(PlaceError::Expression {
+                place: Place::Base,
+                cause,
+            });
+        }
+    };
+    let memory = begin_memory(&link.plan, headers, base)?;
     Ok(Beginning {
         regions,
         constants,
+        base,
         memory,
     })
 }

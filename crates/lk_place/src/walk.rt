@@ -7,17 +7,20 @@
 //! number, which the walk is lent, so that it takes no memory; expressions read those of what is placed, which another table tells
 //! that is made before. It ends at the first event that is refused.
 
-ghost use Rattle.std.specs.Prelude.{◌≡◌, ◌<◌, ◌^◌, ◌&&◌, ℕ, Ok, Some, if◌then◌else◌, SomeIff, IfOk, OnOk, length, nat_lt, true};
+ghost use Rattle.std.specs.Prelude.{◌≡◌, ◌<◌, ◌^◌, ◌&&◌, ◌++◌, ℕ, Ok, Some, if◌then◌else◌, SomeIff, IfOk, OnOk, length, nat_lt, true};
 ghost use Rattle.lk_link.specs.Inside.{placed_section};
 ghost use Rattle.lk_link.specs.Parts.{all_parts};
 ghost use Rattle.lk_link.specs.WellFormed.{IsInRange, IsWellFormed};
 ghost use Rattle.lk_link.specs.Target.{platform_target};
 ghost use Rattle.lk_place.specs.Alignments.{place_alignment};
 ghost use Rattle.lk_place.specs.Answers.{GivesPlaced};
+ghost use Rattle.lk_place.specs.Counters.{told_counter};
 ghost use Rattle.lk_place.specs.Expressions.{IsShallow};
+ghost use Rattle.std.specs.List.{slice_index};
+ghost use Rattle.lk_place.specs.InRegions.{span_of};
 ghost use Rattle.lk_place.specs.Locations.{behind_start, within_64};
-ghost use Rattle.lk_place.specs.PlacedBefore.{known_before, value_at};
-ghost use Rattle.lk_place.specs.Placement.{begun_section, event_refusal, memory_moved, moved, opened, section_refusal};
+ghost use Rattle.lk_place.specs.PlacedBefore.{standing_before, value_at};
+ghost use Rattle.lk_place.specs.Placement.{begun_section, event_refusal, memory_moved, moved, numbered, opened, section_refusal};
 ghost use Rattle.lk_place.specs.Plans.{IsPlaceable};
 ghost use Rattle.lk_place.specs.Records.{nowhere, record_at};
 ghost use Rattle.lk_place.specs.Setting.{setting_of};
@@ -26,7 +29,7 @@ ghost use Rattle.lk_place.specs.Start.{first_cursors, start};
 ghost use Rattle.lk_place.specs.ThreadLocal.{begins_run, padded, run_begun, saved_or_restored};
 ghost use Rattle.lk_link.specs.PlanSections.{primary_of};
 ghost use Rattle.lk_link.specs.SegmentKinds.{is_load, segment_at};
-ghost use Rattle.lk_place.specs.Walk.{GivesWalked, IsWalkable, Rewrites, left_behind, recorded, setting_in, stepped};
+ghost use Rattle.lk_place.specs.Walk.{GivesWalked, GoesOn, IsWalkable, Rewrites, known_in, left_behind, recorded, setting_in, stepped};
 ghost use Rattle.lk_place.specs.Walk.{at_event, rewritten, unless};
 
 use crate::alignments::{Alignments, compute_alignments};
@@ -39,6 +42,7 @@ use crate::hulls::{nothing, span_sections};
 use crate::locations::{not_before, open_at, refuse, take_location, wait_at};
 use crate::placed_at::events_of_parts;
 use crate::record::OutputRecordLayout;
+use crate::regions::{SectionRegion, origins, regions_of_sections};
 use crate::start::begin;
 use lk_link::alignment::Alignment;
 use lk_link::expression::Expression;
@@ -50,13 +54,15 @@ use lk_link::plan::OrderEvent;
 use lk_link::platform::Platform;
 use std::alloc::{AllocError, Global};
 
-/// The records of a placed link, by number.
+/// The records of a placed link, by number, and the counters.
 #[derive(Drop)]
 pub struct Placed {
     /// Of all parts, numbered over all sections.
     pub parts: List<OutputRecordLayout>,
     /// Of all output sections.
     pub sections: List<OutputRecordLayout>,
+    /// The value of the base, and then that of each event that sets the location counter, in their order.
+    pub counters: List<u64>,
 }
 
 /// Cursors with memory rounded up, and with the file grown by as much where it is to be; none where one passes 2^64 - 1.
@@ -84,7 +90,7 @@ fn pad(backed: bool, alignment: Alignment, from: Cursors) -> Result<Cursors, Ref
 }
 
 /// What a walk goes by: the link, the bytes of each part of its plan by number, the alignments of its sections and segments, the
-/// machine, what expressions may speak of that isn't placed by it, and by part the event that places it.
+/// machine, what expressions may speak of that isn't placed by it, by part the event that places it, and by section its region.
 #[derive(Drop)]
 pub(crate) struct Walk<'a, P: Platform> {
     pub(crate) link: &'a LinkInput,
@@ -93,6 +99,7 @@ pub(crate) struct Walk<'a, P: Platform> {
     pub(crate) platform: &'a P,
     pub(crate) unplaced: &'a Unplaced<'a>,
     pub(crate) placed_at: &'a [usize],
+    pub(crate) section_regions: &'a [SectionRegion],
 }
 
 impl<P: Platform> Walk<'_, P> {
@@ -187,14 +194,22 @@ impl<P: Platform> Walk<'_, P> {
         }
     }
 
-    /// The cursors behind a section's start: it saves memory or goes on where it was saved, takes a location that waits, and may
-    /// begin a run.
-    fn begin_section(&self, section: OutputSectionId, from: Cursors) -> Result<Cursors, Refusal>
+    /// The cursors behind a section's start: it saves memory or goes on where it was saved, goes on where its region does, takes a
+    /// location that waits, and may begin a run.
+    fn begin_section(
+        &self,
+        section: OutputSectionId,
+        from: Cursors,
+        goes_on: &[u64],
+    ) -> Result<Cursors, Refusal>
         requires walkable { IsWalkable P.segment_start self.now }
-        ensures { result ≡ begun_section (setting_in P.segment_start self.now) section from }
+        requires regions { length goes_on.now ≡ length self.now.link.now.plan.regions }
+        ensures { result ≡ begun_section (setting_in P.segment_start self.now) (slice_index goes_on.now) section from }
     {
         let saved = self.saved_or_restored(section, from);
-        let taken = take_location(&self.link.plan, section, saved, from.pending)?;
+        let there = self.enter_region(section, saved, goes_on)?;
+        let inside = self.stay_inside(section, there, from.pending)?;
+        let taken = take_location(&self.link.plan, section, inside, from.pending)?;
         self.begin_run(section, from.pending.is_some(), taken)
     }
 
@@ -211,7 +226,7 @@ impl<P: Platform> Walk<'_, P> {
         requires early { event < length self.now.link.now.plan.events }
         requires shallow { IsShallow expression.now }
         ensures { result ≡ value_at (setting_in P.segment_start self.now)
-            (known_before self.now.link.now.plan records.now event) from expression.now }
+            (standing_before self.now.link.now.plan records.now event) from expression.now }
     {
         let before = RecordsBefore {
             sections: &self.link.plan.sections,
@@ -234,8 +249,8 @@ impl<P: Platform> Walk<'_, P> {
         requires walkable { IsWalkable P.segment_start self.now }
         requires each { length records.now ≡ length (all_parts self.now.link.now.plan.sections) }
         requires early { event < length self.now.link.now.plan.events }
-        ensures { let known = known_before self.now.link.now.plan records.now event
-            in result ≡ behind_start (known.section (primary_of self.now.link.now.plan.sections section)) location }
+        ensures { let standing = standing_before self.now.link.now.plan records.now event
+            in result ≡ behind_start (standing.section (primary_of self.now.link.now.plan.sections section)) location }
     {
         let before = RecordsBefore {
             sections: &self.link.plan.sections,
@@ -254,19 +269,21 @@ impl<P: Platform> Walk<'_, P> {
         event: &OrderEvent,
         from: Cursors,
         records: &[OutputRecordLayout],
+        goes_on: &[u64],
     ) -> Result<Cursors, Refusal>
         requires walkable { IsWalkable P.segment_start self.now }
         requires in_range { IsInRange self.now.link.now.plan event.now }
         requires each { length records.now ≡ length (all_parts self.now.link.now.plan.sections) }
         requires early { number < length self.now.link.now.plan.events }
         requires shallow { IsShallowEvent event.now }
+        requires regions { length goes_on.now ≡ length self.now.link.now.plan.regions }
         ensures { result ≡ moved (setting_in P.segment_start self.now)
-            (known_before self.now.link.now.plan records.now number) event.now from }
+            (known_in self.now.link.now.plan records.now goes_on.now number) event.now from }
     {
         match event {
             OrderEvent::SegmentStart(segment) => self.open_segment(*segment, from),
             OrderEvent::SegmentEnd(_) => Ok(from),
-            OrderEvent::Section(section) => self.begin_section(*section, from),
+            OrderEvent::Section(section) => self.begin_section(*section, from, goes_on),
             OrderEvent::SetLocation(location) => {
                 wait_at(from, self.value(number, location, from, records))
             }
@@ -280,24 +297,31 @@ impl<P: Platform> Walk<'_, P> {
         }
     }
 
-    /// Places the section of an event, if it has one, and answers the cursors behind it.
+    /// Places the section of an event, if it has one, and answers the cursors behind it. Its region goes on there.
     #[tactic(auto, unfolding(crate::specs::Walk::rewritten, crate::specs::Walk::left_behind))]
     fn place(
         &self,
         event: &OrderEvent,
         from: Cursors,
         records: &mut [OutputRecordLayout],
+        goes_on: &mut [u64],
     ) -> Result<Cursors, Refusal>
         requires walkable { IsWalkable P.segment_start self.now }
         requires in_range { IsInRange self.now.link.now.plan event.now }
         requires each { length records.old ≡ length (all_parts self.now.link.now.plan.sections) }
+        requires regions { length goes_on.old ≡ length self.now.link.now.plan.regions }
         ensures ends { let setting = setting_in P.segment_start self.now in let s = placed_section event.now
             in result ≡ unless (section_refusal setting s from) (left_behind setting s from) }
         ensures records { let setting = setting_in P.segment_start self.now
             in OnOk result (Rewrites (rewritten setting (placed_section event.now) from) records.old records.new) }
+        ensures goes_on { let setting = setting_in P.segment_start self.now
+            in OnOk result (GoesOn setting.plan (Some event.now) (left_behind setting (placed_section event.now) from) goes_on.old goes_on.new) }
     {
         match *event {
-            OrderEvent::Section(section) => self.place_section(section, from, records),
+            OrderEvent::Section(section) => {
+                let behind = self.place_section(section, from, records)?;
+                self.leave_region(section, behind, goes_on)
+            }
             _ => Ok(from),
         }
     }
@@ -310,29 +334,42 @@ impl<P: Platform> Walk<'_, P> {
         event: &OrderEvent,
         from: Cursors,
         records: &mut [OutputRecordLayout],
+        goes_on: &mut [u64],
     ) -> Result<Cursors, Refusal>
         requires walkable { IsWalkable P.segment_start self.now }
         requires in_range { IsInRange self.now.link.now.plan event.now }
         requires each { length records.old ≡ length (all_parts self.now.link.now.plan.sections) }
+        requires regions { length goes_on.old ≡ length self.now.link.now.plan.regions }
         requires early { number < length self.now.link.now.plan.events }
         requires shallow { IsShallowEvent event.now }
-        ensures ends { let setting = setting_in P.segment_start self.now in let known = known_before setting.plan records.old number
+        ensures ends { let setting = setting_in P.segment_start self.now in let known = known_in setting.plan records.old goes_on.old number
             in result ≡ unless (event_refusal setting known event.now from) (stepped setting known (Some event.now) from) }
-        ensures records { let setting = setting_in P.segment_start self.now in let known = known_before setting.plan records.old number
+        ensures records { let setting = setting_in P.segment_start self.now in let known = known_in setting.plan records.old goes_on.old number
             in OnOk result (Rewrites (recorded setting known (Some event.now) from) records.old records.new) }
+        ensures goes_on { let setting = setting_in P.segment_start self.now in let known = known_in setting.plan records.old goes_on.old number
+            in OnOk result (GoesOn setting.plan (Some event.now) (stepped setting known (Some event.now) from) goes_on.old goes_on.new) }
     {
-        let entered = self.moved(number, event, from, &*records)?;
-        self.place(event, entered, records)
+        let entered = self.moved(number, event, from, &*records, &*goes_on)?;
+        self.place(event, entered, records, goes_on)
     }
 
-    /// Carries out all events in their order, up to the first that is refused. `records` has nothing yet.
-    fn walk(&self, base: u64, records: &mut [OutputRecordLayout]) -> Result<(), PlaceError>
+    /// Carries out all events in their order, up to the first that is refused. `records` has nothing yet, and `goes_on` the origin of
+    /// each region. Adds to the counters what each event tells that sets the location counter.
+    fn walk(
+        &self,
+        base: u64,
+        records: &mut [OutputRecordLayout],
+        goes_on: &mut [u64],
+        counters: &mut Vec<u64>,
+    ) -> Result<(), PlaceError>
         requires walkable { IsWalkable P.segment_start self.now }
         requires starts { start (setting_in P.segment_start self.now) ≡ Ok (first_cursors base) }
         requires each { length records.old ≡ length (all_parts self.now.link.now.plan.sections) }
         requires nothing { (p : ℕ) → record_at records.old p ≡ nowhere }
+        requires regions { length goes_on.old ≡ length self.now.link.now.plan.regions }
+        requires origins { (r : ℕ) → slice_index goes_on.old r ≡ (span_of (setting_in P.segment_start self.now) r).0 }
         requires shallow { AreShallowEvents self.now.link.now.plan.events }
-        ensures { GivesWalked (setting_in P.segment_start self.now) result records.new }
+        ensures { GivesWalked (setting_in P.segment_start self.now) result records.new counters.old.items counters.new.items }
     {
         let mut cursors = Cursors {
             file: 0,
@@ -342,10 +379,47 @@ impl<P: Platform> Walk<'_, P> {
             pending: None,
         };
         for (number, event) in self.link.plan.events.as_slice().iter().enumerate() {
-            let end = self.carry_out(number, event, cursors, records);
+            let end = self.carry_out(number, event, cursors, records, goes_on);
             cursors = at_event(end, number)?;
+            tell_counter(event, cursors.pending, counters)?;
         }
         Ok(())
+    }
+}
+
+/// Adds the location that waits behind an event, if the event sets the location counter.
+fn tell_counter(
+    event: &OrderEvent,
+    waiting: Option<u64>,
+    counters: &mut Vec<u64>,
+) -> Result<(), AllocError>
+    ensures { OnOk result (counters.new.items ≡ counters.old.items ++ told_counter event.now waiting) }
+{
+    if event.is_location() {
+        match waiting {
+            None => {}
+            Some(location) => counters.push(location)?,
+        }
+    }
+    Ok(())
+}
+
+/// The refusal of an event, with its number.
+fn numbered(event: usize, refusal: Refusal) -> PlaceError
+    ensures { result ≡ numbered event refusal }
+{
+    match refusal {
+        Refusal::Overflow => PlaceError::AddressOverflow {
+            place: Place::Event(event),
+        },
+        Refusal::NoValue(cause) => PlaceError::Expression {
+            place: Place::Event(event),
+            cause,
+        },
+        Refusal::Backwards { from, to } => PlaceError::LocationBackwards { from, to },
+        Refusal::Undeclared(section) => PlaceError::RegionUnknown { section },
+        Refusal::Outside(address) => PlaceError::OutsideRegion { event, address },
+        Refusal::Past { region, by } => PlaceError::RegionOverflow { region, by },
     }
 }
 
@@ -355,14 +429,7 @@ fn at_event(end: Result<Cursors, Refusal>, event: usize) -> Result<Cursors, Plac
 {
     match end {
         Ok(cursors) => Ok(cursors),
-        Err(Refusal::Overflow) => Err(PlaceError::AddressOverflow {
-            place: Place::Event(event),
-        }),
-        Err(Refusal::NoValue(cause)) => Err(PlaceError::Expression {
-            place: Place::Event(event),
-            cause,
-        }),
-        Err(Refusal::Backwards { from, to }) => Err(PlaceError::LocationBackwards { from, to }),
+        Err(refusal) => Err(numbered(event, refusal)),
     }
 }
 
@@ -380,9 +447,9 @@ fn unplaced(alloc: Global, parts: usize) -> Result<Vec<OutputRecordLayout>, Allo
 
 /// Where all parts and output sections stand, by the bytes of each part, the bytes of the headers and the places of symbols; or the
 /// first refusal: of a region, in their order, of the base, or of an event, where a number passes 2^64 - 1, an expression has no
-/// value, or a location stands before where it may.
+/// value, a location stands before where it may or outside a region, or a region isn't declared or is full.
 /// Offsets and addresses are in bytes (libwild: `compute_layout_sections`). Takes plans that ask no more of the walk than it does:
-/// for whole output, with no section in a region or with a load address.
+/// with no section that has a load address.
 pub fn compute_layout_sections<P: Platform>(
     alloc: Global,
     link: &LinkInput,
@@ -400,6 +467,8 @@ pub fn compute_layout_sections<P: Platform>(
     let alignments = compute_alignments(alloc, link, sizes)?;
     let mut parts = unplaced(alloc, sizes.len())?;
     let placed_at = events_of_parts(alloc, &link.plan)?;
+    let section_regions = regions_of_sections(alloc, &link.plan)?;
+    let mut goes_on = origins(alloc, beginning.regions.as_slice())?;
     let unplaced = Unplaced {
         link,
         headers,
@@ -414,11 +483,15 @@ pub fn compute_layout_sections<P: Platform>(
         platform,
         unplaced: &unplaced,
         placed_at: &placed_at,
+        section_regions: &section_regions,
     };
-    walk.walk(beginning.memory, &mut parts)?;
+    let mut counters = Vec::with_capacity(alloc, 1)?;
+    counters.push(beginning.base)?;
+    walk.walk(beginning.memory, &mut parts, &mut goes_on, &mut counters)?;
     let sections = span_sections(alloc, &link.plan.sections, &parts)?;
     Ok(Placed {
         parts: List::from_vec(parts),
         sections: List::from_vec(sections),
+        counters: List::from_vec(counters),
     })
 }

@@ -1,6 +1,5 @@
 use Rattle.std.proofs.Common.{◌≡◌, ℕ, ◌+◌, List, Some, length, ap, subst, sym, ◌∙◌, arith}
 use Rattle.std.specs.Prelude.{if◌then◌else◌, slice_get, slice_index}
-use Rattle.lk_link.specs.declared.plan.OrderEvent.{OrderEvent}
 use Rattle.lk_place.specs.PlacedBefore.{is_placing_part}
 use Rattle.lk_place.specs.Tables.{ArePlacedAt}
 use Rattle.lk_place.proofs.Computing.{written_back}

@@ -1,4 +1,4 @@
-use Rattle.std.proofs.Common.{◌≡◌, ◌<◌, Some, length, ap, arith}
+use Rattle.std.proofs.Common.{◌<◌, length, ap, arith}
 use Rattle.lk_link.specs.Inside.{placed_section}
 use Rattle.lk_place.proofs.placed_at.write_event.Goals as goal
 

@@ -9,9 +9,9 @@ sections_of_segments-requires c = (few c.args.link.now c.requires.well_formed).s
 
 pub outside-requires : goal.outside-requires
 outside-requires c = record {
-  ready = can_span (record { link = c.args.link; records = c.args.sections; emitted = c.args.emitted; insides = c.deref.result }) c.requires.well_formed c.requires.each (grind (arith, common_steps));
+  ready = can_span (record { link = c.args.link; records = c.args.sections; emitted = c.args.emitted; insides = c.deref.result; file = c.args.kind }) c.requires.well_formed c.requires.each (grind (arith, common_steps));
 }
 
-pub span_segments-requires-clause-ready : goal.span_segments-requires-clause-ready
-span_segments-requires-clause-ready c =
-    can_span (record { link = c.args.link; records = c.args.sections; emitted = c.args.emitted; insides = c.deref.result }) c.requires.well_formed c.requires.each (grind (arith, common_steps))
+pub lay_out_all-requires-clause-ready : goal.lay_out_all-requires-clause-ready
+lay_out_all-requires-clause-ready c =
+    can_span (record { link = c.args.link; records = c.args.sections; emitted = c.args.emitted; insides = c.deref.result; file = c.args.kind }) c.requires.well_formed c.requires.each (grind (arith, common_steps))

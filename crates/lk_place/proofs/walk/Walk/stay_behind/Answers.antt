@@ -1,4 +1,4 @@
-use Rattle.std.specs.Prelude.{◌≡◌, Option}
+use Rattle.std.specs.Prelude.{Option}
 use Rattle.std.proofs.Common.{◌∙◌, ap}
 use Rattle.lk_link.specs.PlanSections.{primary_of}
 use Rattle.lk_place.specs.Locations.{behind_start}

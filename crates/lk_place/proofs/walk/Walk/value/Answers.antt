@@ -1,4 +1,3 @@
-use Rattle.std.specs.Prelude.{◌≡◌}
 use Rattle.std.proofs.Common.{◌∙◌}
 use Rattle.lk_place.specs.Walk.{setting_in}
 use Rattle.lk_place.proofs.PlacedTables.{value_known}

@@ -1,7 +1,8 @@
-use Rattle.std.proofs.Common.{◌≡◌, ℕ, length}
+use Rattle.std.proofs.Common.{◌≡◌, ◌++◌, ℕ, drop, length}
+use Rattle.std.specs.List.{enumerate_from, flat_map, slice_index}
 use Rattle.lk_link.specs.Parts.{all_parts}
 use Rattle.lk_place.specs.Records.{record_at}
-use Rattle.lk_place.specs.Walk.{AllPass, cursors_after, record_after, setting_in}
+use Rattle.lk_place.specs.Walk.{AllPass, counters_after, cursors_after, goes_on_after, record_after, setting_in, told_after}
 use Rattle.lk_place.proofs.walk.Walk.walk.Given as goal
 
 -- the cursors and the records behind the events so far, of which none is refused
@@ -13,4 +14,7 @@ invariant-loop-number g l =
       records : (p : ℕ) → record_at l.records p ≡ record_after setting l.number p;
       pass : AllPass setting l.number;
       each : length l.records ≡ length (all_parts setting.plan.sections);
+      goes_on : (r : ℕ) → slice_index l.goes_on r ≡ goes_on_after setting l.number r;
+      regions : length l.goes_on ≡ length setting.plan.regions;
+      counters : l.counters.items ++ flat_map (told_after setting) (enumerate_from l.number (drop l.number setting.plan.events)) ≡ l.initial.counters.items ++ counters_after setting;
     }
