@@ -15,7 +15,8 @@ use Rattle.lk_link.specs.Inputs.{Input}
 use Rattle.lk_link.specs.Parts.{all_parts, part_at}
 use Rattle.lk_link.specs.Sizes.{capacity}
 use Rattle.lk_sizes.specs.declared.owners.Total.{Total}
-use Rattle.lk_sizes.specs.Owners.{SectionOwner, bytes_of, into, is_merged, owner_bytes}
+use Rattle.lk_sizes.specs.Owners.{bytes_of, into, is_merged, owner_bytes}
+use Rattle.lk_sizes.proofs.Takers.{section_owner}
 
 pub into-append : (p : ℕ) (xs ys : List Input) → into p (xs ++ ys) ≡ into p xs ++ into p ys
 into-append p xs ys = filter-append (λ x. x.section.part == p) xs ys
@@ -36,7 +37,7 @@ into_other p x xs h =
 
 -- the bytes that sections take in a part
 abbrev pub bytes_into : PlanPart → ℕ → List Input → ℕ
-bytes_into part p xs = bytes_of part (map SectionOwner (into p xs))
+bytes_into part p xs = bytes_of part (map section_owner (into p xs))
 
 -- whether one of those that go to it is merged
 abbrev pub merged_into : ℕ → List Input → Bool
@@ -52,15 +53,15 @@ attrs_into p xs = map (λ x. x.section.attrs) (into p xs)
 
 pub bytes_into-append : (part : PlanPart) (p : ℕ) (xs ys : List Input) → bytes_into part p (xs ++ ys) ≡ bytes_into part p xs + bytes_into part p ys
 bytes_into-append part p xs ys =
-    ap (λ (zs : List Input). bytes_of part (map SectionOwner zs)) (into-append p xs ys)
-    ∙ ap (bytes_of part) (map-append SectionOwner (into p xs) (into p ys))
-    ∙ sum_by-append (owner_bytes part) (map SectionOwner (into p xs)) (map SectionOwner (into p ys))
+    ap (λ (zs : List Input). bytes_of part (map section_owner zs)) (into-append p xs ys)
+    ∙ ap (bytes_of part) (map-append section_owner (into p xs) (into p ys))
+    ∙ sum_by-append (owner_bytes part) (map section_owner (into p xs)) (map section_owner (into p ys))
 
 pub bytes_into_here : (part : PlanPart) (p : ℕ) (x : Input) → x.section.part ≡ p → bytes_into part p (x ∷ []) ≡ capacity part x.section.size
-bytes_into_here part p x h = ap (λ (zs : List Input). bytes_of part (map SectionOwner zs)) (into_here p x [] h) ∙ omega arith
+bytes_into_here part p x h = ap (λ (zs : List Input). bytes_of part (map section_owner zs)) (into_here p x [] h) ∙ omega arith
 
 pub bytes_into_other : (part : PlanPart) (p : ℕ) (x : Input) → (x.section.part ≡ p → ⊥) → bytes_into part p (x ∷ []) ≡ 0
-bytes_into_other part p x h = ap (λ (zs : List Input). bytes_of part (map SectionOwner zs)) (into_other p x [] h)
+bytes_into_other part p x h = ap (λ (zs : List Input). bytes_of part (map section_owner zs)) (into_other p x [] h)
 
 -- with one section more
 pub unmerged_more : (part : PlanPart) (p : ℕ) (done : List Input) (x : Input) (b : Bool) → is_merged x ≡ b

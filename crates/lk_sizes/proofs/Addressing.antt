@@ -1,20 +1,28 @@
--- Where live sections stand among the owners of their parts.
-use Rattle.std.proofs.Common.{◌≡◌, ℕ, ◌+◌, ◌==◌, ◌&&◌, Bool, true, false, cond, List, [], ◌∷◌, ◌++◌, length, map, take, Some, refl, ap, ◌∙◌, subst, arith, not, sym, append_assoc}
-use Rattle.std.specs.List.{AllByRecursion, position_or_len, slice_get, slice_index}
+-- Where live sections and commons stand among the owners of their parts.
+use Rattle.std.proofs.Common.{◌≡◌, ℕ, suc, ◌+◌, ◌==◌, ◌&&◌, Bool, true, false, cond, List, [], ◌∷◌, ◌++◌, length, map, filter, take, Some, refl, ap, ◌∙◌, subst, arith, not, sym, append_assoc}
+use Rattle.std.specs.List.{AllByRecursion, flat_map, position_or_len, slice_get, slice_index}
 use Rattle.std.proofs.lemmas.Bool.{eqb-false, true_from_ne_false}
-use Rattle.std.proofs.lemmas.List.{map-append}
+use Rattle.std.proofs.lemmas.Grind.{flat_map-append}
+use Rattle.std.proofs.lemmas.List.{append-nil}
+use Rattle.std.proofs.lemmas.List.Elements.{filter-append}
 use Rattle.std.proofs.lemmas.List.Sums.{sum_by-append}
-use Rattle.lk_link.specs.declared.link.LinkInput.{LinkInput}
-use Rattle.lk_link.specs.Inputs.{Input}
-use Rattle.lk_gc.specs.Reach.{live_inputs}
-use Rattle.lk_gc.proofs.LiveWalk.{split_at}
-use Rattle.lk_sizes.specs.Owners.{Content, ImageOwner, LiveSectionsAreOwners, Owner, SectionOwner, bytes_of, has_image, images_of, into, owner_bytes, owner_number, owners_of, owns, live_address, part_sections}
-use Rattle.lk_sizes.specs.Tables.{behind_image}
-use Rattle.lk_sizes.proofs.Adding.{into-append, into_here}
-use Rattle.lk_sizes.proofs.LiveOnes.{Differ, Pairwise, in_front, live_differ, not_section}
-use Rattle.lk_link.specs.Parts.{part_at}
-use Rattle.lk_link.proofs.Elements.{at_contained}
 use Rattle.std.proofs.Math.Seq.{take-append_seam}
+use Rattle.lk_link.specs.declared.link.LinkInput.{LinkInput}
+use Rattle.lk_link.specs.declared.plan.PlanPart.{PlanPart}
+use Rattle.lk_link.specs.Inputs.{Input, NumberedFile, all_inputs, input_number, numbered_files}
+use Rattle.lk_link.specs.Marks.{is_marked}
+use Rattle.lk_link.specs.Parts.{part_at}
+use Rattle.lk_link.proofs.Elements.{append_left, at_contained, flat_map_at, flat_map_in, map_in}
+use Rattle.lk_link.proofs.InputLemmas.{inputs_follow}
+use Rattle.lk_gc.specs.declared.live.Live.{Live}
+use Rattle.lk_gc.specs.Reach.{live_inputs, marked}
+use Rattle.lk_reach.proofs.LiveWalk.{split_at}
+use Rattle.lk_reach.proofs.Numbered.{file_of_input, one_place, sections_of}
+use Rattle.lk_sizes.specs.declared.commons.Common.{Common}
+use Rattle.lk_sizes.specs.Owners.{CommonOwner, Content, ImageOwner, LiveSectionsAreOwners, Owner, SectionOwner, Taker, bytes_of, common_taker, commons_of, file_takers, has_image, images_of, live_address, live_of, owner_address, owner_bytes, owners_in, owners_of, owns, part_sections, section_taker, takers}
+use Rattle.lk_sizes.specs.Tables.{behind_image, bytes_in}
+use Rattle.lk_sizes.proofs.LiveOnes.{Differ, Pairwise, in_front, live_differ, not_section}
+use Rattle.lk_sizes.proofs.Takers.{owners_in-append, owners_in_here}
 
 -- the first that passes stands behind those that don't
 position_behind : {X : Type 0} (p : X → Bool) (xs : List X) (y : X) (ys : List X) → AllByRecursion (λ x. p x ≡ false) xs → p y ≡ true → position_or_len p (xs ++ y ∷ ys) ≡ length xs
@@ -22,98 +30,228 @@ position_behind p [] y ys none here = ap (λ b. cond (not b) (1 + position_or_le
 position_behind p (x ∷ xs) y ys none here =
     ap (λ b. cond (not b) (1 + position_or_len p (xs ++ y ∷ ys)) 0) none.0 ∙ omega (arith, position_behind p xs y ys none.1 here)
 
--- those that differ, and go to a part, aren't taken for it as owners
-front_owners : (p : ℕ) (xs : List Input) (y : Input) → AllByRecursion (λ x. Differ x y) xs → AllByRecursion (λ o. owns y o ≡ false) (map SectionOwner (into p xs))
-front_owners p [] y h = tt
-front_owners p (x ∷ xs) y h =
-    elim (x.section.part == p) as (λ b. AllByRecursion (λ o. owns y o ≡ false) (map SectionOwner (cond b (x ∷ into p xs) (into p xs)))) [
-      | true ↦ (not_section x y h.0, front_owners p xs y h.1)
-      | false ↦ front_owners p xs y h.1
-    ]
-
 pub same_number : (n : ℕ) → (n == n) ≡ true
 same_number n = true_from_ne_false (n == n) (λ other. eqb-false n n other refl)
 
-is_itself : (x : Input) → owns x (SectionOwner x) ≡ true
-is_itself x =
-    ap (λ b. b && x.file.file == x.file.file && x.index == x.index) (same_number x.file.group)
-    ∙ ap (λ b. b && x.index == x.index) (same_number x.file.file)
-    ∙ same_number x.index
-
--- nor is the image
-front_image : (link : LinkInput) (merged_lens : List ℕ) (p : ℕ) (y : Input) → AllByRecursion (λ o. owns y o ≡ false) (images_of link merged_lens p)
-front_image link merged_lens p y =
-    let section : ℕ = slice_index (part_sections link.plan.sections) p in
-    elim (has_image link p) as (λ b. AllByRecursion (λ o. owns y o ≡ false) (cond b (ImageOwner section (slice_index merged_lens section) ∷ []) [])) [
-      | true ↦ (refl, tt)
-      | false ↦ tt
-    ]
-
-all_joined : {X : Type 0} (P : X → Type 0) (xs ys : List X) → AllByRecursion P xs → AllByRecursion P ys → AllByRecursion P (xs ++ ys)
+pub all_joined : {X : Type 0} (P : X → Type 0) (xs ys : List X) → AllByRecursion P xs → AllByRecursion P ys → AllByRecursion P (xs ++ ys)
 all_joined P [] ys h i = i
 all_joined P (x ∷ xs) ys h i = (h.0, all_joined P xs ys h.1 i)
 
--- the owners in front of a section, by the sections in front
-abbrev pub front_of : LinkInput → Content → List Input → ℕ → List Owner
-front_of link content front p = images_of link content.merged_lens p ++ map SectionOwner (into p front)
+pub all_parted : {X : Type 0} (P : X → Type 0) (xs ys : List X) → AllByRecursion P (xs ++ ys) → AllByRecursion P xs × AllByRecursion P ys
+all_parted P [] ys h = (tt, h)
+all_parted P (x ∷ xs) ys h = let r = all_parted P xs ys h.1 in ((h.0, r.0), r.1)
 
--- the owners of a part among which a live section stands, with those in front of it
-pub record StandsBehind (link : LinkInput) (content : Content) (front : List Input) (x : Input) : Type 0 where
+-- ---- an owner that a test tells from those in front of it
+
+-- the takers in front of it don't pass
+abbrev pub NonePass : (Owner → Bool) → List Taker → Type 0
+NonePass is ts = AllByRecursion (λ (t : Taker). is t.owner ≡ false) ts
+
+-- nor do images
+abbrev pub NoImagePasses : (Owner → Bool) → Type 0
+NoImagePasses is = (section len : ℕ) → is (ImageOwner section len) ≡ false
+
+front_owners : (is : Owner → Bool) (p : ℕ) (ts : List Taker) → NonePass is ts → AllByRecursion (λ o. is o ≡ false) (owners_in p ts)
+front_owners is p [] h = tt
+front_owners is p (t ∷ ts) h =
+    let rest : List Taker = filter (λ (u : Taker). u.part == p) ts in
+    elim (t.part == p) as (λ b. AllByRecursion (λ o. is o ≡ false) (map (λ (u : Taker). u.owner) (cond b (t ∷ rest) rest))) [
+      | true ↦ (h.0, front_owners is p ts h.1)
+      | false ↦ front_owners is p ts h.1
+    ]
+
+front_image : (is : Owner → Bool) (link : LinkInput) (merged_lens : List ℕ) (p : ℕ) → NoImagePasses is → AllByRecursion (λ o. is o ≡ false) (images_of link merged_lens p)
+front_image is link merged_lens p none =
+    let section : ℕ = slice_index (part_sections link.plan.sections) p in
+    elim (has_image link p) as (λ b. AllByRecursion (λ o. is o ≡ false) (cond b (ImageOwner section (slice_index merged_lens section) ∷ []) [])) [
+      | true ↦ (none section (slice_index merged_lens section), tt)
+      | false ↦ tt
+    ]
+
+-- the owners of a part in front: the image, and what takers bring
+abbrev pub front_of : LinkInput → Content → List Taker → ℕ → List Owner
+front_of link content front p = images_of link content.merged_lens p ++ owners_in p front
+
+-- it stands behind them, and is found there
+pub record StandsBehind (is : Owner → Bool) (link : LinkInput) (content : Content) (front : List Taker) (t : Taker) : Type 0 where
   pub rest : List Owner
-  pub owners : owners_of link content x.section.part ≡ front_of link content front x.section.part ++ SectionOwner x ∷ rest
-  pub number : owner_number link content x ≡ length (front_of link content front x.section.part)
+  pub owners : owners_of link content t.part ≡ front_of link content front t.part ++ t.owner ∷ rest
+  pub number : position_or_len is (owners_of link content t.part) ≡ length (front_of link content front t.part)
 
-pub stands_behind : (link : LinkInput) (content : Content) (front : List Input) (x : Input) (rest : List Input) → live_inputs link content.live ≡ front ++ x ∷ rest → StandsBehind link content front x
-stands_behind link content front x rest all =
-    let p : ℕ = x.section.part in
+pub stands_behind : (is : Owner → Bool) (link : LinkInput) (content : Content) (front : List Taker) (t : Taker) (rest : List Taker) → takers link content ≡ front ++ t ∷ rest
+    → NoImagePasses is → NonePass is front → is t.owner ≡ true → StandsBehind is link content front t
+stands_behind is link content front t rest all none before here =
+    let p : ℕ = t.part in
     let images : List Owner = images_of link content.merged_lens p in
-    let sections : List Owner = map SectionOwner (into p front) in
-    let before : List Owner = front_of link content front p in
-    let after : List Owner = map SectionOwner (into p rest) in
-    let here : into p (x ∷ rest) ≡ x ∷ into p rest = into_here p x rest refl in
-    let owners : owners_of link content p ≡ before ++ SectionOwner x ∷ after =
-    ap (λ (xs : List Input). images ++ map SectionOwner (into p xs)) all
-    ∙ ap (λ (xs : List Input). images ++ map SectionOwner xs) (into-append p front (x ∷ rest) ∙ ap (λ (zs : List Input). into p front ++ zs) here)
-    ∙ ap (λ (os : List Owner). images ++ os) (map-append SectionOwner (into p front) (x ∷ into p rest))
-    ∙ sym (append_assoc images sections (SectionOwner x ∷ after)) in
-    let differ = in_front front x rest (subst (Pairwise Differ) all (live_differ link content.live)) in
+    let after : List Owner = owners_in p rest in
+    let split : owners_in p (takers link content) ≡ owners_in p front ++ t.owner ∷ after
+    = ap (owners_in p) all ∙ owners_in-append p front (t ∷ rest) ∙ ap (λ (os : List Owner). owners_in p front ++ os) (owners_in_here p t rest refl) in
+    let owners : owners_of link content p ≡ front_of link content front p ++ t.owner ∷ after
+    = ap (λ (os : List Owner). images ++ os) split ∙ sym (append_assoc images (owners_in p front) (t.owner ∷ after)) in
     record {
       rest = after;
       owners = owners;
       number =
-          ap (position_or_len (owns x)) owners
-          ∙ position_behind (owns x) before (SectionOwner x) after
-          (all_joined (λ o. owns x o ≡ false) images sections (front_image link content.merged_lens p x) (front_owners p front x differ)) (is_itself x);
+          ap (position_or_len is) owners
+          ∙ position_behind is (front_of link content front p) t.owner after
+          (all_joined (λ o. is o ≡ false) images (owners_in p front) (front_image is link content.merged_lens p none) (front_owners is p front before)) here;
     }
 
--- a live section's address: where the part's image ends, and the bytes of those in front that go to its part
-pub address_behind : (link : LinkInput) (content : Content) (starts : List ℕ) (front : List Input) (x : Input) (rest : List Input) → live_inputs link content.live ≡ front ++ x ∷ rest
-    → live_address link content starts x
-    ≡ behind_image link content.merged_lens starts x.section.part + bytes_of (part_at link.plan.sections x.section.part) (map SectionOwner (into x.section.part front))
-address_behind link content starts front x rest all =
-    let p : ℕ = x.section.part in
-    let part = part_at link.plan.sections p in
+-- its address: where the part's image ends, and the bytes of those in front that go to its part
+pub address_behind : (is : Owner → Bool) (link : LinkInput) (content : Content) (starts : List ℕ) (front : List Taker) (t : Taker) → StandsBehind is link content front t
+    → owner_address (slice_index starts t.part) (part_at link.plan.sections t.part) (owners_of link content t.part) (position_or_len is (owners_of link content t.part))
+    ≡ behind_image link content.merged_lens starts t.part + bytes_in link t.part front
+address_behind is link content starts front t at =
+    let p : ℕ = t.part in
+    let part : PlanPart = part_at link.plan.sections p in
     let images : List Owner = images_of link content.merged_lens p in
-    let sections : List Owner = map SectionOwner (into p front) in
     let before : List Owner = front_of link content front p in
-    let is = stands_behind link content front x rest all in
-    let taken : take (owner_number link content x) (owners_of link content p) ≡ before =
-    ap (λ (n : ℕ). take n (owners_of link content p)) is.number ∙ ap (take (length before)) is.owners ∙ take-append_seam before (SectionOwner x ∷ is.rest) in
-    omega (arith, ap (bytes_of part) taken, sum_by-append (owner_bytes part) images sections)
-
--- ---- each stands among the owners
+    let taken : take (position_or_len is (owners_of link content p)) (owners_of link content p) ≡ before =
+    ap (λ (n : ℕ). take n (owners_of link content p)) at.number ∙ ap (take (length before)) at.owners ∙ take-append_seam before (t.owner ∷ at.rest) in
+    omega (arith, ap (bytes_of part) taken, sum_by-append (owner_bytes part) images (owners_in p front))
 
 owner_there : (before : List Owner) (o : Owner) (after : List Owner) → slice_get (before ++ o ∷ after) (length before) ≡ Some o
 owner_there [] o after = refl
 owner_there (b ∷ before) o after = owner_there before o after
 
+-- there it is
+pub stands_there : (is : Owner → Bool) (link : LinkInput) (content : Content) (front : List Taker) (t : Taker) → StandsBehind is link content front t
+    → slice_get (owners_of link content t.part) (position_or_len is (owners_of link content t.part)) ≡ Some t.owner
+stands_there is link content front t at =
+    let before : List Owner = front_of link content front t.part in
+    ap (λ (os : List Owner). slice_get os (position_or_len is (owners_of link content t.part))) at.owners
+    ∙ ap (slice_get (before ++ t.owner ∷ at.rest)) at.number
+    ∙ owner_there before t.owner at.rest
+
+-- ---- sections among takers
+
+abbrev section_in : Owner → List Input
+section_in (ImageOwner section len) = []
+section_in (SectionOwner x size) = x ∷ []
+section_in (CommonOwner s size) = []
+
+abbrev pub sections_among : List Taker → List Input
+sections_among ts = flat_map (λ (t : Taker). section_in t.owner) ts
+
+sections_told : (xs : List Input) → sections_among (map section_taker xs) ≡ xs
+sections_told [] = refl
+sections_told (x ∷ xs) = ap (λ (ys : List Input). x ∷ ys) (sections_told xs)
+
+none_told : (cs : List Common) → sections_among (map common_taker cs) ≡ []
+none_told [] = refl
+none_told (c ∷ cs) = none_told cs
+
+pub sections_joined : (ts us : List Taker) → sections_among (ts ++ us) ≡ sections_among ts ++ sections_among us
+sections_joined ts us = flat_map-append (λ (t : Taker). section_in t.owner) ts us
+
+of_files : (link : LinkInput) (content : Content) (files : List NumberedFile) → sections_among (flat_map (file_takers link content) files) ≡ flat_map (live_of link content.live) files
+of_files link content [] = refl
+of_files link content (f ∷ files) =
+    let xs : List Input = live_of link content.live f in
+    let cs : List Common = commons_of link content.live f in
+    let one : sections_among (file_takers link content f) ≡ xs
+    = sections_joined (map section_taker xs) (map common_taker cs)
+    ∙ ap (λ (ys : List Input). ys ++ sections_among (map common_taker cs)) (sections_told xs)
+    ∙ ap (λ (ys : List Input). xs ++ ys) (none_told cs)
+    ∙ append-nil xs in
+    sections_joined (file_takers link content f) (flat_map (file_takers link content) files)
+    ∙ ap (λ (ys : List Input). ys ++ sections_among (flat_map (file_takers link content) files)) one
+    ∙ ap (λ (ys : List Input). xs ++ ys) (of_files link content files)
+
+pub filter_flat : {X Y : Type 0} (p : Y → Bool) (f : X → List Y) (xs : List X) → flat_map (λ x. filter p (f x)) xs ≡ filter p (flat_map f xs)
+filter_flat p f [] = refl
+filter_flat p f (x ∷ xs) = ap (λ (ys : List _). filter p (f x) ++ ys) (filter_flat p f xs) ∙ sym (filter-append p (f x) (flat_map f xs))
+
+-- those that pass are those that have a mark
+filter_marked : {X : Type 0} (p : X → Bool) (marks : List Bool) (xs : List X) → ((k : ℕ) (x : X) → slice_get xs k ≡ Some x → p x ≡ is_marked marks k) → filter p xs ≡ marked marks xs
+filter_marked p [] [] h = refl
+filter_marked p [] (x ∷ xs) h = ap (λ b. cond b (x ∷ filter p xs) (filter p xs)) (h 0 x refl) ∙ filter_marked p [] xs (λ k y at. h (suc k) y at)
+filter_marked p (m ∷ marks) [] h = refl
+filter_marked p (m ∷ marks) (x ∷ xs) h =
+    ap (λ b. cond b (x ∷ filter p xs) (filter p xs)) (h 0 x refl) ∙ ap (λ (ys : List _). cond m (x ∷ ys) ys) (filter_marked p marks xs (λ k y at. h (suc k) y at))
+
+-- the number of an input section
+pub number_of : (link : LinkInput) (k : ℕ) (x : Input) → slice_get (all_inputs link.groups) k ≡ Some x → input_number link.groups x.file x.index ≡ k
+number_of link k x there =
+    let file = file_of_input link.groups k x there in
+    one_place link.groups (input_number link.groups x.file x.index) k x x (inputs_follow.at link.groups x.file file.0 x.index x.section file.1 file.2) there refl refl
+
+-- the live sections of all files are those of the link
+pub live_by_files : (link : LinkInput) (live : Live) → flat_map (live_of link live) (numbered_files link.groups) ≡ live_inputs link live
+live_by_files link live =
+    let p : Input → Bool = λ x. is_marked live.marks (input_number link.groups x.file x.index) in
+    filter_flat p sections_of (numbered_files link.groups)
+    ∙ filter_marked p live.marks (all_inputs link.groups) (λ k x there. ap (is_marked live.marks) (number_of link k x there))
+
+pub sections_are : (link : LinkInput) (content : Content) → sections_among (takers link content) ≡ live_inputs link content.live
+sections_are link content = of_files link content (numbered_files link.groups) ∙ live_by_files link content.live
+
+-- ---- a section is none of those in front of it
+
+one_other : (y : Input) (o : Owner) → AllByRecursion (λ x. Differ x y) (section_in o) → owns y o ≡ false
+one_other y (ImageOwner section len) h = refl
+one_other y (SectionOwner x size) h = not_section x y size h.0
+one_other y (CommonOwner s size) h = refl
+
+others : (y : Input) (ts : List Taker) → AllByRecursion (λ x. Differ x y) (sections_among ts) → NonePass (owns y) ts
+others y [] h = tt
+others y (t ∷ ts) h =
+    let parted = all_parted (λ (x : Input). Differ x y) (section_in t.owner) (sections_among ts) h in
+    (one_other y t.owner parted.0, others y ts parted.1)
+
+is_itself : (x : Input) → owns x (SectionOwner x x.section.size) ≡ true
+is_itself x =
+    ap (λ b. b && x.file.file == x.file.file && x.index == x.index) (same_number x.file.group)
+    ∙ ap (λ b. b && x.index == x.index) (same_number x.file.file)
+    ∙ same_number x.index
+
+pub section_stands : (link : LinkInput) (content : Content) (front : List Taker) (x : Input) (rest : List Taker) → takers link content ≡ front ++ section_taker x ∷ rest
+    → StandsBehind (owns x) link content front (section_taker x)
+section_stands link content front x rest all =
+    let split : live_inputs link content.live ≡ sections_among front ++ x ∷ sections_among rest
+    = sym (sections_are link content) ∙ ap sections_among all ∙ sections_joined front (section_taker x ∷ rest) in
+    let differ = in_front (sections_among front) x (sections_among rest) (subst (Pairwise Differ) split (live_differ link content.live)) in
+    stands_behind (owns x) link content front (section_taker x) rest all (λ section len. refl) (others x front differ) (is_itself x)
+
+-- a live section's address
+pub section_behind : (link : LinkInput) (content : Content) (starts : List ℕ) (front : List Taker) (x : Input) (rest : List Taker) → takers link content ≡ front ++ section_taker x ∷ rest
+    → live_address link content starts x ≡ behind_image link content.merged_lens starts x.section.part + bytes_in link x.section.part front
+section_behind link content starts front x rest all = address_behind (owns x) link content starts front (section_taker x) (section_stands link content front x rest all)
+
+-- ---- each live section stands among the takers
+
+-- where a taker with this section stands
+pub record IsAmong (ts : List Taker) (t : Taker) : Type 0 where
+  pub front : List Taker
+  pub rest : List Taker
+  pub splits : ts ≡ front ++ t ∷ rest
+
+pub among : (ts : List Taker) (k : ℕ) (t : Taker) → slice_get ts k ≡ Some t → IsAmong ts t
+among ts k t there = let split = split_at ts k t there in record { front = take k ts; rest = split.0; splits = split.1 }
+
+-- a live section is one of its file's
+pub record IsLiveOf (link : LinkInput) (live : Live) (x : Input) : Type 0 where
+  pub place : ℕ
+  pub file : NumberedFile
+  pub there : slice_get (numbered_files link.groups) place ≡ Some file
+  pub index : ℕ
+  pub lives : slice_get (live_of link live file) index ≡ Some x
+
+pub live_in_file : (link : LinkInput) (live : Live) (k : ℕ) (x : Input) → slice_get (live_inputs link live) k ≡ Some x → IsLiveOf link live x
+live_in_file link live k x there =
+    let at = flat_map_at (live_of link live) (numbered_files link.groups) k x (ap (λ (xs : List Input). slice_get xs k) (live_by_files link live) ∙ there) in
+    record { place = at.outer; file = at.from; there = at.there; index = at.inner; lives = at.gives }
+
+pub live_among : (link : LinkInput) (content : Content) (k : ℕ) (x : Input) → slice_get (live_inputs link content.live) k ≡ Some x → IsAmong (takers link content) (section_taker x)
+live_among link content k x there =
+    let at = live_in_file link content.live k x there in
+    let mapped = map_in section_taker (live_of link content.live at.file) at.index x at.lives in
+    let in_file = append_left (map section_taker (live_of link content.live at.file)) (map common_taker (commons_of link content.live at.file)) at.index (section_taker x) mapped in
+    let whole = flat_map_in (file_takers link content) (numbered_files link.groups) at.place at.index at.file (section_taker x) at.there in_file in
+    among (takers link content) whole.0 (section_taker x) whole.1
+
 pub live_sections_are_owners : LiveSectionsAreOwners
 live_sections_are_owners link content x h =
     let at = at_contained (live_inputs link content.live) x h in
-    let front : List Input = take at.0 (live_inputs link content.live) in
-    let split = split_at (live_inputs link content.live) at.0 x at.1 in
-    let is = stands_behind link content front x split.0 split.1 in
-    let before : List Owner = front_of link content front x.section.part in
-    ap (λ (os : List Owner). slice_get os (owner_number link content x)) is.owners
-    ∙ ap (slice_get (before ++ SectionOwner x ∷ is.rest)) is.number
-    ∙ owner_there before (SectionOwner x) is.rest
+    let split = live_among link content at.0 x at.1 in
+    stands_there (owns x) link content split.front (section_taker x) (section_stands link content split.front x split.rest split.splits)

@@ -19,11 +19,12 @@ use Rattle.lk_link.specs.PlanSections.{is_singletons, own_attributes, primary_of
 use Rattle.lk_link.specs.SegmentKinds.{is_stack, segment_at}
 use Rattle.lk_link.specs.WellFormed.{IsWellFormed}
 use Rattle.lk_link.proofs.Numbers.{length-made, made_at, made_of_or}
-use Rattle.lk_sizes.specs.declared.header.HeaderInfo.{HeaderInfo}
+use Rattle.lk_tables.specs.declared.header_info.HeaderInfo.{HeaderInfo}
 use Rattle.lk_sizes.specs.declared.owners.PartContents.{PartContents}
 use Rattle.lk_sizes.specs.Attributes.{all_section_attributes, by_section, part_attributes, parts_of, section_attributes}
 use Rattle.lk_sizes.specs.Contents.{contents_of, part_contents}
-use Rattle.lk_sizes.specs.Emitted.{active_segments, can_be_emitted, event_sections, is_active, is_emitted, is_kept, output_index}
+use Rattle.lk_tables.specs.HeaderParts.{event_sections}
+use Rattle.lk_sizes.specs.Emitted.{active_segments, can_be_emitted, is_active, is_emitted, is_kept, output_index}
 use Rattle.lk_sizes.specs.Owners.{Content, first_size, first_sizes}
 use Rattle.lk_sizes.proofs.Made.{any_map, any_same, filter_alike, made_range, made_same_below, made_whole, map_id, map_map}
 use Rattle.lk_link.proofs.PartNumbers.{first_part-le, first_part-rises}

@@ -17,8 +17,11 @@ use Rattle.lk_sizes.specs.declared.owners.PartContents.{PartContents}
 use Rattle.lk_sizes.specs.declared.owners.Total.{Total}
 use Rattle.lk_sizes.specs.Attributes.{part_attributes}
 use Rattle.lk_sizes.specs.Contents.{contents_of, part_contents, size_refusal}
-use Rattle.lk_sizes.specs.Owners.{Content, FirstSizesAreSizes, SectionOwner, bytes_of, first_size, has_image, images_of, live_into, overflowing_part, owner_bytes, part_size, part_sizes}
+use Rattle.lk_sizes.specs.Owners.{Content, FirstSizesAreSizes, bytes_of, first_size, has_image, images_of, live_into, overflowing_part, owner_bytes, owners_in, part_size, part_sizes, takers}
+use Rattle.lk_gc.specs.Reach.{live_inputs}
 use Rattle.lk_sizes.proofs.Made.{made_map, made_same}
+use Rattle.lk_sizes.proofs.Takers.{owners_in_sections, section_owner}
+use Rattle.lk_sizes.proofs.Wholes.{taken_apart}
 use Rattle.lk_sizes.proofs.Overflowing.{agree_fitting, agree_overflow, overflows_at, overflows_nowhere}
 use Rattle.lk_link.proofs.Elements.{at_index, map_in}
 
@@ -88,21 +91,27 @@ contents_sizes link content = made_map (λ (c : PartContents). c.bytes) (content
 
 -- ---- first sizes
 
-owned : (part : PlanPart) (xs : List Input) → sum_by (λ x. capacity part x.section.size) xs ≡ bytes_of part (map SectionOwner xs)
+owned : (part : PlanPart) (xs : List Input) → sum_by (λ x. capacity part x.section.size) xs ≡ bytes_of part (map section_owner xs)
 owned part [] = refl
 owned part (x ∷ xs) =
     omega (
       arith,
       owned part xs,
       sum_by-cons (λ (y : Input). capacity part y.section.size) x xs,
-      sum_by-cons (owner_bytes part) (SectionOwner x) (map SectionOwner xs),
+      sum_by-cons (owner_bytes part) (section_owner x) (map section_owner xs),
     )
 
 pub first_is_size : (link : LinkInput) (content : Content) (p : ℕ) → first_size link content p ≡ part_size link content p
 first_is_size link content p =
     let part : PlanPart = part_at link.plan.sections p in
     let sections : List Input = live_into link content.live p in
-    omega (arith, owned part sections, sum_by-append (owner_bytes part) (images_of link content.merged_lens p) (map SectionOwner sections))
+    omega (
+      arith,
+      owned part sections,
+      ap (bytes_of part) (owners_in_sections p (live_inputs link content.live)),
+      taken_apart link content p,
+      sum_by-append (owner_bytes part) (images_of link content.merged_lens p) (owners_in p (takers link content)),
+    )
 
 pub first_sizes_are_sizes : FirstSizesAreSizes
 first_sizes_are_sizes link content keeps = made_same (first_size link content) (part_size link content) (all_parts link.plan.sections) 0 (first_is_size link content)

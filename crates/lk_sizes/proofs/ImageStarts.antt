@@ -18,7 +18,7 @@ use Rattle.lk_sizes.specs.declared.owners.PartContents.{PartContents}
 use Rattle.lk_sizes.specs.Attributes.{parts_of}
 use Rattle.lk_sizes.specs.Contents.{contents_of, part_contents}
 use Rattle.lk_sizes.specs.Images.{ImagesAreOwners, image_address, image_addresses, image_number, image_part, is_image_of}
-use Rattle.lk_sizes.specs.Owners.{Content, ImageOwner, Owner, SectionOwner, has_image, live_into, owner_address, owners_of}
+use Rattle.lk_sizes.specs.Owners.{Content, ImageOwner, Owner, has_image, owner_address, owners_in, owners_of, takers}
 use Rattle.lk_sizes.specs.Tables.{in_section}
 use Rattle.lk_sizes.proofs.Addressing.{same_number}
 use Rattle.lk_sizes.proofs.Emitting.{contents_are, whole}
@@ -107,7 +107,7 @@ image_is_first link content s p below is =
     let at = found (has_image link) (first_part sections s) (first_part sections (s + 1) - first_part sections s) p is in
     let within : p < first_part sections (s + 1) = omega (arith, at.below, rises) in
     let section : section_of link p ≡ s = its_section sections s p below at.from within in
-    let rest : List Owner = map SectionOwner (live_into link content.live p) in
+    let rest : List Owner = owners_in p (takers link content) in
     let image : ℕ → List Owner = λ t. ImageOwner t (slice_index content.merged_lens t) ∷ [] in
     let owners : owners_of link content p ≡ image s ++ rest =
     ap (λ b. cond b (image (section_of link p)) [] ++ rest) at.passes ∙ ap (λ t. image t ++ rest) section in

@@ -14,7 +14,7 @@ use Rattle.lk_link.specs.Parts.{all_parts}
 use Rattle.lk_link.specs.WellFormed.{IsWellFormed}
 use Rattle.lk_gc.specs.declared.live.Live.{Live}
 use Rattle.lk_gc.specs.Reach.{AreLive, live_inputs, marked}
-use Rattle.lk_gc.proofs.Numbered.{file_of_input}
+use Rattle.lk_reach.proofs.Numbered.{file_of_input}
 use Rattle.lk_sizes.specs.Kept.{kept_inputs, kept_of}
 use Rattle.lk_sizes.specs.Owners.{has_image, into, is_merged}
 use Rattle.lk_sizes.proofs.Adding.{merged_into, unmerged}

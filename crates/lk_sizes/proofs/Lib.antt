@@ -1,9 +1,9 @@
 pub mod Adding
 pub mod Addressing
-pub mod DynamicLemmas
+pub mod CommonAdding
+pub mod CommonOnes
 pub mod Emitting
 pub mod Fitting
-pub mod HeaderLemmas
 pub mod ImageLemmas
 pub mod ImagePlaces
 pub mod ImageStarts
@@ -15,9 +15,8 @@ pub mod Made
 pub mod Marks
 pub mod Numbering
 pub mod Overflowing
-pub mod TableSums
-pub mod TableTiling
-pub mod TableTotals
+pub mod OwnersLive
+pub mod Placed
+pub mod Takers
 pub mod Tiling
-pub mod Walking
 pub mod Wholes

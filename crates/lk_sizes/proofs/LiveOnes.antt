@@ -14,7 +14,7 @@ use Rattle.lk_link.specs.Parts.{all_parts}
 use Rattle.lk_link.specs.WellFormed.{IsWellFormed}
 use Rattle.lk_gc.specs.declared.live.Live.{Live}
 use Rattle.lk_gc.specs.Reach.{AreLive, IsLive, live_inputs, marked}
-use Rattle.lk_gc.proofs.Numbered.{file_of_input, one_place}
+use Rattle.lk_reach.proofs.Numbered.{file_of_input, one_place}
 use Rattle.lk_sizes.specs.Owners.{SectionOwner, owns}
 
 -- ---- each is one of the link's
@@ -53,6 +53,13 @@ live_good link live j x good l h =
 pub live_goes : (link : LinkInput) (live : Live) (j : ℕ) (x : Input) → IsWellFormed link → AreLive link live → slice_get (live_inputs link live) j ≡ Some x
     → x.section.part < length (all_parts link.plan.sections)
 live_goes link live j x good l h = (live_good link live j x good l h).1.to_part
+
+-- so does one that has a mark
+pub live_goes_at : (link : LinkInput) (live : Live) (k : ℕ) (x : Input) → IsWellFormed link → AreLive link live → slice_get (all_inputs link.groups) k ≡ Some x → slice_index_or live.marks k false ≡ true
+    → x.section.part < length (all_parts link.plan.sections)
+live_goes_at link live k x good l there set =
+    let file = file_of_input link.groups k x there in
+    (inputs_are_good link x.file x.index file.0 x.section good file.1 file.2 (not_left_out x.section.slot ((l.marks k x there).0 set).slot)).to_part
 
 -- ---- each stands once
 
@@ -105,8 +112,8 @@ in_front [] y ys h = tt
 in_front (x ∷ xs) y ys h = (behind (Differ x) xs y ys h.0, in_front xs y ys h.1)
 
 -- what differs isn't taken for the other
-pub not_section : (x y : Input) → Differ x y → owns y (SectionOwner x) ≡ false
-not_section x y differ = false_from_ne_true (owns y (SectionOwner x)) (λ taken.
+pub not_section : (x y : Input) (size : ℕ) → Differ x y → owns y (SectionOwner x size) ≡ false
+not_section x y size differ = false_from_ne_true (owns y (SectionOwner x size)) (λ taken.
     let both = and_parts (x.file.group == y.file.group && x.file.file == y.file.file) (x.index == y.index) taken in
     let ids = and_parts (x.file.group == y.file.group) (x.file.file == y.file.file) both.0 in
     let group : x.file.group ≡ y.file.group = eqb-true x.file.group y.file.group ids.0 in

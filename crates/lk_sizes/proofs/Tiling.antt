@@ -16,7 +16,7 @@ use Rattle.lk_link.proofs.Powers.{alignment-pos}
 use Rattle.lk_link.specs.Sizes.{capacity}
 use Rattle.lk_link.proofs.Starts.{next_multiple_is_least}
 use Rattle.lk_link.specs.WellFormed.{IsWellFormed}
-use Rattle.lk_sizes.specs.Owners.{ImageOwner, Owner, SectionOwner, owner_address, owner_bytes, owners_of, bytes_of}
+use Rattle.lk_sizes.specs.Owners.{Owner, owner_address, owner_bytes, owner_size, owners_of, bytes_of}
 use Rattle.lk_sizes.specs.Tiles.{HasByte, IsTiled, OwnersTileTheirPart, OwnersAreAligned}
 
 -- an owner behind the first stands where it stands in the rest, counted from the end of the first
@@ -105,8 +105,7 @@ rounded part size h i =
     subst (λ (n : ℕ). part.alignment ∣ n) (sym e) (next_multiple_is_least part.alignment size i).multiple
 
 owner_rounded : (part : PlanPart) (o : Owner) → part.packed ≡ false → 0 < part.alignment → part.alignment ∣ owner_bytes part o
-owner_rounded part (ImageOwner section len) h i = rounded part len h i
-owner_rounded part (SectionOwner x) h i = rounded part x.section.size h i
+owner_rounded part o h i = rounded part (owner_size o) h i
 
 aligned : (part : PlanPart) (owners : List Owner) (k : ℕ) → part.packed ≡ false → 0 < part.alignment → part.alignment ∣ bytes_of part (take k owners)
 aligned part owners zero h i = dvd-zero part.alignment

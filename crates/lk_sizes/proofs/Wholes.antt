@@ -1,18 +1,21 @@
--- What comes into a part: what its sections bring, and the image.
+-- What comes into a part: what sections and commons bring, and the image.
 use Rattle.std.proofs.Common.{◌≡◌, ℕ, zero, suc, ◌+◌, ◌-◌, ◌^◌, min, Bool, cond, List, [], ◌∷◌, ◌++◌, length, map, Some, ap, ◌∙◌, subst, inl, inr, arith, length-append}
 use Rattle.std.specs.List.{slice_get, slice_index}
 use Rattle.std.proofs.lemmas.List.Sums.{sum_by-append}
 use Rattle.lk_link.specs.declared.link.LinkInput.{LinkInput}
 use Rattle.lk_link.specs.declared.plan.PlanPart.{PlanPart}
+use Rattle.lk_link.specs.Inputs.{NumberedFile, numbered_files}
 use Rattle.lk_link.specs.Parts.{part_at}
 use Rattle.lk_link.specs.Sizes.{capacity}
 use Rattle.lk_link.proofs.Elements.{append_at}
 use Rattle.lk_gc.specs.declared.live.Live.{Live}
 use Rattle.lk_sizes.specs.declared.owners.Total.{Total}
 use Rattle.lk_sizes.specs.Attributes.{part_attributes}
-use Rattle.lk_sizes.specs.Owners.{Content, SectionOwner, content_of, has_image, images_of, live_into, owner_bytes, part_size}
-use Rattle.lk_sizes.specs.Tables.{live_size}
+use Rattle.lk_sizes.specs.Owners.{Content, Taker, all_commons, common_taker, commons_of, content_of, has_image, images_of, live_of, owner_bytes, owners_in, part_size, section_taker, takers}
+use Rattle.lk_sizes.specs.Tables.{bytes_in, commons_size, live_size}
+use Rattle.lk_sizes.proofs.Addressing.{live_by_files}
 use Rattle.lk_sizes.proofs.ImageLemmas.{image_size, section_of}
+use Rattle.lk_sizes.proofs.Takers.{bytes_in_both, mapped_flat}
 
 -- a total is what comes into a part
 pub record IsWhole (link : LinkInput) (content : Content) (p : ℕ) (total : Total) : Type 0 where
@@ -20,9 +23,9 @@ pub record IsWhole (link : LinkInput) (content : Content) (p : ℕ) (total : Tot
   pub image : total.has_image ≡ has_image link p
   pub attrs : total.attrs ≡ part_attributes link content.live p
 
--- it is what the sections bring
+-- it is what the sections and commons bring
 pub record IsBrought (link : LinkInput) (live : Live) (p : ℕ) (total : Total) : Type 0 where
-  pub bytes : min total.bytes (2 ^ 64) ≡ min (live_size link live p) (2 ^ 64)
+  pub bytes : min total.bytes (2 ^ 64) ≡ min (live_size link live p + commons_size link p (all_commons link live)) (2 ^ 64)
   pub image : total.has_image ≡ has_image link p
   pub attrs : total.attrs ≡ part_attributes link live p
 
@@ -31,14 +34,30 @@ pub record AreWhole (link : LinkInput) (content : Content) (n : ℕ) (totals : L
   pub count : length totals ≡ n
   pub each : (p : ℕ) (total : Total) → slice_get totals p ≡ Some total → IsWhole link content p total
 
-whole_size : (link : LinkInput) (live : Live) (merged_lens : List ℕ) (p : ℕ)
-    → part_size link (content_of live merged_lens) p ≡ cond (has_image link p) (capacity (part_at link.plan.sections p) (slice_index merged_lens (section_of link p))) 0 + live_size link live p
+-- what files bring, sections and commons apart
+pub taken_apart : (link : LinkInput) (content : Content) (p : ℕ)
+    → bytes_in link p (takers link content) ≡ live_size link content.live p + commons_size link p (all_commons link content.live)
+taken_apart link content p =
+    let files : List NumberedFile = numbered_files link.groups in
+    let sections : NumberedFile → List Taker = λ f. map section_taker (live_of link content.live f) in
+    let commons : NumberedFile → List Taker = λ f. map common_taker (commons_of link content.live f) in
+    omega (
+      arith,
+      bytes_in_both link p sections commons files,
+      ap (bytes_in link p) (mapped_flat section_taker (live_of link content.live) files ∙ ap (map section_taker) (live_by_files link content.live)),
+      ap (bytes_in link p) (mapped_flat common_taker (commons_of link content.live) files),
+    )
+
+whole_size : (link : LinkInput) (live : Live) (merged_lens : List ℕ) (p : ℕ) → part_size link (content_of live merged_lens) p
+    ≡ cond (has_image link p) (capacity (part_at link.plan.sections p) (slice_index merged_lens (section_of link p))) 0
+    + (live_size link live p + commons_size link p (all_commons link live))
 whole_size link live merged_lens p =
     let part : PlanPart = part_at link.plan.sections p in
     omega (
       arith,
-      sum_by-append (owner_bytes part) (images_of link merged_lens p) (map SectionOwner (live_into link live p)),
+      sum_by-append (owner_bytes part) (images_of link merged_lens p) (owners_in p (takers link (content_of live merged_lens))),
       image_size link merged_lens part p,
+      taken_apart link (content_of live merged_lens) p,
     )
 
 with_image : (link : LinkInput) (live : Live) (merged_lens : List ℕ) (p : ℕ) (old new : Total) (part : PlanPart) (len : ℕ) → IsBrought link live p old

@@ -1,15 +1,15 @@
 -- Which output sections are emitted, and which segments are active.
 use Rattle.std.specs.Prelude.{ℕ, ◌==◌, ◌&&◌, ◌||◌, not, Bool, List, Option, filter, map, nat_lt}
-use Rattle.std.specs.List.{enumerate_from, filter_map, list_any, position}
+use Rattle.std.specs.List.{enumerate_from, list_any, position}
 use Rattle.lk_link.specs.declared.link.LinkInput.{LinkInput}
-use Rattle.lk_link.specs.declared.plan.OrderEvent.{OrderEvent}
 use Rattle.lk_link.specs.declared.plan.Plan.{Plan}
 use Rattle.lk_link.specs.EmitKinds.{is_always, is_never}
-use Rattle.lk_link.specs.Inside.{placed_section, sections_inside}
+use Rattle.lk_link.specs.Inside.{sections_inside}
 use Rattle.lk_link.specs.OutputKinds.{is_partial}
 use Rattle.lk_link.specs.PlanSections.{is_singletons, primary_of, section_at}
 use Rattle.lk_link.specs.SegmentKinds.{is_stack, segment_at}
 use Rattle.lk_link.specs.Marks.{is_marked}
+use Rattle.lk_tables.specs.HeaderParts.{event_sections}
 use Rattle.lk_sizes.specs.Attributes.{parts_of}
 use Rattle.lk_sizes.specs.Owners.{Content, first_size}
 
@@ -30,10 +30,6 @@ abbrev pub is_emitted : LinkInput → Content → ℕ → Bool
 is_emitted link content s =
     list_any (λ q. primary_of link.plan.sections q.0 == s && is_kept link content q.0) (enumerate_from 0 link.plan.sections)
     && can_be_emitted link.plan s
-
--- the sections that events place, in order
-abbrev pub event_sections : List OrderEvent → List ℕ
-event_sections events = filter_map placed_section events
 
 -- a section's index in the output: its place among the emitted ones, in the order of events
 abbrev pub output_index : LinkInput → Content → ℕ → Option ℕ

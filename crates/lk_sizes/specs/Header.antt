@@ -1,6 +1,6 @@
 -- What the headers tell.
 use Rattle.lk_link.specs.declared.link.LinkInput.{LinkInput}
-use Rattle.lk_sizes.specs.declared.header.HeaderInfo.{HeaderInfo}
+use Rattle.lk_tables.specs.declared.header_info.HeaderInfo.{HeaderInfo}
 use Rattle.lk_sizes.specs.Attributes.{by_section}
 use Rattle.lk_sizes.specs.Emitted.{active_segments, is_emitted, output_index}
 use Rattle.lk_sizes.specs.Owners.{Content}

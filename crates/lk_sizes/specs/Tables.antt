@@ -1,20 +1,81 @@
 -- What the code goes by: lists by part, and marks of sections. Contracts of private functions speak of these.
-use Rattle.std.specs.Prelude.{ℕ, ◌+◌, Bool, List, map, slice_index, slice_range}
+use Rattle.std.specs.Prelude.{◌≡◌, ℕ, ◌+◌, ◌^◌, ◌<◌, Bool, if◌then◌else◌, List, filter, length, map, min, slice_index, slice_range, take}
+use Rattle.std.specs.List.{enumerate_from, slice_index_or}
 use Rattle.lk_link.specs.declared.link.LinkInput.{LinkInput}
 use Rattle.lk_link.specs.declared.plan.PlanSection.{PlanSection}
+use Rattle.lk_link.specs.Inputs.{Input, NumberedFile, input_number, inputs_from}
 use Rattle.lk_link.specs.Marks.{is_marked}
 use Rattle.lk_link.specs.Parts.{first_part, part_at}
 use Rattle.lk_gc.specs.declared.live.Live.{Live}
+use Rattle.lk_gc.specs.Reach.{live_inputs}
+use Rattle.lk_sizes.specs.declared.addresses.CommonAddress.{CommonAddress}
+use Rattle.lk_sizes.specs.declared.commons.Common.{Common}
+use Rattle.lk_sizes.specs.declared.owners.Total.{Total}
 use Rattle.lk_sizes.specs.Emitted.{is_told}
-use Rattle.lk_sizes.specs.Owners.{SectionOwner, bytes_of, images_of, live_into}
+use Rattle.lk_sizes.specs.Owners.{Taker, bytes_of, common_taker, images_of, owners_in, section_taker}
 
 -- of what is listed by part, that of a section's parts
 abbrev pub in_section : {X : Type 0} → List PlanSection → ℕ → List X → List X
 in_section sections s xs = slice_range xs (first_part sections s) (first_part sections (s + 1))
 
--- the bytes of the live sections that go to a part
+-- the bytes that some takers bring to a part
+abbrev pub bytes_in : LinkInput → ℕ → List Taker → ℕ
+bytes_in link p ts = bytes_of (part_at link.plan.sections p) (owners_in p ts)
+
+-- the bytes that live sections bring to a part
 abbrev pub live_size : LinkInput → Live → ℕ → ℕ
-live_size link live p = bytes_of (part_at link.plan.sections p) (map SectionOwner (live_into link live p))
+live_size link live p = bytes_in link p (map section_taker (live_inputs link live))
+
+-- the bytes that commons bring to a part
+abbrev pub commons_size : LinkInput → ℕ → List Common → ℕ
+commons_size link p cs = bytes_in link p (map common_taker cs)
+
+-- each part's total gains what these commons bring to it; sums are told apart below 2^64
+pub record AreAdded (link : LinkInput) (cs : List Common) (old new : List Total) : Type 0 where
+  pub count : length new ≡ length old
+  pub bytes : (p : ℕ) (d : Total) → p < length old
+      → min (slice_index_or new p d).bytes (2 ^ 64) ≡ min ((slice_index_or old p d).bytes + commons_size link p cs) (2 ^ 64)
+  pub image : (p : ℕ) (d : Total) → p < length old → (slice_index_or new p d).has_image ≡ (slice_index_or old p d).has_image
+  pub attrs : (p : ℕ) (d : Total) → p < length old → (slice_index_or new p d).attrs ≡ (slice_index_or old p d).attrs
+
+-- ---- addresses
+
+-- the next address of a part behind some takers, by a table of the next ones before them
+abbrev pub next_behind : LinkInput → List ℕ → List Taker → ℕ → ℕ
+next_behind link next ts p = slice_index next p + bytes_in link p ts
+
+-- those takers fit below 2^64 in each part
+abbrev pub HaveSpace : LinkInput → List ℕ → List Taker → Type 0
+HaveSpace link next ts = (p : ℕ) → p < length next → next_behind link next ts p < 2 ^ 64
+
+-- the next addresses have moved on behind them
+pub record ArePassed (link : LinkInput) (old : List ℕ) (ts : List Taker) (new : List ℕ) : Type 0 where
+  pub count : length new ≡ length old
+  pub moved : (p : ℕ) → p < length old → slice_index new p ≡ next_behind link old ts p
+
+-- the sections of a file with the first numbers that are live
+abbrev pub live_below : LinkInput → Live → NumberedFile → ℕ → List Input
+live_below link live f k =
+    filter (λ x. is_marked live.marks (input_number link.groups x.file x.index)) (take k (inputs_from f.id 0 f.file.sections))
+
+-- the next address for each section of a file that is live; 0 for others
+abbrev pub section_place : LinkInput → Live → List ℕ → NumberedFile → ℕ × Input → ℕ
+section_place link live next f q =
+    if is_marked live.marks (input_number link.groups q.1.file q.1.index)
+    then next_behind link next (map section_taker (live_below link live f q.0)) q.1.section.part
+    else 0
+
+abbrev pub section_places : LinkInput → Live → List ℕ → NumberedFile → List ℕ
+section_places link live next f = map (section_place link live next f) (enumerate_from 0 (inputs_from f.id 0 f.file.sections))
+
+-- the next address for each of these commons
+abbrev pub common_place : LinkInput → List ℕ → List Common → ℕ × Common → CommonAddress
+common_place link next cs q = record { symbol = q.1.symbol; address = next_behind link next (map common_taker (take q.0 cs)) q.1.part }
+
+abbrev pub common_places : LinkInput → List ℕ → List Common → List CommonAddress
+common_places link next cs = map (common_place link next cs) (enumerate_from 0 cs)
+
+-- ---- images
 
 -- where the image of a part ends, if it has one, else where the part starts
 abbrev pub behind_image : LinkInput → List ℕ → List ℕ → ℕ → ℕ

@@ -28,7 +28,8 @@ ghost use Rattle.lk_link.specs.PlanSections.{primary_of, section_at};
 ghost use Rattle.lk_link.specs.SegmentKinds.{is_stack};
 ghost use Rattle.lk_link.specs.WellFormed.{IsInRange, IsWellFormed};
 ghost use Rattle.lk_sizes.specs.Attributes.{by_section};
-ghost use Rattle.lk_sizes.specs.Emitted.{can_be_emitted, event_sections, is_emitted, is_kept};
+ghost use Rattle.lk_tables.specs.HeaderParts.{event_sections};
+ghost use Rattle.lk_sizes.specs.Emitted.{can_be_emitted, is_emitted, is_kept};
 ghost use Rattle.lk_sizes.specs.Header.{header_info};
 ghost use Rattle.lk_sizes.specs.Tables.{active_by, in_section};
 ghost use Rattle.lk_sizes.specs.Owners.{AreFirstSizes, content_of};
@@ -39,18 +40,8 @@ use lk_link::marks::is_marked;
 use lk_link::{
     LinkInput, List, OrderEvent, OutputSectionId, Plan, PlanSections, PlanSegment, SegmentId,
 };
+use lk_tables::HeaderInfo;
 use std::alloc::{AllocError, Global};
-
-/// Which output sections and segments are told (libwild: `HeaderInfo`).
-#[derive(Drop)]
-pub struct HeaderInfo {
-    /// For each output section whether it is emitted.
-    pub emitted: List<bool>,
-    /// For each output section its index in the output; none where it isn't emitted.
-    pub output_section_indexes: List<Option<u32>>,
-    /// The active segments, in rising order.
-    pub active_segment_ids: List<SegmentId>,
-}
 
 /// What the headers tell, by what is live and the first sizes of the parts in bytes (libwild: `determine_header_sizes`).
 /// Looks at each section and its parts once, and at each event once for the sections and once for each segment.

@@ -1,9 +1,8 @@
 //! Laws on owners and sizes.
 
+ghost use Rattle.lk_sizes.specs.Addresses.{CommonsRise, TableTellsLiveSections};
 ghost use Rattle.lk_sizes.specs.Images.{ImagesAreOwners, ImagesStandWhereInputsGo};
-ghost use Rattle.lk_sizes.specs.LiveSections.{TableTellsLiveSections};
-ghost use Rattle.lk_sizes.specs.Owners.{FirstSizesAreSizes, LiveSectionsAreOwners};
-ghost use Rattle.lk_sizes.specs.TableTiles.{EntriesTileTheirTable};
+ghost use Rattle.lk_sizes.specs.Owners.{CommonsAreOwners, FirstSizesAreSizes, LiveSectionsAreOwners, OwnersAreLive};
 ghost use Rattle.lk_sizes.specs.Tiles.{OwnersTileTheirPart, OwnersAreAligned};
 
 /// A law: the sizes that tell which sections are emitted are the sizes of the parts, where nothing changes them in between.
@@ -26,6 +25,21 @@ pub fn live_sections_are_owners()
     ensures { LiveSectionsAreOwners }
 {}
 
+/// A law: each common of an object that gets a resolution stands among the owners of its part under its number there.
+pub fn commons_are_owners()
+    ensures { CommonsAreOwners }
+{}
+
+/// A law: each owner of a part is the image of its output section, a live section that goes to it, or one of its commons.
+pub fn owners_are_live()
+    ensures { OwnersAreLive }
+{}
+
+/// A law: the commons that take bytes stand in the order of their symbols.
+pub fn commons_rise()
+    ensures { CommonsRise }
+{}
+
 /// A law: by their marks and the table of addresses, the live sections are told with the addresses that they have.
 pub fn table_tells_live_sections()
     ensures { TableTellsLiveSections }
@@ -39,9 +53,4 @@ pub fn images_are_owners()
 /// A law: where a section that is merged goes, the image of its output section stands.
 pub fn images_stand_where_inputs_go()
     ensures { ImagesStandWhereInputsGo }
-{}
-
-/// A law: the entries of a table tile it. Each byte of the table has an entry, and no entry reaches out of it.
-pub fn entries_tile_their_table()
-    ensures { EntriesTileTheirTable }
 {}

@@ -3,26 +3,23 @@
 
 pub mod addresses;
 pub mod attributes;
-pub mod copied;
-pub mod dynamic;
+mod commons;
 pub mod error;
 pub mod header;
-pub mod headers;
 pub mod images;
 mod kept;
 pub mod laws;
 pub mod owners;
-pub mod symbol_entries;
-pub mod symbol_table;
 
-pub use addresses::{LiveSection, section_addresses};
+pub use addresses::{
+    CommonAddress, LiveSection, OwnerAddresses, owner_addresses, section_addresses,
+};
 pub use attributes::propagate_section_attributes;
-pub use copied::SymbolCopyInfo;
-pub use dynamic::{DynamicSizes, dynamic_indexes, dynamic_sizes, dynamic_table};
 pub use error::SizeError;
-pub use header::{HeaderInfo, determine_header_sizes};
-pub use headers::{HeaderSizes, header_sizes};
+pub use header::determine_header_sizes;
 pub use images::image_addresses;
+pub use lk_tables::{
+    DynamicSizes, HeaderInfo, HeaderSizes, SymbolCopyInfo, dynamic_indexes, dynamic_sizes,
+    dynamic_table, entry_sizes, header_sizes, symbol_sizes,
+};
 pub use owners::{PartContents, part_contents, part_sizes};
-pub use symbol_entries::entry_sizes;
-pub use symbol_table::symbol_sizes;

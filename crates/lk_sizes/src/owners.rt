@@ -1,34 +1,37 @@
 //! What comes into the parts of a link: bytes, attributes, and whether merged images stand there.
 //!
-//! One pass over the live and merged sections adds each to the row of its part, in a flat table by part number. Sums have 128
-//! bits there, so that one that passes 2^64 - 1 is told from one that fits. A part to which merged sections go has the image
-//! of its output section, which comes on top. A last pass over the rows adds the sums up, part by part, and refuses the
-//! first part at which they pass 2^64 - 1 together.
+//! One pass over the live and merged sections adds each to the row of its part, in a flat table by part number; another over the
+//! symbols adds the commons. Sums have 128 bits there, so that one that passes 2^64 - 1 is told from one that fits. A part to
+//! which merged sections go has the image of its output section, which comes on top. A last pass over the rows adds the sums
+//! up, part by part, and refuses the first part at which they pass 2^64 - 1 together.
 
 ghost use Rattle.std.specs.Prelude.{◌≡◌, ◌+◌, ◌-◌, ◌<◌, ◌^◌, ◌||◌, ℕ, IsTrue, IfOk, OnOk, Some, ◌++◌, if◌then◌else◌, bit_or, length, map, min, slice_get, slice_index};
 ghost use Rattle.lk_link.specs.Alignments.{is_alignment};
+ghost use Rattle.lk_link.specs.Files.{file_in};
 ghost use Rattle.lk_link.specs.InputSlots.{is_merge};
 ghost use Rattle.lk_link.specs.Parts.{all_parts};
 ghost use Rattle.lk_link.specs.Sizes.{capacity};
+ghost use Rattle.lk_link.specs.Walks.{file_of};
 ghost use Rattle.lk_link.specs.WellFormed.{IsWellFormed};
 ghost use Rattle.lk_link.specs.declared.link.LinkInput.{LinkInput};
 ghost use Rattle.lk_gc.specs.Reach.{AreLive};
 ghost use Rattle.lk_sizes.specs.Attributes.{part_attributes};
 ghost use Rattle.lk_sizes.specs.Contents.{GivesContents, part_contents};
-ghost use Rattle.lk_sizes.specs.Owners.{Content, content_of, has_image, part_sections, part_size, part_sizes};
-ghost use Rattle.lk_sizes.specs.Tables.{live_size};
+ghost use Rattle.lk_sizes.specs.Owners.{Content, all_commons, commons_of, content_of, has_image, part_sections, part_size, part_sizes};
+ghost use Rattle.lk_sizes.specs.Tables.{AreAdded, commons_size, live_size};
 ghost use Rattle.lk_sizes.specs.declared.owners.Total.{Total};
 
+use crate::commons::file_commons;
 use crate::error::SizeError;
 use crate::kept::KeptInputs;
 use lk_gc::Live;
-use lk_link::{InputSection, LinkInput, List, Place, PlanPart, PlanSection, Section};
+use lk_link::{FileRef, InputSection, LinkInput, List, Place, PlanPart, PlanSection, Section};
 use std::alloc::{AllocError, Global};
 
 /// What comes into a part.
 #[derive(Clone, Copy, Debug, PartialEq, Eq)]
 pub struct PartContents {
-    /// Bytes of the image and of the live sections; those of all parts are at most 2^64 - 1 together.
+    /// Bytes of the image, of the live sections and of the commons; those of all parts are at most 2^64 - 1 together.
     pub bytes: u64,
     /// Whether merged sections go to it, so that the merged image of its output section stands there, before the sections.
     pub has_image: bool,
@@ -69,6 +72,25 @@ impl Total {
         }
     }
 
+    /// With a common, so many bytes large.
+    fn with_common(self, part: &PlanPart, size: u64) -> Total
+        requires { IsTrue (is_alignment part.now.alignment) }
+        ensures bytes { result.bytes ≡ min (self.bytes + capacity part.now size) (2 ^ 128 - 1) }
+        ensures image { result.has_image ≡ self.has_image }
+        ensures attrs { result.attrs ≡ self.attrs }
+    {
+        let Total {
+            bytes,
+            has_image,
+            attrs,
+        } = self;
+        Total {
+            bytes: bytes.saturating_add(Section { size }.exact_capacity(part)),
+            has_image,
+            attrs,
+        }
+    }
+
     /// With the image, if one stands there, so many bytes long.
     fn with_image(self, part: &PlanPart, len: u64) -> Total
         requires { IsTrue (is_alignment part.now.alignment) }
@@ -102,7 +124,7 @@ pub(crate) fn image_bytes(part: &PlanPart, has_image: bool, len: u64) -> u128
 }
 
 /// What comes into each part, by its number, where the merged images of output sections are so many bytes long; none is
-/// where nothing is merged. Looks at each input section once, and takes memory for the parts alone. Refuses the first part
+/// where nothing is merged. Looks at each input section and each symbol once, and takes memory for the parts alone. Refuses the first part
 /// at which the sizes so far pass 2^64 - 1 together (libwild: `compute_total_section_part_sizes`).
 pub fn part_contents(
     alloc: Global,
@@ -151,12 +173,54 @@ fn add_up(
 {
     let parts = link.plan.sections.parts();
     let lens = image_lens(alloc, link.plan.sections.as_slice(), merged_lens)?;
-    let inputs = add_inputs(alloc, link, live)?;
+    let inputs = add_takers(alloc, link, live)?;
     let mut totals = Vec::with_capacity(alloc, inputs.len())?;
     for number in 0..inputs.len() {
         totals.push(inputs[number].with_image(&parts[number], lens[number]))?;
     }
     Ok(totals)
+}
+
+/// What sections and commons bring to each part, without the images.
+fn add_takers(alloc: Global, link: &LinkInput, live: &Live) -> Result<Vec<Total>, AllocError>
+    requires good { IsWellFormed link.now }
+    requires live { AreLive link.now live.now }
+    ensures count { IfOk result (λ totals. length totals.items ≡ length (all_parts link.now.plan.sections)) }
+    ensures bytes { IfOk result (λ totals. (p : ℕ) (total : Total) → slice_get totals.items p ≡ Some total → min total.bytes (2 ^ 64)
+        ≡ min (live_size link.now live.now p + commons_size link.now p (all_commons link.now live.now)) (2 ^ 64)) }
+    ensures image { IfOk result (λ totals. (p : ℕ) (total : Total) → slice_get totals.items p ≡ Some total
+        → total.has_image ≡ has_image link.now p) }
+    ensures attrs { IfOk result (λ totals. (p : ℕ) (total : Total) → slice_get totals.items p ≡ Some total
+        → total.attrs ≡ part_attributes link.now live.now p) }
+{
+    let mut totals = add_inputs(alloc, link, live)?;
+    add_commons(link, live, &mut totals);
+    Ok(totals)
+}
+
+/// Adds what the commons bring to each part.
+fn add_commons(link: &LinkInput, live: &Live, totals: &mut [Total])
+    requires good { IsWellFormed link.now }
+    requires count { length totals.old ≡ length (all_parts link.now.plan.sections) }
+    ensures { AreAdded link.now (all_commons link.now live.now) totals.old totals.new }
+{
+    for file in link.groups.files() {
+        add_file_commons(link, live, file, totals);
+    }
+}
+
+/// Adds what the commons of a file bring to each part.
+fn add_file_commons(link: &LinkInput, live: &Live, file: FileRef<'_>, totals: &mut [Total])
+    requires good { IsWellFormed link.now }
+    requires there { file_in link.now.groups file.id ≡ Some file.file.now }
+    requires count { length totals.old ≡ length (all_parts link.now.plan.sections) }
+    ensures { AreAdded link.now (commons_of link.now live.now (file_of file.entry)) totals.old totals.new }
+{
+    let parts = link.plan.sections.parts();
+    for common in file_commons(link, live, file) {
+        let part = common.part.as_usize();
+        totals[part] = totals[part].with_common(&parts[part], common.size);
+    }
 }
 
 /// What the live and merged sections bring to each part, without the images.

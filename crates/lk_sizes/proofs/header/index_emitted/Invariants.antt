@@ -2,7 +2,7 @@ use Rattle.std.proofs.Common.{◌≡◌, ℕ, ◌<◌, ◌≤◌, drop, length, 
 use Rattle.std.specs.Prelude.{◌==◌, filter}
 use Rattle.std.specs.List.{position_from, slice_index_or}
 use Rattle.lk_link.specs.Files.{first_some}
-use Rattle.lk_sizes.specs.Emitted.{event_sections}
+use Rattle.lk_tables.specs.HeaderParts.{event_sections}
 use Rattle.lk_sizes.proofs.header.index_emitted.Given as goal
 use Rattle.lk_link.specs.Marks.{is_marked}
 

@@ -3,14 +3,17 @@ use Rattle.std.proofs.lemmas.List.{map-append}
 use Rattle.lk_link.specs.Inputs.{Input}
 use Rattle.lk_link.specs.Parts.{all_parts, part_at}
 use Rattle.lk_link.specs.Walks.{input_of}
-use Rattle.lk_gc.proofs.LiveWalk.{finish}
-use Rattle.lk_gc.proofs.Numbered.{are_numbered}
+use Rattle.lk_reach.proofs.LiveWalk.{finish}
+use Rattle.lk_reach.proofs.Numbered.{are_numbered}
 use Rattle.lk_sizes.specs.declared.owners.Total.{Total}
 use Rattle.lk_sizes.specs.Kept.{kept_inputs}
 use Rattle.lk_sizes.proofs.Adding.{AreTotals, add_one, bytes_into, no_totals, total_at}
 use Rattle.lk_sizes.proofs.KeptOnes.{image_kept, unmerged_live}
 use Rattle.lk_sizes.proofs.Limited.{part_fits}
+use Rattle.lk_gc.specs.Reach.{live_inputs}
+use Rattle.lk_sizes.specs.Owners.{Owner, bytes_of}
 use Rattle.lk_sizes.proofs.LiveParts.{goes_kept, read_alignment, read_part}
+use Rattle.lk_sizes.proofs.Takers.{owners_in_sections}
 use Rattle.lk_sizes.proofs.owners.add_inputs.Goals as goal
 
 pub new-input-items-requires : goal.new-input-items-requires
@@ -67,7 +70,8 @@ returns c =
       count = totals.count;
       bytes = λ p total there.
           (total_at link kept c.loop-input.totals.items p total totals there).bytes
-          ∙ ap (λ (xs : List Input). min (bytes_into (part_at link.plan.sections p) p xs) (2 ^ 64)) (unmerged_live link live c.requires.live);
+          ∙ ap (λ (xs : List Input). min (bytes_into (part_at link.plan.sections p) p xs) (2 ^ 64)) (unmerged_live link live c.requires.live)
+          ∙ ap (λ (os : List Owner). min (bytes_of (part_at link.plan.sections p) os) (2 ^ 64)) (sym (owners_in_sections p (live_inputs link live)));
       image = λ p total there. (total_at link kept c.loop-input.totals.items p total totals there).image ∙ image_kept link live p c.requires.live;
       attrs = λ p total there. (total_at link kept c.loop-input.totals.items p total totals there).attrs;
     }

@@ -1,0 +1,346 @@
+-- The commons of a link: each stands once, in the order of symbols, among the owners of its part.
+use Rattle.std.proofs.Common.{◌≡◌, ℕ, zero, suc, ◌+◌, ◌<◌, ◌≤◌, ◌==◌, true, false, List, [], ◌∷◌, ◌++◌, length, map, take, Option, Some, None, refl, sym, ap, ◌∙◌, subst, arith}
+use Rattle.std.specs.Prelude.{if◌then◌else◌}
+use Rattle.std.specs.List.{AllByRecursion, cons_option, enumerate_from, filter_map, flat_map, slice_get}
+use Rattle.std.proofs.lemmas.Bool.{eqb-true, false_from_ne_true}
+use Rattle.std.proofs.lemmas.Grind.{flat_map-append}
+use Rattle.std.proofs.lemmas.List.{append-nil, map-append, take_more}
+use Rattle.std.proofs.lemmas.List.Sums.{sum_by_more}
+use Rattle.std.proofs.lemmas.Option.{get_or_from_slice_get, slice_get_within}
+use Rattle.lk_link.specs.declared.file.FileKind.{FileKind}
+use Rattle.lk_link.specs.declared.file.InputFile.{InputFile}
+use Rattle.lk_link.specs.declared.link.LinkInput.{LinkInput}
+use Rattle.lk_link.specs.declared.symbol.InputSymbol.{InputSymbol}
+use Rattle.lk_link.specs.declared.symbol.SymbolPlacement.{SymbolPlacement}
+use Rattle.lk_link.specs.declared.symbol.SymbolPlacement.TheVariants as at
+use Rattle.lk_link.specs.Files.{file_in}
+use Rattle.lk_link.specs.Inputs.{Input, NumberedFile, numbered_files}
+use Rattle.lk_link.specs.Symbols.{all_files, file_number, first_symbol, symbols_before, symbols_in}
+use Rattle.lk_link.proofs.Elements.{append_right, at_index, flat_map_in, map_in, numbered_at}
+use Rattle.lk_link.specs.PartRules.{is_table_part}
+use Rattle.lk_link.specs.Parts.{all_parts}
+use Rattle.lk_link.specs.SymbolRules.{IsPlacementThere}
+use Rattle.lk_link.specs.WellFormed.{IsWellFormed}
+use Rattle.lk_link.proofs.GoodSymbols.{symbol_of as symbols_are_good}
+use Rattle.lk_link.proofs.InputLemmas.{file_stands, files_from_are, numbered_get}
+use Rattle.lk_gc.specs.declared.live.Live.{Live}
+use Rattle.lk_reach.proofs.Numbered.{file_at}
+use Rattle.lk_sizes.specs.declared.commons.Common.{Common}
+use Rattle.lk_sizes.specs.Addresses.{CommonsRise}
+use Rattle.lk_tables.specs.Copied.{is_wanted}
+use Rattle.lk_tables.specs.Late.{flags_at}
+use Rattle.lk_sizes.specs.Owners.{CommonOwner, CommonsAreOwners, Content, ImageOwner, IsCommonIn, Owner, SectionOwner, Taker, all_commons, common_address, common_at, common_of, common_taker, commons_of, file_takers, is_common_of, live_of, section_taker, takers}
+use Rattle.lk_sizes.specs.Tables.{behind_image, bytes_in}
+use Rattle.lk_sizes.proofs.Addressing.{IsAmong, NonePass, StandsBehind, address_behind, all_parted, among, same_number, stands_behind, stands_there}
+
+-- ---- numbers that rise
+
+-- each is above the one before it, the first at least low, the last below high
+abbrev pub IsRising : ℕ → List ℕ → ℕ → Type 0
+IsRising low [] high = low ≤ high
+IsRising low (x ∷ xs) high = (low ≤ x) × IsRising (x + 1) xs high
+
+rising_lower : (low lower : ℕ) (xs : List ℕ) (high : ℕ) → lower ≤ low → IsRising low xs high → IsRising lower xs high
+rising_lower low lower [] high h i = omega (arith, i)
+rising_lower low lower (x ∷ xs) high h i = (omega (arith, i.0), i.1)
+
+rising_joined : (low middle high : ℕ) (xs ys : List ℕ) → IsRising low xs middle → IsRising middle ys high → IsRising low (xs ++ ys) high
+rising_joined low middle high [] ys h i = rising_lower middle low ys high h i
+rising_joined low middle high (x ∷ xs) ys h i = (h.0, rising_joined (x + 1) middle high xs ys h.1 i)
+
+rising_above : (low high : ℕ) (xs : List ℕ) (y : ℕ) (ys : List ℕ) → IsRising low (xs ++ y ∷ ys) high → low ≤ y
+rising_above low high [] y ys h = h.0
+rising_above low high (x ∷ xs) y ys h = omega (arith, h.0, rising_above (x + 1) high xs y ys h.1)
+
+-- those in front of one are below it
+rising_front : (low high : ℕ) (xs : List ℕ) (y : ℕ) (ys : List ℕ) → IsRising low (xs ++ y ∷ ys) high → AllByRecursion (λ x. x < y) xs
+rising_front low high [] y ys h = tt
+rising_front low high (x ∷ xs) y ys h = (omega (arith, rising_above (x + 1) high xs y ys h.1), rising_front (x + 1) high xs y ys h.1)
+
+rising_at : (low high : ℕ) (xs : List ℕ) (k y : ℕ) → IsRising low xs high → slice_get xs k ≡ Some y → low ≤ y
+rising_at low high [] k y h there = absurd (cc)
+rising_at low high (x ∷ xs) zero y h there = let same : x ≡ y = cc in omega (arith, h.0, same)
+rising_at low high (x ∷ xs) (suc k) y h there = omega (arith, h.0, rising_at (x + 1) high xs k y h.1 there)
+
+pub rising_order : (low high : ℕ) (xs : List ℕ) (j k x y : ℕ) → IsRising low xs high → j < k → slice_get xs j ≡ Some x → slice_get xs k ≡ Some y → x < y
+rising_order low high [] j k x y h below at_j at_k = absurd (cc)
+rising_order low high (z ∷ xs) zero zero x y h below at_j at_k = absurd (omega arith)
+rising_order low high (z ∷ xs) zero (suc k) x y h below at_j at_k = let same : z ≡ x = cc in omega (arith, same, rising_at (z + 1) high xs k y h.1 at_k)
+rising_order low high (z ∷ xs) (suc j) zero x y h below at_j at_k = absurd (omega arith)
+rising_order low high (z ∷ xs) (suc j) (suc k) x y h below at_j at_k = rising_order (z + 1) high xs j k x y h.1 (omega arith) at_j at_k
+
+-- ---- the symbols of commons
+
+abbrev pub symbols_told : List Common → List ℕ
+symbols_told cs = map (λ (c : Common). c.symbol) cs
+
+placed_number : (s : ℕ) (p : SymbolPlacement) (c : Common) → common_at s p ≡ Some c → c.symbol ≡ s
+placed_number s (at.Common p size) c h = let shown : Common → ℕ = λ d. d.symbol in let same : (record { symbol = s; part = p; size = size }) ≡ c = cc in ap shown (sym same)
+placed_number s (at.Section i offset) c h = absurd (cc)
+placed_number s (at.Absolute n) c h = absurd (cc)
+placed_number s at.Undef c h = absurd (cc)
+placed_number s at.Dynamic c h = absurd (cc)
+placed_number s at.Undefined c h = absurd (cc)
+placed_number s at.ForceUndefined c h = absurd (cc)
+placed_number s (at.SectionStart o) c h = absurd (cc)
+placed_number s (at.SectionEnd o) c h = absurd (cc)
+placed_number s (at.SectionGroupEnd o) c h = absurd (cc)
+placed_number s at.TlsEnd c h = absurd (cc)
+placed_number s at.LoadBaseAddress c h = absurd (cc)
+placed_number s (at.Redirect e l provide) c h = absurd (cc)
+
+-- what a common is told of
+pub record IsCommonOf (live : Live) (kind : FileKind) (q : ℕ × InputSymbol) (c : Common) : Type 0 where
+  pub wanted : is_wanted kind q.0 q.1 (flags_at live.flags q.0) ≡ true
+  pub placed : common_at q.0 q.1.at ≡ Some c
+
+pub is_common : (live : Live) (kind : FileKind) (q : ℕ × InputSymbol) (c : Common) → common_of live kind q ≡ Some c → IsCommonOf live kind q c
+is_common live kind q c h =
+    (elim (is_wanted kind q.0 q.1 (flags_at live.flags q.0)) as (λ b. is_wanted kind q.0 q.1 (flags_at live.flags q.0) ≡ b → (if b then common_at q.0 q.1.at else None) ≡ Some c → IsCommonOf live kind q c) [
+      | true ↦ λ wanted placed. record { wanted = wanted; placed = placed }
+      | false ↦ λ wanted placed. absurd (cc)
+    ]) refl h
+
+-- those of a file's symbols rise
+rising_step : (o : Option Common) (n high : ℕ) (rest : List Common) → ((c : Common) → o ≡ Some c → c.symbol ≡ n) → IsRising (n + 1) (symbols_told rest) high
+    → IsRising n (symbols_told (cons_option o rest)) high
+rising_step None n high rest number h = rising_lower (n + 1) n (symbols_told rest) high (omega arith) h
+rising_step (Some c) n high rest number h =
+    let is : c.symbol ≡ n = number c refl in
+    (omega (arith, is), subst (λ (m : ℕ). IsRising (m + 1) (symbols_told rest) high) (sym is) h)
+
+rising_file : (live : Live) (kind : FileKind) (n : ℕ) (symbols : List InputSymbol)
+    → IsRising n (symbols_told (filter_map (common_of live kind) (enumerate_from n symbols))) (n + length symbols)
+rising_file live kind n [] = omega arith
+rising_file live kind n (x ∷ symbols) =
+    let more : n + 1 + length symbols ≡ n + length (x ∷ symbols) = omega arith in
+    rising_step (common_of live kind (n, x)) n (n + length (x ∷ symbols)) (filter_map (common_of live kind) (enumerate_from (n + 1) symbols))
+    (λ c is. placed_number n x.at c (is_common live kind (n, x) c is).placed)
+    (subst (λ (m : ℕ). IsRising (n + 1) (symbols_told (filter_map (common_of live kind) (enumerate_from (n + 1) symbols))) m) more (rising_file live kind (n + 1) symbols))
+
+-- a file's number is its place
+place_is_number : (link : LinkInput) (k : ℕ) (f : NumberedFile) → slice_get (numbered_files link.groups) k ≡ Some f → k ≡ file_number link.groups f.id
+place_is_number link k f h =
+    let here = file_at link.groups k f h in
+    let there = file_at link.groups (file_number link.groups f.id) (record { id = f.id; file = f.file }) (file_stands link.groups f.id f.file here.there) in
+    here.place ∙ sym there.place
+
+-- so do those of the first files
+rising_files : (link : LinkInput) (live : Live) (k : ℕ) → k ≤ length (numbered_files link.groups)
+    → IsRising 0 (symbols_told (flat_map (commons_of link live) (take k (numbered_files link.groups)))) (symbols_before k (all_files link.groups))
+rising_files link live zero h = omega arith
+rising_files link live (suc k) h =
+    let files : List NumberedFile = numbered_files link.groups in
+    let all : List InputFile = all_files link.groups in
+    let at = at_index files k (omega (arith, h)) in
+    let f : NumberedFile = at.0 in
+    let before : List Common = flat_map (commons_of link live) (take k files) in
+    let number : k + 1 ≡ suc k = omega arith in
+    let front : take (suc k) files ≡ take k files ++ f ∷ []
+    = ap (λ (n : ℕ). take n files) (sym number) ∙ take_more files k f (omega (arith, h)) ∙ ap (λ (g : NumberedFile). take k files ++ g ∷ []) (get_or_from_slice_get files k f f at.1) in
+    let split : symbols_told (flat_map (commons_of link live) (take (suc k) files)) ≡ symbols_told before ++ symbols_told (commons_of link live f)
+    = ap (λ (gs : List NumberedFile). symbols_told (flat_map (commons_of link live) gs)) front
+    ∙ ap symbols_told (flat_map-append (commons_of link live) (take k files) (f ∷ []) ∙ ap (λ (cs : List Common). before ++ cs) (append-nil (commons_of link live f)))
+    ∙ map-append (λ (c : Common). c.symbol) before (commons_of link live f) in
+    let first : first_symbol link.groups f.id ≡ symbols_before k all = ap (λ (n : ℕ). symbols_before n all) (sym (place_is_number link k f at.1)) in
+    let in_all : slice_get all k ≡ Some f.file = ap (λ (fs : List InputFile). slice_get fs k) (sym (files_from_are 0 link.groups)) ∙ map_in (λ (g : NumberedFile). g.file) files k f at.1 in
+    let more : symbols_before (k + 1) all ≡ symbols_before k all + length f.file.symbols
+    = sum_by_more symbols_in all k f.file (slice_get_within all k f.file in_all) ∙ ap (λ (g : InputFile). symbols_before k all + symbols_in g) (get_or_from_slice_get all k f.file f.file in_all) in
+    let end : first_symbol link.groups f.id + length f.file.symbols ≡ symbols_before (suc k) all = omega (arith, first, more, ap (λ (n : ℕ). symbols_before n all) number) in
+    subst (λ (xs : List ℕ). IsRising 0 xs (symbols_before (suc k) all)) (sym split)
+    (rising_joined 0 (symbols_before k all) (symbols_before (suc k) all) (symbols_told before) (symbols_told (commons_of link live f)) (rising_files link live k (omega (arith, h)))
+    (subst (λ (n : ℕ). IsRising n (symbols_told (commons_of link live f)) (symbols_before (suc k) all)) first
+    (subst (λ (n : ℕ). IsRising (first_symbol link.groups f.id) (symbols_told (commons_of link live f)) n) end (rising_file live f.file.kind (first_symbol link.groups f.id) f.file.symbols))))
+
+-- all rise
+pub all_rising : (link : LinkInput) (live : Live) → IsRising 0 (symbols_told (all_commons link live)) (symbols_before (length (numbered_files link.groups)) (all_files link.groups))
+all_rising link live =
+    let files : List NumberedFile = numbered_files link.groups in
+    subst (λ (fs : List NumberedFile). IsRising 0 (symbols_told (flat_map (commons_of link live) fs)) (symbols_before (length files) (all_files link.groups)))
+    (take_whole files) (rising_files link live (length files) (omega arith))
+  where
+    take_whole : {X : Type 0} (xs : List X) → take (length xs) xs ≡ xs
+    take_whole [] = refl
+    take_whole (x ∷ xs) = ap (λ (ys : List _). x ∷ ys) (take_whole xs)
+
+pub commons_rise : CommonsRise
+commons_rise link live j k c d below at_j at_k =
+    let symbol : Common → ℕ = λ e. e.symbol in
+    rising_order 0 (symbols_before (length (numbered_files link.groups)) (all_files link.groups)) (symbols_told (all_commons link live)) j k c.symbol d.symbol (all_rising link live) below
+    (map_in symbol (all_commons link live) j c at_j) (map_in symbol (all_commons link live) k d at_k)
+
+-- ---- commons among takers
+
+abbrev common_in : Owner → List ℕ
+common_in (ImageOwner section len) = []
+common_in (SectionOwner x size) = []
+common_in (CommonOwner s size) = s ∷ []
+
+abbrev pub commons_among : List Taker → List ℕ
+commons_among ts = flat_map (λ (t : Taker). common_in t.owner) ts
+
+none_told : (xs : List Input) → commons_among (map section_taker xs) ≡ []
+none_told [] = refl
+none_told (x ∷ xs) = none_told xs
+
+all_told : (cs : List Common) → commons_among (map common_taker cs) ≡ symbols_told cs
+all_told [] = refl
+all_told (c ∷ cs) = ap (λ (ss : List ℕ). c.symbol ∷ ss) (all_told cs)
+
+commons_joined : (ts us : List Taker) → commons_among (ts ++ us) ≡ commons_among ts ++ commons_among us
+commons_joined ts us = flat_map-append (λ (t : Taker). common_in t.owner) ts us
+
+of_files : (link : LinkInput) (content : Content) (files : List NumberedFile)
+    → commons_among (flat_map (file_takers link content) files) ≡ symbols_told (flat_map (commons_of link content.live) files)
+of_files link content [] = refl
+of_files link content (f ∷ files) =
+    let xs : List Input = live_of link content.live f in
+    let cs : List Common = commons_of link content.live f in
+    let rest : List Taker = flat_map (file_takers link content) files in
+    let one : commons_among (file_takers link content f) ≡ symbols_told cs
+    = commons_joined (map section_taker xs) (map common_taker cs) ∙ ap (λ (ss : List ℕ). ss ++ commons_among (map common_taker cs)) (none_told xs) ∙ all_told cs in
+    commons_joined (file_takers link content f) rest
+    ∙ ap (λ (ss : List ℕ). ss ++ commons_among rest) one
+    ∙ ap (λ (ss : List ℕ). symbols_told cs ++ ss) (of_files link content files)
+    ∙ sym (map-append (λ (c : Common). c.symbol) cs (flat_map (commons_of link content.live) files))
+
+-- ---- a common is none of those in front of it
+
+one_other : (s : ℕ) (o : Owner) → AllByRecursion (λ t. t < s) (common_in o) → is_common_of s o ≡ false
+one_other s (ImageOwner section len) h = refl
+one_other s (SectionOwner x size) h = refl
+one_other s (CommonOwner t size) h = false_from_ne_true (t == s) (λ same. absurd (omega (arith, h.0, eqb-true t s same)))
+
+others : (s : ℕ) (ts : List Taker) → AllByRecursion (λ t. t < s) (commons_among ts) → NonePass (is_common_of s) ts
+others s [] h = tt
+others s (t ∷ ts) h =
+    let parted = all_parted (λ (n : ℕ). n < s) (common_in t.owner) (commons_among ts) h in
+    (one_other s t.owner parted.0, others s ts parted.1)
+
+pub common_stands : (link : LinkInput) (content : Content) (front : List Taker) (c : Common) (rest : List Taker) → takers link content ≡ front ++ common_taker c ∷ rest
+    → StandsBehind (is_common_of c.symbol) link content front (common_taker c)
+common_stands link content front c rest all =
+    let split : symbols_told (all_commons link content.live) ≡ commons_among front ++ c.symbol ∷ commons_among rest
+    = sym (of_files link content (numbered_files link.groups)) ∙ ap commons_among all ∙ commons_joined front (common_taker c ∷ rest) in
+    let end : ℕ = symbols_before (length (numbered_files link.groups)) (all_files link.groups) in
+    let below = rising_front 0 end (commons_among front) c.symbol (commons_among rest) (subst (λ (ss : List ℕ). IsRising 0 ss end) split (all_rising link content.live)) in
+    stands_behind (is_common_of c.symbol) link content front (common_taker c) rest all (λ section len. refl) (others c.symbol front below) (same_number c.symbol)
+
+-- its address
+pub common_behind : (link : LinkInput) (content : Content) (starts : List ℕ) (front : List Taker) (c : Common) (rest : List Taker) → takers link content ≡ front ++ common_taker c ∷ rest
+    → common_address link content starts c.part c.symbol ≡ behind_image link content.merged_lens starts c.part + bytes_in link c.part front
+common_behind link content starts front c rest all =
+    address_behind (is_common_of c.symbol) link content starts front (common_taker c) (common_stands link content front c rest all)
+
+-- ---- each common stands among the takers
+
+filter_map_in : {X Y : Type 0} (h : X → Option Y) (xs : List X) (k : ℕ) (x : X) (y : Y) → slice_get xs k ≡ Some x → h x ≡ Some y → (j : ℕ) × (slice_get (filter_map h xs) j ≡ Some y)
+filter_map_in h [] k x y there is = absurd (cc)
+filter_map_in h (z ∷ xs) zero x y there is =
+    let same : z ≡ x = cc in
+    (0, ap (λ o. slice_get (cons_option o (filter_map h xs)) 0) (ap h same ∙ is))
+filter_map_in h (z ∷ xs) (suc k) x y there is =
+    let r = filter_map_in h xs k x y there is in
+    elim (h z) as (λ o. (j : ℕ) × (slice_get (cons_option o (filter_map h xs)) j ≡ Some y)) [
+      | None ↦ r
+      | Some w ↦ (suc r.0, r.1)
+    ]
+
+pub common_at_index : (link : LinkInput) (live : Live) (p s size : ℕ) (h : IsCommonIn link live p s size) → (k : ℕ)
+    × (slice_get (commons_of link live h.file) k ≡ Some (record { symbol = s; part = p; size = size }))
+common_at_index link live p s size h =
+    let first : ℕ = first_symbol link.groups h.file.id in
+    let c : Common = record { symbol = s; part = p; size = size } in
+    let numbered : slice_get (enumerate_from first h.file.file.symbols) h.index ≡ Some (s, h.symbol)
+    = numbered_get first h.file.file.symbols h.index h.symbol h.stands ∙ ap (λ (n : ℕ). Some (n, h.symbol)) (sym h.number) in
+    let placed : common_at s h.symbol.at ≡ Some c = ap (common_at s) h.placed in
+    let told : common_of live h.file.file.kind (s, h.symbol) ≡ Some c = ap (λ b. if b then common_at s h.symbol.at else None) h.wanted ∙ placed in
+    filter_map_in (common_of live h.file.file.kind) (enumerate_from first h.file.file.symbols) h.index (s, h.symbol) c numbered told
+
+pub common_among : (link : LinkInput) (content : Content) (p s size : ℕ) → IsCommonIn link content.live p s size
+    → IsAmong (takers link content) (common_taker (record { symbol = s; part = p; size = size }))
+common_among link content p s size h =
+    let c : Common = record { symbol = s; part = p; size = size } in
+    let at = common_at_index link content.live p s size h in
+    let cs : List Common = commons_of link content.live h.file in
+    let sections : List Taker = map section_taker (live_of link content.live h.file) in
+    let in_file = append_right sections (map common_taker cs) at.0 (length sections + at.0) (common_taker c) refl (map_in common_taker cs at.0 c at.1) in
+    let there : slice_get (numbered_files link.groups) (file_number link.groups h.file.id) ≡ Some h.file = file_stands link.groups h.file.id h.file.file h.there in
+    let whole = flat_map_in (file_takers link content) (numbered_files link.groups) (file_number link.groups h.file.id) (length sections + at.0) h.file (common_taker c) there in_file in
+    among (takers link content) whole.0 (common_taker c) whole.1
+
+pub commons_are_owners : CommonsAreOwners
+commons_are_owners link content p s size h =
+    let c : Common = record { symbol = s; part = p; size = size } in
+    let split = common_among link content p s size h in
+    stands_there (is_common_of s) link content split.front (common_taker c) (common_stands link content split.front c split.rest split.splits)
+
+-- ---- what a common that takes bytes is
+
+filter_map_at : {X Y : Type 0} (h : X → Option Y) (xs : List X) (j : ℕ) (y : Y) → slice_get (filter_map h xs) j ≡ Some y → (k : ℕ) × (x : X) × (slice_get xs k ≡ Some x) × (h x ≡ Some y)
+filter_map_at h [] j y there = absurd (cc)
+filter_map_at {X} {Y} h (x ∷ xs) j y there =
+    let later : (i : ℕ) → slice_get (filter_map h xs) i ≡ Some y → (k : ℕ) × (z : X) × (slice_get (x ∷ xs) k ≡ Some z) × (h z ≡ Some y)
+    = λ i is. let r = filter_map_at h xs i y is in (suc r.0, r.1, r.2, r.3) in
+    first (h x) refl j there later
+  where
+    first : (o : Option Y) → h x ≡ o → (i : ℕ) → slice_get (cons_option o (filter_map h xs)) i ≡ Some y
+        → ((i : ℕ) → slice_get (filter_map h xs) i ≡ Some y → (k : ℕ) × (z : X) × (slice_get (x ∷ xs) k ≡ Some z) × (h z ≡ Some y))
+        → (k : ℕ) × (z : X) × (slice_get (x ∷ xs) k ≡ Some z) × (h z ≡ Some y)
+    first None is i there later = later i there
+    first (Some w) is zero there later = let same : w ≡ y = cc in (0, x, refl, is ∙ ap Some same)
+    first (Some w) is (suc i) there later = later i there
+
+placed_at : (s : ℕ) (p : SymbolPlacement) (c : Common) → common_at s p ≡ Some c → p ≡ at.Common c.part c.size
+placed_at s (at.Common p size) c h =
+    let same : (record { symbol = s; part = p; size = size }) ≡ c = cc in
+    ap (λ (d : Common). at.Common d.part d.size) same
+placed_at s (at.Section i offset) c h = absurd (cc)
+placed_at s (at.Absolute n) c h = absurd (cc)
+placed_at s at.Undef c h = absurd (cc)
+placed_at s at.Dynamic c h = absurd (cc)
+placed_at s at.Undefined c h = absurd (cc)
+placed_at s at.ForceUndefined c h = absurd (cc)
+placed_at s (at.SectionStart o) c h = absurd (cc)
+placed_at s (at.SectionEnd o) c h = absurd (cc)
+placed_at s (at.SectionGroupEnd o) c h = absurd (cc)
+placed_at s at.TlsEnd c h = absurd (cc)
+placed_at s at.LoadBaseAddress c h = absurd (cc)
+placed_at s (at.Redirect e l provide) c h = absurd (cc)
+
+pub is_common_in : (link : LinkInput) (live : Live) (f : NumberedFile) (j : ℕ) (c : Common) → file_in link.groups f.id ≡ Some f.file
+    → slice_get (commons_of link live f) j ≡ Some c → IsCommonIn link live c.part c.symbol c.size
+is_common_in link live f j c there at_j =
+    let first : ℕ = first_symbol link.groups f.id in
+    let from = filter_map_at (common_of live f.file.kind) (enumerate_from first f.file.symbols) j c at_j in
+    let q : ℕ × InputSymbol = from.1 in
+    let at = numbered_at first f.file.symbols from.0 q from.2 in
+    let is = is_common live f.file.kind q c from.3 in
+    let symbol : c.symbol ≡ q.0 = placed_number q.0 q.1.at c is.placed in
+    record {
+      file = f;
+      there = there;
+      index = from.0;
+      symbol = q.1;
+      stands = at.1;
+      number = symbol ∙ at.0;
+      placed = placed_at q.0 q.1.at c is.placed;
+      wanted = subst (λ (n : ℕ). is_wanted f.file.kind n q.1 (flags_at live.flags n) ≡ true) (sym symbol) is.wanted;
+    }
+
+-- it goes to a part, which is no table part
+pub common_is_placed : (link : LinkInput) (live : Live) (p s size : ℕ) → IsWellFormed link → IsCommonIn link live p s size
+    → (p < length (all_parts link.plan.sections)) × (is_table_part link.plan.named p ≡ false)
+common_is_placed link live p s size good h =
+    let symbol = symbols_are_good link h.file.id h.index h.file.file h.symbol good h.there h.stands in
+    subst (IsPlacementThere link.plan h.file.file.sections) h.placed symbol.there
+
+pub common_goes : (link : LinkInput) (live : Live) (f : NumberedFile) (front : List Common) (c : Common) (rest : List Common) → IsWellFormed link → file_in link.groups f.id ≡ Some f.file
+    → commons_of link live f ≡ front ++ c ∷ rest → c.part < length (all_parts link.plan.sections)
+common_goes link live f front c rest good there splits =
+    let at : slice_get (commons_of link live f) (length front) ≡ Some c = ap (λ (cs : List Common). slice_get cs (length front)) splits ∙ seam front in
+    (common_is_placed link live c.part c.symbol c.size good (is_common_in link live f (length front) c there at)).0
+  where
+    seam : (xs : List Common) → slice_get (xs ++ c ∷ rest) (length xs) ≡ Some c
+    seam [] = refl
+    seam (x ∷ xs) = seam xs

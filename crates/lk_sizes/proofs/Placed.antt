@@ -1,0 +1,505 @@
+-- Live sections and commons get their addresses, file by file.
+use Rattle.std.proofs.Common.{◌≡◌, ℕ, suc, ◌+◌, ◌<◌, ◌^◌, Bool, true, false, if◌then◌else◌, List, [], ◌∷◌, ◌++◌, length, map, filter, take, Some, refl, sym, ap, ◌∙◌, subst, arith, append_assoc, get_or, length-append, set}
+use Rattle.std.specs.List.{enumerate_from, flat_map, range_with_len, slice_get, slice_index}
+use Rattle.std.proofs.lemmas.Grind.{flat_map-append}
+use Rattle.std.proofs.lemmas.List.{append-nil, length-map, map-append, map_push, take_more}
+use Rattle.std.proofs.lemmas.List.Elements.{filter-append}
+use Rattle.std.proofs.lemmas.List.FromFn.{get_or-map-range_with_len, length-enumerate_from, length-map-range_with_len}
+use Rattle.std.proofs.lemmas.List.Sums.{sum_by-append}
+use Rattle.std.proofs.lemmas.Option.{get_or_from_slice_get, slice_get-get_or, slice_get_within}
+use Rattle.lk_link.specs.declared.link.LinkInput.{LinkInput}
+use Rattle.lk_link.specs.declared.section.InputSection.{InputSection}
+use Rattle.lk_link.specs.Files.{file_in}
+use Rattle.lk_link.specs.Inputs.{Input, NumberedFile, all_inputs, input_number, inputs_from, inputs_of, numbered_files, numbered_section}
+use Rattle.lk_link.specs.Marks.{is_marked}
+use Rattle.lk_link.specs.Parts.{all_parts, part_at}
+use Rattle.lk_link.specs.Sizes.{capacity}
+use Rattle.lk_link.specs.WellFormed.{IsWellFormed}
+use Rattle.lk_link.proofs.Elements.{append_left, append_right, map_in}
+use Rattle.lk_link.proofs.InputLemmas.{inputs_follow, numbered_get}
+use Rattle.lk_gc.specs.declared.live.Live.{Live}
+use Rattle.lk_gc.specs.Reach.{AreLive, live_inputs}
+use Rattle.lk_reach.proofs.LiveWalk.{split_at}
+use Rattle.lk_sizes.specs.declared.addresses.CommonAddress.{CommonAddress}
+use Rattle.lk_sizes.specs.declared.commons.Common.{Common}
+use Rattle.lk_sizes.specs.Addresses.{section_address, told_common}
+use Rattle.lk_sizes.specs.Owners.{Content, EndsFit, IsCommonIn, Taker, common_address, common_taker, commons_of, file_takers, images_of, live_address, live_of, owner_bytes, owners_in, section_taker, takers}
+use Rattle.lk_sizes.specs.Tables.{ArePassed, HaveSpace, behind_image, bytes_in, common_place, common_places, live_below, next_behind, section_place, section_places}
+use Rattle.lk_sizes.proofs.Addressing.{live_among, number_of, section_behind}
+use Rattle.lk_sizes.proofs.CommonOnes.{common_among, common_behind, common_goes}
+use Rattle.lk_sizes.proofs.LiveOnes.{live_goes_at}
+use Rattle.std.proofs.Math.Seq.{take-append_seam}
+use Rattle.lk_sizes.proofs.Takers.{bytes_in-append, bytes_in_here, one_passed, passed_both, room_for}
+
+-- ---- the sections of a file, one after the other
+
+-- those of its sections that are live
+abbrev pub lives : LinkInput → Live → Input → Bool
+lives link live x = is_marked live.marks (input_number link.groups x.file x.index)
+
+abbrev pub sections_of_file : NumberedFile → List Input
+sections_of_file f = inputs_from f.id 0 f.file.sections
+
+pub input_there : (f : NumberedFile) (k : ℕ) (section : InputSection) → slice_get f.file.sections k ≡ Some section
+    → slice_get (sections_of_file f) k ≡ Some (record { file = f.id; index = k; section = section })
+input_there f k section there =
+    let number : 0 + k ≡ k = omega arith in
+    map_in (numbered_section f.id) (enumerate_from 0 f.file.sections) k (0 + k, section) (numbered_get 0 f.file.sections k section there)
+    ∙ ap (λ (n : ℕ). let x : Input = record { file = f.id; index = n; section = section } in Some x) number
+
+taken_more : {X : Type 0} (xs : List X) (k : ℕ) (x : X) → slice_get xs k ≡ Some x → take (k + 1) xs ≡ take k xs ++ x ∷ []
+taken_more xs k x there =
+    take_more xs k x (slice_get_within xs k x there) ∙ ap (λ y. take k xs ++ y ∷ []) (get_or_from_slice_get xs k x x there)
+
+-- the live ones among them, with one more
+below_live : (link : LinkInput) (live : Live) (f : NumberedFile) (k : ℕ) (x : Input) → slice_get (sections_of_file f) k ≡ Some x → lives link live x ≡ true
+    → live_below link live f (k + 1) ≡ live_below link live f k ++ x ∷ []
+below_live link live f k x there set =
+    let xs : List Input = sections_of_file f in
+    ap (filter (lives link live)) (taken_more xs k x there)
+    ∙ filter-append (lives link live) (take k xs) (x ∷ [])
+    ∙ ap (λ b. live_below link live f k ++ (if b then x ∷ [] else [])) set
+
+below_other : (link : LinkInput) (live : Live) (f : NumberedFile) (k : ℕ) (x : Input) → slice_get (sections_of_file f) k ≡ Some x → lives link live x ≡ false
+    → live_below link live f (k + 1) ≡ live_below link live f k
+below_other link live f k x there set =
+    let xs : List Input = sections_of_file f in
+    ap (filter (lives link live)) (taken_more xs k x there)
+    ∙ filter-append (lives link live) (take k xs) (x ∷ [])
+    ∙ ap (λ b. live_below link live f k ++ (if b then x ∷ [] else [])) set
+    ∙ append-nil (live_below link live f k)
+
+-- all of them, around one
+pub live_split : (link : LinkInput) (live : Live) (f : NumberedFile) (k : ℕ) (x : Input) → slice_get (sections_of_file f) k ≡ Some x → lives link live x ≡ true
+    → (rest : List Input) × (live_of link live f ≡ live_below link live f k ++ x ∷ rest)
+live_split link live f k x there set =
+    let xs : List Input = sections_of_file f in
+    let split = split_at xs k x there in (
+      filter (lives link live) split.0,
+      ap (filter (lives link live)) split.1
+          ∙ filter-append (lives link live) (take k xs) (x ∷ split.0)
+          ∙ ap (λ b. live_below link live f k ++ (if b then x ∷ filter (lives link live) split.0 else filter (lives link live) split.0)) set,
+    )
+
+-- the next addresses are behind the first sections of a file, which have theirs
+pub record AreReached (link : LinkInput) (live : Live) (f : NumberedFile) (old : List ℕ) (k : ℕ) (next : List ℕ) (front addresses : List ℕ) : Type 0 where
+  pub passed : ArePassed link old (map section_taker (live_below link live f k)) next
+  pub told : addresses ≡ front ++ map (section_place link live old f) (take k (enumerate_from 0 (sections_of_file f)))
+
+pub none_reached : (link : LinkInput) (live : Live) (f : NumberedFile) (old front : List ℕ) → AreReached link live f old 0 old front front
+none_reached link live f old front = record { passed = record { count = refl; moved = λ p h. omega arith }; told = sym (append-nil front) }
+
+told_more : (link : LinkInput) (live : Live) (f : NumberedFile) (old front addresses : List ℕ) (k : ℕ) (x : Input) (address : ℕ) → slice_get (sections_of_file f) k ≡ Some x
+    → addresses ≡ front ++ map (section_place link live old f) (take k (enumerate_from 0 (sections_of_file f))) → address ≡ section_place link live old f (k, x)
+    → addresses ++ address ∷ [] ≡ front ++ map (section_place link live old f) (take (k + 1) (enumerate_from 0 (sections_of_file f)))
+told_more link live f old front addresses k x address there before is =
+    let g : ℕ × Input → ℕ = section_place link live old f in
+    let all : List (ℕ × Input) = enumerate_from 0 (sections_of_file f) in
+    let number : 0 + k ≡ k = omega arith in
+    let numbered : slice_get all k ≡ Some (k, x) = numbered_get 0 (sections_of_file f) k x there ∙ ap (λ (n : ℕ). Some (n, x)) number in
+    ap (λ (ns : List ℕ). ns ++ address ∷ []) before
+    ∙ append_assoc front (map g (take k all)) (address ∷ [])
+    ∙ ap (λ (n : ℕ). front ++ (map g (take k all) ++ n ∷ [])) is
+    ∙ ap (λ (ns : List ℕ). front ++ ns) (sym (map_push g (take k all) (k, x)))
+    ∙ ap (λ (qs : List (ℕ × Input)). front ++ map g qs) (sym (taken_more all k (k, x) numbered))
+
+-- a live one gets the next address of its part
+pub live_reached : (link : LinkInput) (live : Live) (f : NumberedFile) (old : List ℕ) (k : ℕ) (next front addresses : List ℕ) (x : Input) (at moved : ℕ) → slice_get (sections_of_file f) k ≡ Some x
+    → lives link live x ≡ true → AreReached link live f old k next front addresses → at ≡ x.section.part → at < length old
+    → moved ≡ slice_index next at + capacity (part_at link.plan.sections at) x.section.size
+    → AreReached link live f old (k + 1) (set next at moved) front (addresses ++ slice_index next at ∷ [])
+live_reached link live f old k next front addresses x at moved there lit h here within is =
+    let before : List Taker = map section_taker (live_below link live f k) in
+    let more : map section_taker (live_below link live f (k + 1)) ≡ before ++ section_taker x ∷ []
+    = ap (map section_taker) (below_live link live f k x there lit) ∙ map-append section_taker (live_below link live f k) (x ∷ []) in
+    let place : slice_index next at ≡ section_place link live old f (k, x)
+    = h.passed.moved at within
+    ∙ ap (next_behind link old before) here
+    ∙ ap (λ b. if b then next_behind link old before x.section.part else 0) (sym lit) in
+    record {
+      passed = subst (λ (ts : List Taker). ArePassed link old ts (set next at moved)) (sym more) (one_passed link old before (section_taker x) next at moved h.passed here within is);
+      told = told_more link live f old front addresses k x (slice_index next at) there h.told place;
+    }
+
+-- any other gets 0
+pub other_reached : (link : LinkInput) (live : Live) (f : NumberedFile) (old : List ℕ) (k : ℕ) (next front addresses : List ℕ) (x : Input) → slice_get (sections_of_file f) k ≡ Some x
+    → lives link live x ≡ false → AreReached link live f old k next front addresses → AreReached link live f old (k + 1) next front (addresses ++ 0 ∷ [])
+other_reached link live f old k next front addresses x there set h =
+    let before : List Taker = map section_taker (live_below link live f k) in
+    record {
+      passed = subst (λ (xs : List Input). ArePassed link old (map section_taker xs) next) (sym (below_other link live f k x there set)) h.passed;
+      told = told_more link live f old front addresses k x 0 there h.told (ap (λ b. if b then next_behind link old before x.section.part else 0) (sym set));
+    }
+
+-- there is room for a live one
+pub live_room : (link : LinkInput) (live : Live) (f : NumberedFile) (old : List ℕ) (k : ℕ) (next : List ℕ) (x : Input) (at : ℕ) → slice_get (sections_of_file f) k ≡ Some x
+    → lives link live x ≡ true → HaveSpace link old (map section_taker (live_of link live f)) → ArePassed link old (map section_taker (live_below link live f k)) next → at ≡ x.section.part → at < length old
+    → slice_index next at + capacity (part_at link.plan.sections at) x.section.size < 2 ^ 64
+live_room link live f old k next x at there set space h here within =
+    let split = live_split link live f k x there set in
+    let before : List Taker = map section_taker (live_below link live f k) in
+    let all : map section_taker (live_of link live f) ≡ before ++ section_taker x ∷ map section_taker split.0
+    = ap (map section_taker) split.1 ∙ map-append section_taker (live_below link live f k) (x ∷ split.0) in
+    room_for link old before (section_taker x) (map section_taker split.0) next at (subst (HaveSpace link old) all space) h here within
+
+-- at the end all have their addresses
+pub all_reached : (link : LinkInput) (live : Live) (f : NumberedFile) (old : List ℕ) (k : ℕ) (next front addresses : List ℕ) → k ≡ length f.file.sections → AreReached link live f old k next front addresses
+    → ArePassed link old (map section_taker (live_of link live f)) next × (addresses ≡ front ++ section_places link live old f)
+all_reached link live f old k next front addresses all h =
+    let xs : List Input = sections_of_file f in
+    let count : length xs ≡ k = length-map (enumerate_from 0 f.file.sections) (numbered_section f.id) ∙ length-enumerate_from 0 f.file.sections ∙ sym all in
+    let whole : take k xs ≡ xs = ap (λ (n : ℕ). take n xs) (sym count) ∙ take_whole xs in
+    let numbers : take k (enumerate_from 0 xs) ≡ enumerate_from 0 xs = ap (λ (n : ℕ). take n (enumerate_from 0 xs)) (sym (length-enumerate_from 0 xs ∙ count)) ∙ take_whole (enumerate_from 0 xs) in (
+      subst (λ (ys : List Input). ArePassed link old (map section_taker (filter (lives link live) ys)) next) whole h.passed,
+      h.told ∙ ap (λ (qs : List (ℕ × Input)). front ++ map (section_place link live old f) qs) numbers,
+    )
+  where
+    take_whole : {X : Type 0} (ys : List X) → take (length ys) ys ≡ ys
+    take_whole [] = refl
+    take_whole (y ∷ ys) = ap (λ (zs : List _). y ∷ zs) (take_whole ys)
+
+-- ---- the commons of a file, one after the other
+
+abbrev pub AreTold : LinkInput → List ℕ → List Common → List Common → List CommonAddress → List CommonAddress → Type 0
+AreTold link old all done front told = told ≡ front ++ map (common_place link old all) (take (length done) (enumerate_from 0 all))
+
+pub none_told : (link : LinkInput) (old : List ℕ) (all : List Common) (front : List CommonAddress) → AreTold link old all [] front front
+none_told link old all front = sym (append-nil front)
+
+pub one_told : (link : LinkInput) (old : List ℕ) (all done : List Common) (c : Common) (rest : List Common) (front told : List CommonAddress) (next : List ℕ) (at : ℕ) (one : CommonAddress)
+    → all ≡ done ++ c ∷ rest → ArePassed link old (map common_taker done) next → at ≡ c.part → at < length old
+    → one ≡ record { symbol = c.symbol; address = slice_index next at } → AreTold link old all done front told → AreTold link old all (done ++ c ∷ []) front (told ++ one ∷ [])
+one_told link old all done c rest front told next at one splits h here within is before =
+    let k : ℕ = length done in
+    let g : ℕ × Common → CommonAddress = common_place link old all in
+    let numbers : List (ℕ × Common) = enumerate_from 0 all in
+    let there : slice_get all k ≡ Some c = ap (λ (cs : List Common). slice_get cs k) splits ∙ seam done in
+    let number : 0 + k ≡ k = omega arith in
+    let numbered : slice_get numbers k ≡ Some (k, c) = numbered_get 0 all k c there ∙ ap (λ (n : ℕ). Some (n, c)) number in
+    let front_is : take k all ≡ done = ap (take k) splits ∙ take-append_seam done (c ∷ rest) in
+    let count : length (done ++ c ∷ []) ≡ k + 1 = omega (arith, length-append done (c ∷ [])) in
+    let tell : ℕ → CommonAddress = λ a. record { symbol = c.symbol; address = a } in
+    let place : one ≡ g (k, c)
+    = is ∙ ap tell (h.moved at within ∙ ap (next_behind link old (map common_taker done)) here ∙ ap (λ (cs : List Common). next_behind link old (map common_taker cs) c.part) (sym front_is)) in
+    ap (λ (cs : List CommonAddress). cs ++ one ∷ []) before
+    ∙ append_assoc front (map g (take k numbers)) (one ∷ [])
+    ∙ ap (λ (o : CommonAddress). front ++ (map g (take k numbers) ++ o ∷ [])) place
+    ∙ ap (λ (cs : List CommonAddress). front ++ cs) (sym (map_push g (take k numbers) (k, c)))
+    ∙ ap (λ (qs : List (ℕ × Common)). front ++ map g qs) (sym (taken_more numbers k (k, c) numbered))
+    ∙ ap (λ (n : ℕ). front ++ map g (take n numbers)) (sym count)
+  where
+    seam : (xs : List Common) → slice_get (xs ++ c ∷ rest) (length xs) ≡ Some c
+    seam [] = refl
+    seam (x ∷ xs) = seam xs
+
+pub all_told : (link : LinkInput) (old : List ℕ) (all done : List Common) (front told : List CommonAddress) → done ≡ all → AreTold link old all done front told
+    → told ≡ front ++ common_places link old all
+all_told link old all done front told is h =
+    h
+    ∙ ap (λ (cs : List Common). front ++ map (common_place link old all) (take (length cs) (enumerate_from 0 all))) is
+    ∙ ap (λ (n : ℕ). front ++ map (common_place link old all) (take n (enumerate_from 0 all))) (sym (length-enumerate_from 0 all))
+    ∙ ap (λ (qs : List (ℕ × Common)). front ++ map (common_place link old all) qs) (take_whole (enumerate_from 0 all))
+  where
+    take_whole : {X : Type 0} (ys : List X) → take (length ys) ys ≡ ys
+    take_whole [] = refl
+    take_whole (y ∷ ys) = ap (λ (zs : List _). y ∷ zs) (take_whole ys)
+
+-- ---- file by file
+
+-- what is made of numbered elements alike
+made_alike : {X Y : Type 0} (g h : ℕ × X → Y) (m n : ℕ) (xs : List X) → ((k : ℕ) (x : X) → slice_get xs k ≡ Some x → g (m + k, x) ≡ h (n + k, x))
+    → map g (enumerate_from m xs) ≡ map h (enumerate_from n xs)
+made_alike g h m n [] same = refl
+made_alike {X} {Y} g h m n (x ∷ xs) same =
+    let a : m + 0 ≡ m = omega arith in
+    let b : n + 0 ≡ n = omega arith in
+    let here : g (m, x) ≡ h (n, x) = ap (λ (i : ℕ). g (i, x)) (sym a) ∙ same 0 x refl ∙ ap (λ (i : ℕ). h (i, x)) b in
+    ap (λ (y : Y). y ∷ map g (enumerate_from (m + 1) xs)) here
+    ∙ ap (λ (ys : List Y). h (n, x) ∷ ys) (made_alike g h (m + 1) (n + 1) xs (λ k y there.
+    let c : m + 1 + k ≡ m + suc k = omega arith in
+    let d : n + 1 + k ≡ n + suc k = omega arith in
+    ap (λ (i : ℕ). g (i, y)) c ∙ same (suc k) y there ∙ ap (λ (i : ℕ). h (i, y)) (sym d)))
+
+-- where the images of parts end
+abbrev pub AreEnds : LinkInput → Content → List ℕ → List ℕ → Type 0
+AreEnds link content starts ends = ends ≡ map (behind_image link content.merged_lens starts) (range_with_len 0 (length starts))
+
+end_at : (link : LinkInput) (content : Content) (starts ends : List ℕ) (p : ℕ) → AreEnds link content starts ends → p < length starts → slice_index ends p ≡ behind_image link content.merged_lens starts p
+end_at link content starts ends p is below =
+    ap (λ (ns : List ℕ). slice_index ns p) is
+    ∙ get_or-map-range_with_len (behind_image link content.merged_lens starts) 0 (length starts) p p 0 below (omega arith)
+
+pub ends_count : (link : LinkInput) (content : Content) (starts ends : List ℕ) → AreEnds link content starts ends → length ends ≡ length starts
+ends_count link content starts ends is = ap length is ∙ length-map-range_with_len (behind_image link content.merged_lens starts) 0 (length starts)
+
+-- all that files bring fits behind the images
+pub all_fit : (link : LinkInput) (content : Content) (starts : List ℕ) (p : ℕ) → EndsFit link content starts → p < length starts
+    → behind_image link content.merged_lens starts p + bytes_in link p (takers link content) < 2 ^ 64
+all_fit link content starts p fit below =
+    omega (
+      arith,
+      fit p below,
+      sum_by-append (owner_bytes (part_at link.plan.sections p)) (images_of link content.merged_lens p) (owners_in p (takers link content)),
+    )
+
+-- the files so far have their addresses, and the next ones are behind them
+pub record AreDone (link : LinkInput) (content : Content) (starts ends : List ℕ) (done : List NumberedFile) (next sections : List ℕ) (commons : List CommonAddress) : Type 0 where
+  pub passed : ArePassed link ends (flat_map (file_takers link content) done) next
+  pub addresses : sections ≡ map (section_address link content starts) (enumerate_from 0 (inputs_of done))
+  pub told : commons ≡ map (told_common link content starts) (flat_map (commons_of link content.live) done)
+
+pub none_done : (link : LinkInput) (content : Content) (starts ends : List ℕ) → AreDone link content starts ends [] ends [] []
+none_done link content starts ends = record { passed = record { count = refl; moved = λ p h. omega arith }; addresses = refl; told = refl }
+
+-- ---- one file more
+
+-- all files around one
+pub record IsNextFile (link : LinkInput) (done : List NumberedFile) (f : NumberedFile) : Type 0 where
+  pub rest : List NumberedFile
+  pub splits : numbered_files link.groups ≡ done ++ f ∷ rest
+
+takers_split : (link : LinkInput) (content : Content) (done : List NumberedFile) (f : NumberedFile) (h : IsNextFile link done f)
+    → takers link content ≡ flat_map (file_takers link content) done ++ (file_takers link content f ++ flat_map (file_takers link content) h.rest)
+takers_split link content done f h = ap (flat_map (file_takers link content)) h.splits ∙ flat_map-append (file_takers link content) done (f ∷ h.rest)
+
+-- a part of a list around an element
+around : {X : Type 0} (before front rest after : List X) (x : X) → before ++ ((front ++ x ∷ rest) ++ after) ≡ (before ++ front) ++ x ∷ (rest ++ after)
+around before front rest after x =
+    ap (λ (zs : List _). before ++ zs) (append_assoc front (x ∷ rest) after) ∙ sym (append_assoc before front (x ∷ (rest ++ after)))
+
+-- space for the sections of a file, and for its commons behind them
+pub section_space : (link : LinkInput) (content : Content) (starts ends : List ℕ) (done : List NumberedFile) (f : NumberedFile) (next : List ℕ) (h : IsNextFile link done f) → EndsFit link content starts
+    → AreEnds link content starts ends → ArePassed link ends (flat_map (file_takers link content) done) next → HaveSpace link next (map section_taker (live_of link content.live f))
+section_space link content starts ends done f next h fit is passed = λ p below.
+    let before : List Taker = flat_map (file_takers link content) done in
+    let count = ends_count link content starts ends is in
+    let inside : p < length starts = omega (arith, below, passed.count, count) in
+    omega (
+      arith,
+      passed.moved p (omega (arith, below, passed.count)),
+      end_at link content starts ends p is inside,
+      all_fit link content starts p fit inside,
+      ap (bytes_in link p) (takers_split link content done f h),
+      bytes_in-append link p before (file_takers link content f ++ flat_map (file_takers link content) h.rest),
+      bytes_in-append link p (file_takers link content f) (flat_map (file_takers link content) h.rest),
+      bytes_in-append link p (map section_taker (live_of link content.live f)) (map common_taker (commons_of link content.live f)),
+    )
+
+pub common_space : (link : LinkInput) (content : Content) (starts ends : List ℕ) (done : List NumberedFile) (f : NumberedFile) (next later : List ℕ) (h : IsNextFile link done f) → EndsFit link content starts
+    → AreEnds link content starts ends → ArePassed link ends (flat_map (file_takers link content) done) next → ArePassed link next (map section_taker (live_of link content.live f)) later
+    → HaveSpace link later (map common_taker (commons_of link content.live f))
+common_space link content starts ends done f next later h fit is passed sections = λ p below.
+    let before : List Taker = flat_map (file_takers link content) done in
+    let count = ends_count link content starts ends is in
+    let inside : p < length starts = omega (arith, below, sections.count, passed.count, count) in
+    omega (
+      arith,
+      sections.moved p (omega (arith, below, sections.count)),
+      passed.moved p (omega (arith, below, sections.count, passed.count)),
+      end_at link content starts ends p is inside,
+      all_fit link content starts p fit inside,
+      ap (bytes_in link p) (takers_split link content done f h),
+      bytes_in-append link p before (file_takers link content f ++ flat_map (file_takers link content) h.rest),
+      bytes_in-append link p (file_takers link content f) (flat_map (file_takers link content) h.rest),
+      bytes_in-append link p (map section_taker (live_of link content.live f)) (map common_taker (commons_of link content.live f)),
+    )
+
+-- the sections of the next file have the addresses of the link's
+section_is : (link : LinkInput) (content : Content) (starts ends : List ℕ) (done : List NumberedFile) (f : NumberedFile) (next : List ℕ) (h : IsNextFile link done f)
+    → IsWellFormed link → AreLive link content.live → length starts ≡ length (all_parts link.plan.sections) → AreEnds link content starts ends
+    → ArePassed link ends (flat_map (file_takers link content) done) next → (k : ℕ) (x : Input) → slice_get (sections_of_file f) k ≡ Some x
+    → section_place link content.live next f (k, x) ≡ section_address link content starts (length (inputs_of done) + k, x)
+section_is link content starts ends done f next h good are parts is passed k x there =
+    let before : List Taker = flat_map (file_takers link content) done in
+    let inputs : List Input = all_inputs link.groups in
+    let split : inputs ≡ inputs_of done ++ (sections_of_file f ++ inputs_of h.rest) = ap inputs_of h.splits ∙ flat_map-append sections_of_file done (f ∷ h.rest) in
+    let here = append_left (sections_of_file f) (inputs_of h.rest) k x there in
+    let place = append_right (inputs_of done) (sections_of_file f ++ inputs_of h.rest) k (length (inputs_of done) + k) x refl here in
+    let at : slice_get inputs (length (inputs_of done) + k) ≡ Some x = ap (λ (xs : List Input). slice_get xs (length (inputs_of done) + k)) split ∙ place in
+    let number : input_number link.groups x.file x.index ≡ length (inputs_of done) + k = number_of link (length (inputs_of done) + k) x at in
+    let mark : is_marked content.live.marks (length (inputs_of done) + k) ≡ lives link content.live x = ap (is_marked content.live.marks) (sym number) in
+    let front : List Taker = map section_taker (live_below link content.live f k) in
+    (elim (lives link content.live x) as (λ b. lives link content.live x ≡ b → (if b then next_behind link next front x.section.part else 0) ≡ (if b then live_address link content starts x else 0)) [
+      | true ↦ λ set.
+          let in_file = live_split link content.live f k x there set in
+          let commons : List Taker = map common_taker (commons_of link content.live f) in
+          let later : List Taker = flat_map (file_takers link content) h.rest in
+          let mapped : map section_taker (live_of link content.live f) ≡ front ++ section_taker x ∷ map section_taker in_file.0
+          = ap (map section_taker) in_file.1 ∙ map-append section_taker (live_below link content.live f k) (x ∷ in_file.0) in
+          let whole : takers link content ≡ (before ++ front) ++ section_taker x ∷ (map section_taker in_file.0 ++ (commons ++ later))
+          = takers_split link content done f h
+          ∙ ap (λ (ts : List Taker). before ++ ts) (append_assoc (map section_taker (live_of link content.live f)) commons later)
+          ∙ ap (λ (ts : List Taker). before ++ (ts ++ (commons ++ later))) mapped
+          ∙ around before front (map section_taker in_file.0) (commons ++ later) (section_taker x) in
+          let goes : x.section.part < length starts = omega (arith, parts, live_goes_at link content.live (length (inputs_of done) + k) x good are at (mark ∙ set)) in
+          omega (
+            arith,
+            passed.moved x.section.part (omega (arith, goes, ends_count link content starts ends is)),
+            end_at link content starts ends x.section.part is goes,
+            bytes_in-append link x.section.part before front,
+            section_behind link content starts (before ++ front) x (map section_taker in_file.0 ++ (commons ++ later)) whole,
+          )
+      | false ↦ λ set. refl
+    ]) refl
+    ∙ ap (λ b. if b then live_address link content starts x else 0) (sym mark)
+
+sections_are_placed : (link : LinkInput) (content : Content) (starts ends : List ℕ) (done : List NumberedFile) (f : NumberedFile) (next : List ℕ) (h : IsNextFile link done f)
+    → IsWellFormed link → AreLive link content.live → length starts ≡ length (all_parts link.plan.sections) → AreEnds link content starts ends
+    → ArePassed link ends (flat_map (file_takers link content) done) next
+    → section_places link content.live next f ≡ map (section_address link content starts) (enumerate_from (length (inputs_of done)) (sections_of_file f))
+sections_are_placed link content starts ends done f next h good are parts is passed =
+    made_alike (section_place link content.live next f) (section_address link content starts) 0 (length (inputs_of done)) (sections_of_file f) (λ k x there.
+    let number : 0 + k ≡ k = omega arith in
+    ap (λ (n : ℕ). section_place link content.live next f (n, x)) number ∙ section_is link content starts ends done f next h good are parts is passed k x there)
+
+-- so have its commons
+common_is : (link : LinkInput) (content : Content) (starts ends : List ℕ) (done : List NumberedFile) (f : NumberedFile) (next later : List ℕ) (h : IsNextFile link done f)
+    → IsWellFormed link → file_in link.groups f.id ≡ Some f.file → length starts ≡ length (all_parts link.plan.sections) → AreEnds link content starts ends
+    → ArePassed link ends (flat_map (file_takers link content) done) next → ArePassed link next (map section_taker (live_of link content.live f)) later
+    → (k : ℕ) (c : Common) → slice_get (commons_of link content.live f) k ≡ Some c
+    → common_place link later (commons_of link content.live f) (k, c) ≡ told_common link content starts c
+common_is link content starts ends done f next later h good in_link parts is passed sections k c there =
+    let before : List Taker = flat_map (file_takers link content) done in
+    let cs : List Common = commons_of link content.live f in
+    let split = split_at cs k c there in
+    let own : List Taker = map section_taker (live_of link content.live f) in
+    let front : List Taker = map common_taker (take k cs) in
+    let rest : List Taker = map common_taker split.0 in
+    let behind : List Taker = flat_map (file_takers link content) h.rest in
+    let mapped : map common_taker cs ≡ front ++ common_taker c ∷ rest = ap (map common_taker) split.1 ∙ map-append common_taker (take k cs) (c ∷ split.0) in
+    let in_file : file_takers link content f ≡ (own ++ front) ++ common_taker c ∷ rest
+    = ap (λ (ts : List Taker). own ++ ts) mapped ∙ sym (append_assoc own front (common_taker c ∷ rest)) in
+    let whole : takers link content ≡ (before ++ (own ++ front)) ++ common_taker c ∷ (rest ++ behind)
+    = takers_split link content done f h
+    ∙ ap (λ (ts : List Taker). before ++ (ts ++ behind)) in_file
+    ∙ around before (own ++ front) rest behind (common_taker c) in
+    let goes : c.part < length starts = omega (arith, parts, common_goes link content.live f (take k cs) c split.0 good in_link split.1) in
+    let address : next_behind link later front c.part ≡ common_address link content starts c.part c.symbol
+    = omega (
+      arith,
+      sections.moved c.part (omega (arith, goes, ends_count link content starts ends is, passed.count)),
+      passed.moved c.part (omega (arith, goes, ends_count link content starts ends is)),
+      end_at link content starts ends c.part is goes,
+      bytes_in-append link c.part before (own ++ front),
+      bytes_in-append link c.part own front,
+      common_behind link content starts (before ++ (own ++ front)) c (rest ++ behind) whole,
+    ) in
+    let tell : ℕ → CommonAddress = λ a. record { symbol = c.symbol; address = a } in
+    ap tell address
+
+without_number : {X Y : Type 0} (g : X → Y) (n : ℕ) (xs : List X) → map (λ (q : ℕ × X). g q.1) (enumerate_from n xs) ≡ map g xs
+without_number g n [] = refl
+without_number g n (x ∷ xs) = ap (λ (ys : List _). g x ∷ ys) (without_number g (n + 1) xs)
+
+commons_are_placed : (link : LinkInput) (content : Content) (starts ends : List ℕ) (done : List NumberedFile) (f : NumberedFile) (next later : List ℕ) (h : IsNextFile link done f)
+    → IsWellFormed link → file_in link.groups f.id ≡ Some f.file → length starts ≡ length (all_parts link.plan.sections) → AreEnds link content starts ends
+    → ArePassed link ends (flat_map (file_takers link content) done) next → ArePassed link next (map section_taker (live_of link content.live f)) later
+    → common_places link later (commons_of link content.live f) ≡ map (told_common link content starts) (commons_of link content.live f)
+commons_are_placed link content starts ends done f next later h good in_link parts is passed sections =
+    made_alike (common_place link later (commons_of link content.live f)) (λ (q : ℕ × Common). told_common link content starts q.1) 0 0 (commons_of link content.live f) (λ k c there.
+    let number : 0 + k ≡ k = omega arith in
+    ap (λ (n : ℕ). common_place link later (commons_of link content.live f) (n, c)) number
+    ∙ common_is link content starts ends done f next later h good in_link parts is passed sections k c there)
+    ∙ without_number (told_common link content starts) 0 (commons_of link content.live f)
+
+-- numbers go on behind those of a first list
+numbered_append : {X : Type 0} (n : ℕ) (xs ys : List X) → enumerate_from n (xs ++ ys) ≡ enumerate_from n xs ++ enumerate_from (n + length xs) ys
+numbered_append n [] ys = let e : n ≡ n + 0 = omega arith in ap (λ m. enumerate_from m ys) e
+numbered_append n (x ∷ xs) ys =
+    let e : n + 1 + length xs ≡ n + suc (length xs) = omega arith in
+    ap (λ zs. (n, x) ∷ zs) (numbered_append (n + 1) xs ys ∙ ap (λ m. enumerate_from (n + 1) xs ++ enumerate_from m ys) e)
+
+-- with the next file
+pub file_done : (link : LinkInput) (content : Content) (starts ends : List ℕ) (done : List NumberedFile) (f : NumberedFile) (next later last sections new_sections : List ℕ)
+    (commons new_commons : List CommonAddress) (h : IsNextFile link done f)
+    → IsWellFormed link → AreLive link content.live → file_in link.groups f.id ≡ Some f.file → length starts ≡ length (all_parts link.plan.sections) → AreEnds link content starts ends
+    → AreDone link content starts ends done next sections commons
+    → ArePassed link next (map section_taker (live_of link content.live f)) later → new_sections ≡ sections ++ section_places link content.live next f
+    → ArePassed link later (map common_taker (commons_of link content.live f)) last → new_commons ≡ commons ++ common_places link later (commons_of link content.live f)
+    → AreDone link content starts ends (done ++ f ∷ []) last new_sections new_commons
+file_done link content starts ends done f next later last sections new_sections commons new_commons h good are in_link parts is so_far by_sections told_sections by_commons told_commons =
+    let before : List Taker = flat_map (file_takers link content) done in
+    let g : ℕ × Input → ℕ = section_address link content starts in
+    let tell : Common → CommonAddress = told_common link content starts in
+    let n : ℕ = length (inputs_of done) in
+    let zero_more : 0 + n ≡ n = omega arith in
+    let inputs : inputs_of (done ++ f ∷ []) ≡ inputs_of done ++ sections_of_file f
+    = flat_map-append sections_of_file done (f ∷ []) ∙ ap (λ (xs : List Input). inputs_of done ++ xs) (append-nil (sections_of_file f)) in
+    let takes : flat_map (file_takers link content) (done ++ f ∷ []) ≡ before ++ file_takers link content f
+    = flat_map-append (file_takers link content) done (f ∷ []) ∙ ap (λ (ts : List Taker). before ++ ts) (append-nil (file_takers link content f)) in
+    let cs : flat_map (commons_of link content.live) (done ++ f ∷ []) ≡ flat_map (commons_of link content.live) done ++ commons_of link content.live f
+    = flat_map-append (commons_of link content.live) done (f ∷ []) ∙ ap (λ (c : List Common). flat_map (commons_of link content.live) done ++ c) (append-nil (commons_of link content.live f)) in
+    record {
+      passed = subst (λ (ts : List Taker). ArePassed link ends ts last) (sym takes)
+          (passed_both link ends next last before (file_takers link content f) so_far.passed
+          (passed_both link next later last (map section_taker (live_of link content.live f)) (map common_taker (commons_of link content.live f)) by_sections by_commons));
+      addresses =
+          told_sections
+          ∙ ap (λ (ns : List ℕ). ns ++ section_places link content.live next f) so_far.addresses
+          ∙ ap (λ (ns : List ℕ). map g (enumerate_from 0 (inputs_of done)) ++ ns) (sections_are_placed link content starts ends done f next h good are parts is so_far.passed)
+          ∙ sym (ap (λ (xs : List Input). map g (enumerate_from 0 xs)) inputs
+          ∙ ap (map g) (numbered_append 0 (inputs_of done) (sections_of_file f))
+          ∙ map-append g (enumerate_from 0 (inputs_of done)) (enumerate_from (0 + n) (sections_of_file f))
+          ∙ ap (λ (m : ℕ). map g (enumerate_from 0 (inputs_of done)) ++ map g (enumerate_from m (sections_of_file f))) zero_more);
+      told =
+          told_commons
+          ∙ ap (λ (c : List CommonAddress). c ++ common_places link later (commons_of link content.live f)) so_far.told
+          ∙ ap (λ (c : List CommonAddress). map tell (flat_map (commons_of link content.live) done) ++ c) (commons_are_placed link content starts ends done f next later h good in_link parts is so_far.passed by_sections)
+          ∙ sym (ap (map tell) cs ∙ map-append tell (flat_map (commons_of link content.live) done) (commons_of link content.live f));
+    }
+
+-- ---- in the middle of a walk over a file's sections
+
+-- the next section, with its number and its mark
+pub record IsSectionTurn (link : LinkInput) (live : Live) (f : NumberedFile) (marks : List Bool) (k : ℕ) (section : InputSection) (number : ℕ) : Type 0 where
+  pub there : slice_get (sections_of_file f) k ≡ Some (record { file = f.id; index = k; section = section })
+  pub mark : lives link live (record { file = f.id; index = k; section = section }) ≡ is_marked marks number
+  pub goes : is_marked marks number ≡ true → section.part < length (all_parts link.plan.sections)
+
+pub section_turn : (link : LinkInput) (live : Live) (f : NumberedFile) (sections : List InputSection) (marks : List Bool) (k : ℕ) (section : InputSection) (number : ℕ) → IsWellFormed link → AreLive link live
+    → file_in link.groups f.id ≡ Some f.file → sections ≡ f.file.sections → marks ≡ live.marks → k < length sections → section ≡ get_or sections k section → number ≡ input_number link.groups f.id k
+    → IsSectionTurn link live f marks k section number
+section_turn link live f sections marks k section number good are in_link all read below is numbered =
+    let at : slice_get sections k ≡ Some section = slice_get-get_or sections k section below ∙ ap Some (sym is) in
+    let there : slice_get f.file.sections k ≡ Some section = ap (λ (ss : List InputSection). slice_get ss k) (sym all) ∙ at in
+    let x : Input = record { file = f.id; index = k; section = section } in
+    let mark : lives link live x ≡ is_marked marks number = ap (is_marked live.marks) (sym numbered) ∙ ap (λ (ms : List Bool). is_marked ms number) (sym read) in
+    record {
+      there = input_there f k section there;
+      mark = mark;
+      goes = λ set. live_goes_at link live (input_number link.groups f.id k) x good are (inputs_follow.at link.groups f.id f.file k section in_link there) (mark ∙ set);
+    }
+
+-- ---- ends
+
+-- behind a live section there is room for what it takes
+pub live_ends : (link : LinkInput) (content : Content) (starts : List ℕ) (k : ℕ) (x : Input) → slice_get (live_inputs link content.live) k ≡ Some x → EndsFit link content starts
+    → x.section.part < length starts → live_address link content starts x + capacity (part_at link.plan.sections x.section.part) x.section.size < 2 ^ 64
+live_ends link content starts k x there fit within =
+    let p : ℕ = x.section.part in
+    let split = live_among link content k x there in
+    omega (
+      arith,
+      section_behind link content starts split.front x split.rest split.splits,
+      all_fit link content starts p fit within,
+      ap (bytes_in link p) split.splits,
+      bytes_in-append link p split.front (section_taker x ∷ split.rest),
+      bytes_in-append link p (section_taker x ∷ []) split.rest,
+      bytes_in_here link p (section_taker x) refl,
+    )
+
+-- and behind a common
+pub common_ends : (link : LinkInput) (content : Content) (starts : List ℕ) (p s size : ℕ) → IsCommonIn link content.live p s size → EndsFit link content starts
+    → p < length starts → common_address link content starts p s + capacity (part_at link.plan.sections p) size < 2 ^ 64
+common_ends link content starts p s size h fit within =
+    let c : Common = record { symbol = s; part = p; size = size } in
+    let split = common_among link content p s size h in
+    omega (
+      arith,
+      common_behind link content starts split.front c split.rest split.splits,
+      all_fit link content starts p fit within,
+      ap (bytes_in link p) split.splits,
+      bytes_in-append link p split.front (common_taker c ∷ split.rest),
+      bytes_in-append link p (common_taker c ∷ []) split.rest,
+      bytes_in_here link p (common_taker c) refl,
+    )

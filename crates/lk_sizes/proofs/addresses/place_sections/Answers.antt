@@ -1,0 +1,107 @@
+use Rattle.std.proofs.Common.{◌≡◌, ◌++◌, ◌∷◌, [], ◌<◌, ℕ, false, List, length, ap, sym, ◌∙◌, arith}
+use Rattle.std.specs.List.{slice_index}
+use Rattle.lk_link.specs.Inputs.{Input}
+use Rattle.lk_link.specs.Parts.{all_parts}
+use Rattle.lk_link.specs.Walks.{file_of}
+use Rattle.lk_sizes.proofs.Limited.{part_fits}
+use Rattle.lk_sizes.proofs.LiveParts.{read_alignment, read_part}
+use Rattle.lk_sizes.proofs.Placed.{all_reached, live_reached, live_room, other_reached, section_turn}
+use Rattle.lk_sizes.proofs.addresses.place_sections.Goals as goal
+use Rattle.lk_sizes.proofs.addresses.place_sections.Goals.{else-is_live, then-is_live}
+
+pub input_number-requires-clause-inside : goal.input_number-requires-clause-inside
+input_number-requires-clause-inside c = omega (arith, c.loop-index-test.true, ap length c.as_slice-section-items.ensures)
+
+pub offset_bounds-next-part : goal.offset_bounds-next-part
+offset_bounds-next-part c =
+    let link = c.args.link.now in
+    let at = section_turn link c.args.live.now (file_of c.args.file) c.as_slice-section-items.result.now c.as_slice-marks.result.now c.loop-index.index c.section-item.result c.input_number.result c.requires.good c.requires.live c.requires.there c.as_slice-section-items.ensures
+    c.as_slice-marks.ensures c.loop-index-test.true c.section-item.is c.input_number.ensures in
+    let below = at.goes (sym c.is_marked-is_live.ensures ∙ c.if-is_live.true) in
+    let fits = part_fits link c.as_usize-part.result c.requires.good (omega (arith, below, c.as_usize-part.ensures)) in
+    omega arith
+
+pub bounds-next-part : goal.bounds-next-part
+bounds-next-part c =
+    let link = c.args.link.now in
+    let at = section_turn link c.args.live.now (file_of c.args.file) c.as_slice-section-items.result.now c.as_slice-marks.result.now c.loop-index.index c.section-item.result c.input_number.result c.requires.good c.requires.live c.requires.there c.as_slice-section-items.ensures
+    c.as_slice-marks.ensures c.loop-index-test.true c.section-item.is c.input_number.ensures in
+    let below = at.goes (sym c.is_marked-is_live.ensures ∙ c.if-is_live.true) in
+    omega (arith, below, c.as_usize-part.ensures, c.requires.count, c.loop-index.invariant.passed.count)
+
+pub offset_bounds-parts-part : goal.offset_bounds-parts-part
+offset_bounds-parts-part c =
+    let link = c.args.link.now in
+    let at = section_turn link c.args.live.now (file_of c.args.file) c.as_slice-section-items.result.now c.as_slice-marks.result.now c.loop-index.index c.section-item.result c.input_number.result c.requires.good c.requires.live c.requires.there c.as_slice-section-items.ensures
+    c.as_slice-marks.ensures c.loop-index-test.true c.section-item.is c.input_number.ensures in
+    let below = at.goes (sym c.is_marked-is_live.ensures ∙ c.if-is_live.true) in
+    part_fits link c.as_usize-part.result c.requires.good (omega (arith, below, c.as_usize-part.ensures))
+
+pub bounds-parts-part : goal.bounds-parts-part
+bounds-parts-part c =
+    let link = c.args.link.now in
+    let at = section_turn link c.args.live.now (file_of c.args.file) c.as_slice-section-items.result.now c.as_slice-marks.result.now c.loop-index.index c.section-item.result c.input_number.result c.requires.good c.requires.live c.requires.there c.as_slice-section-items.ensures
+    c.as_slice-marks.ensures c.loop-index-test.true c.section-item.is c.input_number.ensures in
+    let below : c.as_usize-part.result < length (all_parts link.plan.sections) = omega (arith, at.goes (sym c.is_marked-is_live.ensures ∙ c.if-is_live.true), c.as_usize-part.ensures) in
+    rw c.parts-parts.ensures below
+
+pub take_next-address-requires-clause-aligned : goal.take_next-address-requires-clause-aligned
+take_next-address-requires-clause-aligned c =
+    let link = c.args.link.now in
+    let at = section_turn link c.args.live.now (file_of c.args.file) c.as_slice-section-items.result.now c.as_slice-marks.result.now c.loop-index.index c.section-item.result c.input_number.result c.requires.good c.requires.live c.requires.there c.as_slice-section-items.ensures
+    c.as_slice-marks.ensures c.loop-index-test.true c.section-item.is c.input_number.ensures in
+    let below : c.as_usize-part.result < length (all_parts link.plan.sections) = omega (arith, at.goes (sym c.is_marked-is_live.ensures ∙ c.if-is_live.true), c.as_usize-part.ensures) in
+    read_alignment link c.parts-parts.result.now c.as_usize-part.result _ c.requires.good c.parts-parts.ensures (rw c.parts-parts.ensures below)
+
+pub take_next-address-requires-clause-room : goal.take_next-address-requires-clause-room
+take_next-address-requires-clause-room c =
+    let link = c.args.link.now in
+    let at = section_turn link c.args.live.now (file_of c.args.file) c.as_slice-section-items.result.now c.as_slice-marks.result.now c.loop-index.index c.section-item.result c.input_number.result c.requires.good c.requires.live c.requires.there c.as_slice-section-items.ensures
+    c.as_slice-marks.ensures c.loop-index-test.true c.section-item.is c.input_number.ensures in
+    let x : Input = record { file = c.args.file.id; index = c.loop-index.index; section = c.section-item.result } in
+    let set = sym c.is_marked-is_live.ensures ∙ c.if-is_live.true in
+    let below : c.as_usize-part.result < length (all_parts link.plan.sections) = omega (arith, at.goes set, c.as_usize-part.ensures) in
+    let part = read_part link c.parts-parts.result.now c.as_usize-part.result (record { alignment = 0; packed = false }) c.parts-parts.ensures (rw c.parts-parts.ensures below) in
+    let fits = live_room link c.args.live.now (file_of c.args.file) c.args.next.now c.loop-index.index c.loop-index.next x c.as_usize-part.result at.there (at.mark ∙ set) c.requires.space c.loop-index.invariant.passed
+    c.as_usize-part.ensures (omega (arith, below, c.requires.count)) in
+    rw part fits
+
+pub loop-index-preserved : goal.loop-index-preserved
+loop-index-preserved c =
+    let link = c.args.link.now in
+    let live = c.args.live.now in
+    let f = file_of c.args.file in
+    let i : ℕ = c.loop-index.index in
+    let next : List ℕ = c.loop-index.next in
+    let old : List ℕ = c.args.next.now in
+    let front : List ℕ = c.args.addresses.now.items in
+    let addresses : List ℕ = c.loop-index.addresses.items in
+    let at = section_turn link live f c.as_slice-section-items.result.now c.as_slice-marks.result.now i c.section-item.result c.input_number.result c.requires.good c.requires.live c.requires.there c.as_slice-section-items.ensures
+    c.as_slice-marks.ensures c.loop-index-test.true c.section-item.is c.input_number.ensures in
+    let x : Input = record { file = c.args.file.id; index = i; section = c.section-item.result } in
+    elim c.if-is_live.branch [
+      | then-is_live w ↦
+          let set = sym c.is_marked-is_live.ensures ∙ w.if-is_live.true in
+          let p : ℕ = w.as_usize-part.result in
+          let below : p < length (all_parts link.plan.sections) = omega (arith, at.goes set, w.as_usize-part.ensures) in
+          let part = read_part link c.parts-parts.result.now p (record { alignment = 0; packed = false }) c.parts-parts.ensures (rw c.parts-parts.ensures below) in
+          let done = live_reached link live f old i next front addresses x p w.take_next-address.new.next at.there (at.mark ∙ set) c.loop-index.invariant w.as_usize-part.ensures
+          (omega (arith, below, c.requires.count)) (rw part at w.take_next-address.ensures.moved) in
+          let told : c.push.new.self.items ≡ addresses ++ slice_index next p ∷ [] = c.in_ok-push.ensures.items ∙ ap (λ (a : ℕ). addresses ++ a ∷ []) (w.address-is ∙ w.take_next-address.ensures.address) in
+          rw (w.next-is, told) done
+      | else-is_live w ↦
+          let unset = sym c.is_marked-is_live.ensures ∙ w.if-is_live.false in
+          let done = other_reached link live f old i next front addresses x at.there (at.mark ∙ unset) c.loop-index.invariant in
+          let told : c.push.new.self.items ≡ addresses ++ 0 ∷ [] = c.in_ok-push.ensures.items ∙ ap (λ (a : ℕ). addresses ++ a ∷ []) w.address-is in
+          rw (w.next-is, told) done
+    ]
+
+pub returns-clause-moved : goal.returns-clause-moved
+returns-clause-moved c =
+    (all_reached c.args.link.now c.args.live.now (file_of c.args.file) c.args.next.now c.loop-index.index c.loop-index.next c.args.addresses.now.items c.loop-index.addresses.items
+    (omega (arith, ap length c.as_slice-section-items.ensures)) c.loop-index.invariant).0
+
+pub returns-clause-told : goal.returns-clause-told
+returns-clause-told c =
+    (all_reached c.args.link.now c.args.live.now (file_of c.args.file) c.args.next.now c.loop-index.index c.loop-index.next c.args.addresses.now.items c.loop-index.addresses.items
+    (omega (arith, ap length c.as_slice-section-items.ensures)) c.loop-index.invariant).1

@@ -1,0 +1,7 @@
+use Rattle.lk_link.specs.Walks.{file_of}
+use Rattle.lk_sizes.proofs.Placed.{AreReached}
+use Rattle.lk_sizes.proofs.addresses.place_sections.Given as goal
+
+-- the sections so far have their addresses, and the next ones are behind them
+abbrev pub invariant-loop-index : goal.invariant-loop-index
+invariant-loop-index l = AreReached l.link l.live (file_of l.file) l.initial.next l.index l.next l.initial.addresses.items l.addresses.items

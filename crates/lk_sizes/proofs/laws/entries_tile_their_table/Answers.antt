@@ -1,5 +1,0 @@
-use Rattle.lk_sizes.proofs.TableTiling.{entries_tile}
-use Rattle.lk_sizes.proofs.laws.entries_tile_their_table.Goals as goal
-
-pub returns : goal.returns
-returns c = entries_tile

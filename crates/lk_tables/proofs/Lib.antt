@@ -1,0 +1,17 @@
+pub mod BySymbol
+pub mod Columns
+pub mod DynamicLemmas
+pub mod HeaderLemmas
+pub mod IndexLemmas
+pub mod NotCanonical
+pub mod NumberLemmas
+pub mod OwnCounts
+pub mod OwnLemmas
+pub mod PartBytes
+pub mod PartLists
+pub mod ShareSums
+pub mod SymtabTotals
+pub mod TableSums
+pub mod TableTiling
+pub mod TotalLemmas
+pub mod WithinLemmas

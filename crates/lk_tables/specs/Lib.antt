@@ -1,0 +1,16 @@
+pub mod Copied
+pub mod Dynamic
+pub mod DynamicCounters
+pub mod DynamicWords
+pub mod HeaderParts
+pub mod Late
+pub mod OwnEntries
+pub mod OwnTables
+pub mod ShareWords
+pub mod SymbolEntries
+pub mod SymbolTable
+pub mod TableLaws
+pub mod TableLists
+pub mod TableTiles
+pub mod TableWords
+pub mod Totals

@@ -1,0 +1,271 @@
+//! Which symbols are copied to the symbol table of the output, and under which names.
+
+ghost use Rattle.std.specs.Prelude.{◌≡◌, if◌then◌else◌, Some, None};
+ghost use Rattle.lk_link.specs.declared.flags.TheConstants.ValueFlags as flag;
+ghost use Rattle.lk_link.specs.Flags.{has_flag};
+ghost use Rattle.lk_link.specs.WellFormed.{IsWellFormed};
+ghost use Rattle.lk_link.specs.Walks.{file_of};
+ghost use Rattle.lk_link.specs.SymbolPlacements.{is_undefined};
+ghost use Rattle.lk_reach.specs.Placements.{is_in_discarded};
+ghost use Rattle.lk_tables.specs.Copied.{can_resolve, copied_name, is_assembler_name, is_canonical, is_copied, is_copied_undefined, is_in_loaded, is_must, is_named, is_there, is_wanted, may_stay, stays_by, undefined_name};
+
+use lk_gc::Live;
+use lk_link::{
+    DiscardLocals, FileKind, FileRef, InputSection, InputSymbol, LinkInput, SymbolId,
+    SymbolPlacement, ValueFlags,
+};
+use std::marker::Model;
+
+/// A symbol that is copied to the symbol table of the output. Contracts see its name (libwild: `SymbolCopyInfo`).
+#[derive(Drop)]
+pub struct SymbolCopyInfo<'a> {
+    name: &'a str,
+}
+
+impl<'a> Model for SymbolCopyInfo<'a> {
+    ghost use Rattle.std.specs.Prelude.{List, ℕ};
+
+    ghost Value = { List ℕ };
+
+    ghost view = { λ a. a.name.now };
+}
+
+impl<'a> SymbolCopyInfo<'a> {
+    /// The symbol with this number, which has these flags, late ones included, where it is copied: of an object one that stands
+    /// in the output under a name and isn't left out; one with a name and a resolution that the linker places. Takes
+    /// logarithmic time (libwild: `SymbolCopyInfo::new`).
+    pub fn new(
+        link: &'a LinkInput,
+        symbol: SymbolId,
+        live: &Live,
+        flags: ValueFlags,
+    ) -> Option<SymbolCopyInfo<'a>>
+        requires { IsWellFormed link.now }
+        ensures { result ≡ copied_name link.now live.now symbol flags }
+    {
+        let id = link.groups.file_of_symbol(symbol)?;
+        let file = link.groups.file(id)?;
+        let own = link.groups.symbol(symbol)?;
+        info_if(
+            is_copied(link, live, FileRef { id, file }, symbol, own, flags),
+            own,
+        )
+    }
+
+    /// The same where it is copied though it has no place: in partial output one with a name and a resolution that is
+    /// undefined, or that isn't local and stands in a discarded section (libwild: `SymbolCopyInfo::for_undefined`).
+    pub fn for_undefined(
+        link: &'a LinkInput,
+        symbol: SymbolId,
+        flags: ValueFlags,
+    ) -> Option<SymbolCopyInfo<'a>>
+        requires { IsWellFormed link.now }
+        ensures { result ≡ undefined_name link.now symbol flags }
+    {
+        let id = link.groups.file_of_symbol(symbol)?;
+        let file = link.groups.file(id)?;
+        let own = link.groups.symbol(symbol)?;
+        info_if(
+            is_copied_undefined(link, FileRef { id, file }, symbol, own, flags),
+            own,
+        )
+    }
+
+    /// Its name.
+    pub fn name(&self) -> &'a str
+        ensures { result.now ≡ self.now }
+    {
+        self.name
+    }
+}
+
+/// A symbol as one that is copied, if it is.
+fn info_if(is_copied: bool, symbol: &InputSymbol) -> Option<SymbolCopyInfo<'_>>
+    ensures { result ≡ (if is_copied then Some symbol.now.name else None) }
+{
+    if is_copied {
+        let name = symbol.name.as_str();
+        Some(SymbolCopyInfo { name })
+    } else {
+        None
+    }
+}
+
+/// Whether a symbol with its number stands for itself.
+pub(crate) fn is_canonical(number: SymbolId, symbol: &InputSymbol) -> bool
+    ensures { result ≡ is_canonical number symbol.now }
+{
+    symbol.def.unwrap_or(number).as_u32() == number.as_u32()
+}
+
+/// Whether a symbol has a name.
+pub(crate) fn is_named(symbol: &InputSymbol) -> bool
+    ensures { result ≡ is_named symbol.now }
+{
+    symbol.name.len() != 0
+}
+
+/// Whether files of a kind give such a symbol a resolution.
+fn can_resolve(kind: FileKind, symbol: &InputSymbol) -> bool
+    ensures { result ≡ can_resolve kind symbol.now }
+{
+    !kind.is_not_loaded() && (is_named(symbol) || !kind.is_internal())
+}
+
+/// Whether a symbol of a file of a kind, with its number and these flags, gets a resolution, whatever becomes of segments.
+pub fn is_wanted(kind: FileKind, number: SymbolId, symbol: &InputSymbol, flags: ValueFlags) -> bool
+    ensures { result ≡ is_wanted kind number symbol.now flags }
+{
+    is_canonical(number, symbol) && flags.has_resolution() && can_resolve(kind, symbol)
+}
+
+/// Whether a symbol names a section group.
+fn names_group(flags: ValueFlags) -> bool
+    ensures { result ≡ has_flag flag.GROUP_SIGNATURE.0 flags.0 }
+{
+    flags.0 & ValueFlags::GROUP_SIGNATURE.0 == ValueFlags::GROUP_SIGNATURE.0
+}
+
+/// Whether a symbol is copied though it is local: it names a section group, or the output is linked again and it has a
+/// resolution.
+fn is_must(
+    link: &LinkInput,
+    kind: FileKind,
+    number: SymbolId,
+    symbol: &InputSymbol,
+    flags: ValueFlags,
+) -> bool
+    ensures { result ≡ is_must link.now kind number symbol.now flags }
+{
+    names_group(flags)
+        || (link.options.output.is_partial() && is_wanted(kind, number, symbol, flags))
+}
+
+/// Whether a name is one that assemblers give to local symbols.
+fn is_assembler_name(name: &str) -> bool
+    ensures { result ≡ is_assembler_name name.now }
+{
+    name.starts_with(".L")
+}
+
+/// Whether a symbol stays where these local ones are left out.
+fn stays_by(discard: DiscardLocals, symbol: &InputSymbol) -> bool
+    ensures { result ≡ stays_by discard symbol.now }
+{
+    match discard {
+        DiscardLocals::All => !symbol.local,
+        DiscardLocals::Default => !symbol.local || !is_assembler_name(symbol.name.as_str()),
+        DiscardLocals::None => true,
+    }
+}
+
+/// Whether a placement leaves its symbol undefined.
+pub(crate) fn is_undefined(at: &SymbolPlacement) -> bool
+    ensures { result ≡ is_undefined at.now }
+{
+    matches!(
+        at,
+        SymbolPlacement::Undef | SymbolPlacement::Undefined | SymbolPlacement::ForceUndefined
+    )
+}
+
+/// Whether a placement is in a section that is discarded, of a file with these sections.
+fn is_in_discarded(sections: &[InputSection], at: &SymbolPlacement) -> bool
+    ensures { result ≡ is_in_discarded sections.now at.now }
+{
+    match at {
+        SymbolPlacement::Section { index, .. } => match sections.get(*index as usize) {
+            Some(section) => section.slot.is_discarded(),
+            None => false,
+        },
+        _ => false,
+    }
+}
+
+/// Whether the section of a placement in a file, if it is in one, is loaded.
+fn is_in_loaded(link: &LinkInput, live: &Live, file: FileRef<'_>, at: &SymbolPlacement) -> bool
+    requires { IsWellFormed link.now }
+    ensures { result ≡ is_in_loaded link.now live.now (file_of file.entry) at.now }
+{
+    match at {
+        SymbolPlacement::Section { index, .. } => {
+            match live.slot(link, file.id, *index as usize) {
+                Some(slot) => slot.is_loaded(),
+                None => false,
+            }
+        }
+        _ => true,
+    }
+}
+
+/// Whether a symbol of an object stands for something in the output under a name.
+fn is_there(
+    link: &LinkInput,
+    live: &Live,
+    file: FileRef<'_>,
+    number: SymbolId,
+    symbol: &InputSymbol,
+    flags: ValueFlags,
+) -> bool
+    requires { IsWellFormed link.now }
+    ensures { result ≡ is_there link.now live.now (file_of file.entry) number symbol.now flags }
+{
+    is_canonical(number, symbol)
+        && !is_undefined(&symbol.at)
+        && is_named(symbol)
+        && is_in_loaded(link, live, file, &symbol.at)
+        && (is_wanted(file.file.kind, number, symbol, flags) || !symbol.at.is_common())
+}
+
+/// Whether the options let a symbol of an object stay.
+fn may_stay(
+    link: &LinkInput,
+    kind: FileKind,
+    number: SymbolId,
+    symbol: &InputSymbol,
+    flags: ValueFlags,
+) -> bool
+    ensures { result ≡ may_stay link.now kind number symbol.now flags }
+{
+    let options = &link.options;
+    (is_must(link, kind, number, symbol, flags) || stays_by(options.discard, symbol))
+        && (names_group(flags) || !options.strip_names.contains(symbol.name.as_str()))
+}
+
+/// Whether a symbol of a file, with its number and these flags, is copied.
+pub(crate) fn is_copied(
+    link: &LinkInput,
+    live: &Live,
+    file: FileRef<'_>,
+    number: SymbolId,
+    symbol: &InputSymbol,
+    flags: ValueFlags,
+) -> bool
+    requires { IsWellFormed link.now }
+    ensures { result ≡ is_copied link.now live.now (file_of file.entry) number symbol.now flags }
+{
+    let kind = file.file.kind;
+    if kind.is_object() {
+        is_there(link, live, file, number, symbol, flags)
+            && may_stay(link, kind, number, symbol, flags)
+    } else {
+        kind.is_internal() && is_named(symbol) && is_wanted(kind, number, symbol, flags)
+    }
+}
+
+/// Whether it is copied though it has no place.
+pub(crate) fn is_copied_undefined(
+    link: &LinkInput,
+    file: FileRef<'_>,
+    number: SymbolId,
+    symbol: &InputSymbol,
+    flags: ValueFlags,
+) -> bool
+    ensures { result ≡ is_copied_undefined link.now (file_of file.entry) number symbol.now flags }
+{
+    link.options.output.is_partial()
+        && is_named(symbol)
+        && is_wanted(file.file.kind, number, symbol, flags)
+        && (is_undefined(&symbol.at)
+            || (!symbol.local && is_in_discarded(file.file.sections.as_slice(), &symbol.at)))
+}

@@ -1,0 +1,156 @@
+//! The bytes of the tables, first and whole, by what files take.
+
+ghost use Rattle.std.specs.Prelude.{◌≡◌, ℕ, List, Bool, false, if◌then◌else◌, length, sum_by};
+ghost use Rattle.std.specs.List.{zip};
+ghost use Rattle.lk_link.specs.OutputKinds.{is_partial};
+ghost use Rattle.lk_link.specs.PartRules.{is_part, table_parts};
+ghost use Rattle.lk_link.specs.TableSizes.{TableSizes};
+ghost use Rattle.lk_gc.specs.declared.live.Live.{Live};
+ghost use Rattle.lk_tables.specs.HeaderParts.{told_sum};
+ghost use Rattle.lk_tables.specs.ShareWords.{dynamic_share, first_shares, prelude_share, sum_of};
+ghost use Rattle.lk_tables.specs.TableLists.{TableLists, first_tables, table_bytes, whole_tables};
+ghost use Rattle.lk_tables.specs.Totals.{all_totals, bytes_if, dynamic_total, totals_by, totals_of};
+
+use crate::header_info::HeaderInfo;
+use crate::headers::{HeaderSizes, header_sizes};
+use crate::shares::{DynamicShare, FileShare, dynamic_share, sum_shares};
+use lk_link::{LinkInput, NamedParts, PartId, Platform};
+
+/// Bytes of the tables; a sum past 2^128 - 1 is given as that.
+#[derive(Clone, Copy, Debug, PartialEq, Eq)]
+pub struct TableTotals {
+    pub got: u128,
+    pub plt: u128,
+    pub symtab_local: u128,
+    pub symtab_global: u128,
+    pub strtab: u128,
+    pub dynsym: u128,
+    pub dynstr: u128,
+    pub file_header: u128,
+    pub program_headers: u128,
+    pub section_headers: u128,
+    pub shstrtab: u128,
+}
+
+/// What the dynamic symbol table takes, where there is one, by what it takes itself and what files bring.
+fn dynamic_total(link: &LinkInput, own: DynamicShare, sum: FileShare) -> DynamicShare
+    ensures { result ≡ dynamic_total link.now own sum }
+{
+    if link.options.output.is_loaded_dynamically() {
+        own.plus(sum.dynamic).plus(sum.exports)
+    } else {
+        DynamicShare::nothing()
+    }
+}
+
+/// The bytes of the tables, by what files bring, what the dynamic symbol table takes, and headers.
+fn totals_by(sum: FileShare, dynamic: DynamicShare, headers: HeaderSizes) -> TableTotals
+    ensures { result ≡ totals_by sum dynamic headers }
+{
+    TableTotals {
+        got: sum.entries.got,
+        plt: sum.entries.plt,
+        symtab_local: sum.symtab.local,
+        symtab_global: sum.symtab.global,
+        strtab: sum.symtab.names,
+        dynsym: dynamic.entries,
+        dynstr: dynamic.names,
+        file_header: u128::from(headers.file_header),
+        program_headers: headers.program_headers,
+        section_headers: headers.section_headers,
+        shstrtab: headers.shstrtab,
+    }
+}
+
+/// The bytes that the tables take as far as it is known before it is known which sections are emitted, by what files take first.
+/// Takes no memory.
+pub fn first_totals(link: &LinkInput, shares: &[FileShare]) -> TableTotals
+    ensures { (sizes : TableSizes) (live : Live) → shares.now ≡ first_shares sizes link.now live
+        → result ≡ totals_of (first_tables sizes link.now live) }
+{
+    let sum = sum_shares(shares);
+    let dynamic = dynamic_total(link, DynamicShare::nothing(), sum);
+    totals_by(sum, dynamic, HeaderSizes::nothing())
+}
+
+/// The bytes that the tables take, by what files take first, what the prelude takes behind that, and which sections and segments
+/// have headers. Looks at each event once; takes no memory. Not yet for output that is linked again, in which sections have
+/// entries too (libwild: `EpilogueLayoutState::apply_late_size_adjustments`, with `PreludeLayoutState::finalise_sizes`).
+pub fn whole_totals<P: Platform>(
+    link: &LinkInput,
+    platform: &P,
+    shares: &[FileShare],
+    prelude: FileShare,
+    header: &HeaderInfo,
+) -> TableTotals
+    requires whole { is_partial link.now.options.output ≡ false }
+    ensures { (live : Live) (told : List Bool) → shares.now ≡ first_shares (P.table_sizes platform.now) link.now live
+        → prelude ≡ prelude_share (P.table_sizes platform.now) link.now live told
+        → result ≡ totals_of (whole_tables (P.table_sizes platform.now) link.now live told header.now.emitted header.now.active_segment_ids) }
+{
+    let sum = sum_shares(shares).plus(prelude);
+    let own = dynamic_share(true, platform.symbol_entry(), 0);
+    let dynamic = dynamic_total(link, own, sum);
+    totals_by(sum, dynamic, header_sizes(link, platform, header))
+}
+
+/// The parts of the tables, in the order in which the plan names them.
+fn table_parts(named: &NamedParts) -> [Option<PartId>; 11]
+    ensures { result ≡ table_parts named.now }
+{
+    [
+        named.got,
+        named.plt,
+        named.symtab_local,
+        named.symtab_global,
+        named.strtab,
+        named.dynsym,
+        named.dynstr,
+        named.file_header,
+        named.program_headers,
+        named.section_headers,
+        named.shstrtab,
+    ]
+}
+
+/// The bytes of the tables, in the same order.
+fn all_totals(totals: &TableTotals) -> [u128; 11]
+    ensures { result ≡ all_totals totals.now }
+{
+    [
+        totals.got,
+        totals.plt,
+        totals.symtab_local,
+        totals.symtab_global,
+        totals.strtab,
+        totals.dynsym,
+        totals.dynstr,
+        totals.file_header,
+        totals.program_headers,
+        totals.section_headers,
+        totals.shstrtab,
+    ]
+}
+
+/// The bytes of a table, if its part is this one.
+fn bytes_if(part: PartId, named: Option<PartId>, bytes: u128) -> u128
+    ensures { result ≡ bytes_if part (named, bytes) }
+{
+    match named {
+        Some(found) if found.as_u32() == part.as_u32() => bytes,
+        _ => 0,
+    }
+}
+
+/// The bytes that tables take in a part; nothing in one that the plan names for none. Takes constant time.
+pub fn bytes_in_part(named: &NamedParts, totals: &TableTotals, part: PartId) -> u128
+    ensures { (lists : TableLists) → totals.now ≡ totals_of lists → result ≡ told_sum (table_bytes named.now lists part) }
+{
+    let parts = table_parts(named);
+    let bytes = all_totals(totals);
+    let mut sum = 0u128;
+    for table in 0..11usize {
+        sum = sum.saturating_add(bytes_if(part, parts[table], bytes[table]));
+    }
+    sum
+}
