@@ -5,14 +5,14 @@ use Rattle.std.specs.Result.{IsErrAnd}
 use Rattle.lk_check.specs.FirstFault.{check_of, first_fault}
 use Rattle.lk_link.specs.declared.fault.LinkFault.{LinkFault}
 use Rattle.lk_link.specs.declared.link.LinkInput.{LinkInput}
-use Rattle.lk_link.specs.Target.{Target}
+use Rattle.lk_link.specs.TableSizes.{Machine}
 use Rattle.lk_layout.specs.declared.error.LayoutError.{LayoutError}
 use Rattle.lk_layout.specs.declared.error.LayoutError.TheVariants.{NoMemory, TooMany, BadLink, NotCarried, MergeNotTerminated, MergeOffset, MergeTooLarge, References, AddressOverflow, RegionDuplicate, Expression, BaseTooLow, RegionUnknown, RegionOverflow, OutsideRegion, LocationBackwards, SectionOutsideSegments}
 use Rattle.lk_layout.specs.declared.error.Uncarried.{Uncarried}
 use Rattle.lk_layout.specs.declared.layout.Layout.{Layout}
 use Rattle.lk_layout.specs.declared.resolution.Resolution.{Resolution}
 use Rattle.lk_layout.specs.Carried.{IsCarried, first_uncarried}
-use Rattle.lk_layout.specs.Defined.{Gives, IsCarriedAnswer, IsDefined, IsMergedAnswer, Unless, WithMemory, fault_refusal, not_carried, uncarried_refusal, IsPlacedAnswer, layout_of, offsets_refusal, references_error, references_refusal, segment_refusal}
+use Rattle.lk_layout.specs.Defined.{Gives, IsCarriedAnswer, IsDefined, IsMergedAnswer, Unless, WithMemory, fault_refusal, not_carried, uncarried_refusal, IsPlacedAnswer, joining_refusal, layout_of, offsets_refusal, references_error, references_refusal, segment_refusal}
 use Rattle.lk_layout.specs.Errors.{fault_error, gc_error, offset_error, place_error}
 use Rattle.lk_layout.specs.declared.outside.MergeOffsetPlace.{MergeOffsetPlace}
 use Rattle.lk_layout.specs.Merging.{GivesImages, merging_refusal}
@@ -24,8 +24,10 @@ use Rattle.lk_gc.specs.Reach.{GivesLive}
 use Rattle.lk_merge.specs.Pieces.{MergeInput}
 use Rattle.lk_place.specs.Records.{Record}
 use Rattle.lk_place.specs.declared.segments.SegmentLayout.{SegmentLayout}
-use Rattle.lk_place.specs.Segments.{first_outside, outside_refusal, section_records}
-use Rattle.lk_sizes.specs.Emitted.{is_emitted}
+use Rattle.lk_place.specs.declared.segments.SegmentFileLayout.TheVariants.{FromSections}
+use Rattle.lk_place.specs.Secondaries.{merge_refusal}
+use Rattle.lk_place.specs.Segments.{section_records, segments_refusal}
+use Rattle.lk_sizes.specs.Emitted.{active_segments, is_emitted}
 use Rattle.lk_layout.specs.OutputContent.{output_content}
 
 -- the exit of a `?`: what holds of each error that may come through it
@@ -99,22 +101,22 @@ fault_some None f h = absurd (cc)
 fault_some (Some g) f h = let same : g ≡ f = cc in ap (λ (x : LinkFault). Some x) same
 
 -- a link with a fault
-pub faulty : (target : Target) (link : LinkInput) (f : LinkFault) (e : LayoutError) → first_fault link ≡ Some f → e ≡ fault_error f → Gives target link (Err e)
-faulty target link f e h is =
-    with_error (IsDefined target link) e (λ memory.
+pub faulty : (machine : Machine) (link : LinkInput) (f : LinkFault) (e : LayoutError) → first_fault link ≡ Some f → e ≡ fault_error f → Gives machine link (Err e)
+faulty machine link f e h is =
+    with_error (IsDefined machine link) e (λ memory.
     unless_some (fault_refusal link) e _ (ap (option_map fault_error) h ∙ ap (λ (x : LayoutError). Some x) (sym is)))
 
 -- a link with something that isn't carried
-pub uncarried : (target : Target) (link : LinkInput) (what : Uncarried) → first_fault link ≡ None → first_uncarried link ≡ Some what → Gives target link (Err (NotCarried what))
-uncarried target link what good h =
+pub uncarried : (machine : Machine) (link : LinkInput) (what : Uncarried) → first_fault link ≡ None → first_uncarried link ≡ Some what → Gives machine link (Err (NotCarried what))
+uncarried machine link what good h =
     unless_none (fault_refusal link) (Err (NotCarried what)) _ (ap (option_map fault_error) good)
     (unless_some (uncarried_refusal link) (NotCarried what) _ (ap (option_map not_carried) h))
 
 -- a link that is laid out, or refused later
-pub carried : (target : Target) (link : LinkInput) (answer : Result Layout LayoutError) → first_fault link ≡ None → IsCarried link
-    → WithMemory (IsCarriedAnswer target link) answer → Gives target link answer
-carried target link answer good all given =
-    passed_on (IsCarriedAnswer target link) (IsDefined target link) answer
+pub carried : (machine : Machine) (link : LinkInput) (answer : Result Layout LayoutError) → first_fault link ≡ None → IsCarried link
+    → WithMemory (IsCarriedAnswer machine link) answer → Gives machine link answer
+carried machine link answer good all given =
+    passed_on (IsCarriedAnswer machine link) (IsDefined machine link) answer
     (λ a h. unless_none (fault_refusal link) a _ (ap (option_map fault_error) good) (unless_none (uncarried_refusal link) a _ (ap (option_map not_carried) all) h)) given
 
 -- ---- merging
@@ -139,47 +141,51 @@ given_refusal link (BaseTooLow base headers) h memory = h
 given_refusal link (SectionOutsideSegments s) h memory = h
 given_refusal link (MergeOffset place) h memory = h
 
-pub unmerged : (target : Target) (link : LinkInput) (e : LayoutError) → GivesImages link (Err e) → WithMemory (IsCarriedAnswer target link) (Err e)
-unmerged target link e given =
-    with_error (IsCarriedAnswer target link) e (λ memory. unless_some (merging_refusal link) e _ (given_refusal link e given memory))
+pub unmerged : (machine : Machine) (link : LinkInput) (e : LayoutError) → GivesImages link (Err e) → WithMemory (IsCarriedAnswer machine link) (Err e)
+unmerged machine link e given =
+    with_error (IsCarriedAnswer machine link) e (λ memory. unless_some (merging_refusal link) e _ (given_refusal link e given memory))
 
 -- a link that is merged is laid out, or refused later
-pub merged : (target : Target) (link : LinkInput) (answer : Result Layout LayoutError) → merging_refusal link ≡ None → WithMemory (IsMergedAnswer target link) answer
-    → WithMemory (IsCarriedAnswer target link) answer
-merged target link answer none given =
-    passed_on (IsMergedAnswer target link) (IsCarriedAnswer target link) answer (λ a h. unless_none (merging_refusal link) a _ none h) given
+pub merged : (machine : Machine) (link : LinkInput) (answer : Result Layout LayoutError) → merging_refusal link ≡ None → WithMemory (IsMergedAnswer machine link) answer
+    → WithMemory (IsCarriedAnswer machine link) answer
+merged machine link answer none given =
+    passed_on (IsMergedAnswer machine link) (IsCarriedAnswer machine link) answer (λ a h. unless_none (merging_refusal link) a _ none h) given
 
 -- ---- references
 
 -- what the traversal refuses
-pub unmet : (target : Target) (link : LinkInput) (g : GcError) (e : LayoutError) → GivesLive link (Err g) → e ≡ gc_error g → WithMemory (IsMergedAnswer target link) (Err e)
-unmet target link gc.NoMemory e h is = subst (λ (x : LayoutError). WithMemory (IsMergedAnswer target link) (Err x)) (sym is) tt
-unmet target link (gc.References []) e h is = absurd (h.1 refl)
-unmet target link (gc.References (fault ∷ faults)) e h is =
-    with_error (IsMergedAnswer target link) e (λ memory.
+pub unmet : (machine : Machine) (link : LinkInput) (g : GcError) (e : LayoutError) → GivesLive link (Err g) → e ≡ gc_error g → WithMemory (IsMergedAnswer machine link) (Err e)
+unmet machine link gc.NoMemory e h is = subst (λ (x : LayoutError). WithMemory (IsMergedAnswer machine link) (Err x)) (sym is) tt
+unmet machine link (gc.References []) e h is = absurd (h.1 refl)
+unmet machine link (gc.References (fault ∷ faults)) e h is =
+    with_error (IsMergedAnswer machine link) e (λ memory.
     unless_some (references_refusal link) e _ (ap references_error (sym h.0) ∙ ap (λ (x : LayoutError). Some x) (sym is)))
 
 -- ---- behind the placement
 
 -- what is told, where no section stands outside the segments
-pub told : (link : LinkInput) (live : Live) (records : List Record) (layout : Layout) → first_outside link (section_records link.plan.sections records) (is_emitted link (output_content link live)) ≡ None
+pub told : (link : LinkInput) (live : Live) (records : List Record) (layout : Layout) → merge_refusal link.plan.sections (section_records link.plan.sections records) ≡ None
+    → segments_refusal FromSections link (section_records link.plan.sections records) (is_emitted link (output_content link live)) (active_segments link (output_content link live)) ≡ None
     → merge_offsets link live ≡ [] → layout ≡ layout_of link live records → IsPlacedAnswer link live records (Ok layout)
-told link live records layout inside none is =
-    unless_none (segment_refusal link live records) (Ok layout) _ (ap (λ (o : Option ℕ). option_map place_error (outside_refusal o)) inside)
+told link live records layout fit inside none is =
+    unless_none (joining_refusal link records) (Ok layout) _ (ap (option_map place_error) fit)
+    (unless_none (segment_refusal link live records) (Ok layout) _ (ap (option_map place_error) inside)
     (unless_none (offsets_refusal link live) (Ok layout) _ (ap (λ (places : List MergeOffsetPlace). option_map offset_error (slice_get places 0)) none)
-    (ap (λ (x : Layout). Ok x) is))
+    (ap (λ (x : Layout). Ok x) is)))
 
 -- the first offset that is chosen outside is refused
 pub refused : (link : LinkInput) (live : Live) (records : List Record) (place : MergeOffsetPlace) (e : LayoutError)
-    → first_outside link (section_records link.plan.sections records) (is_emitted link (output_content link live)) ≡ None
+    → merge_refusal link.plan.sections (section_records link.plan.sections records) ≡ None
+    → segments_refusal FromSections link (section_records link.plan.sections records) (is_emitted link (output_content link live)) (active_segments link (output_content link live)) ≡ None
     → slice_get (merge_offsets link live) 0 ≡ Some place → e ≡ offset_error place → IsPlacedAnswer link live records (Err e)
-refused link live records place e inside first is =
-    unless_none (segment_refusal link live records) (Err e) _ (ap (λ (o : Option ℕ). option_map place_error (outside_refusal o)) inside)
-    (unless_some (offsets_refusal link live) e _ (ap (option_map offset_error) first ∙ ap (λ (x : LayoutError). Some x) (sym is)))
+refused link live records place e fit inside first is =
+    unless_none (joining_refusal link records) (Err e) _ (ap (option_map place_error) fit)
+    (unless_none (segment_refusal link live records) (Err e) _ (ap (option_map place_error) inside)
+    (unless_some (offsets_refusal link live) e _ (ap (option_map offset_error) first ∙ ap (λ (x : LayoutError). Some x) (sym is))))
 
 -- layouts with the same lists are the same
-pub same_layout : (s s' r : List Record) (t t' : List ℕ) (i i' : List (Option ℕ)) (g g' : List SegmentLayout) (m m' : List Bool) (l l' : List ℕ) (d d' : List (List MergeInput)) (b b' : List ℕ) (v v' : List (Option Resolution)) (e e' : Option ℕ)
-    → s ≡ s' → t ≡ t' → i ≡ i' → g ≡ g' → m ≡ m' → l ≡ l' → d ≡ d' → b ≡ b' → v ≡ v' → e ≡ e'
-    → ◌≡◌ {A = Layout} (record { section_layouts = s; section_part_layouts = r; section_attributes = t; output_section_indexes = i; segment_layouts = g; live_marks = m; section_addresses = l; merged_strings = d; merged_string_start_addresses = b; symbol_resolutions = v; entry_symbol_id = e })
-    (record { section_layouts = s'; section_part_layouts = r; section_attributes = t'; output_section_indexes = i'; segment_layouts = g'; live_marks = m'; section_addresses = l'; merged_strings = d'; merged_string_start_addresses = b'; symbol_resolutions = v'; entry_symbol_id = e' })
-same_layout s s' r t t' i i' g g' m m' l l' d d' b b' v v' e e' es et ei eg em el ed eb ev ee = cc
+pub same_layout : (s s' j j' r : List Record) (t t' : List ℕ) (i i' : List (Option ℕ)) (g g' : List SegmentLayout) (h h' : Option Record) (m m' : List Bool) (l l' : List ℕ) (d d' : List (List MergeInput)) (b b' : List ℕ) (v v' : List (Option Resolution)) (e e' : Option ℕ)
+    → s ≡ s' → j ≡ j' → t ≡ t' → i ≡ i' → g ≡ g' → h ≡ h' → m ≡ m' → l ≡ l' → d ≡ d' → b ≡ b' → v ≡ v' → e ≡ e'
+    → ◌≡◌ {A = Layout} (record { section_layouts = s; merged_section_layouts = j; section_part_layouts = r; section_attributes = t; output_section_indexes = i; segment_layouts = g; tls_layout = h; live_marks = m; section_addresses = l; merged_strings = d; merged_string_start_addresses = b; symbol_resolutions = v; entry_symbol_id = e })
+    (record { section_layouts = s'; merged_section_layouts = j'; section_part_layouts = r; section_attributes = t'; output_section_indexes = i'; segment_layouts = g'; tls_layout = h'; live_marks = m'; section_addresses = l'; merged_strings = d'; merged_string_start_addresses = b'; symbol_resolutions = v'; entry_symbol_id = e' })
+same_layout s s' j j' r t t' i i' g g' h h' m m' l l' d d' b b' v v' e e' es ej et ei eg eh em el ed eb ev ee = cc

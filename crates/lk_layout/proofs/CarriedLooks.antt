@@ -7,7 +7,6 @@ use Rattle.lk_link.specs.declared.link.LinkInput.{LinkInput}
 use Rattle.lk_link.specs.declared.section.InputSection.{InputSection}
 use Rattle.lk_link.specs.PartRules.{names_table}
 use Rattle.lk_link.specs.Relocations.{wants_entry}
-use Rattle.lk_link.specs.SymbolPlacements.{is_common}
 use Rattle.lk_layout.specs.declared.error.Uncarried.{Uncarried}
 use Rattle.lk_layout.specs.declared.error.Uncarried.TheVariants as uncarried
 use Rattle.lk_layout.specs.Carried.{all_uncarried, any_file, file_has, first_uncarried, has}
@@ -40,17 +39,11 @@ module _ (f : InputFile) (h : has_any f ≡ false) where
   abbrev by_sections : Bool
   by_sections = list_any section_has_any f.sections
 
-  abbrev by_commons : Bool
-  by_commons = list_any (λ x. is_common x.at) f.symbols
-
   symbols : file_has uncarried.Symbol f ≡ false
-  symbols = left by_symbols by_sections (left (by_symbols || by_sections) by_commons h)
+  symbols = left by_symbols by_sections h
 
   sections : list_any section_has_any f.sections ≡ false
-  sections = right by_symbols by_sections (left (by_symbols || by_sections) by_commons h)
-
-  common : list_any (λ x. is_common x.at) f.symbols ≡ false
-  common = right (by_symbols || by_sections) by_commons h
+  sections = right by_symbols by_sections h
 
 module _ (s : InputSection) (h : section_has_any s ≡ false) where
   abbrev enters : Bool
@@ -64,7 +57,6 @@ module _ (s : InputSection) (h : section_has_any s ≡ false) where
 
 -- a file that has nothing of it has none of these
 has_none : (what : Uncarried) (f : InputFile) → has_any f ≡ false → file_has what f ≡ false
-has_none uncarried.Common f h = common f h
 has_none uncarried.Output f h = refl
 has_none uncarried.Table f h = none_passes (λ s. list_any (λ r. wants_entry r.kind) s.relocs) section_has_any f.sections section_enters (sections f h)
 has_none uncarried.Plan f h = refl
@@ -81,7 +73,6 @@ no_file what link h =
 
 outside : (what : Uncarried) (link : LinkInput) → any_file has_any link ≡ false → has_outside link what ≡ has link what
 unfolding has
-outside uncarried.Common link h = sym (no_file uncarried.Common link h)
 outside uncarried.Output link h = refl
 outside uncarried.Table link h = sym (ap (λ b. names_table link.plan.named || b) (no_file uncarried.Table link h) ∙ or_none (names_table link.plan.named))
 outside uncarried.Plan link h = refl

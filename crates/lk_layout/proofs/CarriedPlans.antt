@@ -23,7 +23,7 @@ use Rattle.lk_link.specs.PartRules.{names_table}
 use Rattle.lk_link.specs.PlanSections.{is_set, is_singletons, is_thread_local, is_zero_fill_thread_local, no_section, own_attributes, section_at}
 use Rattle.lk_link.specs.SegmentKinds.{is_tls}
 use Rattle.lk_link.specs.WellFormed.{IsAboutPlace}
-use Rattle.lk_place.specs.Plans.{IsPlaceableSection, IsUnmoved}
+use Rattle.lk_place.specs.Plans.{IsUnmoved}
 use Rattle.lk_sizes.specs.Owners.{KeepsSizes}
 use Rattle.lk_layout.specs.declared.error.Uncarried.TheVariants as uncarried
 use Rattle.lk_layout.specs.Carried.{IsCarried, all_uncarried, any_file, file_has, first_uncarried, has, is_special_section}
@@ -75,13 +75,13 @@ usual link carried =
     let plan : Plan = link.plan in
     usual_of plan plan.custom_base plan.custom_phdrs plan.phdrs_headers (length plan.regions == 0) (is_some (as_number plan.base))
     (list_any moves_location plan.events) (list_any is_special_section plan.sections) (list_any (λ (s : PlanSegment). is_tls s.kind) plan.segments) refl refl refl refl refl refl
-    (none_found (has link) all_uncarried 3 uncarried.Plan carried refl)
+    (none_found (has link) all_uncarried 2 uncarried.Plan carried refl)
 
 -- its output isn't an object file again
 whole_output : (link : LinkInput) → IsCarried link → is_partial link.options.output ≡ false
 unfolding first_uncarried has
 whole_output link carried =
-    (or_parts (is_partial link.options.output) (is_some link.plan.singletons) (none_found (has link) all_uncarried 4 uncarried.Partial carried refl)).0
+    (or_parts (is_partial link.options.output) (is_some link.plan.singletons) (none_found (has link) all_uncarried 3 uncarried.Partial carried refl)).0
 
 not_partial : (kind : OutputKind) → is_partial kind ≡ false → kind ≢ output.Partial
 not_partial kind h same = let yes : is_partial kind ≡ true = ap is_partial same in cc
@@ -120,15 +120,13 @@ not_thread_local plan s none =
     let own = (or_parts (is_set TLS x.attrs) (is_some x.primary) second.0).0 in
     elim (is_singletons plan s) as (λ b. is_set TLS (cond b 0 x.attrs) ≡ false) [ true ↦ refl | false ↦ own ]
 
-placeable_section : (plan : Plan) (s : ℕ) → list_any is_special_section plan.sections ≡ false → IsPlaceableSection plan s
-placeable_section plan s none =
+-- no section stands in a region, or is loaded elsewhere
+stands_freely : (plan : Plan) (s : ℕ) → list_any is_special_section plan.sections ≡ false → ((section_at plan.sections s).region ≡ None) × ((section_at plan.sections s).at ≡ None)
+stands_freely plan s none =
     let x : PlanSection = section_at plan.sections s in
     let third = or_parts (is_set TLS x.attrs || is_some x.primary || is_some x.region) (is_some x.at) (not_special plan s none) in
     let second = or_parts (is_set TLS x.attrs || is_some x.primary) (is_some x.region) third.0 in
-    record {
-      region = not_some x.region second.1;
-      at = not_some x.at third.1;
-    }
+    (not_some x.region second.1, not_some x.at third.1)
 
 -- ---- plans
 
@@ -139,13 +137,11 @@ unmoved link carried =
     record {
       whole = not_partial link.options.output (whole_output link carried);
       events = λ k e there. about_place e (none_at moves_location link.plan.events k e is.unmoved there);
-      sections = λ s. placeable_section link.plan s is.sections;
+      sections = λ s. (stands_freely link.plan s is.sections).0;
     }
 
 pub placeable : CarriedPlansArePlaceable
-placeable link carried =
-    let is : IsUnmoved link.plan link.options.output = unmoved link carried in
-    record { whole = is.whole; sections = is.sections }
+placeable link carried = record { sections = λ s. (stands_freely link.plan s (usual link carried).sections).1 }
 
 -- no section of it has zero-fill thread-local data
 pub no_zero_fill : (link : LinkInput) (s : ℕ) → IsCarried link → is_zero_fill_thread_local link.plan s ≡ false
@@ -172,7 +168,7 @@ carried_plans_are_plain link carried loads =
 pub keeps_sizes : (link : LinkInput) → IsCarried link → KeepsSizes link
 unfolding first_uncarried has
 keeps_sizes link carried = record {
-  relax = none_found (has link) all_uncarried 7 uncarried.Relax carried refl;
-  tables = (or_parts (names_table link.plan.named) (any_file (file_has uncarried.Table) link) (none_found (has link) all_uncarried 2 uncarried.Table carried refl)).0;
-  primary = none_found (has link) all_uncarried 6 uncarried.Primary carried refl;
+  relax = none_found (has link) all_uncarried 6 uncarried.Relax carried refl;
+  tables = (or_parts (names_table link.plan.named) (any_file (file_has uncarried.Table) link) (none_found (has link) all_uncarried 1 uncarried.Table carried refl)).0;
+  primary = none_found (has link) all_uncarried 5 uncarried.Primary carried refl;
 }

@@ -7,13 +7,13 @@ use Rattle.std.proofs.lemmas.Option.{slice_get_within}
 use Rattle.lk_link.specs.declared.link.LinkInput.{LinkInput}
 use Rattle.lk_link.specs.declared.plan.OrderEvent.TheVariants.{Section}
 use Rattle.lk_link.specs.Parts.{all_parts}
-use Rattle.lk_link.specs.Target.{Target}
+use Rattle.lk_link.specs.TableSizes.{Machine}
 use Rattle.lk_merge.specs.Addresses.{AreStartsOf}
 use Rattle.lk_merge.specs.LinkInputs.{link_inputs}
 use Rattle.lk_merge.proofs.AddressLemmas.{are_starts}
 use Rattle.lk_place.specs.declared.error.Refusal.{Refusal}
-use Rattle.lk_place.specs.PlacedBefore.{known_before}
-use Rattle.lk_place.specs.Placement.{event_refusal, numbered, refusal_behind_move, section_refusal, state_at}
+use Rattle.lk_place.specs.InRegions.{past_region, stands_in}
+use Rattle.lk_place.specs.Placement.{either_refusal, event_refusal, known_before, numbered, refusal_behind_move, section_left, section_overflow, section_refusal, state_at}
 use Rattle.lk_place.specs.PlacementLaws.{PartsTakeTheirBytes, RefusedExactlyPast}
 use Rattle.lk_place.specs.Records.{Record, mem_end, nowhere, record_at}
 use Rattle.lk_place.specs.Setting.{Setting}
@@ -22,7 +22,6 @@ use Rattle.lk_sizes.specs.Owners.{EndsFit}
 use Rattle.lk_layout.specs.declared.layout.Layout.{Layout}
 use Rattle.lk_layout.specs.Defined.{setting, starts_of}
 use Rattle.lk_layout.specs.OutputContent.{output_content}
-use Rattle.lk_layout.proofs.CarriedPlans.{placeable}
 use Rattle.lk_layout.proofs.Imaging.{images_fit}
 use Rattle.lk_layout.proofs.LaidOut.{IsLaidOut}
 use Rattle.lk_layout.proofs.PartStarts.{section_in}
@@ -33,34 +32,38 @@ no_refusal : (k : ℕ) (o : Option Refusal) → option_map (numbered k) o ≡ No
 no_refusal k None h = refl
 no_refusal k (Some r) h = absurd (cc)
 
+first_none : (first later : Option Refusal) → either_refusal first later ≡ None → first ≡ None
+first_none None later h = refl
+first_none (Some r) later h = absurd (cc)
+
 -- the section of a part isn't refused, so the part ends below 2^64
-part_fits : RefusedExactlyPast → (target : Target) (link : LinkInput) (layout : Layout) (laid : IsLaidOut target link layout) (p : ℕ) → p < length (all_parts link.plan.sections)
+part_fits : RefusedExactlyPast → (machine : Machine) (link : LinkInput) (layout : Layout) (laid : IsLaidOut machine link layout) (p : ℕ) → p < length (all_parts link.plan.sections)
     → mem_end (record_at laid.records p) < 2 ^ 64
-part_fits refused target link layout laid p within =
-    let s : Setting = setting target link laid.live in
+part_fits refused machine link layout laid p within =
+    let s : Setting = setting machine link laid.live in
     let at = section_in link.plan.sections p within in
     let t : ℕ = at.section in
     let event = laid.good.events.placed t at.there in
     let early : event.0 + 1 < length laid.states = omega (arith, laid.is.ends laid.unrefused, slice_get_within link.plan.events event.0 (Section t) event.1) in
     let step = laid.is.steps event.0 (Section t) early event.1 in
-    let none = no_refusal event.0 (event_refusal s (known_before link.plan laid.records event.0) (Section t) (state_at laid.states event.0)) step.unrefused in
+    let none = no_refusal event.0 (event_refusal s (known_before s laid.states laid.records event.0) (Section t) (state_at laid.states event.0)) step.unrefused in
     let unrefused : section_refusal s (Some t) step.steps.entered ≡ None = ap (refusal_behind_move s (Some t)) (sym step.steps.moves) ∙ none in
-    let fit = (refused s t step.steps.entered laid.records (state_at laid.states (event.0 + 1)) (ready target link laid.live laid.good) (placeable link laid.carried) at.there step.steps.places).0
-    unrefused at.place at.within in
+    let fit = (refused s t step.steps.entered laid.records (state_at laid.states (event.0 + 1)) (ready machine link laid.live laid.good) at.there step.steps.places).0
+    (first_none (section_overflow s t step.steps.entered) (past_region s (stands_in s.plan t) (section_left s t step.steps.entered).memory) unrefused) at.place at.within in
     subst (λ q. mem_end (record_at laid.records q) < 2 ^ 64) (sym at.is) fit.mem
 
-owners_fit : RefusedExactlyPast → PartsTakeTheirBytes → (target : Target) (link : LinkInput) (layout : Layout) (laid : IsLaidOut target link layout) → EndsFit link (output_content link laid.live) (starts_of laid.records)
-owners_fit refused mass target link layout laid =
+owners_fit : RefusedExactlyPast → PartsTakeTheirBytes → (machine : Machine) (link : LinkInput) (layout : Layout) (laid : IsLaidOut machine link layout) → EndsFit link (output_content link laid.live) (starts_of laid.records)
+owners_fit refused mass machine link layout laid =
     ends_fit link laid.live laid.records (starts_of laid.records) refl
     (λ p below.
     let start : slice_index (starts_of laid.records) p ≡ (record_at laid.records p).mem_offset = lists.get_or-map (λ (r : Record). r.mem_offset) laid.records p nowhere in
-    omega (arith, start, part_fits refused target link layout laid p (omega (arith, below, laid.is.each))))
-    (takes mass target link laid.live laid.states laid.records laid.good laid.is laid.unrefused)
+    omega (arith, start, part_fits refused machine link layout laid p (omega (arith, below, laid.is.each))))
+    (takes mass machine link laid.live laid.states laid.records laid.good laid.is laid.unrefused)
 
 -- the addresses of buckets are starts of what is merged
-pub buckets_start : RefusedExactlyPast → PartsTakeTheirBytes → (target : Target) (link : LinkInput) (layout : Layout) (laid : IsLaidOut target link layout) → AreStartsOf layout.merged_strings layout.merged_string_start_addresses
-buckets_start refused mass target link layout laid =
+pub buckets_start : RefusedExactlyPast → PartsTakeTheirBytes → (machine : Machine) (link : LinkInput) (layout : Layout) (laid : IsLaidOut machine link layout) → AreStartsOf layout.merged_strings layout.merged_string_start_addresses
+buckets_start refused mass machine link layout laid =
     let starts : List ℕ = starts_of laid.records in
     let addresses : List ℕ = image_addresses link (output_content link laid.live) starts in
-    let fit = images_fit link laid.live starts laid.good (starts_count link laid.records starts refl laid.is.each) (owners_fit refused mass target link layout laid) in
+    let fit = images_fit link laid.live starts laid.good (starts_count link laid.records starts refl laid.is.each) (owners_fit refused mass machine link layout laid) in
     subst (λ (l : Layout). AreStartsOf l.merged_strings l.merged_string_start_addresses) (sym laid.same) (are_starts (link_inputs link).outputs addresses fit)

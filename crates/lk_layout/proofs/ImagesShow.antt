@@ -8,16 +8,18 @@ use Rattle.std.proofs.lemmas.Option.{get_or_from_slice_get}
 use Rattle.lk_link.specs.declared.link.LinkInput.{LinkInput}
 use Rattle.lk_link.specs.declared.section.InputSection.{InputSection}
 use Rattle.lk_link.specs.Files.{first_some}
-use Rattle.lk_link.specs.Target.{Target}
+use Rattle.lk_link.specs.TableSizes.{Machine}
 use Rattle.lk_link.specs.WellFormed.{IsWellFormed}
 use Rattle.lk_gc.specs.declared.live.Live.{Live}
+use Rattle.lk_link.specs.Parts.{part_sections}
+use Rattle.lk_link.proofs.PartNumbers.{first_part-le}
 use Rattle.lk_merge.specs.declared.error.MergeError.{MergeError}
 use Rattle.lk_merge.specs.declared.error.MergeError.TheVariants.{NotTerminated}
 use Rattle.lk_merge.specs.Addresses.{image_start}
 use Rattle.lk_merge.specs.Hash.{fnv64}
 use Rattle.lk_merge.specs.Image.{all_pieces}
-use Rattle.lk_merge.specs.LinkInputs.{first_refusal, link_inputs, merge_input, merge_inputs, part_sections}
-use Rattle.lk_merge.specs.Merging.{long_refusal, merge_refusal}
+use Rattle.lk_merge.specs.LinkInputs.{first_refusal, link_inputs, merge_input, merge_inputs}
+use Rattle.lk_merge.specs.Merging.{first_of, long_refusal, merge_refusal}
 use Rattle.lk_merge.specs.OutputAddresses.{MergePlace, Shows, address_in, offset_place, output_of}
 use Rattle.lk_merge.specs.Pieces.{MergeInput, is_terminated}
 use Rattle.lk_merge.proofs.AddressLemmas.{starts_at}
@@ -48,7 +50,7 @@ no_place f (Some k) h = absurd (cc)
 
 pub all_terminated : (limit k : ℕ) (outputs : List (List MergeInput)) (i : ℕ) (inputs : List MergeInput) → first_refusal fnv64 limit k outputs ≡ None → slice_get outputs i ≡ Some inputs
     → list_all is_terminated inputs ≡ true
-unfolding first_refusal
+unfolding first_of
 all_terminated limit k [] i inputs none there = absurd (cc)
 all_terminated limit k (xs ∷ rest) zero inputs none there =
     let same : xs ≡ inputs = cc in
@@ -84,10 +86,10 @@ shows link s k offset x good terminated there short =
 
 -- ---- where it stands
 
-image_at : (target : Target) (link : LinkInput) (layout : Layout) (laid : IsLaidOut target link layout) (s : ℕ) (inputs : List MergeInput) → slice_get (link_inputs link).outputs s ≡ Some inputs
+image_at : (machine : Machine) (link : LinkInput) (layout : Layout) (laid : IsLaidOut machine link layout) (s : ℕ) (inputs : List MergeInput) → slice_get (link_inputs link).outputs s ≡ Some inputs
     → 0 < length inputs → IsImageAt link laid.live layout s inputs
-image_at target link layout laid s [] there some = absurd (omega (arith, some))
-image_at target link layout laid s (y ∷ ys) there some =
+image_at machine link layout laid s [] there some = absurd (omega (arith, some))
+image_at machine link layout laid s (y ∷ ys) there some =
     let live : Live = laid.live in
     let content = output_content link live in
     let inputs : List MergeInput = y ∷ ys in
@@ -103,6 +105,7 @@ image_at target link layout laid s (y ∷ ys) there some =
     let terminated : list_all is_terminated inputs ≡ true = all_terminated link.options.bucket_limit 0 (link_inputs link).outputs s inputs laid.merged there in
     record {
       part = p;
+      there = omega (arith, stands.first.below, first_part-le link.plan.sections (s + 1));
       belongs = its_section link.plan.sections s p at.0 stands.first.from stands.first.below;
       alignment = has.alignment;
       owner = stands.first.owner ∙ ap (λ n. Some (ImageOwner s n)) (len_at link s inputs there);
@@ -114,6 +117,6 @@ image_at target link layout laid s (y ∷ ys) there some =
           subst Shown (sym at.1) (shows link s k offset x laid.good (ap (list_all is_terminated) (sym at.1) ∙ terminated) (ap (λ (xs : List MergeInput). slice_get xs k) (sym at.1) ∙ at_k) short);
     }
 
-pub images_stand : (target : Target) (link : LinkInput) (layout : Layout) (laid : IsLaidOut target link layout) → ImagesStand link laid.live layout
-images_stand target link layout laid s inputs there some =
-    image_at target link layout laid s inputs (ap (λ (l : Layout). slice_get l.merged_strings s) (sym laid.same) ∙ there) some
+pub images_stand : (machine : Machine) (link : LinkInput) (layout : Layout) (laid : IsLaidOut machine link layout) → ImagesStand link laid.live layout
+images_stand machine link layout laid s inputs there some =
+    image_at machine link layout laid s inputs (ap (λ (l : Layout). slice_get l.merged_strings s) (sym laid.same) ∙ there) some

@@ -19,19 +19,20 @@ use Rattle.lk_link.specs.declared.symbol.SymbolPlacement.TheVariants as at
 use Rattle.lk_link.specs.Files.{file_in}
 use Rattle.lk_link.specs.InputSlots.{is_merge}
 use Rattle.lk_link.specs.Inputs.{Input, NumberedFile, all_inputs, input_number, numbered_files}
-use Rattle.lk_link.specs.Parts.{all_parts, part_at}
+use Rattle.lk_link.specs.Parts.{all_parts, part_at, part_sections}
 use Rattle.lk_link.specs.WellFormed.{IsWellFormed}
 use Rattle.lk_link.proofs.Elements.{filter_at, flat_map_at, map_at, map_in, numbered_at}
 use Rattle.lk_link.proofs.InputLemmas.{inputs_follow}
 use Rattle.lk_link.proofs.Numbers.{made_at}
 use Rattle.lk_link.proofs.PartNumbers.{first_part-le}
 use Rattle.lk_gc.specs.declared.live.Live.{Live}
-use Rattle.lk_gc.proofs.Numbered.{file_at}
+use Rattle.lk_reach.proofs.Numbered.{file_at}
+use Rattle.lk_link.specs.NumberedSymbols.{numbered_symbols}
 use Rattle.lk_merge.specs.Addresses.{ImagesFit, image_start}
 use Rattle.lk_merge.specs.Hash.{fnv64}
 use Rattle.lk_merge.specs.Image.{all_buckets, all_pieces, firsts_behind, image, image_place, piece_at}
-use Rattle.lk_merge.specs.LinkInputs.{is_merged_into, link_inputs, merge_input, merge_inputs, part_sections}
-use Rattle.lk_merge.specs.OutputAddresses.{MergePlace, address_in, merge_place, merged_address, numbered_symbols, offset_place, output_of, past_end, placed_in, plus_addend, reference_address, symbol_place}
+use Rattle.lk_merge.specs.LinkInputs.{is_merged_into, link_inputs, merge_input, merge_inputs}
+use Rattle.lk_merge.specs.OutputAddresses.{MergePlace, address_in, merge_place, merged_address, offset_place, output_of, past_end, placed_in, plus_addend, reference_address, symbol_place}
 use Rattle.lk_merge.specs.OutputAddressTables.{IsMergePlace}
 use Rattle.lk_merge.specs.Pieces.{Piece, MergeInput, pieces_of}
 use Rattle.lk_merge.specs.declared.output_address.OffsetPastEnd.{OffsetPastEnd}
@@ -315,10 +316,10 @@ looked_up : (link : LinkInput) (merged : List (List MergeInput)) (starts : List 
     → found_or_0 (option_map_or (reference_address link (image_start starts) (pos 0) true) o (Ok None)) ≡ option_map_or (value_at link (image_start starts)) o 0
 looked_up link merged starts s are None is = refl
 looked_up link merged starts s are (Some place) is =
-    let found : Option ℕ = address_in link (image_start starts) place place.offset in
-    let named : Result (Option ℕ) OffsetPastEnd = option_map_or (λ a. Ok (Some (plus_addend a (pos 0)))) found (Err past_end) in
-    elim place.named as (λ b. found_or_0 (if b then named else Ok (Some 0)) ≡ (if b then unwrap_or found 0 else 0)) [
-      | true ↦ found_value link merged starts place are (symbol_place_is link s place is) found refl
+    let found : Bool → Option ℕ = λ b. address_in link (image_start starts) place (if b then place.offset else plus_addend place.offset (pos 0)) in
+    let named : Bool → Result (Option ℕ) OffsetPastEnd = λ b. option_map_or (λ a. Ok (Some (plus_addend a (pos 0)))) (found b) (Err past_end) in
+    elim place.named as (λ b. found_or_0 (if b then named b else Ok (Some 0)) ≡ (if b then unwrap_or (found true) 0 else 0)) [
+      | true ↦ found_value link merged starts place are (symbol_place_is link s place is) (found true) refl
       | false ↦ refl
     ]
 

@@ -1,32 +1,38 @@
 -- What stands behind a defined layout.
-use Rattle.std.proofs.Common.{◌≡◌, List, [], ◌∷◌, Option, Some, None, Ok, refl}
+use Rattle.std.proofs.Common.{◌≡◌, ℕ, List, [], ◌∷◌, Option, Some, None, Ok, refl}
 use Rattle.std.specs.List.{slice_get}
+use Rattle.std.specs.Option.{option_or}
 use Rattle.lk_check.specs.FirstFault.{WellFormedExactlyUnfaulted}
 use Rattle.lk_gc.specs.declared.error.ReferenceFault.{ReferenceFault}
 use Rattle.lk_gc.specs.declared.live.Live.{Live}
 use Rattle.lk_gc.specs.Faults.{reference_faults}
 use Rattle.lk_gc.specs.Reach.{AreLive}
 use Rattle.lk_link.specs.declared.link.LinkInput.{LinkInput}
-use Rattle.lk_link.specs.Target.{Target}
+use Rattle.lk_link.specs.TableSizes.{Machine}
 use Rattle.lk_link.specs.WellFormed.{IsWellFormed}
 use Rattle.lk_merge.specs.Hash.{fnv64}
 use Rattle.lk_merge.specs.LinkInputs.{first_refusal, link_inputs}
 use Rattle.lk_place.specs.declared.cursors.Cursors.{Cursors}
 use Rattle.lk_place.specs.Placement.{IsPlaced, placement_refusal}
 use Rattle.lk_place.specs.Records.{Record}
+use Rattle.lk_place.specs.declared.error.PlaceError.{PlaceError}
+use Rattle.lk_place.specs.declared.segments.SegmentFileLayout.TheVariants.{FromSections}
+use Rattle.lk_place.specs.Segments.{first_outside, outside_refusal, section_records, segments_refusal}
+use Rattle.lk_sizes.specs.Emitted.{active_segments, is_emitted}
 use Rattle.lk_layout.specs.declared.error.LayoutError.{LayoutError}
 use Rattle.lk_layout.specs.declared.layout.Layout.{Layout}
 use Rattle.lk_layout.specs.Carried.{IsCarried, first_uncarried}
-use Rattle.lk_layout.specs.Defined.{IsDefined, Unless, references_error, references_refusal, fault_refusal, layout_of, not_carried, offsets_refusal, segment_refusal, setting, sizes_refusal, uncarried_refusal, walk_refusal}
+use Rattle.lk_layout.specs.Defined.{IsDefined, Unless, references_error, references_refusal, fault_refusal, joining_refusal, layout_of, not_carried, offsets_refusal, segment_refusal, setting, sizes_refusal, uncarried_refusal, walk_refusal}
 use Rattle.lk_layout.specs.Errors.{merge_error, offset_error, place_error}
 use Rattle.lk_layout.specs.declared.outside.MergeOffsetPlace.{MergeOffsetPlace}
 use Rattle.lk_layout.specs.Merging.{merging_refusal}
+use Rattle.lk_layout.specs.OutputContent.{output_content}
 use Rattle.lk_layout.specs.Outside.{merge_offsets}
 use Rattle.lk_layout.specs.Laws.{LaidOutLinksAreWellFormed}
 use Rattle.lk_layout.proofs.OneAnswer.{none_of, unrefused}
 
 -- a link that is well formed, of which all is laid out, with what is live, a whole placement and the layout of these
-pub record IsLaidOut (target : Target) (link : LinkInput) (layout : Layout) : Type 0 where
+pub record IsLaidOut (machine : Machine) (link : LinkInput) (layout : Layout) : Type 0 where
   pub good : IsWellFormed link
   pub carried : IsCarried link
   pub live : Live
@@ -35,8 +41,9 @@ pub record IsLaidOut (target : Target) (link : LinkInput) (layout : Layout) : Ty
   pub met : reference_faults link ≡ []
   pub states : List Cursors
   pub records : List Record
-  pub is : IsPlaced (setting target link live) states records
-  pub unrefused : placement_refusal (setting target link live) states records ≡ None
+  pub is : IsPlaced (setting machine link live) states records
+  pub unrefused : placement_refusal (setting machine link live) states records ≡ None
+  pub covered : first_outside link (section_records link.plan.sections records) (is_emitted link (output_content link live)) ≡ None
   pub inside : merge_offsets link live ≡ []
   pub same : layout ≡ layout_of link live records
 
@@ -50,13 +57,18 @@ all_met : (faults : List ReferenceFault) → references_error faults ≡ None �
 all_met [] h = refl
 all_met (fault ∷ faults) h = absurd (cc)
 
+-- where none is refused, no section stands outside
+none_outside : (s : Option ℕ) (more : Option PlaceError) → option_or (outside_refusal s) more ≡ None → s ≡ None
+none_outside None more h = refl
+none_outside (Some s) more h = absurd (cc)
+
 -- a list without a first has none
 none_first : (places : List MergeOffsetPlace) → slice_get places 0 ≡ None → places ≡ []
 none_first [] h = refl
 none_first (place ∷ places) h = absurd (cc)
 
-pub laid_out : WellFormedExactlyUnfaulted → (target : Target) (link : LinkInput) (layout : Layout) → IsDefined target link (Ok layout) → IsLaidOut target link layout
-laid_out exactly target link layout defined =
+pub laid_out : WellFormedExactlyUnfaulted → (machine : Machine) (link : LinkInput) (layout : Layout) → IsDefined machine link (Ok layout) → IsLaidOut machine link layout
+laid_out exactly machine link layout defined =
     let fault = passed (fault_refusal link) layout _ defined in
     let all = passed (uncarried_refusal link) layout _ fault.1 in
     let whole = passed (merging_refusal link) layout _ all.1 in
@@ -64,8 +76,9 @@ laid_out exactly target link layout defined =
     let reached = met.1 in
     let sizes = passed (sizes_refusal link reached.0) layout _ reached.2 in
     let placed = sizes.1 in
-    let walk = passed (walk_refusal target link reached.0 placed.0 placed.1) layout _ placed.3 in
-    let segments = passed (segment_refusal link reached.0 placed.1) layout _ walk.1 in
+    let walk = passed (walk_refusal machine link reached.0 placed.0 placed.1) layout _ placed.3 in
+    let joined = passed (joining_refusal link placed.1) layout _ walk.1 in
+    let segments = passed (segment_refusal link reached.0 placed.1) layout _ joined.1 in
     let offsets = passed (offsets_refusal link reached.0) layout _ segments.1 in
     let is : layout ≡ layout_of link reached.0 placed.1 = let given : Ok layout ≡ Ok (layout_of link reached.0 placed.1) = offsets.1 in cc in
     record {
@@ -78,10 +91,12 @@ laid_out exactly target link layout defined =
       states = placed.0;
       records = placed.1;
       is = placed.2;
-      unrefused = none_of place_error (placement_refusal (setting target link reached.0) placed.0 placed.1) walk.0;
+      unrefused = none_of place_error (placement_refusal (setting machine link reached.0) placed.0 placed.1) walk.0;
+      covered = none_outside (first_outside link (section_records link.plan.sections placed.1) (is_emitted link (output_content link reached.0))) _
+          (none_of place_error (segments_refusal FromSections link (section_records link.plan.sections placed.1) (is_emitted link (output_content link reached.0)) (active_segments link (output_content link reached.0))) segments.0);
       inside = none_first (merge_offsets link reached.0) (none_of offset_error (slice_get (merge_offsets link reached.0) 0) offsets.0);
       same = is;
     }
 
 pub links_are_well_formed : WellFormedExactlyUnfaulted → LaidOutLinksAreWellFormed
-links_are_well_formed exactly target link layout defined = (laid_out exactly target link layout defined).good
+links_are_well_formed exactly machine link layout defined = (laid_out exactly machine link layout defined).good

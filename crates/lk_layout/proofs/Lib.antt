@@ -1,6 +1,7 @@
 mod Answering
-pub mod CarriedLooks
 mod CarriedPlans
+mod CommonsStand
+mod FewHeaders
 mod Fitting
 mod ImagesShow
 mod Imaging
@@ -9,11 +10,13 @@ mod NamedSymbols
 mod NothingMerged
 mod OneAnswer
 mod PartStarts
-mod ReferencesShow
-mod Resolved
 mod Placing
 mod PlacingRefused
+mod ReferencesShow
+mod Resolved
 mod Settings
-mod Stopping
 mod Soundness
+mod Stopping
 mod Valued
+pub mod CarriedLooks
+pub mod CommonsFound

@@ -1,6 +1,6 @@
 -- A named symbol in a merged section has the address at which the image shows what stands there.
 use Rattle.std.proofs.Common.{◌≡◌, ℕ, ◌+◌, ◌<◌, ◌≤◌, Bool, true, false, cond, if◌then◌else◌, List, [], ◌∷◌, length, ltb, not, Option, Some, None, sym, ap, ◌∙◌, inl, inr, arith}
-use Rattle.std.specs.Prelude.{◌&&◌, ◌==◌, option_and_then, option_map, pos, unwrap_or}
+use Rattle.std.specs.Prelude.{◌&&◌, ◌==◌, option_and_then, option_map, unwrap_or}
 use Rattle.std.specs.List.{enumerate_from, flat_map, list_all, slice_get}
 use Rattle.std.specs.Option.{option_map_or}
 use Rattle.std.proofs.lemmas.Bool.{cases_lt, false_from_ne_true, lt-ltb}
@@ -17,16 +17,18 @@ use Rattle.lk_link.specs.InputSlots.{is_merge}
 use Rattle.lk_link.specs.Inputs.{Input, NumberedFile, all_inputs, first_input, input_number, numbered_files}
 use Rattle.lk_link.specs.Marks.{is_marked}
 use Rattle.lk_link.specs.Symbols.{file_number, first_symbol, symbol_at}
-use Rattle.lk_link.specs.Target.{Target}
+use Rattle.lk_link.specs.TableSizes.{Machine}
 use Rattle.lk_link.proofs.Elements.{append_left, flat_map_in}
 use Rattle.lk_link.proofs.InputLemmas.{file_stands, inputs_follow, numbered_get}
 use Rattle.lk_link.proofs.SymbolLemmas.{symbols_follow}
 use Rattle.lk_gc.specs.declared.live.Live.{Live}
 use Rattle.lk_gc.specs.Reach.{AreLive, IsLive}
+use Rattle.lk_link.specs.NumberedSymbols.{numbered_symbols}
 use Rattle.lk_merge.specs.Addresses.{image_start}
 use Rattle.lk_merge.specs.Hash.{fnv64}
 use Rattle.lk_merge.specs.LinkInputs.{link_inputs, merge_input, merge_inputs}
-use Rattle.lk_merge.specs.OutputAddresses.{MergePlace, address_in, merge_place, numbered_symbols, offset_place, output_of, placed_in, symbol_place}
+use Rattle.lk_merge.specs.OffsetsOutside.{may_stand_outside, stands_outside}
+use Rattle.lk_merge.specs.OutputAddresses.{MergePlace, address_in, merge_place, offset_place, output_of, placed_in, symbol_place}
 use Rattle.lk_merge.specs.Pieces.{MergeInput, is_terminated}
 use Rattle.lk_merge.proofs.AddressLemmas.{starts_at}
 use Rattle.lk_merge.proofs.SymbolPlaces.{is_input, output_at, symbol_numbered}
@@ -38,7 +40,7 @@ use Rattle.lk_layout.specs.declared.outside.MergeOffsetPlace.TheVariants.{OfSymb
 use Rattle.lk_layout.specs.declared.resolution.Resolution.{Resolution}
 use Rattle.lk_layout.specs.Defined.{starts_of}
 use Rattle.lk_layout.specs.OutputContent.{output_content}
-use Rattle.lk_layout.specs.Outside.{chooses_outside, merge_offsets, relocations_outside, stands_outside, symbol_outside, symbols_outside}
+use Rattle.lk_layout.specs.Outside.{merge_offsets, relocations_outside, symbol_outside, symbols_outside}
 use Rattle.lk_layout.specs.Resolutions.{Places, flags_at, images_at, is_resolved, places_of, resolution_at, resolution_of, value_at}
 use Rattle.lk_layout.specs.Sound.{NamedSymbolsShow}
 use Rattle.lk_layout.proofs.Imaging.{output_there, symbol_place_is}
@@ -100,7 +102,7 @@ stands_inside link live id file i offset k x section s resolved inside =
           let number : ℕ = first + k in
           let f : NumberedFile = record { id = id; file = file } in
           let outside : stands_outside link number ≡ true
-          = ap (λ (o : Option MergePlace). option_map_or (λ place. place.named && chooses_outside (pos 0) place) o false) (names link id file i offset k x section s)
+          = ap may_stand_outside (names link id file i offset k x section s)
           ∙ ap not (past_tells offset (length section.bytes) past) in
           let flags = flags_at live.flags number in
           let one : slice_get (symbol_outside link live (number, x)) 0 ≡ Some (OfSymbol number)
@@ -122,8 +124,8 @@ not_live link live k x are there merged =
     let no : is_merge x.section.slot ≡ false = unmerged x.section.slot lives.slot in
     absurd (cc))
 
-pub named_symbols_show : (target : Target) (link : LinkInput) (layout : Layout) (laid : IsLaidOut target link layout) → NamedSymbolsShow link laid.live layout
-named_symbols_show target link layout laid id file i offset section there r placed at_i merged named =
+pub named_symbols_show : (machine : Machine) (link : LinkInput) (layout : Layout) (laid : IsLaidOut machine link layout) → NamedSymbolsShow link laid.live layout
+named_symbols_show machine link layout laid id file i offset section there r placed at_i merged named =
     let groups = link.groups in
     let live : Live = laid.live in
     let starts : List ℕ = starts_of laid.records in

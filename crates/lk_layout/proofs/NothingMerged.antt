@@ -1,8 +1,7 @@
 -- Where nothing is merged, no offset is chosen outside merged data.
 use Rattle.std.proofs.Common.{◌≡◌, ℕ, Bool, true, false, if◌then◌else◌, List, [], ◌∷◌, ◌++◌, length, not, Option, Some, None, refl, ap, ◌∙◌, inl, inr, arith}
-use Rattle.std.specs.Prelude.{◌&&◌, ◌==◌, ℤ, pos}
+use Rattle.std.specs.Prelude.{◌&&◌, ◌==◌, ℤ}
 use Rattle.std.specs.List.{enumerate_from, flat_map, list_any, slice_get}
-use Rattle.std.specs.Option.{option_map_or}
 use Rattle.std.proofs.lemmas.Bool.Decides.{eqb_tells}
 use Rattle.std.proofs.lemmas.List.Folds.{list_any_at}
 use Rattle.std.proofs.lemmas.Option.{get_or_from_slice_get, slice_get_within}
@@ -17,13 +16,15 @@ use Rattle.lk_link.specs.Relocations.{resolution_flags}
 use Rattle.lk_link.specs.Symbols.{first_symbol}
 use Rattle.lk_link.specs.WellFormed.{IsWellFormed}
 use Rattle.lk_gc.specs.declared.live.Live.{Live}
-use Rattle.lk_gc.specs.Units.{local_definition}
-use Rattle.lk_merge.specs.LinkInputs.{link_inputs, merge_inputs, part_sections}
+use Rattle.lk_reach.specs.Units.{local_definition}
+use Rattle.lk_link.specs.Parts.{part_sections}
+use Rattle.lk_merge.specs.LinkInputs.{link_inputs, merge_inputs}
+use Rattle.lk_merge.specs.OffsetsOutside.{may_choose_outside, may_stand_outside, refers_outside, stands_outside}
 use Rattle.lk_merge.specs.OutputAddresses.{MergePlace, output_of, symbol_place}
 use Rattle.lk_merge.specs.Pieces.{MergeInput}
 use Rattle.lk_merge.proofs.SymbolPlaces.{is_input, output_at}
 use Rattle.lk_layout.specs.declared.outside.MergeOffsetPlace.TheVariants.{OfRelocation, OfSymbol}
-use Rattle.lk_layout.specs.Outside.{chooses_outside, merge_offsets, refers_outside, relocation_outside, relocations_outside, section_outside, stands_outside, symbol_outside, symbols_outside}
+use Rattle.lk_layout.specs.Outside.{merge_offsets, relocation_outside, relocations_outside, section_outside, symbol_outside, symbols_outside}
 use Rattle.lk_layout.specs.Resolutions.{flags_at, is_resolved}
 use Rattle.lk_layout.proofs.Imaging.{output_there, symbol_place_is}
 
@@ -65,10 +66,10 @@ module _ (link : LinkInput) (good : IsWellFormed link) (none : list_any (λ xs. 
   no_place s = elsewhere s (symbol_place link.groups s) refl
 
   stands_nowhere : (s : ℕ) → stands_outside link s ≡ false
-  stands_nowhere s = ap (λ (o : Option MergePlace). option_map_or (λ place. place.named && chooses_outside (pos 0) place) o false) (no_place s)
+  stands_nowhere s = ap may_stand_outside (no_place s)
 
   refers_nowhere : (s : ℕ) (addend : ℤ) → refers_outside link s addend ≡ false
-  refers_nowhere s addend = ap (λ (o : Option MergePlace). option_map_or (chooses_outside addend) o false) (no_place s)
+  refers_nowhere s addend = ap (may_choose_outside addend) (no_place s)
 
   -- what also asks for it isn't so
   not_both : {X : Type 0} (a b : Bool) (xs : List X) → b ≡ false → (if a && b then xs else []) ≡ []

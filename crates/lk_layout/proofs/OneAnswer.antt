@@ -6,7 +6,7 @@ use Rattle.lk_gc.specs.declared.live.Live.{Live}
 use Rattle.lk_gc.specs.Laws.{LiveExists, LiveIsOne}
 use Rattle.lk_gc.specs.Reach.{AreLive}
 use Rattle.lk_link.specs.declared.link.LinkInput.{LinkInput}
-use Rattle.lk_link.specs.Target.{Target}
+use Rattle.lk_link.specs.TableSizes.{Machine}
 use Rattle.lk_link.specs.WellFormed.{IsWellFormed}
 use Rattle.lk_place.specs.declared.cursors.Cursors.{Cursors}
 use Rattle.lk_place.specs.PlacementLaws.{PlacementExists, PlacementIsOne}
@@ -14,7 +14,7 @@ use Rattle.lk_place.specs.Records.{Record}
 use Rattle.lk_layout.specs.declared.error.LayoutError.{LayoutError}
 use Rattle.lk_layout.specs.declared.layout.Layout.{Layout}
 use Rattle.lk_layout.specs.Carried.{IsCarried, first_uncarried}
-use Rattle.lk_layout.specs.Defined.{IsCarriedAnswer, IsLiveAnswer, IsMergedAnswer, offsets_refusal, references_refusal, IsPlacedAnswer, IsSizedAnswer, Unless, fault_refusal, layout_of, not_carried, segment_refusal, setting, sizes_refusal, uncarried_refusal, walk_refusal}
+use Rattle.lk_layout.specs.Defined.{IsCarriedAnswer, IsLiveAnswer, IsMergedAnswer, offsets_refusal, references_refusal, IsPlacedAnswer, IsSizedAnswer, Unless, fault_refusal, joining_refusal, layout_of, not_carried, segment_refusal, setting, sizes_refusal, uncarried_refusal, walk_refusal}
 use Rattle.lk_layout.specs.Errors.{fault_error}
 use Rattle.lk_layout.specs.Merging.{merging_refusal}
 use Rattle.lk_layout.specs.Laws.{DefinedAnswerExists, DefinedAnswerIsOne}
@@ -40,31 +40,32 @@ unless_exists (Some e) P rest = (Err e, refl)
 
 placed_exists : (link : LinkInput) (live : Live) (records : List Record) → (answer : Result Layout LayoutError) × IsPlacedAnswer link live records answer
 placed_exists link live records =
+    unless_exists (joining_refusal link records) (λ a. Unless (segment_refusal link live records) a (Unless (offsets_refusal link live) a (a ≡ Ok (layout_of link live records)))) (λ fit.
     unless_exists (segment_refusal link live records) (λ a. Unless (offsets_refusal link live) a (a ≡ Ok (layout_of link live records))) (λ none.
-    unless_exists (offsets_refusal link live) (λ a. a ≡ Ok (layout_of link live records)) (λ inside. (Ok (layout_of link live records), refl)))
+    unless_exists (offsets_refusal link live) (λ a. a ≡ Ok (layout_of link live records)) (λ inside. (Ok (layout_of link live records), refl))))
 
-sized_exists : PlacementExists → (target : Target) (link : LinkInput) (live : Live) → IsWellFormed link → IsCarried link → (answer : Result Layout LayoutError) × IsSizedAnswer target link live answer
-sized_exists placement target link live good carried =
-    let p = placement (setting target link live) (ready target link live good) (placeable link carried) in
-    let rest = unless_exists (walk_refusal target link live p.0 p.1) (IsPlacedAnswer link live p.1) (λ none. placed_exists link live p.1) in
+sized_exists : PlacementExists → (machine : Machine) (link : LinkInput) (live : Live) → IsWellFormed link → IsCarried link → (answer : Result Layout LayoutError) × IsSizedAnswer machine link live answer
+sized_exists placement machine link live good carried =
+    let p = placement (setting machine link live) (ready machine link live good) (placeable link carried) in
+    let rest = unless_exists (walk_refusal machine link live p.0 p.1) (IsPlacedAnswer link live p.1) (λ none. placed_exists link live p.1) in
     (rest.0, (p.0, p.1, p.2, rest.1))
 
-merged_exists : LiveExists → PlacementExists → (target : Target) (link : LinkInput) → IsWellFormed link → IsCarried link → (answer : Result Layout LayoutError) × IsMergedAnswer target link answer
-merged_exists live placement target link good carried =
-    unless_exists (references_refusal link) (λ a. (l : Live) × AreLive link l × IsLiveAnswer target link l a) (λ none.
+merged_exists : LiveExists → PlacementExists → (machine : Machine) (link : LinkInput) → IsWellFormed link → IsCarried link → (answer : Result Layout LayoutError) × IsMergedAnswer machine link answer
+merged_exists live placement machine link good carried =
+    unless_exists (references_refusal link) (λ a. (l : Live) × AreLive link l × IsLiveAnswer machine link l a) (λ none.
     let l = live link good in
-    let rest = unless_exists (sizes_refusal link l.0) (IsSizedAnswer target link l.0) (λ none. sized_exists placement target link l.0 good carried) in
+    let rest = unless_exists (sizes_refusal link l.0) (IsSizedAnswer machine link l.0) (λ none. sized_exists placement machine link l.0 good carried) in
     (rest.0, (l.0, l.1, rest.1)))
 
-carried_exists : LiveExists → PlacementExists → (target : Target) (link : LinkInput) → IsWellFormed link → IsCarried link → (answer : Result Layout LayoutError) × IsCarriedAnswer target link answer
-carried_exists live placement target link good carried =
-    unless_exists (merging_refusal link) (IsMergedAnswer target link) (λ none. merged_exists live placement target link good carried)
+carried_exists : LiveExists → PlacementExists → (machine : Machine) (link : LinkInput) → IsWellFormed link → IsCarried link → (answer : Result Layout LayoutError) × IsCarriedAnswer machine link answer
+carried_exists live placement machine link good carried =
+    unless_exists (merging_refusal link) (IsMergedAnswer machine link) (λ none. merged_exists live placement machine link good carried)
 
 pub answer_exists : WellFormedExactlyUnfaulted → LiveExists → PlacementExists → DefinedAnswerExists
-answer_exists exactly live placement target link =
-    unless_exists (fault_refusal link) (λ a. Unless (uncarried_refusal link) a (IsCarriedAnswer target link a)) (λ none.
-    unless_exists (uncarried_refusal link) (IsCarriedAnswer target link) (λ all.
-    carried_exists live placement target link (unrefused exactly link none) (none_of not_carried (first_uncarried link) all)))
+answer_exists exactly live placement machine link =
+    unless_exists (fault_refusal link) (λ a. Unless (uncarried_refusal link) a (IsCarriedAnswer machine link a)) (λ none.
+    unless_exists (uncarried_refusal link) (IsCarriedAnswer machine link) (λ all.
+    carried_exists live placement machine link (unrefused exactly link none) (none_of not_carried (first_uncarried link) all)))
 
 -- ---- and no other
 
@@ -74,36 +75,37 @@ unless_one None a b P Q h g rest = rest refl h g
 unless_one (Some e) a b P Q h g rest = h ∙ sym g
 
 placed_one : (link : LinkInput) (live : Live) (records : List Record) (a b : Result Layout LayoutError) → IsPlacedAnswer link live records a → IsPlacedAnswer link live records b → a ≡ b
-placed_one link live records a b h g = unless_one (segment_refusal link live records) a b _ _ h g (λ none x y.
-    unless_one (offsets_refusal link live) a b _ _ x y (λ inside u v. u ∙ sym v))
+placed_one link live records a b h g = unless_one (joining_refusal link records) a b _ _ h g (λ fit s t.
+    unless_one (segment_refusal link live records) a b _ _ s t (λ none x y.
+    unless_one (offsets_refusal link live) a b _ _ x y (λ inside u v. u ∙ sym v)))
 
 -- where the states and the records are the same, so is what comes behind
-abbrev Behind : Target → LinkInput → Live → Result Layout LayoutError → List Cursors → List Record → Type 0
-Behind target link live answer states records = Unless (walk_refusal target link live states records) answer (IsPlacedAnswer link live records answer)
+abbrev Behind : Machine → LinkInput → Live → Result Layout LayoutError → List Cursors → List Record → Type 0
+Behind machine link live answer states records = Unless (walk_refusal machine link live states records) answer (IsPlacedAnswer link live records answer)
 
-sized_one : PlacementIsOne → (target : Target) (link : LinkInput) (live : Live) (a b : Result Layout LayoutError) → IsWellFormed link
-    → IsSizedAnswer target link live a → IsSizedAnswer target link live b → a ≡ b
-sized_one placement target link live a b good h g =
-    let one = placement (setting target link live) h.0 g.0 h.1 g.1 (ready target link live good) h.2 g.2 in
-    let moved : Behind target link live a g.0 h.1 = subst (λ states. Behind target link live a states h.1) one.0 h.3 in
-    let there : Behind target link live a g.0 g.1 = subst (λ records. Behind target link live a g.0 records) one.1 moved in
-    unless_one (walk_refusal target link live g.0 g.1) a b _ _ there g.3 (λ none x y. placed_one link live g.1 a b x y)
+sized_one : PlacementIsOne → (machine : Machine) (link : LinkInput) (live : Live) (a b : Result Layout LayoutError) → IsWellFormed link
+    → IsSizedAnswer machine link live a → IsSizedAnswer machine link live b → a ≡ b
+sized_one placement machine link live a b good h g =
+    let one = placement (setting machine link live) h.0 g.0 h.1 g.1 (ready machine link live good) h.2 g.2 in
+    let moved : Behind machine link live a g.0 h.1 = subst (λ states. Behind machine link live a states h.1) one.0 h.3 in
+    let there : Behind machine link live a g.0 g.1 = subst (λ records. Behind machine link live a g.0 records) one.1 moved in
+    unless_one (walk_refusal machine link live g.0 g.1) a b _ _ there g.3 (λ none x y. placed_one link live g.1 a b x y)
 
-merged_one : LiveIsOne → PlacementIsOne → (target : Target) (link : LinkInput) (a b : Result Layout LayoutError) → IsWellFormed link
-    → IsMergedAnswer target link a → IsMergedAnswer target link b → a ≡ b
-merged_one live placement target link a b good h g =
+merged_one : LiveIsOne → PlacementIsOne → (machine : Machine) (link : LinkInput) (a b : Result Layout LayoutError) → IsWellFormed link
+    → IsMergedAnswer machine link a → IsMergedAnswer machine link b → a ≡ b
+merged_one live placement machine link a b good h g =
     unless_one (references_refusal link) a b _ _ h g (λ met x y.
     let one : x.0 ≡ y.0 = live link x.0 y.0 x.1 y.1 in
-    let there : IsLiveAnswer target link y.0 a = subst (λ l. IsLiveAnswer target link l a) one x.2 in
-    unless_one (sizes_refusal link y.0) a b _ _ there y.2 (λ none u v. sized_one placement target link y.0 a b good u v))
+    let there : IsLiveAnswer machine link y.0 a = subst (λ l. IsLiveAnswer machine link l a) one x.2 in
+    unless_one (sizes_refusal link y.0) a b _ _ there y.2 (λ none u v. sized_one placement machine link y.0 a b good u v))
 
-carried_one : LiveIsOne → PlacementIsOne → (target : Target) (link : LinkInput) (a b : Result Layout LayoutError) → IsWellFormed link
-    → IsCarriedAnswer target link a → IsCarriedAnswer target link b → a ≡ b
-carried_one live placement target link a b good h g =
-    unless_one (merging_refusal link) a b _ _ h g (λ none x y. merged_one live placement target link a b good x y)
+carried_one : LiveIsOne → PlacementIsOne → (machine : Machine) (link : LinkInput) (a b : Result Layout LayoutError) → IsWellFormed link
+    → IsCarriedAnswer machine link a → IsCarriedAnswer machine link b → a ≡ b
+carried_one live placement machine link a b good h g =
+    unless_one (merging_refusal link) a b _ _ h g (λ none x y. merged_one live placement machine link a b good x y)
 
 pub answer_one : WellFormedExactlyUnfaulted → LiveIsOne → PlacementIsOne → DefinedAnswerIsOne
-answer_one exactly live placement target link a b h g =
+answer_one exactly live placement machine link a b h g =
     unless_one (fault_refusal link) a b _ _ h g (λ none u v.
     unless_one (uncarried_refusal link) a b _ _ u v (λ all x y.
-    carried_one live placement target link a b (unrefused exactly link none) x y))
+    carried_one live placement machine link a b (unrefused exactly link none) x y))

@@ -30,20 +30,19 @@ use Rattle.lk_link.proofs.GoodSymbols.{symbol_of}
 use Rattle.lk_link.proofs.InputLemmas.{inputs_follow}
 use Rattle.lk_gc.specs.declared.live.Live.{Live}
 use Rattle.lk_gc.specs.Reach.{AreLive, IsLive, live_inputs, marked}
-use Rattle.lk_gc.proofs.LiveWalk.{split_at}
 use Rattle.lk_merge.specs.Addresses.{image_start}
 use Rattle.lk_place.specs.Records.{Record, record_at}
-use Rattle.lk_sizes.specs.LiveSections.{section_addresses}
+use Rattle.lk_sizes.specs.Addresses.{common_addresses, section_addresses}
 use Rattle.lk_sizes.specs.Owners.{EndsFit, live_address, part_size}
-use Rattle.lk_sizes.proofs.Adding.{bytes_into, bytes_into-append, bytes_into_here}
-use Rattle.lk_sizes.proofs.Addressing.{address_behind}
 use Rattle.lk_sizes.proofs.LiveOnes.{live_goes}
 use Rattle.lk_sizes.proofs.Numbering.{table_at as address_by_number}
-use Rattle.lk_sizes.proofs.Walking.{all_fit}
+use Rattle.lk_sizes.proofs.Placed.{live_ends}
 use Rattle.lk_layout.specs.declared.resolution.Resolution.{Resolution}
 use Rattle.lk_layout.specs.Defined.{starts_of}
 use Rattle.lk_layout.specs.Resolutions.{Places, address_at, file_resolutions, images_at, merged_value, places_of, symbol_resolutions}
-use Rattle.lk_layout.specs.Tables.{HasRoom, HaveRoom, place_in, places_in}
+use Rattle.lk_layout.specs.Tables.{HasRoom, HaveRoom, common_in, place_in, places_in}
+use Rattle.lk_layout.proofs.CommonsFound.{places_with, resolutions_alike}
+use Rattle.lk_sizes.specs.declared.addresses.CommonAddress.{CommonAddress}
 use Rattle.lk_layout.specs.OutputContent.{output_content}
 
 -- ---- the table
@@ -99,20 +98,13 @@ size-le part size =
     ]
 
 -- a live section ends below 2^64
-ends : (link : LinkInput) (live : Live) (starts : List ℕ) (front : List Input) (x : Input) (rest : List Input) → live_inputs link live ≡ front ++ x ∷ rest → EndsFit link (output_content link live) starts
+ends : (link : LinkInput) (live : Live) (starts : List ℕ) (k : ℕ) (x : Input) → slice_get (live_inputs link live) k ≡ Some x → EndsFit link (output_content link live) starts
     → x.section.part < length starts → live_address link (output_content link live) starts x + x.section.size < 2 ^ 64
-ends link live starts front x rest all fit within =
-    let p : ℕ = x.section.part in
-    let part : PlanPart = part_at link.plan.sections p in
+ends link live starts k x there fit within =
     omega (
       arith,
-      address_behind link (output_content link live) starts front x rest all,
-      all_fit link (output_content link live) starts p fit within,
-      ap (bytes_into part p) all,
-      bytes_into-append part p front (x ∷ rest),
-      bytes_into-append part p (x ∷ []) rest,
-      bytes_into_here part p x refl,
-      size-le part x.section.size,
+      live_ends link (output_content link live) starts k x there fit within,
+      size-le (part_at link.plan.sections x.section.part) x.section.size,
     )
 
 -- what can be kept isn't merged
@@ -138,9 +130,8 @@ section_room link live starts id file i offset is there h = λ set.
     let k : ℕ = first_input link.groups id + i in
     let at_k : slice_get (all_inputs link.groups) k ≡ Some x = inputs_follow.at link.groups id file i h.0 there h.1 in
     let among = marked_in live.marks (all_inputs link.groups) k x at_k set in
-    let split = split_at (live_inputs link live) among.0 x among.1 in
     let goes : x.section.part < length (all_parts link.plan.sections) = live_goes link live among.0 x is.good is.are_live among.1 in
-    let end = ends link live starts (take among.0 (live_inputs link live)) x split.0 split.1 is.fit (omega (arith, goes, is.count)) in
+    let end = ends link live starts among.0 x among.1 is.fit (omega (arith, goes, is.count)) in
     let lives : IsLive link x = (is.are_live.marks k x at_k).0 set in
     let inside : offset ≤ x.section.size = h.2 (unmerged x.section.slot lives.slot) in
     omega (arith, table_at link live starts k x at_k set, end, inside)
@@ -189,13 +180,18 @@ room_by marks read addresses table groups is_marks is_table h =
     subst (λ (ms : List Bool). HaveRoom ms table groups) (sym is_marks) (subst (λ (ns : List ℕ). HaveRoom marks ns groups) (sym is_table) h)
 
 -- and the same resolutions
-pub resolutions_by : (link : LinkInput) (live : Live) (starts wanted : List ℕ) (marks : List Bool) (addresses buckets : List ℕ) (flags : List ValueFlags) (items : List (Option Resolution)) → AreLive link live
-    → marks ≡ live.marks → addresses ≡ table link live starts → flags ≡ live.flags → starts ≡ wanted → merged_value link (image_start buckets) ≡ merged_value link (images_at link live wanted)
-    → items ≡ flat_map (file_resolutions (places_in marks addresses link buckets) flags link.groups) (numbered_files link.groups) → items ≡ symbol_resolutions link live wanted
-resolutions_by link live starts wanted marks addresses buckets flags items are is_marks is_table is_flags is_starts is_merged made =
+pub resolutions_by : (link : LinkInput) (live : Live) (starts wanted : List ℕ) (marks : List Bool) (addresses buckets : List ℕ) (commons : List CommonAddress) (flags : List ValueFlags) (items : List (Option Resolution)) → AreLive link live
+    → marks ≡ live.marks → addresses ≡ table link live starts → commons ≡ common_addresses link (output_content link live) starts → flags ≡ live.flags → starts ≡ wanted
+    → merged_value link (image_start buckets) ≡ merged_value link (images_at link live wanted)
+    → items ≡ flat_map (file_resolutions (places_in marks addresses commons link buckets) flags link.groups) (numbered_files link.groups) → items ≡ symbol_resolutions link live wanted
+resolutions_by link live starts wanted marks addresses buckets commons flags items are is_marks is_table is_commons is_flags is_starts is_merged made =
     let all : Places → List ValueFlags → List (Option Resolution) = λ places fs. flat_map (file_resolutions places fs link.groups) (numbered_files link.groups) in
-    let both : (ℕ → ℕ → Option ℕ) → (ℕ → ℕ) → Places = λ place values. record { live = place; merged = values } in
+    let both : (ℕ → ℕ → Option ℕ) → List CommonAddress → (ℕ → ℕ) → Places = λ place cs values. record { live = place; common = λ p s. common_in cs s; merged = values } in
     let place : place_in marks addresses ≡ address_at link live wanted
     = ap (λ (ms : List Bool). place_in ms addresses) is_marks ∙ ap (place_in live.marks) is_table ∙ places_are link live starts are ∙ ap (address_at link live) is_starts in
-    made ∙ ap (λ at. all (both at (merged_value link (image_start buckets))) flags) place ∙ ap (λ values. all (both (address_at link live wanted) values) flags) is_merged
-    ∙ ap (all (places_of link live wanted)) is_flags
+    let commons_are : commons ≡ common_addresses link (output_content link live) wanted = is_commons ∙ ap (common_addresses link (output_content link live)) is_starts in
+    made ∙ ap (λ at. all (both at commons (merged_value link (image_start buckets))) flags) place
+    ∙ ap (λ cs. all (both (address_at link live wanted) cs (merged_value link (image_start buckets))) flags) commons_are
+    ∙ ap (λ values. all (both (address_at link live wanted) (common_addresses link (output_content link live) wanted) values) flags) is_merged
+    ∙ ap (all (places_with link live wanted)) is_flags
+    ∙ resolutions_alike link live wanted

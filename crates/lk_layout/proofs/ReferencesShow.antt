@@ -12,22 +12,24 @@ use Rattle.lk_link.specs.declared.section.InputSection.{InputSection}
 use Rattle.lk_link.specs.InputSlots.{is_merge, is_regular}
 use Rattle.lk_link.specs.Inputs.{NumberedFile, numbered_files}
 use Rattle.lk_link.specs.Symbols.{file_number, first_symbol}
-use Rattle.lk_link.specs.Target.{Target}
+use Rattle.lk_link.specs.TableSizes.{Machine}
 use Rattle.lk_link.proofs.Elements.{append_right, flat_map_in}
 use Rattle.lk_link.proofs.InputLemmas.{file_stands, numbered_get}
 use Rattle.lk_gc.specs.declared.live.Live.{Live}
-use Rattle.lk_gc.specs.Units.{local_definition}
+use Rattle.lk_reach.specs.Units.{local_definition}
+use Rattle.lk_link.specs.Parts.{part_sections}
 use Rattle.lk_merge.specs.declared.output_address.OffsetPastEnd.{OffsetPastEnd}
 use Rattle.lk_merge.specs.Addresses.{image_start}
 use Rattle.lk_merge.specs.Hash.{fnv64}
-use Rattle.lk_merge.specs.LinkInputs.{link_inputs, merge_input, merge_inputs, part_sections}
-use Rattle.lk_merge.specs.OutputAddresses.{MergePlace, address_in, offset_place, output_of, past_end, plus_addend, reference_address, symbol_place}
+use Rattle.lk_merge.specs.LinkInputs.{link_inputs, merge_input, merge_inputs}
+use Rattle.lk_merge.specs.OffsetsOutside.{may_choose_outside, refers_outside}
+use Rattle.lk_merge.specs.OutputAddresses.{MergePlace, address_in, chosen_offset, offset_place, output_of, past_end, plus_addend, reference_address, symbol_place}
 use Rattle.lk_merge.specs.Pieces.{MergeInput, is_terminated}
 use Rattle.lk_merge.proofs.SymbolPlaces.{is_input, output_at}
 use Rattle.lk_layout.specs.declared.layout.Layout.{Layout}
 use Rattle.lk_layout.specs.declared.outside.MergeOffsetPlace.{MergeOffsetPlace}
 use Rattle.lk_layout.specs.declared.outside.MergeOffsetPlace.TheVariants.{OfRelocation}
-use Rattle.lk_layout.specs.Outside.{chooses_outside, chosen_offset, merge_offsets, refers_outside, relocation_outside, relocations_outside, section_outside, symbols_outside}
+use Rattle.lk_layout.specs.Outside.{merge_offsets, relocation_outside, relocations_outside, section_outside, symbols_outside}
 use Rattle.lk_layout.specs.Sound.{IsReference, ReferencesShow}
 use Rattle.lk_layout.proofs.Imaging.{output_there, symbol_place_is}
 use Rattle.lk_layout.proofs.ImagesShow.{all_terminated, shows}
@@ -70,7 +72,7 @@ chosen_inside link live id file i k r place is names inside =
       | inl below ↦ below
       | inr past ↦
           let outside : refers_outside link (local_definition (first_symbol link.groups id) file.symbols r.symbol) r.addend ≡ true
-          = ap (λ (o : Option MergePlace). option_map_or (chooses_outside r.addend) o false) names
+          = ap (may_choose_outside r.addend) names
           ∙ ap not (past_tells (chosen_offset place r.addend) (length place.section.bytes) past) in
           let found = found_outside link live id file i k r is outside in
           absurd (has_none (merge_offsets link live) found.0 (OfRelocation id i k) inside found.1)
@@ -80,8 +82,8 @@ chosen_inside link live id file i k r place is names inside =
 
 answered : (link : LinkInput) (starts : ℕ → ℕ) (place : MergePlace) (addend : ℤ) (address : ℕ) (named : Bool)
     → address_in link starts place (if named then place.offset else plus_addend place.offset addend) ≡ Some address
-    → (if named then option_map_or (λ a. Ok (Some (plus_addend a addend))) (address_in link starts place place.offset) (Err past_end)
-    else option_map_or (λ a. Ok (Some a)) (address_in link starts place (plus_addend place.offset addend)) (Err past_end))
+    → (if named then option_map_or (λ a. Ok (Some (plus_addend a addend))) (address_in link starts place (if named then place.offset else plus_addend place.offset addend)) (Err past_end)
+    else option_map_or (λ a. Ok (Some a)) (address_in link starts place (if named then place.offset else plus_addend place.offset addend)) (Err past_end))
     ≡ Ok (Some (if named then plus_addend address addend else address))
 answered link starts place addend address true found =
     let made : Option ℕ → Result (Option ℕ) OffsetPastEnd = λ o. option_map_or (λ a. Ok (Some (plus_addend a addend))) o (Err past_end) in
@@ -90,8 +92,8 @@ answered link starts place addend address false found =
     let made : Option ℕ → Result (Option ℕ) OffsetPastEnd = λ o. option_map_or (λ a. Ok (Some a)) o (Err past_end) in
     ap made found
 
-pub references_show : (target : Target) (link : LinkInput) (layout : Layout) (laid : IsLaidOut target link layout) → ReferencesShow link laid.live layout
-references_show target link layout laid id file i k r place is names =
+pub references_show : (machine : Machine) (link : LinkInput) (layout : Layout) (laid : IsLaidOut machine link layout) → ReferencesShow link laid.live layout
+references_show machine link layout laid id file i k r place is names =
     let s : ℕ = local_definition (first_symbol link.groups id) file.symbols r.symbol in
     let starts : ℕ → ℕ = image_start layout.merged_string_start_addresses in
     let stands = symbol_place_is link s place names in

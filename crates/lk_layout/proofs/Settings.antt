@@ -11,7 +11,7 @@ use Rattle.lk_link.specs.declared.plan.PlanPart.{PlanPart}
 use Rattle.lk_link.specs.declared.plan.PlanSection.{PlanSection}
 use Rattle.lk_link.specs.declared.plan.PlanSegment.{PlanSegment}
 use Rattle.lk_link.specs.Parts.{all_parts}
-use Rattle.lk_link.specs.Target.{Target}
+use Rattle.lk_link.specs.TableSizes.{Machine}
 use Rattle.lk_link.specs.WellFormed.{IsWellFormed}
 use Rattle.lk_place.specs.declared.cursors.Cursors.{Cursors}
 use Rattle.lk_place.specs.Placement.{IsPlaced, placement_refusal}
@@ -42,8 +42,8 @@ length-section_records sections parts =
     length-map (enumerate_from 0 sections) (λ (q : ℕ × PlanSection). section_record q.1 (part_records sections parts q.0)) ∙ length-enumerate_from 0 sections
 
 -- its plan can be walked
-pub ready : (target : Target) (link : LinkInput) (live : Live) → IsWellFormed link → IsReady (setting target link live)
-ready target link live good = record { events = good.events; sections = good.sections; sizes = length-by_part (part_size link (output_content link live)) link }
+pub ready : (machine : Machine) (link : LinkInput) (live : Live) → IsWellFormed link → IsReady (setting machine link live)
+ready machine link live good = record { events = good.events; sections = good.sections; sizes = length-by_part (part_size link (output_content link live)) link }
 
 -- the size of a part, by its number
 pub size_of : (link : LinkInput) (live : Live) (p : ℕ) → p < length (all_parts link.plan.sections) → slice_index_or (part_sizes link (output_content link live)) p 0 ≡ part_size link (output_content link live) p
@@ -56,11 +56,11 @@ size_of link live p within =
     ∙ ap (part_size link (output_content link live)) (zero-add p)
 
 -- each part that is placed takes the bytes of its owners
-pub takes : PartsTakeTheirBytes → (target : Target) (link : LinkInput) (live : Live) (states : List Cursors) (records : List Record) → IsWellFormed link
-    → IsPlaced (setting target link live) states records → placement_refusal (setting target link live) states records ≡ None
+pub takes : PartsTakeTheirBytes → (machine : Machine) (link : LinkInput) (live : Live) (states : List Cursors) (records : List Record) → IsWellFormed link
+    → IsPlaced (setting machine link live) states records → placement_refusal (setting machine link live) states records ≡ None
     → (p : ℕ) → p < length records → (record_at records p).mem_size ≡ part_size link (output_content link live) p
-takes law target link live states records good is unrefused p below =
-    let all : map (λ r. r.mem_size) records ≡ part_sizes link (output_content link live) = law (setting target link live) states records (ready target link live good) is unrefused in
+takes law machine link live states records good is unrefused p below =
+    let all : map (λ r. r.mem_size) records ≡ part_sizes link (output_content link live) = law (setting machine link live) states records (ready machine link live good) is unrefused in
     sym (get_or-map (λ (r : Record). r.mem_size) records p nowhere 0 below)
     ∙ ap (λ (sizes : List ℕ). slice_index_or sizes p 0) all
     ∙ size_of link live p (omega (arith, is.each))

@@ -1,5 +1,5 @@
 -- A defined layout is sound.
-use Rattle.std.proofs.Common.{◌≡◌, ℕ, zero, suc, ◌%◌, ◌<◌, List, [], ◌∷◌, length, Some, sym, ap, subst, ◌∙◌, inl, inr, arith}
+use Rattle.std.proofs.Common.{◌≡◌, ℕ, zero, suc, ◌%◌, ◌<◌, List, [], ◌∷◌, length, Some, refl, sym, ap, subst, ◌∙◌, inl, inr, arith}
 use Rattle.std.specs.Prelude.{slice_get, slice_index}
 use Rattle.std.specs.Int.{◌∣◌}
 use Rattle.std.specs.List.{AllByRecursion, slice_index_or}
@@ -14,7 +14,7 @@ use Rattle.lk_link.specs.declared.link.LinkInput.{LinkInput}
 use Rattle.lk_link.specs.declared.plan.PlanPart.{PlanPart}
 use Rattle.lk_link.specs.Inputs.{Input}
 use Rattle.lk_link.specs.Parts.{all_parts, part_at}
-use Rattle.lk_link.specs.Target.{IsLawful, Target}
+use Rattle.lk_link.specs.TableSizes.{Machine}
 use Rattle.lk_link.specs.WellFormed.{IsWellFormed}
 use Rattle.lk_place.specs.Laws.{FileRangesAreDisjoint, IsSoundlySet, KeepAlignments, MemoryRangesAreDisjoint, PlainMemoryIsCongruent, PlainMemoryIsDisjoint, RecordsKeepAlignments}
 use Rattle.lk_place.specs.PlacementLaws.{PartsTakeTheirBytes, RefusedExactlyPast}
@@ -23,17 +23,19 @@ use Rattle.lk_place.specs.Ranges.{FileIsDisjoint, MemoryIsDisjoint}
 use Rattle.lk_place.specs.Records.{Record, nowhere, record_at}
 use Rattle.lk_place.specs.Segments.{alignment_inside}
 use Rattle.lk_sizes.specs.declared.addresses.LiveSection.{LiveSection}
-use Rattle.lk_sizes.specs.LiveSections.{live_section, live_sections}
+use Rattle.lk_sizes.specs.Addresses.{live_section, live_sections}
 use Rattle.lk_sizes.specs.Owners.{LiveSectionsAreOwners, Owner, SectionOwner, bytes_of, owner_address, owner_number, owners_of, part_size}
 use Rattle.lk_sizes.specs.Tiles.{HasByte, IsTiled, OwnersAreAligned, OwnersTileTheirPart}
 use Rattle.lk_sizes.proofs.Numbering.{table_tells_live_sections}
 use Rattle.lk_sizes.proofs.LiveOnes.{Differ, Pairwise, live_differ, live_goes, live_good}
 use Rattle.lk_layout.specs.declared.layout.Layout.{Layout}
 use Rattle.lk_layout.specs.Defined.{setting, starts_of}
+use Rattle.lk_layout.specs.Machines.{IsLawfulMachine}
 use Rattle.lk_layout.specs.Layouts.{told_live}
 use Rattle.lk_layout.specs.Laws.{DefinedLayoutsAreSound, LaidOutMemoryIsDisjoint, LaidOutSectionsAreApart}
 use Rattle.lk_layout.specs.Resolutions.{symbol_resolutions}
-use Rattle.lk_layout.specs.Sound.{OwnersAreApart, IsInSection, IsSharedOut, IsSound, IsTold, LiveSectionsAreAligned, LiveSectionsAreApart, MemoryIsCongruent, part_record}
+use Rattle.lk_layout.specs.Sound.{AreOutputsTold, OwnersAreApart, IsInSection, IsSharedOut, IsSound, IsTold, LiveSectionsAreAligned, LiveSectionsAreApart, MemoryIsCongruent, part_record}
+use Rattle.lk_layout.proofs.CommonsStand.{commons_stand}
 use Rattle.lk_layout.proofs.Fitting.{buckets_start}
 use Rattle.lk_layout.proofs.LaidOut.{IsLaidOut, laid_out}
 use Rattle.lk_layout.proofs.ImagesShow.{images_stand}
@@ -49,26 +51,32 @@ use Rattle.lk_layout.specs.OutputContent.{output_content}
 
 -- ---- the layout and its records
 
-parts_are : (target : Target) (link : LinkInput) (layout : Layout) (laid : IsLaidOut target link layout) → layout.section_part_layouts ≡ laid.records
-parts_are target link layout laid = ap (λ (l : Layout). l.section_part_layouts) laid.same
+parts_are : (machine : Machine) (link : LinkInput) (layout : Layout) (laid : IsLaidOut machine link layout) → layout.section_part_layouts ≡ laid.records
+parts_are machine link layout laid = ap (λ (l : Layout). l.section_part_layouts) laid.same
 
-shown : (target : Target) (link : LinkInput) (layout : Layout) (laid : IsLaidOut target link layout) → told_live link layout ≡ live_sections link (output_content link laid.live) (starts_of layout.section_part_layouts)
-shown target link layout laid =
+shown : (machine : Machine) (link : LinkInput) (layout : Layout) (laid : IsLaidOut machine link layout) → told_live link layout ≡ live_sections link (output_content link laid.live) (starts_of layout.section_part_layouts)
+shown machine link layout laid =
     ap (told_live link) laid.same ∙ table_tells_live_sections link (output_content link laid.live) (starts_of laid.records)
-    ∙ ap (λ (rs : List Record). live_sections link (output_content link laid.live) (starts_of rs)) (sym (parts_are target link layout laid))
+    ∙ ap (λ (rs : List Record). live_sections link (output_content link laid.live) (starts_of rs)) (sym (parts_are machine link layout laid))
 
-resolved : (target : Target) (link : LinkInput) (layout : Layout) (laid : IsLaidOut target link layout)
+resolved : (machine : Machine) (link : LinkInput) (layout : Layout) (laid : IsLaidOut machine link layout)
     → layout.symbol_resolutions ≡ symbol_resolutions link laid.live (starts_of layout.section_part_layouts)
-resolved target link layout laid =
+resolved machine link layout laid =
     ap (λ (l : Layout). l.symbol_resolutions) laid.same
-    ∙ ap (λ (rs : List Record). symbol_resolutions link laid.live (starts_of rs)) (sym (parts_are target link layout laid))
+    ∙ ap (λ (rs : List Record). symbol_resolutions link laid.live (starts_of rs)) (sym (parts_are machine link layout laid))
+
+-- what is told of the outputs
+outputs_told : (machine : Machine) (link : LinkInput) (layout : Layout) (laid : IsLaidOut machine link layout) → AreOutputsTold link laid.live layout
+outputs_told machine link layout laid =
+    subst (AreOutputsTold link laid.live) (sym laid.same)
+    (record { sections = refl; joined = refl; attributes = refl; indexes = refl; segments = refl; thread_local = refl; covered = laid.covered })
 
 -- the owners of each part share it out
-shared_out : OwnersTileTheirPart → PartsTakeTheirBytes → (target : Target) (link : LinkInput) (layout : Layout) (laid : IsLaidOut target link layout) (p : ℕ) → p < length (all_parts link.plan.sections)
+shared_out : OwnersTileTheirPart → PartsTakeTheirBytes → (machine : Machine) (link : LinkInput) (layout : Layout) (laid : IsLaidOut machine link layout) (p : ℕ) → p < length (all_parts link.plan.sections)
     → IsSharedOut link laid.live layout p
-shared_out tile mass target link layout laid p within = record {
-  whole = ap (λ rs. (record_at rs p).mem_size) (parts_are target link layout laid)
-      ∙ takes mass target link laid.live laid.states laid.records laid.good laid.is laid.unrefused p (omega (arith, within, laid.is.each));
+shared_out tile mass machine link layout laid p within = record {
+  whole = ap (λ rs. (record_at rs p).mem_size) (parts_are machine link layout laid)
+      ∙ takes mass machine link laid.live laid.states laid.records laid.good laid.is laid.unrefused p (omega (arith, within, laid.is.each));
   tiled = tile link (output_content link laid.live) p (part_record layout p).mem_offset;
 }
 
@@ -78,7 +86,7 @@ shared_out tile mass target link layout laid p within = record {
 record Stands (link : LinkInput) (live : Live) (layout : Layout) (x : Input) (l : LiveSection) : Type 0 where
   address : l.address ≡ owner_address (part_record layout x.section.part).mem_offset (part_at link.plan.sections x.section.part) (owners_of link (output_content link live) x.section.part) (owner_number link (output_content link live) x)
   size : l.size ≡ x.section.size
-  owner : slice_get (owners_of link (output_content link live) x.section.part) (owner_number link (output_content link live) x) ≡ Some (SectionOwner x)
+  owner : slice_get (owners_of link (output_content link live) x.section.part) (owner_number link (output_content link live) x) ≡ Some (SectionOwner x x.section.size)
 
 stands : LiveSectionsAreOwners → (link : LinkInput) (live : Live) (layout : Layout) (a : ℕ) (x : Input) (l : LiveSection)
     → told_live link layout ≡ live_sections link (output_content link live) (starts_of layout.section_part_layouts) → IsTold link live layout a x l → Stands link live layout x l
@@ -99,7 +107,7 @@ stands owners link live layout a x l is told =
 has_byte : (link : LinkInput) (live : Live) (layout : Layout) (x : Input) (l : LiveSection) (address : ℕ) → Stands link live layout x l → IsInSection address l
     → HasByte (part_record layout x.section.part).mem_offset (part_at link.plan.sections x.section.part) (owners_of link (output_content link live) x.section.part) (owner_number link (output_content link live) x) address
 has_byte link live layout x l address s here = record {
-  owner = SectionOwner x;
+  owner = SectionOwner x x.section.size;
   there = s.owner;
   from = omega (arith, s.address, here.begins);
   below = omega (arith, s.address, s.size, here.ends, size-le (part_at link.plan.sections x.section.part) x.section.size);
@@ -147,9 +155,9 @@ sections_apart owners link live layout good are_live is shared memory a b addres
           let owned : ℕ → ℕ → Type 0 = λ r k. HasByte (part_record layout r).mem_offset (part_at link.plan.sections r) (owners_of link (output_content link live) r) k address in
           let beside : owned p (owner_number link (output_content link live) y) = subst (λ r. owned r (owner_number link (output_content link live) y)) (sym hit.1) second in
           let number : owner_number link (output_content link live) x ≡ owner_number link (output_content link live) y = of_p.tiled.apart (owner_number link (output_content link live) x) (owner_number link (output_content link live) y) address first beside in
-          let mine : slice_get (owners_of link (output_content link live) p) (owner_number link (output_content link live) x) ≡ Some (SectionOwner x) = (stands owners link live layout a x l is told_a).owner in
-          let yours : slice_get (owners_of link (output_content link live) q) (owner_number link (output_content link live) y) ≡ Some (SectionOwner y) = (stands owners link live layout b y m is told_b).owner in
-          let both : Some (SectionOwner x) ≡ Some (SectionOwner y)
+          let mine : slice_get (owners_of link (output_content link live) p) (owner_number link (output_content link live) x) ≡ Some (SectionOwner x x.section.size) = (stands owners link live layout a x l is told_a).owner in
+          let yours : slice_get (owners_of link (output_content link live) q) (owner_number link (output_content link live) y) ≡ Some (SectionOwner y y.section.size) = (stands owners link live layout b y m is told_b).owner in
+          let both : Some (SectionOwner x x.section.size) ≡ Some (SectionOwner y y.section.size)
           = sym mine ∙ ap (λ (r : ℕ). slice_get (owners_of link (output_content link live) r) (owner_number link (output_content link live) x)) hit.1 ∙ ap (slice_get (owners_of link (output_content link live) q)) number ∙ yours in
           let same : x ≡ y = cc in
           one_owner link live a b x y other told_a.there told_b.there same
@@ -179,95 +187,97 @@ owner_within part start owners k address tiled h =
     let inside = tiled.inside k address h in
     omega (arith, inside.0, inside.1)
 
-sections_aligned : OwnersTileTheirPart → OwnersAreAligned → LiveSectionsAreOwners → (target : Target) (link : LinkInput) (layout : Layout) (laid : IsLaidOut target link layout)
+sections_aligned : OwnersTileTheirPart → OwnersAreAligned → LiveSectionsAreOwners → (machine : Machine) (link : LinkInput) (layout : Layout) (laid : IsLaidOut machine link layout)
     → LiveSectionsAreAligned link laid.live layout
-sections_aligned tile aligned owners target link layout laid a x l told some unpacked =
+sections_aligned tile aligned owners machine link layout laid a x l told some unpacked =
     let live : Live = laid.live in
     let p : ℕ = x.section.part in
-    let s : Stands link live layout x l = stands owners link live layout a x l (shown target link layout laid) told in
+    let s : Stands link live layout x l = stands owners link live layout a x l (shown machine link layout laid) told in
     let within : p < length (all_parts link.plan.sections) = live_goes link live a x laid.good laid.are_live told.there in
     let byte = has_byte link live layout x l l.address s (record { begins = omega arith; ends = omega (arith, some) }) in
     let bytes : 0 < part_size link (output_content link live) p = owner_within (part_at link.plan.sections p) (part_record layout p).mem_offset (owners_of link (output_content link live) p) (owner_number link (output_content link live) x) l.address (tile link (output_content link live) p (part_record layout p).mem_offset) byte in
-    let size : slice_index_or (setting target link live).sizes p 0 ≡ part_size link (output_content link live) p = size_of link live p within in
+    let size : slice_index_or (setting machine link live).sizes p 0 ≡ part_size link (output_content link live) p = size_of link live p within in
     let begins : (part_at link.plan.sections p).alignment ∣ (record_at laid.records p).mem_offset
-    = part_starts target link live laid.states laid.records p laid.good laid.is laid.unrefused within (omega (arith, bytes, size)) in
-    let record_is : (record_at laid.records p).mem_offset ≡ (part_record layout p).mem_offset = ap (λ rs. (record_at rs p).mem_offset) (sym (parts_are target link layout laid)) in
+    = part_starts machine link live laid.states laid.records p laid.good laid.is laid.unrefused within (omega (arith, bytes, size)) in
+    let record_is : (record_at laid.records p).mem_offset ≡ (part_record layout p).mem_offset = ap (λ rs. (record_at rs p).mem_offset) (sym (parts_are machine link layout laid)) in
     subst (λ n. (part_at link.plan.sections p).alignment ∣ n) (sym s.address)
     (dvd-add (part_at link.plan.sections p).alignment (subst (λ n. (part_at link.plan.sections p).alignment ∣ n) record_is begins) (aligned link (output_content link live) p (owner_number link (output_content link live) x) laid.good (live_good link live a x laid.good laid.are_live told.there).1.to_no_table unpacked))
 
 -- ---- the laws
 
-soundly_set : (target : Target) (link : LinkInput) (layout : Layout) (laid : IsLaidOut target link layout) → IsLawful target → IsSoundlySet (setting target link laid.live) laid.states laid.records
-soundly_set target link layout laid lawful = record { ready = ready target link laid.live laid.good; page = laid.good.page; lawful = lawful; placed = laid.is }
+soundly_set : (machine : Machine) (link : LinkInput) (layout : Layout) (laid : IsLaidOut machine link layout) → IsLawfulMachine machine → IsSoundlySet (setting machine link laid.live) laid.states laid.records
+soundly_set machine link layout laid lawful = record { ready = ready machine link laid.live laid.good; page = laid.good.page; lawful = lawful.target; placed = laid.is }
 
 -- a part of a layout starts at the same place in memory and in the file
 abbrev IsCongruentAt : LinkInput → Layout → ℕ → ℕ → Type 0
 IsCongruentAt link l i p =
     (part_record l p).mem_offset % alignment_inside link.plan l.section_layouts i ≡ (part_record l p).file_offset % alignment_inside link.plan l.section_layouts i
 
-congruent : PlainMemoryIsCongruent → RecordsKeepAlignments → (target : Target) (link : LinkInput) (layout : Layout) (laid : IsLaidOut target link layout) → IsLawful target
+congruent : PlainMemoryIsCongruent → RecordsKeepAlignments → (machine : Machine) (link : LinkInput) (layout : Layout) (laid : IsLaidOut machine link layout) → IsLawfulMachine machine
     → IsPlain link.plan link.options.output → MemoryIsCongruent link layout
-congruent in_step keep target link layout laid lawful plain i s k p places backed part =
+congruent in_step keep machine link layout laid lawful plain i s k p places backed part =
     let live : Live = laid.live in
-    let kept : KeepAlignments (setting target link live) laid.records
-    = keep (setting target link live) laid.states laid.records (ready target link live laid.good) laid.is (laid.is.ends laid.unrefused) in
-    let found = in_step (setting target link live) laid.states laid.records (soundly_set target link layout laid lawful) plain i s k p places backed part in
+    let kept : KeepAlignments (setting machine link live) laid.records
+    = keep (setting machine link live) laid.states laid.records (ready machine link live laid.good) laid.is (laid.is.ends laid.unrefused) in
+    let found = in_step (setting machine link live) laid.states laid.records (soundly_set machine link layout laid lawful) plain i s k p places backed part in
     let there = subst (λ (n : ℕ). (record_at laid.records p).mem_offset % n ≡ (record_at laid.records p).file_offset % n) (sym (kept.segment i)) found in
     subst (λ (l : Layout). IsCongruentAt link l i p) (sym laid.same) there
 
 -- what is laid out is sound
 is_sound : OwnersTileTheirPart → OwnersAreAligned → LiveSectionsAreOwners → PartsTakeTheirBytes → RefusedExactlyPast → FileRangesAreDisjoint → PlainMemoryIsDisjoint → PlainMemoryIsCongruent → RecordsKeepAlignments
-    → (target : Target) (link : LinkInput) (layout : Layout) (laid : IsLaidOut target link layout) → IsLawful target → IsSound link laid.live layout
-is_sound tile aligned owners mass refused file memory in_step keep target link layout laid lawful =
+    → (machine : Machine) (link : LinkInput) (layout : Layout) (laid : IsLaidOut machine link layout) → IsLawfulMachine machine → IsSound link laid.live layout
+is_sound tile aligned owners mass refused file memory in_step keep machine link layout laid lawful =
     let records : List Record = layout.section_part_layouts in
     record {
       met = laid.met;
       reached = laid.are_live;
-      shown = shown target link layout laid;
+      shown = shown machine link layout laid;
       merged = ap (λ (l : Layout). l.merged_strings) laid.same;
-      starts = buckets_start refused mass target link layout laid;
-      images = images_stand target link layout laid;
-      named = named_symbols_show target link layout laid;
-      references = references_show target link layout laid;
+      starts = buckets_start refused mass machine link layout laid;
+      images = images_stand machine link layout laid;
+      named = named_symbols_show machine link layout laid;
+      references = references_show machine link layout laid;
       inside = laid.inside;
-      resolved = resolved target link layout laid;
+      resolved = resolved machine link layout laid;
       placed = resolved_sections_are_live link laid.live laid.good laid.are_live laid.met;
-      valued = values_are_in_live_sections link laid.live layout (starts_of records) (shown target link layout laid) (resolved target link layout laid)
+      valued = values_are_in_live_sections link laid.live layout (starts_of records) (shown machine link layout laid) (resolved machine link layout laid)
           (resolved_sections_are_live link laid.live laid.good laid.are_live laid.met);
+      commons = commons_stand tile aligned machine link layout laid (resolved machine link layout laid);
       entered = ap (λ (l : Layout). l.entry_symbol_id) laid.same;
-      aligned = sections_aligned tile aligned owners target link layout laid;
-      shared = shared_out tile mass target link layout laid;
-      file = subst (λ rs. FileIsDisjoint rs) (sym (parts_are target link layout laid))
-          (file (setting target link laid.live) laid.states laid.records (ready target link laid.live laid.good) laid.is);
+      outputs = outputs_told machine link layout laid;
+      aligned = sections_aligned tile aligned owners machine link layout laid;
+      shared = shared_out tile mass machine link layout laid;
+      file = subst (λ rs. FileIsDisjoint rs) (sym (parts_are machine link layout laid))
+          (file (setting machine link laid.live) laid.states laid.records (ready machine link laid.live laid.good) laid.is);
       memory = λ plain.
-          let disjoint : MemoryIsDisjoint link.plan records = subst (MemoryIsDisjoint link.plan) (sym (parts_are target link layout laid))
-          (memory (setting target link laid.live) laid.states laid.records (soundly_set target link layout laid lawful) plain) in
+          let disjoint : MemoryIsDisjoint link.plan records = subst (MemoryIsDisjoint link.plan) (sym (parts_are machine link layout laid))
+          (memory (setting machine link laid.live) laid.states laid.records (soundly_set machine link layout laid lawful) plain) in
           record {
             disjoint = disjoint;
-            apart = sections_apart owners link laid.live layout laid.good laid.are_live (shown target link layout laid) (shared_out tile mass target link layout laid) disjoint;
-            owners = owners_apart link laid.live layout (shared_out tile mass target link layout laid) disjoint;
-            congruent = congruent in_step keep target link layout laid lawful plain;
+            apart = sections_apart owners link laid.live layout laid.good laid.are_live (shown machine link layout laid) (shared_out tile mass machine link layout laid) disjoint;
+            owners = owners_apart link laid.live layout (shared_out tile mass machine link layout laid) disjoint;
+            congruent = congruent in_step keep machine link layout laid lawful plain;
           };
     }
 
 pub sound : WellFormedExactlyUnfaulted → OwnersTileTheirPart → OwnersAreAligned → LiveSectionsAreOwners → PartsTakeTheirBytes → RefusedExactlyPast → FileRangesAreDisjoint → PlainMemoryIsDisjoint → PlainMemoryIsCongruent → RecordsKeepAlignments
     → DefinedLayoutsAreSound
-sound exactly tile aligned owners mass refused file memory in_step keep target link layout lawful defined =
-    let laid = laid_out exactly target link layout defined in
-    (laid.live, is_sound tile aligned owners mass refused file memory in_step keep target link layout laid lawful)
+sound exactly tile aligned owners mass refused file memory in_step keep machine link layout lawful defined =
+    let laid = laid_out exactly machine link layout defined in
+    (laid.live, is_sound tile aligned owners mass refused file memory in_step keep machine link layout laid lawful)
 
 -- under a placeable plan, the memory of a layout is disjoint
 pub memory_disjoint : WellFormedExactlyUnfaulted → MemoryRangesAreDisjoint → LaidOutMemoryIsDisjoint
-memory_disjoint exactly memory target link layout placeable lawful defined =
-    let laid = laid_out exactly target link layout defined in
-    subst (MemoryIsDisjoint link.plan) (sym (parts_are target link layout laid))
-    (memory (setting target link laid.live) laid.states laid.records (soundly_set target link layout laid lawful) placeable)
+memory_disjoint exactly memory machine link layout placeable lawful defined =
+    let laid = laid_out exactly machine link layout defined in
+    subst (MemoryIsDisjoint link.plan) (sym (parts_are machine link layout laid))
+    (memory (setting machine link laid.live) laid.states laid.records (soundly_set machine link layout laid lawful) placeable)
 
 -- and so are its live sections, and all owners
 pub laid_out_apart : WellFormedExactlyUnfaulted → LiveSectionsAreOwners → DefinedLayoutsAreSound → LaidOutMemoryIsDisjoint → LaidOutSectionsAreApart
-laid_out_apart exactly owners sound disjoint target link layout placeable lawful defined =
-    let good : IsWellFormed link = (laid_out exactly target link layout defined).good in
-    let found = sound target link layout lawful defined in
+laid_out_apart exactly owners sound disjoint machine link layout placeable lawful defined =
+    let good : IsWellFormed link = (laid_out exactly machine link layout defined).good in
+    let found = sound machine link layout lawful defined in
     let is : IsSound link found.0 layout = found.1 in
-    let memory : MemoryIsDisjoint link.plan layout.section_part_layouts = disjoint target link layout placeable lawful defined in
+    let memory : MemoryIsDisjoint link.plan layout.section_part_layouts = disjoint machine link layout placeable lawful defined in
     (found.0, is, sections_apart owners link found.0 layout good is.reached is.shown is.shared memory, owners_apart link found.0 layout is.shared memory)

@@ -21,7 +21,7 @@ use Rattle.lk_link.proofs.InputLemmas.{file_stands, files_from_are, inputs_follo
 use Rattle.lk_gc.specs.declared.live.Live.{Live}
 use Rattle.lk_gc.specs.Reach.{live_inputs}
 use Rattle.lk_sizes.specs.declared.addresses.LiveSection.{LiveSection}
-use Rattle.lk_sizes.specs.LiveSections.{live_section, live_sections}
+use Rattle.lk_sizes.specs.Addresses.{live_section, live_sections}
 use Rattle.lk_sizes.specs.Owners.{live_address}
 use Rattle.lk_layout.specs.declared.layout.Layout.{Layout}
 use Rattle.lk_layout.specs.declared.resolution.Resolution.{Resolution}

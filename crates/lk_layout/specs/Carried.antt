@@ -14,7 +14,6 @@ use Rattle.lk_link.specs.PlanSections.{is_set}
 use Rattle.lk_link.specs.Relocations.{wants_entry}
 use Rattle.lk_link.specs.Rules.{moves_location}
 use Rattle.lk_link.specs.SegmentKinds.{is_tls}
-use Rattle.lk_link.specs.SymbolPlacements.{is_common}
 use Rattle.lk_layout.specs.declared.error.Uncarried.{Uncarried}
 use Rattle.lk_layout.specs.declared.error.Uncarried.TheVariants as uncarried
 
@@ -43,7 +42,6 @@ is_special_plan plan =
 
 -- a file of the description has it
 abbrev pub file_has : Uncarried → InputFile → Bool
-file_has uncarried.Common f = list_any (λ x. is_common x.at) f.symbols
 file_has uncarried.Table f = list_any (λ s. list_any (λ r. wants_entry r.kind) s.relocs) f.sections
 file_has uncarried.Sorted f = list_any (λ s. s.sorted) f.sections
 file_has uncarried.Symbol f = is_internal f.kind && has_symbols f
@@ -62,7 +60,7 @@ has link what = any_file (file_has what) link
 -- the order in which it is looked for
 abbrev pub all_uncarried : List Uncarried
 all_uncarried =
-    uncarried.Common ∷ uncarried.Output ∷ uncarried.Table ∷ uncarried.Plan
+    uncarried.Output ∷ uncarried.Table ∷ uncarried.Plan
     ∷ uncarried.Partial ∷ uncarried.Sorted ∷ uncarried.Primary ∷ uncarried.Relax ∷ uncarried.Symbol ∷ []
 
 -- what is found first

@@ -7,7 +7,6 @@ use Rattle.lk_link.specs.declared.section.InputSection.{InputSection}
 use Rattle.lk_link.specs.OutputKinds.{is_loaded_dynamically, is_partial}
 use Rattle.lk_link.specs.PartRules.{names_table}
 use Rattle.lk_link.specs.Relocations.{wants_entry}
-use Rattle.lk_link.specs.SymbolPlacements.{is_common}
 use Rattle.lk_layout.specs.declared.error.Uncarried.{Uncarried}
 use Rattle.lk_layout.specs.declared.error.Uncarried.TheVariants as uncarried
 use Rattle.lk_layout.specs.Carried.{file_has, is_special_plan}
@@ -18,7 +17,7 @@ section_has_any s = s.sorted || list_any (λ r. wants_entry r.kind) s.relocs
 
 -- a file has anything that isn't laid out yet
 abbrev pub has_any : InputFile → Bool
-has_any f = file_has uncarried.Symbol f || list_any section_has_any f.sections || list_any (λ x. is_common x.at) f.symbols
+has_any f = file_has uncarried.Symbol f || list_any section_has_any f.sections
 
 -- the description has it outside its files
 abbrev pub has_outside : LinkInput → Uncarried → Bool

@@ -1,7 +1,7 @@
 -- The one answer of a link: the first refusal, in the order in which they are looked for, else the layout.
 use Rattle.std.specs.Prelude.{◌≡◌, ℕ, List, [], ◌∷◌, Option, Some, None, map, option_map, slice_get, Result, Ok, Err}
 use Rattle.lk_link.specs.declared.link.LinkInput.{LinkInput}
-use Rattle.lk_link.specs.Target.{Target}
+use Rattle.lk_link.specs.TableSizes.{Machine}
 use Rattle.lk_check.specs.FirstFault.{first_fault}
 use Rattle.lk_gc.specs.declared.error.ReferenceFault.{ReferenceFault}
 use Rattle.lk_gc.specs.declared.live.Live.{Live}
@@ -13,19 +13,22 @@ use Rattle.lk_merge.specs.LinkInputs.{link_inputs}
 use Rattle.lk_place.specs.declared.cursors.Cursors.{Cursors}
 use Rattle.lk_place.specs.Placement.{IsPlaced, placement_refusal}
 use Rattle.lk_place.specs.Records.{Record}
-use Rattle.lk_place.specs.Segments.{first_outside, outside_refusal, section_records, segment_layouts}
+use Rattle.lk_place.specs.declared.segments.SegmentFileLayout.TheVariants.{FromSections}
+use Rattle.lk_place.specs.Secondaries.{merge_refusal, merged_records}
+use Rattle.lk_place.specs.Segments.{section_records, segment_layouts, segments_refusal, thread_local_one}
 use Rattle.lk_place.specs.Setting.{Setting, setting_of}
 use Rattle.lk_sizes.specs.Attributes.{all_section_attributes, by_section}
 use Rattle.lk_sizes.specs.Contents.{size_refusal}
 use Rattle.lk_sizes.specs.Emitted.{active_segments, is_emitted, output_index}
 use Rattle.lk_sizes.specs.Images.{image_addresses}
-use Rattle.lk_sizes.specs.LiveSections.{section_addresses}
+use Rattle.lk_sizes.specs.Addresses.{section_addresses}
 use Rattle.lk_sizes.specs.Owners.{part_sizes}
 use Rattle.lk_layout.specs.declared.error.LayoutError.{LayoutError}
 use Rattle.lk_layout.specs.declared.error.LayoutError.TheVariants.{NoMemory, NotCarried, References}
 use Rattle.lk_layout.specs.declared.error.Uncarried.{Uncarried}
 use Rattle.lk_layout.specs.declared.layout.Layout.{Layout}
 use Rattle.lk_layout.specs.Carried.{first_uncarried}
+use Rattle.lk_layout.specs.Headers.{header_bytes}
 use Rattle.lk_layout.specs.Errors.{fault_error, offset_error, size_error, place_error}
 use Rattle.lk_layout.specs.Merging.{merging_refusal}
 use Rattle.lk_layout.specs.Outside.{merge_offsets}
@@ -66,20 +69,24 @@ offsets_refusal link live = option_map offset_error (slice_get (merge_offsets li
 abbrev pub sizes_refusal : LinkInput → Live → Option LayoutError
 sizes_refusal link live = option_map size_error (size_refusal link (output_content link live))
 
--- what is placed, for which machine, with the bytes of the parts; the headers' bytes and symbols' places aren't told yet, as what is
--- laid out asks for neither
-abbrev pub setting : Target → LinkInput → Live → Setting
-setting target link live = setting_of link target (part_sizes link (output_content link live)) 0 []
+-- what is placed, for which machine, with the bytes of the parts and of the headers; symbols' places aren't told yet, as nothing that is
+-- laid out asks for them
+abbrev pub setting : Machine → LinkInput → Live → Setting
+setting machine link live = setting_of link machine.target (part_sizes link (output_content link live)) (header_bytes machine link live) []
 
 -- an event that can't be carried out
-abbrev pub walk_refusal : Target → LinkInput → Live → List Cursors → List Record → Option LayoutError
-walk_refusal target link live states records = option_map place_error (placement_refusal (setting target link live) states records)
+abbrev pub walk_refusal : Machine → LinkInput → Live → List Cursors → List Record → Option LayoutError
+walk_refusal machine link live states records = option_map place_error (placement_refusal (setting machine link live) states records)
 
--- a section outside the segments
+-- a primary that its secondaries take past 64 bits
+abbrev pub joining_refusal : LinkInput → List Record → Option LayoutError
+joining_refusal link records = option_map place_error (merge_refusal link.plan.sections (section_records link.plan.sections records))
+
+-- a section outside the segments, or thread-local data that end past 64 bits
 abbrev pub segment_refusal : LinkInput → Live → List Record → Option LayoutError
 segment_refusal link live records =
-    let sections = section_records link.plan.sections records in
-    option_map place_error (outside_refusal (first_outside link sections (is_emitted link (output_content link live))))
+    let content = output_content link live in
+    option_map place_error (segments_refusal FromSections link (section_records link.plan.sections records) (is_emitted link content) (active_segments link content))
 
 -- ---- the layout
 
@@ -92,12 +99,15 @@ abbrev pub layout_of : LinkInput → Live → List Record → Layout
 layout_of link live records =
     let sections = section_records link.plan.sections records in
     let content = output_content link live in
+    let segments = segment_layouts FromSections link.plan link.options.stack sections (is_emitted link content) (active_segments link content) in
     record {
       section_layouts = sections;
+      merged_section_layouts = merged_records link.plan.sections sections;
       section_part_layouts = records;
       section_attributes = all_section_attributes link live;
       output_section_indexes = by_section (output_index link content) link;
-      segment_layouts = segment_layouts link.plan link.options.stack sections (is_emitted link content) (active_segments link content);
+      segment_layouts = segments;
+      tls_layout = option_map (λ l. l.sizes) (thread_local_one link.plan segments);
       live_marks = live.marks;
       section_addresses = section_addresses link content (starts_of records);
       merged_strings = (link_inputs link).outputs;
@@ -108,39 +118,40 @@ layout_of link live records =
 
 -- ---- the answer
 
--- behind the placement: the refusal of the segments, else that of offsets into merged data, else the layout
+-- behind the placement: the refusal of secondaries, else that of the segments, else that of offsets into merged data, else the layout
 abbrev pub IsPlacedAnswer : LinkInput → Live → List Record → Result Layout LayoutError → Type 0
 IsPlacedAnswer link live records answer =
-    Unless (segment_refusal link live records) answer
+    Unless (joining_refusal link records) answer
+    (Unless (segment_refusal link live records) answer
     (Unless (offsets_refusal link live) answer
-    (answer ≡ Ok (layout_of link live records)))
+    (answer ≡ Ok (layout_of link live records))))
 
 -- behind the sizes: the first refusal of the placement, and then
-abbrev pub IsSizedAnswer : Target → LinkInput → Live → Result Layout LayoutError → Type 0
-IsSizedAnswer target link live answer =
-    (states : List Cursors) × (records : List Record) × IsPlaced (setting target link live) states records
-    × Unless (walk_refusal target link live states records) answer (IsPlacedAnswer link live records answer)
+abbrev pub IsSizedAnswer : Machine → LinkInput → Live → Result Layout LayoutError → Type 0
+IsSizedAnswer machine link live answer =
+    (states : List Cursors) × (records : List Record) × IsPlaced (setting machine link live) states records
+    × Unless (walk_refusal machine link live states records) answer (IsPlacedAnswer link live records answer)
 
 -- of what is live: the part that overflows, and then
-abbrev pub IsLiveAnswer : Target → LinkInput → Live → Result Layout LayoutError → Type 0
-IsLiveAnswer target link live answer = Unless (sizes_refusal link live) answer (IsSizedAnswer target link live answer)
+abbrev pub IsLiveAnswer : Machine → LinkInput → Live → Result Layout LayoutError → Type 0
+IsLiveAnswer machine link live answer = Unless (sizes_refusal link live) answer (IsSizedAnswer machine link live answer)
 
 -- of a link that is merged: all references that can't be met, and then
-abbrev pub IsMergedAnswer : Target → LinkInput → Result Layout LayoutError → Type 0
-IsMergedAnswer target link answer =
+abbrev pub IsMergedAnswer : Machine → LinkInput → Result Layout LayoutError → Type 0
+IsMergedAnswer machine link answer =
     Unless (references_refusal link) answer
-    ((live : Live) × AreLive link live × IsLiveAnswer target link live answer)
+    ((live : Live) × AreLive link live × IsLiveAnswer machine link live answer)
 
 -- of a link of which all is laid out: what can't be merged, and then
-abbrev pub IsCarriedAnswer : Target → LinkInput → Result Layout LayoutError → Type 0
-IsCarriedAnswer target link answer = Unless (merging_refusal link) answer (IsMergedAnswer target link answer)
+abbrev pub IsCarriedAnswer : Machine → LinkInput → Result Layout LayoutError → Type 0
+IsCarriedAnswer machine link answer = Unless (merging_refusal link) answer (IsMergedAnswer machine link answer)
 
 -- the answer of a link: its first fault; else the first thing that isn't laid out yet; and then (libwild: `compute`)
-abbrev pub IsDefined : Target → LinkInput → Result Layout LayoutError → Type 0
-IsDefined target link answer =
+abbrev pub IsDefined : Machine → LinkInput → Result Layout LayoutError → Type 0
+IsDefined machine link answer =
     Unless (fault_refusal link) answer
     (Unless (uncarried_refusal link) answer
-    (IsCarriedAnswer target link answer))
+    (IsCarriedAnswer machine link answer))
 
 -- P holds of what a call answers, unless memory ran out
 abbrev pub WithMemory : (Result Layout LayoutError → Type 0) → Result Layout LayoutError → Type 0
@@ -148,5 +159,5 @@ WithMemory P (Err NoMemory) = Unit {0}
 WithMemory P answer = P answer
 
 -- what a call answers is the answer of the link, unless memory ran out
-abbrev pub Gives : Target → LinkInput → Result Layout LayoutError → Type 0
-Gives target link answer = WithMemory (IsDefined target link) answer
+abbrev pub Gives : Machine → LinkInput → Result Layout LayoutError → Type 0
+Gives machine link answer = WithMemory (IsDefined machine link) answer

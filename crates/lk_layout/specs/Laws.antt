@@ -3,7 +3,7 @@ use Rattle.std.specs.Prelude.{◌≡◌, ℕ, ◌<◌, true, false, [], Result, 
 use Rattle.lk_link.specs.declared.link.LinkInput.{LinkInput}
 use Rattle.lk_link.specs.Inside.{is_open}
 use Rattle.lk_link.specs.PlanSections.{is_allocated, is_file_backed}
-use Rattle.lk_link.specs.Target.{IsLawful, Target}
+use Rattle.lk_link.specs.TableSizes.{Machine}
 use Rattle.lk_link.specs.WellFormed.{IsWellFormed}
 use Rattle.lk_gc.specs.declared.live.Live.{Live}
 use Rattle.lk_gc.specs.Faults.{reference_faults}
@@ -15,36 +15,37 @@ use Rattle.lk_layout.specs.declared.error.LayoutError.{LayoutError}
 use Rattle.lk_layout.specs.declared.layout.Layout.{Layout}
 use Rattle.lk_layout.specs.Carried.{IsCarried}
 use Rattle.lk_layout.specs.Defined.{IsDefined}
+use Rattle.lk_layout.specs.Machines.{IsLawfulMachine}
 use Rattle.lk_layout.specs.Sound.{IsSound, LiveSectionsAreApart, OwnersAreApart, SymbolsStandInLiveSections}
 
 -- every link has a defined answer
 abbrev pub DefinedAnswerExists : Type 0
-DefinedAnswerExists = (target : Target) (link : LinkInput) → (answer : Result Layout LayoutError) × IsDefined target link answer
+DefinedAnswerExists = (machine : Machine) (link : LinkInput) → (answer : Result Layout LayoutError) × IsDefined machine link answer
 
 -- it is one
 abbrev pub DefinedAnswerIsOne : Type 0
-DefinedAnswerIsOne = (target : Target) (link : LinkInput) (a b : Result Layout LayoutError)
-    → IsDefined target link a → IsDefined target link b → a ≡ b
+DefinedAnswerIsOne = (machine : Machine) (link : LinkInput) (a b : Result Layout LayoutError)
+    → IsDefined machine link a → IsDefined machine link b → a ≡ b
 
 -- a link that has a layout is well formed
 abbrev pub LaidOutLinksAreWellFormed : Type 0
-LaidOutLinksAreWellFormed = (target : Target) (link : LinkInput) (layout : Layout) → IsDefined target link (Ok layout) → IsWellFormed link
+LaidOutLinksAreWellFormed = (machine : Machine) (link : LinkInput) (layout : Layout) → IsDefined machine link (Ok layout) → IsWellFormed link
 
 -- a defined layout is sound
 abbrev pub DefinedLayoutsAreSound : Type 0
-DefinedLayoutsAreSound = (target : Target) (link : LinkInput) (layout : Layout)
-    → IsLawful target → IsDefined target link (Ok layout) → (live : Live) × IsSound link live layout
+DefinedLayoutsAreSound = (machine : Machine) (link : LinkInput) (layout : Layout)
+    → IsLawfulMachine machine → IsDefined machine link (Ok layout) → (live : Live) × IsSound link live layout
 
 -- under a plan in which nothing moves, the memory of a defined layout is disjoint, also if the plan isn't plain
 abbrev pub LaidOutMemoryIsDisjoint : Type 0
-LaidOutMemoryIsDisjoint = (target : Target) (link : LinkInput) (layout : Layout) → IsUnmoved link.plan link.options.output
-    → IsLawful target → IsDefined target link (Ok layout) → MemoryIsDisjoint link.plan layout.section_part_layouts
+LaidOutMemoryIsDisjoint = (machine : Machine) (link : LinkInput) (layout : Layout) → IsUnmoved link.plan link.options.output
+    → IsLawfulMachine machine → IsDefined machine link (Ok layout) → MemoryIsDisjoint link.plan layout.section_part_layouts
 
 -- and so are its live sections, and the owners of its parts: nor does an image share an address with a live section, or with another
 -- image
 abbrev pub LaidOutSectionsAreApart : Type 0
-LaidOutSectionsAreApart = (target : Target) (link : LinkInput) (layout : Layout) → IsUnmoved link.plan link.options.output
-    → IsLawful target → IsDefined target link (Ok layout)
+LaidOutSectionsAreApart = (machine : Machine) (link : LinkInput) (layout : Layout) → IsUnmoved link.plan link.options.output
+    → IsLawfulMachine machine → IsDefined machine link (Ok layout)
     → (live : Live) × IsSound link live layout × LiveSectionsAreApart link live layout × OwnersAreApart link live layout
 
 -- a link of which all is laid out has a placeable plan

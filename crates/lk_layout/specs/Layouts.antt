@@ -2,7 +2,7 @@
 use Rattle.std.specs.Prelude.{ℕ, List, Option, Result}
 use Rattle.lk_link.specs.declared.link.LinkInput.{LinkInput}
 use Rattle.lk_sizes.specs.declared.addresses.LiveSection.{LiveSection}
-use Rattle.lk_sizes.specs.LiveSections.{told_sections}
+use Rattle.lk_sizes.specs.Addresses.{told_sections}
 use Rattle.lk_layout.specs.declared.layout.Layout.{Layout}
 use Rattle.lk_layout.specs.declared.resolution.EntryFault.{EntryFault}
 use Rattle.lk_layout.specs.Resolutions.{entry_address}

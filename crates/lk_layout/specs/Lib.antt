@@ -2,9 +2,11 @@ pub mod Carried
 pub mod CarriedWords
 pub mod Defined
 pub mod Errors
+pub mod Headers
 pub mod Kept
 pub mod Laws
 pub mod Layouts
+pub mod Machines
 pub mod Merging
 pub mod OutputContent
 pub mod Outside

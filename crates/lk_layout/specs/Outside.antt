@@ -1,7 +1,6 @@
 -- Offsets that are chosen outside the data of merged sections: at its end, or past it.
-use Rattle.std.specs.Prelude.{◌≡◌, ℕ, ℤ, ◌==◌, ◌&&◌, not, Bool, false, if◌then◌else◌, List, [], ◌∷◌, ◌++◌, Some, Result, Ok, Err, length, nat_lt, pos}
+use Rattle.std.specs.Prelude.{◌≡◌, ℕ, ◌==◌, ◌&&◌, not, Bool, if◌then◌else◌, List, [], ◌∷◌, ◌++◌, Some, Result, Ok, Err}
 use Rattle.std.specs.List.{enumerate_from, flat_map, slice_get}
-use Rattle.std.specs.Option.{option_map_or}
 use Rattle.lk_link.specs.declared.link.LinkInput.{LinkInput}
 use Rattle.lk_link.specs.declared.relocation.Relocation.{Relocation}
 use Rattle.lk_link.specs.declared.section.InputSection.{InputSection}
@@ -12,27 +11,15 @@ use Rattle.lk_link.specs.Marks.{is_marked}
 use Rattle.lk_link.specs.Relocations.{resolution_flags}
 use Rattle.lk_link.specs.Symbols.{first_symbol}
 use Rattle.lk_gc.specs.declared.live.Live.{Live}
-use Rattle.lk_gc.specs.Units.{local_definition}
-use Rattle.lk_merge.specs.OutputAddresses.{MergePlace, plus_addend, symbol_place}
+use Rattle.lk_reach.specs.Units.{local_definition}
+use Rattle.lk_merge.specs.OffsetsOutside.{refers_outside, stands_outside}
 use Rattle.lk_layout.specs.declared.outside.MergeOffsetPlace.{MergeOffsetPlace}
 use Rattle.lk_layout.specs.declared.outside.MergeOffsetPlace.TheVariants.{OfRelocation, OfSymbol}
 use Rattle.lk_layout.specs.Resolutions.{flags_at, is_resolved}
 
--- the offset that a reference to a place in a merged section chooses: of a named symbol its own; of an unnamed one that, moved by the addend
-abbrev pub chosen_offset : MergePlace → ℤ → ℕ
-chosen_offset place addend = if place.named then place.offset else plus_addend place.offset addend
-
--- whether it isn't inside the section's data
-abbrev pub chooses_outside : ℤ → MergePlace → Bool
-chooses_outside addend place = not (nat_lt (chosen_offset place addend) (length place.section.bytes))
-
 -- ---- symbols
 
--- whether a symbol is placed outside the data of a merged section: a named one; an unnamed one's value is 0
-abbrev pub stands_outside : LinkInput → ℕ → Bool
-stands_outside link s = option_map_or (λ place. place.named && chooses_outside (pos 0) place) (symbol_place link.groups s) false
-
--- a symbol with its number, where it has a resolution and is placed so
+-- a symbol with its number, where it has a resolution and is placed outside the data of a merged section
 abbrev pub symbol_outside : LinkInput → Live → ℕ × InputSymbol → List MergeOffsetPlace
 symbol_outside link live q =
     if is_resolved q.0 q.1 (flags_at live.flags q.0) && stands_outside link q.0 then OfSymbol q.0 ∷ [] else []
@@ -43,11 +30,7 @@ symbols_outside link live f = flat_map (symbol_outside link live) (enumerate_fro
 
 -- ---- relocations
 
--- whether a reference to a symbol, with an addend, chooses an offset outside the data of a merged section
-abbrev pub refers_outside : LinkInput → ℕ → ℤ → Bool
-refers_outside link s addend = option_map_or (chooses_outside addend) (symbol_place link.groups s) false
-
--- a relocation with its index, where it refers to what stands for its symbol, and that outside
+-- a relocation with its index, where it refers to what stands for its symbol, and chooses an offset outside the data of a merged section
 abbrev pub relocation_outside : LinkInput → NumberedFile → ℕ → ℕ × Relocation → List MergeOffsetPlace
 relocation_outside link f section q =
     if not (resolution_flags q.1.kind == 0)

@@ -19,7 +19,7 @@ use Rattle.lk_link.specs.Symbols.{definition_of, first_symbol}
 use Rattle.lk_gc.specs.declared.live.Live.{Live}
 use Rattle.lk_merge.specs.OutputAddresses.{MergePlace, address_in, symbol_place}
 use Rattle.lk_sizes.specs.Images.{image_addresses}
-use Rattle.lk_sizes.specs.Owners.{live_address}
+use Rattle.lk_sizes.specs.Owners.{common_address, live_address}
 use Rattle.lk_layout.specs.declared.resolution.EntryFault.{EntryFault}
 use Rattle.lk_layout.specs.declared.resolution.EntryFault.TheVariants.{NotAnAddress, NotLoaded}
 use Rattle.lk_layout.specs.declared.resolution.Resolution.{Resolution}
@@ -51,19 +51,26 @@ merged_value link images s = option_map_or (value_at link images) (symbol_place 
 
 -- ---- values
 
--- what values go by: the addresses at offsets of live input sections, and the values of symbols in merged sections
+-- what values go by: the addresses at offsets of live input sections, those of commons by part and symbol, and the values of symbols in
+-- merged sections
 pub record Places : Type 0 where
   pub live : ℕ → ℕ → Option ℕ
+  pub common : ℕ → ℕ → ℕ
   pub merged : ℕ → ℕ
 
 -- those of a link, by where its parts start
 abbrev pub places_of : LinkInput → Live → List ℕ → Places
-places_of link live starts = record { live = address_at link live starts; merged = merged_value link (images_at link live starts) }
+places_of link live starts = record {
+  live = address_at link live starts;
+  common = common_address link (output_content link live) starts;
+  merged = merged_value link (images_at link live starts);
+}
 
 -- the value of a placement in an object or a dynamic file, of the symbol s; `first` is the number of the object's first input section: a place in a live
 -- section, or in a merged one; or a number; 0 for what is defined nowhere
 abbrev pub placed_value : Places → ℕ → ℕ → SymbolPlacement → ℕ
 placed_value places first s (at.Section index offset) = unwrap_or (places.live (first + index) offset) (places.merged s)
+placed_value places first s (at.Common p size) = places.common p s
 placed_value places first s (at.Absolute n) = n
 placed_value places first s _ = 0
 

@@ -1,5 +1,5 @@
 -- What a layout keeps apart, and what it keeps in step.
-use Rattle.std.specs.Prelude.{◌≡◌, ◌≢◌, ◌⊎◌, [], List, ℕ, ◌+◌, ◌%◌, ◌<◌, ◌≤◌, ◌==◌, true, false, if◌then◌else◌, Some, Ok, length, option_map, slice_get, slice_index}
+use Rattle.std.specs.Prelude.{◌≡◌, ◌≢◌, ◌⊎◌, [], List, ℕ, ◌+◌, ◌%◌, ◌<◌, ◌≤◌, ◌==◌, true, false, if◌then◌else◌, Some, None, Ok, length, option_map, slice_get, slice_index}
 use Rattle.std.specs.Int.{◌∣◌}
 use Rattle.lk_link.specs.declared.file.InputFile.{InputFile}
 use Rattle.lk_link.specs.declared.ids.FileId.{FileId}
@@ -13,32 +13,36 @@ use Rattle.lk_link.specs.Files.{file_in}
 use Rattle.lk_link.specs.Inputs.{Input, input_number}
 use Rattle.lk_link.specs.InputSlots.{is_merge, is_regular}
 use Rattle.lk_link.specs.Marks.{is_marked}
-use Rattle.lk_link.specs.Parts.{all_parts, part_at}
+use Rattle.lk_link.specs.Parts.{all_parts, part_at, part_sections}
 use Rattle.lk_link.specs.PlanSections.{is_file_backed}
 use Rattle.lk_link.specs.Relocations.{resolution_flags}
 use Rattle.lk_link.specs.Symbols.{first_symbol}
 use Rattle.lk_gc.specs.declared.live.Live.{Live}
 use Rattle.lk_gc.specs.Faults.{reference_faults}
 use Rattle.lk_gc.specs.Reach.{AreLive, live_inputs}
-use Rattle.lk_gc.specs.Units.{local_definition, section_of}
+use Rattle.lk_reach.specs.Units.{local_definition, section_of}
 use Rattle.lk_merge.specs.Addresses.{AreStartsOf, image_start}
 use Rattle.lk_merge.specs.Hash.{fnv64}
 use Rattle.lk_merge.specs.Image.{all_pieces, image, image_place, is_among}
-use Rattle.lk_merge.specs.LinkInputs.{link_inputs, merge_input, merge_inputs, part_sections}
-use Rattle.lk_merge.specs.OutputAddresses.{MergePlace, Shows, merged_address, offset_place, output_of, plus_addend, symbol_place}
+use Rattle.lk_merge.specs.LinkInputs.{link_inputs, merge_input, merge_inputs}
+use Rattle.lk_merge.specs.OutputAddresses.{MergePlace, Shows, chosen_offset, merged_address, offset_place, output_of, plus_addend, symbol_place}
 use Rattle.lk_merge.specs.Pieces.{Piece, MergeInput}
 use Rattle.lk_place.specs.Plain.{IsPlain, PlacesInLoad}
 use Rattle.lk_place.specs.Ranges.{FileIsDisjoint, HasPart, MemoryIsDisjoint, TakesMemory}
 use Rattle.lk_place.specs.Records.{Record, record_at}
-use Rattle.lk_place.specs.Segments.{alignment_inside}
+use Rattle.lk_place.specs.declared.segments.SegmentFileLayout.TheVariants.{FromSections}
+use Rattle.lk_place.specs.Secondaries.{merged_records}
+use Rattle.lk_place.specs.Segments.{alignment_inside, first_outside, section_records, segment_layouts, thread_local_one}
 use Rattle.lk_sizes.specs.declared.addresses.LiveSection.{LiveSection}
-use Rattle.lk_sizes.specs.LiveSections.{live_sections}
-use Rattle.lk_sizes.specs.Owners.{ImageOwner, bytes_of, owners_of}
+use Rattle.lk_sizes.specs.Attributes.{all_section_attributes, by_section}
+use Rattle.lk_sizes.specs.Emitted.{active_segments, is_emitted, output_index}
+use Rattle.lk_sizes.specs.Addresses.{live_sections}
+use Rattle.lk_sizes.specs.Owners.{CommonOwner, ImageOwner, IsCommonIn, bytes_of, owner_address, owners_of}
 use Rattle.lk_sizes.specs.Tiles.{HasByte, IsTiled}
 use Rattle.lk_layout.specs.declared.layout.Layout.{Layout}
 use Rattle.lk_layout.specs.Defined.{starts_of}
 use Rattle.lk_layout.specs.Layouts.{told_live}
-use Rattle.lk_layout.specs.Outside.{chosen_offset, merge_offsets}
+use Rattle.lk_layout.specs.Outside.{merge_offsets}
 use Rattle.lk_layout.specs.Resolutions.{entry_symbol, flags_at, is_resolved, resolution_at, symbol_resolutions}
 use Rattle.lk_layout.specs.OutputContent.{output_content}
 
@@ -109,6 +113,23 @@ ValuesAreInLiveSections link live layout = (id : FileId) (file : InputFile) (i o
     → slice_get file.sections i ≡ Some section → is_merge section.slot ≡ false → (l : LiveSection) × IsToldOf link layout id i l
     × (option_map (λ r. r.raw_value) (resolution_at layout.symbol_resolutions (first_symbol link.groups id + s.index)) ≡ Some (l.address + offset))
 
+-- ---- commons
+
+-- a common of a part, so many bytes large, is an owner of bytes there, and its symbol has the address of these as its value; that is a
+-- multiple of the part's alignment, if there are any bytes and the part isn't packed
+pub record IsCommonAt (link : LinkInput) (live : Live) (layout : Layout) (p s size : ℕ) : Type 0 where
+  pub part : p < length (all_parts link.plan.sections)
+  pub number : ℕ
+  pub owner : slice_get (owners_of link (output_content link live) p) number ≡ Some (CommonOwner s size)
+  pub address : ℕ
+  pub at : address ≡ owner_address (part_record layout p).mem_offset (part_at link.plan.sections p) (owners_of link (output_content link live) p) number
+  pub valued : option_map (λ r. r.raw_value) (resolution_at layout.symbol_resolutions s) ≡ Some address
+  pub aligned : 0 < size → (part_at link.plan.sections p).packed ≡ false → (part_at link.plan.sections p).alignment ∣ address
+
+-- so stands each common that has a resolution
+abbrev pub CommonsStand : LinkInput → Live → Layout → Type 0
+CommonsStand link live layout = (p s size : ℕ) → IsCommonIn link live p s size → IsCommonAt link live layout p s size
+
 -- ---- merged data
 
 -- the image of merged inputs is the first owner of a part of their output section, which has alignment 1, and starts with it; each of
@@ -116,6 +137,7 @@ ValuesAreInLiveSections link live layout = (id : FileId) (file : InputFile) (i o
 -- offset to its piece's end
 pub record IsImageAt (link : LinkInput) (live : Live) (layout : Layout) (s : ℕ) (inputs : List MergeInput) : Type 0 where
   pub part : ℕ
+  pub there : part < length (all_parts link.plan.sections)
   pub belongs : slice_index (part_sections link.plan.sections) part ≡ s
   pub alignment : (part_at link.plan.sections part).alignment ≡ 1
   pub owner : slice_get (owners_of link (output_content link live) part) 0 ≡ Some (ImageOwner s (length (image fnv64 (all_pieces inputs))))
@@ -175,6 +197,22 @@ OwnersAreApart link live layout = (p q j k address : ℕ) → p < length (all_pa
     → HasByte (part_record layout q).mem_offset (part_at link.plan.sections q) (owners_of link (output_content link live) q) k address
     → (p ≡ q) × (j ≡ k)
 
+-- ---- outputs
+
+-- what is told of output sections and segments: each section spans its parts, and a primary its
+-- secondaries besides; it has the attributes of the plan and of what went into it, and
+-- its place among the emitted ones as its index; the active segments are told, each with what it spans, and the thread-local one by itself; and no section that is allocated
+-- stands outside them where it may not
+pub record AreOutputsTold (link : LinkInput) (live : Live) (layout : Layout) : Type 0 where
+  pub sections : layout.section_layouts ≡ section_records link.plan.sections layout.section_part_layouts
+  pub joined : layout.merged_section_layouts ≡ merged_records link.plan.sections layout.section_layouts
+  pub attributes : layout.section_attributes ≡ all_section_attributes link live
+  pub indexes : layout.output_section_indexes ≡ by_section (output_index link (output_content link live)) link
+  pub segments : layout.segment_layouts ≡ segment_layouts FromSections link.plan link.options.stack layout.section_layouts
+      (is_emitted link (output_content link live)) (active_segments link (output_content link live))
+  pub thread_local : layout.tls_layout ≡ option_map (λ l. l.sizes) (thread_local_one link.plan layout.segment_layouts)
+  pub covered : first_outside link layout.section_layouts (is_emitted link (output_content link live)) ≡ None
+
 -- ---- all
 
 -- what holds of the memory of a layout under a plain plan: no two parts share an address, nor do two live sections, nor an
@@ -188,8 +226,8 @@ pub record IsSoundInMemory (link : LinkInput) (live : Live) (layout : Layout) : 
 -- a sound layout: all references are met; the live sections are those that are reached, each where its part's owners let it
 -- stand, aligned; what is merged is all that the link has to merge, with the starts of its buckets, each image stands in a part, with its
 -- pieces apart, and shows its inputs, nothing refers outside their data, and references into it have addresses that show what they choose; each symbol that is asked for stands for a place in a live section, at its address, or
--- in merged data, or for a number; each byte of a part has one owner; no two parts share a byte of the file; and under a plain plan the
--- same holds of memory
+-- in merged data, or for a number, or is a common, at the address of its bytes in a part; output sections, their indexes and attributes, and segments are told as they are; each byte of a part
+-- has one owner; no two parts share a byte of the file; and under a plain plan the same holds of memory
 pub record IsSound (link : LinkInput) (live : Live) (layout : Layout) : Type 0 where
   pub met : reference_faults link ≡ []
   pub reached : AreLive link live
@@ -203,7 +241,9 @@ pub record IsSound (link : LinkInput) (live : Live) (layout : Layout) : Type 0 w
   pub resolved : layout.symbol_resolutions ≡ symbol_resolutions link live (starts_of layout.section_part_layouts)
   pub placed : SymbolsStandInLiveSections link live
   pub valued : ValuesAreInLiveSections link live layout
+  pub commons : CommonsStand link live layout
   pub entered : layout.entry_symbol_id ≡ entry_symbol link
+  pub outputs : AreOutputsTold link live layout
   pub aligned : LiveSectionsAreAligned link live layout
   pub shared : (p : ℕ) → p < length (all_parts link.plan.sections) → IsSharedOut link live layout p
   pub file : FileIsDisjoint layout.section_part_layouts

@@ -1,7 +1,9 @@
 -- What the code goes by: places by marks and a table of addresses, and the room behind them. Contracts of private functions speak
 -- of this.
-use Rattle.std.specs.Prelude.{◌≡◌, ℕ, ◌+◌, ◌<◌, ◌^◌, Bool, true, if◌then◌else◌, List, All, Option, Some, None, Result, Ok, Err, unwrap_or}
+use Rattle.std.specs.Prelude.{◌≡◌, ℕ, ◌+◌, ◌<◌, ◌^◌, Bool, true, if◌then◌else◌, List, All, Option, Some, None, Result, Ok, Err, ◌==◌, find, slice_get, unwrap_or}
 use Rattle.std.specs.List.{slice_index_or}
+use Rattle.std.specs.Option.{option_map_or}
+use Rattle.lk_sizes.specs.declared.addresses.CommonAddress.{CommonAddress}
 use Rattle.lk_link.specs.declared.file.InputFile.{InputFile}
 use Rattle.lk_link.specs.declared.ids.FileId.{FileId}
 use Rattle.lk_link.specs.declared.symbol.SymbolPlacement.{SymbolPlacement}
@@ -43,6 +45,18 @@ abbrev pub found_or_0 : Result (Option ℕ) OffsetPastEnd → ℕ
 found_or_0 (Ok address) = unwrap_or address 0
 found_or_0 (Err e) = 0
 
+-- the address that a table has for the common with this symbol; 0 where it has none
+abbrev pub common_in : List CommonAddress → ℕ → ℕ
+common_in commons s = option_map_or (λ c. c.address) (find (λ c. c.symbol == s) commons) 0
+
+-- the commons of a table stand in the order of their symbols
+abbrev pub AreRising : List CommonAddress → Type 0
+AreRising commons = (j k : ℕ) (c d : CommonAddress) → j < k → slice_get commons j ≡ Some c → slice_get commons k ≡ Some d → c.symbol < d.symbol
+
 -- what values go by, by marks and tables
-abbrev pub places_in : List Bool → List ℕ → LinkInput → List ℕ → Places
-places_in marks addresses link starts = record { live = place_in marks addresses; merged = merged_value link (image_start starts) }
+abbrev pub places_in : List Bool → List ℕ → List CommonAddress → LinkInput → List ℕ → Places
+places_in marks addresses commons link starts = record {
+  live = place_in marks addresses;
+  common = λ p s. common_in commons s;
+  merged = merged_value link (image_start starts);
+}

@@ -16,7 +16,6 @@ use Rattle.lk_layout.specs.declared.outside.MergeOffsetPlace.TheVariants.{OfRelo
 
 -- what isn't laid out yet, in a word
 unfoldable pub uncarried_text : Uncarried → List ℕ
-uncarried_text uncarried.Common = codes "common"
 uncarried_text uncarried.Output = codes "output"
 uncarried_text uncarried.Table = codes "table"
 uncarried_text uncarried.Plan = codes "plan"

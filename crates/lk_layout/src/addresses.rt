@@ -9,7 +9,7 @@ ghost use Rattle.lk_merge.specs.Addresses.{start_addresses};
 ghost use Rattle.lk_merge.specs.Hash.{fnv64};
 ghost use Rattle.lk_merge.specs.LinkInputs.{link_inputs};
 ghost use Rattle.lk_sizes.specs.Images.{image_addresses};
-ghost use Rattle.lk_sizes.specs.LiveSections.{section_addresses};
+ghost use Rattle.lk_sizes.specs.Addresses.{section_addresses};
 ghost use Rattle.lk_sizes.specs.Contents.{part_contents};
 ghost use Rattle.lk_sizes.specs.Owners.{part_size};
 ghost use Rattle.lk_layout.specs.OutputContent.{output_content};
@@ -26,7 +26,7 @@ use lk_gc::Live;
 use lk_link::LinkInput;
 use lk_merge::MergedStringStartAddresses;
 use lk_place::OutputRecordLayout;
-use lk_sizes::{PartContents, image_addresses, section_addresses};
+use lk_sizes::{OwnerAddresses, PartContents, image_addresses, owner_addresses};
 use std::alloc::{AllocError, Global};
 
 /// The addresses of a layout.
@@ -65,13 +65,15 @@ pub(crate) fn addresses_of(
     ensures resolutions { IfOk result (λ told. told.resolutions ≡ symbol_resolutions link.now live.now (starts_of parts.now)) }
 {
     let starts = starts_of(alloc, parts)?;
-    let sections = section_addresses(alloc, link, live, &images.lens, contents, &starts)?;
+    let owners = owner_addresses(alloc, link, live, &images.lens, contents, &starts)?;
+    let OwnerAddresses { sections, commons } = owners;
     let places = image_addresses(alloc, link, contents, &starts)?;
     let merged = images.sections.as_slice();
     let buckets = MergedStringStartAddresses::compute(alloc, merged, &places)?;
     let tables = Tables {
         marks: live.marks.as_slice(),
         addresses: sections.as_slice(),
+        commons: commons.as_slice(),
         flags: live.flags.as_slice(),
     };
     let merged = Merged {

@@ -10,7 +10,6 @@ ghost use Rattle.lk_link.specs.PartRules.{names_table};
 ghost use Rattle.lk_link.specs.Relocations.{wants_entry};
 ghost use Rattle.lk_link.specs.Rules.{moves_location};
 ghost use Rattle.lk_link.specs.SegmentKinds.{is_tls};
-ghost use Rattle.lk_link.specs.SymbolPlacements.{is_common};
 ghost use Rattle.lk_layout.specs.CarriedWords.{has_any, has_outside, section_has_any};
 ghost use Rattle.lk_layout.specs.Carried.{all_uncarried, any_file, file_has, first_uncarried, has, is_special_plan, is_special_section};
 
@@ -21,8 +20,7 @@ use lk_link::plan::{OrderEvent, Plan, PlanSection, PlanSegment, attributes};
 use lk_link::section::InputSection;
 
 /// What is looked for, in this order.
-const ALL_UNCARRIED: [Uncarried; 9] = [
-    Uncarried::Common,
+const ALL_UNCARRIED: [Uncarried; 8] = [
     Uncarried::Output,
     Uncarried::Table,
     Uncarried::Plan,
@@ -99,7 +97,7 @@ fn any_of_group_has_any(files: &[InputFile]) -> bool
 fn has_any(file: &InputFile) -> bool
     ensures { result ≡ has_any file.now }
 {
-    file_has(file, Uncarried::Symbol) || any_section_has_any(file) || has_common(file)
+    file_has(file, Uncarried::Symbol) || any_section_has_any(file)
 }
 
 /// Whether a section of a file has anything that isn't laid out yet.
@@ -194,22 +192,11 @@ fn file_has(file: &InputFile, what: Uncarried) -> bool
     ensures { result ≡ file_has what file.now }
 {
     match what {
-        Uncarried::Common => has_common(file),
         Uncarried::Table => has_entry(file),
         Uncarried::Sorted => has_sorted(file),
         Uncarried::Symbol => file.kind.is_internal() && !file.symbols.is_empty(),
         _ => false,
     }
-}
-
-/// Whether a symbol is common.
-fn has_common(file: &InputFile) -> bool
-    ensures { result ≡ list_any (λ x. is_common x.at) file.now.symbols }
-{
-    file.symbols
-        .as_slice()
-        .iter()
-        .any(|symbol| symbol.at.is_common())
 }
 
 /// Whether a relocation wants an entry of a table.

@@ -11,21 +11,24 @@ ghost use Rattle.lk_link.specs.Parts.{all_parts};
 ghost use Rattle.lk_link.specs.WellFormed.{IsWellFormed};
 ghost use Rattle.lk_place.specs.Records.{record_at};
 ghost use Rattle.lk_place.specs.Segments.{section_records};
-ghost use Rattle.lk_link.specs.Target.{platform_target};
+ghost use Rattle.lk_link.specs.Marks.{is_marked};
 ghost use Rattle.lk_sizes.specs.Contents.{part_contents};
-ghost use Rattle.lk_sizes.specs.Owners.{AreFirstSizes, part_size};
+ghost use Rattle.lk_sizes.specs.Emitted.{is_emitted};
+ghost use Rattle.lk_sizes.specs.Header.{header_info};
+ghost use Rattle.lk_sizes.specs.Owners.{part_size};
 ghost use Rattle.lk_layout.specs.OutputContent.{output_content};
 ghost use Rattle.lk_layout.specs.Carried.{IsCarried};
 ghost use Rattle.lk_layout.specs.Defined.{Gives, IsCarriedAnswer, IsLiveAnswer, IsMergedAnswer, IsPlacedAnswer, WithMemory};
+ghost use Rattle.lk_layout.specs.Machines.{platform_machine};
 ghost use Rattle.lk_layout.specs.Merging.{AreImages};
 
 use crate::addresses::addresses_of;
 use crate::arch::Arch;
 use crate::carried::first_uncarried;
 use crate::error::LayoutError;
+use crate::headers::header_bytes;
 use crate::images::{Images, merge_images};
 use crate::layout::Layout;
-use crate::merged::Merged;
 use crate::outside::check_offsets;
 use crate::resolution::entry_symbol;
 use lk_check::check_link;
@@ -35,10 +38,14 @@ use lk_link::link::LinkInput;
 use lk_link::list::List;
 use lk_link::platform::Platform;
 use lk_place::laws::parts_take_their_bytes;
-use lk_place::{Placed, SymbolPositions, compute_layout_sections, compute_segment_layout};
+use lk_place::{
+    Placed, SegmentFileLayout, SymbolPositions, compute_layout_sections, compute_segment_layout,
+    merge_secondary_parts,
+};
 use lk_sizes::laws::first_sizes_are_sizes;
 use lk_sizes::{
-    PartContents, determine_header_sizes, part_contents, part_sizes, propagate_section_attributes,
+    HeaderInfo, PartContents, determine_header_sizes, part_contents, part_sizes,
+    propagate_section_attributes,
 };
 use std::alloc::Global;
 use std::sync::Wait;
@@ -52,7 +59,7 @@ pub fn compute_alone<'data, P: Platform, A: Arch>(
     platform: &P,
     _arch: &A,
 ) -> Result<Layout<'data>, LayoutError>
-    ensures { Gives (platform_target (P.segment_start platform.now)) link.now result }
+    ensures { Gives (platform_machine (P.segment_start platform.now) (P.table_sizes platform.now)) link.now result }
 {
     check_link(link)?;
     match first_uncarried(link) {
@@ -69,7 +76,7 @@ fn lay_out<'data, P: Platform>(
 ) -> Result<Layout<'data>, LayoutError>
     requires good { IsWellFormed link.now }
     requires carried { IsCarried link.now }
-    ensures { WithMemory (IsCarriedAnswer (platform_target (P.segment_start platform.now)) link.now) result }
+    ensures { WithMemory (IsCarriedAnswer (platform_machine (P.segment_start platform.now) (P.table_sizes platform.now)) link.now) result }
 {
     let images = merge_images(alloc, link)?;
     lay_out_merged(alloc, link, images, platform)
@@ -85,7 +92,7 @@ fn lay_out_merged<'data, P: Platform>(
     requires good { IsWellFormed link.now }
     requires carried { IsCarried link.now }
     requires images { AreImages link.now images }
-    ensures { WithMemory (IsMergedAnswer (platform_target (P.segment_start platform.now)) link.now) result }
+    ensures { WithMemory (IsMergedAnswer (platform_machine (P.segment_start platform.now) (P.table_sizes platform.now)) link.now) result }
 {
     let live = traverse_alone(alloc, link)?;
     lay_out_live(alloc, link, images, live, platform)
@@ -103,28 +110,32 @@ fn lay_out_live<'data, P: Platform>(
     requires carried { IsCarried link.now }
     requires images { AreImages link.now images }
     requires live { AreLive link.now live }
-    ensures { WithMemory (IsLiveAnswer (platform_target (P.segment_start platform.now)) link.now live) result }
+    ensures { WithMemory (IsLiveAnswer (platform_machine (P.segment_start platform.now) (P.table_sizes platform.now)) link.now live) result }
 {
     let contents = part_contents(alloc, link, &live, &images.lens)?;
     let sizes = part_sizes(alloc, contents.as_slice())?;
-    // What is laid out asks for no place of a symbol and for no headers.
-    let positions = SymbolPositions::new(List::new(alloc));
-    let placed = compute_layout_sections(alloc, link, &sizes, &positions, 0, platform)?;
-    // Laws, which do nothing: the parts end where their owners do, and the sizes so far are those that tell what is emitted.
-    parts_take_their_bytes();
+    // A law, which does nothing: the sizes so far are those that tell what is emitted.
     first_sizes_are_sizes();
+    let header = determine_header_sizes(alloc, link, &live, &sizes)?;
+    let headers = header_bytes(link, platform, &header);
+    // What is laid out asks for no place of a symbol.
+    let positions = SymbolPositions::new(List::new(alloc));
+    let placed = compute_layout_sections(alloc, link, &sizes, &positions, headers, platform)?;
+    // A law, which does nothing: the parts end where their owners do.
+    parts_take_their_bytes();
     lay_out_placed(
         alloc,
         link,
         images,
         live,
         contents.as_slice(),
-        &sizes,
+        header,
         placed,
     )
 }
 
-/// The layout of a link that is placed, by the first sizes of its parts: headers, segments, attributes, addresses, and what
+/// The layout of a link that is placed, of which it is known what its headers tell: primaries with their secondaries, segments,
+/// attributes, addresses, and what
 /// symbols stand for.
 fn lay_out_placed<'data>(
     alloc: Global,
@@ -132,43 +143,42 @@ fn lay_out_placed<'data>(
     images: Images<'data>,
     live: Live,
     contents: &[PartContents],
-    sizes: &[u64],
+    header: HeaderInfo,
     placed: Placed,
 ) -> Result<Layout<'data>, LayoutError>
     requires good { IsWellFormed link.now }
     requires images { AreImages link.now images }
     requires live { AreLive link.now live }
     requires contents { contents.now ≡ part_contents link.now (output_content link.now live) }
-    requires first { AreFirstSizes link.now (output_content link.now live) sizes.now }
+    requires header { header ≡ header_info link.now (output_content link.now live) }
+    requires marks { is_marked header.emitted ≡ is_emitted link.now (output_content link.now live) }
     requires sections { placed.sections ≡ section_records link.now.plan.sections placed.parts }
     requires each { length placed.parts ≡ length (all_parts link.now.plan.sections) }
     requires takes { (p : ℕ) → p < length placed.parts
         → (record_at placed.parts p).mem_size ≡ part_size link.now (output_content link.now live) p }
     ensures { WithMemory (IsPlacedAnswer link.now live placed.parts) result }
 {
-    let headers = determine_header_sizes(alloc, link, &live, sizes)?;
+    let joined = merge_secondary_parts(alloc, link, placed.sections.as_slice())?;
     let segments = compute_segment_layout(
         alloc,
         link,
         placed.sections.as_slice(),
-        headers.emitted.as_slice(),
-        headers.active_segment_ids.as_slice(),
+        header.emitted.as_slice(),
+        header.active_segment_ids.as_slice(),
+        SegmentFileLayout::FromSections,
     )?;
     let attributes = propagate_section_attributes(alloc, link, contents)?;
     let parts = placed.parts.as_slice();
     let addresses = addresses_of(alloc, link, &live, &images, contents, parts)?;
-    let merged = Merged {
-        link,
-        sections: images.sections.as_slice(),
-        starts: &addresses.buckets,
-    };
-    check_offsets(merged, &live)?;
+    check_offsets(link, &live, images.sections.as_slice())?;
     Ok(Layout {
         section_layouts: placed.sections,
+        merged_section_layouts: List::from_vec(joined),
         section_part_layouts: placed.parts,
         section_attributes: List::from_vec(attributes),
-        output_section_indexes: headers.output_section_indexes,
-        segment_layouts: List::from_vec(segments),
+        output_section_indexes: header.output_section_indexes,
+        segment_layouts: segments.segments,
+        tls_layout: segments.tls_layout,
         live_marks: live.marks,
         section_addresses: List::from_vec(addresses.sections),
         merged_strings: images.sections,
@@ -190,7 +200,7 @@ pub fn compute<'data, R: Threads + Wait + Sync, P: Platform + Sync, A: Arch + Sy
     _gate: &G,
 ) -> Result<Layout<'data>, LayoutError>
     requires gate { 2 ≤ _workers → G.may_enter _gate.now }
-    ensures { Gives (platform_target (P.segment_start platform.now)) link.now result }
+    ensures { Gives (platform_machine (P.segment_start platform.now) (P.table_sizes platform.now)) link.now result }
 {
     compute_alone(alloc, link, platform, arch)
 }

@@ -18,8 +18,6 @@ use std::fmt;
 /// What a description may have that isn't laid out yet, in the order in which it is looked for.
 #[derive(Clone, Copy, Debug, PartialEq, Eq)]
 pub enum Uncarried {
-    /// A common symbol.
-    Common,
     /// Output that a dynamic linker loads.
     Output,
     /// A table part, the comment part, or a relocation that wants an entry of a table.
@@ -123,7 +121,6 @@ impl Uncarried {
         ensures { result.now ≡ uncarried_text self }
     {
         match self {
-            Uncarried::Common => "common",
             Uncarried::Output => "output",
             Uncarried::Table => "table",
             Uncarried::Plan => "plan",
@@ -280,7 +277,7 @@ impl fmt::Display for Backwards {
     }
 }
 
-/// In a word, as `common`.
+/// In a word, as `table`.
 impl fmt::Display for Uncarried {
     ghost use Rattle.std.specs.Prelude.{Some};
     ghost use Rattle.lk_layout.specs.Texts.{uncarried_text};

@@ -15,6 +15,8 @@ use lk_place::{OutputRecordLayout, SegmentLayout};
 pub struct Layout<'data> {
     /// Of each output section.
     pub section_layouts: List<OutputRecordLayout>,
+    /// Of each output section together with its secondaries, from its own start on; nothing of a secondary section.
+    pub merged_section_layouts: List<OutputRecordLayout>,
     /// Of each part, numbered over all sections.
     pub section_part_layouts: List<OutputRecordLayout>,
     /// Of each output section its attributes: the plan's, with those of its live input sections
@@ -24,6 +26,8 @@ pub struct Layout<'data> {
     pub output_section_indexes: List<Option<u32>>,
     /// Of each active segment, by number.
     pub segment_layouts: List<SegmentLayout>,
+    /// What the active thread-local segment spans; none where there is none.
+    pub tls_layout: Option<OutputRecordLayout>,
     /// Of each input section, by its number over all files, whether it is live.
     pub live_marks: List<bool>,
     /// Of each live input section, by its number over all files, the address of its first byte; 0 for any other.

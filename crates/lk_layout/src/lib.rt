@@ -7,6 +7,7 @@ pub mod arch;
 pub mod carried;
 pub mod compute;
 pub mod error;
+mod headers;
 mod images;
 pub mod laws;
 pub mod layout;

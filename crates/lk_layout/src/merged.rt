@@ -2,7 +2,6 @@
 
 ghost use Rattle.std.specs.Prelude.{◌≡◌};
 ghost use Rattle.lk_merge.specs.Addresses.{image_start};
-ghost use Rattle.lk_layout.specs.Outside.{refers_outside, stands_outside};
 ghost use Rattle.lk_layout.specs.Resolutions.{merged_value};
 ghost use Rattle.lk_layout.specs.Tables.{AreMergedOf, found_or_0};
 
@@ -38,22 +37,4 @@ fn found_or_0(found: Result<Option<u64>, OffsetPastEnd>) -> u64
         Ok(address) => address.unwrap_or(0),
         Err(_) => 0,
     }
-}
-
-/// Whether a symbol is placed outside the data of a merged section, and has a name.
-pub(crate) fn stands_outside(merged: Merged<'_>, symbol: SymbolId) -> bool
-    requires { AreMergedOf merged.link.now merged.sections.now merged.starts.now }
-    ensures { result ≡ stands_outside merged.entry.link.now symbol }
-{
-    let (link, sections, starts) = (merged.link, merged.sections, merged.starts);
-    get_merged_string_output_address(link, symbol, 0, sections, starts, true).is_err()
-}
-
-/// Whether a reference to a symbol, with an addend, chooses an offset outside the data of a merged section.
-pub(crate) fn refers_outside(merged: Merged<'_>, symbol: SymbolId, addend: i64) -> bool
-    requires { AreMergedOf merged.link.now merged.sections.now merged.starts.now }
-    ensures { result ≡ refers_outside merged.entry.link.now symbol addend }
-{
-    let (link, sections, starts) = (merged.link, merged.sections, merged.starts);
-    get_merged_string_output_address(link, symbol, addend, sections, starts, false).is_err()
 }

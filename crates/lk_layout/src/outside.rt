@@ -3,22 +3,26 @@
 
 ghost use Rattle.std.specs.Prelude.{◌≡◌, ◌+◌, ◌<◌, ◌^◌, ◌==◌, Some, length, not, slice_get};
 ghost use Rattle.std.specs.List.{flat_map, list_any};
-ghost use Rattle.lk_gc.specs.Units.{local_definition};
+ghost use Rattle.lk_reach.specs.Units.{local_definition};
 ghost use Rattle.lk_link.specs.Files.{file_in};
 ghost use Rattle.lk_link.specs.Inputs.{numbered_files};
+ghost use Rattle.lk_link.specs.NumberedSymbols.{numbered_symbol};
 ghost use Rattle.lk_link.specs.Symbols.{first_symbol};
 ghost use Rattle.lk_link.specs.Walks.{file_of};
+ghost use Rattle.lk_link.specs.WellFormed.{IsWellFormed};
+ghost use Rattle.lk_merge.specs.LinkInputs.{link_inputs};
+ghost use Rattle.lk_merge.specs.OffsetsOutside.{refers_outside, stands_outside};
 ghost use Rattle.lk_layout.specs.Outside.{StopsAtFirst, merge_offsets, outside_in, relocation_outside, relocations_outside};
 ghost use Rattle.lk_layout.specs.Outside.{symbol_outside, symbols_outside};
 ghost use Rattle.lk_layout.specs.Resolutions.{flags_at, is_resolved};
-ghost use Rattle.lk_layout.specs.Tables.{AreMergedOf};
 
-use crate::merged::{Merged, refers_outside, stands_outside};
 use lk_gc::Live;
 use lk_link::marks::is_marked;
 use lk_link::relocation::resolution_flags;
-use lk_link::{FileId, FileRef, InputSection, InputSymbol, Relocation, SymbolId, ValueFlags};
-use lk_merge::MergedStringsSection;
+use lk_link::{
+    FileId, FileRef, InputSection, InputSymbol, LinkInput, Relocation, SymbolId, ValueFlags,
+};
+use lk_merge::{MergedStringsSection, refers_outside, refers_outside_in, stands_outside_in};
 use std::fmt;
 
 /// What chooses an offset outside the data of a merged section.
@@ -73,15 +77,20 @@ impl fmt::Display for MergeOffsetPlace {
 }
 
 /// Refuses the first symbol, else the first relocation, that chooses an offset outside the data of a merged section.
-pub(crate) fn check_offsets(merged: Merged<'_>, live: &Live) -> Result<(), MergeOffsetPlace>
-    requires belong { AreMergedOf merged.link.now merged.sections.now merged.starts.now }
-    ensures { StopsAtFirst (merge_offsets merged.entry.link.now live.now) result }
+pub(crate) fn check_offsets(
+    link: &LinkInput,
+    live: &Live,
+    merged: &[MergedStringsSection<'_>],
+) -> Result<(), MergeOffsetPlace>
+    requires good { IsWellFormed link.now }
+    requires merged { merged.now ≡ (link_inputs link.now).outputs }
+    ensures { StopsAtFirst (merge_offsets link.now live.now) result }
 {
-    if !has_merged(merged.sections) {
+    if !has_merged(merged) {
         return Ok(());
     }
-    check_symbols(merged, live)?;
-    check_relocations(merged, live)
+    check_symbols(link, live)?;
+    check_relocations(link, live)
 }
 
 /// Whether an output section has anything that is merged.
@@ -92,81 +101,95 @@ fn has_merged(sections: &[MergedStringsSection<'_>]) -> bool
 }
 
 /// Refuses the first symbol that stands outside.
-fn check_symbols(merged: Merged<'_>, live: &Live) -> Result<(), MergeOffsetPlace>
-    requires belong { AreMergedOf merged.link.now merged.sections.now merged.starts.now }
-    ensures { StopsAtFirst (flat_map (symbols_outside merged.entry.link.now live.now) (numbered_files merged.entry.link.now.groups)) result }
+fn check_symbols(link: &LinkInput, live: &Live) -> Result<(), MergeOffsetPlace>
+    requires good { IsWellFormed link.now }
+    ensures { StopsAtFirst (flat_map (symbols_outside link.now live.now) (numbered_files link.now.groups)) result }
 {
-    for file in merged.link.groups.files() {
-        check_file_symbols(merged, live, file)?;
+    for file in link.groups.files() {
+        check_file_symbols(link, live, file)?;
     }
     Ok(())
 }
 
 /// Refuses the first symbol of a file that stands outside.
 fn check_file_symbols(
-    merged: Merged<'_>,
+    link: &LinkInput,
     live: &Live,
     file: FileRef<'_>,
 ) -> Result<(), MergeOffsetPlace>
-    requires belong { AreMergedOf merged.link.now merged.sections.now merged.starts.now }
-    requires there { file_in merged.link.now.groups file.id ≡ Some file.file.now }
-    ensures { StopsAtFirst (symbols_outside merged.entry.link.now live.now (file_of file.entry)) result }
+    requires good { IsWellFormed link.now }
+    requires there { file_in link.now.groups file.id ≡ Some file.file.now }
+    ensures { StopsAtFirst (symbols_outside link.now live.now (file_of file.entry)) result }
 {
-    let Some(numbers) = merged.link.groups.symbol_id_range(file.id) else {
+    let Some(numbers) = link.groups.symbol_id_range(file.id) else {
         return Ok(());
     };
     let mut number = numbers.start().as_u32();
     for symbol in file.file.symbols.as_slice() {
-        check_symbol(merged, live, number, symbol)?;
+        check_symbol(link, live, file, number, symbol)?;
         number += 1;
     }
     Ok(())
 }
 
-/// Refuses a symbol with this number that has a resolution and stands outside.
+/// Refuses a symbol of a file, with this number, that has a resolution and stands outside.
 fn check_symbol(
-    merged: Merged<'_>,
+    link: &LinkInput,
     live: &Live,
+    file: FileRef<'_>,
     number: u32,
     symbol: &InputSymbol,
 ) -> Result<(), MergeOffsetPlace>
-    requires belong { AreMergedOf merged.link.now merged.sections.now merged.starts.now }
-    ensures { StopsAtFirst (symbol_outside merged.entry.link.now live.now (number, symbol.now)) result }
+    requires good { IsWellFormed link.now }
+    requires there { file_in link.now.groups file.id ≡ Some file.file.now }
+    requires numbered { numbered_symbol link.now.groups number ≡ Some (file_of file, symbol.now) }
+    ensures { StopsAtFirst (symbol_outside link.now live.now (number, symbol.now)) result }
 {
-    let id = SymbolId::from_u32(number);
-    if is_resolved(live.flags.as_slice(), number, symbol) && stands_outside(merged, id) {
-        return Err(MergeOffsetPlace::OfSymbol(id));
+    if is_resolved(live.flags.as_slice(), number, symbol)
+        && is_outside(link, file, number, symbol)
+    {
+        return Err(MergeOffsetPlace::OfSymbol(SymbolId::from_u32(number)));
     }
     Ok(())
 }
 
-/// Refuses the first relocation that refers outside.
-fn check_relocations(merged: Merged<'_>, live: &Live) -> Result<(), MergeOffsetPlace>
-    requires belong { AreMergedOf merged.link.now merged.sections.now merged.starts.now }
-    ensures { StopsAtFirst (flat_map (relocations_outside merged.entry.link.now live.now) (numbered_files merged.entry.link.now.groups)) result }
+/// Whether a symbol of a file, with this number, stands outside.
+fn is_outside(link: &LinkInput, file: FileRef<'_>, _number: u32, symbol: &InputSymbol) -> bool
+    requires good { IsWellFormed link.now }
+    requires there { file_in link.now.groups file.id ≡ Some file.file.now }
+    requires numbered { numbered_symbol link.now.groups _number ≡ Some (file_of file, symbol.now) }
+    ensures { result ≡ stands_outside link.now _number }
 {
-    for file in merged.link.groups.files() {
-        check_file(merged, live, file)?;
+    stands_outside_in(link, file, symbol)
+}
+
+/// Refuses the first relocation that refers outside.
+fn check_relocations(link: &LinkInput, live: &Live) -> Result<(), MergeOffsetPlace>
+    requires good { IsWellFormed link.now }
+    ensures { StopsAtFirst (flat_map (relocations_outside link.now live.now) (numbered_files link.now.groups)) result }
+{
+    for file in link.groups.files() {
+        check_file(link, live, file)?;
     }
     Ok(())
 }
 
 /// Refuses the first relocation of a file that refers outside.
-fn check_file(merged: Merged<'_>, live: &Live, file: FileRef<'_>) -> Result<(), MergeOffsetPlace>
-    requires belong { AreMergedOf merged.link.now merged.sections.now merged.starts.now }
-    requires there { file_in merged.link.now.groups file.id ≡ Some file.file.now }
-    ensures { StopsAtFirst (relocations_outside merged.entry.link.now live.now (file_of file.entry)) result }
+fn check_file(link: &LinkInput, live: &Live, file: FileRef<'_>) -> Result<(), MergeOffsetPlace>
+    requires good { IsWellFormed link.now }
+    requires there { file_in link.now.groups file.id ≡ Some file.file.now }
+    ensures { StopsAtFirst (relocations_outside link.now live.now (file_of file.entry)) result }
 {
-    let Some(start) = merged.link.groups.input_start(file.id) else {
+    let Some(start) = link.groups.input_start(file.id) else {
         return Ok(());
     };
-    let Some(numbers) = merged.link.groups.symbol_id_range(file.id) else {
+    let Some(numbers) = link.groups.symbol_id_range(file.id) else {
         return Ok(());
     };
     let first = numbers.start().as_u32();
     for (index, section) in file.file.sections.as_slice().iter().enumerate() {
         let is_live = is_marked(live.marks.as_slice(), start + index);
-        check_section(merged, is_live, first, file, index as u32, section)?;
+        check_section(link, is_live, first, file, index as u32, section)?;
     }
     Ok(())
 }
@@ -174,61 +197,73 @@ fn check_file(merged: Merged<'_>, live: &Live, file: FileRef<'_>) -> Result<(), 
 /// Refuses the first relocation of a section that refers outside, if the section is live and has no debug data. `first` is the
 /// number of the first of the file's symbols.
 fn check_section(
-    merged: Merged<'_>,
+    link: &LinkInput,
     is_live: bool,
     first: u32,
     file: FileRef<'_>,
     index: u32,
     section: &InputSection,
 ) -> Result<(), MergeOffsetPlace>
-    requires belong { AreMergedOf merged.link.now merged.sections.now merged.starts.now }
-    requires there { file_in merged.link.now.groups file.id ≡ Some file.file.now }
+    requires good { IsWellFormed link.now }
+    requires there { file_in link.now.groups file.id ≡ Some file.file.now }
     requires section { slice_get file.file.now.sections index ≡ Some section.now }
-    requires first { first ≡ first_symbol merged.link.now.groups file.id }
-    ensures { StopsAtFirst (outside_in merged.entry.link.now is_live (file_of file.entry) (index, section.now)) result }
+    requires first { first ≡ first_symbol link.now.groups file.id }
+    ensures { StopsAtFirst (outside_in link.now is_live (file_of file.entry) (index, section.now)) result }
 {
     if !is_live || !section.slot.is_regular() {
         return Ok(());
     }
     for (number, relocation) in section.relocs.as_slice().iter().enumerate() {
-        check_relocation(merged, first, file, index, number as u32, *relocation)?;
+        check_relocation(link, first, file, index, number as u32, *relocation)?;
     }
     Ok(())
 }
 
 /// Refuses a relocation, by its index in its section, that refers outside.
 fn check_relocation(
-    merged: Merged<'_>,
+    link: &LinkInput,
     first: u32,
     file: FileRef<'_>,
     section: u32,
     number: u32,
     relocation: Relocation,
 ) -> Result<(), MergeOffsetPlace>
-    requires belong { AreMergedOf merged.link.now merged.sections.now merged.starts.now }
+    requires good { IsWellFormed link.now }
+    requires there { file_in link.now.groups file.id ≡ Some file.file.now }
     requires number { first + relocation.symbol < 2 ^ 32 }
-    requires first { first ≡ first_symbol merged.link.now.groups file.id }
-    ensures { StopsAtFirst (relocation_outside merged.entry.link.now (file_of file.entry) section (number, relocation)) result }
+    requires first { first ≡ first_symbol link.now.groups file.id }
+    ensures { StopsAtFirst (relocation_outside link.now (file_of file.entry) section (number, relocation)) result }
 {
     if resolution_flags(relocation.kind).0 == 0 {
         return Ok(());
     }
-    let symbol = local_definition(first, file.file.symbols.as_slice(), relocation.symbol);
-    if refers_outside(merged, symbol, relocation.addend) {
+    if reference_outside(link, first, file, relocation.symbol, relocation.addend) {
         return Err(MergeOffsetPlace::OfRelocation(file.id, section, number));
     }
     Ok(())
 }
 
-/// What stands for a symbol of a file, by its index there: its definition, else itself.
-fn local_definition(first: u32, symbols: &[InputSymbol], index: u32) -> SymbolId
-    requires { first + index < 2 ^ 32 }
-    ensures { result ≡ local_definition first symbols.now index }
+/// Whether a reference of a file to one of its symbols, by the index there, with an addend, refers outside. What stands for the
+/// symbol is looked up by its number only if it is another one.
+fn reference_outside(
+    link: &LinkInput,
+    first: u32,
+    file: FileRef<'_>,
+    index: u32,
+    addend: i64,
+) -> bool
+    requires good { IsWellFormed link.now }
+    requires there { file_in link.now.groups file.id ≡ Some file.file.now }
+    requires number { first + index < 2 ^ 32 }
+    requires first { first ≡ first_symbol link.now.groups file.id }
+    ensures { result ≡ refers_outside link.now (local_definition first file.entry.file.now.symbols index) addend }
 {
-    let own = SymbolId::from_u32(first + index);
-    match symbols.get(index as usize) {
-        Some(symbol) => symbol.def.unwrap_or(own),
-        None => own,
+    match file.file.symbols.get(index as usize) {
+        Some(symbol) => match symbol.def {
+            Some(definition) => refers_outside(link, definition, addend),
+            None => refers_outside_in(link, file, symbol, addend),
+        },
+        None => refers_outside(link, SymbolId::from_u32(first + index), addend),
     }
 }
 

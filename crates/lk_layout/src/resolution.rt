@@ -2,7 +2,7 @@
 //!
 //! A table has the address of each live input section, by its number over all files. One pass over the symbols, file by file,
 //! gives each that stands for itself and is asked for its value: a place in a live section is the section's address and the
-//! offset there, a number stays, and what is defined nowhere, or in a dynamic file, is 0. A named symbol in a merged section stands where its piece does,
+//! offset there, a common has the address that it has among the owners of its part, a number stays, and what is defined nowhere, or in a dynamic file, is 0. A named symbol in a merged section stands where its piece does,
 //! which takes logarithmic time; any other symbol takes constant time.
 
 ghost use Rattle.std.specs.Prelude.{◌≡◌, ◌+◌, ◌<◌, ◌^◌, ◌++◌, All, IfOk, OnOk, Some, None, true, map, length};
@@ -14,13 +14,14 @@ ghost use Rattle.lk_link.specs.Walks.{file_of};
 ghost use Rattle.lk_link.specs.WellFormed.{IsWellFormed};
 ghost use Rattle.lk_layout.specs.Kept.{IsAskedFor};
 ghost use Rattle.lk_layout.specs.Resolutions.{entry_symbol, entry_value, file_resolutions, has_resolutions, placed_value, resolution_of};
-ghost use Rattle.lk_layout.specs.Tables.{AreMergedOf, HasRoom, HaveRoom, place_in, places_in};
+ghost use Rattle.lk_layout.specs.Tables.{AreMergedOf, AreRising, HasRoom, HaveRoom, common_in, place_in, places_in};
 
 use crate::merged::{Merged, merged_value};
 use crate::symbol_resolutions::SymbolResolutions;
 use lk_link::file::FileKind;
 use lk_link::marks::is_marked;
 use lk_link::{FileRef, InputSymbol, LinkInput, SymbolId, SymbolPlacement, ValueFlags};
+use lk_sizes::CommonAddress;
 use std::alloc::{AllocError, Global};
 
 /// What a symbol stands for in the output (libwild: `Resolution`).
@@ -66,6 +67,8 @@ pub(crate) struct Tables<'a> {
     pub(crate) marks: &'a [bool],
     /// Of each live one its address.
     pub(crate) addresses: &'a [u64],
+    /// Of each common that takes bytes its address, in the order of symbols.
+    pub(crate) commons: &'a [CommonAddress],
     /// Of each symbol its flags.
     pub(crate) flags: &'a [ValueFlags],
 }
@@ -78,10 +81,11 @@ pub(crate) fn resolve_all(
     merged: Merged<'_>,
 ) -> Result<SymbolResolutions, AllocError>
     requires belong { AreMergedOf merged.link.now merged.sections.now merged.starts.now }
+    requires rising { AreRising tables.commons.now }
     requires good { IsWellFormed link.now }
     requires room { HaveRoom tables.marks.now tables.addresses.now link.now.groups }
     ensures { IfOk result (λ resolutions. resolutions
-        ≡ flat_map (file_resolutions (places_in tables.entry.marks.now tables.entry.addresses.now merged.entry.link.now merged.entry.starts.now) tables.entry.flags.now link.now.groups)
+        ≡ flat_map (file_resolutions (places_in tables.entry.marks.now tables.entry.addresses.now tables.entry.commons.now merged.entry.link.now merged.entry.starts.now) tables.entry.flags.now link.now.groups)
         (numbered_files link.now.groups)) }
 {
     let count = link.groups.symbol_count() as usize;
@@ -101,11 +105,12 @@ fn push_file_resolutions(
     file: FileRef<'_>,
 ) -> Result<(), AllocError>
     requires belong { AreMergedOf merged.link.now merged.sections.now merged.starts.now }
+    requires rising { AreRising tables.commons.now }
     requires good { IsWellFormed link.now }
     requires there { file_in link.now.groups file.id ≡ Some file.file.now }
     requires room { HaveRoom tables.marks.now tables.addresses.now link.now.groups }
     ensures { OnOk result (resolutions.new ≡ resolutions.old
-        ++ file_resolutions (places_in tables.entry.marks.now tables.entry.addresses.now merged.entry.link.now merged.entry.starts.now) tables.entry.flags.now link.now.groups
+        ++ file_resolutions (places_in tables.entry.marks.now tables.entry.addresses.now tables.entry.commons.now merged.entry.link.now merged.entry.starts.now) tables.entry.flags.now link.now.groups
         (file_of file.entry)) }
 {
     let symbols = file.file.symbols.as_slice();
@@ -152,11 +157,12 @@ fn push_resolutions(
     symbols: &[InputSymbol],
 ) -> Result<(), AllocError>
     requires belong { AreMergedOf merged.link.now merged.sections.now merged.starts.now }
+    requires rising { AreRising tables.commons.now }
     requires few { first < 2 ^ 32 }
     requires numbers { number + length symbols.now < 2 ^ 32 }
     requires room { All (λ x. HasRoom tables.marks.now tables.addresses.now first x.at) symbols.now }
     ensures { OnOk result (resolutions.new ≡ resolutions.old
-        ++ map (resolution_of (places_in tables.entry.marks.now tables.entry.addresses.now merged.entry.link.now merged.entry.starts.now) tables.entry.flags.now first)
+        ++ map (resolution_of (places_in tables.entry.marks.now tables.entry.addresses.now tables.entry.commons.now merged.entry.link.now merged.entry.starts.now) tables.entry.flags.now first)
         (enumerate_from number symbols.now)) }
 {
     let mut next = number;
@@ -176,10 +182,11 @@ fn resolve(
     symbol: &InputSymbol,
 ) -> Option<Resolution>
     requires belong { AreMergedOf merged.link.now merged.sections.now merged.starts.now }
+    requires rising { AreRising tables.commons.now }
     requires few { first < 2 ^ 32 }
     requires room { HasRoom tables.marks.now tables.addresses.now first symbol.now.at }
     ensures value { result
-        ≡ resolution_of (places_in tables.entry.marks.now tables.entry.addresses.now merged.entry.link.now merged.entry.starts.now) tables.entry.flags.now first (number, symbol.now) }
+        ≡ resolution_of (places_in tables.entry.marks.now tables.entry.addresses.now tables.entry.commons.now merged.entry.link.now merged.entry.starts.now) tables.entry.flags.now first (number, symbol.now) }
     ensures asked { IsAskedFor result }
 {
     let flags = tables.flags.get(number as usize).copied()?;
@@ -203,9 +210,10 @@ fn symbol_value(
     symbol: &InputSymbol,
 ) -> u64
     requires belong { AreMergedOf merged.link.now merged.sections.now merged.starts.now }
+    requires rising { AreRising tables.commons.now }
     requires few { first < 2 ^ 32 }
     requires room { HasRoom tables.marks.now tables.addresses.now first symbol.now.at }
-    ensures { result ≡ placed_value (places_in tables.entry.marks.now tables.entry.addresses.now merged.entry.link.now merged.entry.starts.now) first number symbol.now.at }
+    ensures { result ≡ placed_value (places_in tables.entry.marks.now tables.entry.addresses.now tables.entry.commons.now merged.entry.link.now merged.entry.starts.now) first number symbol.now.at }
 {
     match &symbol.at {
         SymbolPlacement::Section { index, offset } => {
@@ -214,7 +222,29 @@ fn symbol_value(
                 None => merged_value(merged, SymbolId::from_u32(number)),
             }
         }
+        SymbolPlacement::Common { .. } => common_address(tables.commons, number),
         SymbolPlacement::Absolute(value) => *value,
+        _ => 0,
+    }
+}
+
+/// The address of the common with this symbol, if there is one, else 0. Halves the table, which is in the order of symbols.
+fn common_address(commons: &[CommonAddress], symbol: u32) -> u64
+    requires { AreRising commons.now }
+    ensures { result ≡ common_in commons.now symbol }
+{
+    let mut low = 0;
+    let mut high = commons.len();
+    while low < high {
+        let middle = low + (high - low) / 2;
+        if commons[middle].symbol.as_u32() < symbol {
+            low = middle + 1;
+        } else {
+            high = middle;
+        }
+    }
+    match commons.get(low) {
+        Some(common) if common.symbol.as_u32() == symbol => common.address,
         _ => 0,
     }
 }

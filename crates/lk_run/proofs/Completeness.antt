@@ -5,7 +5,7 @@ use Rattle.std.specs.Prelude.{MatchOption}
 use Rattle.lk_input.specs.declared.read.error.InputError.{InputError}
 use Rattle.lk_input.specs.Reading.{reading_of}
 use Rattle.lk_link.specs.declared.link.LinkInput.{LinkInput}
-use Rattle.lk_link.specs.Target.{small64}
+use Rattle.lk_layout.specs.Machines.{small64_machine}
 use Rattle.lk_layout.specs.declared.error.LayoutError.{LayoutError}
 use Rattle.lk_layout.specs.declared.layout.Layout.{Layout}
 use Rattle.lk_layout.specs.Defined.{IsDefined}
@@ -26,7 +26,7 @@ use Rattle.lk_run.proofs.Commands.{reads_command}
 -- ---- there is an answer
 
 reading_answer : DefinedAnswerExists → (reading : Result LinkInput InputError) → (answer : Answer) × IsAnswerToReading reading answer
-reading_answer law (Ok link) = let found = law small64 link in (told_of link found.0, (found.0, found.1, refl))
+reading_answer law (Ok link) = let found = law small64_machine link in (told_of link found.0, (found.0, found.1, refl))
 reading_answer law (Err e) = (record { status = Unreadable; text = input_fault_text_of e }, refl)
 
 held_answer : DefinedAnswerExists → (command : Command) (held : Held) → (answer : Answer) × IsAnswerTo command held answer
@@ -43,7 +43,7 @@ held_of bytes = elim (cases_lt LONGEST_INPUT (length bytes)) [
 -- ---- and it is one
 
 one_of_reading : DefinedAnswerIsOne → (reading : Result LinkInput InputError) (a b : Answer) → IsAnswerToReading reading a → IsAnswerToReading reading b → a ≡ b
-one_of_reading law (Ok link) a b p q = p.2 ∙ ap (told_of link) (law small64 link p.0 q.0 p.1 q.1) ∙ sym q.2
+one_of_reading law (Ok link) a b p q = p.2 ∙ ap (told_of link) (law small64_machine link p.0 q.0 p.1 q.1) ∙ sym q.2
 one_of_reading law (Err e) a b p q = p ∙ sym q
 
 one_of_held : DefinedAnswerIsOne → (command : Command) (held : Held) (a b : Answer) → IsAnswerTo command held a → IsAnswerTo command held b → a ≡ b
@@ -102,8 +102,8 @@ runs_tell every one words from bytes left =
 
 -- ---- a description that meets no refusal
 
-told_result : (link : LinkInput) (result : Result Layout LayoutError) (answer : Answer) → ((e : LayoutError) → IsDefined small64 link (Err e) → ⊥)
-    → IsDefined small64 link result → answer ≡ told_of link result → answer.status ≡ LaidOut
+told_result : (link : LinkInput) (result : Result Layout LayoutError) (answer : Answer) → ((e : LayoutError) → IsDefined small64_machine link (Err e) → ⊥)
+    → IsDefined small64_machine link result → answer ≡ told_of link result → answer.status ≡ LaidOut
 told_result link (Ok layout) answer unrefused defined is = ap (λ (a : Answer). a.status) is
 told_result link (Err e) answer unrefused defined is = absurd (unrefused e defined)
 

@@ -9,7 +9,7 @@ use Rattle.lk_link.specs.Inputs.{Input, all_inputs}
 use Rattle.lk_link.specs.Marks.{is_marked}
 use Rattle.lk_link.specs.Walks.{input_of}
 use Rattle.lk_gc.specs.Reach.{marked}
-use Rattle.lk_sizes.specs.LiveSections.{told_section}
+use Rattle.lk_sizes.specs.Addresses.{told_section}
 use Rattle.lk_sizes.proofs.Numbering.{numbered_push}
 use Rattle.lk_layout.specs.declared.layout.Layout.{Layout}
 use Rattle.lk_layout.specs.Layouts.{told_live}

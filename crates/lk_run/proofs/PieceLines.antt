@@ -4,7 +4,7 @@ use Rattle.std.specs.List.{concat, flat_map, slice_get}
 use Rattle.std.proofs.Math.Nat.{mod-add-mod, mod-eq_of_lt}
 use Rattle.std.proofs.lemmas.List.{append-nil, drop_all, drop_more}
 use Rattle.lk_merge.specs.Buckets.{Bucket}
-use Rattle.lk_merge.specs.BucketTables.{piece_of}
+use Rattle.lk_merge.specs.Buckets.{piece_of}
 use Rattle.lk_merge.specs.declared.string.MergeString.{MergeString}
 use Rattle.lk_merge.specs.Hash.{fnv64}
 use Rattle.lk_merge.specs.Image.{all_buckets, all_pieces, bucket_list, image_pieces, image_place}

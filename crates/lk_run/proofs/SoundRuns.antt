@@ -4,7 +4,7 @@ use Rattle.std.specs.Prelude.{MatchOption}
 use Rattle.lk_input.specs.declared.read.error.InputError.{InputError}
 use Rattle.lk_input.specs.Reading.{reading_of}
 use Rattle.lk_link.specs.declared.link.LinkInput.{LinkInput}
-use Rattle.lk_link.specs.Target.{small64, small64_is_lawful}
+use Rattle.lk_layout.specs.Machines.{small64_machine, small64_machine_is_lawful}
 use Rattle.lk_layout.specs.declared.error.LayoutError.{LayoutError}
 use Rattle.lk_layout.specs.declared.layout.Layout.{Layout}
 use Rattle.lk_layout.specs.Defined.{IsDefined}
@@ -21,10 +21,10 @@ use Rattle.lk_run.specs.Words.{command_of}
 
 -- an answer with the status of a layout is its report
 told_layout : DefinedLayoutsAreSound → (from : SourceState) (before after : SinkState) (bytes : List ℕ) (link : LinkInput) (result : Result Layout LayoutError) (answer : Answer)
-    → Holds from.left (Whole bytes) → reading_of bytes ≡ Ok link → IsDefined small64 link result → answer ≡ told_of link result → LaidOut ≡ answer.status → Takes before after answer.text
+    → Holds from.left (Whole bytes) → reading_of bytes ≡ Ok link → IsDefined small64_machine link result → answer ≡ told_of link result → LaidOut ≡ answer.status → Takes before after answer.text
     → TellsSoundLayout from before after
 told_layout law from before after bytes link (Ok layout) answer holds described defined is status written =
-    let sound = law small64 link layout small64_is_lawful defined in
+    let sound = law small64_machine link layout small64_machine_is_lawful defined in
     record {
       bytes = bytes;
       holds = holds;

@@ -2,9 +2,9 @@
 use Rattle.std.specs.Prelude.{◌≡◌, ℕ, ◌≤◌, List, length, Ok, Err, Some, ◌⊎◌}
 use Rattle.lk_input.specs.Reading.{reading_of}
 use Rattle.lk_link.specs.declared.link.LinkInput.{LinkInput}
-use Rattle.lk_link.specs.Target.{small64}
 use Rattle.lk_layout.specs.declared.error.LayoutError.{LayoutError}
 use Rattle.lk_layout.specs.Defined.{IsDefined}
+use Rattle.lk_layout.specs.Machines.{small64_machine}
 use Rattle.lk_run.specs.declared.answer.Answer.{Answer}
 use Rattle.lk_run.specs.declared.limit.TheConstants.{LONGEST_INPUT}
 use Rattle.lk_run.specs.declared.status.Status.{Status}
@@ -35,7 +35,7 @@ pub record DescribesLayout (bytes : List ℕ) : Type 0 where
   pub fits : length bytes ≤ LONGEST_INPUT
   pub link : LinkInput
   pub described : reading_of bytes ≡ Ok link
-  pub unrefused : (e : LayoutError) → IsDefined small64 link (Err e) → ⊥
+  pub unrefused : (e : LayoutError) → IsDefined small64_machine link (Err e) → ⊥
 
 -- a run of `layout N` over such bytes, in which no device failed, laid the link out, unless memory ran out
 abbrev pub RunsAreComplete : Type 0

@@ -3,9 +3,9 @@ use Rattle.std.specs.Prelude.{◌≡◌, ℕ, List, Ok}
 use Rattle.lk_gc.specs.declared.live.Live.{Live}
 use Rattle.lk_input.specs.Reading.{reading_of}
 use Rattle.lk_link.specs.declared.link.LinkInput.{LinkInput}
-use Rattle.lk_link.specs.Target.{small64}
 use Rattle.lk_layout.specs.declared.layout.Layout.{Layout}
 use Rattle.lk_layout.specs.Defined.{IsDefined}
+use Rattle.lk_layout.specs.Machines.{small64_machine}
 use Rattle.lk_layout.specs.Sound.{IsSound}
 use Rattle.lk_run.specs.declared.status.Status.{Status}
 use Rattle.lk_run.specs.declared.status.Status.TheVariants.{LaidOut}
@@ -22,7 +22,7 @@ pub record TellsSoundLayout (from : SourceState) (before after : SinkState) : Ty
   pub link : LinkInput
   pub described : reading_of bytes ≡ Ok link
   pub layout : Layout
-  pub defined : IsDefined small64 link (Ok layout)
+  pub defined : IsDefined small64_machine link (Ok layout)
   pub live : Live
   pub sound : IsSound link live layout
   pub written : Takes before after (report link layout)

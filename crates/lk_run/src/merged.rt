@@ -2,7 +2,7 @@
 
 ghost use Rattle.std.specs.Prelude.{◌≡◌, ◌++◌, string_bytes, length, map, IfOk};
 ghost use Rattle.lk_merge.specs.Addresses.{image_start};
-ghost use Rattle.lk_merge.specs.BucketTables.{piece_of};
+ghost use Rattle.lk_merge.specs.Buckets.{piece_of};
 ghost use Rattle.lk_merge.specs.Image.{all_pieces};
 ghost use Rattle.lk_run.specs.MergedLines.{behind_all, lines_from};
 ghost use Rattle.lk_run.specs.Report.{bytes_behind, merged_line, merged_text, merged_lines, merged_report, piece_line, piece_lines, all_piece_lines};

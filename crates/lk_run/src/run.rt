@@ -6,7 +6,7 @@
 ghost use Rattle.std.specs.Prelude.{◌≡◌, ◌≢◌, ◌↔◌, ℕ, ◌≤◌, map, string_bytes, vec_len, IfOk, IsTrue, Ok};
 ghost use Rattle.lk_input.specs.Reading.{reading_of};
 ghost use Rattle.lk_layout.specs.Defined.{Gives};
-ghost use Rattle.lk_link.specs.Target.{small64};
+ghost use Rattle.lk_layout.specs.Machines.{small64_machine};
 ghost use Rattle.lk_run.specs.declared.words.Command.TheVariants as commands;
 ghost use Rattle.lk_run.specs.Run.{Longer, IsAnswerToReading, IsAnswerTo, IsRun};
 ghost use Rattle.lk_run.specs.RunAlone.{AsksForWorkers, IsRunAlone};
@@ -93,7 +93,7 @@ fn answer_computed(
     link: &LinkInput,
     computed: Result<Layout<'_>, LayoutError>,
 ) -> Result<Answer, AllocError>
-    requires { Gives small64 link.now computed }
+    requires { Gives small64_machine link.now computed }
     ensures { IfOk result (λ answer. IsAnswerToReading (Ok link.now) answer) }
 {
     // A law, which does nothing: what has a layout is well formed.
@@ -128,7 +128,7 @@ fn tell_computed<K: Sink>(
     computed: Result<Layout<'_>, LayoutError>,
     sink: &mut K,
 ) -> Status
-    requires { Gives small64 link.now computed }
+    requires { Gives small64_machine link.now computed }
     ensures { IsLinkToldBy result link.now (K.state sink.old) (K.state sink.new) }
 {
     match answer_computed(alloc, link, computed) {

@@ -8,7 +8,9 @@ use Rattle.lk_merge.specs.Pieces.{MergeInput}
 use Rattle.lk_merge.proofs.SymbolPlaces.{outputs_count}
 use Rattle.lk_sizes.specs.Contents.{part_contents}
 use Rattle.lk_sizes.specs.Images.{image_addresses}
-use Rattle.lk_sizes.specs.LiveSections.{section_addresses}
+use Rattle.lk_sizes.specs.Addresses.{common_addresses, section_addresses}
+use Rattle.lk_layout.specs.Tables.{AreRising}
+use Rattle.lk_layout.proofs.CommonsFound.{table_rises}
 use Rattle.lk_sizes.specs.Owners.{EndsFit, content_of}
 use Rattle.lk_layout.specs.OutputContent.{image_lens, output_content}
 use Rattle.lk_layout.specs.Defined.{starts_of}
@@ -18,13 +20,13 @@ use Rattle.lk_layout.proofs.Placing.{ends_fit, have_room, resolutions_by, room_b
 use Rattle.lk_layout.proofs.Settings.{contents_count}
 use Rattle.lk_layout.proofs.addresses.addresses_of.Goals as goal
 
-pub section_addresses-requires-clause-contents : goal.section_addresses-requires-clause-contents
-section_addresses-requires-clause-contents c =
+pub owner_addresses-requires-clause-contents : goal.owner_addresses-requires-clause-contents
+owner_addresses-requires-clause-contents c =
     let lens : c.deref.result.now ≡ image_lens c.args.link.now = c.deref.ensures.value ∙ c.requires.images.lens in
     c.requires.contents ∙ ap (λ (ls : List ℕ). part_contents c.args.link.now (content_of c.args.live.now ls)) (sym lens)
 
-pub section_addresses-requires-clause-fit : goal.section_addresses-requires-clause-fit
-section_addresses-requires-clause-fit c =
+pub owner_addresses-requires-clause-fit : goal.owner_addresses-requires-clause-fit
+owner_addresses-requires-clause-fit c =
     let link = c.args.link.now in
     let live : Live = c.args.live.now in
     let starts : List ℕ = c.in_ok-starts.starts.items in
@@ -56,6 +58,12 @@ resolve_all-requires-clause-belong c = record {
   starts = c.in_ok-buckets.ensures.each;
 }
 
+pub resolve_all-requires-clause-rising : goal.resolve_all-requires-clause-rising
+resolve_all-requires-clause-rising c =
+    let link = c.args.link.now in
+    let commons = c.as_slice-3.ensures.value ∙ c.in_ok-owners.ensures.commons in
+    subst AreRising (sym commons) (table_rises link (content_of c.args.live.now c.deref.result.now) c.deref-2.result.now)
+
 pub resolve_all-requires-clause-room : goal.resolve_all-requires-clause-room
 resolve_all-requires-clause-room c =
     let link = c.args.link.now in
@@ -63,7 +71,7 @@ resolve_all-requires-clause-room c =
     let starts : List ℕ = c.in_ok-starts.starts.items in
     let lens : c.deref.result.now ≡ image_lens link = c.deref.ensures.value ∙ c.requires.images.lens in
     let read : c.as_slice-2.result.now ≡ table link live starts
-    = c.as_slice-2.ensures.value ∙ c.in_ok-sections.ensures ∙ ap (λ (ls : List ℕ). section_addresses link (content_of live ls) c.deref-2.result.now) lens
+    = c.as_slice-2.ensures.value ∙ c.in_ok-owners.ensures.sections ∙ ap (λ (ls : List ℕ). section_addresses link (content_of live ls) c.deref-2.result.now) lens
     ∙ ap (section_addresses link (output_content link live)) c.deref-2.ensures.value in
     room_by live.marks c.as_slice.result.now (table link live starts) c.as_slice-2.result.now link.groups c.as_slice.ensures read
     (have_room link live starts c.requires.good c.requires.live (starts_count link c.args.parts.now starts c.in_ok-starts.ensures.value c.requires.each)
@@ -74,7 +82,7 @@ returns-clause-sections c =
     let link = c.args.link.now in
     let live : Live = c.args.live.now in
     let lens : c.deref.result.now ≡ image_lens link = c.deref.ensures.value ∙ c.requires.images.lens in
-    c.in_ok-sections.ensures ∙ ap (λ (ls : List ℕ). section_addresses link (content_of live ls) c.deref-2.result.now) lens
+    c.in_ok-owners.ensures.sections ∙ ap (λ (ls : List ℕ). section_addresses link (content_of live ls) c.deref-2.result.now) lens
     ∙ ap (section_addresses link (output_content link live)) (c.deref-2.ensures.value ∙ c.in_ok-starts.ensures.value)
 
 pub returns-clause-buckets : goal.returns-clause-buckets
@@ -103,13 +111,16 @@ returns-clause-resolutions c =
     let wanted : List ℕ = starts_of c.args.parts.now in
     let lens : c.deref.result.now ≡ image_lens link = c.deref.ensures.value ∙ c.requires.images.lens in
     let read : c.as_slice-2.result.now ≡ table link live starts
-    = c.as_slice-2.ensures.value ∙ c.in_ok-sections.ensures ∙ ap (λ (ls : List ℕ). section_addresses link (content_of live ls) c.deref-2.result.now) lens
+    = c.as_slice-2.ensures.value ∙ c.in_ok-owners.ensures.sections ∙ ap (λ (ls : List ℕ). section_addresses link (content_of live ls) c.deref-2.result.now) lens
     ∙ ap (section_addresses link content) c.deref-2.ensures.value in
     let places : c.deref-4.result.now ≡ image_addresses link content wanted
     = c.deref-4.ensures.value ∙ c.in_ok-places.ensures content c.requires.contents ∙ ap (image_addresses link content) (c.deref-3.ensures.value ∙ c.in_ok-starts.ensures.value) in
     let merged : c.as_slice-merged.result.now ≡ (link_inputs link).outputs = c.as_slice-merged.ensures ∙ c.requires.images.sections in
+    let commons : c.as_slice-3.result.now ≡ common_addresses link content starts
+    = c.as_slice-3.ensures.value ∙ c.in_ok-owners.ensures.commons ∙ ap (λ (ls : List ℕ). common_addresses link (content_of live ls) c.deref-2.result.now) lens
+    ∙ ap (common_addresses link content) c.deref-2.ensures.value in
     let values : merged_value link (image_start c.in_ok-buckets.buckets) ≡ merged_value link (images_at link live wanted)
     = same_values link (image_start c.in_ok-buckets.buckets) (images_at link live wanted) c.requires.good (λ t below.
     c.in_ok-buckets.ensures.images t (omega (arith, below, outputs_count link, ap (λ (m : List (List MergeInput)). length m) merged)) ∙ ap (λ (ss : List ℕ). slice_index ss t) places) in
-    resolutions_by link live starts wanted c.as_slice.result.now c.as_slice-2.result.now c.in_ok-buckets.buckets c.as_slice-3.result.now _ c.requires.live c.as_slice.ensures read c.as_slice-3.ensures
+    resolutions_by link live starts wanted c.as_slice.result.now c.as_slice-2.result.now c.in_ok-buckets.buckets c.as_slice-3.result.now c.as_slice-4.result.now _ c.requires.live c.as_slice.ensures read commons c.as_slice-4.ensures
     c.in_ok-starts.ensures.value values c.in_ok-resolutions.ensures

@@ -1,6 +1,6 @@
 use Rattle.std.proofs.Common.{◌≡◌, None, Some}
 use Rattle.lk_check.specs.FirstFault.{first_fault}
-use Rattle.lk_link.specs.Target.{platform_target}
+use Rattle.lk_layout.specs.Machines.{platform_machine}
 use Rattle.lk_layout.specs.Carried.{first_uncarried}
 use Rattle.lk_layout.specs.Defined.{Gives}
 use Rattle.lk_layout.proofs.Answering.{carried, err_exit, fault_none, fault_some, faulty, uncarried}
@@ -8,22 +8,22 @@ use Rattle.lk_layout.proofs.compute.compute_alone.Goals as goal
 
 pub returns-in_err-check_link : goal.returns-in_err-check_link
 returns-in_err-check_link g c =
-    let target = platform_target (g.P.Platform.segment_start c.args.platform.now) in
+    let machine = platform_machine (g.P.Platform.segment_start c.args.platform.now) (g.P.Platform.table_sizes c.args.platform.now) in
     let link = c.args.link.now in
     let fault = c.in_err-check_link.field-0.0 in
-    err_exit (Gives target link) _ c.from_residual.result c.from_residual.ensures.1
-    (λ e is. faulty target link fault e (fault_some (first_fault link) fault c.in_err-check_link.ensures.exact) is)
+    err_exit (Gives machine link) _ c.from_residual.result c.from_residual.ensures.1
+    (λ e is. faulty machine link fault e (fault_some (first_fault link) fault c.in_err-check_link.ensures.exact) is)
 
 pub returns-in-Some : goal.returns-in-Some
 returns-in-Some g c =
-    let target = platform_target (g.P.Platform.segment_start c.args.platform.now) in
+    let machine = platform_machine (g.P.Platform.segment_start c.args.platform.now) (g.P.Platform.table_sizes c.args.platform.now) in
     let link = c.args.link.now in
     let found : first_uncarried link ≡ Some c.in-Some.what = cc in
-    uncarried target link c.in-Some.what (fault_none (first_fault link) c.in_ok-check_link.ensures.exact) found
+    uncarried machine link c.in-Some.what (fault_none (first_fault link) c.in_ok-check_link.ensures.exact) found
 
 pub returns-in-None : goal.returns-in-None
 returns-in-None g c =
-    let target = platform_target (g.P.Platform.segment_start c.args.platform.now) in
+    let machine = platform_machine (g.P.Platform.segment_start c.args.platform.now) (g.P.Platform.table_sizes c.args.platform.now) in
     let link = c.args.link.now in
     let all : first_uncarried link ≡ None = cc in
-    carried target link c.lay_out.result (fault_none (first_fault link) c.in_ok-check_link.ensures.exact) all c.lay_out.ensures
+    carried machine link c.lay_out.result (fault_none (first_fault link) c.in_ok-check_link.ensures.exact) all c.lay_out.ensures

@@ -5,27 +5,27 @@ use Rattle.lk_link.specs.declared.section.InputSection.{InputSection}
 use Rattle.lk_link.specs.Inputs.{input_number}
 use Rattle.lk_link.specs.Marks.{is_marked}
 use Rattle.lk_link.specs.Walks.{file_of}
-use Rattle.lk_gc.proofs.SymbolNumbers.{first_within, inputs_few, sections_few, symbols_few}
+use Rattle.lk_reach.proofs.SymbolNumbers.{first_within, inputs_few, sections_few, symbols_few}
 use Rattle.lk_layout.specs.declared.outside.MergeOffsetPlace.{MergeOffsetPlace}
 use Rattle.lk_layout.specs.Outside.{outside_in, section_outside}
 use Rattle.lk_layout.proofs.Stopping.{all_gone, exit, one_more, stops_at}
 use Rattle.lk_layout.proofs.outside.check_file.Goals as goal
 
 pub input_start-requires : goal.input_start-requires
-input_start-requires c = omega (arith, inputs_few c.args.merged.link.now c.requires.belong.good)
+input_start-requires c = omega (arith, inputs_few c.args.link.now c.requires.good)
 
 pub symbol_id_range-requires : goal.symbol_id_range-requires
-symbol_id_range-requires c = symbols_few c.args.merged.link.now c.requires.belong.good
+symbol_id_range-requires c = symbols_few c.args.link.now c.requires.good
 
 pub overflow_add-start : goal.overflow_add-start
 overflow_add-start c =
-    let link = c.args.merged.link.now in
+    let link = c.args.link.now in
     omega (
       arith,
       c.in-Some.ensures.1,
       first_within link.groups c.args.file.id,
-      inputs_few link c.requires.belong.good,
-      sections_few link c.args.file.id c.args.file.file.now c.requires.belong.good c.requires.there,
+      inputs_few link c.requires.good,
+      sections_few link c.args.file.id c.args.file.file.now c.requires.good c.requires.there,
       c.loop-index-test.true,
       ap length c.as_slice-section-items.ensures,
     )
@@ -34,7 +34,7 @@ pub overflow_cast-index : goal.overflow_cast-index
 overflow_cast-index c =
     omega (
       arith,
-      sections_few c.args.merged.link.now c.args.file.id c.args.file.file.now c.requires.belong.good c.requires.there,
+      sections_few c.args.link.now c.args.file.id c.args.file.file.now c.requires.good c.requires.there,
       c.loop-index-test.true,
       ap length c.as_slice-section-items.ensures,
     )
@@ -47,7 +47,7 @@ check_section-requires-clause-section c =
 
 pub returns-in_err-check_section : goal.returns-in_err-check_section
 returns-in_err-check_section c =
-    let link = c.args.merged.link.now in
+    let link = c.args.link.now in
     let n = c.loop-index.index in
     let f = section_outside link c.args.live.now (file_of c.args.file) in
     let number : c.in-Some.start + n ≡ input_number link.groups c.args.file.id n = omega (arith, c.in-Some.ensures.1) in
@@ -60,7 +60,7 @@ returns-in_err-check_section c =
 
 pub loop-index-preserved : goal.loop-index-preserved
 loop-index-preserved c =
-    let link = c.args.merged.link.now in
+    let link = c.args.link.now in
     let n = c.loop-index.index in
     let f = section_outside link c.args.live.now (file_of c.args.file) in
     let number : c.in-Some.start + n ≡ input_number link.groups c.args.file.id n = omega (arith, c.in-Some.ensures.1) in
@@ -72,5 +72,5 @@ loop-index-preserved c =
 
 pub returns : goal.returns
 returns c =
-    let f = section_outside c.args.merged.link.now c.args.live.now (file_of c.args.file) in
+    let f = section_outside c.args.link.now c.args.live.now (file_of c.args.file) in
     all_gone f 0 c.args.file.file.now.sections c.as_slice-section-items.result.now c.loop-index.index c.as_slice-section-items.ensures c.loop-index-test.false c.loop-index.invariant

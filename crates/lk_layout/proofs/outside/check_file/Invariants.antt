@@ -6,4 +6,4 @@ use Rattle.lk_layout.proofs.outside.check_file.Given as goal
 
 -- none of the sections so far has a relocation that refers outside
 abbrev pub invariant-loop-index : goal.invariant-loop-index
-invariant-loop-index l = flat_map (section_outside l.merged.link.now l.live (file_of l.file)) (take l.index (enumerate_from 0 l.file.file.now.sections)) ≡ []
+invariant-loop-index l = flat_map (section_outside l.link l.live (file_of l.file)) (take l.index (enumerate_from 0 l.file.file.now.sections)) ≡ []

@@ -1,20 +1,33 @@
-use Rattle.std.proofs.Common.{Some, length, sym, ap, ◌∙◌, arith}
+use Rattle.std.proofs.Common.{◌≡◌, List, Some, length, sym, ap, ◌∙◌, arith}
 use Rattle.std.specs.List.{slice_get}
+use Rattle.std.proofs.lemmas.Option.{slice_get-get_or}
 use Rattle.lk_link.specs.declared.symbol.InputSymbol.{InputSymbol}
+use Rattle.lk_link.specs.NumberedSymbols.{numbered_symbol}
 use Rattle.lk_link.specs.Symbols.{first_symbol}
+use Rattle.lk_link.proofs.NumberedSymbolLemmas.{stands}
 use Rattle.lk_link.proofs.SymbolLemmas.{symbols_within}
-use Rattle.lk_gc.proofs.SymbolNumbers.{symbols_few}
+use Rattle.lk_reach.proofs.SymbolNumbers.{symbols_few}
 use Rattle.lk_layout.specs.declared.outside.MergeOffsetPlace.{MergeOffsetPlace}
 use Rattle.lk_layout.specs.Outside.{symbol_outside}
 use Rattle.lk_layout.proofs.Stopping.{all_gone, exit, one_more, stops_at}
 use Rattle.lk_layout.proofs.outside.check_file_symbols.Goals as goal
 
 pub symbol_id_range-requires : goal.symbol_id_range-requires
-symbol_id_range-requires c = symbols_few c.args.merged.link.now c.requires.belong.good
+symbol_id_range-requires c = symbols_few c.args.link.now c.requires.good
+
+pub check_symbol-requires-clause-numbered : goal.check_symbol-requires-clause-numbered
+check_symbol-requires-clause-numbered c =
+    let groups = c.args.link.now.groups in
+    let symbols : List InputSymbol = c.as_slice-symbol-items.result.now in
+    let at : slice_get c.args.file.file.now.symbols c.loop-symbol.symbol-index ≡ Some c.symbol-item.result
+    = ap (λ (xs : List InputSymbol). slice_get xs c.loop-symbol.symbol-index) (sym c.as_slice-symbol-items.ensures)
+    ∙ slice_get-get_or symbols c.loop-symbol.symbol-index c.symbol-item.result c.loop-symbol-test.true ∙ ap (λ (x : InputSymbol). Some x) (sym c.symbol-item.is) in
+    ap (numbered_symbol groups) c.loop-symbol.invariant.number
+    ∙ stands groups c.args.file.id c.args.file.file.now c.loop-symbol.symbol-index c.symbol-item.result c.requires.there at
 
 pub returns-in_err-check_symbol : goal.returns-in_err-check_symbol
 returns-in_err-check_symbol c =
-    let link = c.args.merged.link.now in
+    let link = c.args.link.now in
     let f = symbol_outside link c.args.live.now in
     let k = c.loop-symbol.symbol-index in
     exit _ _ c.from_residual.result c.from_residual.ensures.1 (λ e is.
@@ -29,13 +42,13 @@ overflow_add-number c =
       c.loop-symbol.invariant.number,
       c.loop-symbol-test.true,
       ap length c.as_slice-symbol-items.ensures,
-      symbols_within c.args.merged.link.now.groups c.args.file.id c.args.file.file.now c.requires.there,
-      symbols_few c.args.merged.link.now c.requires.belong.good,
+      symbols_within c.args.link.now.groups c.args.file.id c.args.file.file.now c.requires.there,
+      symbols_few c.args.link.now c.requires.good,
     )
 
 pub loop-symbol-preserved : goal.loop-symbol-preserved
 loop-symbol-preserved c =
-    let link = c.args.merged.link.now in
+    let link = c.args.link.now in
     let f = symbol_outside link c.args.live.now in
     let k = c.loop-symbol.symbol-index in
     record {
@@ -47,6 +60,6 @@ loop-symbol-preserved c =
 
 pub returns : goal.returns
 returns c =
-    let link = c.args.merged.link.now in
+    let link = c.args.link.now in
     all_gone (symbol_outside link c.args.live.now) (first_symbol link.groups c.args.file.id) c.args.file.file.now.symbols c.as_slice-symbol-items.result.now c.loop-symbol.symbol-index
     c.as_slice-symbol-items.ensures c.loop-symbol-test.false c.loop-symbol.invariant.none

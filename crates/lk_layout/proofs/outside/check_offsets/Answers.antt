@@ -13,14 +13,14 @@ use Rattle.lk_layout.proofs.outside.check_offsets.Goals as goal
 
 pub returns-then-not-has_merged : goal.returns-then-not-has_merged
 returns-then-not-has_merged c =
-    let link = c.args.merged.link.now in
+    let link = c.args.link.now in
     let none : list_any (λ (xs : List MergeInput). not (length xs == 0)) (link_inputs link).outputs ≡ false
-    = ap (λ (all : List (List MergeInput)). list_any (λ (xs : List MergeInput). not (length xs == 0)) all) (sym c.requires.belong.sections) ∙ sym c.has_merged.ensures ∙ c.if-not-has_merged.true in
-    no_offsets link c.requires.belong.good none c.args.live.now
+    = ap (λ (all : List (List MergeInput)). list_any (λ (xs : List MergeInput). not (length xs == 0)) all) (sym c.requires.merged) ∙ sym c.has_merged.ensures ∙ c.if-not-has_merged.true in
+    no_offsets link c.requires.good none c.args.live.now
 
 pub returns-in_err-check_symbols : goal.returns-in_err-check_symbols
 returns-in_err-check_symbols c =
-    let link = c.args.merged.link.now in
+    let link = c.args.link.now in
     let live = c.args.live.now in
     exit _ _ c.from_residual.result c.from_residual.ensures.1 (λ e is.
     append_left (flat_map (symbols_outside link live) (numbered_files link.groups)) (flat_map (relocations_outside link live) (numbered_files link.groups)) 0 _ c.in_err-check_symbols.ensures

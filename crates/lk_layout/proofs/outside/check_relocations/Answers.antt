@@ -1,25 +1,25 @@
 use Rattle.std.proofs.Common.{◌≡◌, Some, sym, ap, ◌∙◌}
 use Rattle.lk_link.specs.Inputs.{numbered_files}
 use Rattle.lk_link.specs.Walks.{file_of}
-use Rattle.lk_gc.proofs.Numbered.{are_numbered, file_at}
-use Rattle.lk_gc.proofs.WalkLemmas.{file_turn}
+use Rattle.lk_reach.proofs.Numbered.{are_numbered, file_at}
+use Rattle.lk_reach.proofs.WalkLemmas.{file_turn}
 use Rattle.lk_layout.specs.declared.outside.MergeOffsetPlace.{MergeOffsetPlace}
 use Rattle.lk_layout.specs.Outside.{relocations_outside}
 use Rattle.lk_layout.proofs.Stopping.{exit, file_stops}
 use Rattle.lk_layout.proofs.outside.check_relocations.Goals as goal
 
 pub files-file-items-requires : goal.files-file-items-requires
-files-file-items-requires c = are_numbered c.args.merged.link.now c.requires.belong.good
+files-file-items-requires c = are_numbered c.args.link.now c.requires.good
 
 pub check_file-requires-clause-there : goal.check_file-requires-clause-there
 check_file-requires-clause-there c =
-    let groups = c.args.merged.link.now.groups in
+    let groups = c.args.link.now.groups in
     let at = file_turn (numbered_files groups) c.into_iter-file-iterator.result c.loop-file.file-iterator c.next.new.self c.loop-file.yielded c.in-Some.file (cc) c.loop-file.yielded_by c.in-Some.ensures.steps in
     (file_at groups _ (file_of c.in-Some.file) at).there
 
 pub returns-in_err-check_file : goal.returns-in_err-check_file
 returns-in_err-check_file c =
-    let link = c.args.merged.link.now in
+    let link = c.args.link.now in
     let begins : c.into_iter-file-iterator.result ≡ numbered_files link.groups = cc in
     let at = file_turn (numbered_files link.groups) c.into_iter-file-iterator.result c.loop-file.file-iterator c.next.new.self c.loop-file.yielded c.in-Some.file begins c.loop-file.yielded_by c.in-Some.ensures.steps in
     exit _ _ c.from_residual.result c.from_residual.ensures.1 (λ e is.

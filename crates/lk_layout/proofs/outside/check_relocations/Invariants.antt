@@ -6,4 +6,4 @@ use Rattle.lk_layout.proofs.outside.check_relocations.Given as goal
 
 -- none of the files so far has a relocation that refers outside
 abbrev pub invariant-loop-file : goal.invariant-loop-file
-invariant-loop-file l = flat_map (relocations_outside l.merged.link.now l.live) (map file_of l.yielded) ≡ []
+invariant-loop-file l = flat_map (relocations_outside l.link l.live) (map file_of l.yielded) ≡ []

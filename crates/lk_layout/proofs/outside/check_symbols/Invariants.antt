@@ -6,4 +6,4 @@ use Rattle.lk_layout.proofs.outside.check_symbols.Given as goal
 
 -- none of the files so far has a symbol that stands outside
 abbrev pub invariant-loop-file : goal.invariant-loop-file
-invariant-loop-file l = flat_map (symbols_outside l.merged.link.now l.live) (map file_of l.yielded) ≡ []
+invariant-loop-file l = flat_map (symbols_outside l.link l.live) (map file_of l.yielded) ≡ []

@@ -4,7 +4,7 @@ use Rattle.lk_link.specs.declared.file.InputFile.{InputFile}
 use Rattle.lk_link.specs.declared.symbol.InputSymbol.{InputSymbol}
 use Rattle.lk_link.specs.Inputs.{first_input}
 use Rattle.lk_link.specs.Symbols.{AreSymbolsOf, first_symbol}
-use Rattle.lk_gc.proofs.SymbolNumbers.{first_within, inputs_few, symbols_few}
+use Rattle.lk_reach.proofs.SymbolNumbers.{first_within, inputs_few, symbols_few}
 use Rattle.lk_layout.specs.declared.resolution.Resolution.{Resolution}
 use Rattle.lk_layout.specs.Resolutions.{has_resolutions, resolution_of}
 use Rattle.lk_layout.specs.Tables.{places_in}
@@ -42,7 +42,7 @@ push_resolutions-requires-clause-numbers c =
 pub returns-in_ok-push_resolutions : goal.returns-in_ok-push_resolutions
 returns-in_ok-push_resolutions c =
     let groups = c.args.link.now.groups in
-    let places = places_in c.args.tables.marks.now c.args.tables.addresses.now c.args.merged.link.now c.args.merged.starts.now in
+    let places = places_in c.args.tables.marks.now c.args.tables.addresses.now c.args.tables.commons.now c.args.merged.link.now c.args.merged.starts.now in
     let old : List (Option Resolution) = c.args.resolutions.now in
     let made : ℕ → ℕ → List InputSymbol → List (Option Resolution) = λ first number symbols. map (resolution_of places c.args.tables.flags.now first) (enumerate_from number symbols) in
     let range : AreSymbolsOf groups c.args.file.id c.in-Some-symbol_id_range.numbers = c.in-Some-symbol_id_range.ensures in

@@ -8,8 +8,8 @@ use Rattle.lk_layout.proofs.resolution.push_resolutions.Given as goal
 abbrev pub invariant-loop-symbol : goal.invariant-loop-symbol
 invariant-loop-symbol l = record {
   all : l.resolutions
-      ++ map (resolution_of (places_in l.tables.marks.now l.tables.addresses.now l.merged.link.now l.merged.starts.now) l.tables.flags.now l.first) (enumerate_from l.next (drop l.symbol-index l.symbols))
+      ++ map (resolution_of (places_in l.tables.marks.now l.tables.addresses.now l.tables.commons.now l.merged.link.now l.merged.starts.now) l.tables.flags.now l.first) (enumerate_from l.next (drop l.symbol-index l.symbols))
       ≡ l.initial.resolutions
-      ++ map (resolution_of (places_in l.tables.marks.now l.tables.addresses.now l.merged.link.now l.merged.starts.now) l.tables.flags.now l.first) (enumerate_from l.number l.symbols);
+      ++ map (resolution_of (places_in l.tables.marks.now l.tables.addresses.now l.tables.commons.now l.merged.link.now l.merged.starts.now) l.tables.flags.now l.first) (enumerate_from l.number l.symbols);
   number : l.next ≡ l.number + l.symbol-index;
 }

@@ -1,7 +1,7 @@
 use Rattle.lk_link.specs.Inputs.{numbered_files}
 use Rattle.lk_link.specs.Walks.{file_of}
-use Rattle.lk_gc.proofs.Numbered.{are_numbered, file_at}
-use Rattle.lk_gc.proofs.WalkLemmas.{file_turn}
+use Rattle.lk_reach.proofs.Numbered.{are_numbered, file_at}
+use Rattle.lk_reach.proofs.WalkLemmas.{file_turn}
 use Rattle.lk_layout.proofs.resolution.resolve_all.Goals as goal
 
 pub files-file-items-requires : goal.files-file-items-requires

@@ -8,4 +8,4 @@ use Rattle.lk_layout.proofs.resolution.resolve_all.Given as goal
 -- the resolutions of the files so far
 abbrev pub invariant-loop-file : goal.invariant-loop-file
 invariant-loop-file l =
-    l.resolutions ≡ flat_map (file_resolutions (places_in l.tables.marks.now l.tables.addresses.now l.merged.link.now l.merged.starts.now) l.tables.flags.now l.link.groups) (map file_of l.yielded)
+    l.resolutions ≡ flat_map (file_resolutions (places_in l.tables.marks.now l.tables.addresses.now l.tables.commons.now l.merged.link.now l.merged.starts.now) l.tables.flags.now l.link.groups) (map file_of l.yielded)

@@ -1,6 +1,6 @@
 use Rattle.std.proofs.Common.{◌≡◌, ◌++◌, drop, map}
 use Rattle.std.specs.Prelude.{string_bytes}
-use Rattle.lk_merge.specs.BucketTables.{piece_of}
+use Rattle.lk_merge.specs.Buckets.{piece_of}
 use Rattle.lk_run.specs.MergedLines.{behind_all, lines_from}
 use Rattle.lk_run.proofs.merged.write_strings.Given as goal
 

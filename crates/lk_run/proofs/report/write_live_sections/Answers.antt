@@ -2,9 +2,9 @@ use Rattle.std.proofs.Common.{◌∷◌, arith, length, map, ap, length-append}
 use Rattle.std.proofs.lemmas.List.{length-map, length_push}
 use Rattle.lk_link.specs.Inputs.{all_inputs}
 use Rattle.lk_link.specs.Walks.{input_of}
-use Rattle.lk_gc.proofs.LiveWalk.{finish, turn}
-use Rattle.lk_gc.proofs.Numbered.{are_numbered}
-use Rattle.lk_gc.proofs.SymbolNumbers.{inputs_few}
+use Rattle.lk_reach.proofs.LiveWalk.{finish, turn}
+use Rattle.lk_reach.proofs.Numbered.{are_numbered}
+use Rattle.lk_reach.proofs.SymbolNumbers.{inputs_few}
 use Rattle.lk_link.proofs.InputLemmas.{inputs_follow}
 use Rattle.lk_run.specs.Report.{input_text}
 use Rattle.lk_run.proofs.LiveLines.{all_texts, next_text}

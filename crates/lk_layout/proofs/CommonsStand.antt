@@ -1,0 +1,132 @@
+-- A common that has a resolution is an owner of bytes of its part, and has their address as its value.
+use Rattle.std.proofs.Common.{◌≡◌, ℕ, ◌+◌, ◌<◌, false, true, if◌then◌else◌, List, length, Option, Some, None, refl, sym, ap, subst, ◌∙◌, arith}
+use Rattle.std.specs.Prelude.{option_map, slice_get, slice_index}
+use Rattle.std.specs.Int.{◌∣◌}
+use Rattle.std.specs.List.{slice_index_or}
+use Rattle.std.proofs.Math.ListN as lists
+use Rattle.std.proofs.Math.Nat.{dvd-add}
+use Rattle.std.proofs.lemmas.Bool.{and_parts}
+use Rattle.lk_link.specs.declared.file.FileKind.{FileKind}
+use Rattle.lk_link.specs.declared.file.FileKind.TheVariants as kind
+use Rattle.lk_link.specs.declared.file.InputFile.{InputFile}
+use Rattle.lk_link.specs.declared.link.LinkInput.{LinkInput}
+use Rattle.lk_link.specs.declared.plan.PlanPart.{PlanPart}
+use Rattle.lk_link.specs.declared.symbol.InputSymbol.{InputSymbol}
+use Rattle.lk_link.specs.declared.symbol.SymbolPlacement.TheVariants as at
+use Rattle.lk_link.specs.FileKinds.{is_object}
+use Rattle.lk_link.specs.Inputs.{first_input}
+use Rattle.lk_link.specs.Parts.{all_parts, part_at}
+use Rattle.lk_link.specs.SymbolRules.{is_placement_in}
+use Rattle.lk_link.specs.TableSizes.{Machine}
+use Rattle.lk_link.specs.WellFormed.{IsWellFormed}
+use Rattle.lk_link.proofs.GoodSymbols.{symbol_of}
+use Rattle.lk_gc.specs.declared.live.Live.{Live}
+use Rattle.lk_place.specs.Records.{Record, nowhere, record_at}
+use Rattle.lk_tables.specs.Copied.{can_resolve}
+use Rattle.lk_sizes.specs.Owners.{CommonOwner, Content, IsCommonIn, Owner, common_address, common_number, owner_address, owners_of, part_size}
+use Rattle.lk_sizes.specs.Tiles.{HasByte, OwnersAreAligned, OwnersTileTheirPart}
+use Rattle.lk_sizes.proofs.CommonOnes.{common_is_placed, commons_are_owners}
+use Rattle.lk_layout.specs.declared.layout.Layout.{Layout}
+use Rattle.lk_layout.specs.declared.resolution.Resolution.{Resolution}
+use Rattle.lk_layout.specs.Defined.{setting, starts_of}
+use Rattle.lk_layout.specs.OutputContent.{output_content}
+use Rattle.lk_layout.specs.Resolutions.{Places, flags_at, is_resolved, placed_value, places_of, resolution_at, resolution_of, symbol_resolutions}
+use Rattle.lk_layout.specs.Sound.{CommonsStand, part_record}
+use Rattle.lk_layout.proofs.LaidOut.{IsLaidOut}
+use Rattle.lk_layout.proofs.PartStarts.{part_starts}
+use Rattle.lk_layout.proofs.Placing.{size-le}
+use Rattle.lk_layout.proofs.Settings.{size_of}
+use Rattle.lk_layout.proofs.Valued.{resolution_is}
+
+-- ---- its file
+
+-- only objects place symbols as commons
+of_kind : (k : FileKind) (p size : ℕ) → is_placement_in k (at.Common p size) ≡ true → is_object k ≡ true
+of_kind kind.Object p size h = refl
+of_kind kind.Dynamic p size h = absurd (cc)
+of_kind kind.NotLoaded p size h = absurd (cc)
+of_kind kind.Prelude p size h = absurd (cc)
+of_kind kind.SyntheticSymbols p size h = absurd (cc)
+of_kind kind.LinkerScript p size h = absurd (cc)
+
+of_object : (link : LinkInput) (live : Live) (p s size : ℕ) → IsWellFormed link → (c : IsCommonIn link live p s size) → is_object c.file.file.kind ≡ true
+of_object link live p s size good c =
+    let k : FileKind = c.file.file.kind in
+    of_kind k p size (ap (is_placement_in k) (sym c.placed) ∙ (symbol_of link c.file.id c.index c.file.file c.symbol good c.there c.stands).of_kind)
+
+-- ---- its value
+
+-- a common that is resolved has its address as its value
+common_value : (places : Places) (live : Live) (first s p size : ℕ) (x : InputSymbol) → is_resolved s x (flags_at live.flags s) ≡ true → x.at ≡ at.Common p size
+    → option_map (λ (r : Resolution). r.raw_value) (resolution_of places live.flags first (s, x)) ≡ Some (places.common p s)
+common_value places live first s p size x resolved stands =
+    let made : ℕ → Option Resolution = λ n. Some (record { raw_value = n; flags = flags_at live.flags s }) in
+    ap (λ b. option_map (λ (r : Resolution). r.raw_value) (if b then made (placed_value places first s x.at) else None)) resolved
+    ∙ ap (λ (n : ℕ). Some n) (ap (placed_value places first s) stands)
+
+-- what is told of its symbol, by where the parts start
+value_told : (link : LinkInput) (live : Live) (starts : List ℕ) (p s size : ℕ) (c : IsCommonIn link live p s size) → is_object c.file.file.kind ≡ true
+    → option_map (λ (r : Resolution). r.raw_value) (resolution_at (symbol_resolutions link live starts) s) ≡ Some (common_address link (output_content link live) starts p s)
+value_told link live starts p s size c object =
+    let x : InputSymbol = c.symbol in
+    let file : InputFile = c.file.file in
+    let first : ℕ = first_input link.groups c.file.id in
+    let places : Places = places_of link live starts in
+    let raw : Option Resolution → Option ℕ = option_map (λ (r : Resolution). r.raw_value) in
+    let resolved : is_resolved s x (flags_at live.flags s) ≡ true = (and_parts (is_resolved s x (flags_at live.flags s)) (can_resolve file.kind x) c.wanted).0 in
+    let read : resolution_at (symbol_resolutions link live starts) s ≡ resolution_of places live.flags first (s, x)
+    = ap (λ (n : ℕ). resolution_at (symbol_resolutions link live starts) n) c.number
+    ∙ resolution_is link live starts c.file.id file c.index x c.there object c.stands
+    ∙ ap (λ (n : ℕ). resolution_of places live.flags first (n, x)) (sym c.number) in
+    ap raw read ∙ common_value places live first s p size x resolved c.placed
+
+-- ---- where it stands
+
+-- an owner of bytes starts at a multiple of its part's alignment, where the part is no table part and isn't packed
+common_aligned : OwnersTileTheirPart → OwnersAreAligned → (machine : Machine) (link : LinkInput) (layout : Layout) (laid : IsLaidOut machine link layout) (p s size : ℕ)
+    → IsCommonIn link laid.live p s size → 0 < size → (part_at link.plan.sections p).packed ≡ false
+    → (part_at link.plan.sections p).alignment ∣ owner_address (part_record layout p).mem_offset (part_at link.plan.sections p) (owners_of link (output_content link laid.live) p) (common_number link (output_content link laid.live) p s)
+common_aligned tile aligned machine link layout laid p s size c some unpacked =
+    let live : Live = laid.live in
+    let content : Content = output_content link live in
+    let part : PlanPart = part_at link.plan.sections p in
+    let owners : List Owner = owners_of link content p in
+    let k : ℕ = common_number link content p s in
+    let start : ℕ = (part_record layout p).mem_offset in
+    let placed = common_is_placed link live p s size laid.good c in
+    let byte : HasByte start part owners k (owner_address start part owners k) = record {
+      owner = CommonOwner s size;
+      there = commons_are_owners link content p s size c;
+      from = omega arith;
+      below = omega (arith, some, size-le part size);
+    } in
+    let inside = (tile link content p start).inside k (owner_address start part owners k) byte in
+    let bytes : 0 < part_size link content p = omega (arith, inside.0, inside.1) in
+    let size_is : slice_index_or (setting machine link live).sizes p 0 ≡ part_size link content p = size_of link live p placed.0 in
+    let begins : part.alignment ∣ (record_at laid.records p).mem_offset
+    = part_starts machine link live laid.states laid.records p laid.good laid.is laid.unrefused placed.0 (omega (arith, bytes, size_is)) in
+    let record_is : (record_at laid.records p).mem_offset ≡ start = ap (λ (l : Layout). (record_at l.section_part_layouts p).mem_offset) (sym laid.same) in
+    dvd-add part.alignment (subst (λ n. part.alignment ∣ n) record_is begins) (aligned link content p k laid.good placed.1 unpacked)
+
+pub commons_stand : OwnersTileTheirPart → OwnersAreAligned → (machine : Machine) (link : LinkInput) (layout : Layout) (laid : IsLaidOut machine link layout)
+    → layout.symbol_resolutions ≡ symbol_resolutions link laid.live (starts_of layout.section_part_layouts) → CommonsStand link laid.live layout
+commons_stand tile aligned machine link layout laid resolved p s size c =
+    let live : Live = laid.live in
+    let content : Content = output_content link live in
+    let records : List Record = layout.section_part_layouts in
+    let part : PlanPart = part_at link.plan.sections p in
+    let k : ℕ = common_number link content p s in
+    let at_start : ℕ → ℕ = λ n. owner_address n part (owners_of link content p) k in
+    let raw : Option Resolution → Option ℕ = option_map (λ (r : Resolution). r.raw_value) in
+    let start : slice_index (starts_of records) p ≡ (record_at records p).mem_offset = lists.get_or-map (λ (r : Record). r.mem_offset) records p nowhere in
+    record {
+      part = (common_is_placed link live p s size laid.good c).0;
+      number = k;
+      owner = commons_are_owners link content p s size c;
+      address = at_start (part_record layout p).mem_offset;
+      at = refl;
+      valued = ap (λ (rs : List (Option Resolution)). raw (resolution_at rs s)) resolved
+          ∙ value_told link live (starts_of records) p s size c (of_object link live p s size laid.good c)
+          ∙ ap (λ (n : ℕ). Some (at_start n)) start;
+      aligned = common_aligned tile aligned machine link layout laid p s size c;
+    }
