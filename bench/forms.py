@@ -1,4 +1,4 @@
-"""What whole links are made of, in two forms: with everything that real ones have, and with what is laid out."""
+"""What whole links are made of, in three forms: with everything that real ones have, and with what is laid out."""
 
 from attributes import ALLOCATED, EXECUTABLE, THREAD_LOCAL, WRITABLE, ZERO_FILL
 
@@ -9,12 +9,15 @@ class Form:
     outputs: output sections, with their attributes, the alignments of their parts, and the fields that name
     those parts. segments: the kind, and the first and the last output section inside. inputs: weight, slot,
     output section, attributes, greatest size, and relocations on average. kinds: the kinds of relocations,
-    and whether a thunk may stand in. has_more: other files, section groups, and sections that are sorted.
+    and whether a thunk may stand in. extras: what else there is, of "groups" of sections, "dynamic" files,
+    a "common" in each object, and the linker's "own" files, a script, and sections that are sorted.
     """
 
-    def __init__(self, outputs, segments, inputs, kinds, options, has_more):
-        self.outputs, self.segments, self.options, self.has_more = outputs, segments, options, has_more
+    def __init__(self, outputs, segments, inputs, kinds, options, extras=()):
+        self.outputs, self.segments, self.options = outputs, segments, options
+        self.extras = frozenset(extras)
         self.inputs = [line[1:] for line in inputs for _ in range(line[0])]
+        self.pairs = kinds
         self.kinds = [pair for pair, weight in kinds for _ in range(weight)]
         self.numbers = {name: number for number, (name, _, _, _) in enumerate(outputs)}
         self.part_counts = {name: len(alignments) for name, _, alignments, _ in outputs}
@@ -88,7 +91,7 @@ WHOLE = Form(
         '{"output":"dynamic","gc":true,"export_list":["plugin_init","plugin_exit"],"discard":"default",'
         '"strip_names":["__unused_start","__unused_end"],"identity":"measured","stack":8388608,"entry":%d}'
     ),
-    has_more=True,
+    extras=("groups", "dynamic", "own"),
 )
 
 LINKED = Form(
@@ -130,5 +133,29 @@ LINKED = Form(
         *(((kind, False), 1) for kind in ("RelativeLoongArchHigh", "DtpOff", "None")),
     ),
     options='{"gc":true,"discard":"default","identity":"measured","stack":8388608,"entry":%d}',
-    has_more=False,
+)
+
+GROUPED = Form(
+    outputs=(
+        *((".rodata.str", ALLOCATED, (1,), ()), *LINKED.outputs),
+        *((".debug_info", 0, (1,), ()), (".debug_line", 0, (1,), ()), (".debug_str", 0, (1,), ())),
+    ),
+    segments=(("load", ".rodata.str", ".eh_frame"), *LINKED.segments[1:]),
+    inputs=(
+        (42, "unloaded", ".text", EXECUTABLE, 700, 10),
+        (12, "unloaded", ".rodata", 0, 300, 3),
+        (7, "unloaded", ".data.rel.ro", WRITABLE, 200, 8),
+        (4, "unloaded", ".data", WRITABLE, 200, 3),
+        (4, "unloaded", ".bss", WRITABLE, 4000, 0),
+        (2, "must", ".init_array", WRITABLE, 8, 1),
+        (7, "must", ".eh_frame", 0, 900, 12),
+        (5, "debug", ".debug_info", 0, 4000, 24),
+        (4, "debug", ".debug_line", 0, 2000, 12),
+        (6, "merge", ".rodata.str", 0, 160, 0),
+        (3, "merge", ".debug_str", 0, 300, 0),
+        (3, "discard", ".text", EXECUTABLE, 100, 4),
+    ),
+    kinds=LINKED.pairs,
+    options=LINKED.options,
+    extras=("groups", "dynamic", "common"),
 )

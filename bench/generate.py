@@ -13,15 +13,20 @@ file of it is held at a time. SHAPE says what the bytes go to:
     linked    objects with symbols, relocations and names, from which dead code leaves
     chain     objects of sections of which each refers to the next, over all objects
     star      objects of sections that all refer to one symbol, eight times each
+    exports   symbols that are looked up in a list of exports, and a dynamic file that takes them
     tenth     strings that are merged, of 30 bytes, a tenth of them different
     distinct  the same, all different
     equal     the same, all equal
     one       one string that is merged
     empty     sections without data that are merged
     named     strings that are merged, each with a symbol that a relocation names
-    whole     linked ones with section groups, merge data, debug data and tables
+    grouped   linked ones with section groups, merge data, debug data, dynamic files and commons
+    whole     the same with tables, a script, and symbols of the linker
+    moves     output sections, up to the limit, each at a location of an expression of depth 50
+    regions   output sections in 64 regions, each with a load address
+    secondary output sections of which three in four are secondary
 
-The last shape isn't laid out yet, but read and checked; the others are laid out.
+The last four shapes aren't laid out yet, but read and checked; the others are laid out.
 """
 
 import math
@@ -29,9 +34,10 @@ import random
 import sys
 
 from attributes import ALLOCATED, EXECUTABLE, WRITABLE, ZERO_FILL
-from forms import LINKED, WHOLE
+from forms import GROUPED, LINKED, WHOLE
 from merges import MERGES, put_merges
-from ways import put_ways
+from plans import PLANS, put_plans
+from ways import put_exports, put_ways
 from whole import put_whole_link
 
 PAGE = 4096
@@ -39,9 +45,9 @@ BASE = 4194304
 MOST_BYTES = 500_000_000
 MOST_OUTPUT_SECTIONS = 65_000
 MOST_SEGMENTS = 8
-FORMS = {"linked": LINKED, "whole": WHOLE}
+FORMS = {"linked": LINKED, "grouped": GROUPED, "whole": WHOLE}
 WAYS = ("chain", "star")
-SHAPES = ("objects", "plan", "files", "single", *WAYS, *MERGES, *FORMS)
+SHAPES = ("objects", "plan", "files", "single", *WAYS, "exports", *MERGES, *FORMS, *PLANS)
 
 # Share of the output sections, attributes, name, and alignments to choose from. The order is the
 # order in memory: within a segment nothing with file bytes follows a zero-filled section.
@@ -184,6 +190,12 @@ def generate(stream, total, seed, shape):
         return
     if shape in WAYS:
         put_ways(writer, total, files_of_group(total, shape), PAGE, BASE, shape)
+        return
+    if shape == "exports":
+        put_exports(writer, total, PAGE, BASE)
+        return
+    if shape in PLANS:
+        put_plans(writer, total, PAGE, shape)
         return
     if shape in MERGES:
         put_merges(writer, total, files_of_group(total, shape), PAGE, BASE, shape)

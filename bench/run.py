@@ -1,7 +1,7 @@
 #!/usr/bin/env python3
 """Measure the program on generated descriptions, and print ratios.
 
-usage: run.py [--merges] [PROGRAM [MEGABYTES..]]
+usage: run.py [--merges|--plans] [PROGRAM [MEGABYTES..]]
        run.py --long [PROGRAM]
        run.py --memory [PROGRAM]
 
@@ -12,7 +12,8 @@ that it is parsed and let go. The run fails where an answer isn't of the kind th
 over the same bytes differ. Seconds are processor seconds, the least of the runs. None of them is judged:
 each is set against others of the same run.
 
-With --merges, the descriptions are of strings that are merged, and little else.
+With --merges, the descriptions are of strings that are merged, and little else. With --plans they have many
+output sections that the plan moves; until these are laid out, they are read and checked.
 
 With --long, each description has one list that is as long as it may be, or millions long. The run fails
 where the program crashes, runs out of its stack of 8 MB or answers something else.
@@ -31,12 +32,14 @@ import tempfile
 import long_lists
 import memory
 from merges import MERGES
+from plans import PLANS
 
 HERE = os.path.dirname(os.path.abspath(__file__))
 DEFAULT_PROGRAM = os.path.join(HERE, "..", "crates", "lk_program", "out", "lk_program")
 DEFAULT_MEGABYTES = (1, 10, 100)
 SHAPE_MEGABYTES = (1, 4)
-LARGE_SHAPES = ("objects", "linked", "chain", "star")
+LARGE_SHAPES = ("objects", "linked", "grouped", "chain", "star", "exports")
+PLAN_MEGABYTES = (1, 4, 16)
 SMALL_SHAPES = ("plan", "files", "single")
 RUNS, MOST_RUNS, SMALL_BYTES = 3, 7, 5_000_000
 BLOCK = 1 << 20
@@ -66,10 +69,12 @@ seconds; peak and output: multiples of the size
 """
 REST_COLUMNS = (
     *(("parse", 7), ("growth", 7), ("read/parse", 11), ("rest", 7), ("growth", 7), ("rest/parse", 11)),
+    ("peak/parse", 11),
 )
 REST_LEGEND = """\
 parse: ms/MB of making one JSON value of the whole text; rest: ms/MB of all after reading; growth: the powers
-of the size by which they grow. Aim: rest/parse at most 0.25, where strings are merged 0.2.
+of the size by which they grow; peak/parse: the peak memory as a multiple of that of parsing. Aim: rest/parse
+at most 0.25, where strings are merged 0.2.
 """
 MEMORY_COLUMNS = (
     *(("MB", 6), ("sections", 9), ("symbols", 9), ("reading", 8), ("read", 6), ("after", 7)),
@@ -243,6 +248,10 @@ class Series:
             "%.1f" % (stages.rest * 1e9 / stages.size),
             self.growth(stages, lambda of: of.rest),
             "%.2f" % (stages.rest / parsing),
+            "%s%.2f" % (
+                "<" if stages.whole.peak <= 1.05 * self.floor else "",
+                stages.whole.peak / stages.parsed.peak,
+            ),
         )
 
     def checked_row(self, stages):
@@ -340,6 +349,7 @@ def measure_memory(program, folder):
     print(MEMORY_LEGEND)
 
 
+SPECIAL_SHAPES = {"--merges": MERGES, "--plans": PLANS}
 OTHER_MEASURES = {"--long": measure_long_lists, "--memory": measure_memory}
 
 
@@ -348,16 +358,16 @@ def main(words):
         with tempfile.TemporaryDirectory() as folder:
             OTHER_MEASURES[words[0]](os.path.abspath((words + [DEFAULT_PROGRAM])[1]), folder)
         return
-    merges = words[:1] == ["--merges"]
-    words = words[1:] if merges else words
+    special = SPECIAL_SHAPES.get(words[0]) if words else None
+    words = words[1:] if special else words
     program = os.path.abspath(words[0] if words else DEFAULT_PROGRAM)
-    sizes = sorted(map(int, words[1:])) or DEFAULT_MEGABYTES
+    sizes = sorted(map(int, words[1:])) or (PLAN_MEGABYTES if special == PLANS else DEFAULT_MEGABYTES)
 
     def sizes_of(shape):
         return SHAPE_MEGABYTES if shape in SMALL_SHAPES else sizes
 
     with tempfile.TemporaryDirectory() as folder:
-        shapes = MERGES if merges else (*LARGE_SHAPES, *SMALL_SHAPES)
+        shapes = special or (*LARGE_SHAPES, *SMALL_SHAPES)
         laid_out = [Series(program, folder, shape) for shape in shapes]
         rows = Series.laid_out_row, Series.rest_row
         (rest,) = print_table(LAID_OUT_COLUMNS, LAID_OUT_LEGEND, laid_out, sizes_of, *rows)
@@ -365,7 +375,7 @@ def main(words):
         for line in rest:
             print_line(REST_COLUMNS, line)
         print(REST_LEGEND)
-        if merges:
+        if special:
             return
         checked = [Series(program, folder, "whole")]
         print_table(CHECKED_COLUMNS, CHECKED_LEGEND, checked, sizes_of, Series.checked_row)

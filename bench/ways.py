@@ -1,4 +1,5 @@
-"""Links in which much depends on a few symbols: a way that leads through all sections, and one symbol that all name."""
+"""Links in which much depends on a few things: a way that leads through all sections, one symbol that all name, and a
+list in which all symbols are looked up."""
 
 SECTIONS = 25  # of an object
 REFERENCES = 8  # of a section to the one symbol
@@ -62,3 +63,31 @@ def put_ways(writer, total, group_files, page, base, shape):
         writer.put(start + OBJECTS[shape](number, is_last) + end)
         number += 1
     writer.put("\n]}\n")
+
+
+# Exports that are looked up in a list
+
+EXPORT_BYTES = 94  # of a symbol, its name in the list, and who takes it
+PER_FILE = 1000
+
+
+def put_exports(writer, total, page, base):
+    """Symbols of which every other one is in the list of exports, and a dynamic file that takes them all."""
+    count = max(2, total // EXPORT_BYTES)
+    writer.put('{"options":{"restrictive":true,"export_list":[')
+    separator = ""
+    for number in reversed(range(0, count, 2)):
+        writer.put(separator + '"exported_symbol_%08d"' % number)
+        separator = ","
+    writer.put(']},\n"plan":%s,\n"groups":[\n[{"kind":"prelude"}]' % plan_text(page, base))
+    for first in range(0, count, PER_FILE):
+        names = range(first, min(first + PER_FILE, count))
+        symbols = ['{"name":"exported_symbol_%08d","at":["sec",0,0]}' % number for number in names]
+        start = ",\n[" if first == 0 else ","
+        writer.put(start + object_text(first // PER_FILE, symbols, [section_text("unloaded", [])]))
+    for first in range(0, count, PER_FILE):
+        numbers = range(first, min(first + PER_FILE, count))
+        symbols = ['{"at":["undef"],"def":%d}' % number for number in numbers]
+        start = '],\n[{"kind":"dynamic","symbols":[' if first == 0 else ","
+        writer.put(start + ",".join(symbols))
+    writer.put("]}]\n]}\n")

@@ -1,4 +1,4 @@
-"""The groups and the plan of a whole link: symbols, relocations, names; section groups and merge data in one form.
+"""The groups and the plan of a whole link: symbols, relocations, names; section groups and merge data in two forms.
 
 Per object some 25 sections, with about 3 symbols and 8 relocations for each, and names of some 30
 bytes. The link keeps every rule. What an object refers to stands in it or in a file before it.
@@ -107,25 +107,27 @@ class Link:
 
     def put_first_files(self):
         """The prelude; a script and the dynamic files."""
-        if not self.form.has_more:
-            self.writer.put('[{"kind":"prelude"}]')
-            return
-        prelude = joined('{"name":"%s","at":%s}' % symbol for symbol in PRELUDE_SYMBOLS)
-        script = '{"name":"heap_size","at":["redirect",["num",65536],["none"],true]}'
-        self.writer.put('[{"kind":"prelude","symbols":[%s]}],\n' % prelude)
-        self.writer.put('[{"kind":"script","name":"link.ld","symbols":[%s]}' % script)
-        self.symbols = len(PRELUDE_SYMBOLS) + 1
-        for number in range(DYNAMIC_FILES):
+        own, dynamic = "own" in self.form.extras, "dynamic" in self.form.extras
+        symbols = PRELUDE_SYMBOLS if own else ()
+        prelude = joined('{"name":"%s","at":%s}' % symbol for symbol in symbols)
+        self.writer.put('[{"kind":"prelude","symbols":[%s]}]' % prelude)
+        self.symbols = len(symbols)
+        files = []
+        if own:
+            script = '{"name":"heap_size","at":["redirect",["num",65536],["none"],true]}'
+            files.append('{"kind":"script","name":"link.ld","symbols":[%s]}' % script)
+            self.symbols += 1
+        for number in range(DYNAMIC_FILES if dynamic else 0):
             names = [name_text(self.rng) for _ in range(DYNAMIC_SYMBOLS)]
-            symbols = joined('{"name":"%s","at":["dyn"],"flags":2}' % name for name in names)
-            self.writer.put(',\n{"kind":"dynamic","name":"lib%d.so","symbols":[%s]}' % (number, symbols))
+            texts = joined('{"name":"%s","at":["dyn"],"flags":2}' % name for name in names)
+            files.append('{"kind":"dynamic","name":"lib%d.so","symbols":[%s]}' % (number, texts))
             self.known += range(self.symbols, self.symbols + DYNAMIC_SYMBOLS)
             self.symbols += DYNAMIC_SYMBOLS
-        self.writer.put("]")
+        self.writer.put(",\n[%s]" % ",\n".join(files))
 
     def put_last_file(self):
         """A synthetic file, with sections that its symbols keep."""
-        if not self.form.has_more:
+        if "own" not in self.form.extras:
             return
         number = WHOLE.numbers[".init_array"]
         symbols = '{"name":"__start_array","at":["start",%d]},{"name":"__stop_array","at":["end",%d]}'
@@ -136,7 +138,9 @@ class Link:
         )
 
 
-FIRST_OBJECT_SYMBOL = len(PRELUDE_SYMBOLS) + 1 + DYNAMIC_FILES * DYNAMIC_SYMBOLS
+def first_object_symbol(form):
+    own = len(PRELUDE_SYMBOLS) + 1 if "own" in form.extras else 0
+    return own + (DYNAMIC_FILES * DYNAMIC_SYMBOLS if "dynamic" in form.extras else 0)
 
 
 # Objects
@@ -177,7 +181,7 @@ class Object:
 
     def choose_groups(self):
         """Some pairs of neighbours, the second with what the first needs."""
-        if not self.form.has_more:
+        if "groups" not in self.form.extras:
             return
         for first, second in zip(self.sections, self.sections[1:]):
             grouped = first.slot == "unloaded" and second.slot in ("unloaded", "debug")
@@ -199,6 +203,15 @@ class Object:
                     self.refer_outside()
                 else:
                     self.name_place(section)
+        if "common" in self.form.extras:
+            self.name_common()
+
+    def name_common(self):
+        """A common, that others may refer to."""
+        part = self.form.first_parts[".bss"] + self.rng.randrange(self.form.part_counts[".bss"])
+        self.link.keep(self.link.known, self.link.symbols, MOST_KNOWN)
+        text = '{"name":"%s","at":["common",%d,%d]}'
+        self.add_symbol(text % (name_text(self.rng), part, 8 * self.rng.randrange(1, 64)))
 
     def name_section(self, section):
         """A symbol of the section itself: unnamed and local, or a name that others may refer to."""
@@ -257,7 +270,7 @@ class Object:
             yield ',"data":"%s","strings":true' % section.data
         else:
             yield ',"size":%d' % section.size
-        if self.form.has_more and section.output == ".init_array" and chance(self.rng, 0.5):
+        if "own" in self.form.extras and section.output == ".init_array" and chance(self.rng, 0.5):
             yield ',"sorted":true'
         if section.attributes:
             yield ',"attrs":%d' % section.attributes
@@ -304,10 +317,10 @@ def put_objects(link, total, group_files, first_group):
 def put_whole_link(writer, rng, total, group_files, page, base, form):
     """The whole description."""
     link = Link(writer, rng, form)
-    options = form.options % (FIRST_OBJECT_SYMBOL if form.has_more else 0)
+    options = form.options % first_object_symbol(form)
     writer.put('{"options":%s,\n"plan":%s,\n' % (options, plan_text(form, page, base)))
     writer.put('"groups":[\n')
     link.put_first_files()
-    put_objects(link, total, group_files, 2 if form.has_more else 1)
+    put_objects(link, total, group_files, 2)
     link.put_last_file()
     writer.put("\n]}\n")

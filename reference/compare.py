@@ -2,12 +2,16 @@
 """Compare the program with the reference on random small descriptions.
 
 usage: compare.py PROGRAM COUNT [SEED [FIRST]]
+       compare.py PROGRAM --whole COUNT [SEED [FIRST]]
        compare.py PROGRAM --places
        compare.py PROGRAM --small
 
 Runs PROGRAM on the random descriptions of the numbers FIRST to FIRST + COUNT - 1, and where FIRST is
 0 on the fixed ones too, and shows each one on which status or bytes differ from the reference's. Ends
 with 1 if there was one. The same SEED and number give the same description.
+
+With --whole, the random ones have what the program doesn't carry yet as well. The program may then say that
+it doesn't carry it, as the reference does without --whole.
 
 With --places, the descriptions are some small ones, changed at every place of their text: cut there, with
 a stray byte there, with another number, with a member doubled, escaped, left out or moved. With --small, they
@@ -22,6 +26,7 @@ import cases
 import reference
 from cases.places import changed_at_every_place
 from cases.small import every_small_link
+from cases.values import Made
 from program import program_answer
 from rules.refusal import LAID_OUT
 
@@ -43,23 +48,28 @@ def kind_of(status, text):
     line = re.sub("description:.*", "description", shown(text).strip())
     line = re.sub("(link: rule [0-9]+|overflow: [a-z]+|too many [a-z ]+).*", r"\1", line)
     line = re.sub("(merge offset: [a-z]*|not null-terminated|bucket too large).*", r"\1", line)
-    return re.sub("section [0-9]+", "section", line)
+    line = re.sub(r"(expression at [a-z]+).*(: .*)", r"\1\2", line)
+    line = re.sub(r"(backwards|headers|overflowed) .*", r"\1", line)
+    return re.sub("(section|region|event|address) [(]?[0-9a-fx]+[)]?", r"\1", line)
 
 
 class Comparison:
-    def __init__(self, program):
-        self.program = program
+    def __init__(self, program, whole=False):
+        self.program, self.whole = program, whole
         self.kinds = collections.Counter()
-        self.mismatches = 0
+        self.mismatches = self.later = 0
 
     def compare(self, name, data):
-        wanted = reference.answer(WORDS, data)
+        give = reference.whole_answer if self.whole else reference.answer
+        wanted = give(WORDS, data)
         try:
             got = program_answer(self.program, WORDS, data)
         except BrokenPipeError:
             got = None, b"(input not read)"
         self.kinds[kind_of(*wanted)] += 1
-        if got != wanted:
+        if got != wanted and self.whole and got == reference.answer(WORDS, data):
+            self.later += 1
+        elif got != wanted:
             self.mismatches += 1
             print("MISMATCH %s, input of %d bytes:" % (name, len(data)))
             print(shown(data))
@@ -69,7 +79,8 @@ class Comparison:
     def summary(self):
         for kind, count in self.kinds.most_common():
             print("%7d  %s" % (count, kind))
-        print("%d cases, %d mismatches" % (sum(self.kinds.values()), self.mismatches))
+        later = ", %d not carried yet" % self.later if self.later else ""
+        print("%d cases, %d mismatches%s" % (sum(self.kinds.values()), self.mismatches, later))
 
 
 def compare_listed(program, kind):
@@ -84,11 +95,15 @@ def main(words):
         comparison = compare_listed(*words)
         comparison.summary()
         sys.exit(1 if comparison.mismatches else 0)
+    whole = words[1:2] == ["--whole"]
+    if whole:
+        del words[1]
+        Made.widen()
     if not 2 <= len(words) <= 4 or not all(word.isdigit() for word in words[1:]):
-        sys.exit("usage: compare.py PROGRAM COUNT [SEED [FIRST]], or compare.py PROGRAM --places|--small")
+        sys.exit("usage: compare.py PROGRAM [--whole] COUNT [SEED [FIRST]], or compare.py PROGRAM --places|--small")
     count, seed, first = (list(map(int, words[1:])) + [0, 0])[:3]
-    comparison = Comparison(words[0])
-    if first == 0:
+    comparison = Comparison(words[0], whole)
+    if first == 0 and not whole:
         for name, data in cases.fixed_cases().items():
             comparison.compare("fixed, " + name, data)
     for number in range(first, first + count):

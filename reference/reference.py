@@ -1,17 +1,23 @@
 #!/usr/bin/env python3
 """An independent layout of link descriptions: plain, slow, and made from the written rules alone.
 
-usage: reference.py WORDS.. < DESCRIPTION
+usage: reference.py [--whole] WORDS.. < DESCRIPTION
+       reference.py --reach|--placement < DESCRIPTION
 
 Writes what the program is to write and ends with the status that it is to end with. It reads and
-checks whole descriptions, says what isn't laid out yet, and lays out the rest.
+checks whole descriptions, says what isn't laid out yet, and lays out the rest. With --whole it lays
+out what the program doesn't carry yet as well. With --reach it writes what
+the traversal answers: the live sections, the flags of all symbols, and the output sections that are kept.
+With --placement it writes what placement answers beside the report: whether the plan is plain, the bytes of
+the headers, the counters, merged records, compacted segments, and the end of thread-local data.
 """
 
 import sys
 
-from rules.checking import check_carried, check_link
+from rules.checking import NOT_CARRIED, check_carried, check_link
 from rules.json_text import read_json
-from rules.layout import report
+from rules.layout import placement_lines, report
+from rules.reach import reach_lines
 from rules.reading import description
 from rules.refusal import LAID_OUT, UNREADABLE, USAGE, Refusal
 
@@ -20,29 +26,66 @@ LONGEST_INPUT = 1_073_741_824
 WORKERS = [str(number) for number in range(65)]
 
 
-def lines_of(words, data):
-    """The lines of the report."""
-    if len(words) != 2 or words[0] != "layout" or words[1] not in WORKERS:
-        raise Refusal(USAGE, "usage: lk_program layout N | gen SEED SIZE")
+def link_of(data, refused=NOT_CARRIED):
+    """The description, which keeps all limits and rules."""
     if len(data) > LONGEST_INPUT:
         raise Refusal(UNREADABLE, "input is longer than %d bytes" % LONGEST_INPUT)
     link = description(read_json(data))
-    check_link(link)
-    check_carried(link)
-    return list(report(link))
+    check_link(link, refused)
+    return link
 
 
-def answer(words, data):
-    """The status and the bytes that these words and this input give."""
+def report_lines(words, data, refused):
+    """The lines of the report, unless the link has something of what is refused as not carried."""
+    if len(words) != 2 or words[0] != "layout" or words[1] not in WORKERS:
+        raise Refusal(USAGE, "usage: lk_program layout N | gen SEED SIZE")
+    link = link_of(data, refused)
+    check_carried(link, refused)
+    return report(link)
+
+
+def answer_of(make_lines, *inputs):
+    """The status and the bytes of these lines, or of the refusal."""
     try:
-        status, lines = LAID_OUT, lines_of(words, data)
+        status, lines = LAID_OUT, list(make_lines(*inputs))
     except Refusal as refusal:
         status, lines = refusal.status, refusal.lines
     return status, "".join(line + "\n" for line in lines).encode()
 
 
+def answer(words, data):
+    """The status and the bytes that these words and this input give."""
+    return answer_of(report_lines, words, data, NOT_CARRIED)
+
+
+def whole_answer(words, data):
+    """The same where what isn't carried yet is laid out as well."""
+    return answer_of(report_lines, words, data, ())
+
+
+def reach_answer(_, data):
+    """What the traversal alone answers."""
+    return answer_of(lambda: reach_lines(link_of(data)))
+
+
+def placement_answer(_, data):
+    """What placement answers beside the report."""
+    return answer_of(lambda: placement_lines(link_of(data, ())))
+
+
+# What is asked of the reference alone, by the first word.
+OWN_WORDS = {"--whole": whole_answer, "--reach": reach_answer, "--placement": placement_answer}
+
+
+def own_answer(words, data):
+    """What words that may begin with one of its own give."""
+    if words and words[0] in OWN_WORDS:
+        return OWN_WORDS[words[0]](words[1:], data)
+    return answer(words, data)
+
+
 def main(words):
-    status, text = answer(words, sys.stdin.buffer.read())
+    status, text = own_answer(words, sys.stdin.buffer.read())
     sys.stdout.buffer.write(text)
     sys.exit(status)
 

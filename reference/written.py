@@ -2,13 +2,16 @@
 
 In known/*.txt a line with a # is a remark. `words [..]` and `status N` say which words the program
 gets, and which status it is to end with, from there to the end of the file; without the first the
-words are `layout 0`. Each other block of lines, up to the next empty one, is an example: the line of
-its input, and the lines of its text. In an input, "«65 of X»" stands for 65 times X with commas
-between, and `quoted` before a JSON text says that the input is what the text says.
+words are `layout 0`. Words that begin with -- are the reference's own. `whole` says that the answers
+from there on are those which the program will give when it carries all of them; until then it may say
+that it doesn't. Each other block of lines, up to the next empty one, is an example: the line of its
+input, and the lines of its text. In an input, "«65 of X»" stands for 65 times X with commas between,
+and `quoted` before a JSON text says that the input is what the text says.
 
 In documents an example is an indented line that is a JSON list or object, followed by the indented
 lines of its text; a "·" is a space at the end of a line, and what follows it a remark. In examples/
-the description and the text are files of the same name.
+the description and the text are files of the same name. Both are answers of a program that carries
+all of it, unless they say that it doesn't.
 """
 
 import collections
@@ -24,8 +27,14 @@ DOCUMENTS = ("FORMAT.md", "DECISIONS.md")
 LAYOUT_WORDS = ["layout", "0"]
 INDENT = " " * 4
 UNREADABLE_STARTS = ("not JSON", "not a link description:", "input is longer")
+NOT_CARRIED_START = "not carried: "
 
-Example = collections.namedtuple("Example", "place words data status text")
+
+class Example(collections.namedtuple("Example", "place words data status text whole")):
+    def is_own(self):
+        """Whether its words are those of the reference alone."""
+        return self.words[:1] and self.words[0].startswith("--")
+
 
 
 def lines_of(path):
@@ -51,11 +60,11 @@ def input_of(line):
 
 def known_examples(path):
     """The examples of a file of known answers."""
-    words, status, block, first = LAYOUT_WORDS, None, [], 0
+    words, status, whole, block, first = LAYOUT_WORDS, None, False, [], 0
     for number, line in lines_of(path):
         if line == "" and block:
             place = "%s:%d" % (os.path.relpath(path, TOP), first)
-            yield Example(place, words, input_of(block[0]), status, joined(block[1:]))
+            yield Example(place, words, input_of(block[0]), status, joined(block[1:]), whole)
             block = []
         elif block:
             block.append(line)
@@ -63,11 +72,19 @@ def known_examples(path):
             words = json.loads(line[len("words ") :])
         elif line.startswith("status "):
             status = int(line[len("status ") :])
+        elif line == "whole":
+            whole = True
         elif line != "" and not line.startswith("#"):
             block, first = [line], number
 
 
 # Examples in documents and beside them
+
+
+def laid_down(place, data, text):
+    """An example with this text."""
+    whole = not text.startswith(NOT_CARRIED_START)
+    return Example(place, LAYOUT_WORDS, data, status_of(text), text, whole)
 
 
 def status_of(text):
@@ -85,7 +102,7 @@ def document_examples(path):
         begins = indented.startswith(("{", "["))
         if text and (begins or indented == ""):
             place = "%s:%d" % (os.path.relpath(path, TOP), first)
-            yield Example(place, LAYOUT_WORDS, data, status_of(joined(text)), joined(text))
+            yield laid_down(place, data, joined(text))
         if begins:
             data, first, text = indented, number, []
         elif indented == "":
@@ -105,7 +122,7 @@ def file_examples(folder):
             with open(os.path.join(folder, start + ".report"), encoding="utf-8") as file:
                 text = file.read()
             place = os.path.relpath(os.path.join(folder, name), TOP)
-            yield Example(place, LAYOUT_WORDS, data, status_of(text), text)
+            yield laid_down(place, data, text)
 
 
 def all_examples():

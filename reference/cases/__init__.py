@@ -8,6 +8,7 @@ from .good import good_description, move_to_the_edge
 from .richer import make_richer
 from .shapes import break_shape, random_shapes
 from .texts import break_text, json_text
+from .wide import widen
 
 __all__ = ["case", "fixed_cases"]
 
@@ -30,6 +31,7 @@ def random_description(rng):
     if kind == "of random shapes":
         return random_shapes(rng)
     description = good_description(rng)
+    widen(rng, description)
     if kind == "close to the greatest address":
         move_to_the_edge(rng, description)
     elif kind == "with what isn't laid out yet":

@@ -177,7 +177,7 @@ def good_description(rng):
 
 def greatest_ends(description):
     """The greatest ends in memory and in the file, or None where the layout is refused."""
-    status, text = reference.answer(["layout", "0"], json.dumps(description).encode())
+    status, text = reference.whole_answer(["layout", "0"], json.dumps(description).encode())
     if status != reference.LAID_OUT:
         return None
     lines = [line.split() for line in text.decode().splitlines() if line.startswith("part ")]
@@ -193,10 +193,11 @@ def move_to_the_edge(rng, description):
         return
     inputs = all_inputs(description)
     by = rng.choice((-70000, -4097, -4096, -17, -1, 0, 0, 1, 1, 2, 5, 16, 4096))
-    if rng.random() < 0.5 or not inputs:
-        base = description["plan"].get("base", ["num", 0])[1] + 2**64 - 1 - ends[0] + by
+    base = description["plan"].get("base", ["num", 0])
+    if base[0] == "num" and (rng.random() < 0.5 or not inputs):
+        base = base[1] + 2**64 - 1 - ends[0] + by
         description["plan"]["base"] = ["num", min(max(base, 0), 2**64 - 1)]
-    else:
+    elif inputs:
         entry = rng.choice(inputs)
         size = entry.get("size", 0) + 2**64 - 1 - rng.choice(ends) + by
         entry["size"] = min(max(size, 0), 2**64 - 1)

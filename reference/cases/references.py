@@ -2,9 +2,10 @@
 
 from rules import listed
 
-from .values import NAMES, TRUTHS, all_files, all_inputs, all_symbols, objects, optional, pick
+from .values import NAMES, TRUTHS, all_files, all_inputs, all_symbols, free_parts, objects, optional
 
 ADDENDS = (0, 0, 0, -4, -1, 1, 2, 5, 256, 2**63 - 1, -(2**63))
+COMMONS_SHARE = 0.4
 # What a discarded section may say of itself.
 ODD_RELOCATIONS = ([[2**64 - 1, "None", 77, 0, True]], [[0, "Absolute", 2**32 - 1, -1, False]])
 ODD_RELAXATIONS = ([[9, 9, 9, 0], [0, 0, 0, 99]], [[2**64 - 1, 2**32 - 1, 0, 2**64 - 1]])
@@ -30,6 +31,21 @@ def object_placement(rng, file):
             return ["sec", index, merged_offset(rng, length)]
         return ["sec", index, rng.choice((0, length // 2, length))]
     return rng.choice((["abs", 0], ["abs", 7], ["abs", 2**64 - 1], ["undef"], ["undef"]))
+
+
+def common_placement(rng, parts):
+    """A common in one of the parts; a large one now and then."""
+    return ["common", rng.choice(parts), rng.choice((0, 1, 1, 3, 4, 8, 9, 64, 100, 300000, 2**63, 2**64 - 1))]
+
+
+def add_commons(rng, description):
+    """Commons of some objects, among their other symbols."""
+    parts = free_parts(description)
+    for file in objects(description) if parts else []:
+        for _ in range(rng.choice((0, 0, 1, 2, 3))):
+            held = file.setdefault("symbols", [])
+            symbol = mark_symbol(rng, {"at": common_placement(rng, parts)})
+            held.insert(rng.randrange(len(held) + 1), symbol)
 
 
 def merged_offset(rng, length):
@@ -195,5 +211,7 @@ def add_references(rng, description):
         symbols = [mark_symbol(rng, {"at": object_placement(rng, file)}) for _ in range(count)]
         if symbols:
             file["symbols"] = symbols
+    if rng.random() < COMMONS_SHARE:
+        add_commons(rng, description)
     add_other_files(rng, description)
     connect(rng, description)

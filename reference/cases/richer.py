@@ -11,7 +11,7 @@ from .references import (
     put_section,
     put_symbols,
 )
-from .values import NAMES, TRUTHS, all_files, all_parts, free_parts, objects, optional
+from .values import NAMES, all_files, all_parts, free_parts, objects, optional
 
 
 def random_expression(rng, section_count, depth=0):

@@ -123,6 +123,13 @@ def check_part_fields(link):
             raise bad_link(4, "part field %d" % place)
 
 
+def check_singletons(link):
+    singletons = link.plan.singletons
+    if singletons is not None:
+        if singletons >= len(link.plan.sections) or link.options.output != "partial":
+            raise bad_link(5, "plan")
+
+
 def check_thread_local_segments(link):
     segments = link.plan.segments
     thread_local = [number for number, segment in enumerate(segments) if segment.kind == "tls"]
@@ -335,20 +342,25 @@ def check_candidates(link):
 
 
 RULES = (
-    *(check_options, check_page, check_sections, check_part_fields),
+    *(check_options, check_page, check_sections, check_part_fields, check_singletons),
     *(check_thread_local_segments, check_events, check_expressions),
     *(check_preludes, check_symbols, check_inputs, check_tables, check_candidates),
 )
 
 
-def check_link(link):
-    """Refuses the first list that is too long, or the first broken rule at its first place."""
+def check_link(link, refused):
+    """Refuses the first list that is too long, or the first broken rule at its first place. The rule on singletons
+    comes with partial output."""
     check_limits(link)
     for check in RULES:
-        check(link)
+        if check is not check_singletons or "partial" not in refused:
+            check(link)
 
 
 # What isn't laid out yet
+
+# The words of what the program doesn't carry yet.
+NOT_CARRIED = ("output", "table", "plan", "partial", "sorted", "primary", "relax", "symbol")
 
 
 def wants_whole_plan(plan):
@@ -368,13 +380,12 @@ def wants_whole_plan(plan):
 
 
 def uncarried(link):
-    """What isn't laid out yet, in the order in which it is looked for, with whether the link has it."""
+    """What may not be laid out yet, in the order in which it is looked for, with whether the link has it."""
     plan, output = link.plan, link.options.output
     inputs = [entry for _, _, entry in inputs_of(link)]
     kinds = {kind for entry in inputs for _, kind, _, _, _ in entry.relocs}
     symbols = symbols_of(link)
     owners = {file.kind for file, _ in symbols}
-    yield "common", any(symbol.at[0] == "common" for _, symbol in symbols)
     yield "output", output in ("dynamic", "shared")
     has_table = table_parts(link) or plan.named["comment"] is not None
     yield "table", has_table or kinds.intersection(listed.TABLE_RELOCATIONS)
@@ -386,7 +397,8 @@ def uncarried(link):
     yield "symbol", owners.intersection(listed.OWN_FILES)
 
 
-def check_carried(link):
+def check_carried(link, refused):
+    """Refuses the first thing that the link has of those with these words."""
     for what, present in uncarried(link):
-        if present:
+        if present and what in refused:
             raise not_carried(what)

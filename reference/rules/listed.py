@@ -14,6 +14,8 @@ RESOLVED = (
 FLAGS = {name: 1 << bit for bit, name in enumerate((*HANDED_IN, *RESOLVED))}
 # A set of flags that are handed in is below this.
 HANDED_IN_FLAGS = 1 << len(HANDED_IN)
+# The flag of a symbol that is named where a thunk may stand in.
+NEAR_ALONE = 1 << len(FLAGS)
 
 OUTPUTS = ("static", "dynamic", "shared", "partial")
 DISCARDS = ("default", "all", "none")

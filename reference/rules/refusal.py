@@ -56,3 +56,37 @@ def address_overflow(place):
 
 def in_no_segment(section):
     return Refusal(REFUSED, "section %d is in no segment" % section)
+
+
+def region_duplicate(region):
+    return Refusal(REFUSED, "region %d already defined" % region)
+
+
+def region_unknown(section):
+    return Refusal(REFUSED, "region of section %d not declared" % section)
+
+
+def region_overflow(region, excess):
+    return Refusal(REFUSED, "region %d overflowed by %d bytes" % (region, excess))
+
+
+def outside_region(address, event):
+    return Refusal(REFUSED, "address 0x%x at event %d is outside its region" % (address, event))
+
+
+def location_backwards(start, location):
+    text = "Cannot move location counter backwards (from 0x%x to 0x%x)"
+    return Refusal(REFUSED, text % (start, location))
+
+
+def base_too_low(base, headers):
+    text = "base address (0x%x) is less than the size of headers (0x%x)"
+    return Refusal(REFUSED, text % (base, headers))
+
+
+def wrong_expression(place, cause):
+    return Refusal(REFUSED, "expression at %s: %s" % (place, cause))
+
+
+def out_of_reach(kind, place, index):
+    return Refusal(REFUSED, "out of reach: %s %d %d %d %d" % (kind, *place, index))

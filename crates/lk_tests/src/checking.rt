@@ -6,8 +6,8 @@ use lk_check::check_link;
 use lk_input::{InputError, read_link};
 use lk_link::{
     Candidates, Emit, FileKind, InputFile, InputGroups, InputSection, InputSections, InputSlot,
-    LinkInput, List, OrderEvent, OutputSectionId, PartId, PlanPart, PlanSection, PlanSections,
-    Text,
+    InputSymbol, LinkInput, List, OrderEvent, OutputSectionId, PartId, PlanPart, PlanSection,
+    PlanSections, Relocation, RelocationKind, SymbolPlacement, Text, ValueFlags,
 };
 use std::alloc::{AllocError, Global};
 use std::test::Fail;
@@ -566,6 +566,32 @@ fn groups_of(alloc: Global, line: &str) -> Result<InputGroups, AllocError> {
     InputGroups::new(alloc, List::from_vec(groups))
 }
 
+/// The bytes that a text of hexadecimal digits stands for; none where it isn't one.
+fn bytes_of(alloc: Global, text: &str) -> Result<List<u8>, AllocError> {
+    let mut bytes = Vec::new(alloc);
+    for pair in text.as_bytes().chunks(2) {
+        let pair = std::str::from_utf8(pair).unwrap_or("");
+        if let Ok(byte) = u8::from_str_radix(pair, 16) {
+            bytes.push(byte)?;
+        }
+    }
+    Ok(List::from_vec(bytes))
+}
+
+/// A section of strings that are merged, of this size, whatever its data are.
+fn sized_section(alloc: Global, size: &str, data: &str) -> Result<InputSection, AllocError> {
+    let mut section = section_of(alloc, 0);
+    section.slot = InputSlot::Merge;
+    section.size = size.parse().unwrap_or(0);
+    section.bytes = bytes_of(alloc, data)?;
+    section.strings = true;
+    Ok(section)
+}
+
+/// A plan of one part.
+const ONE_PART: &[u8] =
+    br#"{"plan":{"page":1,"sections":[{"attrs":1,"parts":[[1,false]]}],"events":[["sec",0]]}}"#;
+
 /// A plan of the parts 0 and 1, of which part 1 is a table.
 const TWO_PARTS: &[u8] =
     br#"{"plan":{"page":1,"sections":[{"parts":[[1,false]]},{"parts":[[1,false]]}],"events":[["sec",0],["sec",1]],"got":1}}"#;
@@ -580,6 +606,75 @@ fn with_groups(mut link: LinkInput, groups: InputGroups) -> LinkInput {
 pub fn hand_made_link(alloc: Global, line: &str) -> Result<LinkInput, InputError> {
     let groups = groups_of(alloc, line)?;
     match read_link(alloc, TWO_PARTS) {
+        Ok(link) => Ok(with_groups(link, groups)),
+        Err(error) => Err(error),
+    }
+}
+
+/// A symbol with a name that stands for a place in the first section.
+fn named_symbol(alloc: Global, name: &str, offset: u64) -> Result<InputSymbol, AllocError> {
+    Ok(InputSymbol {
+        name: Text::from_string(String::from_str(alloc, name)?),
+        at: SymbolPlacement::Section { index: 0, offset },
+        def: None,
+        flags: ValueFlags(0),
+        local: false,
+        weak: false,
+        hidden: false,
+    })
+}
+
+/// A section that is kept and refers to the first two symbols of its file.
+fn referring_section(alloc: Global) -> Result<InputSection, AllocError> {
+    let mut relocs = Vec::new(alloc);
+    for symbol in 0..2 {
+        relocs.push(Relocation {
+            offset: 0,
+            kind: RelocationKind::Absolute,
+            symbol,
+            addend: 0,
+            thunkable: false,
+        })?;
+    }
+    let mut section = section_of(alloc, 0);
+    section.size = 1;
+    section.relocs = List::from_vec(relocs);
+    Ok(section)
+}
+
+/// An object with a merged section of a size and with data that a line tells, and named symbols at 1 and at 2 there, to which
+/// another section refers.
+fn sized_object(alloc: Global, line: &str) -> Result<InputFile, AllocError> {
+    let (size, data) = line.split_once(' ').unwrap_or((line, ""));
+    let mut sections = Vec::new(alloc);
+    sections.push(sized_section(alloc, size, data)?)?;
+    sections.push(referring_section(alloc)?)?;
+    let mut symbols = Vec::new(alloc);
+    symbols.push(named_symbol(alloc, "a", 1)?)?;
+    symbols.push(named_symbol(alloc, "b", 2)?)?;
+    let mut object = file_of(alloc, "o")?;
+    object.symbols = List::from_vec(symbols);
+    object.sections = InputSections::new(alloc, List::from_vec(sections))?;
+    Ok(object)
+}
+
+/// A prelude and such an object.
+fn sized_groups(alloc: Global, line: &str) -> Result<InputGroups, AllocError> {
+    let mut prelude = Vec::new(alloc);
+    prelude.push(file_of(alloc, "p")?)?;
+    let mut objects = Vec::new(alloc);
+    objects.push(sized_object(alloc, line)?)?;
+    let mut groups = Vec::new(alloc);
+    groups.push(List::from_vec(prelude))?;
+    groups.push(List::from_vec(objects))?;
+    InputGroups::new(alloc, List::from_vec(groups))
+}
+
+/// The files that a line stands for, under a plan of one part. No description gives a merged section a size that isn't that
+/// of its data.
+pub fn sized_link(alloc: Global, line: &str) -> Result<LinkInput, InputError> {
+    let groups = sized_groups(alloc, line)?;
+    match read_link(alloc, ONE_PART) {
         Ok(link) => Ok(with_groups(link, groups)),
         Err(error) => Err(error),
     }

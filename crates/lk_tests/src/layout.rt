@@ -301,10 +301,6 @@ const REFUSED: &str = r#"
 "primary":1 => 1 not carried: plan
 "region":"r" => 1 not carried: plan
 "at":["num",1] => 1 not carried: plan
-# behind the prelude,
-@ {"plan":{"page":16,"sections":[{"parts":[[1,false]]}],"events":[["sec",0]]},"groups":[[{"kind":"prelude"},...]]}
-{"kind":"object","symbols":[{"at":["common",0,4]}]} => 1 not carried: common
-{"kind":"script"},{"kind":"object","symbols":[{"at":["common",0,4]}]} => 1 not carried: common
 # and in an object with a symbol.
 @ {"plan":{"page":16,"sections":[{"parts":[[1,false]]}],"events":[["sec",0]]},"groups":[[{"kind":"prelude"},{"kind":"object","symbols":[{"at":["undef"]}],"sections":[...]}]]}
 {"slot":"must","size":1,"relocs":[[0,"GotTpOff",0,0,false]]} => 1 bad link: rule 12, input 0 1 0

@@ -4,9 +4,15 @@
 #[cfg(test)]
 mod checking;
 #[cfg(test)]
+mod commons;
+#[cfg(test)]
 mod devices;
 #[cfg(test)]
+mod expressions;
+#[cfg(test)]
 mod groups;
+#[cfg(test)]
+mod kept;
 #[cfg(test)]
 mod layout;
 #[cfg(test)]

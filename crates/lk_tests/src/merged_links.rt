@@ -39,6 +39,18 @@ symbol 1 0x1000 64 got - plt - dyn -
 entry -
 end
 
+# Debug data that are kept may choose an offset past the end.
+[{"kind":"object","symbols":[{"at":["sec",1,0]}],"sections":[{"slot":"mustdebug","size":8,"relocs":[[0,"Absolute",0,100,false]]},{"slot":"merge","strings":true,"data":"6100"}]}]]
+0 layout
+section 0 index 0 mem 0x1000 10 file 0x0 10 align 1 lma 0x1000 attrs 1
+part 0 mem 0x1000 10 file 0x0 10 align 1
+segment 0 mem 0x1000 10 file 0x0 10 align 1
+live 1 0 0 0x1002 8
+merged 0 2 1 1 2 0x1000
+piece 0 0x1000 2
+entry -
+end
+
 # Empty strings are no piece, but their section is told. Nothing keeps the output section.
 [{"kind":"object","sections":[{"slot":"merge","strings":true,"data":""}]}]]
 0 layout

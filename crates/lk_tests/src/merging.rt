@@ -1,7 +1,7 @@
 //! What is merged: what is kept of the pieces of each output section, where offsets are, how inputs are cut into groups, and
 //! which addresses symbols have; and the calls on a bucket, on pieces and on offsets.
 
-ghost use Rattle.std.specs.Prelude.{◌≡◌, ◌≤◌, ◌^◌};
+ghost use Rattle.std.specs.Prelude.{◌≡◌, ◌≤◌, ◌<◌, ◌%◌, ◌^◌};
 ghost use Rattle.lk_link.specs.WellFormed.{IsWellFormed};
 ghost use Rattle.lk_merge.specs.Addresses.{AreStartsOf};
 ghost use Rattle.lk_merge.specs.LinkInputs.{link_inputs};
@@ -9,15 +9,17 @@ ghost use Rattle.lk_merge.specs.LinkInputs.{link_inputs};
 use crate::rows::{Asked, add, expect_rows, expect_text};
 use crate::shown::Shown;
 use lk_check::check_link;
-use lk_link::{FileId, LinkInput, OutputSectionId, Relocation, SymbolId};
+use lk_link::{FileId, LinkInput, List, NoGate, OutputSectionId, Relocation, SymbolId};
 use lk_merge::{
     BucketOffset, LinearInputOffset, MergeError, MergeString, MergeStringsSectionBucket,
     MergedStringStartAddresses, MergedStringsSection, StringMergeInputSections, StringMergeInputs,
-    find_string, get_merged_string_output_address, merge_strings_alone, split_sections,
-    total_input_size,
+    find_string, get_merged_string_output_address, merge_strings, merge_strings_alone,
+    split_sections, total_input_size,
 };
 use std::alloc::{AllocError, Global};
+use std::sync::Wait;
 use std::test::Fail;
+use std::thread::Threads;
 
 /// What is told of merging.
 #[derive(Clone, Copy)]
@@ -93,6 +95,10 @@ const GROUPS: &str = r#"
 @ {"options":{"merge_group":...},"plan":{"page":16,"sections":[{"attrs":1,"parts":[[1,false]]}],"events":[["sec",0]]},"groups":[[{"kind":"prelude"}],[{"kind":"object","sections":[{"slot":"merge","strings":true,"data":"«9 times 61»00"},{"slot":"merge","strings":true,"data":"«299 times 61»00"}]}]]}
 256 => total 768 group (0, 256) group (256, 512) group (512, 768)
 512 => total 768 group (0, 512) group (512, 768)
+# Rounded up to a multiple of 256.
+1 => total 768 group (0, 256) group (256, 512) group (512, 768)
+257 => total 768 group (0, 512) group (512, 768)
+4294967295 => total 768 group (0, 768)
 4294967296 => total 768 group (0, 768)
 @ {"options":{"merge_group":...},"plan":{"page":16,"sections":[{"attrs":1,"parts":[[1,false]]}],"events":[["sec",0]]},"groups":[[{"kind":"prelude"}],[{"kind":"object","sections":[{"slot":"merge","strings":true,"data":"«299 times 61»00"},{"slot":"merge","strings":true,"data":"«299 times 61»00"}]}]]}
 256 => total 1024 group (0, 256) group (256, 512) group (512, 768) group (768, 1024)
@@ -126,6 +132,31 @@ const ADDRESSES: &str = r#"
 [0,"Absolute",0,-1,false] => address (Err(OffsetPastEnd), Ok(Some(0)))
 [0,"Absolute",1,2,false] => address (Ok(Some(4098)), Ok(Some(4098)))
 "#;
+
+/// What so many workers keep, and what is kept on the caller alone; and the refusals.
+const BY_WORKERS: &str = r#"
+@ {"plan":{"page":16,"sections":[{"attrs":1,"parts":[[1,false]]}],"events":[["sec",0]]},"groups":[[{"kind":"prelude"}],[{"kind":"object","sections":[{"slot":"merge","strings":true,"data":"..."}]}]]}
+610062006100 => workers 0 section (16, 2, 3, 6, 4) bucket (4, 2) piece [97, 0] bucket (15, 2) piece [98, 0] workers 2 section (16, 2, 3, 6, 4) bucket (4, 2) piece [97, 0] bucket (15, 2) piece [98, 0] workers 8 section (16, 2, 3, 6, 4) bucket (4, 2) piece [97, 0] bucket (15, 2) piece [98, 0] alone section (16, 2, 3, 6, 4) bucket (4, 2) piece [97, 0] bucket (15, 2) piece [98, 0]
+610062 => workers 0 refused NotTerminated { section: OutputSectionId { number: 0 }, input: 0 } workers 2 refused NotTerminated { section: OutputSectionId { number: 0 }, input: 0 } workers 8 refused NotTerminated { section: OutputSectionId { number: 0 }, input: 0 } alone refused NotTerminated { section: OutputSectionId { number: 0 }, input: 0 }
+"#;
+
+/// What is kept of a section with the bytes that are told second, whose size is what is told first.
+const SIZED_KEPT: &str = "
+# Longer, shorter, and none.
+9 6100 => section (16, 1, 1, 2, 2) bucket (4, 2) piece [97, 0]
+1 6100 => section (16, 1, 1, 2, 2) bucket (4, 2) piece [97, 0]
+0 610062006100 => section (16, 2, 3, 6, 4) bucket (4, 2) piece [97, 0] bucket (15, 2) piece [98, 0]
+9 - => section (16, 0, 0, 0, 0)
+9 61 => refused NotTerminated { section: OutputSectionId { number: 0 }, input: 0 }
+";
+
+/// The addresses of a named symbol at 1 and of one at 2 in such a section, where the image starts at 4096.
+const SIZED_ADDRESSES: &str = "
+9 6100 => address (Ok(Some(4097)), Ok(Some(4097))) address (Err(OffsetPastEnd), Err(OffsetPastEnd))
+1 6100 => address (Ok(Some(4097)), Ok(Some(4097))) address (Err(OffsetPastEnd), Err(OffsetPastEnd))
+0 610062006100 => address (Ok(Some(4097)), Ok(Some(4097))) address (Ok(Some(4098)), Ok(Some(4098)))
+9 - => address (Err(OffsetPastEnd), Err(OffsetPastEnd)) address (Err(OffsetPastEnd), Err(OffsetPastEnd))
+";
 
 /// Adds a bucket that holds something: its number, its length and its pieces.
 fn add_bucket(
@@ -197,10 +228,10 @@ fn add_groups(
     line: &mut String,
     inputs: &StringMergeInputSections<'_>,
     size: u64,
-) -> Result<(), AllocError> {
-    if size == 0 || size % 256 != 0 {
-        return Ok(());
-    }
+) -> Result<(), AllocError>
+    requires positive { 0 < size }
+    requires blocks { size % 256 ≡ 0 }
+{
     add(line, "total", &total_input_size(inputs))?;
     for group in split_sections(alloc, inputs, size)? {
         add(line, "group", &(group.start.as_u64(), group.end.as_u64()))?;
@@ -216,7 +247,10 @@ fn add_output(
     inputs: &StringMergeInputSections<'_>,
     size: u64,
     section: &MergedStringsSection<'_>,
-) -> Result<(), AllocError> {
+) -> Result<(), AllocError>
+    requires positive { 0 < size }
+    requires blocks { size % 256 ≡ 0 }
+{
     match told {
         Merging::Places => add_places(line, inputs, section),
         Merging::Groups => add_groups(alloc, line, inputs, size),
@@ -232,7 +266,7 @@ fn add_outputs(
     inputs: &StringMergeInputs<'_>,
     merged: &[MergedStringsSection<'_>],
 ) -> Result<(), AllocError> {
-    let size = inputs.merge_group();
+    let size = inputs.group_size();
     for (number, section) in merged.iter().enumerate() {
         if let Some(output) = inputs.outputs().get(number) {
             add_output(alloc, line, told, output, size, section)?;
@@ -300,6 +334,42 @@ fn add_started(
     add_addresses(line, link, merged, &starts)
 }
 
+/// Adds what is kept, or why nothing is merged.
+fn add_merged(
+    line: &mut String,
+    merged: &Result<List<MergedStringsSection<'_>>, MergeError>,
+) -> Result<(), AllocError> {
+    match merged {
+        Ok(merged) => {
+            for section in merged.as_slice() {
+                add_kept(line, section)?;
+            }
+            Ok(())
+        }
+        Err(MergeError::NoMemory) => Err(AllocError),
+        Err(error) => add(line, "refused", error),
+    }
+}
+
+/// Adds what workers keep of a link that is well formed, and what is kept on the caller alone.
+pub fn add_merged_by_workers(
+    rt: &(impl Threads + Wait + Sync),
+    alloc: Global,
+    line: &mut String,
+    link: &LinkInput,
+) -> Result<(), AllocError> {
+    if check_link(link).is_err() {
+        return Ok(());
+    }
+    let inputs = StringMergeInputs::new(alloc, link)?;
+    for workers in [0, 2, 8] {
+        add(line, "workers", &workers)?;
+        add_merged(line, &merge_strings(rt, alloc, &inputs, workers, &NoGate))?;
+    }
+    line.push_str(" alone")?;
+    add_merged(line, &merge_strings_alone(alloc, &inputs))
+}
+
 /// Adds what is told of merging, of a link that is well formed; or why it isn't merged.
 pub fn add_merging(
     alloc: Global,
@@ -326,6 +396,31 @@ fn merged_sections_hold_distinct_pieces(rt: HostRuntime) -> Result<(), Fail> {
         rt.alloc(),
         Asked::Of(Shown::Merging(Merging::Kept)),
         KEPT,
+    )
+}
+
+#[test]
+fn every_number_of_workers_merges(rt: HostRuntime) -> Result<(), Fail> {
+    expect_rows(&rt, rt.alloc(), Asked::MergedByWorkers, BY_WORKERS)
+}
+
+#[test]
+fn merging_goes_by_data(rt: HostRuntime) -> Result<(), Fail> {
+    expect_rows(
+        &rt,
+        rt.alloc(),
+        Asked::OfSized(Shown::Merging(Merging::Kept)),
+        SIZED_KEPT,
+    )
+}
+
+#[test]
+fn addresses_go_by_data(rt: HostRuntime) -> Result<(), Fail> {
+    expect_rows(
+        &rt,
+        rt.alloc(),
+        Asked::OfSized(Shown::Merging(Merging::Addresses)),
+        SIZED_ADDRESSES,
     )
 }
 

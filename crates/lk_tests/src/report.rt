@@ -55,10 +55,12 @@ fn segment() -> SegmentLayout {
 fn empty_layout(alloc: Global) -> Result<Layout<'static>, AllocError> {
     Ok(Layout {
         section_layouts: List::new(alloc),
+        merged_section_layouts: List::new(alloc),
         section_part_layouts: List::new(alloc),
         section_attributes: List::new(alloc),
         output_section_indexes: List::new(alloc),
         segment_layouts: List::new(alloc),
+        tls_layout: None,
         live_marks: List::new(alloc),
         section_addresses: List::new(alloc),
         merged_strings: List::new(alloc),

@@ -1,9 +1,11 @@
 //! Rows of a text: what is given, and behind an arrow what is told of it. Rows cost nothing to prove, so nearly all cases
 //! of all topics are rows, and few functions walk them.
 
-use crate::checking::{crowded_link, hand_made_link};
+use crate::checking::{crowded_link, hand_made_link, sized_link};
 use crate::devices::{add_calls, add_held, add_reads, add_run, add_whole, add_writes};
+use crate::kept::add_traversals;
 use crate::layout::add_workers;
+use crate::merging::add_merged_by_workers;
 use crate::reading::add_outcome;
 use crate::runs::{add_end, add_words};
 use crate::shown::{Shown, add_shown};
@@ -28,8 +30,14 @@ pub enum Asked {
     OfHandMade(Shown),
     /// What is told of the link of as many parts and events as its words say.
     OfCrowded(Shown),
+    /// What is told of the link with a merged section of the size and the data that its words say.
+    OfSized(Shown),
     /// What reports are made of it by how many workers.
     Workers,
+    /// What is live of it by how many workers.
+    Traversals,
+    /// What is merged of it by how many workers.
+    MergedByWorkers,
     /// How a run over it ends.
     Run,
     /// What command its words are, and how a run with them ends.
@@ -55,6 +63,7 @@ fn link_of(alloc: Global, asked: Asked, text: &str) -> Result<LinkInput, InputEr
     match asked {
         Asked::OfHandMade(_) => hand_made_link(alloc, text),
         Asked::OfCrowded(_) => crowded_link(alloc, text),
+        Asked::OfSized(_) => sized_link(alloc, text),
         _ => read_link(alloc, text.as_bytes()),
     }
 }
@@ -68,9 +77,10 @@ fn add_of(
     link: &LinkInput,
 ) -> Result<(), AllocError> {
     match asked {
-        Asked::Of(shown) | Asked::OfHandMade(shown) | Asked::OfCrowded(shown) => {
-            add_shown(alloc, line, shown, link)
-        }
+        Asked::Of(shown) | Asked::OfHandMade(shown) => add_shown(alloc, line, shown, link),
+        Asked::OfCrowded(shown) | Asked::OfSized(shown) => add_shown(alloc, line, shown, link),
+        Asked::Traversals => add_traversals(rt, alloc, line, link),
+        Asked::MergedByWorkers => add_merged_by_workers(rt, alloc, line, link),
         _ => add_workers(rt, alloc, line, link),
     }
 }
@@ -132,7 +142,10 @@ fn add_answer(
     text: &str,
 ) -> Result<(), AllocError> {
     match asked {
-        Asked::Of(_) | Asked::OfHandMade(_) | Asked::OfCrowded(_) | Asked::Workers => {
+        Asked::Of(_) | Asked::OfHandMade(_) | Asked::OfCrowded(_) | Asked::OfSized(_) => {
+            add_linked(rt, alloc, line, asked, text)
+        }
+        Asked::Workers | Asked::Traversals | Asked::MergedByWorkers => {
             add_linked(rt, alloc, line, asked, text)
         }
         _ => add_text(rt, alloc, line, asked, text),

@@ -1,6 +1,8 @@
 //! What is told of a link, in a line of text.
 
 use crate::checking::add_check;
+use crate::expressions::{add_beginning, add_plain, add_values};
+use crate::kept::{add_exports, add_states};
 use crate::look_ups::{add_files, add_members, add_names, add_symbols};
 use crate::merging::{Merging, add_merging};
 use crate::plans::{add_insides, add_sections};
@@ -36,11 +38,19 @@ pub enum Shown {
     /// What files, symbols and sections ask for, and what is reached by that.
     Asks,
     Reached,
+    /// What files are called and load, and what they export.
+    States,
+    Exports,
     /// What is live, and what that brings to parts and sections.
     Live,
     Sizes,
     /// What symbols and headers take in tables.
     Tables,
+    /// What the base is worth, and what is evaluated before the first event.
+    Values,
+    Beginning,
+    /// Whether the plan is plain.
+    Plain,
     /// What is merged.
     Merging(Merging),
     /// What isn't carried.
@@ -71,9 +81,14 @@ pub fn add_shown(
         Shown::Insides => add_insides(alloc, line, &link.plan),
         Shown::Asks => add_asks(line, link),
         Shown::Reached => add_reached(alloc, line, link),
+        Shown::States => add_states(alloc, line, link),
+        Shown::Exports => add_exports(line, link),
         Shown::Live => add_live(alloc, line, link),
         Shown::Sizes => add_sizes(alloc, line, link),
         Shown::Tables => add_tables(alloc, line, link),
+        Shown::Values => add_values(alloc, line, link),
+        Shown::Beginning => add_beginning(alloc, line, link),
+        Shown::Plain => add_plain(line, link),
         Shown::Merging(told) => add_merging(alloc, line, told, link),
         Shown::Report => add_report(alloc, line, link),
         Shown::Entries => add_entries(alloc, line, link),
