@@ -16,7 +16,7 @@ use Rattle.lk_merge.specs.MergingTables.{entry_of}
 use Rattle.lk_merge.specs.OffsetMaps.{IsLastAt, NoneAt, StartsRise}
 use Rattle.lk_merge.specs.Pieces.{Piece, MergeInput, pieces_of}
 use Rattle.lk_merge.proofs.Finding.{IsFound, IsNowhere, entries_rise, found_or_nowhere, only_last, not_none, starts_behind}
-use Rattle.lk_merge.proofs.LaidOut.{data_fits, laid_out_at}
+use Rattle.lk_merge.proofs.LaidOut.{data_fits, input_starts}
 use Rattle.lk_merge.proofs.LocatedLemmas.{slice_within}
 
 one_of : {X : Type 0} {o : Option X} {a b : X} → o ≡ Some a → o ≡ Some b → a ≡ b
@@ -97,7 +97,7 @@ module _ (xs : List MergeInput) (buckets : List Bucket) (entries : List PieceEnt
 
         starts : s.start_input_offset ≡ padded_total (take e.input xs)
         starts =
-            laid_out_at 0 sections e.input s laid.laid_out within s_is ∙ omega arith
+            input_starts total sections e.input s laid within s_is
             ∙ ap padded_total (sym (take-map input_of e.input sections) ∙ ap (take e.input) are)
 
         last : IsLastAt entries (start + offset) i

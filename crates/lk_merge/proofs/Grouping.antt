@@ -13,7 +13,6 @@ use Rattle.lk_merge.specs.GroupTables.{IsInputAt}
 use Rattle.lk_merge.specs.Inputs.{AreInputs, input_of, padded_len, padded_total}
 use Rattle.lk_merge.specs.Pieces.{MergeInput}
 use Rattle.lk_merge.proofs.Finding.{starts_behind}
-use Rattle.lk_merge.proofs.LaidOut.{laid_out_at}
 use Rattle.lk_merge.proofs.LocatedLemmas.{slice_within}
 
 -- ---- where inputs start and end
@@ -43,10 +42,7 @@ pub record IsHalved (ss : List StringMergeInputSection) (at low high : ℕ) : Ty
 
 module _ (total : ℕ) (ss : List StringMergeInputSection) (h : AreInputs total ss) where
   pub start_is : (k : ℕ) (s : StringMergeInputSection) → slice_get ss k ≡ Some s → s.start_input_offset ≡ input_start (map input_of ss) k
-  start_is k s there =
-      let within = slice_within ss k s there in
-      let is : s ≡ get_or ss k s = sym (get_or_from_slice_get ss k s s there) in
-      laid_out_at 0 ss k s h.laid_out within is ∙ omega arith ∙ ap padded_total (sym (take-map input_of k ss))
+  start_is k s there = h.starts k s there ∙ ap padded_total (sym (take-map input_of k ss))
 
   pub input_is : (k : ℕ) (s : StringMergeInputSection) → slice_get ss k ≡ Some s → slice_get (map input_of ss) k ≡ Some (input_of s)
   input_is k s there = slice_get-map input_of ss k ∙ ap (option_map input_of) there

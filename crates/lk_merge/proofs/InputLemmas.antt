@@ -1,25 +1,13 @@
 -- Inputs one behind another, and the places of their pieces.
-use Rattle.std.proofs.Common.{◌≡◌, ℕ, zero, suc, ◌+◌, ◌<◌, List, [], ◌∷◌, ◌++◌, length, map, Some, option_map, inl, inr, ◌⊎◌, ◌^◌, refl, sym, ap, ◌∙◌, arith, append_assoc, append-nil, length-append}
+use Rattle.std.proofs.Common.{◌≡◌, ℕ, zero, suc, ◌+◌, ◌<◌, List, [], ◌∷◌, ◌++◌, length, map, take, Some, option_map, inl, inr, ◌⊎◌, ◌^◌, refl, sym, ap, ◌∙◌, arith, append_assoc, append-nil, length-append}
 use Rattle.std.specs.List.{concat, slice_get}
-use Rattle.std.proofs.lemmas.List.{map-append, length_push}
+use Rattle.std.proofs.lemmas.List.{map-append, length_push, take-append-le, take_all}
 use Rattle.std.proofs.lemmas.List.Sums.{sum_by_push, sum_by-cons}
 use Rattle.std.proofs.lemmas.Option.{slice_get-map, slice_get_within}
 use Rattle.lk_merge.specs.declared.inputs.StringMergeInputSection.{StringMergeInputSection}
 use Rattle.lk_merge.specs.Image.{all_pieces}
-use Rattle.lk_merge.specs.Inputs.{AreInputs, AreLaidOut, input_of, padded_len, padded_total, Located, located_in, located_from}
+use Rattle.lk_merge.specs.Inputs.{AreInputs, input_of, padded_len, padded_total, Located, located_in, located_from}
 use Rattle.lk_merge.specs.Pieces.{Piece, MergeInput, pieces_of}
-
-pub laid_out_push : (at : ℕ) (ss : List StringMergeInputSection) (s : StringMergeInputSection) → AreLaidOut at ss
-    → s.start_input_offset ≡ at + padded_total (map input_of ss) → AreLaidOut at (ss ++ s ∷ [])
-unfolding AreLaidOut
-laid_out_push at [] s h e = let here : s.start_input_offset ≡ at = omega (arith, e) in (here, tt)
-laid_out_push at (r ∷ ss) s h e =
-    let more = sum_by-cons padded_len (input_of r) (map input_of ss) in
-    (h.0, laid_out_push (at + padded_len (input_of r)) ss s h.1 (omega (arith, e, more)))
-
-pub laid_out_none : (at : ℕ) → AreLaidOut at []
-unfolding AreLaidOut
-laid_out_none at = tt
 
 pub padded_total_push : (ss : List StringMergeInputSection) (s : StringMergeInputSection)
     → padded_total (map input_of (ss ++ s ∷ [])) ≡ padded_total (map input_of ss) + padded_len (input_of s)
@@ -27,7 +15,7 @@ padded_total_push ss s = ap padded_total (map-append input_of ss (s ∷ [])) ∙
 
 pub no_inputs : AreInputs 0 []
 no_inputs = record {
-  laid_out = laid_out_none 0;
+  starts = λ k s there. absurd (cc);
   sum = refl;
   fits = omega arith;
   few = omega arith;
@@ -41,12 +29,27 @@ push_at [] x y (suc k) h = absurd (cc)
 push_at (z ∷ xs) x y zero h = inl h
 push_at (z ∷ xs) x y (suc k) h = elim (push_at xs x y k h) [ inl a ↦ inl a | inr b ↦ inr (omega (arith, b.0), b.1) ]
 
+starts_push : (ss : List StringMergeInputSection) (s : StringMergeInputSection)
+    → ((k : ℕ) (r : StringMergeInputSection) → slice_get ss k ≡ Some r → r.start_input_offset ≡ padded_total (map input_of (take k ss)))
+    → s.start_input_offset ≡ padded_total (map input_of ss)
+    → (k : ℕ) (r : StringMergeInputSection) → slice_get (ss ++ s ∷ []) k ≡ Some r → r.start_input_offset ≡ padded_total (map input_of (take k (ss ++ s ∷ [])))
+starts_push ss s h last k r there =
+    let total : List StringMergeInputSection → ℕ = λ rs. padded_total (map input_of rs) in
+    elim (push_at ss s r k there) [
+      | inl a ↦
+          let within = slice_get_within ss k r a in
+          h k r a ∙ ap total (sym (take-append-le k ss (s ∷ []) (omega (arith, within))))
+      | inr b ↦
+          ap (λ (x : StringMergeInputSection). x.start_input_offset) (sym b.1) ∙ last
+          ∙ ap total (sym (take-append-le k ss (s ∷ []) (omega (arith, b.0)) ∙ take_all k ss (omega (arith, b.0))))
+    ]
+
 pub one_more_input : (total : ℕ) (ss : List StringMergeInputSection) (s : StringMergeInputSection) → AreInputs total ss → s.start_input_offset ≡ total
     → total + padded_len (input_of s) < 2 ^ 63 → length ss + 1 < 2 ^ 32
     → ((k : ℕ) (x : MergeInput) → slice_get (map input_of ss) k ≡ Some x → x.number < s.number)
     → AreInputs (total + padded_len (input_of s)) (ss ++ s ∷ [])
 one_more_input total ss s h at fits few behind = record {
-  laid_out = laid_out_push 0 ss s h.laid_out (omega (arith, at, h.sum));
+  starts = starts_push ss s h.starts (at ∙ h.sum);
   sum = let n = padded_total_push ss s in omega (arith, n, h.sum);
   fits = fits;
   few = let n = length_push ss s in omega (arith, n, few);
@@ -72,6 +75,16 @@ pub located_in_step : (k at : ℕ) (p : Piece) (ps : List Piece)
     → located_in k at (p ∷ ps) ≡ record { input = k; start = at; piece = p } ∷ located_in k (at + length p) ps
 unfolding located_in
 located_in_step k at p ps = refl
+
+pub located_in_append : (k at : ℕ) (ps qs : List Piece)
+    → located_in k at (ps ++ qs) ≡ located_in k at ps ++ located_in k (at + length (concat ps)) qs
+unfolding located_in
+located_in_append k at [] qs = let n : at ≡ at + 0 = omega arith in ap (λ a. located_in k a qs) n
+located_in_append k at (p ∷ ps) qs =
+    let more : length (p ++ concat ps) ≡ length p + length (concat ps) = length-append p (concat ps) in
+    let n : (at + length p) + length (concat ps) ≡ at + length (concat (p ∷ ps)) = omega (arith, more) in
+    ap (λ l. record { input = k; start = at; piece = p } ∷ l)
+    (located_in_append k (at + length p) ps qs ∙ ap (λ a. located_in k (at + length p) ps ++ located_in k a qs) n)
 
 pub located_in_push : (k at : ℕ) (ps : List Piece) (p : Piece)
     → located_in k at (ps ++ p ∷ []) ≡ located_in k at ps ++ record { input = k; start = at + length (concat ps); piece = p } ∷ []

@@ -1,22 +1,18 @@
 -- Where inputs start, and that they end within all.
-use Rattle.std.proofs.Common.{◌≡◌, ℕ, zero, suc, ◌+◌, ◌≤◌, ◌<◌, ◌^◌, List, [], ◌∷◌, ◌++◌, length, map, take, get_or, sym, ap, ◌∙◌, subst, arith}
+use Rattle.std.proofs.Common.{◌≡◌, ℕ, zero, suc, ◌+◌, ◌≤◌, ◌<◌, ◌^◌, List, [], ◌∷◌, ◌++◌, length, map, take, get_or, Some, sym, ap, ◌∙◌, subst, arith}
 use Rattle.std.proofs.lemmas.List.{map-append, length-map, length-take-le, take_more}
 use Rattle.std.proofs.lemmas.List.Sums.{sum_by-cons}
+use Rattle.std.proofs.lemmas.Option.{slice_get-get_or}
 use Rattle.lk_merge.specs.declared.inputs.StringMergeInputSection.{StringMergeInputSection}
 use Rattle.lk_merge.specs.declared.merging.Merging.{Merging as Merges}
-use Rattle.lk_merge.specs.Inputs.{AreInputs, AreLaidOut, input_of, padded_len, padded_total, located, located_in}
+use Rattle.lk_merge.specs.Inputs.{AreInputs, input_of, padded_len, padded_total, located, located_in}
 use Rattle.lk_merge.specs.MergingTables.{HasMerged}
 use Rattle.lk_merge.specs.Pieces.{MergeInput, pieces_of}
 use Rattle.lk_merge.proofs.InputLemmas.{located_from_push, located_none}
 
-pub laid_out_at : (at : ℕ) (ss : List StringMergeInputSection) (k : ℕ) (s : StringMergeInputSection) → AreLaidOut at ss → k < length ss → s ≡ get_or ss k s
-    → s.start_input_offset ≡ at + padded_total (map input_of (take k ss))
-unfolding AreLaidOut
-laid_out_at at [] k s h within is = absurd (omega arith)
-laid_out_at at (r ∷ ss) zero s h within is = ap (λ (x : StringMergeInputSection). x.start_input_offset) is ∙ h.0 ∙ omega arith
-laid_out_at at (r ∷ ss) (suc k) s h within is =
-    let more = sum_by-cons padded_len (input_of r) (map input_of (take k ss)) in
-    laid_out_at (at + padded_len (input_of r)) ss k s h.1 (omega arith) is ∙ omega (arith, more)
+pub input_starts : (total : ℕ) (ss : List StringMergeInputSection) (k : ℕ) (s : StringMergeInputSection) → AreInputs total ss → k < length ss → s ≡ get_or ss k s
+    → s.start_input_offset ≡ padded_total (map input_of (take k ss))
+input_starts total ss k s h within is = h.starts k s (slice_get-get_or ss k s within ∙ ap (λ (x : StringMergeInputSection). Some x) (sym is))
 
 pub ends_within : (ss : List StringMergeInputSection) (k : ℕ) (s : StringMergeInputSection) → k < length ss → s ≡ get_or ss k s
     → padded_total (map input_of (take k ss)) + padded_len (input_of s) ≤ padded_total (map input_of ss)
@@ -37,7 +33,7 @@ data_fits x = omega arith
 pub input_fits : (total : ℕ) (ss : List StringMergeInputSection) (k : ℕ) (s : StringMergeInputSection) → AreInputs total ss → k < length ss → s ≡ get_or ss k s
     → s.start_input_offset + length s.section_data.now < 2 ^ 64
 input_fits total ss k s h within is =
-    let start = laid_out_at 0 ss k s h.laid_out within is in
+    let start = input_starts total ss k s h within is in
     let end = ends_within ss k s within is in
     let fit = data_fits (input_of s) in
     omega (arith, start, end, fit, h.sum, h.fits)
@@ -52,7 +48,7 @@ pub merged_next : (section limit total : ℕ) (ss : List StringMergeInputSection
 merged_next section limit total ss k s old new h within is merged =
     let before : List MergeInput = map input_of (take k ss) in
     let count : length before ≡ k = length-map (take k ss) input_of ∙ length-take-le k ss (omega arith) in
-    let start : s.start_input_offset ≡ 0 + padded_total before = laid_out_at 0 ss k s h.laid_out within is in
+    let start : s.start_input_offset ≡ 0 + padded_total before = input_starts total ss k s h within is ∙ omega arith in
     let more : map input_of (take (k + 1) ss) ≡ before ++ input_of s ∷ []
     = ap (map input_of) (take_more ss k s within ∙ ap (λ (x : StringMergeInputSection). take k ss ++ x ∷ []) (sym is)) ∙ map-append input_of (take k ss) (s ∷ []) in
     let all : located (map input_of (take (k + 1) ss)) ≡ located before ++ located_in k s.start_input_offset (pieces_of (input_of s))

@@ -20,6 +20,7 @@ pub mod LaidOut
 pub mod LocatedLemmas
 pub mod MergeBytes
 pub mod MergedLemmas
+pub mod MergedReferences
 pub mod Numbers
 pub mod Outside
 pub mod PieceLemmas

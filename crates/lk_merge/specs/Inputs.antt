@@ -1,5 +1,5 @@
 -- The inputs of an output section: where each stands, as if they stood one after the other.
-use Rattle.std.specs.Prelude.{◌≡◌, ℕ, ◌+◌, ◌<◌, ◌^◌, List, [], ◌∷◌, ◌++◌, Some, length, map, slice_get, sum_by}
+use Rattle.std.specs.Prelude.{◌≡◌, ℕ, ◌+◌, ◌<◌, ◌^◌, List, [], ◌∷◌, ◌++◌, Some, length, map, slice_get, sum_by, take}
 use Rattle.std.specs.Int.{next_multiple_of}
 use Rattle.lk_merge.specs.declared.inputs.StringMergeInputSection.{StringMergeInputSection}
 use Rattle.lk_merge.specs.Pieces.{Piece, MergeInput, pieces_of}
@@ -16,14 +16,9 @@ padded_len x = next_multiple_of (length x.bytes) 256
 abbrev pub padded_total : List MergeInput → ℕ
 padded_total inputs = sum_by padded_len inputs
 
--- each input starts where the padded ones before it end
-unfoldable pub AreLaidOut : ℕ → List StringMergeInputSection → Type 0
-AreLaidOut at [] = Unit {0}
-AreLaidOut at (s ∷ rest) = (s.start_input_offset ≡ at) × AreLaidOut (at + padded_len (input_of s)) rest
-
--- inputs of an output section: few, laid out within 63 bits, by rising number
+-- inputs of an output section: each starts where the padded ones before it end; they are few, within 63 bits, and by rising number
 pub record AreInputs (total : ℕ) (sections : List StringMergeInputSection) : Type 0 where
-  pub laid_out : AreLaidOut 0 sections
+  pub starts : (k : ℕ) (s : StringMergeInputSection) → slice_get sections k ≡ Some s → s.start_input_offset ≡ padded_total (map input_of (take k sections))
   pub sum : total ≡ padded_total (map input_of sections)
   pub fits : total < 2 ^ 63
   pub few : length sections < 2 ^ 32

@@ -8,6 +8,7 @@ pub mod Image
 pub mod Inputs
 pub mod LinkInputTables
 pub mod LinkInputs
+pub mod MergedReferences
 pub mod MergedTables
 pub mod Merging
 pub mod MergingTables

@@ -65,7 +65,6 @@ impl<'data> Model for StringMergeInputSections<'data> {
 
 impl<'data> StringMergeInputSections<'data> {
     /// No inputs; takes no memory.
-    #[tactic(auto, unfolding(crate::specs::Inputs::AreLaidOut))]
     pub fn new(alloc: Global) -> StringMergeInputSections<'data>
         ensures { result ≡ [] }
     {

@@ -2,6 +2,7 @@
 
 ghost use Rattle.lk_merge.specs.Groups.{GroupsCover};
 ghost use Rattle.lk_merge.specs.Image.{BucketsGrow};
+ghost use Rattle.lk_merge.specs.MergedReferences.{MergedReferencesShow};
 ghost use Rattle.lk_merge.specs.OffsetsOutside.{OutsideIsRefused};
 ghost use Rattle.lk_merge.specs.OutputAddresses.{MergedAddressesShow};
 ghost use Rattle.lk_merge.specs.Pieces.{PiecesAreOne};
@@ -49,6 +50,13 @@ pub fn groups_cover()
 /// A law: at the address of a reference the image shows what the input has, from the chosen offset to its piece's end.
 pub fn merged_addresses_show()
     ensures { MergedAddressesShow }
+{}
+
+/// A law: a section in which a symbol is placed is an input of its output section; where merging refuses nothing, all inputs
+/// are terminated; and at the address of each reference, but for the addend of a named symbol, the image shows what the input
+/// has from the chosen offset to its piece's end.
+pub fn merged_references_show()
+    ensures { MergedReferencesShow }
 {}
 
 /// A law: exactly the references that choose an offset outside the data have no address, and exactly the named symbols that

@@ -4,7 +4,7 @@ ghost use Rattle.std.specs.Prelude.{◌≡◌, Some};
 ghost use Rattle.lk_link.specs.Files.{file_in};
 ghost use Rattle.lk_link.specs.Walks.{file_of};
 ghost use Rattle.lk_link.specs.WellFormed.{IsWellFormed};
-ghost use Rattle.lk_merge.specs.OffsetsOutside.{may_choose_outside, may_stand_outside, refers_outside, stands_outside};
+ghost use Rattle.lk_merge.specs.OffsetsOutside.{may_choose_outside, may_stand_outside, refers_outside};
 ghost use Rattle.lk_merge.specs.OutputAddresses.{merge_place};
 
 use crate::output_address::{place_in, symbol_place};
@@ -36,17 +36,6 @@ pub fn refers_outside_in(
 {
     match place_in(link, file, symbol) {
         Some(place) => place.chooses_outside(addend),
-        None => false,
-    }
-}
-
-/// Whether a symbol has a name, and is placed outside the data of a merged section. Takes logarithmic time.
-pub fn stands_outside(link: &LinkInput, symbol: SymbolId) -> bool
-    requires { IsWellFormed link.now }
-    ensures { result ≡ stands_outside link.now symbol }
-{
-    match symbol_place(link, symbol) {
-        Some(place) => place.is_named && place.chooses_outside(0),
         None => false,
     }
 }

@@ -7,7 +7,7 @@ use Rattle.lk_merge.specs.LinkInputs.{AllMergeInputs, GivesAllMerged, first_refu
 use Rattle.lk_merge.specs.Merging.{GivesMerged, merge_refusal}
 use Rattle.lk_merge.specs.Pieces.{MergeInput}
 use Rattle.lk_merge.proofs.Refusals.{refusal_next, refusal_end, gives_refusal}
-use Rattle.lk_merge.proofs.merge.merge_strings_alone.Goals as goal
+use Rattle.lk_merge.proofs.link_merging.merge_strings_alone.Goals as goal
 
 pub returns-in_err-merge_section : goal.returns-in_err-merge_section
 returns-in_err-merge_section c =

@@ -1,7 +1,7 @@
 use Rattle.std.proofs.Common.{◌≡◌, drop, take}
 use Rattle.lk_merge.specs.Hash.{fnv64}
 use Rattle.lk_merge.specs.LinkInputs.{first_refusal}
-use Rattle.lk_merge.proofs.merge.merge_strings_alone.Given as goal
+use Rattle.lk_merge.proofs.link_merging.merge_strings_alone.Given as goal
 
 -- those so far are merged, and the first refusal is the first one from here on
 abbrev pub invariant-loop-number : goal.invariant-loop-number
