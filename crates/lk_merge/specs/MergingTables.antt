@@ -49,15 +49,23 @@ pub record HasMerged (section limit : ℕ) (done : List Located) (merging : Merg
       → HasTaken section limit b (bucket_list fnv64 (pieces_in done) b) state
   pub entries : AllFit section limit (pieces_in done) → merging.entries.items ≡ map (entry_of (pieces_in done)) done
 
--- the strings that were taken of some data, what is left, and what they have made
-pub record TookStrings (bytes : List ℕ) (input from : ℕ) (old : Merging) (rest : List ℕ) (start : ℕ) (new : Merging) : Type 0 where
-  pub taken : List Piece
+-- strings that were taken of some data, one after the other, and what is left
+pub record AreTaken (bytes : List ℕ) (taken : List Piece) (rest : List ℕ) : Type 0 where
   pub each : (k : ℕ) (p : Piece) → slice_get taken k ≡ Some p → IsString p
   pub whole : bytes ≡ concat taken ++ rest
-  pub at : start ≡ from + length (concat taken)
+
+-- pieces of an input that follow each other have been added: the first starts at an offset into all inputs, and the last ends at one
+pub record AreAdded (input from : ℕ) (old : Merging) (taken : List Piece) (end : ℕ) (new : Merging) : Type 0 where
+  pub at : end ≡ from + length (concat taken)
   pub count : length new.buckets.items ≡ length old.buckets.items
   pub made : (section limit : ℕ) (done : List Located) → HasMerged section limit done old
       → HasMerged section limit (done ++ located_in input from taken) new
+
+-- the strings that were taken of some data, what is left, and what they have made
+pub record TookStrings (bytes : List ℕ) (input from : ℕ) (old : Merging) (rest : List ℕ) (at : ℕ) (new : Merging) : Type 0 where
+  pub taken : List Piece
+  pub strings : AreTaken bytes taken rest
+  pub added : AreAdded input from old taken at new
 
 -- all pieces of some inputs have been added, for some output section and limit
 pub record HasMergedAll (inputs : List MergeInput) (merging : Merging) : Type 0 where

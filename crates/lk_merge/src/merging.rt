@@ -3,17 +3,21 @@
 //! Each piece goes to the bucket of its hash, and one more entry of the offset map says where it starts among the inputs and
 //! where the piece that is kept for it stands. A bucket stops at its first piece that is too long; the others go on, since
 //! the refusal of the least bucket is told, whichever came first.
+//!
+//! Some hundred strings are cut and hashed before any of them is looked up. So the look-ups follow each other directly, and a
+//! processor goes on with the next ones while it waits for the memory of one.
 
-ghost use Rattle.std.specs.Prelude.{◌≡◌, ◌≢◌, true, ◌++◌, ◌∷◌, ◌+◌, ◌*◌, ◌<◌, ◌≤◌, ◌^◌, [], List, ℕ, None, Some, IfOk, OnOk, length, map, not, position};
-ghost use Rattle.std.specs.List.{list_all};
-ghost use Rattle.lk_merge.specs.Buckets.{bucket_place};
+ghost use Rattle.std.specs.Prelude.{◌≡◌, ◌≢◌, true, ◌++◌, ◌∷◌, ◌+◌, ◌*◌, ◌<◌, ◌≤◌, ◌^◌, [], Contains, List, ℕ, None, Some, IfOk, OnOk, length, map, not, position, slice_get};
+ghost use Rattle.std.specs.List.{concat, list_all};
+ghost use Rattle.lk_merge.specs.Buckets.{bucket_place, piece_of};
 ghost use Rattle.lk_merge.specs.Hash.{fnv64};
 ghost use Rattle.lk_merge.specs.Image.{all_pieces, firsts_behind, is_among, place_in};
 ghost use Rattle.lk_merge.specs.Inputs.{AreInputs, Located, input_of, located, located_in, padded_total};
 ghost use Rattle.lk_merge.specs.Merging.{GivesMerged};
-ghost use Rattle.lk_merge.specs.MergingTables.{GivesFitting, HasMerged, HasMergedAll, HasTaken};
+ghost use Rattle.lk_merge.specs.MergingTables.{GivesFitting, AreAdded, AreTaken, HasMerged, HasMergedAll, HasTaken};
 ghost use Rattle.lk_merge.specs.Pieces.{Piece, cut, is_terminated, pieces_of};
 ghost use Rattle.lk_merge.specs.declared.merging.BucketState.{BucketState};
+ghost use Rattle.lk_merge.specs.declared.string.MergeString.{MergeString};
 
 use crate::bucket::{BUCKETS, MergeStringsSectionBucket};
 use crate::error::MergeError;
@@ -24,6 +28,9 @@ use crate::section::MergedStringsSection;
 use crate::string::MergeString;
 use lk_link::OutputSectionId;
 use std::alloc::{AllocError, Global};
+
+/// How many strings are cut at most before they are looked up.
+const STRINGS_AT_ONCE: usize = 256;
 
 /// A bucket while pieces are added, and why it has stopped.
 #[derive(Drop)]
@@ -106,8 +113,36 @@ impl<'data> Merging<'data> {
         Ok(())
     }
 
+    /// Adds some pieces of an input that follow each other, the first of which starts at an offset into all inputs. Gives the
+    /// offset behind the last.
+    fn add_all(
+        &mut self,
+        strings: &[MergeString<'data>],
+        input: u32,
+        start: u64,
+    ) -> Result<u64, AllocError>
+        requires some { (k : ℕ) (s : MergeString) → slice_get strings.now k ≡ Some s → 0 < length s.bytes.now }
+        requires count { length self.old.buckets.items ≡ 16 }
+        requires fits { start + length (concat (map piece_of strings.now)) < 2 ^ 64 }
+        ensures { IfOk result (λ end. AreAdded input start self.old (map piece_of strings.now) end self.new) }
+    {
+        let mut at = start;
+        for (index, string) in strings.iter().enumerate() {
+            self.add(*string, input, at)?;
+            at += string.as_bytes().len() as u64;
+        }
+        Ok(at)
+    }
+
     /// Adds the strings of an input, which starts at an offset into all inputs. Bytes behind the last zero byte are in none.
-    fn add_strings(&mut self, bytes: &'data [u8], input: u32, start: u64) -> Result<(), AllocError>
+    /// What `strings` holds is let go.
+    fn add_strings(
+        &mut self,
+        strings: &mut Vec<MergeString<'data>>,
+        bytes: &'data [u8],
+        input: u32,
+        start: u64,
+    ) -> Result<(), AllocError>
         requires count { length self.old.buckets.items ≡ 16 }
         requires fits { start + length bytes.now < 2 ^ 64 }
         ensures count { OnOk result (length self.new.buckets.items ≡ 16) }
@@ -116,16 +151,20 @@ impl<'data> Merging<'data> {
     {
         let mut rest = bytes;
         let mut at = start;
-        while let Some(string) = MergeString::take_string_hashed(&mut rest) {
-            self.add(string, input, at)?;
-            at += string.as_bytes().len() as u64;
+        'taking: loop {
+            take_strings(&mut rest, strings)?;
+            let taken = strings.as_slice();
+            if taken.is_empty() {
+                return Ok(());
+            }
+            at = self.add_all(taken, input, at)?;
         }
-        Ok(())
     }
 
-    /// Adds the pieces of an input, by its number among those of the output section.
+    /// Adds the pieces of an input, by its number among those of the output section. What `strings` holds is let go.
     fn add_input(
         &mut self,
+        strings: &mut Vec<MergeString<'data>>,
         input: u32,
         section: &StringMergeInputSection<'data>,
     ) -> Result<(), AllocError>
@@ -138,7 +177,7 @@ impl<'data> Merging<'data> {
         let start = section.start_input_offset.as_u64();
         let mut bytes = section.section_data;
         if section.is_string {
-            return self.add_strings(bytes, input, start);
+            return self.add_strings(strings, bytes, input, start);
         }
         if bytes.is_empty() {
             return Ok(());
@@ -175,6 +214,25 @@ impl<'data> Merging<'data> {
     }
 }
 
+/// Takes strings from some data, up to a number of them, and puts them in the place of what the list holds. There are none
+/// only where the data have no zero byte.
+fn take_strings<'data>(
+    source: &mut &'data [u8],
+    strings: &mut Vec<MergeString<'data>>,
+) -> Result<(), AllocError>
+    ensures taken { OnOk result (AreTaken source.old.now (map piece_of strings.new.items) source.new.now) }
+    ensures some { OnOk result (length strings.new.items ≡ 0 → ¬ Contains source.new.now 0) }
+{
+    strings.clear();
+    'taking: while strings.len() < STRINGS_AT_ONCE {
+        let Some(string) = MergeString::take_string_hashed(source) else {
+            return Ok(());
+        };
+        strings.push(string)?;
+    }
+    Ok(())
+}
+
 /// The first of some inputs whose strings don't end in a zero byte.
 fn first_unterminated(sections: &[StringMergeInputSection<'_>]) -> Option<usize>
     ensures { result ≡ position (λ s. not (is_terminated (input_of s))) sections.now }
@@ -194,8 +252,9 @@ fn merge_pieces<'data>(
     ensures { IfOk result (HasMerged output limit (located (map input_of sections.now))) }
 {
     let mut merging = Merging::new(alloc, output, limit)?;
+    let mut strings = Vec::new(alloc);
     for (index, section) in sections.iter().enumerate() {
-        merging.add_input(index as u32, section)?;
+        merging.add_input(&mut strings, index as u32, section)?;
     }
     Ok(merging)
 }

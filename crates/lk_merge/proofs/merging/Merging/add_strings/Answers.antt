@@ -1,21 +1,51 @@
-use Rattle.std.proofs.Common.{◌≡◌, ◌+◌, length, sym, ap, ◌∙◌, subst}
-use Rattle.lk_merge.specs.MergingTables.{TookStrings}
-use Rattle.lk_merge.proofs.Strings.{took_none, took_more, took_all}
+use Rattle.std.proofs.Common.{◌≡◌, ◌≢◌, ◌∙◌, List, length, map, sym, ap, subst, arith}
+use Rattle.std.proofs.lemmas.Bool.{eqb-true, eqb-false}
+use Rattle.std.proofs.lemmas.List.{length-map}
+use Rattle.lk_merge.specs.declared.string.MergeString.{MergeString}
+use Rattle.lk_merge.specs.Buckets.{piece_of}
+use Rattle.lk_merge.specs.MergingTables.{AreTaken}
+use Rattle.lk_merge.proofs.Strings.{took_none, took_more, took_fits, took_all, taken_some, taken_less}
 use Rattle.lk_merge.proofs.merging.Merging.add_strings.Goals as goal
 
-pub loop-string-init : goal.loop-string-init
-loop-string-init c = took_none c.args.bytes.now c.args.input c.args.start c.args.self.now
+pub taking-init : goal.taking-init
+taking-init c = took_none c.args.bytes.now c.args.input c.args.start c.args.self.now
 
-pub loop-string-preserved : goal.loop-string-preserved
-loop-string-preserved c =
-    let len : length c.in-Some.string.bytes.now ≡ length c.as_bytes.result.now = ap length (sym c.as_bytes.ensures) in
-    let same : length c.add.new.self.buckets.items ≡ length c.loop-string.self.buckets.items
-    = c.in_ok-add.ensures.count ∙ sym (c.loop-string.invariant.count ∙ c.requires.count) in
-    subst (λ n. TookStrings c.args.bytes.now c.args.input c.args.start c.args.self.now c.take_string_hashed.new.source.now (c.loop-string.at + n) c.add.new.self) len
-    (took_more c.args.bytes.now c.args.input c.args.start c.args.self.now c.loop-string.rest.now c.take_string_hashed.new.source.now c.loop-string.at
-    c.loop-string.self c.add.new.self c.in-Some.string.bytes.now c.loop-string.invariant c.in-Some.ensures.taken.0 c.in-Some.ensures.taken.1 same c.in_ok-add.ensures.made)
+pub add_all-requires-clause-some : goal.add_all-requires-clause-some
+add_all-requires-clause-some c =
+    let strings : List MergeString = c.as_slice-taken.result.now in
+    let taken : AreTaken c.taking.rest.now (map piece_of strings) c.take_strings.new.source.now
+    = subst (λ (l : List MergeString). AreTaken c.taking.rest.now (map piece_of l) c.take_strings.new.source.now) (sym c.as_slice-taken.ensures.value) c.in_ok-take_strings.ensures.taken in
+    taken_some c.taking.rest.now c.take_strings.new.source.now strings taken
 
-pub returns-clause-made : goal.returns-clause-made
-returns-clause-made c =
-    took_all c.args.bytes.now c.args.input c.args.start c.args.self.now c.loop-string.rest.now c.loop-string.at c.loop-string.self c.loop-string.invariant
-    c.in_default.ensures.taken.0
+pub add_all-requires-clause-count : goal.add_all-requires-clause-count
+add_all-requires-clause-count c = c.taking.invariant.added.count ∙ c.requires.count
+
+pub add_all-requires-clause-fits : goal.add_all-requires-clause-fits
+add_all-requires-clause-fits c =
+    let strings : List MergeString = c.as_slice-taken.result.now in
+    let taken : AreTaken c.taking.rest.now (map piece_of strings) c.take_strings.new.source.now
+    = subst (λ (l : List MergeString). AreTaken c.taking.rest.now (map piece_of l) c.take_strings.new.source.now) (sym c.as_slice-taken.ensures.value) c.in_ok-take_strings.ensures.taken in
+    let within = took_fits c.args.bytes.now c.args.input c.args.start c.args.self.now c.taking.rest.now c.take_strings.new.source.now c.taking.at c.taking.self
+    (map piece_of strings) c.taking.invariant taken in
+    omega (arith, within, c.requires.fits)
+
+pub taking-preserved : goal.taking-preserved
+taking-preserved c =
+    let strings : List MergeString = c.as_slice-taken.result.now in
+    let taken : AreTaken c.taking.rest.now (map piece_of strings) c.take_strings.new.source.now
+    = subst (λ (l : List MergeString). AreTaken c.taking.rest.now (map piece_of l) c.take_strings.new.source.now) (sym c.as_slice-taken.ensures.value) c.in_ok-take_strings.ensures.taken in
+    took_more c.args.bytes.now c.args.input c.args.start c.args.self.now c.taking.rest.now c.take_strings.new.source.now c.taking.at c.in_ok-at.at
+    c.taking.self c.add_all.new.self (map piece_of strings) c.taking.invariant taken c.in_ok-at.ensures
+
+pub taking-smaller : goal.taking-smaller
+taking-smaller c =
+    let some : length c.as_slice-taken.result.now ≢ 0 = eqb-false _ _ (sym c.if-is_empty.ensures) in
+    taken_less c.taking.rest.now c.take_strings.new.source.now c.as_slice-taken.result.now
+    (subst (λ (l : List MergeString). AreTaken c.taking.rest.now (map piece_of l) c.take_strings.new.source.now) (sym c.as_slice-taken.ensures.value) c.in_ok-take_strings.ensures.taken) some
+
+pub returns-then-is_empty-clause-made : goal.returns-then-is_empty-clause-made
+returns-then-is_empty-clause-made c =
+    let strings : List MergeString = c.take_strings.new.strings.items in
+    let none : length strings ≡ 0 = ap (λ (l : List MergeString). length l) (sym c.as_slice-taken.ensures.value) ∙ eqb-true _ _ (sym c.if-is_empty.ensures) in
+    took_all c.args.bytes.now c.args.input c.args.start c.args.self.now c.taking.rest.now c.take_strings.new.source.now c.taking.at c.taking.self
+    (map piece_of strings) c.taking.invariant c.in_ok-take_strings.ensures.taken (length-map strings piece_of ∙ none) (c.in_ok-take_strings.ensures.some none)
