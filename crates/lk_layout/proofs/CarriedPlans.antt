@@ -27,7 +27,7 @@ use Rattle.lk_place.specs.Plans.{IsUnmoved}
 use Rattle.lk_sizes.specs.Owners.{KeepsSizes}
 use Rattle.lk_layout.specs.declared.error.Uncarried.TheVariants as uncarried
 use Rattle.lk_layout.specs.Carried.{IsCarried, all_uncarried, any_file, file_has, first_uncarried, has, is_special_section}
-use Rattle.lk_layout.specs.Laws.{CarriedPlansArePlaceable, CarriedPlansArePlain}
+use Rattle.lk_layout.specs.Laws.{CarriedPlansArePlain}
 use Rattle.lk_link.specs.Rules.{moves_location}
 
 -- what isn't looked for in vain isn't there
@@ -120,28 +120,25 @@ not_thread_local plan s none =
     let own = (or_parts (is_set TLS x.attrs) (is_some x.primary) second.0).0 in
     elim (is_singletons plan s) as (λ b. is_set TLS (cond b 0 x.attrs) ≡ false) [ true ↦ refl | false ↦ own ]
 
--- no section stands in a region, or is loaded elsewhere
-stands_freely : (plan : Plan) (s : ℕ) → list_any is_special_section plan.sections ≡ false → ((section_at plan.sections s).region ≡ None) × ((section_at plan.sections s).at ≡ None)
+-- no section stands in a region
+stands_freely : (plan : Plan) (s : ℕ) → list_any is_special_section plan.sections ≡ false → (section_at plan.sections s).region ≡ None
 stands_freely plan s none =
     let x : PlanSection = section_at plan.sections s in
     let third = or_parts (is_set TLS x.attrs || is_some x.primary || is_some x.region) (is_some x.at) (not_special plan s none) in
     let second = or_parts (is_set TLS x.attrs || is_some x.primary) (is_some x.region) third.0 in
-    (not_some x.region second.1, not_some x.at third.1)
+    not_some x.region second.1
 
 -- ---- plans
 
--- the plan of a link of which all is laid out is one that is placed, and in which nothing moves
+-- in the plan of a link of which all is laid out nothing moves
 unmoved : (link : LinkInput) → IsCarried link → IsUnmoved link.plan link.options.output
 unmoved link carried =
     let is : IsUsual link.plan = usual link carried in
     record {
       whole = not_partial link.options.output (whole_output link carried);
       events = λ k e there. about_place e (none_at moves_location link.plan.events k e is.unmoved there);
-      sections = λ s. (stands_freely link.plan s is.sections).0;
+      sections = λ s. stands_freely link.plan s is.sections;
     }
-
-pub placeable : CarriedPlansArePlaceable
-placeable link carried = record { sections = λ s. (stands_freely link.plan s (usual link carried).sections).1 }
 
 -- no section of it has zero-fill thread-local data
 pub no_zero_fill : (link : LinkInput) (s : ℕ) → IsCarried link → is_zero_fill_thread_local link.plan s ≡ false

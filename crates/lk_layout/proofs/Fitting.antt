@@ -13,7 +13,8 @@ use Rattle.lk_merge.specs.LinkInputs.{link_inputs}
 use Rattle.lk_merge.proofs.AddressLemmas.{are_starts}
 use Rattle.lk_place.specs.declared.error.Refusal.{Refusal}
 use Rattle.lk_place.specs.InRegions.{past_region, stands_in}
-use Rattle.lk_place.specs.Placement.{either_refusal, event_refusal, known_before, numbered, refusal_behind_move, section_left, section_overflow, section_refusal, state_at}
+use Rattle.lk_place.specs.PlacedBefore.{Standing}
+use Rattle.lk_place.specs.Placement.{either_refusal, event_refusal, known_before, load_given, load_refusal, numbered, placing_refusal, refusal_behind_move, section_left, section_overflow, section_refusal, state_at}
 use Rattle.lk_place.specs.PlacementLaws.{PartsTakeTheirBytes, RefusedExactlyPast}
 use Rattle.lk_place.specs.Records.{Record, mem_end, nowhere, record_at}
 use Rattle.lk_place.specs.Setting.{Setting}
@@ -47,9 +48,12 @@ part_fits refused machine link layout laid p within =
     let early : event.0 + 1 < length laid.states = omega (arith, laid.is.ends laid.unrefused, slice_get_within link.plan.events event.0 (Section t) event.1) in
     let step = laid.is.steps event.0 (Section t) early event.1 in
     let none = no_refusal event.0 (event_refusal s (known_before s laid.states laid.records event.0) (Section t) (state_at laid.states event.0)) step.unrefused in
-    let unrefused : section_refusal s (Some t) step.steps.entered ≡ None = ap (refusal_behind_move s (Some t)) (sym step.steps.moves) ∙ none in
-    let fit = (refused s t step.steps.entered laid.records (state_at laid.states (event.0 + 1)) (ready machine link laid.live laid.good) at.there step.steps.places).0
-    (first_none (section_overflow s t step.steps.entered) (past_region s (stands_in s.plan t) (section_left s t step.steps.entered).memory) unrefused) at.place at.within in
+    let standing : Standing = (known_before s laid.states laid.records event.0).standing in
+    let unrefused : section_refusal s standing (Some t) step.steps.entered ≡ None = ap (refusal_behind_move s standing (Some t)) (sym step.steps.moves) ∙ none in
+    let placing : placing_refusal s standing t step.steps.entered ≡ None
+    = first_none (placing_refusal s standing t step.steps.entered) (past_region s (stands_in s.plan t) (section_left s t step.steps.entered).memory) unrefused in
+    let fit = (refused s t step.steps.entered laid.records (state_at laid.states (event.0 + 1)) (ready machine link laid.live laid.good) at.there step.steps.places.placed).0
+    (first_none (section_overflow s t step.steps.entered) (load_refusal (load_given s standing t step.steps.entered)) placing) at.place at.within in
     subst (λ q. mem_end (record_at laid.records q) < 2 ^ 64) (sym at.is) fit.mem
 
 owners_fit : RefusedExactlyPast → PartsTakeTheirBytes → (machine : Machine) (link : LinkInput) (layout : Layout) (laid : IsLaidOut machine link layout) → EndsFit link (output_content link laid.live) (starts_of laid.records)

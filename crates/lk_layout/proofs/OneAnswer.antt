@@ -18,7 +18,6 @@ use Rattle.lk_layout.specs.Defined.{IsCarriedAnswer, IsLiveAnswer, IsMergedAnswe
 use Rattle.lk_layout.specs.Errors.{fault_error}
 use Rattle.lk_layout.specs.Merging.{merging_refusal}
 use Rattle.lk_layout.specs.Laws.{DefinedAnswerExists, DefinedAnswerIsOne}
-use Rattle.lk_layout.proofs.CarriedPlans.{placeable}
 use Rattle.lk_layout.proofs.Settings.{ready}
 
 -- what isn't refused isn't there
@@ -46,7 +45,7 @@ placed_exists link live records =
 
 sized_exists : PlacementExists → (machine : Machine) (link : LinkInput) (live : Live) → IsWellFormed link → IsCarried link → (answer : Result Layout LayoutError) × IsSizedAnswer machine link live answer
 sized_exists placement machine link live good carried =
-    let p = placement (setting machine link live) (ready machine link live good) (placeable link carried) in
+    let p = placement (setting machine link live) (ready machine link live good) in
     let rest = unless_exists (walk_refusal machine link live p.0 p.1) (IsPlacedAnswer link live p.1) (λ none. placed_exists link live p.1) in
     (rest.0, (p.0, p.1, p.2, rest.1))
 

@@ -87,7 +87,7 @@ part_starts machine link live states records p good is unrefused within some =
     let number : q ≡ p = sym i.is in
     let bytes : has_bytes s.sizes q ≡ true = ap (has_bytes s.sizes) number ∙ lt-ltb 0 (size_at s.sizes p) some in
     let walked : is_walked s t q ≡ true = ap (λ b. b || (q == first_walked s t)) bytes in
-    let placed = step.steps.places.walked i.place i.within walked in
+    let placed = step.steps.places.placed.walked i.place i.within walked in
     let own : ℕ = (part_at sections q).alignment in
     let greatest : ℕ = section_alignment s t in
     let none : PlanPart = record { alignment = 1; packed = false } in

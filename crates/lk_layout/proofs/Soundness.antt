@@ -266,7 +266,7 @@ sound exactly tile aligned owners mass refused file memory in_step keep machine 
     let laid = laid_out exactly machine link layout defined in
     (laid.live, is_sound tile aligned owners mass refused file memory in_step keep machine link layout laid lawful)
 
--- under a placeable plan, the memory of a layout is disjoint
+-- under a plan in which nothing moves, the memory of a layout is disjoint
 pub memory_disjoint : WellFormedExactlyUnfaulted → MemoryRangesAreDisjoint → LaidOutMemoryIsDisjoint
 memory_disjoint exactly memory machine link layout placeable lawful defined =
     let laid = laid_out exactly machine link layout defined in

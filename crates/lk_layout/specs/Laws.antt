@@ -9,7 +9,7 @@ use Rattle.lk_gc.specs.declared.live.Live.{Live}
 use Rattle.lk_gc.specs.Faults.{reference_faults}
 use Rattle.lk_gc.specs.Reach.{AreLive}
 use Rattle.lk_place.specs.Plain.{IsLoadSegment, IsPlain, OpensLoad, PlacesInLoad}
-use Rattle.lk_place.specs.Plans.{IsPlaceable, IsUnmoved}
+use Rattle.lk_place.specs.Plans.{IsUnmoved}
 use Rattle.lk_place.specs.Ranges.{MemoryIsDisjoint}
 use Rattle.lk_layout.specs.declared.error.LayoutError.{LayoutError}
 use Rattle.lk_layout.specs.declared.layout.Layout.{Layout}
@@ -47,10 +47,6 @@ abbrev pub LaidOutSectionsAreApart : Type 0
 LaidOutSectionsAreApart = (machine : Machine) (link : LinkInput) (layout : Layout) → IsUnmoved link.plan link.options.output
     → IsLawfulMachine machine → IsDefined machine link (Ok layout)
     → (live : Live) × IsSound link live layout × LiveSectionsAreApart link live layout × OwnersAreApart link live layout
-
--- a link of which all is laid out has a placeable plan
-abbrev pub CarriedPlansArePlaceable : Type 0
-CarriedPlansArePlaceable = (link : LinkInput) → IsCarried link → IsPlaceable link.plan link.options.output
 
 -- what makes the plan of a link plain of which all is laid out: no load segment opens while another is open, and inside each all
 -- is allocated, and what takes bytes of the file comes before what takes none

@@ -1,6 +1,6 @@
 //! Laws on the answer, each proved as the contract of a function that does nothing.
 
-ghost use Rattle.lk_layout.specs.Laws.{CarriedPlansArePlaceable, CarriedPlansArePlain, DefinedAnswerExists, DefinedAnswerIsOne};
+ghost use Rattle.lk_layout.specs.Laws.{CarriedPlansArePlain, DefinedAnswerExists, DefinedAnswerIsOne};
 ghost use Rattle.lk_layout.specs.Laws.{LaidOutLinksAreWellFormed};
 ghost use Rattle.lk_layout.specs.Laws.{DefinedLayoutsAreSound, LaidOutMemoryIsDisjoint, LaidOutSectionsAreApart, ResolvedSectionsAreLive};
 
@@ -54,7 +54,8 @@ pub fn defined_layouts_are_sound()
     records_keep_alignments();
 }
 
-/// A law: under a placeable plan, no two parts of sections that take addresses share one.
+/// A law: under a plan of whole output in which nothing moves the location and no section stands in a region, no two parts of sections
+/// that take addresses share one.
 pub fn laid_out_memory_is_disjoint()
     ensures { LaidOutMemoryIsDisjoint }
 {
@@ -71,11 +72,6 @@ pub fn laid_out_sections_are_apart()
     defined_layouts_are_sound();
     laid_out_memory_is_disjoint();
 }
-
-/// A law: where all is laid out, a plan is placeable.
-pub fn carried_plans_are_placeable()
-    ensures { CarriedPlansArePlaceable }
-{}
 
 /// A law: where all is laid out, a plan is plain if no load segment opens while another is open, and inside each all is
 /// allocated, and what takes bytes of the file comes before what takes none.

@@ -15,7 +15,6 @@ use Rattle.std.specs.List.{enumerate_from, flat_map}
 use Rattle.lk_place.specs.Counters.{counters_of, told_counter}
 use Rattle.lk_place.specs.Placement.{first_refusal, refusal_behind, refusal_of, state_at}
 use Rattle.lk_place.specs.PlacedBefore.{Known}
-use Rattle.lk_place.specs.Plans.{IsPlaceable}
 use Rattle.lk_place.specs.Records.{Record, record_at}
 use Rattle.lk_place.specs.Regions.{given_regions}
 use Rattle.lk_place.specs.Segments.{section_records}
@@ -55,16 +54,16 @@ counters_are setting base =
     (λ j e less. ap (λ (c : Cursors). told_counter e c.pending) (sym (state_is setting n (j + 1) (omega (arith, less))))))
 
 -- a walk to the end is the placement
-pub walked_placed : (setting : Setting) (records sections : List Record) (counters : List ℕ) (base : ℕ) → IsReady setting → start setting ≡ Ok (first_state setting) → IsPlaceable setting.plan setting.output → length records ≡ length (all_parts setting.plan.sections)
+pub walked_placed : (setting : Setting) (records sections : List Record) (counters : List ℕ) (base : ℕ) → IsReady setting → start setting ≡ Ok (first_state setting) → length records ≡ length (all_parts setting.plan.sections)
     → AllPass setting (length setting.plan.events) → ((p : ℕ) → record_at records p ≡ record_after setting (length setting.plan.events) p)
     → sections ≡ section_records setting.plan.sections records → base_value setting ≡ Ok base → counters ≡ base ∷ counters_after setting
     → ArePlaced setting (record { parts = records; sections = sections; counters = counters })
-walked_placed setting records sections counters base ready starts may each pass at is based told =
+walked_placed setting records sections counters base ready starts each pass at is based told =
     let n : ℕ = length setting.plan.events in
     let walk : IsWalk setting n records = record { ready = ready; starts = starts; within = omega arith; pass = pass; stops = λ none. refl; each = each; at = λ p below. at p } in
     record {
       states = states_to setting n;
-      is = walk_is_placed setting n records may walk;
+      is = walk_is_placed setting n records walk;
       unrefused = walk_refusal setting n records starts (walk_known setting n n records walk (omega arith))
           ∙ ap (λ (o : Option OrderEvent). refusal_of setting (known_after setting n) n o (cursors_after setting n)) (none_behind setting.plan.events);
       sections = is;
@@ -74,25 +73,25 @@ walked_placed setting records sections counters base ready starts may each pass 
     }
 
 -- a walk that stops tells the first refusal
-pub stopped_refused : (setting : Setting) (e : PlaceError) → IsReady setting → start setting ≡ Ok (first_state setting) → IsPlaceable setting.plan setting.output → StopsBy setting e → IsRefused setting e
-stopped_refused setting e ready starts may stop =
+pub stopped_refused : (setting : Setting) (e : PlaceError) → IsReady setting → start setting ≡ Ok (first_state setting) → StopsBy setting e → IsRefused setting e
+stopped_refused setting e ready starts stop =
     let n : ℕ = stop.k in
     let there : n < length setting.plan.events = refused_there setting (known_after setting n) n (cursors_after setting n) e (slice_get setting.plan.events n) refl stop.here in
     let walk : IsWalk setting n (records_to setting n) = made_walk setting n ready starts (omega arith) stop.before (λ none. absurd (cc (stop.here))) in
     record {
       states = states_to setting n;
       records = records_to setting n;
-      is = walk_is_placed setting n (records_to setting n) may walk;
+      is = walk_is_placed setting n (records_to setting n) walk;
       refused = walk_refusal setting n (records_to setting n) starts (walk_known setting n n (records_to setting n) walk (omega arith)) ∙ stop.here;
     }
 
 -- a start that is refused tells its refusal
-unbegun_refused : (setting : Setting) (e : PlaceError) → IsPlaceable setting.plan setting.output → start setting ≡ Err e → IsRefused setting e
-unbegun_refused setting e may refused =
+unbegun_refused : (setting : Setting) (e : PlaceError) → start setting ≡ Err e → IsRefused setting e
+unbegun_refused setting e refused =
     record {
       states = [];
       records = records_to setting 0;
-      is = unbegun setting e may refused;
+      is = unbegun setting e refused;
       refused = ap (λ (r : Result Cursors PlaceError). first_refusal r (refusal_behind setting [] (records_to setting 0))) refused;
     }
 
@@ -109,31 +108,31 @@ told_begun setting x (OutsideRegion event address) same other gives = ap cursors
 told_begun setting x (LocationBackwards from to) same other gives = ap cursors_at gives ∙ ap (λ (y : PlaceError). Err y) (sym same)
 told_begun setting x (SectionOutsideSegments s) same other gives = ap cursors_at gives ∙ ap (λ (y : PlaceError). Err y) (sym same)
 
-stopped_gives : (setting : Setting) (x : PlaceError) → IsReady setting → start setting ≡ Ok (first_state setting) → IsPlaceable setting.plan setting.output
+stopped_gives : (setting : Setting) (x : PlaceError) → IsReady setting → start setting ≡ Ok (first_state setting)
     → (records : List Record) (before counters : List ℕ) → GivesWalked setting (Err x) records before counters → GivesPlaced setting (Err x)
-stopped_gives setting NoMemory ready starts may records before counters stop = tt
-stopped_gives setting (AddressOverflow place) ready starts may records before counters stop = stopped_refused setting (AddressOverflow place) ready starts may stop
-stopped_gives setting (RegionDuplicate region) ready starts may records before counters stop = stopped_refused setting (RegionDuplicate region) ready starts may stop
-stopped_gives setting (Expression place cause) ready starts may records before counters stop = stopped_refused setting (Expression place cause) ready starts may stop
-stopped_gives setting (BaseTooLow base headers) ready starts may records before counters stop = stopped_refused setting (BaseTooLow base headers) ready starts may stop
-stopped_gives setting (RegionUnknown s) ready starts may records before counters stop = stopped_refused setting (RegionUnknown s) ready starts may stop
-stopped_gives setting (RegionOverflow region by) ready starts may records before counters stop = stopped_refused setting (RegionOverflow region by) ready starts may stop
-stopped_gives setting (OutsideRegion event address) ready starts may records before counters stop = stopped_refused setting (OutsideRegion event address) ready starts may stop
-stopped_gives setting (LocationBackwards from to) ready starts may records before counters stop = stopped_refused setting (LocationBackwards from to) ready starts may stop
-stopped_gives setting (SectionOutsideSegments s) ready starts may records before counters stop = stopped_refused setting (SectionOutsideSegments s) ready starts may stop
+stopped_gives setting NoMemory ready starts records before counters stop = tt
+stopped_gives setting (AddressOverflow place) ready starts records before counters stop = stopped_refused setting (AddressOverflow place) ready starts stop
+stopped_gives setting (RegionDuplicate region) ready starts records before counters stop = stopped_refused setting (RegionDuplicate region) ready starts stop
+stopped_gives setting (Expression place cause) ready starts records before counters stop = stopped_refused setting (Expression place cause) ready starts stop
+stopped_gives setting (BaseTooLow base headers) ready starts records before counters stop = stopped_refused setting (BaseTooLow base headers) ready starts stop
+stopped_gives setting (RegionUnknown s) ready starts records before counters stop = stopped_refused setting (RegionUnknown s) ready starts stop
+stopped_gives setting (RegionOverflow region by) ready starts records before counters stop = stopped_refused setting (RegionOverflow region by) ready starts stop
+stopped_gives setting (OutsideRegion event address) ready starts records before counters stop = stopped_refused setting (OutsideRegion event address) ready starts stop
+stopped_gives setting (LocationBackwards from to) ready starts records before counters stop = stopped_refused setting (LocationBackwards from to) ready starts stop
+stopped_gives setting (SectionOutsideSegments s) ready starts records before counters stop = stopped_refused setting (SectionOutsideSegments s) ready starts stop
 
 -- the same where it is handed on
-pub refused_answer : (setting : Setting) (r : Result Placed PlaceError) (e : PlaceError) → IsReady setting → start setting ≡ Ok (first_state setting) → IsPlaceable setting.plan setting.output → IsErrAnd r (λ x. x ≡ e)
+pub refused_answer : (setting : Setting) (r : Result Placed PlaceError) (e : PlaceError) → IsReady setting → start setting ≡ Ok (first_state setting) → IsErrAnd r (λ x. x ≡ e)
     → (records : List Record) (before counters : List ℕ) → GivesWalked setting (Err e) records before counters → GivesPlaced setting r
-refused_answer setting (Ok placed) e ready starts may h records before counters stop = absurd h
-refused_answer setting (Err x) e ready starts may h records before counters stop =
-    stopped_gives setting x ready starts may records before counters (subst (λ (y : PlaceError). GivesWalked setting (Err y) records before counters) (sym h) stop)
+refused_answer setting (Ok placed) e ready starts h records before counters stop = absurd h
+refused_answer setting (Err x) e ready starts h records before counters stop =
+    stopped_gives setting x ready starts records before counters (subst (λ (y : PlaceError). GivesWalked setting (Err y) records before counters) (sym h) stop)
 
--- the walk begins where the beginning says
 -- the base has the value that the beginning says
 pub based_at : (setting : Setting) (b : Beginning) → IsBegun setting.plan setting.groups setting.headers setting.positions b → base_value setting ≡ Ok b.base
 based_at setting b h = ap (λ (r : Result (List (ℕ × ℕ)) PlaceError). base_by setting.plan setting.groups setting.headers setting.positions (given_regions r)) h.regions ∙ h.base
 
+-- the walk begins where the beginning says
 pub begins_at : (setting : Setting) (b : Beginning) → IsBegun setting.plan setting.groups setting.headers setting.positions b → start setting ≡ Ok (first_cursors b.memory)
 begins_at setting b h = ap cursors_at h.memory
 
@@ -141,16 +140,16 @@ pub begins : (setting : Setting) (b : Beginning) → IsBegun setting.plan settin
 begins setting b h = starts setting (first_cursors b.memory) (begins_at setting b h)
 
 -- a beginning that is refused tells the first refusal
-pub unbegun_answer : (setting : Setting) (r : Result Placed PlaceError) (e : PlaceError) → IsPlaceable setting.plan setting.output → IsErrAnd r (λ x. x ≡ e)
+pub unbegun_answer : (setting : Setting) (r : Result Placed PlaceError) (e : PlaceError) → IsErrAnd r (λ x. x ≡ e)
     → GivesBeginning setting.plan setting.groups setting.headers setting.positions (Err e) → GivesPlaced setting r
-unbegun_answer setting (Ok placed) e may h gives = absurd h
-unbegun_answer setting (Err NoMemory) e may h gives = tt
-unbegun_answer setting (Err (AddressOverflow place)) e may h gives = unbegun_refused setting (AddressOverflow place) may (told_begun setting (AddressOverflow place) e h (λ same. absurd (cc)) gives)
-unbegun_answer setting (Err (RegionDuplicate region)) e may h gives = unbegun_refused setting (RegionDuplicate region) may (told_begun setting (RegionDuplicate region) e h (λ same. absurd (cc)) gives)
-unbegun_answer setting (Err (Expression place cause)) e may h gives = unbegun_refused setting (Expression place cause) may (told_begun setting (Expression place cause) e h (λ same. absurd (cc)) gives)
-unbegun_answer setting (Err (BaseTooLow base headers)) e may h gives = unbegun_refused setting (BaseTooLow base headers) may (told_begun setting (BaseTooLow base headers) e h (λ same. absurd (cc)) gives)
-unbegun_answer setting (Err (RegionUnknown s)) e may h gives = unbegun_refused setting (RegionUnknown s) may (told_begun setting (RegionUnknown s) e h (λ same. absurd (cc)) gives)
-unbegun_answer setting (Err (RegionOverflow region by)) e may h gives = unbegun_refused setting (RegionOverflow region by) may (told_begun setting (RegionOverflow region by) e h (λ same. absurd (cc)) gives)
-unbegun_answer setting (Err (OutsideRegion event address)) e may h gives = unbegun_refused setting (OutsideRegion event address) may (told_begun setting (OutsideRegion event address) e h (λ same. absurd (cc)) gives)
-unbegun_answer setting (Err (LocationBackwards from to)) e may h gives = unbegun_refused setting (LocationBackwards from to) may (told_begun setting (LocationBackwards from to) e h (λ same. absurd (cc)) gives)
-unbegun_answer setting (Err (SectionOutsideSegments s)) e may h gives = unbegun_refused setting (SectionOutsideSegments s) may (told_begun setting (SectionOutsideSegments s) e h (λ same. absurd (cc)) gives)
+unbegun_answer setting (Ok placed) e h gives = absurd h
+unbegun_answer setting (Err NoMemory) e h gives = tt
+unbegun_answer setting (Err (AddressOverflow place)) e h gives = unbegun_refused setting (AddressOverflow place) (told_begun setting (AddressOverflow place) e h (λ same. absurd (cc)) gives)
+unbegun_answer setting (Err (RegionDuplicate region)) e h gives = unbegun_refused setting (RegionDuplicate region) (told_begun setting (RegionDuplicate region) e h (λ same. absurd (cc)) gives)
+unbegun_answer setting (Err (Expression place cause)) e h gives = unbegun_refused setting (Expression place cause) (told_begun setting (Expression place cause) e h (λ same. absurd (cc)) gives)
+unbegun_answer setting (Err (BaseTooLow base headers)) e h gives = unbegun_refused setting (BaseTooLow base headers) (told_begun setting (BaseTooLow base headers) e h (λ same. absurd (cc)) gives)
+unbegun_answer setting (Err (RegionUnknown s)) e h gives = unbegun_refused setting (RegionUnknown s) (told_begun setting (RegionUnknown s) e h (λ same. absurd (cc)) gives)
+unbegun_answer setting (Err (RegionOverflow region by)) e h gives = unbegun_refused setting (RegionOverflow region by) (told_begun setting (RegionOverflow region by) e h (λ same. absurd (cc)) gives)
+unbegun_answer setting (Err (OutsideRegion event address)) e h gives = unbegun_refused setting (OutsideRegion event address) (told_begun setting (OutsideRegion event address) e h (λ same. absurd (cc)) gives)
+unbegun_answer setting (Err (LocationBackwards from to)) e h gives = unbegun_refused setting (LocationBackwards from to) (told_begun setting (LocationBackwards from to) e h (λ same. absurd (cc)) gives)
+unbegun_answer setting (Err (SectionOutsideSegments s)) e h gives = unbegun_refused setting (SectionOutsideSegments s) (told_begun setting (SectionOutsideSegments s) e h (λ same. absurd (cc)) gives)

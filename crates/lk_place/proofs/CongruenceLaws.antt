@@ -14,7 +14,7 @@ use Rattle.lk_link.proofs.PartNumbers.{first_part-suc}
 use Rattle.lk_place.specs.declared.cursors.Cursors.{Cursors}
 use Rattle.lk_place.specs.Alignments.{place_alignment}
 use Rattle.lk_place.specs.Laws.{IsSoundlySet, PlainMemoryIsCongruent}
-use Rattle.lk_place.specs.PlacedBefore.{Known}
+use Rattle.lk_place.specs.PlacedBefore.{Known, Standing}
 use Rattle.lk_place.specs.Placement.{IsPlaced, known_before, Places, PlacesSection, Steps, moved, state_at}
 use Rattle.lk_place.specs.Plain.{IsLoadSegment, IsPlain, OpensLoad, PlacesInLoad, last_before}
 use Rattle.lk_place.specs.Ranges.{HasPart}
@@ -63,10 +63,10 @@ first_of_two false b h none = absurd (cc)
 -- ---- what is saved
 
 -- an event that places nothing saves nothing
-unplaced_saves : (setting : Setting) (known : Known) (e : OrderEvent) (o : Option ℕ) (from entered to : Cursors) (records : List Record) → IsFree setting.plan → IsAboutPlace e → from.pending ≡ None → placed_section e ≡ o → o ≡ None
-    → moved setting known e from ≡ Ok entered → Places setting o entered records to → to.saved ≡ from.saved
-unplaced_saves setting known e (Some s) from entered to records free about quiet named none h places = absurd (cc)
-unplaced_saves setting known e None from entered to records free about quiet named none h places =
+unplaced_saves : (setting : Setting) (known : Known) (standing : Standing) (e : OrderEvent) (o : Option ℕ) (from entered to : Cursors) (records : List Record) → IsFree setting.plan → IsAboutPlace e → from.pending ≡ None → placed_section e ≡ o → o ≡ None
+    → moved setting known e from ≡ Ok entered → Places setting standing o entered records to → to.saved ≡ from.saved
+unplaced_saves setting known standing e (Some s) from entered to records free about quiet named none h places = absurd (cc)
+unplaced_saves setting known standing e None from entered to records free about quiet named none h places =
     elim (moves setting known e from entered free about quiet h) [
       | Stays same ↦ ap (λ (c : Cursors). c.saved) places ∙ ap (λ (c : Cursors). c.saved) same
       | Opened opens ↦ ap (λ (c : Cursors). c.saved) places ∙ opens.saved
@@ -86,15 +86,15 @@ nothing_saved setting states records is unmoved (suc n) less filled =
     let quiet : (state_at states n).pending ≡ None = never_waits setting states records is unmoved n (omega arith) in
     let step : Steps setting known e (state_at states n) records (state_at states (n + 1)) = step_at setting states records n e is (omega arith) event.1 in
     ap (λ (m : ℕ). (state_at states m).saved) (sym (add-one n))
-    ∙ elim (placed_section e) as (λ (o : Option ℕ). placed_section e ≡ o → Places setting o step.entered records (state_at states (n + 1)) → (state_at states (n + 1)).saved ≡ None) [
+    ∙ elim (placed_section e) as (λ (o : Option ℕ). placed_section e ≡ o → Places setting known.standing o step.entered records (state_at states (n + 1)) → (state_at states (n + 1)).saved ≡ None) [
       | None ↦ λ none places.
-          unplaced_saves setting known e None (state_at states n) step.entered (state_at states (n + 1)) records unmoved.free about quiet none refl step.moves places
+          unplaced_saves setting known known.standing e None (state_at states n) step.entered (state_at states (n + 1)) records unmoved.free about quiet none refl step.moves places
           ∙ nothing_saved setting states records is unmoved n (omega arith) (λ s last. filled s (last_stays None events n e event.1 none ∙ last))
       | (Some s) ↦ λ named places.
           let at : e ≡ Section s = section_event e s named in
           let last : last_before events (suc n) ≡ Some s = last_is None events n s (event.1 ∙ ap (λ (x : OrderEvent). Some x) at) in
           let begun = enters setting known s (state_at states n) step.entered unmoved.free quiet (ap (λ (x : OrderEvent). moved setting known x (state_at states n)) (sym at) ∙ step.moves) in
-          ap (λ (c : Cursors). c.saved) places.leaves ∙ (begun.taken (filled s last)).1
+          ap (λ (c : Cursors). c.saved) places.placed.leaves ∙ (begun.taken (filled s last)).1
     ] refl step.places
 
 -- ---- one event
@@ -153,10 +153,10 @@ section_agrees setting states records i s k t u n from entered to less there beg
     ]
 
 -- an event that places nothing leaves what its move leaves
-stays_agree : (setting : Setting) (place : ℕ) (e : OrderEvent) (o : Option ℕ) (entered to : Cursors) (records : List Record) → placed_section e ≡ o → o ≡ None
-    → FreeAgrees place entered → Places setting o entered records to → FreeAgrees place to
-stays_agree setting place e (Some s) entered to records named none h places = absurd (cc)
-stays_agree setting place e None entered to records named none h places = subst (FreeAgrees place) (sym places) h
+stays_agree : (setting : Setting) (standing : Standing) (place : ℕ) (e : OrderEvent) (o : Option ℕ) (entered to : Cursors) (records : List Record) → placed_section e ≡ o → o ≡ None
+    → FreeAgrees place entered → Places setting standing o entered records to → FreeAgrees place to
+stays_agree setting standing place e (Some s) entered to records named none h places = absurd (cc)
+stays_agree setting standing place e None entered to records named none h places = subst (FreeAgrees place) (sym places) h
 
 -- one event that does not open the segment
 step_agrees : (setting : Setting) (states : List Cursors) (records : List Record) (i s k : ℕ) → IsThrough setting states records i s k
@@ -166,10 +166,10 @@ step_agrees setting states records i s k t n known e from to less here opened qu
     let about : IsAboutPlace e = t.plain.unmoved n e here in
     let free : IsFree setting.plan = (plain_plan setting.plan setting.output t.plain).free in
     let place : ℕ = place_alignment setting i in
-    elim (placed_section e) as (λ (o : Option ℕ). placed_section e ≡ o → Places setting o step.entered records to → FreeAgrees place to) [
+    elim (placed_section e) as (λ (o : Option ℕ). placed_section e ≡ o → Places setting known.standing o step.entered records to → FreeAgrees place to) [
       | None ↦ λ none places.
           elim (moves setting known e from step.entered free about quiet step.moves) [
-            | Stays same ↦ stays_agree setting place e None step.entered to records none refl (subst (FreeAgrees place) (sym same) h) places
+            | Stays same ↦ stays_agree setting known.standing place e None step.entered to records none refl (subst (FreeAgrees place) (sym same) h) places
             | Opened opens ↦
                 let other : OpensLoad setting.plan opens.segment n = record { load = opens.load; here = here ∙ ap (λ (x : OrderEvent). Some x) opens.is } in
                 let closed = t.plain.apart i opens.segment n t.places.load other in
@@ -180,7 +180,7 @@ step_agrees setting states records i s k t n known e from to less here opened qu
           let at : e ≡ Section u = section_event e u named in
           let there : PlacesInLoad setting.plan i u n = record { load = t.places.load; places = record { here = here ∙ ap (λ (x : OrderEvent). Some x) at; inside = opened } } in
           let begun = enters setting known u from step.entered free quiet (ap (λ (x : OrderEvent). moved setting known x from) (sym at) ∙ step.moves) in
-          section_agrees setting states records i s k t u n from step.entered to less there begun h places
+          section_agrees setting states records i s k t u n from step.entered to less there begun h places.placed
     ] refl step.places
 
 -- as long as the segment is open, both agree
@@ -227,7 +227,7 @@ placed_agree setting states records i s k j t below =
       | inr none ↦ none
     ] in
     let alike : CursorsAgree place step.entered = level setting place s from step.entered t.backed filled begun agrees in
-    part_starts setting place s j step.entered (state_at states (k + 1)) records (keeps setting states records i s k t s k step.entered t.places t.backed alike) step.places below
+    part_starts setting place s j step.entered (state_at states (k + 1)) records (keeps setting states records i s k t s k step.entered t.places t.backed alike) step.places.placed below
 
 -- where it doesn't, its parts stand nowhere
 unplaced : (setting : Setting) (states : List Cursors) (records : List Record) (s k p : ℕ) → IsSoundlySet setting states records

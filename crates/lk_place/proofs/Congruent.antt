@@ -149,7 +149,8 @@ part_starts setting place s j from to records k h below =
           let walked = ap (is_walked setting s) (sym first.1.is) ∙ first_is_walked setting s in
           let begun : StartsAgree place (record_at records (part_number setting.plan.sections s first.0)) = walked_agrees setting place s first.0 from to records k h first.1.within walked in
           let starts : StartsAgree place (record_at records (first_walked setting s)) = subst (λ n. StartsAgree place (record_at records n)) (sym first.1.is) begun in
-          subst (StartsAgree place) (sym (h.resting j below is)) starts
+          let rests = h.resting j below is in
+          ap (λ n. n % place) rests.at ∙ starts ∙ ap (λ n. n % place) (sym rests.in_file)
     ] refl
 
 -- ---- sections without bytes in the file

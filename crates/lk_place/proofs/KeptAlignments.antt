@@ -100,7 +100,7 @@ filled_within setting s j from to records h below filled =
     let p : ℕ = part_number setting.plan.sections s j in
     elim (is_walked setting s p) as (λ b. is_walked setting s p ≡ b → (record_at records p).alignment ≤ section_alignment setting s) [
       | true ↦ λ is. omega (arith, (h.walked j below is).aligned, at_most (p == first_walked setting s) (part_at setting.plan.sections p).alignment (section_alignment setting s))
-      | false ↦ λ is. let none : is_filled (record_at records p) ≡ false = ap is_filled (h.resting j below is) in absurd (cc)
+      | false ↦ λ is. let none : is_filled (record_at records p) ≡ false = ap (nat_lt 0) (h.resting j below is).takes in absurd (cc)
     ] refl
 
 -- a part with bytes has a record with bytes, at least at its own alignment
@@ -170,7 +170,7 @@ each_keeps setting states records ready is whole s below =
     let step = step_at setting states records event.0 (Section s) is early event.1 in
     let there : record_at (section_records sections records) s ≡ section_record (section_at sections s) (part_records sections records s)
     = record_of (λ q. section_record q.1 (part_records sections records q.0)) sections 0 s below ∙ ap (λ n. section_record (section_at sections s) (part_records sections records n)) (zero-add s) in
-    ap (λ (r : Record). r.alignment) there ∙ section_keeps setting s step.entered (state_at states (event.0 + 1)) records is.each below step.places
+    ap (λ (r : Record). r.alignment) there ∙ section_keeps setting s step.entered (state_at states (event.0 + 1)) records is.each below step.places.placed
 
 -- what the records of some sections say is their alignments
 all_keep : (setting : Setting) (records : List Record) → ((s : ℕ) → s < length setting.plan.sections → (record_at (section_records setting.plan.sections records) s).alignment ≡ section_alignment setting s)

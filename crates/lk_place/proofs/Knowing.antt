@@ -59,13 +59,13 @@ section_placed setting k s j h within =
 
 -- ---- the records of a section
 
-part_of : (sections : List PlanSection) (records : List Record) (s j : ℕ) → s < length sections → j < part_count sections s
+pub part_of : (sections : List PlanSection) (records : List Record) (s j : ℕ) → s < length sections → j < part_count sections s
     → slice_index_or (part_records sections records s) j nowhere ≡ record_at records (part_number sections s j)
 part_of sections records s j below within =
     let first : ℕ = first_part sections s in
     get_or-take (first_part sections (s + 1) - first) (drop first records) j nowhere (omega (arith, first_part-suc sections s below)) ∙ get_or-drop first records j nowhere
 
-parts_count : (sections : List PlanSection) (records : List Record) (s : ℕ) → length records ≡ length (all_parts sections) → s < length sections
+pub parts_count : (sections : List PlanSection) (records : List Record) (s : ℕ) → length records ≡ length (all_parts sections) → s < length sections
     → length (part_records sections records s) ≡ part_count sections s
 parts_count sections records s each below =
     omega (

@@ -13,6 +13,7 @@ mod InsideLaws
 mod Insides
 mod KeptAlignments
 mod Knowing
+mod Loading
 mod MassLaws
 mod Moves
 mod Multiples

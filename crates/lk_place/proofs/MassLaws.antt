@@ -48,7 +48,7 @@ section_takes setting s j from to records places less =
     let p : ℕ = part_number setting.plan.sections s j in
     elim (cases_Bool (is_walked setting s p)) [
       | inl walked ↦ (places.walked j less walked).takes
-      | inr rests ↦ ap (λ (r : Record). r.mem_size) (places.resting j less rests) ∙ sym (no_bytes setting s p rests)
+      | inr rests ↦ (places.resting j less rests).takes ∙ sym (no_bytes setting s p rests)
     ]
 
 part_takes : (setting : Setting) (states : List Cursors) (records : List Record) → IsReady setting → IsPlaced setting states records → placement_refusal setting states records ≡ None
@@ -63,7 +63,7 @@ part_takes setting states records ready is unrefused p below =
     let early : k < length setting.plan.events = slice_get_within setting.plan.events k (Section s) event.1 in
     let steps : Steps setting (known_before setting states records k) (Section s) (state_at states k) records (state_at states (k + 1)) = (is.steps k (Section s) (omega (arith, is.ends unrefused)) event.1).steps in
     ap (λ (n : ℕ). (record_at records n).mem_size) at.is
-    ∙ section_takes setting s j steps.entered (state_at states (k + 1)) records steps.places at.within
+    ∙ section_takes setting s j steps.entered (state_at states (k + 1)) records steps.places.placed at.within
     ∙ ap (size_at setting.sizes) (sym at.is)
 
 pub parts_take_their_bytes : PartsTakeTheirBytes

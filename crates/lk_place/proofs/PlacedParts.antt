@@ -14,8 +14,8 @@ use Rattle.lk_link.specs.PlanSections.{section_at}
 use Rattle.lk_place.proofs.Checked.{parts_aligned}
 use Rattle.lk_place.specs.declared.cursors.Offsets.{Offsets}
 use Rattle.lk_place.specs.declared.error.Refusal.TheVariants.{Overflow}
-use Rattle.lk_place.specs.Placement.{behind, is_below, overflow_at, pushed}
-use Rattle.lk_place.specs.Walk.{placed_at, unless}
+use Rattle.lk_place.specs.Placement.{behind, is_below, overflow_at, placed_at, pushed}
+use Rattle.lk_place.specs.Walk.{unless}
 use Rattle.lk_place.specs.Setting.{IsReady, Setting}
 
 abbrev AreAligned : List PlanPart → Type 0

@@ -19,7 +19,7 @@ use Rattle.lk_link.proofs.PartNumbers.{first_part-le, first_part-suc, parts_end-
 use Rattle.lk_link.proofs.Places.{among, found}
 use Rattle.lk_place.specs.declared.cursors.Cursors.{Cursors}
 use Rattle.lk_place.specs.Expressions.{Valued, expression_value}
-use Rattle.lk_place.specs.PlacedBefore.{Standing, dot_of, early_known, is_placing, is_placing_part, standing_before, lies_in, refusing, value_at}
+use Rattle.lk_place.specs.PlacedBefore.{Standing, dot_of, early_known, early_value, is_placing, is_placing_part, standing_before, lies_in}
 use Rattle.lk_place.specs.Ranges.{HasPart}
 use Rattle.lk_place.specs.Records.{Record, nowhere, record_at}
 use Rattle.lk_place.specs.Regions.{given_regions, regions_of}
@@ -169,7 +169,7 @@ pub value_known : (setting : Setting) (table : List ℕ) (records : List Record)
       part = part_before table records n;
       positions = setting.positions;
     })) e
-    → refusing r ≡ value_at setting (standing_before setting.plan records n) from e
+    → r ≡ early_value setting (standing_before setting.plan records n) from e
 value_known setting table records n from e dot groups regions constants r ready at each same_dot same_groups same_regions same_constants gives =
     let known : Standing = standing_before setting.plan records n in
     let all : ℕ → List (List InputFile) → List (ℕ × ℕ) → List (Option Valued) → (ℕ → Option Record) → (ℕ → Option Record) → Early
@@ -185,7 +185,7 @@ value_known setting table records n from e dot groups regions constants r ready 
     ∙ ap (λ cs. all (dot_of from) setting.groups regions_are cs (section_before setting.plan.sections table records n) (part_before table records n)) constants_are
     ∙ ap (λ f. all (dot_of from) setting.groups regions_are (constants_by setting.groups setting.headers regions_are) f (part_before table records n)) section
     ∙ ap (all (dot_of from) setting.groups regions_are (constants_by setting.groups setting.headers regions_are) known.section) part in
-    ap refusing (gives ∙ ap (λ k. expression_value (early_operand k) e) one)
+    gives ∙ ap (λ k. expression_value (early_operand k) e) one
 
 -- what the table tells of a section is known at the event
 pub section_known : (setting : Setting) (table : List ℕ) (records : List Record) (n s : ℕ) (o : Option Record) → IsReady setting → ArePlacedAt setting.plan (length setting.plan.events) table

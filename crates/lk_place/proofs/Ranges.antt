@@ -7,7 +7,7 @@ use Rattle.lk_link.specs.Parts.{first_part, part_at}
 use Rattle.lk_link.specs.PlanSections.{is_file_backed}
 use Rattle.lk_place.specs.declared.cursors.Cursors.{Cursors}
 use Rattle.lk_place.specs.declared.cursors.Offsets.{Offsets}
-use Rattle.lk_place.specs.Placement.{IsPlacedAt, PlacesSection, behind, first_walked, is_walked, reached, resting, section_start, walk_alignment}
+use Rattle.lk_place.specs.Placement.{IsPlacedAt, IsRestingAt, PlacesSection, behind, first_walked, is_walked, reached, section_start, walk_alignment}
 use Rattle.lk_place.specs.Records.{Record, file_end, mem_end, nowhere, record_at}
 use Rattle.lk_place.specs.Setting.{Setting, part_count, part_number, size_at}
 
@@ -18,7 +18,7 @@ pub record AreRanges (begin end : Record → ℕ) (cursor : Offsets → ℕ) : T
   pub after : (backed : Bool) (a n : ℕ) (from : Offsets) (r : Record) → IsPlacedAt backed a n from r → cursor from ≤ begin r
   pub rises : (r : Record) → begin r ≤ end r
   pub behind : (r : Record) → cursor (behind r) ≡ end r
-  pub rests : (first : Record) (own : ℕ) → end (resting first own) ≤ begin (resting first own)
+  pub rests : (own : ℕ) (first r : Record) → IsRestingAt own first r → end r ≤ begin r
   pub none : end nowhere ≤ begin nowhere
 
 starts-after : (backed : Bool) (a n m : ℕ) → MatchBool backed (IsLeastMultiple a n m) (m ≡ n) → n ≤ m
@@ -30,7 +30,7 @@ file_ranges = record {
   after = λ backed a n from r h. starts-after backed a from.file r.file_offset h.in_file;
   rises = λ r. omega arith;
   behind = λ r. refl;
-  rests = λ first own. omega arith;
+  rests = λ own first r h. omega (arith, h.takes_file);
   none = omega arith;
 }
 
@@ -39,7 +39,7 @@ memory_ranges = record {
   after = λ backed a n from r h. h.at.reaches;
   rises = λ r. omega arith;
   behind = λ r. refl;
-  rests = λ first own. omega arith;
+  rests = λ own first r h. omega (arith, h.takes);
   none = omega arith;
 }
 
@@ -120,14 +120,14 @@ passed walked r from = if walked then behind r else from
 -- a part lies between the cursors round it
 part_between : (begin end : Record → ℕ) (cursor : Offsets → ℕ) → AreRanges begin end cursor
     → (walked backed : Bool) (a size own : ℕ) (from : Offsets) (first r : Record)
-    → (walked ≡ true → IsPlacedAt backed a size from r) → (walked ≡ false → r ≡ resting first own)
+    → (walked ≡ true → IsPlacedAt backed a size from r) → (walked ≡ false → IsRestingAt own first r)
     → (cursor from ≤ cursor (passed walked r from)) × IsBetween begin end (cursor from) (cursor (passed walked r from)) r
 part_between begin end cursor kind true backed a size own from first r is rests =
     let after = kind.after backed a size from r (is refl) in
     let ends = kind.behind r in
     (omega (arith, after, kind.rises r, ends), inr (after, omega (arith, ends)))
 part_between begin end cursor kind false backed a size own from first r is rests =
-    (omega arith, inl (subst (λ (q : Record). end q ≤ begin q) (sym (rests refl)) (kind.rests first own)))
+    (omega arith, inl (kind.rests own first r (rests refl)))
 
 -- the parts of a section follow one another
 pub section_follows : (begin end : Record → ℕ) (cursor : Offsets → ℕ) → AreRanges begin end cursor

@@ -6,12 +6,12 @@ use Rattle.lk_link.specs.PlanSections.{is_file_backed}
 use Rattle.lk_link.specs.Parts.{part_at}
 use Rattle.lk_place.specs.declared.cursors.Offsets.{Offsets}
 use Rattle.lk_place.specs.declared.error.Refusal.TheVariants.{Overflow}
-use Rattle.lk_place.specs.Placement.{behind, end_behind, first_walked, is_below, is_walked, overflow_at, pushed, section_end, section_start, walk_alignment}
+use Rattle.lk_place.specs.Placement.{IsRestingAt, behind, end_behind, first_walked, is_below, is_walked, overflow_at, pushed, section_end, section_start, walk_alignment}
 use Rattle.lk_place.specs.PlacementLaws.{RefusedExactlyPast}
 use Rattle.lk_place.specs.Records.{Fits, Record, record_at}
 use Rattle.lk_place.specs.Setting.{Setting, part_count, part_number, size_at}
 use Rattle.lk_place.proofs.PlacedParts.{behind_placed}
-use Rattle.lk_place.proofs.PlacedSections.{by_walked, place_walked, places_makes, walked_record}
+use Rattle.lk_place.proofs.PlacedSections.{by_walked, place_walked, places_makes, unloaded, walked_record}
 use Rattle.lk_place.proofs.SectionEnds.{IsFirstWalked, below_too, ends_rise, first_walked_place}
 
 not_refused : (c : Offsets) → overflow_at c ≡ None → is_below c ≡ true
@@ -53,13 +53,8 @@ last_walked setting s i begin first (suc n) less =
     ]
 
 -- a part that rests fits where the first walked one does
-rests_fit : (setting : Setting) (s : ℕ) (first : Record) (own : ℕ) (r : Record) → Fits first → r ≡ record { file_size = 0; mem_size = 0; alignment = own; file_offset = first.file_offset; mem_offset = first.mem_offset; lma_offset = first.mem_offset } → Fits r
-rests_fit setting s first own r h is =
-    let file : r.file_offset ≡ first.file_offset = ap (λ (x : Record). x.file_offset) is in
-    let none : r.file_size ≡ 0 = ap (λ (x : Record). x.file_size) is in
-    let mem : r.mem_offset ≡ first.mem_offset = ap (λ (x : Record). x.mem_offset) is in
-    let nothing : r.mem_size ≡ 0 = ap (λ (x : Record). x.mem_size) is in
-    record { file = omega (arith, h.file); mem = omega (arith, h.mem) }
+rests_fit : (first : Record) (own : ℕ) (r : Record) → Fits first → IsRestingAt own first r → Fits r
+rests_fit first own r h is = record { file = omega (arith, h.file, is.in_file, is.takes_file); mem = omega (arith, h.mem, is.at, is.takes) }
 
 pub refused_exactly_past : RefusedExactlyPast
 refused_exactly_past setting s from records to ready below places =
@@ -68,7 +63,7 @@ refused_exactly_past setting s from records to ready below places =
     let number : ℕ → ℕ = part_number setting.plan.sections s in
     let made = (places_makes setting s from records to ready below places).made in
     let first = first_walked_place setting s ready below in
-    let is : (j : ℕ) → j < count → is_walked setting s (number j) ≡ true → record_at records (number j) ≡ walked_record setting s begin j = λ j less walked. made j less ∙ by_walked setting s begin j walked in
+    let is : (j : ℕ) → j < count → is_walked setting s (number j) ≡ true → unloaded (record_at records (number j)) ≡ walked_record setting s begin j = λ j less walked. made j less ∙ by_walked setting s begin j walked in
     let walked_fits : is_below (section_end setting s begin) ≡ true → (j : ℕ) → j < count → is_walked setting s (number j) ≡ true → Fits (record_at records (number j))
     = λ fits j less walked. below_fits (record_at records (number j)) (
     ap (λ (r : Record). is_below (behind r)) (is j less walked)
@@ -81,7 +76,7 @@ refused_exactly_past setting s from records to ready below places =
             | inr rests ↦
                 let first_fits : Fits (record_at records (first_walked setting s)) =
                 subst (λ (p : ℕ). Fits (record_at records p)) (sym first.1.is) (walked_fits fits first.0 first.1.within (place_walked setting s first.0 first.1)) in
-                rests_fit setting s (record_at records (first_walked setting s)) (part_at setting.plan.sections (number j)).alignment (record_at records (number j)) first_fits (places.resting j less rests)
+                rests_fit (record_at records (first_walked setting s)) (part_at setting.plan.sections (number j)).alignment (record_at records (number j)) first_fits (places.resting j less rests)
           ],
       λ fit.
           let last = last_walked setting s first.0 begin first.1 count first.1.within in

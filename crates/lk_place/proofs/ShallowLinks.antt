@@ -56,4 +56,5 @@ shallow_link link well =
       regions = λ i d below. let both = good.regions i (slice_index_or link.plan.regions i d) (slice_get-get_or link.plan.regions i d below) in (both.0.shallow, both.1.shallow);
       redirects = redirects link good;
       events = λ k e here. shallow_event link e (good.moves k e here);
+      loads = λ s x here e named. (good.addresses s x here e named).shallow;
     }

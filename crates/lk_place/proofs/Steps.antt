@@ -23,7 +23,7 @@ use Rattle.lk_place.specs.declared.regions.SectionRegion.TheVariants.{Free, Unde
 use Rattle.lk_place.specs.Alignments.{place_alignment}
 use Rattle.lk_place.specs.InRegions.{named_region, numbered_region, stands_in}
 use Rattle.lk_place.specs.Laws.{IsSoundlySet}
-use Rattle.lk_place.specs.PlacedBefore.{Known}
+use Rattle.lk_place.specs.PlacedBefore.{Known, Standing}
 use Rattle.lk_place.specs.Placement.{IsPlaced, known_before, Places, PlacesSection, Steps, moved, reached, section_start, state_at}
 use Rattle.lk_place.specs.Plain.{IsPlain}
 use Rattle.lk_place.specs.Plans.{IsUnmoved}
@@ -88,9 +88,9 @@ nothing_first setting states begins some =
     let none = waits_first (begun_memory setting.plan setting.groups setting.headers setting.positions) (first_state setting) given in
     (ap (λ (c : Cursors). c.saved) first ∙ none.0, ap (λ (c : Cursors). c.pending) first ∙ none.1)
 
-places_quietly : (setting : Setting) (o : Option ℕ) (entered to : Cursors) (records : List Record) → Places setting o entered records to → to.pending ≡ entered.pending
-places_quietly setting None entered to records h = ap (λ (c : Cursors). c.pending) h
-places_quietly setting (Some s) entered to records h = ap (λ (c : Cursors). c.pending) h.leaves
+places_quietly : (setting : Setting) (standing : Standing) (o : Option ℕ) (entered to : Cursors) (records : List Record) → Places setting standing o entered records to → to.pending ≡ entered.pending
+places_quietly setting standing None entered to records h = ap (λ (c : Cursors). c.pending) h
+places_quietly setting standing (Some s) entered to records h = ap (λ (c : Cursors). c.pending) h.placed.leaves
 
 -- where nothing moves the location, none ever waits
 pub never_waits : (setting : Setting) (states : List Cursors) (records : List Record) → IsPlaced setting states records → MovesNothing setting.plan
@@ -101,7 +101,7 @@ never_waits setting states records is unmoved (suc k) less =
     let step = step_at setting states records k event.0 is (omega arith) event.1 in
     let before : (state_at states k).pending ≡ None = never_waits setting states records is unmoved k (omega arith) in
     ap (λ (n : ℕ). (state_at states n).pending) (sym (add-one k))
-    ∙ places_quietly setting (placed_section event.0) step.entered (state_at states (k + 1)) records step.places
+    ∙ places_quietly setting (known_before setting states records k).standing (placed_section event.0) step.entered (state_at states (k + 1)) records step.places
     ∙ stays_quiet setting (known_before setting states records k) event.0 (state_at states k) step.entered unmoved.free (unmoved.events k event.0 event.1) before step.moves
 
 -- ---- in the file
@@ -115,10 +115,10 @@ section_in_file setting s entered to records h =
     let ends : to.file ≡ end.file = ap (λ (c : Cursors). c.file) h.leaves in
     subst (λ n. FollowInFile setting records s entered.file n) (sym ends) (section_follows (λ r. r.file_offset) file_end (λ c. c.file) file_ranges setting s entered to records h)
 
-places_in_file : (setting : Setting) (o : Option ℕ) (entered to : Cursors) (records : List Record) → Places setting o entered records to → entered.file ≤ to.file
-places_in_file setting None entered to records h = omega (arith, ap (λ (c : Cursors). c.file) h)
-places_in_file setting (Some s) entered to records h =
-    follow-le (λ r. r.file_offset) file_end records (first_part setting.plan.sections s) (part_count setting.plan.sections s) entered.file to.file (section_in_file setting s entered to records h)
+places_in_file : (setting : Setting) (standing : Standing) (o : Option ℕ) (entered to : Cursors) (records : List Record) → Places setting standing o entered records to → entered.file ≤ to.file
+places_in_file setting standing None entered to records h = omega (arith, ap (λ (c : Cursors). c.file) h)
+places_in_file setting standing (Some s) entered to records h =
+    follow-le (λ r. r.file_offset) file_end records (first_part setting.plan.sections s) (part_count setting.plan.sections s) entered.file to.file (section_in_file setting s entered to records h.placed)
 
 -- the cursor of the file never falls
 pub file_rises : (setting : Setting) (states : List Cursors) (records : List Record) → IsPlaced setting states records
@@ -129,7 +129,7 @@ file_rises setting states records is k less =
     omega (
       arith,
       file_grows setting (known_before setting states records k) event.0 (state_at states k) step.entered step.moves,
-      places_in_file setting (placed_section event.0) step.entered (state_at states (k + 1)) records step.places,
+      places_in_file setting (known_before setting states records k).standing (placed_section event.0) step.entered (state_at states (k + 1)) records step.places,
     )
 
 -- the parts that an event places follow one another between the cursors round it
@@ -140,7 +140,7 @@ file_follows setting states records is k s less here =
     let from : Cursors = state_at states k in
     let to : Cursors = state_at states (k + 1) in
     widened (λ r. r.file_offset) file_end records (first_part setting.plan.sections s) (part_count setting.plan.sections s) step.entered.file to.file from.file to.file
-    (section_in_file setting s step.entered to records step.places) (file_grows setting (known_before setting states records k) (Section s) from step.entered step.moves) (omega arith)
+    (section_in_file setting s step.entered to records step.places.placed) (file_grows setting (known_before setting states records k) (Section s) from step.entered step.moves) (omega arith)
 
 -- ---- in memory
 
@@ -197,10 +197,10 @@ section_in_place setting s entered to records false is h =
     let end : Offsets = reached setting s records (section_start setting s entered) (part_count setting.plan.sections s) in
     omega (arith, ap (λ (c : Cursors). c.memory) h.leaves ∙ ap (λ b. if b then end.memory else entered.memory) is)
 
-places_in_memory : (setting : Setting) (o : Option ℕ) (entered to : Cursors) (records : List Record) → Places setting o entered records to → free_memory entered ≤ free_memory to
-places_in_memory setting None entered to records h = omega (arith, ap free_memory h)
-places_in_memory setting (Some s) entered to records h =
-    free_rises entered to (ap (λ (c : Cursors). c.saved) h.leaves) (section_in_place setting s entered to records (takes_addresses setting s) refl h)
+places_in_memory : (setting : Setting) (standing : Standing) (o : Option ℕ) (entered to : Cursors) (records : List Record) → Places setting standing o entered records to → free_memory entered ≤ free_memory to
+places_in_memory setting standing None entered to records h = omega (arith, ap free_memory h)
+places_in_memory setting standing (Some s) entered to records h =
+    free_rises entered to (ap (λ (c : Cursors). c.saved) h.placed.leaves) (section_in_place setting s entered to records (takes_addresses setting s) refl h.placed)
 
 -- what is free of memory never falls
 pub memory_rises : (setting : Setting) (states : List Cursors) (records : List Record) → IsSoundlySet setting states records → MovesNothing setting.plan
@@ -212,7 +212,7 @@ memory_rises setting states records set unmoved k less =
       arith,
       entered_free setting states records set (known_before setting states records k) event.0 (state_at states k) step.entered unmoved.free (unmoved.events k event.0 event.1)
           (never_waits setting states records set.placed unmoved k (omega arith)) step.moves,
-      places_in_memory setting (placed_section event.0) step.entered (state_at states (k + 1)) records step.places,
+      places_in_memory setting (known_before setting states records k).standing (placed_section event.0) step.entered (state_at states (k + 1)) records step.places,
     )
 
 -- the parts of a section that has memory follow one another in what is free between the cursors round its event
@@ -226,7 +226,7 @@ memory_follows setting states records set unmoved whole k s less here memory =
     let to : Cursors = state_at states (k + 1) in
     let quiet : from.pending ≡ None = never_waits setting states records set.placed unmoved k (omega arith) in
     let taken = (enters setting (known_before setting states records k) s from step.entered unmoved.free quiet step.moves).taken (not-true (is_zero_fill_thread_local setting.plan s) has.1) in
-    let places : PlacesSection setting s step.entered records to = step.places in
+    let places : PlacesSection setting s step.entered records to = step.places.placed in
     let unsaved : to.saved ≡ None = ap (λ (c : Cursors). c.saved) places.leaves ∙ taken.1 in
     let behind : free_memory to ≡ to.memory = ap (λ (o : Option ℕ). unwrap_or o to.memory) unsaved in
     widened (λ r. r.mem_offset) mem_end records (first_part setting.plan.sections s) (part_count setting.plan.sections s) step.entered.memory to.memory (free_memory from) (free_memory to)

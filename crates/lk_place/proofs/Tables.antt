@@ -33,6 +33,18 @@ range_grows {X} new old base f first j q at writes filled p =
           ∙ ap (λ (b : Bool). cond b (f p) (base p)) (among_other first j p (sym (ap (λ (n : ℕ). p == n) at) ∙ there))
     ]
 
+out_of : (first j : ℕ) → lies_in first j (first + j) ≡ false
+out_of first j = grind (arith, nat_tests)
+
+-- a range that is changed up to j, and one more
+pub range_changes : {X : Type 0} (new old base : ℕ → X) (f : X → X) (first j q : ℕ) → q ≡ first + j
+    → ((p : ℕ) → new p ≡ (if p == q then f (old q) else old p))
+    → ((p : ℕ) → old p ≡ (if lies_in first j p then f (base p) else base p))
+    → (p : ℕ) → new p ≡ (if lies_in first (j + 1) p then f (base p) else base p)
+range_changes {X} new old base f first j q at writes changed =
+    let here : old q ≡ base q = changed q ∙ ap (λ (b : Bool). cond b (f (base q)) (base q)) (ap (lies_in first j) at ∙ out_of first j) in
+    range_grows new old base (λ p. f (base p)) first j q at (λ p. writes p ∙ ap (λ (x : X). cond (p == q) (f x) (old p)) here) changed
+
 -- ---- lists that are made of the numbers of other lists' elements
 
 -- they are as long

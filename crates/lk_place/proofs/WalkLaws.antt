@@ -14,17 +14,17 @@ use Rattle.lk_link.proofs.PartNumbers.{parts_end-le}
 use Rattle.lk_place.specs.declared.cursors.Cursors.{Cursors}
 use Rattle.lk_place.specs.declared.error.PlaceError.{PlaceError}
 use Rattle.lk_place.specs.declared.error.Refusal.{Refusal}
-use Rattle.lk_place.specs.Placement.{IsPlaced, known_before, IsPlacedBefore, Passes, Places, Steps, event_refusal, first_refusal, moved, numbered, placement_refusal, refusal_behind, refusal_behind_move, refusal_of, section_start, state_at, step_refusal}
+use Rattle.lk_place.specs.Placement.{IsPlaced, known_before, IsPlacedBefore, Passes, Places, PlacesLoaded, Steps, either_refusal, event_refusal, first_refusal, load_given, load_refusal, moved, numbered, placement_refusal, placing_refusal, record_by, refusal_behind, refusal_behind_move, refusal_of, section_left, section_overflow, section_refusal, section_start, state_at, step_refusal}
+use Rattle.lk_place.specs.InRegions.{past_region, stands_in}
 use Rattle.lk_place.specs.PlacementLaws.{PlacementExists, PlacementIsOne}
-use Rattle.lk_place.specs.PlacedBefore.{Known}
-use Rattle.lk_place.specs.Plans.{IsPlaceable, IsPlaceableEvent}
+use Rattle.lk_place.specs.PlacedBefore.{Known, Standing}
 use Rattle.lk_place.specs.Records.{Record, nowhere, record_at}
 use Rattle.lk_place.specs.Setting.{IsReady, Setting, part_count, part_number}
 use Rattle.lk_place.specs.Start.{BeginsAt, no_cursors, start}
-use Rattle.lk_place.specs.Walk.{AllPass, after_move, cursors_after, entered, first_state, known_after, left_behind, records_after, refused_at, record_after, record_by, stepped}
-use Rattle.lk_place.proofs.PlacedSections.{AreMade, MakesSection, made_places, places_makes}
+use Rattle.lk_place.specs.Walk.{AllPass, after_move, cursors_after, entered, first_state, known_after, left_behind, load_of, load_or_none, loaded_by, records_after, refused_at, record_after, stepped}
+use Rattle.lk_place.proofs.PlacedSections.{MakesSection, loaded_is, loaded_there, loads_at, made_places, places_makes, unloaded, unloaded_is}
 use Rattle.lk_place.proofs.Knowing.{known_is}
-use Rattle.lk_place.proofs.WalkRecords.{PlacesAt, placed_below, placed_or_not, record_absent, record_kept, record_placed, section_there}
+use Rattle.lk_place.proofs.WalkRecords.{PlacesAt, loaded_record, placed_below, placed_or_not, record_absent, record_kept, record_placed, section_there}
 use Rattle.lk_place.proofs.WalkSteps.{cursors_first, cursors_next, has_first, has_none, record_first, start_given, starts}
 
 -- ---- the states
@@ -63,23 +63,57 @@ unnumbered k None h = refl
 unnumbered k (Some r) h = absurd (cc)
 
 -- its move isn't refused
-move_given : (setting : Setting) (s : Option ℕ) (from : Cursors) (o : Result Cursors Refusal) → refusal_behind_move setting s o ≡ None → o ≡ Ok (after_move from o)
-move_given setting s from (Ok c) h = refl
-move_given setting s from (Err r) h = absurd (cc)
+move_given : (setting : Setting) (standing : Standing) (s : Option ℕ) (from : Cursors) (o : Result Cursors Refusal) → refusal_behind_move setting standing s o ≡ None → o ≡ Ok (after_move from o)
+move_given setting standing s from (Ok c) h = refl
+move_given setting standing s from (Err r) h = absurd (cc)
+
+first_none : (a b : Option Refusal) → either_refusal a b ≡ None → a ≡ None
+first_none None b h = refl
+first_none (Some r) b h = absurd (cc)
+
+later_none : (a b : Option Refusal) → either_refusal a b ≡ None → b ≡ None
+later_none None b h = h
+later_none (Some r) b h = absurd (cc)
+
+load_passes : (o : Result (Option ℕ) Refusal) → load_refusal o ≡ None → o ≡ Ok (load_or_none o)
+load_passes (Ok load) h = refl
+load_passes (Err r) h = absurd (cc)
+
+-- the load address of its section isn't refused either
+load_there : (setting : Setting) (standing : Standing) (s : ℕ) (c : Cursors) → section_refusal setting standing (Some s) c ≡ None → load_given setting standing s c ≡ Ok (load_of setting standing s c)
+load_there setting standing s c h =
+    let placing : placing_refusal setting standing s c ≡ None = first_none (placing_refusal setting standing s c) (past_region setting (stands_in setting.plan s) (section_left setting s c).memory) h in
+    load_passes (load_given setting standing s c) (later_none (section_overflow setting s c) (load_refusal (load_given setting standing s c)) placing)
+
+-- these records are those that the walk computes for the parts of a section
+abbrev AreWalked : Setting → Standing → ℕ → Cursors → List Record → Type 0
+AreWalked setting standing s c records = (j : ℕ) → j < part_count setting.plan.sections s
+    → record_at records (part_number setting.plan.sections s j) ≡ loaded_record setting standing s c (part_number setting.plan.sections s j)
 
 -- what it places, in words of the walk
-event_places : (setting : Setting) (e : OrderEvent) (c : Cursors) (records : List Record) (to : Cursors) → IsReady setting
+event_places : (setting : Setting) (standing : Standing) (e : OrderEvent) (c : Cursors) (records : List Record) (to : Cursors) → IsReady setting
     → to ≡ left_behind setting (placed_section e) c
+    → section_refusal setting standing (placed_section e) c ≡ None
     → ((s : ℕ) → e ≡ Section s → s < length setting.plan.sections)
-    → ((s : ℕ) → e ≡ Section s → AreMade setting s (section_start setting s c) records)
-    → Places setting (placed_section e) c records to
+    → ((s : ℕ) → e ≡ Section s → AreWalked setting standing s c records)
+    → Places setting standing (placed_section e) c records to
 unfolding left_behind
-event_places setting (SegmentStart i) c records to ready is there made = is
-event_places setting (SegmentEnd i) c records to ready is there made = is
-event_places setting (SetLocation x) c records to ready is there made = is
-event_places setting (SetLocationRelative x t) c records to ready is there made = is
-event_places setting (SetSectionAddress x) c records to ready is there made = is
-event_places setting (Section s) c records to ready is there made = made_places setting s c records to ready (there s refl) (made s refl) is
+event_places setting standing (SegmentStart i) c records to ready is none there made = is
+event_places setting standing (SegmentEnd i) c records to ready is none there made = is
+event_places setting standing (SetLocation x) c records to ready is none there made = is
+event_places setting standing (SetLocationRelative x t) c records to ready is none there made = is
+event_places setting standing (SetSectionAddress x) c records to ready is none there made = is
+event_places setting standing (Section s) c records to ready is none there made =
+    let load : Option ℕ = load_of setting standing s c in
+    let number : ℕ → ℕ = part_number setting.plan.sections s in
+    let placed : ℕ → Record = λ j. record_by setting s (section_start setting s c) (number j) in
+    let own : (j : ℕ) → unloaded (placed j) ≡ placed j = λ j. loaded_there setting s (section_start setting s c) (number j) in
+    record {
+      placed = made_places setting s c records to ready (there s refl) (λ j less. unloaded_is load (record_at records (number j)) (placed j) (own j) (made s refl j less)) is;
+      load = load;
+      given = load_there setting standing s c none;
+      loaded = λ j less. loads_at load (record_at records (number j)) (placed j) (own j) (made s refl j less);
+    }
 
 -- ---- there is a placement
 
@@ -103,14 +137,9 @@ walk_known setting n k records walk le =
     ∙ sym (made_at (record_after setting k) nowhere (all_parts setting.plan.sections) 0 p below ∙ ap (record_after setting k) (zero-add p)))
     (λ j early. state_is setting n j (omega (arith, early, le)))
 
--- each event of a plan that is placed is
-placeable_event : (setting : Setting) (k : ℕ) (e : OrderEvent) → IsPlaceable setting.plan setting.output → slice_get setting.plan.events k ≡ Some e
-    → IsPlaceableEvent setting.plan e
-placeable_event setting k e may here = record { section = λ s named. may.sections s }
-
-walk_passes : (setting : Setting) (n : ℕ) (records : List Record) → IsPlaceable setting.plan setting.output → IsWalk setting n records
+walk_passes : (setting : Setting) (n : ℕ) (records : List Record) → IsWalk setting n records
     → (k : ℕ) (e : OrderEvent) → k < n → slice_get setting.plan.events k ≡ Some e → Passes setting (states_to setting n) records k e
-walk_passes setting n records may walk k e less here =
+walk_passes setting n records walk k e less here =
     let from : Cursors = cursors_after setting k in
     let known : Known = known_after setting k in
     let same : known ≡ known_before setting (states_to setting n) records k = sym (walk_known setting n k records walk (omega arith)) in
@@ -118,22 +147,23 @@ walk_passes setting n records may walk k e less here =
     let next : state_at (states_to setting n) (k + 1) ≡ left_behind setting (placed_section e) (entered setting known e from) =
     state_is setting n (k + 1) (omega arith) ∙ cursors_next setting k ∙ ap (λ (o : Option OrderEvent). stepped setting known o from) here in
     let unrefused : step_refusal setting known k e from ≡ None = ap (λ (o : Option OrderEvent). refusal_of setting known k o from) (sym here) ∙ walk.pass k less in
-    let gives : moved setting known e from ≡ Ok (entered setting known e from) = move_given setting (placed_section e) from (moved setting known e from) (unnumbered k (event_refusal setting known e from) unrefused) in
-    let places : Places setting (placed_section e) (entered setting known e from) records (state_at (states_to setting n) (k + 1)) =
-    event_places setting e (entered setting known e from) records (state_at (states_to setting n) (k + 1)) walk.ready next
+    let passes : event_refusal setting known e from ≡ None = unnumbered k (event_refusal setting known e from) unrefused in
+    let gives : moved setting known e from ≡ Ok (entered setting known e from) = move_given setting known.standing (placed_section e) from (moved setting known e from) passes in
+    let stays : section_refusal setting known.standing (placed_section e) (entered setting known e from) ≡ None = ap (refusal_behind_move setting known.standing (placed_section e)) (sym gives) ∙ passes in
+    let places : Places setting known.standing (placed_section e) (entered setting known e from) records (state_at (states_to setting n) (k + 1)) =
+    event_places setting known.standing e (entered setting known e from) records (state_at (states_to setting n) (k + 1)) walk.ready next stays
     (λ s is. section_there setting k s walk.ready (here ∙ ap (λ (x : OrderEvent). Some x) is))
     (λ s is j within.
     let there : PlacesAt setting k s = here ∙ ap (λ (x : OrderEvent). Some x) is in
     walk.at (part_number setting.plan.sections s j) (omega (arith, parts_end-le setting.plan.sections s (section_there setting k s walk.ready there)))
     ∙ record_placed setting k s j n walk.ready there within less
-    ∙ ap (λ (x : OrderEvent). record_by setting s (section_start setting s (entered setting known x from)) (part_number setting.plan.sections s j)) (sym is)) in
+    ∙ ap (λ (x : OrderEvent). loaded_record setting known.standing s (entered setting known x from) (part_number setting.plan.sections s j)) (sym is)) in
     record {
       unrefused = ap (λ (x : Known). step_refusal setting x k e (state_at (states_to setting n) k)) (sym same) ∙ ap (step_refusal setting known k e) at ∙ unrefused;
       steps = record {
-        placeable = placeable_event setting k e may here;
         entered = entered setting known e from;
         moves = ap (λ (x : Known). moved setting x e (state_at (states_to setting n) k)) (sym same) ∙ ap (moved setting known e) at ∙ gives;
-        places = places;
+        places = subst (λ (x : Known). Places setting x.standing (placed_section e) (entered setting known e from) records (state_at (states_to setting n) (k + 1))) same places;
       };
     }
 
@@ -147,15 +177,13 @@ walk_refusal setting n records starts same =
     ∙ ap (λ (x : Known). refusal_of setting x n (slice_get setting.plan.events n) (state_at (states_to setting n) n)) same
     ∙ ap (refusal_of setting (known_after setting n) n (slice_get setting.plan.events n)) (state_is setting n n (omega arith))
 
-pub walk_is_placed : (setting : Setting) (n : ℕ) (records : List Record) → IsPlaceable setting.plan setting.output → IsWalk setting n records
-    → IsPlaced setting (states_to setting n) records
-walk_is_placed setting n records may walk =
+pub walk_is_placed : (setting : Setting) (n : ℕ) (records : List Record) → IsWalk setting n records → IsPlaced setting (states_to setting n) records
+walk_is_placed setting n records walk =
     let count : length (states_to setting n) ≡ n + 1 = states_count setting 0 n in
     record {
       begins = subst (λ (r : Result Cursors PlaceError). BeginsAt r (states_to setting n)) (sym walk.starts) (states_first setting 0 n ∙ ap (λ (c : Cursors). Some c) (sym (cursors_first setting)));
       within = omega (arith, count, walk.within);
-      steps = λ k e more here. walk_passes setting n records may walk k e (omega (arith, count)) here;
-      refused = λ e here. placeable_event setting (length (states_to setting n) - 1) e may here;
+      steps = λ k e more here. walk_passes setting n records walk k e (omega (arith, count)) here;
       ends = λ none. omega (arith, count, walk.stops (sym (walk_refusal setting n records walk.starts (walk_known setting n n records walk (omega arith))) ∙ none));
       each = walk.each;
       others = λ p none.
@@ -210,49 +238,48 @@ made_walk setting n ready starts within pass stops = record {
 }
 
 -- where the start isn't refused
-begun_exists : (setting : Setting) → IsReady setting → IsPlaceable setting.plan setting.output → start setting ≡ Ok (first_state setting)
+begun_exists : (setting : Setting) → IsReady setting → start setting ≡ Ok (first_state setting)
     → (states : List Cursors) × (records : List Record) × IsPlaced setting states records
-begun_exists setting ready may starts =
+begun_exists setting ready starts =
     let all : ℕ = length setting.plan.events in
     elim (stops_or_passes setting all) [
-      | inl pass ↦ (states_to setting all, records_to setting all, walk_is_placed setting all (records_to setting all) may (made_walk setting all ready starts (omega arith) pass (λ none. refl)))
+      | inl pass ↦ (states_to setting all, records_to setting all, walk_is_placed setting all (records_to setting all) (made_walk setting all ready starts (omega arith) pass (λ none. refl)))
       | inr stop ↦
           let n : ℕ = stop.0 in
-          (states_to setting n, records_to setting n, walk_is_placed setting n (records_to setting n) may (made_walk setting n ready starts (omega (arith, stop.1)) stop.2 (λ none. absurd (cc (stop.3.1)))))
+          (states_to setting n, records_to setting n, walk_is_placed setting n (records_to setting n) (made_walk setting n ready starts (omega (arith, stop.1)) stop.2 (λ none. absurd (cc (stop.3.1)))))
     ]
 
 -- where it is, there are no states
-pub unbegun : (setting : Setting) (e : PlaceError) → IsPlaceable setting.plan setting.output → start setting ≡ Err e → IsPlaced setting [] (records_to setting 0)
-unbegun setting e may refused =
+pub unbegun : (setting : Setting) (e : PlaceError) → start setting ≡ Err e → IsPlaced setting [] (records_to setting 0)
+unbegun setting e refused =
     record {
       begins = subst (λ (r : Result Cursors PlaceError). BeginsAt r []) (sym refused) refl;
       within = omega arith;
       steps = λ k x more here. absurd (omega arith);
-      refused = λ x here. placeable_event setting 0 x may here;
       ends = λ none. let some : placement_refusal setting [] (records_to setting 0) ≡ Some e = ap (λ (r : Result Cursors PlaceError). first_refusal r (refusal_behind setting [] (records_to setting 0))) refused in absurd (cc);
       each = length-made (record_after setting 0) (all_parts setting.plan.sections) 0;
       others = λ p none. nowhere_yet setting p;
     }
 
 pub placement_exists : PlacementExists
-placement_exists setting ready may =
+placement_exists setting ready =
     elim (start setting) as (λ (r : Result Cursors PlaceError). start setting ≡ r → (states : List Cursors) × (records : List Record) × IsPlaced setting states records) [
-      | (Ok c) ↦ λ is. begun_exists setting ready may (starts setting c is)
-      | (Err e) ↦ λ refused. ([], records_to setting 0, unbegun setting e may refused)
+      | (Ok c) ↦ λ is. begun_exists setting ready (starts setting c is)
+      | (Err e) ↦ λ refused. ([], records_to setting 0, unbegun setting e refused)
     ] refl
 
 -- ---- it is one
 
 -- what an event that places nothing or a section leaves
-event_makes : (setting : Setting) (e : OrderEvent) (c : Cursors) (records : List Record) (to : Cursors) → IsReady setting → ((s : ℕ) → e ≡ Section s → s < length setting.plan.sections)
-    → Places setting (placed_section e) c records to → to ≡ left_behind setting (placed_section e) c
+event_makes : (setting : Setting) (standing : Standing) (e : OrderEvent) (c : Cursors) (records : List Record) (to : Cursors) → IsReady setting → ((s : ℕ) → e ≡ Section s → s < length setting.plan.sections)
+    → Places setting standing (placed_section e) c records to → to ≡ left_behind setting (placed_section e) c
 unfolding left_behind
-event_makes setting (SegmentStart i) c records to ready there places = places
-event_makes setting (SegmentEnd i) c records to ready there places = places
-event_makes setting (SetLocation x) c records to ready there places = places
-event_makes setting (SetLocationRelative x t) c records to ready there places = places
-event_makes setting (SetSectionAddress x) c records to ready there places = places
-event_makes setting (Section s) c records to ready there places = (places_makes setting s c records to ready (there s refl) places).leaves
+event_makes setting standing (SegmentStart i) c records to ready there places = places
+event_makes setting standing (SegmentEnd i) c records to ready there places = places
+event_makes setting standing (SetLocation x) c records to ready there places = places
+event_makes setting standing (SetLocationRelative x t) c records to ready there places = places
+event_makes setting standing (SetSectionAddress x) c records to ready there places = places
+event_makes setting standing (Section s) c records to ready there places = (places_makes setting s c records to ready (there s refl) places.placed).leaves
 
 entered_is : (from c : Cursors) (o : Result Cursors Refusal) → o ≡ Ok c → after_move from o ≡ c
 entered_is from c o h = ap (after_move from) h
@@ -269,10 +296,15 @@ section_as_walked setting states records k s j n ready is more here within early
     let enters : steps.entered ≡ entered setting (known_after setting k) e (cursors_after setting k) =
     sym (entered_is (state_at states k) steps.entered (moved setting (known_before setting states records k) e (state_at states k)) steps.moves)
     ∙ ap (λ (x : Known). entered setting x e (state_at states k)) same ∙ ap (entered setting (known_after setting k) e) state in
+    let places : PlacesLoaded setting (known_before setting states records k).standing s steps.entered records (state_at states (k + 1)) = steps.places in
     let makes : MakesSection setting s steps.entered records (state_at states (k + 1)) =
-    places_makes setting s steps.entered records (state_at states (k + 1)) ready there steps.places in
-    makes.made j within
-    ∙ ap (λ (c : Cursors). record_by setting s (section_start setting s c) (part_number setting.plan.sections s j)) enters
+    places_makes setting s steps.entered records (state_at states (k + 1)) ready there places.placed in
+    let p : ℕ = part_number setting.plan.sections s j in
+    let placed : Record = record_by setting s (section_start setting s steps.entered) p in
+    loaded_is places.load (record_at records p) placed (makes.made j within) (places.loaded j within)
+    ∙ ap (λ (o : Option ℕ). loaded_by o placed) (sym (ap load_or_none places.given))
+    ∙ ap (λ (x : Known). loaded_record setting x.standing s steps.entered p) same
+    ∙ ap (λ (c : Cursors). loaded_record setting (known_after setting k).standing s c p) enters
     ∙ sym (record_placed setting k s j n ready here within early)
 
 -- the records so far tell what the walk knows
@@ -300,7 +332,7 @@ next_state setting states records k ready is more before =
     ap (entered setting (known_after setting k) e) (sym (before.walked k (omega arith)))
     ∙ ap (λ (x : Known). entered setting x e (state_at states k)) (sym same)
     ∙ entered_is (state_at states k) steps.entered (moved setting (known_before setting states records k) e (state_at states k)) steps.moves in
-    event_makes setting e steps.entered records (state_at states (k + 1)) ready (λ s at. section_there setting k s ready (here ∙ ap (λ (x : OrderEvent). Some x) at)) steps.places
+    event_makes setting (known_before setting states records k).standing e steps.entered records (state_at states (k + 1)) ready (λ s at. section_there setting k s ready (here ∙ ap (λ (x : OrderEvent). Some x) at)) steps.places
     ∙ ap (left_behind setting (placed_section e)) (sym enters)
     ∙ ap (λ (o : Option OrderEvent). stepped setting (known_after setting k) o (cursors_after setting k)) (sym here)
     ∙ sym (cursors_next setting k)

@@ -9,12 +9,12 @@ use Rattle.lk_link.specs.declared.plan.PlanSection.{PlanSection}
 use Rattle.lk_link.specs.Parts.{all_parts, first_part}
 use Rattle.lk_link.proofs.PartNumbers.{first_part-suc, parts_end-le}
 use Rattle.lk_place.specs.declared.cursors.Cursors.{Cursors}
-use Rattle.lk_place.specs.Placement.{IsPlacedBefore, section_start}
-use Rattle.lk_place.specs.PlacedBefore.{Known, lies_in}
+use Rattle.lk_place.specs.Placement.{IsPlacedBefore, record_by, section_start}
+use Rattle.lk_place.specs.PlacedBefore.{Known, Standing, lies_in}
 use Rattle.lk_place.specs.Ranges.{HasPart}
 use Rattle.lk_place.specs.Records.{Record, nowhere}
 use Rattle.lk_place.specs.Setting.{IsReady, Setting, part_count, part_number}
-use Rattle.lk_place.specs.Walk.{cursors_after, entered, known_after, record_after, record_by, recorded, rewritten, walk_after}
+use Rattle.lk_place.specs.Walk.{cursors_after, entered, known_after, load_of, loaded_by, record_after, recorded, rewritten, walk_after}
 use Rattle.lk_place.proofs.ApartLaws.{section_one}
 use Rattle.lk_place.proofs.Insides.{placed_in_range}
 
@@ -54,19 +54,28 @@ among_other setting s t j below there other less =
 
 -- ---- one event
 
+-- the computed record of part p of a section, loaded from the section's load address
+abbrev pub loaded_record : Setting → Standing → ℕ → Cursors → ℕ → Record
+loaded_record setting standing s from p = loaded_by (load_of setting standing s from) (record_by setting s (section_start setting s from) p)
+
 -- an event that places section s makes the records of its parts
 recorded_here : (setting : Setting) (known : Known) (s j : ℕ) (c : Cursors) (old : Record) → j < part_count setting.plan.sections s
-    → recorded setting known (Some (Section s)) c (part_number setting.plan.sections s j) old ≡ record_by setting s (section_start setting s (entered setting known (Section s) c)) (part_number setting.plan.sections s j)
+    → recorded setting known (Some (Section s)) c (part_number setting.plan.sections s j) old ≡ loaded_record setting known.standing s (entered setting known (Section s) c) (part_number setting.plan.sections s j)
 unfolding rewritten
 recorded_here setting known s j c old less =
     let p : ℕ = part_number setting.plan.sections s j in
-    ap (λ (b : Bool). cond b (record_by setting s (section_start setting s (entered setting known (Section s) c)) p) old) (among_part (first_part setting.plan.sections s) (part_count setting.plan.sections s) j less)
+    let from : Cursors = entered setting known (Section s) c in
+    let placed : Record = record_by setting s (section_start setting s from) p in
+    ap (λ (b : Bool). cond b (loaded_by (load_of setting known.standing s from) (cond b placed old)) (cond b placed old)) (among_part (first_part setting.plan.sections s) (part_count setting.plan.sections s) j less)
 
 -- and leaves a part that isn't one of them
 recorded_miss : (setting : Setting) (known : Known) (t p : ℕ) (c : Cursors) (old : Record) → lies_in (first_part setting.plan.sections t) (part_count setting.plan.sections t) p ≡ false
     → recorded setting known (Some (Section t)) c p old ≡ old
 unfolding rewritten
-recorded_miss setting known t p c old miss = ap (λ (b : Bool). cond b (record_by setting t (section_start setting t (entered setting known (Section t) c)) p) old) miss
+recorded_miss setting known t p c old miss =
+    let from : Cursors = entered setting known (Section t) c in
+    let placed : Record = record_by setting t (section_start setting t from) p in
+    ap (λ (b : Bool). cond b (loaded_by (load_of setting known.standing t from) (cond b placed old)) (cond b placed old)) miss
 
 -- an event leaves each part that isn't one of its section
 recorded_other : (setting : Setting) (known : Known) (o : Option OrderEvent) (p : ℕ) (c : Cursors) (old : Record)
@@ -85,7 +94,8 @@ recorded_other setting known (Some (Section t)) p c old miss = recorded_miss set
 
 -- the records of a section that one of them places are those that the walk computes for it
 pub record_placed : (setting : Setting) (k s j n : ℕ) → IsReady setting → PlacesAt setting k s → j < part_count setting.plan.sections s → k < n
-    → record_after setting n (part_number setting.plan.sections s j) ≡ record_by setting s (section_start setting s (entered setting (known_after setting k) (Section s) (cursors_after setting k))) (part_number setting.plan.sections s j)
+    → record_after setting n (part_number setting.plan.sections s j)
+    ≡ loaded_record setting (known_after setting k).standing s (entered setting (known_after setting k) (Section s) (cursors_after setting k)) (part_number setting.plan.sections s j)
 unfolding walk_after
 record_placed setting k s j zero ready here less early = absurd (omega arith)
 record_placed setting k s j (suc m) ready here less early =

@@ -1,6 +1,6 @@
--- What the code knows when it evaluates expressions, as definitions see it.
+-- What the code knows when it evaluates expressions, as definitions see it. Contracts of private functions speak of it.
 use Rattle.std.specs.Prelude.{ℕ, Option}
-use Rattle.lk_place.specs.declared.expressions.constants.Known.{Known}
+use Rattle.lk_place.specs.declared.expressions.constants.BeforeAll.{BeforeAll}
 use Rattle.lk_place.specs.declared.expressions.early.EarlySurroundings.{EarlySurroundings}
 use Rattle.lk_place.specs.declared.expressions.late.LateSurroundings.{LateSurroundings}
 use Rattle.lk_place.specs.Constants.{Before}
@@ -8,7 +8,7 @@ use Rattle.lk_place.specs.Records.{Record}
 use Rattle.lk_place.specs.Surroundings.{Early, Late}
 
 -- before anything is placed
-abbrev pub before_of : Known → Before
+abbrev pub before_of : BeforeAll → Before
 before_of known = record { groups = known.link.now.groups; headers = known.headers; regions = known.regions.now }
 
 -- while sections are placed

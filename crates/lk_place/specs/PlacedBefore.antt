@@ -69,11 +69,15 @@ early_known setting standing dot = record {
   positions = setting.positions;
 }
 
+-- the value of an expression at these cursors
+abbrev pub early_value : Setting → Standing → Cursors → Term → Valued
+early_value setting standing from e = expression_value (early_operand (early_known setting standing (dot_of from))) e
+
 -- a value, or the refusal of an expression that has none
 abbrev pub refusing : Valued → Result ℕ Refusal
 refusing (Ok n) = Ok n
 refusing (Err cause) = Err (NoValue cause)
 
--- the value of an expression at these cursors
+-- the value of an expression at these cursors, or the refusal
 abbrev pub value_at : Setting → Standing → Cursors → Term → Result ℕ Refusal
-value_at setting standing from e = refusing (expression_value (early_operand (early_known setting standing (dot_of from))) e)
+value_at setting standing from e = refusing (early_value setting standing from e)

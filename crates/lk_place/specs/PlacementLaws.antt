@@ -2,13 +2,12 @@
 use Rattle.std.specs.Prelude.{◌≡◌, ◌<◌, ◌↔◌, ℕ, List, None, length, map}
 use Rattle.lk_place.specs.declared.cursors.Cursors.{Cursors}
 use Rattle.lk_place.specs.Placement.{IsPlaced, PlacesSection, placement_refusal, section_overflow}
-use Rattle.lk_place.specs.Plans.{IsPlaceable}
 use Rattle.lk_place.specs.Records.{Fits, Record, record_at}
 use Rattle.lk_place.specs.Setting.{IsReady, Setting, part_count, part_number}
 
--- there is a placement of each plan that is placed, up to the first refused event
+-- there is a placement of each plan, up to the first refused event
 abbrev pub PlacementExists : Type 0
-PlacementExists = (setting : Setting) → IsReady setting → IsPlaceable setting.plan setting.output
+PlacementExists = (setting : Setting) → IsReady setting
     → (states : List Cursors) × (records : List Record) × IsPlaced setting states records
 
 -- there is one alone: the same states and the same records

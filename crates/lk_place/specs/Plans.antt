@@ -1,20 +1,11 @@
--- Which plans are placed: those that ask no more of the walk than to place parts behind one another.
+-- Plans that ask no more of the walk than to place parts behind one another.
 use Rattle.std.specs.Prelude.{◌≡◌, ◌≢◌, ℕ, None, Some, slice_get}
 use Rattle.lk_link.specs.declared.options.OutputKind.{OutputKind}
 use Rattle.lk_link.specs.declared.options.OutputKind.TheVariants.{Partial}
 use Rattle.lk_link.specs.declared.plan.OrderEvent.{OrderEvent}
 use Rattle.lk_link.specs.declared.plan.Plan.{Plan}
-use Rattle.lk_link.specs.Inside.{placed_section}
 use Rattle.lk_link.specs.PlanSections.{section_at}
 use Rattle.lk_link.specs.WellFormed.{IsAboutPlace}
-
--- an event that is placed: the section that it places, if it has one, is loaded from where it stands
-pub record IsPlaceableEvent (plan : Plan) (e : OrderEvent) : Type 0 where
-  pub section : (s : ℕ) → placed_section e ≡ Some s → (section_at plan.sections s).at ≡ None
-
--- a plan that is placed: without load addresses
-pub record IsPlaceable (plan : Plan) (output : OutputKind) : Type 0 where
-  pub sections : (s : ℕ) → (section_at plan.sections s).at ≡ None
 
 -- a plan of whole output in which nothing moves the location, and no section stands in a region
 pub record IsUnmoved (plan : Plan) (output : OutputKind) : Type 0 where

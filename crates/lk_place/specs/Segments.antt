@@ -134,13 +134,13 @@ alignment_inside plan records i = greatest_of plan.page (map (λ s. (record_at r
 -- ---- sections outside the segments
 
 -- whether a section stands in a segment, by the sections inside each
-abbrev pub stands_in : List (List ℕ) → ℕ → Bool
-stands_in insides s = list_any (λ inside. list_any (λ t. t == s) inside) insides
+abbrev pub is_in_segments : List (List ℕ) → ℕ → Bool
+is_in_segments insides s = list_any (λ inside. list_any (λ t. t == s) inside) insides
 
 -- whether a section isn't skipped, is allocated, and stands in no segment
 abbrev pub is_outside : Plan → List Record → (ℕ → Bool) → ℕ → Bool
 is_outside plan records emitted s =
-    not (is_skipped plan records emitted s) && is_allocated plan s && not (stands_in (segment_insides plan) s)
+    not (is_skipped plan records emitted s) && is_allocated plan s && not (is_in_segments (segment_insides plan) s)
 
 -- the first such section in the order of events
 abbrev pub found_outside : Plan → List Record → (ℕ → Bool) → Option ℕ

@@ -69,14 +69,14 @@ pub record Early : Type 0 where
   pub positions : List (Option SymbolPosition)
 
 -- so far behind where a part starts, if the part is placed
-abbrev pub behind_start : ℕ → Option Record → Valued
-behind_start offset None = Err NoAddress
-behind_start offset (Some r) = bounded (r.mem_offset + offset)
+abbrev pub offset_behind : ℕ → Option Record → Valued
+offset_behind offset None = Err NoAddress
+offset_behind offset (Some r) = bounded (r.mem_offset + offset)
 
 -- the address of a place in a part
 abbrev pub address_of : (ℕ → Option Record) → Option SymbolPosition → Valued
 address_of part None = Err NoAddress
-address_of part (Some p) = behind_start p.offset (part p.part)
+address_of part (Some p) = offset_behind p.offset (part p.part)
 
 -- the value of a constant, which may be a cause
 abbrev pub constant_value : Option Valued → Valued

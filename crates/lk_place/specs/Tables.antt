@@ -1,4 +1,4 @@
--- What is placed before an event, by a table of the events that place parts.
+-- What is placed before an event, by a table of the events that place parts. Contracts of private functions speak of it.
 use Rattle.std.specs.Prelude.{◌≡◌, ℕ, ◌+◌, ◌&&◌, ◌<◌, Bool, false, if◌then◌else◌, List, length, nat_le, nat_lt, Option, Some, None, slice_get, slice_index}
 use Rattle.std.specs.Option.{option_map_or}
 use Rattle.lk_link.specs.declared.plan.OrderEvent.{OrderEvent}

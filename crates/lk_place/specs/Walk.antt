@@ -2,12 +2,11 @@
 -- `Placement` defines is proved by lemmas.
 use Rattle.std.specs.Prelude.{◌≡◌, ℕ, zero, suc, ◌+◌, ◌-◌, ◌==◌, Bool, true, ◌<◌, if◌then◌else◌, List, ◌++◌, length, map}
 use Rattle.std.specs.Prelude.{slice_get, Option, Some, None, Result, Ok, Err}
-use Rattle.std.specs.Int.{next_multiple_of}
 use Rattle.std.specs.List.{enumerate_from, flat_map, slice_index}
 use Rattle.lk_link.specs.declared.plan.OrderEvent.{OrderEvent}
 use Rattle.lk_link.specs.declared.plan.Plan.{Plan}
 use Rattle.lk_link.specs.Inside.{placed_section}
-use Rattle.lk_link.specs.Parts.{all_parts, first_part, part_at}
+use Rattle.lk_link.specs.Parts.{all_parts, first_part}
 use Rattle.lk_link.specs.PlanSections.{is_file_backed}
 use Rattle.lk_link.specs.Target.{platform_target}
 use Rattle.lk_place.specs.declared.alignments.Alignments.{Alignments}
@@ -21,11 +20,11 @@ use Rattle.lk_place.specs.declared.walk.Walk.{Walk}
 use Rattle.lk_place.specs.Alignments.{section_alignment, section_alignments, segment_alignments, thread_local_alignment}
 use Rattle.lk_place.specs.Counters.{told_counter}
 use Rattle.lk_place.specs.InRegions.{named_region, places_in, span_of}
-use Rattle.lk_place.specs.Placement.{end_behind, first_walked, is_below, is_walked, moved, numbered, overflow_at, refusal_of}
-use Rattle.lk_place.specs.Placement.{resting, section_left, section_start, walk_alignment}
-use Rattle.lk_place.specs.PlacedBefore.{Known, lies_in, standing_before}
+use Rattle.lk_place.specs.Placement.{first_record, first_walked, is_below, load_given, moved, next_record, numbered, overflow_at}
+use Rattle.lk_place.specs.Placement.{record_by, refusal_of, section_left, section_start}
+use Rattle.lk_place.specs.PlacedBefore.{Known, Standing, lies_in, standing_before}
 use Rattle.lk_place.specs.Records.{Record, nowhere, record_at}
-use Rattle.lk_place.specs.Setting.{IsReady, Setting, part_count, setting_of, size_at}
+use Rattle.lk_place.specs.Setting.{IsReady, Setting, part_count, setting_of}
 use Rattle.lk_place.specs.Regions.{given_regions, regions_of}
 use Rattle.lk_place.specs.Start.{constants_by, first_cursors, start}
 use Rattle.lk_place.specs.Tables.{ArePlacedAt}
@@ -87,22 +86,6 @@ known_in plan records goes_on n = record { standing = standing_before plan recor
 
 -- ---- one section
 
--- the record of a part that is placed from the offsets on
-unfoldable pub placed_at : Bool → ℕ → ℕ → Offsets → Record
-placed_at backed alignment size from = record {
-  file_size = if backed then size else 0;
-  mem_size = size;
-  alignment = alignment;
-  file_offset = if backed then next_multiple_of from.file alignment else from.file;
-  mem_offset = next_multiple_of from.memory alignment;
-  lma_offset = next_multiple_of from.memory alignment;
-}
-
--- the record of the first walked part of a section whose parts begin here
-abbrev pub first_record : Setting → ℕ → Offsets → Record
-first_record setting s begin =
-    placed_at (is_file_backed setting.plan s) (section_alignment setting s) (size_at setting.sizes (first_walked setting s)) begin
-
 -- what is told of a section that is placed is so
 pub record IsPlacing (setting : Setting) (placing : Placing) : Type 0 where
   pub backed : placing.backed ≡ is_file_backed setting.plan placing.section
@@ -110,16 +93,6 @@ pub record IsPlacing (setting : Setting) (placing : Placing) : Type 0 where
   pub walked : placing.walked ≡ first_walked setting placing.section
   pub first : placing.first ≡ first_record setting placing.section placing.begin
   pub below : is_below placing.begin ≡ true
-
--- the record of part p of a section whose parts begin here, behind the offsets
-abbrev pub next_record : Setting → ℕ → Offsets → ℕ → Offsets → Record
-next_record setting s begin p from =
-    if is_walked setting s p then placed_at (is_file_backed setting.plan s) (walk_alignment setting s p) (size_at setting.sizes p) from
-    else resting (first_record setting s begin) (part_at setting.plan.sections p).alignment
-
--- the same, behind the parts before it
-abbrev pub record_by : Setting → ℕ → Offsets → ℕ → Record
-record_by setting s begin p = next_record setting s begin p (end_behind setting s begin (p - first_part setting.plan.sections s))
 
 -- the record that part q gets behind the offsets, and no other
 abbrev pub one_written : Setting → ℕ → Offsets → ℕ → Offsets → ℕ → Record → Record
@@ -130,10 +103,28 @@ abbrev pub all_written : Setting → ℕ → Offsets → ℕ → Record → Reco
 all_written setting s begin p old =
     if lies_in (first_part setting.plan.sections s) (part_count setting.plan.sections s) p then record_by setting s begin p else old
 
--- what a section makes of it
-unfoldable pub rewritten : Setting → Option ℕ → Cursors → ℕ → Record → Record
-rewritten setting None from p old = old
-rewritten setting (Some s) from p old = all_written setting s (section_start setting s from) p old
+-- a record, loaded from this address, if there is one
+abbrev pub loaded_by : Option ℕ → Record → Record
+loaded_by None r = r
+loaded_by (Some address) r = record r { lma_offset = address }
+
+-- what the load address of a section makes of the record of part p
+abbrev pub all_loaded : Setting → ℕ → Option ℕ → ℕ → Record → Record
+all_loaded setting s load p old = if lies_in (first_part setting.plan.sections s) (part_count setting.plan.sections s) p then loaded_by load old else old
+
+-- a load address that is given, if there is one
+abbrev pub load_or_none : Result (Option ℕ) Refusal → Option ℕ
+load_or_none (Ok load) = load
+load_or_none (Err refusal) = None
+
+-- that of a section that is placed from the cursors on
+abbrev pub load_of : Setting → Standing → ℕ → Cursors → Option ℕ
+load_of setting standing s from = load_or_none (load_given setting standing s from)
+
+-- what a section makes of it: it is written, and loaded
+unfoldable pub rewritten : Setting → Standing → Option ℕ → Cursors → ℕ → Record → Record
+rewritten setting standing None from p old = old
+rewritten setting standing (Some s) from p old = all_loaded setting s (load_of setting standing s from) p (all_written setting s (section_start setting s from) p old)
 
 -- the cursors behind it
 unfoldable pub left_behind : Setting → Option ℕ → Cursors → Cursors
@@ -159,7 +150,7 @@ stepped setting known (Some e) from = left_behind setting (placed_section e) (en
 -- what an event makes of the record of part p
 abbrev pub recorded : Setting → Known → Option OrderEvent → Cursors → ℕ → Record → Record
 recorded setting known None from p old = old
-recorded setting known (Some e) from p old = rewritten setting (placed_section e) (entered setting known e from) p old
+recorded setting known (Some e) from p old = rewritten setting known.standing (placed_section e) (entered setting known e from) p old
 
 -- ---- all events
 

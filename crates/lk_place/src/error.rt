@@ -13,13 +13,24 @@ pub enum Refusal {
     /// An expression has no value.
     NoValue(NoValue),
     /// A location stands before where it may.
-    Backwards { from: u64, to: u64 },
+    Backwards {
+        from: u64,
+        to: u64,
+    },
     /// A section that is placed names a region that isn't there.
     Undeclared(OutputSectionId),
     /// A location stands outside the region of the section that takes it.
     Outside(u64),
     /// Memory stands past the end of a region, by so many bytes.
-    Past { region: RegionId, by: u64 },
+    Past {
+        region: RegionId,
+        by: u64,
+    },
+    /// The load address of a section has no value.
+    NoLoadAddress {
+        section: OutputSectionId,
+        cause: NoValue,
+    },
 }
 
 /// Why a link isn't placed: the first refusal, or want of memory.

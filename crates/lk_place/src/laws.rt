@@ -6,8 +6,7 @@ ghost use Rattle.lk_place.specs.Laws.{FileRangesAreDisjoint, InsideIsPlaced, Mem
 ghost use Rattle.lk_place.specs.Laws.{PlainMemoryIsCongruent, PlainMemoryIsDisjoint, RecordsKeepAlignments};
 ghost use Rattle.lk_place.specs.PlacementLaws.{PartsTakeTheirBytes, PlacementExists, PlacementIsOne, RefusedExactlyPast};
 
-/// A law: there is a placement of each plan that is placed, with its events in order and good sections, up to the first refused
-/// event.
+/// A law: there is a placement of each plan with its events in order and good sections, up to the first refused event.
 pub fn placement_exists()
     ensures { PlacementExists }
 {}

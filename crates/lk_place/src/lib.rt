@@ -10,6 +10,7 @@ pub mod file_range;
 pub mod hulls;
 mod in_region;
 pub mod laws;
+mod loads;
 mod locations;
 mod placed_at;
 mod placement;

@@ -8,11 +8,10 @@ ghost use Rattle.std.specs.Prelude.{◌≡◌, ◌<◌, true, length, position, 
 ghost use Rattle.lk_link.specs.Alignments.{is_alignment};
 ghost use Rattle.lk_link.specs.Parts.{all_parts, part_at};
 ghost use Rattle.lk_place.specs.Alignments.{section_alignment};
-ghost use Rattle.lk_place.specs.Placement.{behind, first_walked, is_below, is_walked, next_end, overflow_at};
-ghost use Rattle.lk_place.specs.Placement.{resting, section_end, section_overflow, walk_alignment};
+ghost use Rattle.lk_place.specs.Placement.{behind, first_walked, is_below, is_walked, next_end, overflow_at, placed_at};
+ghost use Rattle.lk_place.specs.Placement.{resting, section_end, section_left, section_overflow, section_start, walk_alignment};
 ghost use Rattle.lk_place.specs.Setting.{size_at, takes_addresses};
-ghost use Rattle.lk_place.specs.Walk.{IsPlacing, IsWalkable, Rewrites, all_written, fitting, left_behind, one_written};
-ghost use Rattle.lk_place.specs.Walk.{placed_at, setting_in, unless, rewritten};
+ghost use Rattle.lk_place.specs.Walk.{IsPlacing, IsWalkable, Rewrites, all_written, fitting, one_written, setting_in, unless};
 
 use crate::cursors::{Cursors, Offsets};
 use crate::error::Refusal;
@@ -40,7 +39,7 @@ pub(crate) struct Placing {
 }
 
 /// The record of a part that is placed from the offsets on; none where an end passes 2^64 - 1.
-#[tactic(auto, unfolding(crate::specs::Walk::placed_at))]
+#[tactic(auto, unfolding(crate::specs::Placement::placed_at))]
 fn fit_part(
     backed: bool,
     alignment: Alignment,
@@ -267,7 +266,6 @@ impl<P: Platform> Walk<'_, P> {
 
     /// Places a section from the cursors on, and answers the cursors behind it. One that takes no addresses counts from 0 in
     /// place of memory.
-    #[tactic(auto, unfolding(crate::specs::Walk::rewritten, crate::specs::Walk::left_behind))]
     pub(crate) fn place_section(
         &self,
         section: OutputSectionId,
@@ -278,9 +276,9 @@ impl<P: Platform> Walk<'_, P> {
         requires in_range { section < length self.now.link.now.plan.sections }
         requires each { length records.old ≡ length (all_parts self.now.link.now.plan.sections) }
         ensures ends { let setting = setting_in P.segment_start self.now
-            in result ≡ unless (section_overflow setting section from) (left_behind setting (Some section) from) }
+            in result ≡ unless (section_overflow setting section from) (section_left setting section from) }
         ensures records { let setting = setting_in P.segment_start self.now
-            in OnOk result (Rewrites (rewritten setting (Some section) from) records.old records.new) }
+            in OnOk result (Rewrites (all_written setting section (section_start setting section from)) records.old records.new) }
     {
         let addressed = self.takes_addresses(section);
         let begin = Offsets {

@@ -14,7 +14,7 @@ ghost use Rattle.lk_link.specs.SegmentKinds.{is_tls, segment_at};
 ghost use Rattle.lk_place.specs.Records.{file_end, has_file_bytes, record_at};
 ghost use Rattle.lk_place.specs.Segments.{Refuses, compact_end, compact_start, compacted, counts, end_behind, end_refusal, first_outside, found_outside, hull, in_file_inside};
 ghost use Rattle.lk_place.specs.Segments.{is_skipped, may_stand_outside, segment_layout, segment_layouts, segment_record, segments_refusal};
-ghost use Rattle.lk_place.specs.Segments.{stack_record, stands_in, thread_local_one};
+ghost use Rattle.lk_place.specs.Segments.{stack_record, is_in_segments, thread_local_one};
 ghost use Rattle.lk_place.specs.Spans.{CanSpan};
 
 use crate::error::PlaceError;
@@ -195,7 +195,7 @@ fn mark_standing(
 ) -> Result<Vec<bool>, AllocError>
     requires { All (λ inside. All (λ s. s < sections) inside) insides.now }
     ensures count { IfOk result (λ marks. vec_len marks ≡ sections) }
-    ensures marks { IfOk result (λ marks. (s : ℕ) → s < sections → slice_index_or marks.items s false ≡ stands_in insides.now s) }
+    ensures marks { IfOk result (λ marks. (s : ℕ) → s < sections → slice_index_or marks.items s false ≡ is_in_segments insides.now s) }
 {
     let mut marks = vec![in alloc; false; sections]?;
     for inside in insides {

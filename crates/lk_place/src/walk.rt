@@ -3,11 +3,12 @@
 //! The walk goes through the events once, with a cursor in the file and one in memory. A load segment moves memory to where
 //! the platform lets it begin; a section places its parts from the cursors on and moves them behind the last. One that isn't
 //! zero-fill thread-local data begins where memory stood before any that is; the first of a run of thread-local sections begins at
-//! the greatest alignment of all. A location waits for the next section, which begins there. The records go into one table by part
+//! the greatest alignment of all. A location waits for the next section, which begins there. A section that names a load address is
+//! loaded from it. The records go into one table by part
 //! number, which the walk is lent, so that it takes no memory; expressions read those of what is placed, which another table tells
 //! that is made before. It ends at the first event that is refused.
 
-ghost use Rattle.std.specs.Prelude.{◌≡◌, ◌<◌, ◌^◌, ◌&&◌, ◌++◌, ℕ, Ok, Some, if◌then◌else◌, SomeIff, IfOk, OnOk, length, nat_lt, true};
+ghost use Rattle.std.specs.Prelude.{◌≡◌, ◌<◌, ◌^◌, ◌&&◌, ◌++◌, ℕ, Ok, Some, if◌then◌else◌, SomeIff, IfOk, OnOk, length, nat_lt, slice_get, true};
 ghost use Rattle.lk_link.specs.Inside.{placed_section};
 ghost use Rattle.lk_link.specs.Parts.{all_parts};
 ghost use Rattle.lk_link.specs.WellFormed.{IsInRange, IsWellFormed};
@@ -19,12 +20,11 @@ ghost use Rattle.lk_place.specs.Expressions.{IsShallow};
 ghost use Rattle.std.specs.List.{slice_index};
 ghost use Rattle.lk_place.specs.InRegions.{span_of};
 ghost use Rattle.lk_place.specs.Locations.{behind_start, within_64};
-ghost use Rattle.lk_place.specs.PlacedBefore.{standing_before, value_at};
+ghost use Rattle.lk_place.specs.PlacedBefore.{early_value, standing_before, value_at};
 ghost use Rattle.lk_place.specs.Placement.{begun_section, event_refusal, memory_moved, moved, numbered, opened, section_refusal};
-ghost use Rattle.lk_place.specs.Plans.{IsPlaceable};
 ghost use Rattle.lk_place.specs.Records.{nowhere, record_at};
 ghost use Rattle.lk_place.specs.Setting.{setting_of};
-ghost use Rattle.lk_place.specs.Shallow.{AreShallowEvents, IsShallowEvent};
+ghost use Rattle.lk_place.specs.Shallow.{AreShallowEvents, AreShallowLoads, IsShallowEvent};
 ghost use Rattle.lk_place.specs.Start.{first_cursors, start};
 ghost use Rattle.lk_place.specs.ThreadLocal.{begins_run, padded, run_begun, saved_or_restored};
 ghost use Rattle.lk_link.specs.PlanSections.{primary_of};
@@ -36,7 +36,7 @@ use crate::alignments::{Alignments, compute_alignments};
 use crate::cursors::Cursors;
 use crate::error::{PlaceError, Refusal};
 use crate::expressions::{
-    PlacedRecords, RecordsBefore, SymbolPositions, Unplaced, evaluate_before,
+    NoValue, PlacedRecords, RecordsBefore, SymbolPositions, Unplaced, evaluate_before,
 };
 use crate::hulls::{nothing, span_sections};
 use crate::locations::{not_before, open_at, refuse, take_location, wait_at};
@@ -213,19 +213,18 @@ impl<P: Platform> Walk<'_, P> {
         self.begin_run(section, from.pending.is_some(), taken)
     }
 
-    /// The value of an expression at an event, by the records of what is placed before it.
-    fn value(
+    /// The value of an expression at some cursors, by the records of what is placed before an event.
+    pub(crate) fn early_value(
         &self,
         event: usize,
         expression: &Expression,
         from: Cursors,
         records: &[OutputRecordLayout],
-    ) -> Result<u64, Refusal>
+    ) -> Result<u64, NoValue>
         requires walkable { IsWalkable P.segment_start self.now }
         requires each { length records.now ≡ length (all_parts self.now.link.now.plan.sections) }
-        requires early { event < length self.now.link.now.plan.events }
         requires shallow { IsShallow expression.now }
-        ensures { result ≡ value_at (setting_in P.segment_start self.now)
+        ensures { result ≡ early_value (setting_in P.segment_start self.now)
             (standing_before self.now.link.now.plan records.now event) from expression.now }
     {
         let before = RecordsBefore {
@@ -235,7 +234,24 @@ impl<P: Platform> Walk<'_, P> {
             event,
         };
         let dot = from.pending.unwrap_or(from.memory);
-        refuse(evaluate_before(self.unplaced, &before, dot, expression))
+        evaluate_before(self.unplaced, &before, dot, expression)
+    }
+
+    /// The same, or the refusal.
+    fn value(
+        &self,
+        event: usize,
+        expression: &Expression,
+        from: Cursors,
+        records: &[OutputRecordLayout],
+    ) -> Result<u64, Refusal>
+        requires walkable { IsWalkable P.segment_start self.now }
+        requires each { length records.now ≡ length (all_parts self.now.link.now.plan.sections) }
+        requires shallow { IsShallow expression.now }
+        ensures { result ≡ value_at (setting_in P.segment_start self.now)
+            (standing_before self.now.link.now.plan records.now event) from expression.now }
+    {
+        refuse(self.early_value(event, expression, from, records))
     }
 
     /// A location that isn't to be before the start of a section's primary, where that is placed before an event.
@@ -248,7 +264,6 @@ impl<P: Platform> Walk<'_, P> {
     ) -> Result<u64, Refusal>
         requires walkable { IsWalkable P.segment_start self.now }
         requires each { length records.now ≡ length (all_parts self.now.link.now.plan.sections) }
-        requires early { event < length self.now.link.now.plan.events }
         ensures { let standing = standing_before self.now.link.now.plan records.now event
             in result ≡ behind_start (standing.section (primary_of self.now.link.now.plan.sections section)) location }
     {
@@ -274,7 +289,6 @@ impl<P: Platform> Walk<'_, P> {
         requires walkable { IsWalkable P.segment_start self.now }
         requires in_range { IsInRange self.now.link.now.plan event.now }
         requires each { length records.now ≡ length (all_parts self.now.link.now.plan.sections) }
-        requires early { number < length self.now.link.now.plan.events }
         requires shallow { IsShallowEvent event.now }
         requires regions { length goes_on.now ≡ length self.now.link.now.plan.regions }
         ensures { result ≡ moved (setting_in P.segment_start self.now)
@@ -301,6 +315,7 @@ impl<P: Platform> Walk<'_, P> {
     #[tactic(auto, unfolding(crate::specs::Walk::rewritten, crate::specs::Walk::left_behind))]
     fn place(
         &self,
+        number: usize,
         event: &OrderEvent,
         from: Cursors,
         records: &mut [OutputRecordLayout],
@@ -308,18 +323,20 @@ impl<P: Platform> Walk<'_, P> {
     ) -> Result<Cursors, Refusal>
         requires walkable { IsWalkable P.segment_start self.now }
         requires in_range { IsInRange self.now.link.now.plan event.now }
+        requires here { slice_get self.now.link.now.plan.events number ≡ Some event.now }
         requires each { length records.old ≡ length (all_parts self.now.link.now.plan.sections) }
         requires regions { length goes_on.old ≡ length self.now.link.now.plan.regions }
+        requires loads { AreShallowLoads self.now.link.now.plan.sections }
         ensures ends { let setting = setting_in P.segment_start self.now in let s = placed_section event.now
-            in result ≡ unless (section_refusal setting s from) (left_behind setting s from) }
+            in result ≡ unless (section_refusal setting (standing_before setting.plan records.old number) s from) (left_behind setting s from) }
         ensures records { let setting = setting_in P.segment_start self.now
-            in OnOk result (Rewrites (rewritten setting (placed_section event.now) from) records.old records.new) }
+            in OnOk result (Rewrites (rewritten setting (standing_before setting.plan records.old number) (placed_section event.now) from) records.old records.new) }
         ensures goes_on { let setting = setting_in P.segment_start self.now
             in OnOk result (GoesOn setting.plan (Some event.now) (left_behind setting (placed_section event.now) from) goes_on.old goes_on.new) }
     {
         match *event {
             OrderEvent::Section(section) => {
-                let behind = self.place_section(section, from, records)?;
+                let behind = self.place_loaded(number, section, from, records)?;
                 self.leave_region(section, behind, goes_on)
             }
             _ => Ok(from),
@@ -340,8 +357,9 @@ impl<P: Platform> Walk<'_, P> {
         requires in_range { IsInRange self.now.link.now.plan event.now }
         requires each { length records.old ≡ length (all_parts self.now.link.now.plan.sections) }
         requires regions { length goes_on.old ≡ length self.now.link.now.plan.regions }
-        requires early { number < length self.now.link.now.plan.events }
+        requires here { slice_get self.now.link.now.plan.events number ≡ Some event.now }
         requires shallow { IsShallowEvent event.now }
+        requires loads { AreShallowLoads self.now.link.now.plan.sections }
         ensures ends { let setting = setting_in P.segment_start self.now in let known = known_in setting.plan records.old goes_on.old number
             in result ≡ unless (event_refusal setting known event.now from) (stepped setting known (Some event.now) from) }
         ensures records { let setting = setting_in P.segment_start self.now in let known = known_in setting.plan records.old goes_on.old number
@@ -350,7 +368,7 @@ impl<P: Platform> Walk<'_, P> {
             in OnOk result (GoesOn setting.plan (Some event.now) (stepped setting known (Some event.now) from) goes_on.old goes_on.new) }
     {
         let entered = self.moved(number, event, from, &*records, &*goes_on)?;
-        self.place(event, entered, records, goes_on)
+        self.place(number, event, entered, records, goes_on)
     }
 
     /// Carries out all events in their order, up to the first that is refused. `records` has nothing yet, and `goes_on` the origin of
@@ -369,6 +387,7 @@ impl<P: Platform> Walk<'_, P> {
         requires regions { length goes_on.old ≡ length self.now.link.now.plan.regions }
         requires origins { (r : ℕ) → slice_index goes_on.old r ≡ (span_of (setting_in P.segment_start self.now) r).0 }
         requires shallow { AreShallowEvents self.now.link.now.plan.events }
+        requires loads { AreShallowLoads self.now.link.now.plan.sections }
         ensures { GivesWalked (setting_in P.segment_start self.now) result records.new counters.old.items counters.new.items }
     {
         let mut cursors = Cursors {
@@ -420,6 +439,10 @@ fn numbered(event: usize, refusal: Refusal) -> PlaceError
         Refusal::Undeclared(section) => PlaceError::RegionUnknown { section },
         Refusal::Outside(address) => PlaceError::OutsideRegion { event, address },
         Refusal::Past { region, by } => PlaceError::RegionOverflow { region, by },
+        Refusal::NoLoadAddress { section, cause } => PlaceError::Expression {
+            place: Place::Section(section.as_usize()),
+            cause,
+        },
     }
 }
 
@@ -448,8 +471,7 @@ fn unplaced(alloc: Global, parts: usize) -> Result<Vec<OutputRecordLayout>, Allo
 /// Where all parts and output sections stand, by the bytes of each part, the bytes of the headers and the places of symbols; or the
 /// first refusal: of a region, in their order, of the base, or of an event, where a number passes 2^64 - 1, an expression has no
 /// value, a location stands before where it may or outside a region, or a region isn't declared or is full.
-/// Offsets and addresses are in bytes (libwild: `compute_layout_sections`). Takes plans that ask no more of the walk than it does:
-/// with no section that has a load address.
+/// Offsets and addresses are in bytes (libwild: `compute_layout_sections`).
 pub fn compute_layout_sections<P: Platform>(
     alloc: Global,
     link: &LinkInput,
@@ -459,7 +481,6 @@ pub fn compute_layout_sections<P: Platform>(
     platform: &P,
 ) -> Result<Placed, PlaceError>
     requires well_formed { IsWellFormed link.now }
-    requires placeable { IsPlaceable link.now.plan link.now.options.output }
     requires each { length sizes.now ≡ length (all_parts link.now.plan.sections) }
     ensures { GivesPlaced (setting_of link.now (platform_target (P.segment_start platform.now)) sizes.now headers positions.now) result }
 {

@@ -24,7 +24,7 @@ pub type Constant = Result<u64, NoValue>;
 
 /// What is known before anything is placed.
 #[derive(Clone, Copy)]
-pub(super) struct Known<'a> {
+pub(super) struct BeforeAll<'a> {
     pub(super) link: &'a LinkInput,
     pub(super) headers: u64,
     /// Origin and length of each region.
@@ -34,7 +34,7 @@ pub(super) struct Known<'a> {
 /// The constants so far, by symbol.
 #[derive(Clone, Copy)]
 pub(super) struct Constants<'a, 'l> {
-    pub(super) known: &'a Known<'l>,
+    pub(super) known: &'a BeforeAll<'l>,
     pub(super) so_far: &'a [Option<Constant>],
 }
 
@@ -177,7 +177,7 @@ fn stands_for_itself(definition: Option<SymbolId>, number: usize) -> bool
 
 /// Adds the symbols of a file to the constants so far.
 fn push_file(
-    known: &Known,
+    known: &BeforeAll,
     file: &InputFile,
     constants: &mut Vec<Option<Constant>>,
 ) -> Result<(), AllocError>
@@ -200,7 +200,7 @@ fn push_file(
 
 /// Adds the symbols of some files.
 fn push_files(
-    known: &Known,
+    known: &BeforeAll,
     files: &[InputFile],
     constants: &mut Vec<Option<Constant>>,
 ) -> Result<(), AllocError>
@@ -225,7 +225,7 @@ pub fn constant_redirects(
     ensures { IfOk result (λ all. all.items ≡ constants_of
         (record { groups = link.now.groups; headers = headers; regions = regions.now })) }
 {
-    let known = Known {
+    let known = BeforeAll {
         link,
         headers,
         regions,

@@ -14,7 +14,7 @@ use Rattle.lk_layout.specs.Headers.{header_bytes, leading_bytes}
 use Rattle.lk_layout.specs.Machines.{platform_machine}
 use Rattle.lk_layout.specs.OutputContent.{image_lens, output_content}
 use Rattle.lk_layout.proofs.Answering.{passed_on, unless_none}
-use Rattle.lk_layout.proofs.CarriedPlans.{keeps_sizes, placeable}
+use Rattle.lk_layout.proofs.CarriedPlans.{keeps_sizes}
 use Rattle.lk_layout.proofs.FewHeaders.{few_active}
 use Rattle.lk_layout.proofs.PlacingRefused.{placing_refused}
 use Rattle.lk_layout.proofs.Settings.{length-by_part, takes}
@@ -48,9 +48,6 @@ compute_layout_sections-requires-clause-each g c =
     let lens : c.deref.result.now ≡ image_lens link = c.deref.ensures.value ∙ c.requires.images.lens in
     let contents : c.as_slice.result.now ≡ part_contents link (output_content link live) = c.as_slice.ensures ∙ c.in_ok-contents.ensures.1 ∙ ap (λ (ls : List ℕ). part_contents link (content_of live ls)) lens in
     ap length (c.deref-3.ensures.value ∙ c.in_ok-sizes.ensures.sizes link (output_content link live) contents) ∙ length-by_part (part_size link (output_content link live)) link
-
-pub compute_layout_sections-requires-clause-placeable : goal.compute_layout_sections-requires-clause-placeable
-compute_layout_sections-requires-clause-placeable g c = placeable c.args.link.now c.requires.carried
 
 pub lay_out_placed-requires-clause-contents : goal.lay_out_placed-requires-clause-contents
 lay_out_placed-requires-clause-contents g c =

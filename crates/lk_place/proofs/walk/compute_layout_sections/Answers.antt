@@ -17,6 +17,9 @@ begin-requires-clause-shallow g c = shallow_link c.args.link.now c.requires.well
 pub walk-requires-clause-shallow : goal.walk-requires-clause-shallow
 walk-requires-clause-shallow g c = (shallow_link c.args.link.now c.requires.well_formed).events
 
+pub walk-requires-clause-loads : goal.walk-requires-clause-loads
+walk-requires-clause-loads g c = (shallow_link c.args.link.now c.requires.well_formed).loads
+
 pub walk-requires-clause-starts : goal.walk-requires-clause-starts
 walk-requires-clause-starts g c =
     let setting : Setting = setting_of c.args.link.now (platform_target (g.P.Platform.segment_start c.args.platform.now)) c.args.sizes.now c.args.headers c.args.positions.now in
@@ -39,13 +42,13 @@ walk-requires-clause-origins g c r =
 pub returns-in_err-beginning : goal.returns-in_err-beginning
 returns-in_err-beginning g c =
     let setting : Setting = setting_of c.args.link.now (platform_target (g.P.Platform.segment_start c.args.platform.now)) c.args.sizes.now c.args.headers c.args.positions.now in
-    unbegun_answer setting c.from_residual.result c.in_err-beginning.field-0.0 c.requires.placeable c.from_residual.ensures.1 c.in_err-beginning.ensures
+    unbegun_answer setting c.from_residual.result c.in_err-beginning.field-0.0 c.from_residual.ensures.1 c.in_err-beginning.ensures
 
 pub returns-in_err-walk : goal.returns-in_err-walk
 returns-in_err-walk g c =
     let setting : Setting = setting_of c.args.link.now (platform_target (g.P.Platform.segment_start c.args.platform.now)) c.args.sizes.now c.args.headers c.args.positions.now in
     let ready : IsReady setting = record { events = c.requires.well_formed.events; sections = c.requires.well_formed.sections; sizes = c.requires.each } in
-    refused_answer setting c.from_residual-in_err-walk.result c.in_err-walk.field-0.0 ready (begins setting c.in_ok-beginning.beginning c.in_ok-beginning.ensures) c.requires.placeable c.from_residual-in_err-walk.ensures.1 _ _ _ c.in_err-walk.ensures
+    refused_answer setting c.from_residual-in_err-walk.result c.in_err-walk.field-0.0 ready (begins setting c.in_ok-beginning.beginning c.in_ok-beginning.ensures) c.from_residual-in_err-walk.ensures.1 _ _ _ c.in_err-walk.ensures
 
 pub returns : goal.returns
 returns g c =
@@ -57,7 +60,7 @@ returns g c =
     let spans : c.from_vec-2.result ≡ section_records c.args.link.now.plan.sections c.from_vec.result =
     c.from_vec-2.ensures ∙ c.in_ok-sections.ensures ∙ ap (section_records c.args.link.now.plan.sections) (c.deref-4.ensures.value ∙ sym c.from_vec.ensures) in
     let count : length c.from_vec.result ≡ length (all_parts c.args.link.now.plan.sections) = ap length made ∙ omega (arith, c.walk.auto.records, ap length c.deref_mut.ensures.value, c.in_ok-parts.ensures.count, c.requires.each) in
-    walked_placed setting c.from_vec.result c.from_vec-2.result c.from_vec-3.result c.in_ok-beginning.beginning.base ready (begins setting c.in_ok-beginning.beginning c.in_ok-beginning.ensures) c.requires.placeable count c.in_ok-walk.ensures.0 (λ p. ap (λ (rs : List Record). record_at rs p) made ∙ c.in_ok-walk.ensures.1 p) spans
+    walked_placed setting c.from_vec.result c.from_vec-2.result c.from_vec-3.result c.in_ok-beginning.beginning.base ready (begins setting c.in_ok-beginning.beginning c.in_ok-beginning.ensures) count c.in_ok-walk.ensures.0 (λ p. ap (λ (rs : List Record). record_at rs p) made ∙ c.in_ok-walk.ensures.1 p) spans
     (based_at setting c.in_ok-beginning.beginning c.in_ok-beginning.ensures)
     (c.from_vec-3.ensures ∙ c.in_ok-walk.ensures.2
     ∙ ap (λ (ns : List ℕ). ns ++ counters_after setting) (c.in_ok-push.ensures.items ∙ ap (λ (ns : List ℕ). ns ++ (c.in_ok-beginning.beginning.base ∷ [])) c.in_ok-counters.ensures.items))

@@ -4,7 +4,6 @@ use Rattle.lk_place.specs.declared.cursors.Cursors.{Cursors}
 use Rattle.lk_place.specs.Records.{record_at}
 use Rattle.lk_place.specs.Start.{first_cursors}
 use Rattle.lk_place.specs.Walk.{AllPass, counters_after, record_after, setting_in}
-use Rattle.std.proofs.lemmas.Option.{slice_get_within}
 use Rattle.lk_place.proofs.Knowing.{known_table, recorded_as, tried_as, went_as}
 use Rattle.lk_place.proofs.WalkSteps.{IsTried, counters_all, counters_on, cursors_first, goes_on, goes_on_first, passes_on, read_there, record_first, records_on, regions_on, starts_at, stops, walk_refused}
 use Rattle.lk_place.proofs.walk.Walk.walk.Goals as goal
@@ -28,11 +27,9 @@ carry_out-end-requires-clause-in_range g c =
     read_there c.args.self.now.link.now.plan.events c.as_slice-event-items.result.now c.loop-number.number c.event-item.result c.as_slice-event-items.ensures c.loop-number-test.true c.event-item.is in
     c.requires.walkable.ready.events.in_range c.loop-number.number c.event-item.result here
 
-pub carry_out-end-requires-clause-early : goal.carry_out-end-requires-clause-early
-carry_out-end-requires-clause-early g c =
-    let here : slice_get c.args.self.now.link.now.plan.events c.loop-number.number ≡ Some c.event-item.result =
-    read_there c.args.self.now.link.now.plan.events c.as_slice-event-items.result.now c.loop-number.number c.event-item.result c.as_slice-event-items.ensures c.loop-number-test.true c.event-item.is in
-    slice_get_within c.args.self.now.link.now.plan.events c.loop-number.number c.event-item.result here
+pub carry_out-end-requires-clause-here : goal.carry_out-end-requires-clause-here
+carry_out-end-requires-clause-here g c =
+    read_there c.args.self.now.link.now.plan.events c.as_slice-event-items.result.now c.loop-number.number c.event-item.result c.as_slice-event-items.ensures c.loop-number-test.true c.event-item.is
 
 pub carry_out-end-requires-clause-shallow : goal.carry_out-end-requires-clause-shallow
 carry_out-end-requires-clause-shallow g c =
