@@ -5,7 +5,7 @@ use Rattle.std.specs.Result.{IsErrAnd}
 use Rattle.lk_check.specs.FirstFault.{check_of, first_fault}
 use Rattle.lk_link.specs.declared.fault.LinkFault.{LinkFault}
 use Rattle.lk_link.specs.declared.link.LinkInput.{LinkInput}
-use Rattle.lk_link.specs.TableSizes.{Machine}
+use Rattle.lk_link.specs.TableSizes.{Machine, TableSizes}
 use Rattle.lk_layout.specs.declared.error.LayoutError.{LayoutError}
 use Rattle.lk_layout.specs.declared.error.LayoutError.TheVariants.{NoMemory, TooMany, BadLink, NotCarried, MergeNotTerminated, MergeOffset, MergeTooLarge, References, AddressOverflow, RegionDuplicate, Expression, BaseTooLow, RegionUnknown, RegionOverflow, OutsideRegion, LocationBackwards, SectionOutsideSegments}
 use Rattle.lk_layout.specs.declared.error.Uncarried.{Uncarried}
@@ -164,23 +164,23 @@ unmet machine link (gc.References (fault ∷ faults)) e h is =
 -- ---- behind the placement
 
 -- what is told, where no section stands outside the segments
-pub told : (link : LinkInput) (live : Live) (records : List Record) (layout : Layout) → merge_refusal link.plan.sections (section_records link.plan.sections records) ≡ None
-    → segments_refusal FromSections link (section_records link.plan.sections records) (is_emitted link (output_content link live)) (active_segments link (output_content link live)) ≡ None
-    → merge_offsets link live ≡ [] → layout ≡ layout_of link live records → IsPlacedAnswer link live records (Ok layout)
-told link live records layout fit inside none is =
+pub told : (sizes : TableSizes) (link : LinkInput) (live : Live) (records : List Record) (layout : Layout) → merge_refusal link.plan.sections (section_records link.plan.sections records) ≡ None
+    → segments_refusal FromSections link (section_records link.plan.sections records) (is_emitted link (output_content sizes link live)) (active_segments link (output_content sizes link live)) ≡ None
+    → merge_offsets link live ≡ [] → layout ≡ layout_of sizes link live records → IsPlacedAnswer sizes link live records (Ok layout)
+told sizes link live records layout fit inside none is =
     unless_none (joining_refusal link records) (Ok layout) _ (ap (option_map place_error) fit)
-    (unless_none (segment_refusal link live records) (Ok layout) _ (ap (option_map place_error) inside)
+    (unless_none (segment_refusal sizes link live records) (Ok layout) _ (ap (option_map place_error) inside)
     (unless_none (offsets_refusal link live) (Ok layout) _ (ap (λ (places : List MergeOffsetPlace). option_map offset_error (slice_get places 0)) none)
     (ap (λ (x : Layout). Ok x) is)))
 
 -- the first offset that is chosen outside is refused
-pub refused : (link : LinkInput) (live : Live) (records : List Record) (place : MergeOffsetPlace) (e : LayoutError)
+pub refused : (sizes : TableSizes) (link : LinkInput) (live : Live) (records : List Record) (place : MergeOffsetPlace) (e : LayoutError)
     → merge_refusal link.plan.sections (section_records link.plan.sections records) ≡ None
-    → segments_refusal FromSections link (section_records link.plan.sections records) (is_emitted link (output_content link live)) (active_segments link (output_content link live)) ≡ None
-    → slice_get (merge_offsets link live) 0 ≡ Some place → e ≡ offset_error place → IsPlacedAnswer link live records (Err e)
-refused link live records place e fit inside first is =
+    → segments_refusal FromSections link (section_records link.plan.sections records) (is_emitted link (output_content sizes link live)) (active_segments link (output_content sizes link live)) ≡ None
+    → slice_get (merge_offsets link live) 0 ≡ Some place → e ≡ offset_error place → IsPlacedAnswer sizes link live records (Err e)
+refused sizes link live records place e fit inside first is =
     unless_none (joining_refusal link records) (Err e) _ (ap (option_map place_error) fit)
-    (unless_none (segment_refusal link live records) (Err e) _ (ap (option_map place_error) inside)
+    (unless_none (segment_refusal sizes link live records) (Err e) _ (ap (option_map place_error) inside)
     (unless_some (offsets_refusal link live) e _ (ap (option_map offset_error) first ∙ ap (λ (x : LayoutError). Some x) (sym is))))
 
 -- layouts with the same lists are the same

@@ -24,7 +24,6 @@ use Rattle.lk_link.specs.PlanSections.{is_set, is_singletons, is_thread_local, i
 use Rattle.lk_link.specs.SegmentKinds.{is_tls}
 use Rattle.lk_link.specs.WellFormed.{IsAboutPlace}
 use Rattle.lk_place.specs.Plans.{IsUnmoved}
-use Rattle.lk_sizes.specs.Owners.{KeepsSizes}
 use Rattle.lk_layout.specs.declared.error.Uncarried.TheVariants as uncarried
 use Rattle.lk_layout.specs.Carried.{IsCarried, all_uncarried, any_file, file_has, first_uncarried, has, is_special_section}
 use Rattle.lk_layout.specs.Laws.{CarriedPlansArePlain}
@@ -78,7 +77,7 @@ usual link carried =
     (none_found (has link) all_uncarried 2 uncarried.Plan carried refl)
 
 -- its output isn't an object file again
-whole_output : (link : LinkInput) → IsCarried link → is_partial link.options.output ≡ false
+pub whole_output : (link : LinkInput) → IsCarried link → is_partial link.options.output ≡ false
 unfolding first_uncarried has
 whole_output link carried =
     (or_parts (is_partial link.options.output) (is_some link.plan.singletons) (none_found (has link) all_uncarried 3 uncarried.Partial carried refl)).0
@@ -158,14 +157,3 @@ carried_plans_are_plain link carried loads =
       zero_fill = λ i s k places zero. absurd (let no : is_zero_fill_thread_local link.plan s ≡ false = no_zero_fill link s carried in cc);
       backed_first = λ i s t m n less first second backed. or_left _ _ (loads.backed_first i s t m n less first second backed);
     }
-
--- ---- sizes
-
--- nothing changes its sizes
-pub keeps_sizes : (link : LinkInput) → IsCarried link → KeepsSizes link
-unfolding first_uncarried has
-keeps_sizes link carried = record {
-  relax = none_found (has link) all_uncarried 6 uncarried.Relax carried refl;
-  tables = (or_parts (names_table link.plan.named) (any_file (file_has uncarried.Table) link) (none_found (has link) all_uncarried 1 uncarried.Table carried refl)).0;
-  primary = none_found (has link) all_uncarried 5 uncarried.Primary carried refl;
-}

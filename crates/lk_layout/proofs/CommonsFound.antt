@@ -23,13 +23,15 @@ use Rattle.lk_gc.specs.declared.live.Live.{Live}
 use Rattle.lk_tables.specs.Copied.{can_resolve, is_named, is_wanted}
 use Rattle.lk_sizes.specs.declared.addresses.CommonAddress.{CommonAddress}
 use Rattle.lk_sizes.specs.Addresses.{common_addresses, told_common}
-use Rattle.lk_sizes.specs.Owners.{Content, IsCommonIn, all_commons, common_address, commons_of}
+use Rattle.lk_sizes.specs.Owners.{Content, IsCommonIn, all_commons, commons_of}
+use Rattle.lk_sizes.specs.PartOwners.{common_address}
 use Rattle.lk_sizes.proofs.Addressing.{same_number}
 use Rattle.lk_sizes.proofs.CommonOnes.{common_at_index, commons_rise}
 use Rattle.lk_layout.specs.declared.resolution.Resolution.{Resolution}
 use Rattle.lk_layout.specs.OutputContent.{output_content}
 use Rattle.lk_layout.specs.Resolutions.{Places, file_resolutions, flags_at, has_resolutions, is_resolved, placed_value, places_of, resolution_of}
 use Rattle.lk_layout.specs.Tables.{AreRising, common_in}
+use Rattle.lk_link.specs.TableSizes.{TableSizes}
 
 -- ---- the first that passes
 
@@ -133,25 +135,25 @@ can_have kind.SyntheticSymbols x h = absurd (cc)
 can_have kind.LinkerScript x h = absurd (cc)
 
 -- what values go by, with commons by the table
-abbrev pub places_with : LinkInput → Live → List ℕ → Places
-places_with link live starts = record (places_of link live starts) { common = λ p s. common_in (common_addresses link (output_content link live) starts) s }
+abbrev pub places_with : TableSizes → LinkInput → Live → List ℕ → Places
+places_with sizes link live starts = record (places_of sizes link live starts) { common = λ p s. common_in (common_addresses link (output_content sizes link live) starts) s }
 
-same_value : (link : LinkInput) (live : Live) (starts : List ℕ) (first s : ℕ) (p : SymbolPlacement)
-    → ((q size : ℕ) → p ≡ at.Common q size → common_in (common_addresses link (output_content link live) starts) s ≡ common_address link (output_content link live) starts q s)
-    → placed_value (places_with link live starts) first s p ≡ placed_value (places_of link live starts) first s p
-same_value link live starts first s (at.Common q size) h = h q size refl
-same_value link live starts first s (at.Section i offset) h = refl
-same_value link live starts first s (at.Absolute n) h = refl
-same_value link live starts first s at.Undef h = refl
-same_value link live starts first s at.Dynamic h = refl
-same_value link live starts first s at.Undefined h = refl
-same_value link live starts first s at.ForceUndefined h = refl
-same_value link live starts first s (at.SectionStart o) h = refl
-same_value link live starts first s (at.SectionEnd o) h = refl
-same_value link live starts first s (at.SectionGroupEnd o) h = refl
-same_value link live starts first s at.TlsEnd h = refl
-same_value link live starts first s at.LoadBaseAddress h = refl
-same_value link live starts first s (at.Redirect e l provide) h = refl
+same_value : (sizes : TableSizes) (link : LinkInput) (live : Live) (starts : List ℕ) (first s : ℕ) (p : SymbolPlacement)
+    → ((q size : ℕ) → p ≡ at.Common q size → common_in (common_addresses link (output_content sizes link live) starts) s ≡ common_address link (output_content sizes link live) starts q s)
+    → placed_value (places_with sizes link live starts) first s p ≡ placed_value (places_of sizes link live starts) first s p
+same_value sizes link live starts first s (at.Common q size) h = h q size refl
+same_value sizes link live starts first s (at.Section i offset) h = refl
+same_value sizes link live starts first s (at.Absolute n) h = refl
+same_value sizes link live starts first s at.Undef h = refl
+same_value sizes link live starts first s at.Dynamic h = refl
+same_value sizes link live starts first s at.Undefined h = refl
+same_value sizes link live starts first s at.ForceUndefined h = refl
+same_value sizes link live starts first s (at.SectionStart o) h = refl
+same_value sizes link live starts first s (at.SectionEnd o) h = refl
+same_value sizes link live starts first s (at.SectionGroupEnd o) h = refl
+same_value sizes link live starts first s at.TlsEnd h = refl
+same_value sizes link live starts first s at.LoadBaseAddress h = refl
+same_value sizes link live starts first s (at.Redirect e l provide) h = refl
 
 map_alike : {X Y : Type 0} (g h : ℕ × X → Y) (n : ℕ) (xs : List X) → ((k : ℕ) (x : X) → slice_get xs k ≡ Some x → g (n + k, x) ≡ h (n + k, x)) → map g (enumerate_from n xs) ≡ map h (enumerate_from n xs)
 map_alike g h n [] same = refl
@@ -166,17 +168,17 @@ flat_alike : {X Y : Type 0} (g h : X → List Y) (xs : List X) → ((k : ℕ) (x
 flat_alike g h [] same = refl
 flat_alike g h (x ∷ xs) same = ap (λ ys. ys ++ flat_map g xs) (same 0 x refl) ∙ ap (λ ys. h x ++ ys) (flat_alike g h xs (λ k y there. same (suc k) y there))
 
-one_alike : (link : LinkInput) (live : Live) (starts : List ℕ) (f : NumberedFile) (i k : ℕ) (x : InputSymbol) → slice_get (numbered_files link.groups) i ≡ Some f → has_resolutions f.file.kind ≡ true
-    → slice_get f.file.symbols k ≡ Some x → resolution_of (places_with link live starts) live.flags (first_input link.groups f.id) (first_symbol link.groups f.id + k, x)
-    ≡ resolution_of (places_of link live starts) live.flags (first_input link.groups f.id) (first_symbol link.groups f.id + k, x)
-one_alike link live starts f i k x at_f has at_k =
+one_alike : (sizes : TableSizes) (link : LinkInput) (live : Live) (starts : List ℕ) (f : NumberedFile) (i k : ℕ) (x : InputSymbol) → slice_get (numbered_files link.groups) i ≡ Some f → has_resolutions f.file.kind ≡ true
+    → slice_get f.file.symbols k ≡ Some x → resolution_of (places_with sizes link live starts) live.flags (first_input link.groups f.id) (first_symbol link.groups f.id + k, x)
+    ≡ resolution_of (places_of sizes link live starts) live.flags (first_input link.groups f.id) (first_symbol link.groups f.id + k, x)
+one_alike sizes link live starts f i k x at_f has at_k =
     let s : ℕ = first_symbol link.groups f.id + k in
     let first : ℕ = first_input link.groups f.id in
     let told : ℕ → Option Resolution = λ n. Some (record { raw_value = n; flags = flags_at live.flags s }) in
     (elim (is_resolved s x (flags_at live.flags s)) as (λ b. is_resolved s x (flags_at live.flags s) ≡ b
-    → (if b then told (placed_value (places_with link live starts) first s x.at) else None) ≡ (if b then told (placed_value (places_of link live starts) first s x.at) else None)) [
-      | true ↦ λ resolved. ap told (same_value link live starts first s x.at (λ q size placed.
-          common_found link (output_content link live) starts q s size (record {
+    → (if b then told (placed_value (places_with sizes link live starts) first s x.at) else None) ≡ (if b then told (placed_value (places_of sizes link live starts) first s x.at) else None)) [
+      | true ↦ λ resolved. ap told (same_value sizes link live starts first s x.at (λ q size placed.
+          common_found link (output_content sizes link live) starts q s size (record {
             file = f;
             there = (file_at link.groups i f at_f).there;
             index = k;
@@ -189,15 +191,15 @@ one_alike link live starts f i k x at_f has at_k =
       | false ↦ λ resolved. refl
     ]) refl
 
-pub resolutions_alike : (link : LinkInput) (live : Live) (starts : List ℕ)
-    → flat_map (file_resolutions (places_with link live starts) live.flags link.groups) (numbered_files link.groups)
-    ≡ flat_map (file_resolutions (places_of link live starts) live.flags link.groups) (numbered_files link.groups)
-resolutions_alike link live starts =
-    flat_alike (file_resolutions (places_with link live starts) live.flags link.groups) (file_resolutions (places_of link live starts) live.flags link.groups) (numbered_files link.groups) (λ i f at_f.
+pub resolutions_alike : (sizes : TableSizes) (link : LinkInput) (live : Live) (starts : List ℕ)
+    → flat_map (file_resolutions (places_with sizes link live starts) live.flags link.groups) (numbered_files link.groups)
+    ≡ flat_map (file_resolutions (places_of sizes link live starts) live.flags link.groups) (numbered_files link.groups)
+resolutions_alike sizes link live starts =
+    flat_alike (file_resolutions (places_with sizes link live starts) live.flags link.groups) (file_resolutions (places_of sizes link live starts) live.flags link.groups) (numbered_files link.groups) (λ i f at_f.
     let one : Places → ℕ × InputSymbol → Option Resolution = λ places. resolution_of places live.flags (first_input link.groups f.id) in
     let all : Places → List (Option Resolution) = λ places. map (one places) (enumerate_from (first_symbol link.groups f.id) f.file.symbols) in
     let none : List (Option Resolution) = map (λ (x : InputSymbol). let n : Option Resolution = None in n) f.file.symbols in
-    (elim (has_resolutions f.file.kind) as (λ b. has_resolutions f.file.kind ≡ b → (if b then all (places_with link live starts) else none) ≡ (if b then all (places_of link live starts) else none)) [
-      | true ↦ λ has. map_alike (one (places_with link live starts)) (one (places_of link live starts)) (first_symbol link.groups f.id) f.file.symbols (λ k x at_k. one_alike link live starts f i k x at_f has at_k)
+    (elim (has_resolutions f.file.kind) as (λ b. has_resolutions f.file.kind ≡ b → (if b then all (places_with sizes link live starts) else none) ≡ (if b then all (places_of sizes link live starts) else none)) [
+      | true ↦ λ has. map_alike (one (places_with sizes link live starts)) (one (places_of sizes link live starts)) (first_symbol link.groups f.id) f.file.symbols (λ k x at_k. one_alike sizes link live starts f i k x at_f has at_k)
       | false ↦ λ has. refl
     ]) refl)

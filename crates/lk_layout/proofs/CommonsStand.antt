@@ -17,13 +17,14 @@ use Rattle.lk_link.specs.FileKinds.{is_object}
 use Rattle.lk_link.specs.Inputs.{first_input}
 use Rattle.lk_link.specs.Parts.{all_parts, part_at}
 use Rattle.lk_link.specs.SymbolRules.{is_placement_in}
-use Rattle.lk_link.specs.TableSizes.{Machine}
+use Rattle.lk_link.specs.TableSizes.{Machine, TableSizes}
 use Rattle.lk_link.specs.WellFormed.{IsWellFormed}
 use Rattle.lk_link.proofs.GoodSymbols.{symbol_of}
 use Rattle.lk_gc.specs.declared.live.Live.{Live}
 use Rattle.lk_place.specs.Records.{Record, nowhere, record_at}
 use Rattle.lk_tables.specs.Copied.{can_resolve}
-use Rattle.lk_sizes.specs.Owners.{CommonOwner, Content, IsCommonIn, Owner, common_address, common_number, owner_address, owners_of, part_size}
+use Rattle.lk_sizes.specs.Owners.{CommonOwner, Content, IsCommonIn, Owner, owner_address}
+use Rattle.lk_sizes.specs.PartOwners.{common_address, common_number, owners_of, part_size}
 use Rattle.lk_sizes.specs.Tiles.{HasByte, OwnersAreAligned, OwnersTileTheirPart}
 use Rattle.lk_sizes.proofs.CommonOnes.{common_is_placed, commons_are_owners}
 use Rattle.lk_layout.specs.declared.layout.Layout.{Layout}
@@ -65,18 +66,18 @@ common_value places live first s p size x resolved stands =
     ∙ ap (λ (n : ℕ). Some n) (ap (placed_value places first s) stands)
 
 -- what is told of its symbol, by where the parts start
-value_told : (link : LinkInput) (live : Live) (starts : List ℕ) (p s size : ℕ) (c : IsCommonIn link live p s size) → is_object c.file.file.kind ≡ true
-    → option_map (λ (r : Resolution). r.raw_value) (resolution_at (symbol_resolutions link live starts) s) ≡ Some (common_address link (output_content link live) starts p s)
-value_told link live starts p s size c object =
+value_told : (sizes : TableSizes) (link : LinkInput) (live : Live) (starts : List ℕ) (p s size : ℕ) (c : IsCommonIn link live p s size) → is_object c.file.file.kind ≡ true
+    → option_map (λ (r : Resolution). r.raw_value) (resolution_at (symbol_resolutions sizes link live starts) s) ≡ Some (common_address link (output_content sizes link live) starts p s)
+value_told sizes link live starts p s size c object =
     let x : InputSymbol = c.symbol in
     let file : InputFile = c.file.file in
     let first : ℕ = first_input link.groups c.file.id in
-    let places : Places = places_of link live starts in
+    let places : Places = places_of sizes link live starts in
     let raw : Option Resolution → Option ℕ = option_map (λ (r : Resolution). r.raw_value) in
     let resolved : is_resolved s x (flags_at live.flags s) ≡ true = (and_parts (is_resolved s x (flags_at live.flags s)) (can_resolve file.kind x) c.wanted).0 in
-    let read : resolution_at (symbol_resolutions link live starts) s ≡ resolution_of places live.flags first (s, x)
-    = ap (λ (n : ℕ). resolution_at (symbol_resolutions link live starts) n) c.number
-    ∙ resolution_is link live starts c.file.id file c.index x c.there object c.stands
+    let read : resolution_at (symbol_resolutions sizes link live starts) s ≡ resolution_of places live.flags first (s, x)
+    = ap (λ (n : ℕ). resolution_at (symbol_resolutions sizes link live starts) n) c.number
+    ∙ resolution_is sizes link live starts c.file.id file c.index x c.there object c.stands
     ∙ ap (λ (n : ℕ). resolution_of places live.flags first (n, x)) (sym c.number) in
     ap raw read ∙ common_value places live first s p size x resolved c.placed
 
@@ -85,10 +86,10 @@ value_told link live starts p s size c object =
 -- an owner of bytes starts at a multiple of its part's alignment, where the part is no table part and isn't packed
 common_aligned : OwnersTileTheirPart → OwnersAreAligned → (machine : Machine) (link : LinkInput) (layout : Layout) (laid : IsLaidOut machine link layout) (p s size : ℕ)
     → IsCommonIn link laid.live p s size → 0 < size → (part_at link.plan.sections p).packed ≡ false
-    → (part_at link.plan.sections p).alignment ∣ owner_address (part_record layout p).mem_offset (part_at link.plan.sections p) (owners_of link (output_content link laid.live) p) (common_number link (output_content link laid.live) p s)
+    → (part_at link.plan.sections p).alignment ∣ owner_address (part_record layout p).mem_offset (part_at link.plan.sections p) (owners_of link (output_content machine.sizes link laid.live) p) (common_number link (output_content machine.sizes link laid.live) p s)
 common_aligned tile aligned machine link layout laid p s size c some unpacked =
     let live : Live = laid.live in
-    let content : Content = output_content link live in
+    let content : Content = output_content machine.sizes link live in
     let part : PlanPart = part_at link.plan.sections p in
     let owners : List Owner = owners_of link content p in
     let k : ℕ = common_number link content p s in
@@ -102,17 +103,17 @@ common_aligned tile aligned machine link layout laid p s size c some unpacked =
     } in
     let inside = (tile link content p start).inside k (owner_address start part owners k) byte in
     let bytes : 0 < part_size link content p = omega (arith, inside.0, inside.1) in
-    let size_is : slice_index_or (setting machine link live).sizes p 0 ≡ part_size link content p = size_of link live p placed.0 in
+    let size_is : slice_index_or (setting machine link live).sizes p 0 ≡ part_size link content p = size_of machine.sizes link live p placed.0 in
     let begins : part.alignment ∣ (record_at laid.records p).mem_offset
     = part_starts machine link live laid.states laid.records p laid.good laid.is laid.unrefused placed.0 (omega (arith, bytes, size_is)) in
     let record_is : (record_at laid.records p).mem_offset ≡ start = ap (λ (l : Layout). (record_at l.section_part_layouts p).mem_offset) (sym laid.same) in
     dvd-add part.alignment (subst (λ n. part.alignment ∣ n) record_is begins) (aligned link content p k laid.good placed.1 unpacked)
 
 pub commons_stand : OwnersTileTheirPart → OwnersAreAligned → (machine : Machine) (link : LinkInput) (layout : Layout) (laid : IsLaidOut machine link layout)
-    → layout.symbol_resolutions ≡ symbol_resolutions link laid.live (starts_of layout.section_part_layouts) → CommonsStand link laid.live layout
+    → layout.symbol_resolutions ≡ symbol_resolutions machine.sizes link laid.live (starts_of layout.section_part_layouts) → CommonsStand machine.sizes link laid.live layout
 commons_stand tile aligned machine link layout laid resolved p s size c =
     let live : Live = laid.live in
-    let content : Content = output_content link live in
+    let content : Content = output_content machine.sizes link live in
     let records : List Record = layout.section_part_layouts in
     let part : PlanPart = part_at link.plan.sections p in
     let k : ℕ = common_number link content p s in
@@ -126,7 +127,7 @@ commons_stand tile aligned machine link layout laid resolved p s size c =
       address = at_start (part_record layout p).mem_offset;
       at = refl;
       valued = ap (λ (rs : List (Option Resolution)). raw (resolution_at rs s)) resolved
-          ∙ value_told link live (starts_of records) p s size c (of_object link live p s size laid.good c)
+          ∙ value_told machine.sizes link live (starts_of records) p s size c (of_object link live p s size laid.good c)
           ∙ ap (λ (n : ℕ). Some (at_start n)) start;
       aligned = common_aligned tile aligned machine link layout laid p s size c;
     }

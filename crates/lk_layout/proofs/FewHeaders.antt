@@ -18,13 +18,14 @@ use Rattle.lk_tables.specs.HeaderParts.{file_header_entries, program_header_entr
 use Rattle.lk_tables.specs.SymbolTable.{FileEntry, SegmentEntry, TableEntry, entry_bytes}
 use Rattle.lk_tables.proofs.HeaderLemmas.{sum_same}
 use Rattle.lk_layout.specs.OutputContent.{output_content}
+use Rattle.lk_link.specs.TableSizes.{TableSizes}
 
 -- no more segments are active than there are
-pub few_active : (link : LinkInput) (live : Live) → IsWellFormed link → length (active_segments link (output_content link live)) ≤ SEGMENTS
+pub few_active : (sizes : TableSizes) (link : LinkInput) (live : Live) → IsWellFormed link → length (active_segments link (output_content sizes link live)) ≤ SEGMENTS
 unfolding counted limit_of
-few_active link live good =
+few_active sizes link live good =
     let numbers : List ℕ = map (λ (q : ℕ × PlanSegment). q.0) (enumerate_from 0 link.plan.segments) in
-    let active : ℕ → Bool = is_active link (output_content link live) in
+    let active : ℕ → Bool = is_active link (output_content sizes link live) in
     let count : length numbers ≡ length link.plan.segments
     = length-map (enumerate_from 0 link.plan.segments) (λ (q : ℕ × PlanSegment). q.0) ∙ length-enumerate_from 0 link.plan.segments in
     let few : length link.plan.segments ≤ SEGMENTS = good.within limited.Segments in

@@ -19,7 +19,7 @@ use Rattle.lk_place.specs.PlacementLaws.{PartsTakeTheirBytes, RefusedExactlyPast
 use Rattle.lk_place.specs.Records.{Record, mem_end, nowhere, record_at}
 use Rattle.lk_place.specs.Setting.{Setting}
 use Rattle.lk_sizes.specs.Images.{image_addresses}
-use Rattle.lk_sizes.specs.Owners.{EndsFit}
+use Rattle.lk_sizes.specs.PartOwners.{EndsFit}
 use Rattle.lk_layout.specs.declared.layout.Layout.{Layout}
 use Rattle.lk_layout.specs.Defined.{setting, starts_of}
 use Rattle.lk_layout.specs.OutputContent.{output_content}
@@ -56,9 +56,9 @@ part_fits refused machine link layout laid p within =
     (first_none (section_overflow s t step.steps.entered) (load_refusal (load_given s standing t step.steps.entered)) placing) at.place at.within in
     subst (λ q. mem_end (record_at laid.records q) < 2 ^ 64) (sym at.is) fit.mem
 
-owners_fit : RefusedExactlyPast → PartsTakeTheirBytes → (machine : Machine) (link : LinkInput) (layout : Layout) (laid : IsLaidOut machine link layout) → EndsFit link (output_content link laid.live) (starts_of laid.records)
+owners_fit : RefusedExactlyPast → PartsTakeTheirBytes → (machine : Machine) (link : LinkInput) (layout : Layout) (laid : IsLaidOut machine link layout) → EndsFit link (output_content machine.sizes link laid.live) (starts_of laid.records)
 owners_fit refused mass machine link layout laid =
-    ends_fit link laid.live laid.records (starts_of laid.records) refl
+    ends_fit machine.sizes link laid.live laid.records (starts_of laid.records) refl
     (λ p below.
     let start : slice_index (starts_of laid.records) p ≡ (record_at laid.records p).mem_offset = lists.get_or-map (λ (r : Record). r.mem_offset) laid.records p nowhere in
     omega (arith, start, part_fits refused machine link layout laid p (omega (arith, below, laid.is.each))))
@@ -68,6 +68,6 @@ owners_fit refused mass machine link layout laid =
 pub buckets_start : RefusedExactlyPast → PartsTakeTheirBytes → (machine : Machine) (link : LinkInput) (layout : Layout) (laid : IsLaidOut machine link layout) → AreStartsOf layout.merged_strings layout.merged_string_start_addresses
 buckets_start refused mass machine link layout laid =
     let starts : List ℕ = starts_of laid.records in
-    let addresses : List ℕ = image_addresses link (output_content link laid.live) starts in
-    let fit = images_fit link laid.live starts laid.good (starts_count link laid.records starts refl laid.is.each) (owners_fit refused mass machine link layout laid) in
+    let addresses : List ℕ = image_addresses link (output_content machine.sizes link laid.live) starts in
+    let fit = images_fit machine.sizes link laid.live starts laid.good (starts_count link laid.records starts refl laid.is.each) (owners_fit refused mass machine link layout laid) in
     subst (λ (l : Layout). AreStartsOf l.merged_strings l.merged_string_start_addresses) (sym laid.same) (are_starts (link_inputs link).outputs addresses fit)

@@ -87,17 +87,17 @@ shows link s k offset x good terminated there short =
 -- ---- where it stands
 
 image_at : (machine : Machine) (link : LinkInput) (layout : Layout) (laid : IsLaidOut machine link layout) (s : ℕ) (inputs : List MergeInput) → slice_get (link_inputs link).outputs s ≡ Some inputs
-    → 0 < length inputs → IsImageAt link laid.live layout s inputs
+    → 0 < length inputs → IsImageAt machine.sizes link laid.live layout s inputs
 image_at machine link layout laid s [] there some = absurd (omega (arith, some))
 image_at machine link layout laid s (y ∷ ys) there some =
     let live : Live = laid.live in
-    let content = output_content link live in
+    let content = output_content machine.sizes link live in
     let inputs : List MergeInput = y ∷ ys in
     let records : List Record = laid.records in
     let at = inputs_at link s inputs there in
     let has = has_part link s 0 y laid.good (ap (λ (xs : List MergeInput). slice_get xs 0) (sym at.1)) in
     let p : ℕ = has.part in
-    let stands = stands_at link live (starts_of records) s p at.0 has.is in
+    let stands = stands_at machine.sizes link live (starts_of records) s p at.0 has.is in
     let image_is : image_start layout.merged_string_start_addresses s ≡ slice_index (image_addresses link content (starts_of records)) s
     = ap (λ (l : Layout). image_start l.merged_string_start_addresses s) laid.same ∙ starts_at (link_inputs link).outputs (image_addresses link content (starts_of records)) s inputs there in
     let record_is : slice_index (starts_of records) p ≡ (record_at records p).mem_offset = lists.get_or-map (λ (r : Record). r.mem_offset) records p nowhere in
@@ -117,6 +117,6 @@ image_at machine link layout laid s (y ∷ ys) there some =
           subst Shown (sym at.1) (shows link s k offset x laid.good (ap (list_all is_terminated) (sym at.1) ∙ terminated) (ap (λ (xs : List MergeInput). slice_get xs k) (sym at.1) ∙ at_k) short);
     }
 
-pub images_stand : (machine : Machine) (link : LinkInput) (layout : Layout) (laid : IsLaidOut machine link layout) → ImagesStand link laid.live layout
+pub images_stand : (machine : Machine) (link : LinkInput) (layout : Layout) (laid : IsLaidOut machine link layout) → ImagesStand machine.sizes link laid.live layout
 images_stand machine link layout laid s inputs there some =
     image_at machine link layout laid s inputs (ap (λ (l : Layout). slice_get l.merged_strings s) (sym laid.same) ∙ there) some

@@ -43,9 +43,9 @@ pub record IsLaidOut (machine : Machine) (link : LinkInput) (layout : Layout) : 
   pub records : List Record
   pub is : IsPlaced (setting machine link live) states records
   pub unrefused : placement_refusal (setting machine link live) states records ≡ None
-  pub covered : first_outside link (section_records link.plan.sections records) (is_emitted link (output_content link live)) ≡ None
+  pub covered : first_outside link (section_records link.plan.sections records) (is_emitted link (output_content machine.sizes link live)) ≡ None
   pub inside : merge_offsets link live ≡ []
-  pub same : layout ≡ layout_of link live records
+  pub same : layout ≡ layout_of machine.sizes link live records
 
 -- a layout is no refusal
 passed : (refusal : Option LayoutError) (layout : Layout) (P : Type 0) → Unless refusal (Ok layout) P → (refusal ≡ None) × P
@@ -74,13 +74,13 @@ laid_out exactly machine link layout defined =
     let whole = passed (merging_refusal link) layout _ all.1 in
     let met = passed (references_refusal link) layout _ whole.1 in
     let reached = met.1 in
-    let sizes = passed (sizes_refusal link reached.0) layout _ reached.2 in
+    let sizes = passed (sizes_refusal machine.sizes link reached.0) layout _ reached.2 in
     let placed = sizes.1 in
     let walk = passed (walk_refusal machine link reached.0 placed.0 placed.1) layout _ placed.3 in
     let joined = passed (joining_refusal link placed.1) layout _ walk.1 in
-    let segments = passed (segment_refusal link reached.0 placed.1) layout _ joined.1 in
+    let segments = passed (segment_refusal machine.sizes link reached.0 placed.1) layout _ joined.1 in
     let offsets = passed (offsets_refusal link reached.0) layout _ segments.1 in
-    let is : layout ≡ layout_of link reached.0 placed.1 = let given : Ok layout ≡ Ok (layout_of link reached.0 placed.1) = offsets.1 in cc in
+    let is : layout ≡ layout_of machine.sizes link reached.0 placed.1 = let given : Ok layout ≡ Ok (layout_of machine.sizes link reached.0 placed.1) = offsets.1 in cc in
     record {
       good = unrefused exactly link fault.0;
       carried = none_of not_carried (first_uncarried link) all.0;
@@ -92,8 +92,8 @@ laid_out exactly machine link layout defined =
       records = placed.1;
       is = placed.2;
       unrefused = none_of place_error (placement_refusal (setting machine link reached.0) placed.0 placed.1) walk.0;
-      covered = none_outside (first_outside link (section_records link.plan.sections placed.1) (is_emitted link (output_content link reached.0))) _
-          (none_of place_error (segments_refusal FromSections link (section_records link.plan.sections placed.1) (is_emitted link (output_content link reached.0)) (active_segments link (output_content link reached.0))) segments.0);
+      covered = none_outside (first_outside link (section_records link.plan.sections placed.1) (is_emitted link (output_content machine.sizes link reached.0))) _
+          (none_of place_error (segments_refusal FromSections link (section_records link.plan.sections placed.1) (is_emitted link (output_content machine.sizes link reached.0)) (active_segments link (output_content machine.sizes link reached.0))) segments.0);
       inside = none_first (merge_offsets link reached.0) (none_of offset_error (slice_get (merge_offsets link reached.0) 0) offsets.0);
       same = is;
     }

@@ -33,7 +33,7 @@ use Rattle.lk_merge.specs.Pieces.{MergeInput, is_terminated}
 use Rattle.lk_merge.proofs.AddressLemmas.{starts_at}
 use Rattle.lk_merge.proofs.SymbolPlaces.{is_input, output_at, symbol_numbered}
 use Rattle.lk_sizes.specs.Images.{image_addresses}
-use Rattle.lk_sizes.specs.Owners.{live_address}
+use Rattle.lk_sizes.specs.PartOwners.{live_address}
 use Rattle.lk_layout.specs.declared.layout.Layout.{Layout}
 use Rattle.lk_layout.specs.declared.outside.MergeOffsetPlace.{MergeOffsetPlace}
 use Rattle.lk_layout.specs.declared.outside.MergeOffsetPlace.TheVariants.{OfSymbol}
@@ -146,21 +146,21 @@ named_symbols_show machine link layout laid id file i offset section there r pla
     let among = is_input link place.number t input at_input merged output.0 in
     let at_t = output_at link t output.1 in
     let n : ℕ = offset_place fnv64 inputs y offset in
-    let images : ℕ → ℕ = images_at link live starts in
+    let images : ℕ → ℕ = images_at machine.sizes link live starts in
     let address : ℕ = images t + n in
     let found : address_in link images place offset ≡ Some address = ap (λ b. cond b (Some address) None) (lt-ltb offset (length section.bytes) inside) in
-    let places : Places = places_of link live starts in
+    let places : Places = places_of machine.sizes link live starts in
     let none : places.live (first + i) offset ≡ None
-    = ap (λ b. if b then option_map (λ z. live_address link (output_content link live) starts z + offset) (slice_get (all_inputs groups) (first + i)) else None) (not_live link live (first + i) input laid.are_live at_input merged) in
+    = ap (λ b. if b then option_map (λ z. live_address link (output_content machine.sizes link live) starts z + offset) (slice_get (all_inputs groups) (first + i)) else None) (not_live link live (first + i) input laid.are_live at_input merged) in
     let value : unwrap_or (places.live (first + i) offset) (places.merged number) ≡ address
     = ap (λ (o : Option ℕ). unwrap_or o (places.merged number)) none
     ∙ ap (λ (o : Option MergePlace). option_map_or (value_at link images) o 0) is
     ∙ ap (λ (o : Option ℕ). unwrap_or o 0) found in
     let read : resolution_at layout.symbol_resolutions number ≡ resolution_of places live.flags first (number, x)
-    = ap (λ (l : Layout). resolution_at l.symbol_resolutions number) laid.same ∙ resolution_is link live starts id file r.index x there r.object r.there in
+    = ap (λ (l : Layout). resolution_at l.symbol_resolutions number) laid.same ∙ resolution_is machine.sizes link live starts id file r.index x there r.object r.there in
     let image_is : image_start layout.merged_string_start_addresses t ≡ images t
     = ap (λ (l : Layout). image_start l.merged_string_start_addresses t) laid.same
-    ∙ starts_at (link_inputs link).outputs (image_addresses link (output_content link live) starts) t inputs at_t in
+    ∙ starts_at (link_inputs link).outputs (image_addresses link (output_content machine.sizes link live) starts) t inputs at_t in
     let terminated : list_all is_terminated inputs ≡ true = all_terminated link.options.bucket_limit 0 (link_inputs link).outputs t inputs laid.merged at_t in (
       address,
       ap (option_map (λ (z : Resolution). z.raw_value)) read ∙ value_of places live first number i offset address x r.resolved placed value,

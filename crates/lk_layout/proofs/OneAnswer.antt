@@ -6,7 +6,7 @@ use Rattle.lk_gc.specs.declared.live.Live.{Live}
 use Rattle.lk_gc.specs.Laws.{LiveExists, LiveIsOne}
 use Rattle.lk_gc.specs.Reach.{AreLive}
 use Rattle.lk_link.specs.declared.link.LinkInput.{LinkInput}
-use Rattle.lk_link.specs.TableSizes.{Machine}
+use Rattle.lk_link.specs.TableSizes.{Machine, TableSizes}
 use Rattle.lk_link.specs.WellFormed.{IsWellFormed}
 use Rattle.lk_place.specs.declared.cursors.Cursors.{Cursors}
 use Rattle.lk_place.specs.PlacementLaws.{PlacementExists, PlacementIsOne}
@@ -37,23 +37,23 @@ unless_exists : (refusal : Option LayoutError) (P : Result Layout LayoutError �
 unless_exists None P rest = rest refl
 unless_exists (Some e) P rest = (Err e, refl)
 
-placed_exists : (link : LinkInput) (live : Live) (records : List Record) → (answer : Result Layout LayoutError) × IsPlacedAnswer link live records answer
-placed_exists link live records =
-    unless_exists (joining_refusal link records) (λ a. Unless (segment_refusal link live records) a (Unless (offsets_refusal link live) a (a ≡ Ok (layout_of link live records)))) (λ fit.
-    unless_exists (segment_refusal link live records) (λ a. Unless (offsets_refusal link live) a (a ≡ Ok (layout_of link live records))) (λ none.
-    unless_exists (offsets_refusal link live) (λ a. a ≡ Ok (layout_of link live records)) (λ inside. (Ok (layout_of link live records), refl))))
+placed_exists : (sizes : TableSizes) (link : LinkInput) (live : Live) (records : List Record) → (answer : Result Layout LayoutError) × IsPlacedAnswer sizes link live records answer
+placed_exists sizes link live records =
+    unless_exists (joining_refusal link records) (λ a. Unless (segment_refusal sizes link live records) a (Unless (offsets_refusal link live) a (a ≡ Ok (layout_of sizes link live records)))) (λ fit.
+    unless_exists (segment_refusal sizes link live records) (λ a. Unless (offsets_refusal link live) a (a ≡ Ok (layout_of sizes link live records))) (λ none.
+    unless_exists (offsets_refusal link live) (λ a. a ≡ Ok (layout_of sizes link live records)) (λ inside. (Ok (layout_of sizes link live records), refl))))
 
 sized_exists : PlacementExists → (machine : Machine) (link : LinkInput) (live : Live) → IsWellFormed link → IsCarried link → (answer : Result Layout LayoutError) × IsSizedAnswer machine link live answer
 sized_exists placement machine link live good carried =
     let p = placement (setting machine link live) (ready machine link live good) in
-    let rest = unless_exists (walk_refusal machine link live p.0 p.1) (IsPlacedAnswer link live p.1) (λ none. placed_exists link live p.1) in
+    let rest = unless_exists (walk_refusal machine link live p.0 p.1) (IsPlacedAnswer machine.sizes link live p.1) (λ none. placed_exists machine.sizes link live p.1) in
     (rest.0, (p.0, p.1, p.2, rest.1))
 
 merged_exists : LiveExists → PlacementExists → (machine : Machine) (link : LinkInput) → IsWellFormed link → IsCarried link → (answer : Result Layout LayoutError) × IsMergedAnswer machine link answer
 merged_exists live placement machine link good carried =
     unless_exists (references_refusal link) (λ a. (l : Live) × AreLive link l × IsLiveAnswer machine link l a) (λ none.
     let l = live link good in
-    let rest = unless_exists (sizes_refusal link l.0) (IsSizedAnswer machine link l.0) (λ none. sized_exists placement machine link l.0 good carried) in
+    let rest = unless_exists (sizes_refusal machine.sizes link l.0) (IsSizedAnswer machine link l.0) (λ none. sized_exists placement machine link l.0 good carried) in
     (rest.0, (l.0, l.1, rest.1)))
 
 carried_exists : LiveExists → PlacementExists → (machine : Machine) (link : LinkInput) → IsWellFormed link → IsCarried link → (answer : Result Layout LayoutError) × IsCarriedAnswer machine link answer
@@ -73,14 +73,14 @@ unless_one : (refusal : Option LayoutError) (a b : Result Layout LayoutError) (P
 unless_one None a b P Q h g rest = rest refl h g
 unless_one (Some e) a b P Q h g rest = h ∙ sym g
 
-placed_one : (link : LinkInput) (live : Live) (records : List Record) (a b : Result Layout LayoutError) → IsPlacedAnswer link live records a → IsPlacedAnswer link live records b → a ≡ b
-placed_one link live records a b h g = unless_one (joining_refusal link records) a b _ _ h g (λ fit s t.
-    unless_one (segment_refusal link live records) a b _ _ s t (λ none x y.
+placed_one : (sizes : TableSizes) (link : LinkInput) (live : Live) (records : List Record) (a b : Result Layout LayoutError) → IsPlacedAnswer sizes link live records a → IsPlacedAnswer sizes link live records b → a ≡ b
+placed_one sizes link live records a b h g = unless_one (joining_refusal link records) a b _ _ h g (λ fit s t.
+    unless_one (segment_refusal sizes link live records) a b _ _ s t (λ none x y.
     unless_one (offsets_refusal link live) a b _ _ x y (λ inside u v. u ∙ sym v)))
 
 -- where the states and the records are the same, so is what comes behind
 abbrev Behind : Machine → LinkInput → Live → Result Layout LayoutError → List Cursors → List Record → Type 0
-Behind machine link live answer states records = Unless (walk_refusal machine link live states records) answer (IsPlacedAnswer link live records answer)
+Behind machine link live answer states records = Unless (walk_refusal machine link live states records) answer (IsPlacedAnswer machine.sizes link live records answer)
 
 sized_one : PlacementIsOne → (machine : Machine) (link : LinkInput) (live : Live) (a b : Result Layout LayoutError) → IsWellFormed link
     → IsSizedAnswer machine link live a → IsSizedAnswer machine link live b → a ≡ b
@@ -88,7 +88,7 @@ sized_one placement machine link live a b good h g =
     let one = placement (setting machine link live) h.0 g.0 h.1 g.1 (ready machine link live good) h.2 g.2 in
     let moved : Behind machine link live a g.0 h.1 = subst (λ states. Behind machine link live a states h.1) one.0 h.3 in
     let there : Behind machine link live a g.0 g.1 = subst (λ records. Behind machine link live a g.0 records) one.1 moved in
-    unless_one (walk_refusal machine link live g.0 g.1) a b _ _ there g.3 (λ none x y. placed_one link live g.1 a b x y)
+    unless_one (walk_refusal machine link live g.0 g.1) a b _ _ there g.3 (λ none x y. placed_one machine.sizes link live g.1 a b x y)
 
 merged_one : LiveIsOne → PlacementIsOne → (machine : Machine) (link : LinkInput) (a b : Result Layout LayoutError) → IsWellFormed link
     → IsMergedAnswer machine link a → IsMergedAnswer machine link b → a ≡ b
@@ -96,7 +96,7 @@ merged_one live placement machine link a b good h g =
     unless_one (references_refusal link) a b _ _ h g (λ met x y.
     let one : x.0 ≡ y.0 = live link x.0 y.0 x.1 y.1 in
     let there : IsLiveAnswer machine link y.0 a = subst (λ l. IsLiveAnswer machine link l a) one x.2 in
-    unless_one (sizes_refusal link y.0) a b _ _ there y.2 (λ none u v. sized_one placement machine link y.0 a b good u v))
+    unless_one (sizes_refusal machine.sizes link y.0) a b _ _ there y.2 (λ none u v. sized_one placement machine link y.0 a b good u v))
 
 carried_one : LiveIsOne → PlacementIsOne → (machine : Machine) (link : LinkInput) (a b : Result Layout LayoutError) → IsWellFormed link
     → IsCarriedAnswer machine link a → IsCarriedAnswer machine link b → a ≡ b

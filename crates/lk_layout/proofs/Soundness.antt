@@ -14,7 +14,7 @@ use Rattle.lk_link.specs.declared.link.LinkInput.{LinkInput}
 use Rattle.lk_link.specs.declared.plan.PlanPart.{PlanPart}
 use Rattle.lk_link.specs.Inputs.{Input}
 use Rattle.lk_link.specs.Parts.{all_parts, part_at}
-use Rattle.lk_link.specs.TableSizes.{Machine}
+use Rattle.lk_link.specs.TableSizes.{Machine, TableSizes}
 use Rattle.lk_link.specs.WellFormed.{IsWellFormed}
 use Rattle.lk_place.specs.Laws.{FileRangesAreDisjoint, IsSoundlySet, KeepAlignments, MemoryRangesAreDisjoint, PlainMemoryIsCongruent, PlainMemoryIsDisjoint, RecordsKeepAlignments}
 use Rattle.lk_place.specs.PlacementLaws.{PartsTakeTheirBytes, RefusedExactlyPast}
@@ -24,7 +24,8 @@ use Rattle.lk_place.specs.Records.{Record, nowhere, record_at}
 use Rattle.lk_place.specs.Segments.{alignment_inside}
 use Rattle.lk_sizes.specs.declared.addresses.LiveSection.{LiveSection}
 use Rattle.lk_sizes.specs.Addresses.{live_section, live_sections}
-use Rattle.lk_sizes.specs.Owners.{LiveSectionsAreOwners, Owner, SectionOwner, bytes_of, owner_address, owner_number, owners_of, part_size}
+use Rattle.lk_sizes.specs.Owners.{Owner, SectionOwner, bytes_of, owner_address}
+use Rattle.lk_sizes.specs.PartOwners.{LiveSectionsAreOwners, owner_number, owners_of, part_size}
 use Rattle.lk_sizes.specs.Tiles.{HasByte, IsTiled, OwnersAreAligned, OwnersTileTheirPart}
 use Rattle.lk_sizes.proofs.Numbering.{table_tells_live_sections}
 use Rattle.lk_sizes.proofs.LiveOnes.{Differ, Pairwise, live_differ, live_goes, live_good}
@@ -54,59 +55,59 @@ use Rattle.lk_layout.specs.OutputContent.{output_content}
 parts_are : (machine : Machine) (link : LinkInput) (layout : Layout) (laid : IsLaidOut machine link layout) → layout.section_part_layouts ≡ laid.records
 parts_are machine link layout laid = ap (λ (l : Layout). l.section_part_layouts) laid.same
 
-shown : (machine : Machine) (link : LinkInput) (layout : Layout) (laid : IsLaidOut machine link layout) → told_live link layout ≡ live_sections link (output_content link laid.live) (starts_of layout.section_part_layouts)
+shown : (machine : Machine) (link : LinkInput) (layout : Layout) (laid : IsLaidOut machine link layout) → told_live link layout ≡ live_sections link (output_content machine.sizes link laid.live) (starts_of layout.section_part_layouts)
 shown machine link layout laid =
-    ap (told_live link) laid.same ∙ table_tells_live_sections link (output_content link laid.live) (starts_of laid.records)
-    ∙ ap (λ (rs : List Record). live_sections link (output_content link laid.live) (starts_of rs)) (sym (parts_are machine link layout laid))
+    ap (told_live link) laid.same ∙ table_tells_live_sections link (output_content machine.sizes link laid.live) (starts_of laid.records)
+    ∙ ap (λ (rs : List Record). live_sections link (output_content machine.sizes link laid.live) (starts_of rs)) (sym (parts_are machine link layout laid))
 
 resolved : (machine : Machine) (link : LinkInput) (layout : Layout) (laid : IsLaidOut machine link layout)
-    → layout.symbol_resolutions ≡ symbol_resolutions link laid.live (starts_of layout.section_part_layouts)
+    → layout.symbol_resolutions ≡ symbol_resolutions machine.sizes link laid.live (starts_of layout.section_part_layouts)
 resolved machine link layout laid =
     ap (λ (l : Layout). l.symbol_resolutions) laid.same
-    ∙ ap (λ (rs : List Record). symbol_resolutions link laid.live (starts_of rs)) (sym (parts_are machine link layout laid))
+    ∙ ap (λ (rs : List Record). symbol_resolutions machine.sizes link laid.live (starts_of rs)) (sym (parts_are machine link layout laid))
 
 -- what is told of the outputs
-outputs_told : (machine : Machine) (link : LinkInput) (layout : Layout) (laid : IsLaidOut machine link layout) → AreOutputsTold link laid.live layout
+outputs_told : (machine : Machine) (link : LinkInput) (layout : Layout) (laid : IsLaidOut machine link layout) → AreOutputsTold machine.sizes link laid.live layout
 outputs_told machine link layout laid =
-    subst (AreOutputsTold link laid.live) (sym laid.same)
+    subst (AreOutputsTold machine.sizes link laid.live) (sym laid.same)
     (record { sections = refl; joined = refl; attributes = refl; indexes = refl; segments = refl; thread_local = refl; covered = laid.covered })
 
 -- the owners of each part share it out
 shared_out : OwnersTileTheirPart → PartsTakeTheirBytes → (machine : Machine) (link : LinkInput) (layout : Layout) (laid : IsLaidOut machine link layout) (p : ℕ) → p < length (all_parts link.plan.sections)
-    → IsSharedOut link laid.live layout p
+    → IsSharedOut machine.sizes link laid.live layout p
 shared_out tile mass machine link layout laid p within = record {
   whole = ap (λ rs. (record_at rs p).mem_size) (parts_are machine link layout laid)
       ∙ takes mass machine link laid.live laid.states laid.records laid.good laid.is laid.unrefused p (omega (arith, within, laid.is.each));
-  tiled = tile link (output_content link laid.live) p (part_record layout p).mem_offset;
+  tiled = tile link (output_content machine.sizes link laid.live) p (part_record layout p).mem_offset;
 }
 
 -- ---- one live section
 
 -- a live section that is told stands among the owners of its part
-record Stands (link : LinkInput) (live : Live) (layout : Layout) (x : Input) (l : LiveSection) : Type 0 where
-  address : l.address ≡ owner_address (part_record layout x.section.part).mem_offset (part_at link.plan.sections x.section.part) (owners_of link (output_content link live) x.section.part) (owner_number link (output_content link live) x)
+record Stands (sizes : TableSizes) (link : LinkInput) (live : Live) (layout : Layout) (x : Input) (l : LiveSection) : Type 0 where
+  address : l.address ≡ owner_address (part_record layout x.section.part).mem_offset (part_at link.plan.sections x.section.part) (owners_of link (output_content sizes link live) x.section.part) (owner_number link (output_content sizes link live) x)
   size : l.size ≡ x.section.size
-  owner : slice_get (owners_of link (output_content link live) x.section.part) (owner_number link (output_content link live) x) ≡ Some (SectionOwner x x.section.size)
+  owner : slice_get (owners_of link (output_content sizes link live) x.section.part) (owner_number link (output_content sizes link live) x) ≡ Some (SectionOwner x x.section.size)
 
-stands : LiveSectionsAreOwners → (link : LinkInput) (live : Live) (layout : Layout) (a : ℕ) (x : Input) (l : LiveSection)
-    → told_live link layout ≡ live_sections link (output_content link live) (starts_of layout.section_part_layouts) → IsTold link live layout a x l → Stands link live layout x l
-stands owners link live layout a x l is told =
+stands : LiveSectionsAreOwners → (sizes : TableSizes) (link : LinkInput) (live : Live) (layout : Layout) (a : ℕ) (x : Input) (l : LiveSection)
+    → told_live link layout ≡ live_sections link (output_content sizes link live) (starts_of layout.section_part_layouts) → IsTold link live layout a x l → Stands sizes link live layout x l
+stands owners sizes link live layout a x l is told =
     let records : List Record = layout.section_part_layouts in
-    let made : slice_get (live_sections link (output_content link live) (starts_of records)) a ≡ Some (live_section link (output_content link live) (starts_of records) x) = map_in (live_section link (output_content link live) (starts_of records)) (live_inputs link live) a x told.there in
-    let here : Some l ≡ Some (live_section link (output_content link live) (starts_of records) x) = sym told.told ∙ ap (λ (ls : List LiveSection). slice_get ls a) is ∙ made in
-    let same : l ≡ live_section link (output_content link live) (starts_of records) x = cc in
+    let made : slice_get (live_sections link (output_content sizes link live) (starts_of records)) a ≡ Some (live_section link (output_content sizes link live) (starts_of records) x) = map_in (live_section link (output_content sizes link live) (starts_of records)) (live_inputs link live) a x told.there in
+    let here : Some l ≡ Some (live_section link (output_content sizes link live) (starts_of records) x) = sym told.told ∙ ap (λ (ls : List LiveSection). slice_get ls a) is ∙ made in
+    let same : l ≡ live_section link (output_content sizes link live) (starts_of records) x = cc in
     let start : slice_index (starts_of records) x.section.part ≡ (record_at records x.section.part).mem_offset = lists.get_or-map (λ (r : Record). r.mem_offset) records x.section.part nowhere in
     record {
       address = ap (λ (m : LiveSection). m.address) same
-          ∙ ap (λ (n : ℕ). owner_address n (part_at link.plan.sections x.section.part) (owners_of link (output_content link live) x.section.part) (owner_number link (output_content link live) x)) start;
+          ∙ ap (λ (n : ℕ). owner_address n (part_at link.plan.sections x.section.part) (owners_of link (output_content sizes link live) x.section.part) (owner_number link (output_content sizes link live) x)) start;
       size = ap (λ (m : LiveSection). m.size) same;
-      owner = owners link (output_content link live) x (contains_at (live_inputs link live) a x told.there);
+      owner = owners link (output_content sizes link live) x (contains_at (live_inputs link live) a x told.there);
     }
 
 -- the bytes of a live section are its owner's
-has_byte : (link : LinkInput) (live : Live) (layout : Layout) (x : Input) (l : LiveSection) (address : ℕ) → Stands link live layout x l → IsInSection address l
-    → HasByte (part_record layout x.section.part).mem_offset (part_at link.plan.sections x.section.part) (owners_of link (output_content link live) x.section.part) (owner_number link (output_content link live) x) address
-has_byte link live layout x l address s here = record {
+has_byte : (sizes : TableSizes) (link : LinkInput) (live : Live) (layout : Layout) (x : Input) (l : LiveSection) (address : ℕ) → Stands sizes link live layout x l → IsInSection address l
+    → HasByte (part_record layout x.section.part).mem_offset (part_at link.plan.sections x.section.part) (owners_of link (output_content sizes link live) x.section.part) (owner_number link (output_content sizes link live) x) address
+has_byte sizes link live layout x l address s here = record {
   owner = SectionOwner x x.section.size;
   there = s.owner;
   from = omega (arith, s.address, here.begins);
@@ -135,38 +136,38 @@ one_owner link live a b x y other at_a at_b same =
       | inr more ↦ differ_at xs b a y x (live_differ link live) (omega (arith, other)) at_b at_a (ap (λ (z : Input). z.file) (sym same)) (ap (λ (z : Input). z.index) (sym same))
     ]
 
-sections_apart : LiveSectionsAreOwners → (link : LinkInput) (live : Live) (layout : Layout) → IsWellFormed link → AreLive link live
-    → told_live link layout ≡ live_sections link (output_content link live) (starts_of layout.section_part_layouts)
-    → ((p : ℕ) → p < length (all_parts link.plan.sections) → IsSharedOut link live layout p)
+sections_apart : LiveSectionsAreOwners → (sizes : TableSizes) (link : LinkInput) (live : Live) (layout : Layout) → IsWellFormed link → AreLive link live
+    → told_live link layout ≡ live_sections link (output_content sizes link live) (starts_of layout.section_part_layouts)
+    → ((p : ℕ) → p < length (all_parts link.plan.sections) → IsSharedOut sizes link live layout p)
     → MemoryIsDisjoint link.plan layout.section_part_layouts → LiveSectionsAreApart link live layout
-sections_apart owners link live layout good are_live is shared memory a b address x y l m other told_a told_b memory_a memory_b here there =
+sections_apart owners sizes link live layout good are_live is shared memory a b address x y l m other told_a told_b memory_a memory_b here there =
     let p : ℕ = x.section.part in
     let q : ℕ = y.section.part in
-    let first = has_byte link live layout x l address (stands owners link live layout a x l is told_a) here in
-    let second = has_byte link live layout y m address (stands owners link live layout b y m is told_b) there in
+    let first = has_byte sizes link live layout x l address (stands owners sizes link live layout a x l is told_a) here in
+    let second = has_byte sizes link live layout y m address (stands owners sizes link live layout b y m is told_b) there in
     let of_p = shared p (live_goes link live a x good are_live told_a.there) in
     let of_q = shared q (live_goes link live b y good are_live told_b.there) in
-    let in_p = of_p.tiled.inside (owner_number link (output_content link live) x) address first in
-    let in_q = of_q.tiled.inside (owner_number link (output_content link live) y) address second in
+    let in_p = of_p.tiled.inside (owner_number link (output_content sizes link live) x) address first in
+    let in_q = of_q.tiled.inside (owner_number link (output_content sizes link live) y) address second in
     elim (eqb_tells p q) [
       | inr miss ↦ memory p q address miss.1 memory_a memory_b
           (record { begins = in_p.0; ends = omega (arith, in_p.1, of_p.whole) }) (record { begins = in_q.0; ends = omega (arith, in_q.1, of_q.whole) })
       | inl hit ↦
-          let owned : ℕ → ℕ → Type 0 = λ r k. HasByte (part_record layout r).mem_offset (part_at link.plan.sections r) (owners_of link (output_content link live) r) k address in
-          let beside : owned p (owner_number link (output_content link live) y) = subst (λ r. owned r (owner_number link (output_content link live) y)) (sym hit.1) second in
-          let number : owner_number link (output_content link live) x ≡ owner_number link (output_content link live) y = of_p.tiled.apart (owner_number link (output_content link live) x) (owner_number link (output_content link live) y) address first beside in
-          let mine : slice_get (owners_of link (output_content link live) p) (owner_number link (output_content link live) x) ≡ Some (SectionOwner x x.section.size) = (stands owners link live layout a x l is told_a).owner in
-          let yours : slice_get (owners_of link (output_content link live) q) (owner_number link (output_content link live) y) ≡ Some (SectionOwner y y.section.size) = (stands owners link live layout b y m is told_b).owner in
+          let owned : ℕ → ℕ → Type 0 = λ r k. HasByte (part_record layout r).mem_offset (part_at link.plan.sections r) (owners_of link (output_content sizes link live) r) k address in
+          let beside : owned p (owner_number link (output_content sizes link live) y) = subst (λ r. owned r (owner_number link (output_content sizes link live) y)) (sym hit.1) second in
+          let number : owner_number link (output_content sizes link live) x ≡ owner_number link (output_content sizes link live) y = of_p.tiled.apart (owner_number link (output_content sizes link live) x) (owner_number link (output_content sizes link live) y) address first beside in
+          let mine : slice_get (owners_of link (output_content sizes link live) p) (owner_number link (output_content sizes link live) x) ≡ Some (SectionOwner x x.section.size) = (stands owners sizes link live layout a x l is told_a).owner in
+          let yours : slice_get (owners_of link (output_content sizes link live) q) (owner_number link (output_content sizes link live) y) ≡ Some (SectionOwner y y.section.size) = (stands owners sizes link live layout b y m is told_b).owner in
           let both : Some (SectionOwner x x.section.size) ≡ Some (SectionOwner y y.section.size)
-          = sym mine ∙ ap (λ (r : ℕ). slice_get (owners_of link (output_content link live) r) (owner_number link (output_content link live) x)) hit.1 ∙ ap (slice_get (owners_of link (output_content link live) q)) number ∙ yours in
+          = sym mine ∙ ap (λ (r : ℕ). slice_get (owners_of link (output_content sizes link live) r) (owner_number link (output_content sizes link live) x)) hit.1 ∙ ap (slice_get (owners_of link (output_content sizes link live) q)) number ∙ yours in
           let same : x ≡ y = cc in
           one_owner link live a b x y other told_a.there told_b.there same
     ]
 
 -- no two owners have a byte together
-owners_apart : (link : LinkInput) (live : Live) (layout : Layout) → ((p : ℕ) → p < length (all_parts link.plan.sections) → IsSharedOut link live layout p)
-    → MemoryIsDisjoint link.plan layout.section_part_layouts → OwnersAreApart link live layout
-owners_apart link live layout shared memory p q j k address below_p below_q memory_p memory_q first second =
+owners_apart : (sizes : TableSizes) (link : LinkInput) (live : Live) (layout : Layout) → ((p : ℕ) → p < length (all_parts link.plan.sections) → IsSharedOut sizes link live layout p)
+    → MemoryIsDisjoint link.plan layout.section_part_layouts → OwnersAreApart sizes link live layout
+owners_apart sizes link live layout shared memory p q j k address below_p below_q memory_p memory_q first second =
     let of_p = shared p below_p in
     let of_q = shared q below_q in
     let in_p = of_p.tiled.inside j address first in
@@ -175,7 +176,7 @@ owners_apart link live layout shared memory p q j k address below_p below_q memo
       | inr miss ↦ absurd (memory p q address miss.1 memory_p memory_q
           (record { begins = in_p.0; ends = omega (arith, in_p.1, of_p.whole) }) (record { begins = in_q.0; ends = omega (arith, in_q.1, of_q.whole) }))
       | inl hit ↦
-          let owned : ℕ → ℕ → Type 0 = λ r i. HasByte (part_record layout r).mem_offset (part_at link.plan.sections r) (owners_of link (output_content link live) r) i address in
+          let owned : ℕ → ℕ → Type 0 = λ r i. HasByte (part_record layout r).mem_offset (part_at link.plan.sections r) (owners_of link (output_content sizes link live) r) i address in
           (hit.1, of_p.tiled.apart j k address first (subst (λ r. owned r k) (sym hit.1) second))
     ]
 
@@ -192,16 +193,16 @@ sections_aligned : OwnersTileTheirPart → OwnersAreAligned → LiveSectionsAreO
 sections_aligned tile aligned owners machine link layout laid a x l told some unpacked =
     let live : Live = laid.live in
     let p : ℕ = x.section.part in
-    let s : Stands link live layout x l = stands owners link live layout a x l (shown machine link layout laid) told in
+    let s : Stands machine.sizes link live layout x l = stands owners machine.sizes link live layout a x l (shown machine link layout laid) told in
     let within : p < length (all_parts link.plan.sections) = live_goes link live a x laid.good laid.are_live told.there in
-    let byte = has_byte link live layout x l l.address s (record { begins = omega arith; ends = omega (arith, some) }) in
-    let bytes : 0 < part_size link (output_content link live) p = owner_within (part_at link.plan.sections p) (part_record layout p).mem_offset (owners_of link (output_content link live) p) (owner_number link (output_content link live) x) l.address (tile link (output_content link live) p (part_record layout p).mem_offset) byte in
-    let size : slice_index_or (setting machine link live).sizes p 0 ≡ part_size link (output_content link live) p = size_of link live p within in
+    let byte = has_byte machine.sizes link live layout x l l.address s (record { begins = omega arith; ends = omega (arith, some) }) in
+    let bytes : 0 < part_size link (output_content machine.sizes link live) p = owner_within (part_at link.plan.sections p) (part_record layout p).mem_offset (owners_of link (output_content machine.sizes link live) p) (owner_number link (output_content machine.sizes link live) x) l.address (tile link (output_content machine.sizes link live) p (part_record layout p).mem_offset) byte in
+    let size : slice_index_or (setting machine link live).sizes p 0 ≡ part_size link (output_content machine.sizes link live) p = size_of machine.sizes link live p within in
     let begins : (part_at link.plan.sections p).alignment ∣ (record_at laid.records p).mem_offset
     = part_starts machine link live laid.states laid.records p laid.good laid.is laid.unrefused within (omega (arith, bytes, size)) in
     let record_is : (record_at laid.records p).mem_offset ≡ (part_record layout p).mem_offset = ap (λ rs. (record_at rs p).mem_offset) (sym (parts_are machine link layout laid)) in
     subst (λ n. (part_at link.plan.sections p).alignment ∣ n) (sym s.address)
-    (dvd-add (part_at link.plan.sections p).alignment (subst (λ n. (part_at link.plan.sections p).alignment ∣ n) record_is begins) (aligned link (output_content link live) p (owner_number link (output_content link live) x) laid.good (live_good link live a x laid.good laid.are_live told.there).1.to_no_table unpacked))
+    (dvd-add (part_at link.plan.sections p).alignment (subst (λ n. (part_at link.plan.sections p).alignment ∣ n) record_is begins) (aligned link (output_content machine.sizes link live) p (owner_number link (output_content machine.sizes link live) x) laid.good (live_good link live a x laid.good laid.are_live told.there).1.to_no_table unpacked))
 
 -- ---- the laws
 
@@ -225,7 +226,7 @@ congruent in_step keep machine link layout laid lawful plain i s k p places back
 
 -- what is laid out is sound
 is_sound : OwnersTileTheirPart → OwnersAreAligned → LiveSectionsAreOwners → PartsTakeTheirBytes → RefusedExactlyPast → FileRangesAreDisjoint → PlainMemoryIsDisjoint → PlainMemoryIsCongruent → RecordsKeepAlignments
-    → (machine : Machine) (link : LinkInput) (layout : Layout) (laid : IsLaidOut machine link layout) → IsLawfulMachine machine → IsSound link laid.live layout
+    → (machine : Machine) (link : LinkInput) (layout : Layout) (laid : IsLaidOut machine link layout) → IsLawfulMachine machine → IsSound machine.sizes link laid.live layout
 is_sound tile aligned owners mass refused file memory in_step keep machine link layout laid lawful =
     let records : List Record = layout.section_part_layouts in
     record {
@@ -240,7 +241,7 @@ is_sound tile aligned owners mass refused file memory in_step keep machine link 
       inside = laid.inside;
       resolved = resolved machine link layout laid;
       placed = resolved_sections_are_live link laid.live laid.good laid.are_live laid.met;
-      valued = values_are_in_live_sections link laid.live layout (starts_of records) (shown machine link layout laid) (resolved machine link layout laid)
+      valued = values_are_in_live_sections machine.sizes link laid.live layout (starts_of records) (shown machine link layout laid) (resolved machine link layout laid)
           (resolved_sections_are_live link laid.live laid.good laid.are_live laid.met);
       commons = commons_stand tile aligned machine link layout laid (resolved machine link layout laid);
       entered = ap (λ (l : Layout). l.entry_symbol_id) laid.same;
@@ -254,8 +255,8 @@ is_sound tile aligned owners mass refused file memory in_step keep machine link 
           (memory (setting machine link laid.live) laid.states laid.records (soundly_set machine link layout laid lawful) plain) in
           record {
             disjoint = disjoint;
-            apart = sections_apart owners link laid.live layout laid.good laid.are_live (shown machine link layout laid) (shared_out tile mass machine link layout laid) disjoint;
-            owners = owners_apart link laid.live layout (shared_out tile mass machine link layout laid) disjoint;
+            apart = sections_apart owners machine.sizes link laid.live layout laid.good laid.are_live (shown machine link layout laid) (shared_out tile mass machine link layout laid) disjoint;
+            owners = owners_apart machine.sizes link laid.live layout (shared_out tile mass machine link layout laid) disjoint;
             congruent = congruent in_step keep machine link layout laid lawful plain;
           };
     }
@@ -278,6 +279,6 @@ pub laid_out_apart : WellFormedExactlyUnfaulted → LiveSectionsAreOwners → De
 laid_out_apart exactly owners sound disjoint machine link layout placeable lawful defined =
     let good : IsWellFormed link = (laid_out exactly machine link layout defined).good in
     let found = sound machine link layout lawful defined in
-    let is : IsSound link found.0 layout = found.1 in
+    let is : IsSound machine.sizes link found.0 layout = found.1 in
     let memory : MemoryIsDisjoint link.plan layout.section_part_layouts = disjoint machine link layout placeable lawful defined in
-    (found.0, is, sections_apart owners link found.0 layout good is.reached is.shown is.shared memory, owners_apart link found.0 layout is.shared memory)
+    (found.0, is, sections_apart owners machine.sizes link found.0 layout good is.reached is.shown is.shared memory, owners_apart machine.sizes link found.0 layout is.shared memory)

@@ -22,7 +22,7 @@ use Rattle.lk_gc.specs.declared.live.Live.{Live}
 use Rattle.lk_gc.specs.Reach.{live_inputs}
 use Rattle.lk_sizes.specs.declared.addresses.LiveSection.{LiveSection}
 use Rattle.lk_sizes.specs.Addresses.{live_section, live_sections}
-use Rattle.lk_sizes.specs.Owners.{live_address}
+use Rattle.lk_sizes.specs.PartOwners.{live_address}
 use Rattle.lk_layout.specs.declared.layout.Layout.{Layout}
 use Rattle.lk_layout.specs.declared.resolution.Resolution.{Resolution}
 use Rattle.lk_layout.specs.Layouts.{told_live}
@@ -30,6 +30,7 @@ use Rattle.lk_layout.specs.OutputContent.{output_content}
 use Rattle.lk_layout.specs.Resolutions.{Places, address_at, places_of, file_resolutions, flags_at, has_resolutions, is_resolved, placed_value, resolution_at, resolution_of, symbol_resolutions}
 use Rattle.lk_layout.specs.Sound.{SymbolsStandInLiveSections, ValuesAreInLiveSections}
 use Rattle.lk_layout.proofs.Placing.{marked_in}
+use Rattle.lk_link.specs.TableSizes.{TableSizes}
 
 -- ---- the resolution of a file's symbol
 
@@ -44,12 +45,12 @@ as_many places link live f =
     ]
 
 -- it stands there behind those of the files before
-pub resolution_is : (link : LinkInput) (live : Live) (starts : List ℕ) (id : FileId) (file : InputFile) (k : ℕ) (x : InputSymbol) → file_in link.groups id ≡ Some file → is_object file.kind ≡ true
-    → slice_get file.symbols k ≡ Some x → resolution_at (symbol_resolutions link live starts) (first_symbol link.groups id + k)
-    ≡ resolution_of (places_of link live starts) live.flags (first_input link.groups id) (first_symbol link.groups id + k, x)
-resolution_is link live starts id file k x there object at_k =
+pub resolution_is : (sizes : TableSizes) (link : LinkInput) (live : Live) (starts : List ℕ) (id : FileId) (file : InputFile) (k : ℕ) (x : InputSymbol) → file_in link.groups id ≡ Some file → is_object file.kind ≡ true
+    → slice_get file.symbols k ≡ Some x → resolution_at (symbol_resolutions sizes link live starts) (first_symbol link.groups id + k)
+    ≡ resolution_of (places_of sizes link live starts) live.flags (first_input link.groups id) (first_symbol link.groups id + k, x)
+resolution_is sizes link live starts id file k x there object at_k =
     let groups = link.groups in
-    let place : Places = places_of link live starts in
+    let place : Places = places_of sizes link live starts in
     let f : NumberedFile = record { id = id; file = file } in
     let n : ℕ = file_number groups id in
     let files : List NumberedFile = numbered_files groups in
@@ -67,7 +68,7 @@ resolution_is link live starts id file k x there object at_k =
     let here : slice_get (of_file f) k ≡ Some (one (first + k, x))
     = ap (λ b. slice_get (if b || is_dynamic file.kind then map one (enumerate_from first file.symbols) else map (λ _. None) file.symbols) k) object
     ∙ map_in one (enumerate_from first file.symbols) k (first + k, x) (numbered_get first file.symbols k x at_k) in
-    ap (λ (m : ℕ). resolution_at (symbol_resolutions link live starts) (m + k)) (sym before)
+    ap (λ (m : ℕ). resolution_at (symbol_resolutions sizes link live starts) (m + k)) (sym before)
     ∙ get_or-flat_map of_file files n k f None (slice_get_within files n f at_f) within
     ∙ ap (λ (g : NumberedFile). get_or (of_file g) k None) is_f
     ∙ get_or_from_slice_get (of_file f) k (one (first + k, x)) None here
@@ -83,10 +84,10 @@ value_of places live first s i offset address x resolved stands is =
     ap (λ b. option_map (λ (r : Resolution). r.raw_value) (if b then made (placed_value places first s x.at) else None)) resolved
     ∙ ap (λ (n : ℕ). Some n) value
 
-pub values_are_in_live_sections : (link : LinkInput) (live : Live) (layout : Layout) (starts : List ℕ) → told_live link layout ≡ live_sections link (output_content link live) starts
-    → layout.symbol_resolutions ≡ symbol_resolutions link live starts → SymbolsStandInLiveSections link live → ValuesAreInLiveSections link live layout
-values_are_in_live_sections link live layout starts shown resolved placed id file i offset section there s stands at_i unmerged =
-    let content = output_content link live in
+pub values_are_in_live_sections : (sizes : TableSizes) (link : LinkInput) (live : Live) (layout : Layout) (starts : List ℕ) → told_live link layout ≡ live_sections link (output_content sizes link live) starts
+    → layout.symbol_resolutions ≡ symbol_resolutions sizes link live starts → SymbolsStandInLiveSections link live → ValuesAreInLiveSections link live layout
+values_are_in_live_sections sizes link live layout starts shown resolved placed id file i offset section there s stands at_i unmerged =
+    let content = output_content sizes link live in
     let x : Input = record { file = id; index = i; section = section } in
     let k : ℕ = input_number link.groups id i in
     let number : ℕ = first_symbol link.groups id + s.index in
@@ -97,13 +98,13 @@ values_are_in_live_sections link live layout starts shown resolved placed id fil
     let told : slice_get (told_live link layout) among.0 ≡ Some (live_section link content starts x)
     = ap (λ (ls : List LiveSection). slice_get ls among.0) shown ∙ map_in (live_section link content starts) (live_inputs link live) among.0 x among.1 in
     let shift : Input → ℕ = λ y. live_address link content starts y + offset in
-    let address : address_at link live starts k offset ≡ Some (live_address link content starts x + offset)
+    let address : address_at sizes link live starts k offset ≡ Some (live_address link content starts x + offset)
     = ap (λ b. if b then option_map shift (slice_get (all_inputs link.groups) k) else None) set ∙ ap (option_map shift) at_k in
-    let places : Places = places_of link live starts in
+    let places : Places = places_of sizes link live starts in
     let one : Option Resolution = resolution_of places live.flags first (number, s.symbol) in
     let read : resolution_at layout.symbol_resolutions number ≡ one
     = ap (λ (rs : List (Option Resolution)). resolution_at rs number) resolved
-    ∙ resolution_is link live starts id file s.index s.symbol there s.object s.there in (
+    ∙ resolution_is sizes link live starts id file s.index s.symbol there s.object s.there in (
       live_section link content starts x,
       record { number = among.0; told = told; file = refl; index = refl },
       ap (option_map (λ (r : Resolution). r.raw_value)) read

@@ -1,7 +1,7 @@
 -- The one answer of a link: the first refusal, in the order in which they are looked for, else the layout.
 use Rattle.std.specs.Prelude.{◌≡◌, ℕ, List, [], ◌∷◌, Option, Some, None, map, option_map, slice_get, Result, Ok, Err}
 use Rattle.lk_link.specs.declared.link.LinkInput.{LinkInput}
-use Rattle.lk_link.specs.TableSizes.{Machine}
+use Rattle.lk_link.specs.TableSizes.{Machine, TableSizes}
 use Rattle.lk_check.specs.FirstFault.{first_fault}
 use Rattle.lk_gc.specs.declared.error.ReferenceFault.{ReferenceFault}
 use Rattle.lk_gc.specs.declared.live.Live.{Live}
@@ -22,7 +22,7 @@ use Rattle.lk_sizes.specs.Contents.{size_refusal}
 use Rattle.lk_sizes.specs.Emitted.{active_segments, is_emitted, output_index}
 use Rattle.lk_sizes.specs.Images.{image_addresses}
 use Rattle.lk_sizes.specs.Addresses.{section_addresses}
-use Rattle.lk_sizes.specs.Owners.{part_sizes}
+use Rattle.lk_sizes.specs.PartOwners.{part_sizes}
 use Rattle.lk_layout.specs.declared.error.LayoutError.{LayoutError}
 use Rattle.lk_layout.specs.declared.error.LayoutError.TheVariants.{NoMemory, NotCarried, References}
 use Rattle.lk_layout.specs.declared.error.Uncarried.{Uncarried}
@@ -66,13 +66,13 @@ abbrev pub offsets_refusal : LinkInput → Live → Option LayoutError
 offsets_refusal link live = option_map offset_error (slice_get (merge_offsets link live) 0)
 
 -- sizes past 64 bits
-abbrev pub sizes_refusal : LinkInput → Live → Option LayoutError
-sizes_refusal link live = option_map size_error (size_refusal link (output_content link live))
+abbrev pub sizes_refusal : TableSizes → LinkInput → Live → Option LayoutError
+sizes_refusal sizes link live = option_map size_error (size_refusal link (output_content sizes link live))
 
 -- what is placed, for which machine, with the bytes of the parts and of the headers; symbols' places aren't told yet, as nothing that is
 -- laid out asks for them
 abbrev pub setting : Machine → LinkInput → Live → Setting
-setting machine link live = setting_of link machine.target (part_sizes link (output_content link live)) (header_bytes machine link live) []
+setting machine link live = setting_of link machine.target (part_sizes link (output_content machine.sizes link live)) (header_bytes machine link live) []
 
 -- an event that can't be carried out
 abbrev pub walk_refusal : Machine → LinkInput → Live → List Cursors → List Record → Option LayoutError
@@ -83,9 +83,9 @@ abbrev pub joining_refusal : LinkInput → List Record → Option LayoutError
 joining_refusal link records = option_map place_error (merge_refusal link.plan.sections (section_records link.plan.sections records))
 
 -- a section outside the segments, or thread-local data that end past 64 bits
-abbrev pub segment_refusal : LinkInput → Live → List Record → Option LayoutError
-segment_refusal link live records =
-    let content = output_content link live in
+abbrev pub segment_refusal : TableSizes → LinkInput → Live → List Record → Option LayoutError
+segment_refusal sizes link live records =
+    let content = output_content sizes link live in
     option_map place_error (segments_refusal FromSections link (section_records link.plan.sections records) (is_emitted link content) (active_segments link content))
 
 -- ---- the layout
@@ -95,10 +95,10 @@ abbrev pub starts_of : List Record → List ℕ
 starts_of records = map (λ r. r.mem_offset) records
 
 -- what the live sections and the records of all parts make
-abbrev pub layout_of : LinkInput → Live → List Record → Layout
-layout_of link live records =
+abbrev pub layout_of : TableSizes → LinkInput → Live → List Record → Layout
+layout_of sizes link live records =
     let sections = section_records link.plan.sections records in
-    let content = output_content link live in
+    let content = output_content sizes link live in
     let segments = segment_layouts FromSections link.plan link.options.stack sections (is_emitted link content) (active_segments link content) in
     record {
       section_layouts = sections;
@@ -112,29 +112,29 @@ layout_of link live records =
       section_addresses = section_addresses link content (starts_of records);
       merged_strings = (link_inputs link).outputs;
       merged_string_start_addresses = start_addresses fnv64 (link_inputs link).outputs (image_addresses link content (starts_of records));
-      symbol_resolutions = symbol_resolutions link live (starts_of records);
+      symbol_resolutions = symbol_resolutions sizes link live (starts_of records);
       entry_symbol_id = entry_symbol link;
     }
 
 -- ---- the answer
 
 -- behind the placement: the refusal of secondaries, else that of the segments, else that of offsets into merged data, else the layout
-abbrev pub IsPlacedAnswer : LinkInput → Live → List Record → Result Layout LayoutError → Type 0
-IsPlacedAnswer link live records answer =
+abbrev pub IsPlacedAnswer : TableSizes → LinkInput → Live → List Record → Result Layout LayoutError → Type 0
+IsPlacedAnswer sizes link live records answer =
     Unless (joining_refusal link records) answer
-    (Unless (segment_refusal link live records) answer
+    (Unless (segment_refusal sizes link live records) answer
     (Unless (offsets_refusal link live) answer
-    (answer ≡ Ok (layout_of link live records))))
+    (answer ≡ Ok (layout_of sizes link live records))))
 
 -- behind the sizes: the first refusal of the placement, and then
 abbrev pub IsSizedAnswer : Machine → LinkInput → Live → Result Layout LayoutError → Type 0
 IsSizedAnswer machine link live answer =
     (states : List Cursors) × (records : List Record) × IsPlaced (setting machine link live) states records
-    × Unless (walk_refusal machine link live states records) answer (IsPlacedAnswer link live records answer)
+    × Unless (walk_refusal machine link live states records) answer (IsPlacedAnswer machine.sizes link live records answer)
 
 -- of what is live: the part that overflows, and then
 abbrev pub IsLiveAnswer : Machine → LinkInput → Live → Result Layout LayoutError → Type 0
-IsLiveAnswer machine link live answer = Unless (sizes_refusal link live) answer (IsSizedAnswer machine link live answer)
+IsLiveAnswer machine link live answer = Unless (sizes_refusal machine.sizes link live) answer (IsSizedAnswer machine link live answer)
 
 -- of a link that is merged: all references that can't be met, and then
 abbrev pub IsMergedAnswer : Machine → LinkInput → Result Layout LayoutError → Type 0

@@ -15,5 +15,5 @@ leading_bytes sizes = sizes.file_header + sizes.program_headers
 -- those of a link on a machine, with a header for each active segment
 abbrev pub header_bytes : Machine → LinkInput → Live → ℕ
 header_bytes machine link live =
-    let info = header_info link (output_content link live) in
+    let info = header_info link (output_content machine.sizes link live) in
     leading_bytes (header_sizes machine.sizes link info.emitted info.active_segment_ids)

@@ -34,7 +34,7 @@ LaidOutLinksAreWellFormed = (machine : Machine) (link : LinkInput) (layout : Lay
 -- a defined layout is sound
 abbrev pub DefinedLayoutsAreSound : Type 0
 DefinedLayoutsAreSound = (machine : Machine) (link : LinkInput) (layout : Layout)
-    → IsLawfulMachine machine → IsDefined machine link (Ok layout) → (live : Live) × IsSound link live layout
+    → IsLawfulMachine machine → IsDefined machine link (Ok layout) → (live : Live) × IsSound machine.sizes link live layout
 
 -- under a plan in which nothing moves, the memory of a defined layout is disjoint, also if the plan isn't plain
 abbrev pub LaidOutMemoryIsDisjoint : Type 0
@@ -46,7 +46,7 @@ LaidOutMemoryIsDisjoint = (machine : Machine) (link : LinkInput) (layout : Layou
 abbrev pub LaidOutSectionsAreApart : Type 0
 LaidOutSectionsAreApart = (machine : Machine) (link : LinkInput) (layout : Layout) → IsUnmoved link.plan link.options.output
     → IsLawfulMachine machine → IsDefined machine link (Ok layout)
-    → (live : Live) × IsSound link live layout × LiveSectionsAreApart link live layout × OwnersAreApart link live layout
+    → (live : Live) × IsSound machine.sizes link live layout × LiveSectionsAreApart link live layout × OwnersAreApart machine.sizes link live layout
 
 -- what makes the plan of a link plain of which all is laid out: no load segment opens while another is open, and inside each all
 -- is allocated, and what takes bytes of the file comes before what takes none

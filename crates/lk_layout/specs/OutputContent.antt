@@ -1,6 +1,7 @@
 -- What goes into the output of a link that is laid out.
 use Rattle.std.specs.Prelude.{ℕ, List, length, map}
 use Rattle.lk_link.specs.declared.link.LinkInput.{LinkInput}
+use Rattle.lk_link.specs.TableSizes.{TableSizes}
 use Rattle.lk_gc.specs.declared.live.Live.{Live}
 use Rattle.lk_merge.specs.Hash.{fnv64}
 use Rattle.lk_merge.specs.Image.{all_pieces, image}
@@ -16,6 +17,6 @@ lens_of merged = map (λ inputs. length (image fnv64 (all_pieces inputs))) merge
 abbrev pub image_lens : LinkInput → List ℕ
 image_lens link = lens_of (link_inputs link).outputs
 
--- what is live, and what is merged
-abbrev pub output_content : LinkInput → Live → Content
-output_content link live = content_of live (image_lens link)
+-- what is live, and what is merged, with what tables take on a machine
+abbrev pub output_content : TableSizes → LinkInput → Live → Content
+output_content sizes link live = content_of sizes live (image_lens link)

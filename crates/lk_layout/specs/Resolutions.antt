@@ -16,10 +16,11 @@ use Rattle.lk_link.specs.Flags.{has_flag, has_resolution}
 use Rattle.lk_link.specs.Inputs.{NumberedFile, all_inputs, first_input, numbered_files}
 use Rattle.lk_link.specs.Marks.{is_marked}
 use Rattle.lk_link.specs.Symbols.{definition_of, first_symbol}
+use Rattle.lk_link.specs.TableSizes.{TableSizes}
 use Rattle.lk_gc.specs.declared.live.Live.{Live}
 use Rattle.lk_merge.specs.OutputAddresses.{MergePlace, address_in, symbol_place}
 use Rattle.lk_sizes.specs.Images.{image_addresses}
-use Rattle.lk_sizes.specs.Owners.{common_address, live_address}
+use Rattle.lk_sizes.specs.PartOwners.{common_address, live_address}
 use Rattle.lk_layout.specs.declared.resolution.EntryFault.{EntryFault}
 use Rattle.lk_layout.specs.declared.resolution.EntryFault.TheVariants.{NotAnAddress, NotLoaded}
 use Rattle.lk_layout.specs.declared.resolution.Resolution.{Resolution}
@@ -28,17 +29,17 @@ use Rattle.lk_layout.specs.OutputContent.{output_content}
 -- ---- places in input sections
 
 -- the address at an offset of an input section, by its number and where the parts start; none where the section isn't live
-abbrev pub address_at : LinkInput → Live → List ℕ → ℕ → ℕ → Option ℕ
-address_at link live starts k offset =
+abbrev pub address_at : TableSizes → LinkInput → Live → List ℕ → ℕ → ℕ → Option ℕ
+address_at sizes link live starts k offset =
     if is_marked live.marks k
-    then option_map (λ x. live_address link (output_content link live) starts x + offset) (slice_get (all_inputs link.groups) k)
+    then option_map (λ x. live_address link (output_content sizes link live) starts x + offset) (slice_get (all_inputs link.groups) k)
     else None
 
 -- ---- places in merged sections
 
 -- where the images of output sections start, by where the parts do: each where it stands among the owners of its part
-abbrev pub images_at : LinkInput → Live → List ℕ → ℕ → ℕ
-images_at link live starts s = slice_index (image_addresses link (output_content link live) starts) s
+abbrev pub images_at : TableSizes → LinkInput → Live → List ℕ → ℕ → ℕ
+images_at sizes link live starts s = slice_index (image_addresses link (output_content sizes link live) starts) s
 
 -- the value of a symbol that names a place in a merged section, by where the images start: a named one has the address there, an
 -- unnamed one 0
@@ -59,11 +60,11 @@ pub record Places : Type 0 where
   pub merged : ℕ → ℕ
 
 -- those of a link, by where its parts start
-abbrev pub places_of : LinkInput → Live → List ℕ → Places
-places_of link live starts = record {
-  live = address_at link live starts;
-  common = common_address link (output_content link live) starts;
-  merged = merged_value link (images_at link live starts);
+abbrev pub places_of : TableSizes → LinkInput → Live → List ℕ → Places
+places_of sizes link live starts = record {
+  live = address_at sizes link live starts;
+  common = common_address link (output_content sizes link live) starts;
+  merged = merged_value link (images_at sizes link live starts);
 }
 
 -- the value of a placement in an object or a dynamic file, of the symbol s; `first` is the number of the object's first input section: a place in a live
@@ -103,9 +104,9 @@ file_resolutions places flags groups f =
     else map (λ _. None) f.file.symbols
 
 -- for each symbol of a link its resolution, if it has one, by where the parts start (libwild: `SymbolResolutions`)
-abbrev pub symbol_resolutions : LinkInput → Live → List ℕ → List (Option Resolution)
-symbol_resolutions link live starts =
-    flat_map (file_resolutions (places_of link live starts) live.flags link.groups) (numbered_files link.groups)
+abbrev pub symbol_resolutions : TableSizes → LinkInput → Live → List ℕ → List (Option Resolution)
+symbol_resolutions sizes link live starts =
+    flat_map (file_resolutions (places_of sizes link live starts) live.flags link.groups) (numbered_files link.groups)
 
 -- the resolution of a symbol, by its number, if it has one
 abbrev pub resolution_at : List (Option Resolution) → ℕ → Option Resolution

@@ -37,7 +37,8 @@ use Rattle.lk_sizes.specs.declared.addresses.LiveSection.{LiveSection}
 use Rattle.lk_sizes.specs.Attributes.{all_section_attributes, by_section}
 use Rattle.lk_sizes.specs.Emitted.{active_segments, is_emitted, output_index}
 use Rattle.lk_sizes.specs.Addresses.{live_sections}
-use Rattle.lk_sizes.specs.Owners.{CommonOwner, ImageOwner, IsCommonIn, bytes_of, owner_address, owners_of}
+use Rattle.lk_sizes.specs.Owners.{CommonOwner, ImageOwner, IsCommonIn, bytes_of, owner_address}
+use Rattle.lk_sizes.specs.PartOwners.{owners_of}
 use Rattle.lk_sizes.specs.Tiles.{HasByte, IsTiled}
 use Rattle.lk_layout.specs.declared.layout.Layout.{Layout}
 use Rattle.lk_layout.specs.Defined.{starts_of}
@@ -45,6 +46,7 @@ use Rattle.lk_layout.specs.Layouts.{told_live}
 use Rattle.lk_layout.specs.Outside.{merge_offsets}
 use Rattle.lk_layout.specs.Resolutions.{entry_symbol, flags_at, is_resolved, resolution_at, symbol_resolutions}
 use Rattle.lk_layout.specs.OutputContent.{output_content}
+use Rattle.lk_link.specs.TableSizes.{TableSizes}
 
 -- the record of the part with this number over all sections
 abbrev pub part_record : Layout → ℕ → Record
@@ -58,9 +60,9 @@ MemoryIsCongruent link layout = (i s k p : ℕ) → PlacesInLoad link.plan i s k
     ≡ (part_record layout p).file_offset % alignment_inside link.plan layout.section_layouts i
 
 -- the owners of a part share out its memory
-pub record IsSharedOut (link : LinkInput) (live : Live) (layout : Layout) (p : ℕ) : Type 0 where
-  pub whole : (part_record layout p).mem_size ≡ bytes_of (part_at link.plan.sections p) (owners_of link (output_content link live) p)
-  pub tiled : IsTiled (part_record layout p).mem_offset (part_at link.plan.sections p) (owners_of link (output_content link live) p)
+pub record IsSharedOut (sizes : TableSizes) (link : LinkInput) (live : Live) (layout : Layout) (p : ℕ) : Type 0 where
+  pub whole : (part_record layout p).mem_size ≡ bytes_of (part_at link.plan.sections p) (owners_of link (output_content sizes link live) p)
+  pub tiled : IsTiled (part_record layout p).mem_offset (part_at link.plan.sections p) (owners_of link (output_content sizes link live) p)
 
 -- x is live section a, and l is told of it
 pub record IsTold (link : LinkInput) (live : Live) (layout : Layout) (a : ℕ) (x : Input) (l : LiveSection) : Type 0 where
@@ -117,30 +119,30 @@ ValuesAreInLiveSections link live layout = (id : FileId) (file : InputFile) (i o
 
 -- a common of a part, so many bytes large, is an owner of bytes there, and its symbol has the address of these as its value; that is a
 -- multiple of the part's alignment, if there are any bytes and the part isn't packed
-pub record IsCommonAt (link : LinkInput) (live : Live) (layout : Layout) (p s size : ℕ) : Type 0 where
+pub record IsCommonAt (sizes : TableSizes) (link : LinkInput) (live : Live) (layout : Layout) (p s size : ℕ) : Type 0 where
   pub part : p < length (all_parts link.plan.sections)
   pub number : ℕ
-  pub owner : slice_get (owners_of link (output_content link live) p) number ≡ Some (CommonOwner s size)
+  pub owner : slice_get (owners_of link (output_content sizes link live) p) number ≡ Some (CommonOwner s size)
   pub address : ℕ
-  pub at : address ≡ owner_address (part_record layout p).mem_offset (part_at link.plan.sections p) (owners_of link (output_content link live) p) number
+  pub at : address ≡ owner_address (part_record layout p).mem_offset (part_at link.plan.sections p) (owners_of link (output_content sizes link live) p) number
   pub valued : option_map (λ r. r.raw_value) (resolution_at layout.symbol_resolutions s) ≡ Some address
   pub aligned : 0 < size → (part_at link.plan.sections p).packed ≡ false → (part_at link.plan.sections p).alignment ∣ address
 
 -- so stands each common that has a resolution
-abbrev pub CommonsStand : LinkInput → Live → Layout → Type 0
-CommonsStand link live layout = (p s size : ℕ) → IsCommonIn link live p s size → IsCommonAt link live layout p s size
+abbrev pub CommonsStand : TableSizes → LinkInput → Live → Layout → Type 0
+CommonsStand sizes link live layout = (p s size : ℕ) → IsCommonIn link live p s size → IsCommonAt sizes link live layout p s size
 
 -- ---- merged data
 
 -- the image of merged inputs is the first owner of a part of their output section, which has alignment 1, and starts with it; each of
 -- its distinct pieces has a range of its own there; and at each offset of an input's data the image shows what the input has, from the
 -- offset to its piece's end
-pub record IsImageAt (link : LinkInput) (live : Live) (layout : Layout) (s : ℕ) (inputs : List MergeInput) : Type 0 where
+pub record IsImageAt (sizes : TableSizes) (link : LinkInput) (live : Live) (layout : Layout) (s : ℕ) (inputs : List MergeInput) : Type 0 where
   pub part : ℕ
   pub there : part < length (all_parts link.plan.sections)
   pub belongs : slice_index (part_sections link.plan.sections) part ≡ s
   pub alignment : (part_at link.plan.sections part).alignment ≡ 1
-  pub owner : slice_get (owners_of link (output_content link live) part) 0 ≡ Some (ImageOwner s (length (image fnv64 (all_pieces inputs))))
+  pub owner : slice_get (owners_of link (output_content sizes link live) part) 0 ≡ Some (ImageOwner s (length (image fnv64 (all_pieces inputs))))
   pub start : image_start layout.merged_string_start_addresses s ≡ (part_record layout part).mem_offset
   pub within : (p : Piece) → is_among (all_pieces inputs) p ≡ true
       → image_place fnv64 (all_pieces inputs) p + length p ≤ length (image fnv64 (all_pieces inputs))
@@ -151,9 +153,9 @@ pub record IsImageAt (link : LinkInput) (live : Live) (layout : Layout) (s : ℕ
       → Shows inputs x offset (offset_place fnv64 inputs x offset)
 
 -- so stands the image of each output section that has merged inputs
-abbrev pub ImagesStand : LinkInput → Live → Layout → Type 0
-ImagesStand link live layout = (s : ℕ) (inputs : List MergeInput) → slice_get layout.merged_strings s ≡ Some inputs → 0 < length inputs
-    → IsImageAt link live layout s inputs
+abbrev pub ImagesStand : TableSizes → LinkInput → Live → Layout → Type 0
+ImagesStand sizes link live layout = (s : ℕ) (inputs : List MergeInput) → slice_get layout.merged_strings s ≡ Some inputs → 0 < length inputs
+    → IsImageAt sizes link live layout s inputs
 
 -- from an address on, the image of an output section shows what a merged input has from an offset to its piece's end
 pub record ShowsAt (link : LinkInput) (layout : Layout) (s : ℕ) (x : MergeInput) (offset address : ℕ) : Type 0 where
@@ -190,11 +192,11 @@ ReferencesShow link live layout = (id : FileId) (file : InputFile) (i k : ℕ) (
     × ShowsAt link layout (output_of link place.section) (merge_input place.number place.section) (chosen_offset place r.addend) address
 
 -- no two owners share an address, if they go to parts of sections that take addresses: neither live sections nor images
-abbrev pub OwnersAreApart : LinkInput → Live → Layout → Type 0
-OwnersAreApart link live layout = (p q j k address : ℕ) → p < length (all_parts link.plan.sections) → q < length (all_parts link.plan.sections)
+abbrev pub OwnersAreApart : TableSizes → LinkInput → Live → Layout → Type 0
+OwnersAreApart sizes link live layout = (p q j k address : ℕ) → p < length (all_parts link.plan.sections) → q < length (all_parts link.plan.sections)
     → TakesMemory link.plan p → TakesMemory link.plan q
-    → HasByte (part_record layout p).mem_offset (part_at link.plan.sections p) (owners_of link (output_content link live) p) j address
-    → HasByte (part_record layout q).mem_offset (part_at link.plan.sections q) (owners_of link (output_content link live) q) k address
+    → HasByte (part_record layout p).mem_offset (part_at link.plan.sections p) (owners_of link (output_content sizes link live) p) j address
+    → HasByte (part_record layout q).mem_offset (part_at link.plan.sections q) (owners_of link (output_content sizes link live) q) k address
     → (p ≡ q) × (j ≡ k)
 
 -- ---- outputs
@@ -203,24 +205,24 @@ OwnersAreApart link live layout = (p q j k address : ℕ) → p < length (all_pa
 -- secondaries besides; it has the attributes of the plan and of what went into it, and
 -- its place among the emitted ones as its index; the active segments are told, each with what it spans, and the thread-local one by itself; and no section that is allocated
 -- stands outside them where it may not
-pub record AreOutputsTold (link : LinkInput) (live : Live) (layout : Layout) : Type 0 where
+pub record AreOutputsTold (sizes : TableSizes) (link : LinkInput) (live : Live) (layout : Layout) : Type 0 where
   pub sections : layout.section_layouts ≡ section_records link.plan.sections layout.section_part_layouts
   pub joined : layout.merged_section_layouts ≡ merged_records link.plan.sections layout.section_layouts
   pub attributes : layout.section_attributes ≡ all_section_attributes link live
-  pub indexes : layout.output_section_indexes ≡ by_section (output_index link (output_content link live)) link
+  pub indexes : layout.output_section_indexes ≡ by_section (output_index link (output_content sizes link live)) link
   pub segments : layout.segment_layouts ≡ segment_layouts FromSections link.plan link.options.stack layout.section_layouts
-      (is_emitted link (output_content link live)) (active_segments link (output_content link live))
+      (is_emitted link (output_content sizes link live)) (active_segments link (output_content sizes link live))
   pub thread_local : layout.tls_layout ≡ option_map (λ l. l.sizes) (thread_local_one link.plan layout.segment_layouts)
-  pub covered : first_outside link layout.section_layouts (is_emitted link (output_content link live)) ≡ None
+  pub covered : first_outside link layout.section_layouts (is_emitted link (output_content sizes link live)) ≡ None
 
 -- ---- all
 
 -- what holds of the memory of a layout under a plain plan: no two parts share an address, nor do two live sections, nor an
 -- image and another owner; and memory goes along the file
-pub record IsSoundInMemory (link : LinkInput) (live : Live) (layout : Layout) : Type 0 where
+pub record IsSoundInMemory (sizes : TableSizes) (link : LinkInput) (live : Live) (layout : Layout) : Type 0 where
   pub disjoint : MemoryIsDisjoint link.plan layout.section_part_layouts
   pub apart : LiveSectionsAreApart link live layout
-  pub owners : OwnersAreApart link live layout
+  pub owners : OwnersAreApart sizes link live layout
   pub congruent : MemoryIsCongruent link layout
 
 -- a sound layout: all references are met; the live sections are those that are reached, each where its part's owners let it
@@ -228,23 +230,23 @@ pub record IsSoundInMemory (link : LinkInput) (live : Live) (layout : Layout) : 
 -- pieces apart, and shows its inputs, nothing refers outside their data, and references into it have addresses that show what they choose; each symbol that is asked for stands for a place in a live section, at its address, or
 -- in merged data, or for a number, or is a common, at the address of its bytes in a part; output sections, their indexes and attributes, and segments are told as they are; each byte of a part
 -- has one owner; no two parts share a byte of the file; and under a plain plan the same holds of memory
-pub record IsSound (link : LinkInput) (live : Live) (layout : Layout) : Type 0 where
+pub record IsSound (sizes : TableSizes) (link : LinkInput) (live : Live) (layout : Layout) : Type 0 where
   pub met : reference_faults link ≡ []
   pub reached : AreLive link live
-  pub shown : told_live link layout ≡ live_sections link (output_content link live) (starts_of layout.section_part_layouts)
+  pub shown : told_live link layout ≡ live_sections link (output_content sizes link live) (starts_of layout.section_part_layouts)
   pub merged : layout.merged_strings ≡ (link_inputs link).outputs
   pub starts : AreStartsOf layout.merged_strings layout.merged_string_start_addresses
-  pub images : ImagesStand link live layout
+  pub images : ImagesStand sizes link live layout
   pub named : NamedSymbolsShow link live layout
   pub references : ReferencesShow link live layout
   pub inside : merge_offsets link live ≡ []
-  pub resolved : layout.symbol_resolutions ≡ symbol_resolutions link live (starts_of layout.section_part_layouts)
+  pub resolved : layout.symbol_resolutions ≡ symbol_resolutions sizes link live (starts_of layout.section_part_layouts)
   pub placed : SymbolsStandInLiveSections link live
   pub valued : ValuesAreInLiveSections link live layout
-  pub commons : CommonsStand link live layout
+  pub commons : CommonsStand sizes link live layout
   pub entered : layout.entry_symbol_id ≡ entry_symbol link
-  pub outputs : AreOutputsTold link live layout
+  pub outputs : AreOutputsTold sizes link live layout
   pub aligned : LiveSectionsAreAligned link live layout
-  pub shared : (p : ℕ) → p < length (all_parts link.plan.sections) → IsSharedOut link live layout p
+  pub shared : (p : ℕ) → p < length (all_parts link.plan.sections) → IsSharedOut sizes link live layout p
   pub file : FileIsDisjoint layout.section_part_layouts
-  pub memory : IsPlain link.plan link.options.output → IsSoundInMemory link live layout
+  pub memory : IsPlain link.plan link.options.output → IsSoundInMemory sizes link live layout

@@ -11,7 +11,7 @@ ghost use Rattle.lk_merge.specs.LinkInputs.{link_inputs};
 ghost use Rattle.lk_sizes.specs.Images.{image_addresses};
 ghost use Rattle.lk_sizes.specs.Addresses.{section_addresses};
 ghost use Rattle.lk_sizes.specs.Contents.{part_contents};
-ghost use Rattle.lk_sizes.specs.Owners.{part_size};
+ghost use Rattle.lk_sizes.specs.PartOwners.{part_size};
 ghost use Rattle.lk_layout.specs.OutputContent.{output_content};
 ghost use Rattle.lk_layout.specs.Defined.{starts_of};
 ghost use Rattle.lk_layout.specs.Merging.{AreImages};
@@ -23,7 +23,7 @@ use crate::merged::Merged;
 use crate::resolution::{Tables, resolve_all};
 use crate::symbol_resolutions::SymbolResolutions;
 use lk_gc::Live;
-use lk_link::LinkInput;
+use lk_link::{LinkInput, Platform};
 use lk_merge::MergedStringStartAddresses;
 use lk_place::OutputRecordLayout;
 use lk_sizes::{OwnerAddresses, PartContents, image_addresses, owner_addresses};
@@ -42,27 +42,28 @@ pub(crate) struct Addresses {
 
 /// The addresses of live sections and of merged data, and what symbols stand for, by the records of all parts. Looks at each
 /// input section and each symbol once.
-pub(crate) fn addresses_of(
+pub(crate) fn addresses_of<P: Platform>(
     alloc: Global,
     link: &LinkInput,
     live: &Live,
     images: &Images<'_>,
     contents: &[PartContents],
     parts: &[OutputRecordLayout],
+    _platform: &P,
 ) -> Result<Addresses, AllocError>
     requires good { IsWellFormed link.now }
     requires live { AreLive link.now live.now }
     requires images { AreImages link.now images.now }
-    requires contents { contents.now ≡ part_contents link.now (output_content link.now live.now) }
+    requires contents { contents.now ≡ part_contents link.now (output_content (P.table_sizes _platform.now) link.now live.now) }
     requires each { length parts.now ≡ length (all_parts link.now.plan.sections) }
     requires takes { (p : ℕ) → p < length parts.now
-        → (record_at parts.now p).mem_size ≡ part_size link.now (output_content link.now live.now) p }
+        → (record_at parts.now p).mem_size ≡ part_size link.now (output_content (P.table_sizes _platform.now) link.now live.now) p }
     ensures sections { IfOk result (λ told. told.sections.items
-        ≡ section_addresses link.now (output_content link.now live.now) (starts_of parts.now)) }
+        ≡ section_addresses link.now (output_content (P.table_sizes _platform.now) link.now live.now) (starts_of parts.now)) }
     ensures buckets { IfOk result (λ told. told.buckets
-        ≡ start_addresses fnv64 (link_inputs link.now).outputs (image_addresses link.now (output_content link.now live.now) (starts_of parts.now))) }
+        ≡ start_addresses fnv64 (link_inputs link.now).outputs (image_addresses link.now (output_content (P.table_sizes _platform.now) link.now live.now) (starts_of parts.now))) }
     ensures belong { IfOk result (λ told. AreMergedOf link.now images.now.sections told.buckets) }
-    ensures resolutions { IfOk result (λ told. told.resolutions ≡ symbol_resolutions link.now live.now (starts_of parts.now)) }
+    ensures resolutions { IfOk result (λ told. told.resolutions ≡ symbol_resolutions (P.table_sizes _platform.now) link.now live.now (starts_of parts.now)) }
 {
     let starts = starts_of(alloc, parts)?;
     let owners = owner_addresses(alloc, link, live, &images.lens, contents, &starts)?;

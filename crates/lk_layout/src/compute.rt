@@ -5,7 +5,7 @@
 //! section and what each symbol stands for. A step that refuses ends the computation, so that the answer is the first refusal in
 //! this order, or the layout.
 
-ghost use Rattle.std.specs.Prelude.{◌≡◌, ◌<◌, ◌≤◌, ℕ, length};
+ghost use Rattle.std.specs.Prelude.{◌≡◌, ◌<◌, ◌≤◌, ℕ, Ok, length};
 ghost use Rattle.lk_gc.specs.Reach.{AreLive};
 ghost use Rattle.lk_link.specs.Parts.{all_parts};
 ghost use Rattle.lk_link.specs.WellFormed.{IsWellFormed};
@@ -15,10 +15,11 @@ ghost use Rattle.lk_link.specs.Marks.{is_marked};
 ghost use Rattle.lk_sizes.specs.Contents.{part_contents};
 ghost use Rattle.lk_sizes.specs.Emitted.{is_emitted};
 ghost use Rattle.lk_sizes.specs.Header.{header_info};
-ghost use Rattle.lk_sizes.specs.Owners.{part_size};
+ghost use Rattle.lk_sizes.specs.Sizing.{GivesOwners};
+ghost use Rattle.lk_sizes.specs.PartOwners.{part_size};
 ghost use Rattle.lk_layout.specs.OutputContent.{output_content};
 ghost use Rattle.lk_layout.specs.Carried.{IsCarried};
-ghost use Rattle.lk_layout.specs.Defined.{Gives, IsCarriedAnswer, IsLiveAnswer, IsMergedAnswer, IsPlacedAnswer, WithMemory};
+ghost use Rattle.lk_layout.specs.Defined.{Gives, IsCarriedAnswer, IsLiveAnswer, IsMergedAnswer, IsPlacedAnswer, IsSizedAnswer, WithMemory};
 ghost use Rattle.lk_layout.specs.Machines.{platform_machine};
 ghost use Rattle.lk_layout.specs.Merging.{AreImages};
 
@@ -42,11 +43,8 @@ use lk_place::{
     Placed, SegmentFileLayout, SymbolPositions, compute_layout_sections, compute_segment_layout,
     merge_secondary_parts,
 };
-use lk_sizes::laws::first_sizes_are_sizes;
-use lk_sizes::{
-    HeaderInfo, PartContents, determine_header_sizes, part_contents, part_sizes,
-    propagate_section_attributes,
-};
+use lk_sizes::part_owners::owners;
+use lk_sizes::{HeaderInfo, PartContents, PartOwners, part_sizes, propagate_section_attributes};
 use std::alloc::Global;
 use std::sync::Wait;
 use std::thread::Threads;
@@ -98,7 +96,7 @@ fn lay_out_merged<'data, P: Platform>(
     lay_out_live(alloc, link, images, live, platform)
 }
 
-/// The layout of what is live of a link: its sizes, placed.
+/// The layout of what is live of a link: that of its sizes.
 fn lay_out_live<'data, P: Platform>(
     alloc: Global,
     link: &'data LinkInput,
@@ -112,11 +110,30 @@ fn lay_out_live<'data, P: Platform>(
     requires live { AreLive link.now live }
     ensures { WithMemory (IsLiveAnswer (platform_machine (P.segment_start platform.now) (P.table_sizes platform.now)) link.now live) result }
 {
-    let contents = part_contents(alloc, link, &live, &images.lens)?;
+    let sized = owners(alloc, link, platform, &live, &images.lens)?;
+    lay_out_sized(alloc, link, images, live, sized, platform)
+}
+
+/// The layout of what is live of a link, of which the sizes are known: these, placed.
+fn lay_out_sized<'data, P: Platform>(
+    alloc: Global,
+    link: &'data LinkInput,
+    images: Images<'data>,
+    live: Live,
+    sized: PartOwners,
+    platform: &P,
+) -> Result<Layout<'data>, LayoutError>
+    requires good { IsWellFormed link.now }
+    requires carried { IsCarried link.now }
+    requires images { AreImages link.now images }
+    requires live { AreLive link.now live }
+    requires sized { GivesOwners link.now (output_content (P.table_sizes platform.now) link.now live) (Ok sized) }
+    requires marks { is_marked sized.header.emitted ≡ is_emitted link.now (output_content (P.table_sizes platform.now) link.now live) }
+    ensures { WithMemory (IsSizedAnswer (platform_machine (P.segment_start platform.now) (P.table_sizes platform.now)) link.now live) result }
+{
+    let contents = sized.contents;
+    let header = sized.header;
     let sizes = part_sizes(alloc, contents.as_slice())?;
-    // A law, which does nothing: the sizes so far are those that tell what is emitted.
-    first_sizes_are_sizes();
-    let header = determine_header_sizes(alloc, link, &live, &sizes)?;
     let headers = header_bytes(link, platform, &header);
     // What is laid out asks for no place of a symbol.
     let positions = SymbolPositions::new(List::new(alloc));
@@ -131,13 +148,14 @@ fn lay_out_live<'data, P: Platform>(
         contents.as_slice(),
         header,
         placed,
+        platform,
     )
 }
 
 /// The layout of a link that is placed, of which it is known what its headers tell: primaries with their secondaries, segments,
 /// attributes, addresses, and what
 /// symbols stand for.
-fn lay_out_placed<'data>(
+fn lay_out_placed<'data, P: Platform>(
     alloc: Global,
     link: &'data LinkInput,
     images: Images<'data>,
@@ -145,18 +163,19 @@ fn lay_out_placed<'data>(
     contents: &[PartContents],
     header: HeaderInfo,
     placed: Placed,
+    platform: &P,
 ) -> Result<Layout<'data>, LayoutError>
     requires good { IsWellFormed link.now }
     requires images { AreImages link.now images }
     requires live { AreLive link.now live }
-    requires contents { contents.now ≡ part_contents link.now (output_content link.now live) }
-    requires header { header ≡ header_info link.now (output_content link.now live) }
-    requires marks { is_marked header.emitted ≡ is_emitted link.now (output_content link.now live) }
+    requires contents { contents.now ≡ part_contents link.now (output_content (P.table_sizes platform.now) link.now live) }
+    requires header { header ≡ header_info link.now (output_content (P.table_sizes platform.now) link.now live) }
+    requires marks { is_marked header.emitted ≡ is_emitted link.now (output_content (P.table_sizes platform.now) link.now live) }
     requires sections { placed.sections ≡ section_records link.now.plan.sections placed.parts }
     requires each { length placed.parts ≡ length (all_parts link.now.plan.sections) }
     requires takes { (p : ℕ) → p < length placed.parts
-        → (record_at placed.parts p).mem_size ≡ part_size link.now (output_content link.now live) p }
-    ensures { WithMemory (IsPlacedAnswer link.now live placed.parts) result }
+        → (record_at placed.parts p).mem_size ≡ part_size link.now (output_content (P.table_sizes platform.now) link.now live) p }
+    ensures { WithMemory (IsPlacedAnswer (P.table_sizes platform.now) link.now live placed.parts) result }
 {
     let joined = merge_secondary_parts(alloc, link, placed.sections.as_slice())?;
     let segments = compute_segment_layout(
@@ -169,7 +188,7 @@ fn lay_out_placed<'data>(
     )?;
     let attributes = propagate_section_attributes(alloc, link, contents)?;
     let parts = placed.parts.as_slice();
-    let addresses = addresses_of(alloc, link, &live, &images, contents, parts)?;
+    let addresses = addresses_of(alloc, link, &live, &images, contents, parts, platform)?;
     check_offsets(link, &live, images.sections.as_slice())?;
     Ok(Layout {
         section_layouts: placed.sections,

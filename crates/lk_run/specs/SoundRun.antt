@@ -24,7 +24,7 @@ pub record TellsSoundLayout (from : SourceState) (before after : SinkState) : Ty
   pub layout : Layout
   pub defined : IsDefined small64_machine link (Ok layout)
   pub live : Live
-  pub sound : IsSound link live layout
+  pub sound : IsSound small64_machine.sizes link live layout
   pub written : Takes before after (report link layout)
 
 -- a run of the words `layout N` that ends with the status of a layout has told a sound one

@@ -14,7 +14,7 @@ use Rattle.lk_link.specs.declared.plan.PlanPart.{PlanPart}
 use Rattle.lk_link.specs.Inputs.{Input}
 use Rattle.lk_link.specs.Parts.{all_parts, part_at}
 use Rattle.lk_link.specs.Sizes.{capacity}
-use Rattle.lk_sizes.specs.declared.owners.Total.{Total}
+use Rattle.lk_sizes.specs.declared.owners.PartTotal.{PartTotal}
 use Rattle.lk_sizes.specs.Owners.{bytes_of, into, is_merged, owner_bytes}
 use Rattle.lk_sizes.proofs.Takers.{section_owner}
 
@@ -80,21 +80,21 @@ unmerged_more part p done x false merged =
 -- ---- totals
 
 -- what these sections bring to a part; sums are told apart below 2^64
-pub record IsTotal (part : PlanPart) (p : ℕ) (done : List Input) (total : Total) : Type 0 where
+pub record IsTotal (part : PlanPart) (p : ℕ) (done : List Input) (total : PartTotal) : Type 0 where
   pub bytes : min total.bytes (2 ^ 64) ≡ min (bytes_into part p (unmerged done)) (2 ^ 64)
   pub image : total.has_image ≡ merged_into p done
   pub attrs : total.attrs ≡ fold bit_or 0 (attrs_into p done)
 
 -- what they bring to each part
-pub record AreTotals (link : LinkInput) (done : List Input) (totals : List Total) : Type 0 where
+pub record AreTotals (link : LinkInput) (done : List Input) (totals : List PartTotal) : Type 0 where
   pub count : length totals ≡ length (all_parts link.plan.sections)
-  pub each : (p : ℕ) (d : Total) → p < length (all_parts link.plan.sections) → IsTotal (part_at link.plan.sections p) p done (slice_index_or totals p d)
+  pub each : (p : ℕ) (d : PartTotal) → p < length (all_parts link.plan.sections) → IsTotal (part_at link.plan.sections p) p done (slice_index_or totals p d)
 
-pub no_totals : (link : LinkInput) (none : Total) → none ≡ record { bytes = 0; has_image = false; attrs = 0 }
+pub no_totals : (link : LinkInput) (none : PartTotal) → none ≡ record { bytes = 0; has_image = false; attrs = 0 }
     → AreTotals link [] (replicate (length (all_parts link.plan.sections)) none)
 no_totals link none is = record {
   count = length-replicate (length (all_parts link.plan.sections)) none;
-  each = λ p d below. subst (λ (t : Total). IsTotal (part_at link.plan.sections p) p [] t)
+  each = λ p d below. subst (λ (t : PartTotal). IsTotal (part_at link.plan.sections p) p [] t)
       (sym (get_or-replicate (length (all_parts link.plan.sections)) p none d below ∙ is))
       (record { bytes = refl; image = refl; attrs = refl });
 }
@@ -110,7 +110,7 @@ more_bytes part p done x old true merged here h = omega (arith, h, unmerged_more
 more_bytes part p done x old false merged here h = omega (arith, h, unmerged_more part p done x false merged, bytes_into_here part p x here)
 
 -- with one more section
-one_more : (part : PlanPart) (p : ℕ) (done : List Input) (x : Input) (old new : Total) → x.section.part ≡ p → IsTotal part p done old
+one_more : (part : PlanPart) (p : ℕ) (done : List Input) (x : Input) (old new : PartTotal) → x.section.part ≡ p → IsTotal part p done old
     → new.bytes ≡ bytes_with part x old.bytes → new.has_image ≡ (old.has_image || is_merged x) → new.attrs ≡ bit_or old.attrs x.section.attrs
     → IsTotal part p (done ++ x ∷ []) new
 one_more part p done x old new here h bytes image attrs =
@@ -135,7 +135,7 @@ elsewhere_bytes part p done x true merged other = omega (arith, unmerged_more pa
 elsewhere_bytes part p done x false merged other = omega (arith, unmerged_more part p done x false merged, bytes_into_other part p x other)
 
 -- a section that goes elsewhere changes nothing
-one_elsewhere : (part : PlanPart) (p : ℕ) (done : List Input) (x : Input) (total : Total) → (x.section.part ≡ p → ⊥) → IsTotal part p done total → IsTotal part p (done ++ x ∷ []) total
+one_elsewhere : (part : PlanPart) (p : ℕ) (done : List Input) (x : Input) (total : PartTotal) → (x.section.part ≡ p → ⊥) → IsTotal part p done total → IsTotal part p (done ++ x ∷ []) total
 one_elsewhere part p done x total other h =
     let same : into p (done ++ x ∷ []) ≡ into p done = into-append p done (x ∷ []) ∙ ap (λ zs. into p done ++ zs) (into_other p x [] other) ∙ append-nil (into p done) in
     record {
@@ -144,7 +144,7 @@ one_elsewhere part p done x total other h =
       attrs = h.attrs ∙ ap (λ (zs : List Input). fold bit_or 0 (map (λ (y : Input). y.section.attrs) zs)) (sym same);
     }
 
-pub add_one : (link : LinkInput) (done : List Input) (x : Input) (totals : List Total) (at : ℕ) (read d : Total) (part : PlanPart) (new : Total)
+pub add_one : (link : LinkInput) (done : List Input) (x : Input) (totals : List PartTotal) (at : ℕ) (read d : PartTotal) (part : PlanPart) (new : PartTotal)
     → AreTotals link done totals → at ≡ x.section.part → at < length (all_parts link.plan.sections) → read ≡ slice_index_or totals at d → part ≡ part_at link.plan.sections at
     → new.bytes ≡ bytes_with part x read.bytes → new.has_image ≡ (read.has_image || is_merged x) → new.attrs ≡ bit_or read.attrs x.section.attrs
     → AreTotals link (done ++ x ∷ []) (set totals at new)
@@ -152,19 +152,19 @@ add_one link done x totals at read d part new h here within is of bytes image at
   count = length-set totals at new ∙ h.count;
   each = λ p e below. elim (eqb_tells at p) [
     | inl hit ↦ subst (λ (q : ℕ). IsTotal (part_at link.plan.sections q) q (done ++ x ∷ []) (slice_index_or (set totals at new) q e)) hit.1
-        (subst (λ (t : Total). IsTotal (part_at link.plan.sections at) at (done ++ x ∷ []) t) (sym (get_or-set_same totals at new e (omega (arith, h.count))))
+        (subst (λ (t : PartTotal). IsTotal (part_at link.plan.sections at) at (done ++ x ∷ []) t) (sym (get_or-set_same totals at new e (omega (arith, h.count))))
         (one_more (part_at link.plan.sections at) at done x read new (sym here)
-        (subst (λ (t : Total). IsTotal (part_at link.plan.sections at) at done t) (sym is) (h.each at d within))
+        (subst (λ (t : PartTotal). IsTotal (part_at link.plan.sections at) at done t) (sym is) (h.each at d within))
         (bytes ∙ ap (λ (q : PlanPart). bytes_with q x read.bytes) of) image attrs))
     | inr miss ↦
         let other : p ≡ at → ⊥ = λ same. miss.1 (sym same) in
-        subst (λ (t : Total). IsTotal (part_at link.plan.sections p) p (done ++ x ∷ []) t) (sym (get_or-set_other totals at p new e other))
+        subst (λ (t : PartTotal). IsTotal (part_at link.plan.sections p) p (done ++ x ∷ []) t) (sym (get_or-set_other totals at p new e other))
         (one_elsewhere (part_at link.plan.sections p) p done x (slice_index_or totals p e) (λ goes. miss.1 (here ∙ goes)) (h.each p e below))
   ];
 }
 
-pub total_at : (link : LinkInput) (done : List Input) (totals : List Total) (p : ℕ) (total : Total) → AreTotals link done totals → slice_get totals p ≡ Some total
+pub total_at : (link : LinkInput) (done : List Input) (totals : List PartTotal) (p : ℕ) (total : PartTotal) → AreTotals link done totals → slice_get totals p ≡ Some total
     → IsTotal (part_at link.plan.sections p) p done total
 total_at link done totals p total h there =
-    subst (λ (t : Total). IsTotal (part_at link.plan.sections p) p done t) (get_or_from_slice_get totals p total total there)
+    subst (λ (t : PartTotal). IsTotal (part_at link.plan.sections p) p done t) (get_or_from_slice_get totals p total total there)
     (h.each p total (omega (arith, h.count, slice_get_within totals p total there)))

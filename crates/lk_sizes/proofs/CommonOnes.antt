@@ -29,8 +29,9 @@ use Rattle.lk_sizes.specs.declared.commons.Common.{Common}
 use Rattle.lk_sizes.specs.Addresses.{CommonsRise}
 use Rattle.lk_tables.specs.Copied.{is_wanted}
 use Rattle.lk_tables.specs.Late.{flags_at}
-use Rattle.lk_sizes.specs.Owners.{CommonOwner, CommonsAreOwners, Content, ImageOwner, IsCommonIn, Owner, SectionOwner, Taker, all_commons, common_address, common_at, common_of, common_taker, commons_of, file_takers, is_common_of, live_of, section_taker, takers}
-use Rattle.lk_sizes.specs.Tables.{behind_image, bytes_in}
+use Rattle.lk_sizes.specs.Owners.{CommonOwner, Content, EntryOwner, IdentityOwner, ImageOwner, IsCommonIn, Owner, SectionOwner, Taker, all_commons, common_at, common_of, common_taker, commons_of, file_takers, live_of, section_taker, takers}
+use Rattle.lk_sizes.specs.PartOwners.{CommonsAreOwners, common_address, is_common_of}
+use Rattle.lk_sizes.specs.Tables.{behind_leading, bytes_in}
 use Rattle.lk_sizes.proofs.Addressing.{IsAmong, NonePass, StandsBehind, address_behind, all_parted, among, same_number, stands_behind, stands_there}
 
 -- ---- numbers that rise
@@ -171,10 +172,12 @@ commons_rise link live j k c d below at_j at_k =
 
 -- ---- commons among takers
 
-abbrev common_in : Owner → List ℕ
+abbrev pub common_in : Owner → List ℕ
 common_in (ImageOwner section len) = []
+common_in (IdentityOwner size) = []
 common_in (SectionOwner x size) = []
 common_in (CommonOwner s size) = s ∷ []
+common_in (EntryOwner e) = []
 
 abbrev pub commons_among : List Taker → List ℕ
 commons_among ts = flat_map (λ (t : Taker). common_in t.owner) ts
@@ -191,44 +194,49 @@ commons_joined : (ts us : List Taker) → commons_among (ts ++ us) ≡ commons_a
 commons_joined ts us = flat_map-append (λ (t : Taker). common_in t.owner) ts us
 
 of_files : (link : LinkInput) (content : Content) (files : List NumberedFile)
-    → commons_among (flat_map (file_takers link content) files) ≡ symbols_told (flat_map (commons_of link content.live) files)
+    → commons_among (flat_map (file_takers link content.live) files) ≡ symbols_told (flat_map (commons_of link content.live) files)
 of_files link content [] = refl
 of_files link content (f ∷ files) =
     let xs : List Input = live_of link content.live f in
     let cs : List Common = commons_of link content.live f in
-    let rest : List Taker = flat_map (file_takers link content) files in
-    let one : commons_among (file_takers link content f) ≡ symbols_told cs
+    let rest : List Taker = flat_map (file_takers link content.live) files in
+    let one : commons_among (file_takers link content.live f) ≡ symbols_told cs
     = commons_joined (map section_taker xs) (map common_taker cs) ∙ ap (λ (ss : List ℕ). ss ++ commons_among (map common_taker cs)) (none_told xs) ∙ all_told cs in
-    commons_joined (file_takers link content f) rest
+    commons_joined (file_takers link content.live f) rest
     ∙ ap (λ (ss : List ℕ). ss ++ commons_among rest) one
     ∙ ap (λ (ss : List ℕ). symbols_told cs ++ ss) (of_files link content files)
     ∙ sym (map-append (λ (c : Common). c.symbol) cs (flat_map (commons_of link content.live) files))
 
+pub commons_are : (link : LinkInput) (content : Content) → commons_among (takers link content.live) ≡ symbols_told (all_commons link content.live)
+commons_are link content = of_files link content (numbered_files link.groups)
+
 -- ---- a common is none of those in front of it
 
-one_other : (s : ℕ) (o : Owner) → AllByRecursion (λ t. t < s) (common_in o) → is_common_of s o ≡ false
-one_other s (ImageOwner section len) h = refl
-one_other s (SectionOwner x size) h = refl
-one_other s (CommonOwner t size) h = false_from_ne_true (t == s) (λ same. absurd (omega (arith, h.0, eqb-true t s same)))
+pub one_common_other : (s : ℕ) (o : Owner) → AllByRecursion (λ t. t < s) (common_in o) → is_common_of s o ≡ false
+one_common_other s (ImageOwner section len) h = refl
+one_common_other s (IdentityOwner size) h = refl
+one_common_other s (SectionOwner x size) h = refl
+one_common_other s (EntryOwner e) h = refl
+one_common_other s (CommonOwner t size) h = false_from_ne_true (t == s) (λ same. absurd (omega (arith, h.0, eqb-true t s same)))
 
 others : (s : ℕ) (ts : List Taker) → AllByRecursion (λ t. t < s) (commons_among ts) → NonePass (is_common_of s) ts
 others s [] h = tt
 others s (t ∷ ts) h =
     let parted = all_parted (λ (n : ℕ). n < s) (common_in t.owner) (commons_among ts) h in
-    (one_other s t.owner parted.0, others s ts parted.1)
+    (one_common_other s t.owner parted.0, others s ts parted.1)
 
-pub common_stands : (link : LinkInput) (content : Content) (front : List Taker) (c : Common) (rest : List Taker) → takers link content ≡ front ++ common_taker c ∷ rest
+pub common_stands : (link : LinkInput) (content : Content) (front : List Taker) (c : Common) (rest : List Taker) → takers link content.live ≡ front ++ common_taker c ∷ rest
     → StandsBehind (is_common_of c.symbol) link content front (common_taker c)
 common_stands link content front c rest all =
     let split : symbols_told (all_commons link content.live) ≡ commons_among front ++ c.symbol ∷ commons_among rest
-    = sym (of_files link content (numbered_files link.groups)) ∙ ap commons_among all ∙ commons_joined front (common_taker c ∷ rest) in
+    = sym (commons_are link content) ∙ ap commons_among all ∙ commons_joined front (common_taker c ∷ rest) in
     let end : ℕ = symbols_before (length (numbered_files link.groups)) (all_files link.groups) in
     let below = rising_front 0 end (commons_among front) c.symbol (commons_among rest) (subst (λ (ss : List ℕ). IsRising 0 ss end) split (all_rising link content.live)) in
-    stands_behind (is_common_of c.symbol) link content front (common_taker c) rest all (λ section len. refl) (others c.symbol front below) (same_number c.symbol)
+    stands_behind (is_common_of c.symbol) link content front (common_taker c) rest all (record { image = λ section len. refl; identity = λ size. refl }) (others c.symbol front below) (same_number c.symbol)
 
 -- its address
-pub common_behind : (link : LinkInput) (content : Content) (starts : List ℕ) (front : List Taker) (c : Common) (rest : List Taker) → takers link content ≡ front ++ common_taker c ∷ rest
-    → common_address link content starts c.part c.symbol ≡ behind_image link content.merged_lens starts c.part + bytes_in link c.part front
+pub common_behind : (link : LinkInput) (content : Content) (starts : List ℕ) (front : List Taker) (c : Common) (rest : List Taker) → takers link content.live ≡ front ++ common_taker c ∷ rest
+    → common_address link content starts c.part c.symbol ≡ behind_leading link content.merged_lens starts c.part + bytes_in link c.part front
 common_behind link content starts front c rest all =
     address_behind (is_common_of c.symbol) link content starts front (common_taker c) (common_stands link content front c rest all)
 
@@ -258,7 +266,7 @@ common_at_index link live p s size h =
     filter_map_in (common_of live h.file.file.kind) (enumerate_from first h.file.file.symbols) h.index (s, h.symbol) c numbered told
 
 pub common_among : (link : LinkInput) (content : Content) (p s size : ℕ) → IsCommonIn link content.live p s size
-    → IsAmong (takers link content) (common_taker (record { symbol = s; part = p; size = size }))
+    → IsAmong (takers link content.live) (common_taker (record { symbol = s; part = p; size = size }))
 common_among link content p s size h =
     let c : Common = record { symbol = s; part = p; size = size } in
     let at = common_at_index link content.live p s size h in
@@ -266,8 +274,8 @@ common_among link content p s size h =
     let sections : List Taker = map section_taker (live_of link content.live h.file) in
     let in_file = append_right sections (map common_taker cs) at.0 (length sections + at.0) (common_taker c) refl (map_in common_taker cs at.0 c at.1) in
     let there : slice_get (numbered_files link.groups) (file_number link.groups h.file.id) ≡ Some h.file = file_stands link.groups h.file.id h.file.file h.there in
-    let whole = flat_map_in (file_takers link content) (numbered_files link.groups) (file_number link.groups h.file.id) (length sections + at.0) h.file (common_taker c) there in_file in
-    among (takers link content) whole.0 (common_taker c) whole.1
+    let whole = flat_map_in (file_takers link content.live) (numbered_files link.groups) (file_number link.groups h.file.id) (length sections + at.0) h.file (common_taker c) there in_file in
+    among (takers link content.live) whole.0 (common_taker c) whole.1
 
 pub commons_are_owners : CommonsAreOwners
 commons_are_owners link content p s size h =

@@ -1,7 +1,7 @@
 -- Which sections are emitted, from what is live and the first sizes of parts; and attributes, from what comes into the parts.
-use Rattle.std.proofs.Common.{◌≡◌, ℕ, ◌+◌, ◌<◌, ◌≤◌, ◌==◌, ◌&&◌, ◌||◌, Bool, false, cond, List, [], ◌∷◌, ◌++◌, get_or, length, map, take, Some, None, Option, unwrap_or, refl, sym, ap, ◌∙◌, arith, inl, inr}
-use Rattle.std.specs.Prelude.{bit_or, fold, if◌then◌else◌, nat_lt, not}
-use Rattle.std.specs.List.{enumerate_from, filter, list_any, position_from, range_with_len, slice_get, slice_index_or}
+use Rattle.std.proofs.Common.{◌≡◌, ℕ, zero, suc, ◌+◌, ◌-◌, ◌<◌, ◌≤◌, ◌==◌, ◌&&◌, ◌||◌, Bool, false, cond, List, [], ◌∷◌, ◌++◌, get_or, length, map, take, Some, None, Option, unwrap_or, refl, sym, ap, ◌∙◌, arith, inl, inr}
+use Rattle.std.specs.Prelude.{bit_or, fold, if◌then◌else◌, nat_lt, not, slice_range}
+use Rattle.std.specs.List.{enumerate_from, filter, list_any, position_from, range_with_len, slice_get, slice_index, slice_index_or}
 use Rattle.std.proofs.lemmas.Bool.{cases_lt, eqb-true, false_from_ne_true}
 use Rattle.std.proofs.lemmas.Iterator.Adapters.{position_from-zero}
 use Rattle.std.proofs.lemmas.List.{get_or_past, take_more, take_all}
@@ -19,13 +19,14 @@ use Rattle.lk_link.specs.PlanSections.{is_singletons, own_attributes, primary_of
 use Rattle.lk_link.specs.SegmentKinds.{is_stack, segment_at}
 use Rattle.lk_link.specs.WellFormed.{IsWellFormed}
 use Rattle.lk_link.proofs.Numbers.{length-made, made_at, made_of_or}
+use Rattle.lk_gc.specs.declared.live.Live.{Live}
 use Rattle.lk_tables.specs.declared.header_info.HeaderInfo.{HeaderInfo}
 use Rattle.lk_sizes.specs.declared.owners.PartContents.{PartContents}
 use Rattle.lk_sizes.specs.Attributes.{all_section_attributes, by_section, part_attributes, parts_of, section_attributes}
 use Rattle.lk_sizes.specs.Contents.{contents_of, part_contents}
 use Rattle.lk_tables.specs.HeaderParts.{event_sections}
-use Rattle.lk_sizes.specs.Emitted.{active_segments, can_be_emitted, is_active, is_emitted, is_kept, output_index}
-use Rattle.lk_sizes.specs.Owners.{Content, first_size, first_sizes}
+use Rattle.lk_sizes.specs.Emitted.{active_segments, can_be_emitted, is_active, is_emitted, is_kept, is_kept_by_symbol, output_index}
+use Rattle.lk_sizes.specs.Owners.{AreFirstSizes, Content, first_size}
 use Rattle.lk_sizes.proofs.Made.{any_map, any_same, filter_alike, made_range, made_same_below, made_whole, map_id, map_map}
 use Rattle.lk_link.proofs.PartNumbers.{first_part-le, first_part-rises}
 use Rattle.lk_link.specs.Marks.{is_marked}
@@ -38,8 +39,8 @@ use Rattle.lk_sizes.specs.Tables.{active_by, in_section}
 abbrev pub attributes_by : Plan → List PartContents → ℕ → ℕ
 attributes_by plan contents s = if is_singletons plan s then 0 else fold bit_or (own_attributes plan s) (map (λ c. c.attrs) (in_section plan.sections s contents))
 
-abbrev pub kept_by : Plan → List Bool → List ℕ → ℕ → Bool
-kept_by plan kept sizes s = is_always (section_at plan.sections s).emit || is_marked kept s || list_any (λ n. nat_lt 0 n) (in_section plan.sections s sizes)
+abbrev pub kept_by : Plan → List Bool → List Bool → List ℕ → ℕ → Bool
+kept_by plan kept by_symbols sizes s = is_always (section_at plan.sections s).emit || is_marked kept s || is_marked by_symbols s || list_any (λ n. nat_lt 0 n) (in_section plan.sections s sizes)
 
 abbrev pub left_by : Plan → List Bool → ℕ → Bool
 left_by plan marks s = is_marked marks s && can_be_emitted plan s
@@ -56,17 +57,41 @@ attributes_are link content s below =
     ap (map (λ (c : PartContents). c.attrs)) (contents_are link content s below) ∙ map_map (λ (c : PartContents). c.attrs) (contents_of link content) (parts_of link.plan.sections s) in
     ap (λ (attrs : List ℕ). cond (is_singletons link.plan s) 0 (fold bit_or (own_attributes link.plan s) attrs)) all
 
-sizes_are : (link : LinkInput) (content : Content) (s : ℕ) → s < length link.plan.sections
-    → in_section link.plan.sections s (first_sizes link content) ≡ map (first_size link content) (parts_of link.plan.sections s)
-sizes_are link content s below =
-    made_range (first_size link content) (all_parts link.plan.sections) (first_part link.plan.sections s) (first_part link.plan.sections (s + 1))
-    (first_part-rises link.plan.sections s) (first_part-le link.plan.sections (s + 1))
+-- a range of a list, by number
+sizes_in : (sizes : List ℕ) (first behind : ℕ) → first ≤ behind → behind ≤ length sizes → slice_range sizes first behind ≡ map (slice_index sizes) (range_with_len first (behind - first))
+sizes_in sizes first behind rises within =
+    ap (λ (ns : List ℕ). slice_range ns first behind) (made_of_or (slice_index sizes) 0 sizes sizes refl (λ p below. refl))
+    ∙ made_range (slice_index sizes) sizes first behind rises within
 
-kept_are : (link : LinkInput) (content : Content) (s : ℕ) → s < length link.plan.sections → kept_by link.plan content.live.kept (first_sizes link content) s ≡ is_kept link content s
-kept_are link content s below =
-    let bytes : list_any (λ n. nat_lt 0 n) (in_section link.plan.sections s (first_sizes link content)) ≡ list_any (λ p. nat_lt 0 (first_size link content p)) (parts_of link.plan.sections s) =
-    ap (list_any (λ (n : ℕ). nat_lt 0 n)) (sizes_are link content s below) ∙ any_map (λ (n : ℕ). nat_lt 0 n) (first_size link content) (parts_of link.plan.sections s) in
-    ap (λ b. is_always (section_at link.plan.sections s).emit || is_marked content.live.kept s || b) bytes
+any_range : (p q : ℕ → Bool) (first n : ℕ) → ((k : ℕ) → first ≤ k → k < first + n → p k ≡ q k) → list_any p (range_with_len first n) ≡ list_any q (range_with_len first n)
+any_range p q first zero h = refl
+any_range p q first (suc n) h =
+    ap (λ b. b || list_any p (range_with_len (first + 1) n)) (h first (omega arith) (omega arith))
+    ∙ ap (λ b. q first || b) (any_range p q (first + 1) n (λ k from below. h k (omega (arith, from)) (omega (arith, below))))
+
+-- whether a part of a section has bytes
+bytes_are : (link : LinkInput) (content : Content) (sizes : List ℕ) (s : ℕ) → AreFirstSizes link content sizes
+    → list_any (λ n. nat_lt 0 n) (in_section link.plan.sections s sizes) ≡ list_any (λ p. nat_lt 0 (first_size link content p)) (parts_of link.plan.sections s)
+bytes_are link content sizes s first =
+    let sections : List PlanSection = link.plan.sections in
+    let from : ℕ = first_part sections s in
+    let behind : ℕ = first_part sections (s + 1) in
+    let rises = first_part-rises sections s in
+    let within = first_part-le sections (s + 1) in
+    ap (list_any (λ (n : ℕ). nat_lt 0 n)) (sizes_in sizes from behind rises (omega (arith, within, first.count)))
+    ∙ any_map (λ (n : ℕ). nat_lt 0 n) (slice_index sizes) (range_with_len from (behind - from))
+    ∙ any_range (λ p. nat_lt 0 (slice_index sizes p)) (λ p. nat_lt 0 (first_size link content p)) from (behind - from)
+    (λ p above below. first.each p (omega (arith, above, below, rises, within, first.count)))
+
+-- the marks of those that symbols keep
+abbrev pub AreBySymbols : LinkInput → Live → List Bool → Type 0
+AreBySymbols link live marks = (s : ℕ) → s < length link.plan.sections → is_marked marks s ≡ is_kept_by_symbol link live s
+
+kept_are : (link : LinkInput) (content : Content) (marks : List Bool) (sizes : List ℕ) (s : ℕ) → AreBySymbols link content.live marks → AreFirstSizes link content sizes → s < length link.plan.sections
+    → kept_by link.plan content.live.kept marks sizes s ≡ is_kept link content s
+kept_are link content marks sizes s by first below =
+    ap (λ b. is_always (section_at link.plan.sections s).emit || is_marked content.live.kept s || b || list_any (λ n. nat_lt 0 n) (in_section link.plan.sections s sizes)) (by s below)
+    ∙ ap (λ b. is_always (section_at link.plan.sections s).emit || is_marked content.live.kept s || is_kept_by_symbol link content.live s || b) (bytes_are link content sizes s first)
 
 -- what a pass over all sections makes, by number
 pub whole : {X Y : Type 0} (f : ℕ → Y) (xs : List X) (n : ℕ) → n ≡ length xs → map f (range_with_len 0 n) ≡ map (λ q. f q.0) (enumerate_from 0 xs)
@@ -78,11 +103,12 @@ all_attributes link content n h =
     whole (attributes_by link.plan (part_contents link content)) link.plan.sections n h
     ∙ made_same_below (attributes_by link.plan (part_contents link content)) (section_attributes link content.live) link.plan.sections 0 (λ p below. attributes_are link content p (omega (arith, below)))
 
-pub all_kept : (link : LinkInput) (content : Content) (n : ℕ) → n ≡ length link.plan.sections
-    → map (kept_by link.plan content.live.kept (first_sizes link content)) (range_with_len 0 n) ≡ by_section (is_kept link content) link
-all_kept link content n h =
-    whole (kept_by link.plan content.live.kept (first_sizes link content)) link.plan.sections n h
-    ∙ made_same_below (kept_by link.plan content.live.kept (first_sizes link content)) (is_kept link content) link.plan.sections 0 (λ p below. kept_are link content p (omega (arith, below)))
+pub all_kept : (link : LinkInput) (content : Content) (marks : List Bool) (sizes : List ℕ) (n : ℕ) → AreBySymbols link content.live marks → AreFirstSizes link content sizes → n ≡ length link.plan.sections
+    → map (kept_by link.plan content.live.kept marks sizes) (range_with_len 0 n) ≡ by_section (is_kept link content) link
+all_kept link content marks sizes n by first h =
+    whole (kept_by link.plan content.live.kept marks sizes) link.plan.sections n h
+    ∙ made_same_below (kept_by link.plan content.live.kept marks sizes) (is_kept link content) link.plan.sections 0
+    (λ p below. kept_are link content marks sizes p by first (omega (arith, below)))
 
 -- ---- primaries
 

@@ -1,73 +1,79 @@
 -- From the totals of the parts to their contents.
-use Rattle.std.proofs.Common.{◌≡◌, ℕ, ◌+◌, ◌-◌, ◌^◌, ◌<◌, min, Bool, List, [], ◌∷◌, length, map, take, sum, Some, None, refl, sym, ap, ◌∙◌, arith}
+use Rattle.std.proofs.Common.{◌≡◌, ℕ, ◌+◌, ◌-◌, ◌^◌, ◌<◌, min, Bool, true, false, List, [], ◌∷◌, ◌++◌, length, ltb, map, take, sum, Some, None, refl, sym, ap, ◌∙◌, arith, inl, inr}
 use Rattle.std.specs.Prelude.{option_map}
-use Rattle.std.specs.List.{slice_get, slice_index, sum_by, take-map}
+use Rattle.std.specs.List.{enumerate_from, slice_get, slice_index, sum_by, take-map}
+use Rattle.std.proofs.lemmas.Bool.{cases_lt}
+use Rattle.std.proofs.lemmas.Bool.Decides.{nat_tests}
 use Rattle.std.proofs.lemmas.List.{length-map}
+use Rattle.std.proofs.lemmas.List.FromFn.{length-enumerate_from}
 use Rattle.std.proofs.lemmas.List.Sums.{sum-map, sum_by-append, sum_by-cons}
 use Rattle.std.proofs.lemmas.Option.{get_or_from_slice_get}
 use Rattle.lk_link.specs.declared.fault.Place.TheVariants.{Part}
 use Rattle.lk_link.specs.declared.link.LinkInput.{LinkInput}
+use Rattle.lk_link.specs.declared.plan.NamedParts.{NamedParts}
 use Rattle.lk_link.specs.declared.plan.PlanPart.{PlanPart}
-use Rattle.lk_link.specs.Inputs.{Input}
 use Rattle.lk_link.specs.Parts.{all_parts, part_at}
-use Rattle.lk_link.specs.Sizes.{capacity}
+use Rattle.lk_link.specs.TableSizes.{TableSizes}
+use Rattle.lk_link.proofs.Elements.{at_index, map_at, map_in, numbered_at}
 use Rattle.lk_link.proofs.Numbers.{length-made, made_at, made_of}
+use Rattle.lk_gc.specs.declared.live.Live.{Live}
+use Rattle.lk_tables.specs.HeaderParts.{told_sum}
+use Rattle.lk_tables.specs.SymbolTable.{TableEntry, entry_bytes}
+use Rattle.lk_tables.specs.TableLists.{TableLists, first_tables, table_bytes, table_of}
 use Rattle.lk_sizes.specs.declared.error.SizeError.TheVariants.{AddressOverflow}
 use Rattle.lk_sizes.specs.declared.owners.PartContents.{PartContents}
-use Rattle.lk_sizes.specs.declared.owners.Total.{Total}
+use Rattle.lk_sizes.specs.declared.owners.PartTotal.{PartTotal}
 use Rattle.lk_sizes.specs.Attributes.{part_attributes}
-use Rattle.lk_sizes.specs.Contents.{contents_of, part_contents, size_refusal}
-use Rattle.lk_sizes.specs.Owners.{Content, FirstSizesAreSizes, bytes_of, first_size, has_image, images_of, live_into, overflowing_part, owner_bytes, owners_in, part_size, part_sizes, takers}
-use Rattle.lk_gc.specs.Reach.{live_inputs}
-use Rattle.lk_sizes.proofs.Made.{made_map, made_same}
-use Rattle.lk_sizes.proofs.Takers.{owners_in_sections, section_owner}
-use Rattle.lk_sizes.proofs.Wholes.{taken_apart}
+use Rattle.lk_sizes.specs.Contents.{AreContentTotals, contents_of, part_contents, size_refusal}
+use Rattle.lk_sizes.specs.Owners.{AreFirstSizes, Content, EntryOwner, bytes_of, content_of, content_owners, content_size, first_size, has_image, owner_bytes}
+use Rattle.lk_sizes.specs.PartOwners.{overflowing_part, part_size, part_sizes, tables_of}
+use Rattle.lk_sizes.specs.Tables.{with_table, with_tables}
+use Rattle.lk_sizes.proofs.Made.{made_map}
 use Rattle.lk_sizes.proofs.Overflowing.{agree_fitting, agree_overflow, overflows_at, overflows_nowhere}
-use Rattle.lk_link.proofs.Elements.{at_index, map_in}
 
 -- what a total says, where its bytes fit
-abbrev pub as_contents : Total → PartContents
+abbrev pub as_contents : PartTotal → PartContents
 as_contents t = record { bytes = t.bytes; has_image = t.has_image; attrs = t.attrs }
 
-abbrev pub sums : List Total → List ℕ
+abbrev pub sums : List PartTotal → List ℕ
 sums totals = map (λ t. t.bytes) totals
 
 -- what adding up gives
-pub record AreSums (link : LinkInput) (content : Content) (totals : List Total) : Type 0 where
+pub record AreSums (link : LinkInput) (content : Content) (totals : List PartTotal) : Type 0 where
   pub count : length totals ≡ length (all_parts link.plan.sections)
-  pub bytes : (p : ℕ) (total : Total) → slice_get totals p ≡ Some total → min total.bytes (2 ^ 64) ≡ min (part_size link content p) (2 ^ 64)
-  pub image : (p : ℕ) (total : Total) → slice_get totals p ≡ Some total → total.has_image ≡ has_image link p
-  pub attrs : (p : ℕ) (total : Total) → slice_get totals p ≡ Some total → total.attrs ≡ part_attributes link content.live p
+  pub bytes : (p : ℕ) (total : PartTotal) → slice_get totals p ≡ Some total → min total.bytes (2 ^ 64) ≡ min (part_size link content p) (2 ^ 64)
+  pub image : (p : ℕ) (total : PartTotal) → slice_get totals p ≡ Some total → total.has_image ≡ has_image link p
+  pub attrs : (p : ℕ) (total : PartTotal) → slice_get totals p ≡ Some total → total.attrs ≡ part_attributes link content.live p
 
-agree : (link : LinkInput) (content : Content) (totals : List Total) → AreSums link content totals → (p : ℕ) → p < length (sums totals) → min (slice_index (sums totals) p) (2 ^ 64) ≡ min (slice_index (part_sizes link content) p) (2 ^ 64)
+agree : (link : LinkInput) (content : Content) (totals : List PartTotal) → AreSums link content totals → (p : ℕ) → p < length (sums totals) → min (slice_index (sums totals) p) (2 ^ 64) ≡ min (slice_index (part_sizes link content) p) (2 ^ 64)
 agree link content totals h p below =
     let parts : List PlanPart = all_parts link.plan.sections in
-    let within : p < length totals = omega (arith, length-map totals (λ (t : Total). t.bytes)) in
+    let within : p < length totals = omega (arith, length-map totals (λ (t : PartTotal). t.bytes)) in
     let at = at_index totals p within in
-    let sum : slice_index (sums totals) p ≡ at.0.bytes = get_or_from_slice_get (sums totals) p at.0.bytes 0 (map_in (λ (t : Total). t.bytes) totals p at.0 at.1) in
+    let sum : slice_index (sums totals) p ≡ at.0.bytes = get_or_from_slice_get (sums totals) p at.0.bytes 0 (map_in (λ (t : PartTotal). t.bytes) totals p at.0 at.1) in
     let size : slice_index (part_sizes link content) p ≡ part_size link content p = made_at (part_size link content) 0 parts 0 p (omega (arith, h.count)) ∙ ap (part_size link content) (omega arith) in
     omega (arith, sum, size, h.bytes p at.0 at.1)
 
-as_long : (link : LinkInput) (content : Content) (totals : List Total) → AreSums link content totals → length (sums totals) ≡ length (part_sizes link content)
+as_long : (link : LinkInput) (content : Content) (totals : List PartTotal) → AreSums link content totals → length (sums totals) ≡ length (part_sizes link content)
 as_long link content totals h =
-    length-map totals (λ (t : Total). t.bytes) ∙ h.count ∙ sym (length-made (part_size link content) (all_parts link.plan.sections) 0)
+    length-map totals (λ (t : PartTotal). t.bytes) ∙ h.count ∙ sym (length-made (part_size link content) (all_parts link.plan.sections) 0)
 
 -- what doesn't fit is refused
-pub refused : (link : LinkInput) (content : Content) (totals : List Total) (i : ℕ) → AreSums link content totals → i < length totals → sum_by (λ t. t.bytes) (take i totals) < 2 ^ 64
+pub refused : (link : LinkInput) (content : Content) (totals : List PartTotal) (i : ℕ) → AreSums link content totals → i < length totals → sum_by (λ t. t.bytes) (take i totals) < 2 ^ 64
     → 2 ^ 64 - 1 < sum_by (λ t. t.bytes) (take (i + 1) totals) → size_refusal link content ≡ Some (AddressOverflow (Part i))
 refused link content totals i h within low high =
-    let before = sum-map (λ (t : Total). t.bytes) (take i totals) in
-    let behind = sum-map (λ (t : Total). t.bytes) (take (i + 1) totals) in
-    let front = take-map (λ (t : Total). t.bytes) i totals in
-    let more = take-map (λ (t : Total). t.bytes) (i + 1) totals in
-    let found : overflowing_part (sums totals) ≡ Some i = overflows_at (sums totals) i (omega (arith, length-map totals (λ (t : Total). t.bytes))) (omega (arith, ap sum front, before)) (omega (arith, ap sum more, behind)) in
+    let before = sum-map (λ (t : PartTotal). t.bytes) (take i totals) in
+    let behind = sum-map (λ (t : PartTotal). t.bytes) (take (i + 1) totals) in
+    let front = take-map (λ (t : PartTotal). t.bytes) i totals in
+    let more = take-map (λ (t : PartTotal). t.bytes) (i + 1) totals in
+    let found : overflowing_part (sums totals) ≡ Some i = overflows_at (sums totals) i (omega (arith, length-map totals (λ (t : PartTotal). t.bytes))) (omega (arith, ap sum front, before)) (omega (arith, ap sum more, behind)) in
     ap (option_map (λ p. AddressOverflow (Part p))) (sym (agree_overflow (sums totals) (part_sizes link content) (as_long link content totals h) (agree link content totals h)) ∙ found)
 
 -- what fits is what the live sections bring
-pub fitting : (link : LinkInput) (content : Content) (totals : List Total) → AreSums link content totals → sum_by (λ t. t.bytes) totals < 2 ^ 64
+pub fitting : (link : LinkInput) (content : Content) (totals : List PartTotal) → AreSums link content totals → sum_by (λ t. t.bytes) totals < 2 ^ 64
     → (size_refusal link content ≡ None) × (map as_contents totals ≡ part_contents link content)
 fitting link content totals h fits =
-    let low : sum (sums totals) < 2 ^ 64 = omega (arith, sum-map (λ (t : Total). t.bytes) totals) in
+    let low : sum (sums totals) < 2 ^ 64 = omega (arith, sum-map (λ (t : PartTotal). t.bytes) totals) in
     let same : sums totals ≡ part_sizes link content = agree_fitting (sums totals) (part_sizes link content) (as_long link content totals h) (agree link content totals h) low in
     let none : overflowing_part (part_sizes link content) ≡ None = ap overflowing_part (sym same) ∙ overflows_nowhere (sums totals) low in
     let parts : List PlanPart = all_parts link.plan.sections in
@@ -75,7 +81,7 @@ fitting link content totals h fits =
     made_of (contents_of link content) (map as_contents totals) parts 0 (length-map totals as_contents ∙ h.count) (λ p below.
     let at = at_index totals p (omega (arith, h.count)) in
     let size : slice_index (part_sizes link content) p ≡ part_size link content p = made_at (part_size link content) 0 parts 0 p below ∙ ap (part_size link content) (omega arith) in
-    let sum : slice_index (sums totals) p ≡ at.0.bytes = get_or_from_slice_get (sums totals) p at.0.bytes 0 (map_in (λ (t : Total). t.bytes) totals p at.0 at.1) in
+    let sum : slice_index (sums totals) p ≡ at.0.bytes = get_or_from_slice_get (sums totals) p at.0.bytes 0 (map_in (λ (t : PartTotal). t.bytes) totals p at.0 at.1) in
     let bytes : at.0.bytes ≡ part_size link content p = sym sum ∙ ap (λ (xs : List ℕ). slice_index xs p) same ∙ size in
     let number : 0 + p ≡ p = omega arith in
     map_in as_contents totals p at.0 at.1
@@ -89,29 +95,100 @@ fitting link content totals h fits =
 pub contents_sizes : (link : LinkInput) (content : Content) → map (λ c. c.bytes) (part_contents link content) ≡ part_sizes link content
 contents_sizes link content = made_map (λ (c : PartContents). c.bytes) (contents_of link content) (all_parts link.plan.sections) 0
 
+-- ---- with the entries of tables
+
+entries_take : (part : PlanPart) (es : List TableEntry) → bytes_of part (map EntryOwner es) ≡ entry_bytes es
+entries_take part [] = refl
+entries_take part (e ∷ es) =
+    omega (
+      arith,
+      entries_take part es,
+      sum_by-cons (owner_bytes part) (EntryOwner e) (map EntryOwner es),
+      sum_by-cons (λ (x : TableEntry). x.bytes) e es,
+    )
+
+-- what content and the entries of some tables take in a part
+size_with : (link : LinkInput) (live : Live) (merged_lens : List ℕ) (lists : TableLists) (p : ℕ)
+    → bytes_of (part_at link.plan.sections p) (content_owners link live merged_lens p ++ map EntryOwner (table_of link.plan.named lists p))
+    ≡ content_size link live merged_lens p + table_bytes link.plan.named lists p
+size_with link live merged_lens lists p =
+    let part : PlanPart = part_at link.plan.sections p in
+    let entries : List TableEntry = table_of link.plan.named lists p in
+    omega (arith, sum_by-append (owner_bytes part) (content_owners link live merged_lens p) (map EntryOwner entries), entries_take part entries)
+
+-- a total is what both bring
+record IsWith (link : LinkInput) (live : Live) (merged_lens : List ℕ) (lists : TableLists) (p : ℕ) (total : PartTotal) : Type 0 where
+  bytes : min total.bytes (2 ^ 64) ≡ min (content_size link live merged_lens p + table_bytes link.plan.named lists p) (2 ^ 64)
+  image : total.has_image ≡ has_image link p
+  attrs : total.attrs ≡ part_attributes link live p
+
+with_at : (link : LinkInput) (live : Live) (merged_lens : List ℕ) (lists : TableLists) (totals : List PartTotal) (p : ℕ) (total : PartTotal) → AreContentTotals link live merged_lens totals
+    → slice_get (with_tables link.plan.named lists totals) p ≡ Some total → IsWith link live merged_lens lists p total
+with_at link live merged_lens lists totals p total are there =
+    let named : NamedParts = link.plan.named in
+    let from = map_at (with_table named lists) (enumerate_from 0 totals) p total there in
+    let q : ℕ × PartTotal = from.0 in
+    let at = numbered_at 0 totals p q from.1 in
+    let h = are.each p q.1 at.1 in
+    let number : q.0 ≡ p = omega (arith, at.0) in
+    let table : table_bytes named lists q.0 ≡ table_bytes named lists p = ap (table_bytes named lists) number in
+    let bytes : total.bytes ≡ min (q.1.bytes + told_sum (table_bytes named lists q.0)) (2 ^ 128 - 1) = ap (λ (t : PartTotal). t.bytes) (sym from.2) in
+    record {
+      bytes = omega (arith, bytes, table, h.bytes);
+      image = ap (λ (t : PartTotal). t.has_image) (sym from.2) ∙ h.image;
+      attrs = ap (λ (t : PartTotal). t.attrs) (sym from.2) ∙ h.attrs;
+    }
+
+as_many : (named : NamedParts) (lists : TableLists) (totals : List PartTotal) → length (with_tables named lists totals) ≡ length totals
+as_many named lists totals = length-map (enumerate_from 0 totals) (with_table named lists) ∙ length-enumerate_from 0 totals
+
+-- with the whole tables, they are the sums of the parts
+pub are_sums : (link : LinkInput) (content : Content) (totals : List PartTotal) → AreContentTotals link content.live content.merged_lens totals
+    → AreSums link content (with_tables link.plan.named (tables_of link content) totals)
+are_sums link content totals are =
+    let lists : TableLists = tables_of link content in
+    let at : (p : ℕ) (total : PartTotal) → slice_get (with_tables link.plan.named lists totals) p ≡ Some total → IsWith link content.live content.merged_lens lists p total
+    = λ p total there. with_at link content.live content.merged_lens lists totals p total are there in
+    record {
+      count = as_many link.plan.named lists totals ∙ are.count;
+      bytes = λ p total there. (at p total there).bytes ∙ ap (λ (n : ℕ). min n (2 ^ 64)) (sym (size_with link content.live content.merged_lens lists p));
+      image = λ p total there. (at p total there).image;
+      attrs = λ p total there. (at p total there).attrs;
+    }
+
 -- ---- first sizes
 
-owned : (part : PlanPart) (xs : List Input) → sum_by (λ x. capacity part x.section.size) xs ≡ bytes_of part (map section_owner xs)
-owned part [] = refl
-owned part (x ∷ xs) =
-    omega (
-      arith,
-      owned part xs,
-      sum_by-cons (λ (y : Input). capacity part y.section.size) x xs,
-      sum_by-cons (owner_bytes part) (section_owner x) (map section_owner xs),
-    )
+is_above : (n : ℕ) → 0 < n → ltb 0 n ≡ true
+is_above n h = grind (arith, nat_tests)
 
-pub first_is_size : (link : LinkInput) (content : Content) (p : ℕ) → first_size link content p ≡ part_size link content p
-first_is_size link content p =
-    let part : PlanPart = part_at link.plan.sections p in
-    let sections : List Input = live_into link content.live p in
-    omega (
-      arith,
-      owned part sections,
-      ap (bytes_of part) (owners_in_sections p (live_inputs link content.live)),
-      taken_apart link content p,
-      sum_by-append (owner_bytes part) (images_of link content.merged_lens p) (owners_in p (takers link content)),
-    )
+is_nothing : (n : ℕ) → n < 1 → ltb 0 n ≡ false
+is_nothing n h = grind (arith, nat_tests)
 
-pub first_sizes_are_sizes : FirstSizesAreSizes
-first_sizes_are_sizes link content keeps = made_same (first_size link content) (part_size link content) (all_parts link.plan.sections) 0 (first_is_size link content)
+above_alike : (m n : ℕ) → min m 1 ≡ min n 1 → ltb 0 m ≡ ltb 0 n
+above_alike m n h =
+    elim (cases_lt 0 m) [
+      | inl l ↦ is_above m l ∙ sym (is_above n (omega arith))
+      | inr r ↦ is_nothing m (omega arith) ∙ sym (is_nothing n (omega arith))
+    ]
+
+-- a total's bytes, at most 2^64 - 1
+abbrev pub cap : PartTotal → ℕ
+cap t = min t.bytes (2 ^ 64 - 1)
+
+-- with the first tables, they tell what the first sizes tell
+pub are_first : (sizes : TableSizes) (link : LinkInput) (live : Live) (merged_lens : List ℕ) (totals : List PartTotal) (first : List ℕ) → AreContentTotals link live merged_lens totals
+    → first ≡ map cap (with_tables link.plan.named (first_tables sizes link live) totals) → AreFirstSizes link (content_of sizes live merged_lens) first
+are_first sizes link live merged_lens totals first are is =
+    let lists : TableLists = first_tables sizes link live in
+    let whole : List PartTotal = with_tables link.plan.named lists totals in
+    let count : length first ≡ length whole = ap length is ∙ length-map whole cap in
+    record {
+      count = count ∙ as_many link.plan.named lists totals ∙ are.count;
+      each = λ p below.
+          let at = at_index whole p (omega (arith, below, count)) in
+          let read : slice_index first p ≡ cap at.0
+          = ap (λ (xs : List ℕ). slice_index xs p) is ∙ get_or_from_slice_get (map cap whole) p (cap at.0) 0 (map_in cap whole p at.0 at.1) in
+          let with = with_at link live merged_lens lists totals p at.0 are at.1 in
+          above_alike (slice_index first p) (first_size link (content_of sizes live merged_lens) p)
+          (omega (arith, read, with.bytes, size_with link live merged_lens lists p));
+    }

@@ -1,20 +1,23 @@
 -- Where images stand: each first in a part of its output section.
-use Rattle.std.proofs.Common.{◌≡◌, ℕ, zero, suc, ◌+◌, ◌-◌, ◌<◌, ◌≤◌, Bool, true, false, cond, List, [], ◌∷◌, ◌++◌, get_or, length, map, drop, Some, refl, sym, ap, ◌∙◌, arith, append_assoc, length-append}
+use Rattle.std.proofs.Common.{◌≡◌, ℕ, zero, suc, ◌+◌, ◌-◌, ◌<◌, ◌≤◌, Bool, true, false, cond, List, [], ◌∷◌, ◌++◌, get_or, length, map, drop, None, Option, Some, refl, sym, ap, ◌∙◌, arith, append_assoc, length-append}
+use Rattle.std.specs.Prelude.{option_map}
+use Rattle.std.specs.Option.{option_map_or, option_to_list}
 use Rattle.std.specs.List.{enumerate_from, flat_map, slice_get, slice_index, slice_index_or}
 use Rattle.std.proofs.lemmas.Grind.{get_or_default_zero}
 use Rattle.std.proofs.lemmas.List.{drop_more, get_or_append_left, get_or-append-add, length-map, map-append}
+use Rattle.std.proofs.lemmas.List.Sums.{sum_by-append}
 use Rattle.std.proofs.lemmas.Option.{get_or_from_slice_get}
 use Rattle.lk_link.specs.declared.link.LinkInput.{LinkInput}
 use Rattle.lk_link.specs.declared.plan.PlanPart.{PlanPart}
 use Rattle.lk_link.specs.declared.plan.PlanSection.{PlanSection}
-use Rattle.lk_link.specs.Parts.{all_parts, first_part, part_at}
+use Rattle.lk_link.specs.Parts.{all_parts, first_part, part_at, part_sections}
 use Rattle.lk_link.specs.PlanSections.{section_at}
 use Rattle.lk_link.specs.Sizes.{capacity}
 use Rattle.lk_link.proofs.Elements.{at_index, map_in}
 use Rattle.lk_link.proofs.Numbers.{length-made, made_get}
 use Rattle.lk_link.proofs.PartNumbers.{first_part-cons, first_part-suc}
 use Rattle.lk_sizes.specs.declared.owners.PartContents.{PartContents}
-use Rattle.lk_sizes.specs.Owners.{by_part, ImageOwner, bytes_of, has_image, images_of, part_sections}
+use Rattle.lk_sizes.specs.Owners.{IdentityOwner, ImageOwner, by_part, bytes_of, has_image, identity_of, identity_size, images_of, leading_of, owner_bytes}
 use Rattle.lk_sizes.proofs.LiveParts.{read_part}
 use Rattle.lk_sizes.proofs.Made.{map_map}
 
@@ -32,6 +35,19 @@ image_size link merged_lens part p =
       | true ↦ omega arith
       | false ↦ refl
     ]
+
+-- the identity takes its bytes with the padding behind them, if it stands in the part
+pub identity_takes : (link : LinkInput) (part : PlanPart) (p : ℕ) → bytes_of part (identity_of link p) ≡ option_map_or (capacity part) (identity_size link p) 0
+identity_takes link part p =
+    elim (identity_size link p) as (λ o. bytes_of part (option_to_list (option_map IdentityOwner o)) ≡ option_map_or (capacity part) o 0) [
+      | None ↦ refl
+      | Some size ↦ omega arith
+    ]
+
+-- both together
+pub leading_size : (link : LinkInput) (merged_lens : List ℕ) (p : ℕ) → bytes_of (part_at link.plan.sections p) (leading_of link merged_lens p)
+    ≡ bytes_of (part_at link.plan.sections p) (images_of link merged_lens p) + bytes_of (part_at link.plan.sections p) (identity_of link p)
+leading_size link merged_lens p = sum_by-append (owner_bytes (part_at link.plan.sections p)) (images_of link merged_lens p) (identity_of link p)
 
 -- ---- the sections of parts
 
@@ -140,3 +156,12 @@ image_reads link merged_lens contents parts lens p len d none are all long below
     ∙ ap (λ (q : PlanPart). cond (has_image link p) (capacity q len) 0) part
     ∙ ap (λ (n : ℕ). cond (has_image link p) (capacity (part_at link.plan.sections p) n) 0) is
     ∙ sym (image_size link merged_lens (part_at link.plan.sections p) p)
+
+-- those of the identity likewise
+pub identity_reads : (link : LinkInput) (parts : List PlanPart) (p : ℕ) (identity : Option ℕ) (none : PlanPart) → parts ≡ all_parts link.plan.sections → p < length (all_parts link.plan.sections)
+    → identity ≡ identity_size link p → option_map_or (capacity (slice_index_or parts p none)) identity 0 ≡ bytes_of (part_at link.plan.sections p) (identity_of link p)
+identity_reads link parts p identity none all below is =
+    let part : slice_index_or parts p none ≡ part_at link.plan.sections p = read_part link parts p none all (omega (arith, ap length all)) in
+    ap (λ (q : PlanPart). option_map_or (capacity q) identity 0) part
+    ∙ ap (λ (o : Option ℕ). option_map_or (capacity (part_at link.plan.sections p)) o 0) is
+    ∙ sym (identity_takes link (part_at link.plan.sections p) p)

@@ -20,7 +20,8 @@ use Rattle.lk_link.proofs.Elements.{filter_at, filter_in}
 use Rattle.lk_link.proofs.GoodLinks.{section_of}
 use Rattle.lk_link.proofs.PartNumbers.{first_part-cons, first_part-suc}
 use Rattle.lk_sizes.specs.Images.{ImagesStandWhereInputsGo, image_part}
-use Rattle.lk_sizes.specs.Owners.{has_image, into, is_merged, part_sections}
+use Rattle.lk_sizes.specs.Owners.{has_image, into, is_merged}
+use Rattle.lk_link.specs.Parts.{part_sections}
 use Rattle.lk_sizes.proofs.Addressing.{same_number}
 use Rattle.lk_sizes.proofs.ImageLemmas.{its_section}
 use Rattle.lk_sizes.proofs.KeptOnes.{merged_good}
@@ -35,7 +36,7 @@ image_there link k x there merged =
     let all : List Input = into x.section.part (all_inputs link.groups) in
     list_any_at is_merged all inside.0 x (slice_get_within all inside.0 x inside.1) (ap is_merged (get_or_from_slice_get all inside.0 x x inside.1) ∙ merged)
 
-any_at : {X : Type 0} (p : X → Bool) (xs : List X) → list_any p xs ≡ true → (k : ℕ) × (x : X) × (slice_get xs k ≡ Some x) × (p x ≡ true)
+pub any_at : {X : Type 0} (p : X → Bool) (xs : List X) → list_any p xs ≡ true → (k : ℕ) × (x : X) × (slice_get xs k ≡ Some x) × (p x ≡ true)
 any_at p [] h = absurd (cc)
 any_at p (x ∷ xs) h = elim (or_cases (p x) (list_any p xs) h) [
   | inl here ↦ (0, x, refl, here)

@@ -18,7 +18,9 @@ use Rattle.lk_sizes.specs.declared.owners.PartContents.{PartContents}
 use Rattle.lk_sizes.specs.Attributes.{parts_of}
 use Rattle.lk_sizes.specs.Contents.{contents_of, part_contents}
 use Rattle.lk_sizes.specs.Images.{ImagesAreOwners, image_address, image_addresses, image_number, image_part, is_image_of}
-use Rattle.lk_sizes.specs.Owners.{Content, ImageOwner, Owner, has_image, owner_address, owners_in, owners_of, takers}
+use Rattle.lk_sizes.specs.Owners.{Content, EntryOwner, ImageOwner, Owner, has_image, identity_of, owner_address, owners_in, takers}
+use Rattle.lk_sizes.specs.PartOwners.{owners_of, tables_of}
+use Rattle.lk_tables.specs.TableLists.{table_of}
 use Rattle.lk_sizes.specs.Tables.{in_section}
 use Rattle.lk_sizes.proofs.Addressing.{same_number}
 use Rattle.lk_sizes.proofs.Emitting.{contents_are, whole}
@@ -107,10 +109,13 @@ image_is_first link content s p below is =
     let at = found (has_image link) (first_part sections s) (first_part sections (s + 1) - first_part sections s) p is in
     let within : p < first_part sections (s + 1) = omega (arith, at.below, rises) in
     let section : section_of link p ≡ s = its_section sections s p below at.from within in
-    let rest : List Owner = owners_in p (takers link content) in
+    let identity : List Owner = identity_of link p in
+    let brought : List Owner = owners_in p (takers link content.live) in
+    let entries : List Owner = map EntryOwner (table_of link.plan.named (tables_of link content) p) in
+    let rest : List Owner = (identity ++ brought) ++ entries in
     let image : ℕ → List Owner = λ t. ImageOwner t (slice_index content.merged_lens t) ∷ [] in
     let owners : owners_of link content p ≡ image s ++ rest =
-    ap (λ b. cond b (image (section_of link p)) [] ++ rest) at.passes ∙ ap (λ t. image t ++ rest) section in
+    ap (λ b. ((cond b (image (section_of link p)) [] ++ identity) ++ brought) ++ entries) at.passes ∙ ap (λ t. image t ++ rest) section in
     record {
       number = ap (position_or_len (is_image_of s)) owners ∙ ap (λ b. cond (not b) (1 + position_or_len (is_image_of s) rest) 0) (same_number s);
       owner = ap (λ os. slice_get os 0) owners;

@@ -16,7 +16,10 @@ pub mod Marks
 pub mod Numbering
 pub mod Overflowing
 pub mod OwnersLive
+pub mod OwnersOnce
 pub mod Placed
+pub mod SymbolsKeep
+pub mod TableParts
 pub mod Takers
 pub mod Tiling
 pub mod Wholes

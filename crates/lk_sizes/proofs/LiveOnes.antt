@@ -15,7 +15,8 @@ use Rattle.lk_link.specs.WellFormed.{IsWellFormed}
 use Rattle.lk_gc.specs.declared.live.Live.{Live}
 use Rattle.lk_gc.specs.Reach.{AreLive, IsLive, live_inputs, marked}
 use Rattle.lk_reach.proofs.Numbered.{file_of_input, one_place}
-use Rattle.lk_sizes.specs.Owners.{SectionOwner, owns}
+use Rattle.lk_sizes.specs.Owners.{SectionOwner}
+use Rattle.lk_sizes.specs.PartOwners.{owns}
 
 -- ---- each is one of the link's
 
@@ -76,7 +77,7 @@ all_from_places : {X : Type 0} (P : X → Type 0) (xs : List X) → ((k : ℕ) (
 all_from_places P [] h = tt
 all_from_places P (x ∷ xs) h = (h 0 x refl, all_from_places P xs (λ k. h (suc k)))
 
-pairwise_from_places : {X : Type 0} (R : X → X → Type 0) (xs : List X)
+pub pairwise_from_places : {X : Type 0} (R : X → X → Type 0) (xs : List X)
     → ((j k : ℕ) (x y : X) → j < k → slice_get xs j ≡ Some x → slice_get xs k ≡ Some y → R x y) → Pairwise R xs
 pairwise_from_places R [] h = tt
 pairwise_from_places R (x ∷ xs) h =
@@ -107,9 +108,9 @@ behind P [] y ys h = h.0
 behind P (x ∷ xs) y ys h = behind P xs y ys h.1
 
 -- those in front of one differ from it
-pub in_front : (xs : List Input) (y : Input) (ys : List Input) → Pairwise Differ (xs ++ y ∷ ys) → AllByRecursion (λ x. Differ x y) xs
-in_front [] y ys h = tt
-in_front (x ∷ xs) y ys h = (behind (Differ x) xs y ys h.0, in_front xs y ys h.1)
+pub in_front : {X : Type 0} (R : X → X → Type 0) (xs : List X) (y : X) (ys : List X) → Pairwise R (xs ++ y ∷ ys) → AllByRecursion (λ x. R x y) xs
+in_front R [] y ys h = tt
+in_front R (x ∷ xs) y ys h = (behind (R x) xs y ys h.0, in_front R xs y ys h.1)
 
 -- what differs isn't taken for the other
 pub not_section : (x y : Input) (size : ℕ) → Differ x y → owns y (SectionOwner x size) ≡ false

@@ -10,7 +10,8 @@ use Rattle.lk_link.proofs.InputLemmas.{numbered_get}
 use Rattle.lk_gc.specs.Reach.{marked}
 use Rattle.lk_sizes.specs.declared.addresses.LiveSection.{LiveSection}
 use Rattle.lk_sizes.specs.Addresses.{TableTellsLiveSections, live_section, section_address, section_addresses, told_section}
-use Rattle.lk_sizes.specs.Owners.{Content, live_address}
+use Rattle.lk_sizes.specs.Owners.{Content}
+use Rattle.lk_sizes.specs.PartOwners.{live_address}
 
 -- one element more, with its number
 pub numbered_push : {X : Type 0} (o : ℕ) (xs : List X) (x : X) → enumerate_from o (xs ++ x ∷ []) ≡ enumerate_from o xs ++ (o + length xs, x) ∷ []

@@ -6,7 +6,7 @@ use Rattle.std.proofs.lemmas.List.Sums.{sum_by-take-le, sum_by-cons, get_or-le-s
 use Rattle.std.proofs.lemmas.Bool.{cases_lt}
 use Rattle.std.proofs.lemmas.Bool.Decides.{nat_tests}
 use Rattle.lk_link.specs.Files.{first_some}
-use Rattle.lk_sizes.specs.Owners.{least_below, overflowing_part}
+use Rattle.lk_sizes.specs.PartOwners.{least_below, overflowing_part}
 
 none_below : (p : ℕ → Bool) (n : ℕ) → ((k : ℕ) → k < n → p k ≡ false) → least_below p n ≡ None
 unfolding first_some

@@ -1,13 +1,19 @@
 -- Each owner of a part is an image, a live section or a common.
-use Rattle.std.proofs.Common.{◌≡◌, ℕ, zero, suc, ◌==◌, true, false, cond, List, [], ◌∷◌, map, filter, Some, refl, sym, ap, ◌∙◌, subst, inl, inr}
+use Rattle.std.proofs.Common.{◌≡◌, ℕ, zero, suc, ◌==◌, true, false, cond, List, [], ◌∷◌, map, filter, None, Some, refl, sym, ap, ◌∙◌, subst, inl, inr}
+use Rattle.std.specs.Prelude.{option_map}
 use Rattle.std.specs.List.{slice_get, slice_index}
+use Rattle.std.specs.Option.{option_to_list}
 use Rattle.std.proofs.lemmas.Bool.{eqb-true}
 use Rattle.lk_link.specs.declared.link.LinkInput.{LinkInput}
 use Rattle.lk_link.specs.Inputs.{Input, NumberedFile, numbered_files}
 use Rattle.lk_link.proofs.Elements.{append_at, contains_at, filter_at, flat_map_at, flat_map_in, map_at}
 use Rattle.lk_gc.specs.Reach.{live_inputs}
 use Rattle.lk_reach.proofs.Numbered.{file_at}
-use Rattle.lk_sizes.specs.Owners.{Content, ImageOwner, IsOwnerOf, Owner, OwnersAreLive, Taker, common_taker, commons_of, file_takers, has_image, images_of, live_of, owners_in, part_sections, section_taker, takers}
+use Rattle.lk_sizes.specs.Owners.{Content, EntryOwner, IdentityOwner, ImageOwner, Owner, Taker, common_taker, commons_of, content_owners, file_takers, has_image, identity_of, identity_size, images_of, leading_of, live_of, owners_in, section_taker, takers}
+use Rattle.lk_sizes.specs.PartOwners.{IsOwnerOf, OwnersAreLive, tables_of}
+use Rattle.lk_tables.specs.SymbolTable.{TableEntry}
+use Rattle.lk_tables.specs.TableLists.{table_of}
+use Rattle.lk_link.specs.Parts.{part_sections}
 use Rattle.lk_sizes.proofs.Addressing.{live_by_files}
 use Rattle.lk_sizes.proofs.CommonOnes.{is_common_in}
 
@@ -30,7 +36,7 @@ image_is link content p k o there =
     only (suc j) at has = absurd (cc)
 
 -- what a file brings to the part
-brought : (link : LinkInput) (content : Content) (i : ℕ) (f : NumberedFile) (k : ℕ) (t : Taker) → slice_get (numbered_files link.groups) i ≡ Some f → slice_get (file_takers link content f) k ≡ Some t
+brought : (link : LinkInput) (content : Content) (i : ℕ) (f : NumberedFile) (k : ℕ) (t : Taker) → slice_get (numbered_files link.groups) i ≡ Some f → slice_get (file_takers link content.live f) k ≡ Some t
     → IsOwnerOf link content t.part t.owner
 brought link content i f k t at_f at_t =
     elim (append_at (map section_taker (live_of link content.live f)) (map common_taker (commons_of link content.live f)) k t at_t) [
@@ -44,17 +50,48 @@ brought link content i f k t at_f at_t =
           subst (λ (u : Taker). IsOwnerOf link content u.part u.owner) from.2 (is_common_in link content.live f common.0 from.0 (file_at link.groups i f at_f).there from.1)
     ]
 
-pub owners_are_live : OwnersAreLive
-owners_are_live link content p k o there =
-    elim (append_at (images_of link content.merged_lens p) (owners_in p (takers link content)) k o there) [
+-- the identity is that of the part
+identity_is : (link : LinkInput) (content : Content) (p j : ℕ) (o : Owner) → slice_get (identity_of link p) j ≡ Some o → IsOwnerOf link content p o
+identity_is link content p j o there =
+    (elim (identity_size link p) as (λ m. identity_size link p ≡ m → slice_get (option_to_list (option_map IdentityOwner m)) j ≡ Some o → IsOwnerOf link content p o) [
+      | None ↦ λ is at. absurd (cc)
+      | Some size ↦ λ is at. only j size at is
+    ]) refl there
+  where
+    only : (i size : ℕ) → slice_get (IdentityOwner size ∷ []) i ≡ Some o → identity_size link p ≡ Some size → IsOwnerOf link content p o
+    only zero size at is =
+        let same : IdentityOwner size ≡ o = cc in
+        subst (IsOwnerOf link content p) same is
+    only (suc i) size at is = absurd (cc)
+
+leads : (link : LinkInput) (content : Content) (p k : ℕ) (o : Owner) → slice_get (leading_of link content.merged_lens p) k ≡ Some o → IsOwnerOf link content p o
+leads link content p k o there =
+    elim (append_at (images_of link content.merged_lens p) (identity_of link p) k o there) [
       | inl image ↦ image_is link content p k o image
+      | inr identity ↦ identity_is link content p identity.0 o identity.2
+    ]
+
+own : (link : LinkInput) (content : Content) (p k : ℕ) (o : Owner) → slice_get (content_owners link content.live content.merged_lens p) k ≡ Some o → IsOwnerOf link content p o
+own link content p k o there =
+    elim (append_at (leading_of link content.merged_lens p) (owners_in p (takers link content.live)) k o there) [
+      | inl leading ↦ leads link content p k o leading
       | inr taken ↦
-          let here : List Taker = filter (λ (t : Taker). t.part == p) (takers link content) in
+          let here : List Taker = filter (λ (t : Taker). t.part == p) (takers link content.live) in
           let from = map_at (λ (t : Taker). t.owner) here taken.0 o taken.2 in
           let t : Taker = from.0 in
-          let among = filter_at (λ (u : Taker). u.part == p) (takers link content) taken.0 t from.1 in
-          let at = flat_map_at (file_takers link content) (numbered_files link.groups) among.0 t among.1 in
+          let among = filter_at (λ (u : Taker). u.part == p) (takers link content.live) taken.0 t from.1 in
+          let at = flat_map_at (file_takers link content.live) (numbered_files link.groups) among.0 t among.1 in
           let goes : t.part ≡ p = eqb-true t.part p among.2 in
           subst (λ (q : ℕ). IsOwnerOf link content q o) goes
           (subst (λ (u : Owner). IsOwnerOf link content t.part u) from.2 (brought link content at.outer at.from at.inner t at.there at.gives))
+    ]
+
+pub owners_are_live : OwnersAreLive
+owners_are_live link content p k o there =
+    let entries : List TableEntry = table_of link.plan.named (tables_of link content) p in
+    elim (append_at (content_owners link content.live content.merged_lens p) (map EntryOwner entries) k o there) [
+      | inl before ↦ own link content p k o before
+      | inr entry ↦
+          let from = map_at EntryOwner entries entry.0 o entry.2 in
+          subst (IsOwnerOf link content p) from.2 (contains_at entries entry.0 from.0 from.1)
     ]

@@ -10,21 +10,25 @@ use Rattle.std.proofs.lemmas.Option.{get_or_from_slice_get, slice_get-get_or, sl
 use Rattle.lk_link.specs.declared.link.LinkInput.{LinkInput}
 use Rattle.lk_link.specs.declared.section.InputSection.{InputSection}
 use Rattle.lk_link.specs.Files.{file_in}
-use Rattle.lk_link.specs.Inputs.{Input, NumberedFile, all_inputs, input_number, inputs_from, inputs_of, numbered_files, numbered_section}
+use Rattle.lk_link.specs.Inputs.{Input, NumberedFile, all_inputs, first_input, input_number, inputs_from, inputs_of, numbered_files, numbered_section}
 use Rattle.lk_link.specs.Marks.{is_marked}
 use Rattle.lk_link.specs.Parts.{all_parts, part_at}
 use Rattle.lk_link.specs.Sizes.{capacity}
+use Rattle.lk_link.specs.TableSizes.{TableSizes}
 use Rattle.lk_link.specs.WellFormed.{IsWellFormed}
-use Rattle.lk_link.proofs.Elements.{append_left, append_right, map_in}
+use Rattle.lk_link.proofs.Elements.{append_left, append_right, at_index, map_in}
 use Rattle.lk_link.proofs.InputLemmas.{inputs_follow, numbered_get}
 use Rattle.lk_gc.specs.declared.live.Live.{Live}
 use Rattle.lk_gc.specs.Reach.{AreLive, live_inputs}
 use Rattle.lk_reach.proofs.LiveWalk.{split_at}
+use Rattle.lk_reach.proofs.SymbolNumbers.{inputs_few}
 use Rattle.lk_sizes.specs.declared.addresses.CommonAddress.{CommonAddress}
 use Rattle.lk_sizes.specs.declared.commons.Common.{Common}
 use Rattle.lk_sizes.specs.Addresses.{section_address, told_common}
-use Rattle.lk_sizes.specs.Owners.{Content, EndsFit, IsCommonIn, Taker, common_address, common_taker, commons_of, file_takers, images_of, live_address, live_of, owner_bytes, owners_in, section_taker, takers}
-use Rattle.lk_sizes.specs.Tables.{ArePassed, HaveSpace, behind_image, bytes_in, common_place, common_places, live_below, next_behind, section_place, section_places}
+use Rattle.lk_sizes.specs.Owners.{Content, EntryOwner, IsCommonIn, Taker, common_taker, commons_of, content_of, content_owners, file_takers, leading_of, live_of, owner_bytes, owners_in, section_taker, takers}
+use Rattle.lk_sizes.specs.PartOwners.{EndsFit, common_address, live_address, tables_of}
+use Rattle.lk_tables.specs.TableLists.{table_of}
+use Rattle.lk_sizes.specs.Tables.{ArePassed, HaveSpace, behind_leading, bytes_in, common_place, common_places, live_below, next_behind, section_place, section_places}
 use Rattle.lk_sizes.proofs.Addressing.{live_among, number_of, section_behind}
 use Rattle.lk_sizes.proofs.CommonOnes.{common_among, common_behind, common_goes}
 use Rattle.lk_sizes.proofs.LiveOnes.{live_goes_at}
@@ -220,36 +224,39 @@ made_alike {X} {Y} g h m n (x ∷ xs) same =
     let d : n + 1 + k ≡ n + suc k = omega arith in
     ap (λ (i : ℕ). g (i, y)) c ∙ same (suc k) y there ∙ ap (λ (i : ℕ). h (i, y)) (sym d)))
 
--- where the images of parts end
-abbrev pub AreEnds : LinkInput → Content → List ℕ → List ℕ → Type 0
-AreEnds link content starts ends = ends ≡ map (behind_image link content.merged_lens starts) (range_with_len 0 (length starts))
+-- where what leads in parts ends
+abbrev pub AreEnds : LinkInput → List ℕ → List ℕ → List ℕ → Type 0
+AreEnds link merged_lens starts ends = ends ≡ map (behind_leading link merged_lens starts) (range_with_len 0 (length starts))
 
-end_at : (link : LinkInput) (content : Content) (starts ends : List ℕ) (p : ℕ) → AreEnds link content starts ends → p < length starts → slice_index ends p ≡ behind_image link content.merged_lens starts p
+end_at : (link : LinkInput) (content : Content) (starts ends : List ℕ) (p : ℕ) → AreEnds link content.merged_lens starts ends → p < length starts → slice_index ends p ≡ behind_leading link content.merged_lens starts p
 end_at link content starts ends p is below =
     ap (λ (ns : List ℕ). slice_index ns p) is
-    ∙ get_or-map-range_with_len (behind_image link content.merged_lens starts) 0 (length starts) p p 0 below (omega arith)
+    ∙ get_or-map-range_with_len (behind_leading link content.merged_lens starts) 0 (length starts) p p 0 below (omega arith)
 
-pub ends_count : (link : LinkInput) (content : Content) (starts ends : List ℕ) → AreEnds link content starts ends → length ends ≡ length starts
-ends_count link content starts ends is = ap length is ∙ length-map-range_with_len (behind_image link content.merged_lens starts) 0 (length starts)
+pub ends_count : (link : LinkInput) (content : Content) (starts ends : List ℕ) → AreEnds link content.merged_lens starts ends → length ends ≡ length starts
+ends_count link content starts ends is = ap length is ∙ length-map-range_with_len (behind_leading link content.merged_lens starts) 0 (length starts)
 
--- all that files bring fits behind the images
+-- all that files bring fits behind what leads
 pub all_fit : (link : LinkInput) (content : Content) (starts : List ℕ) (p : ℕ) → EndsFit link content starts → p < length starts
-    → behind_image link content.merged_lens starts p + bytes_in link p (takers link content) < 2 ^ 64
+    → behind_leading link content.merged_lens starts p + bytes_in link p (takers link content.live) < 2 ^ 64
 all_fit link content starts p fit below =
     omega (
       arith,
       fit p below,
-      sum_by-append (owner_bytes (part_at link.plan.sections p)) (images_of link content.merged_lens p) (owners_in p (takers link content)),
+      sum_by-append (owner_bytes (part_at link.plan.sections p)) (content_owners link content.live content.merged_lens p)
+          (map EntryOwner (table_of link.plan.named (tables_of link content) p)),
+      sum_by-append (owner_bytes (part_at link.plan.sections p)) (leading_of link content.merged_lens p) (owners_in p (takers link content.live)),
     )
 
 -- the files so far have their addresses, and the next ones are behind them
-pub record AreDone (link : LinkInput) (content : Content) (starts ends : List ℕ) (done : List NumberedFile) (next sections : List ℕ) (commons : List CommonAddress) : Type 0 where
-  pub passed : ArePassed link ends (flat_map (file_takers link content) done) next
-  pub addresses : sections ≡ map (section_address link content starts) (enumerate_from 0 (inputs_of done))
-  pub told : commons ≡ map (told_common link content starts) (flat_map (commons_of link content.live) done)
+pub record AreDone (link : LinkInput) (live : Live) (merged_lens starts ends : List ℕ) (done : List NumberedFile) (next sections : List ℕ) (commons : List CommonAddress) : Type 0 where
+  pub passed : ArePassed link ends (flat_map (file_takers link live) done) next
+  pub addresses : (sizes : TableSizes) → sections ≡ map (section_address link (content_of sizes live merged_lens) starts) (enumerate_from 0 (inputs_of done))
+  pub told : (sizes : TableSizes) → commons ≡ map (told_common link (content_of sizes live merged_lens) starts) (flat_map (commons_of link live) done)
 
-pub none_done : (link : LinkInput) (content : Content) (starts ends : List ℕ) → AreDone link content starts ends [] ends [] []
-none_done link content starts ends = record { passed = record { count = refl; moved = λ p h. omega arith }; addresses = refl; told = refl }
+pub none_done : (link : LinkInput) (live : Live) (merged_lens starts ends : List ℕ) → AreDone link live merged_lens starts ends [] ends [] []
+none_done link live merged_lens starts ends =
+    record { passed = record { count = refl; moved = λ p h. omega arith }; addresses = λ sizes. refl; told = λ sizes. refl }
 
 -- ---- one file more
 
@@ -259,8 +266,8 @@ pub record IsNextFile (link : LinkInput) (done : List NumberedFile) (f : Numbere
   pub splits : numbered_files link.groups ≡ done ++ f ∷ rest
 
 takers_split : (link : LinkInput) (content : Content) (done : List NumberedFile) (f : NumberedFile) (h : IsNextFile link done f)
-    → takers link content ≡ flat_map (file_takers link content) done ++ (file_takers link content f ++ flat_map (file_takers link content) h.rest)
-takers_split link content done f h = ap (flat_map (file_takers link content)) h.splits ∙ flat_map-append (file_takers link content) done (f ∷ h.rest)
+    → takers link content.live ≡ flat_map (file_takers link content.live) done ++ (file_takers link content.live f ++ flat_map (file_takers link content.live) h.rest)
+takers_split link content done f h = ap (flat_map (file_takers link content.live)) h.splits ∙ flat_map-append (file_takers link content.live) done (f ∷ h.rest)
 
 -- a part of a list around an element
 around : {X : Type 0} (before front rest after : List X) (x : X) → before ++ ((front ++ x ∷ rest) ++ after) ≡ (before ++ front) ++ x ∷ (rest ++ after)
@@ -269,9 +276,9 @@ around before front rest after x =
 
 -- space for the sections of a file, and for its commons behind them
 pub section_space : (link : LinkInput) (content : Content) (starts ends : List ℕ) (done : List NumberedFile) (f : NumberedFile) (next : List ℕ) (h : IsNextFile link done f) → EndsFit link content starts
-    → AreEnds link content starts ends → ArePassed link ends (flat_map (file_takers link content) done) next → HaveSpace link next (map section_taker (live_of link content.live f))
+    → AreEnds link content.merged_lens starts ends → ArePassed link ends (flat_map (file_takers link content.live) done) next → HaveSpace link next (map section_taker (live_of link content.live f))
 section_space link content starts ends done f next h fit is passed = λ p below.
-    let before : List Taker = flat_map (file_takers link content) done in
+    let before : List Taker = flat_map (file_takers link content.live) done in
     let count = ends_count link content starts ends is in
     let inside : p < length starts = omega (arith, below, passed.count, count) in
     omega (
@@ -280,16 +287,16 @@ section_space link content starts ends done f next h fit is passed = λ p below.
       end_at link content starts ends p is inside,
       all_fit link content starts p fit inside,
       ap (bytes_in link p) (takers_split link content done f h),
-      bytes_in-append link p before (file_takers link content f ++ flat_map (file_takers link content) h.rest),
-      bytes_in-append link p (file_takers link content f) (flat_map (file_takers link content) h.rest),
+      bytes_in-append link p before (file_takers link content.live f ++ flat_map (file_takers link content.live) h.rest),
+      bytes_in-append link p (file_takers link content.live f) (flat_map (file_takers link content.live) h.rest),
       bytes_in-append link p (map section_taker (live_of link content.live f)) (map common_taker (commons_of link content.live f)),
     )
 
 pub common_space : (link : LinkInput) (content : Content) (starts ends : List ℕ) (done : List NumberedFile) (f : NumberedFile) (next later : List ℕ) (h : IsNextFile link done f) → EndsFit link content starts
-    → AreEnds link content starts ends → ArePassed link ends (flat_map (file_takers link content) done) next → ArePassed link next (map section_taker (live_of link content.live f)) later
+    → AreEnds link content.merged_lens starts ends → ArePassed link ends (flat_map (file_takers link content.live) done) next → ArePassed link next (map section_taker (live_of link content.live f)) later
     → HaveSpace link later (map common_taker (commons_of link content.live f))
 common_space link content starts ends done f next later h fit is passed sections = λ p below.
-    let before : List Taker = flat_map (file_takers link content) done in
+    let before : List Taker = flat_map (file_takers link content.live) done in
     let count = ends_count link content starts ends is in
     let inside : p < length starts = omega (arith, below, sections.count, passed.count, count) in
     omega (
@@ -299,18 +306,18 @@ common_space link content starts ends done f next later h fit is passed sections
       end_at link content starts ends p is inside,
       all_fit link content starts p fit inside,
       ap (bytes_in link p) (takers_split link content done f h),
-      bytes_in-append link p before (file_takers link content f ++ flat_map (file_takers link content) h.rest),
-      bytes_in-append link p (file_takers link content f) (flat_map (file_takers link content) h.rest),
+      bytes_in-append link p before (file_takers link content.live f ++ flat_map (file_takers link content.live) h.rest),
+      bytes_in-append link p (file_takers link content.live f) (flat_map (file_takers link content.live) h.rest),
       bytes_in-append link p (map section_taker (live_of link content.live f)) (map common_taker (commons_of link content.live f)),
     )
 
 -- the sections of the next file have the addresses of the link's
 section_is : (link : LinkInput) (content : Content) (starts ends : List ℕ) (done : List NumberedFile) (f : NumberedFile) (next : List ℕ) (h : IsNextFile link done f)
-    → IsWellFormed link → AreLive link content.live → length starts ≡ length (all_parts link.plan.sections) → AreEnds link content starts ends
-    → ArePassed link ends (flat_map (file_takers link content) done) next → (k : ℕ) (x : Input) → slice_get (sections_of_file f) k ≡ Some x
+    → IsWellFormed link → AreLive link content.live → length starts ≡ length (all_parts link.plan.sections) → AreEnds link content.merged_lens starts ends
+    → ArePassed link ends (flat_map (file_takers link content.live) done) next → (k : ℕ) (x : Input) → slice_get (sections_of_file f) k ≡ Some x
     → section_place link content.live next f (k, x) ≡ section_address link content starts (length (inputs_of done) + k, x)
 section_is link content starts ends done f next h good are parts is passed k x there =
-    let before : List Taker = flat_map (file_takers link content) done in
+    let before : List Taker = flat_map (file_takers link content.live) done in
     let inputs : List Input = all_inputs link.groups in
     let split : inputs ≡ inputs_of done ++ (sections_of_file f ++ inputs_of h.rest) = ap inputs_of h.splits ∙ flat_map-append sections_of_file done (f ∷ h.rest) in
     let here = append_left (sections_of_file f) (inputs_of h.rest) k x there in
@@ -323,10 +330,10 @@ section_is link content starts ends done f next h good are parts is passed k x t
       | true ↦ λ set.
           let in_file = live_split link content.live f k x there set in
           let commons : List Taker = map common_taker (commons_of link content.live f) in
-          let later : List Taker = flat_map (file_takers link content) h.rest in
+          let later : List Taker = flat_map (file_takers link content.live) h.rest in
           let mapped : map section_taker (live_of link content.live f) ≡ front ++ section_taker x ∷ map section_taker in_file.0
           = ap (map section_taker) in_file.1 ∙ map-append section_taker (live_below link content.live f k) (x ∷ in_file.0) in
-          let whole : takers link content ≡ (before ++ front) ++ section_taker x ∷ (map section_taker in_file.0 ++ (commons ++ later))
+          let whole : takers link content.live ≡ (before ++ front) ++ section_taker x ∷ (map section_taker in_file.0 ++ (commons ++ later))
           = takers_split link content done f h
           ∙ ap (λ (ts : List Taker). before ++ ts) (append_assoc (map section_taker (live_of link content.live f)) commons later)
           ∙ ap (λ (ts : List Taker). before ++ (ts ++ (commons ++ later))) mapped
@@ -344,8 +351,8 @@ section_is link content starts ends done f next h good are parts is passed k x t
     ∙ ap (λ b. if b then live_address link content starts x else 0) (sym mark)
 
 sections_are_placed : (link : LinkInput) (content : Content) (starts ends : List ℕ) (done : List NumberedFile) (f : NumberedFile) (next : List ℕ) (h : IsNextFile link done f)
-    → IsWellFormed link → AreLive link content.live → length starts ≡ length (all_parts link.plan.sections) → AreEnds link content starts ends
-    → ArePassed link ends (flat_map (file_takers link content) done) next
+    → IsWellFormed link → AreLive link content.live → length starts ≡ length (all_parts link.plan.sections) → AreEnds link content.merged_lens starts ends
+    → ArePassed link ends (flat_map (file_takers link content.live) done) next
     → section_places link content.live next f ≡ map (section_address link content starts) (enumerate_from (length (inputs_of done)) (sections_of_file f))
 sections_are_placed link content starts ends done f next h good are parts is passed =
     made_alike (section_place link content.live next f) (section_address link content starts) 0 (length (inputs_of done)) (sections_of_file f) (λ k x there.
@@ -354,22 +361,22 @@ sections_are_placed link content starts ends done f next h good are parts is pas
 
 -- so have its commons
 common_is : (link : LinkInput) (content : Content) (starts ends : List ℕ) (done : List NumberedFile) (f : NumberedFile) (next later : List ℕ) (h : IsNextFile link done f)
-    → IsWellFormed link → file_in link.groups f.id ≡ Some f.file → length starts ≡ length (all_parts link.plan.sections) → AreEnds link content starts ends
-    → ArePassed link ends (flat_map (file_takers link content) done) next → ArePassed link next (map section_taker (live_of link content.live f)) later
+    → IsWellFormed link → file_in link.groups f.id ≡ Some f.file → length starts ≡ length (all_parts link.plan.sections) → AreEnds link content.merged_lens starts ends
+    → ArePassed link ends (flat_map (file_takers link content.live) done) next → ArePassed link next (map section_taker (live_of link content.live f)) later
     → (k : ℕ) (c : Common) → slice_get (commons_of link content.live f) k ≡ Some c
     → common_place link later (commons_of link content.live f) (k, c) ≡ told_common link content starts c
 common_is link content starts ends done f next later h good in_link parts is passed sections k c there =
-    let before : List Taker = flat_map (file_takers link content) done in
+    let before : List Taker = flat_map (file_takers link content.live) done in
     let cs : List Common = commons_of link content.live f in
     let split = split_at cs k c there in
     let own : List Taker = map section_taker (live_of link content.live f) in
     let front : List Taker = map common_taker (take k cs) in
     let rest : List Taker = map common_taker split.0 in
-    let behind : List Taker = flat_map (file_takers link content) h.rest in
+    let behind : List Taker = flat_map (file_takers link content.live) h.rest in
     let mapped : map common_taker cs ≡ front ++ common_taker c ∷ rest = ap (map common_taker) split.1 ∙ map-append common_taker (take k cs) (c ∷ split.0) in
-    let in_file : file_takers link content f ≡ (own ++ front) ++ common_taker c ∷ rest
+    let in_file : file_takers link content.live f ≡ (own ++ front) ++ common_taker c ∷ rest
     = ap (λ (ts : List Taker). own ++ ts) mapped ∙ sym (append_assoc own front (common_taker c ∷ rest)) in
-    let whole : takers link content ≡ (before ++ (own ++ front)) ++ common_taker c ∷ (rest ++ behind)
+    let whole : takers link content.live ≡ (before ++ (own ++ front)) ++ common_taker c ∷ (rest ++ behind)
     = takers_split link content done f h
     ∙ ap (λ (ts : List Taker). before ++ (ts ++ behind)) in_file
     ∙ around before (own ++ front) rest behind (common_taker c) in
@@ -392,8 +399,8 @@ without_number g n [] = refl
 without_number g n (x ∷ xs) = ap (λ (ys : List _). g x ∷ ys) (without_number g (n + 1) xs)
 
 commons_are_placed : (link : LinkInput) (content : Content) (starts ends : List ℕ) (done : List NumberedFile) (f : NumberedFile) (next later : List ℕ) (h : IsNextFile link done f)
-    → IsWellFormed link → file_in link.groups f.id ≡ Some f.file → length starts ≡ length (all_parts link.plan.sections) → AreEnds link content starts ends
-    → ArePassed link ends (flat_map (file_takers link content) done) next → ArePassed link next (map section_taker (live_of link content.live f)) later
+    → IsWellFormed link → file_in link.groups f.id ≡ Some f.file → length starts ≡ length (all_parts link.plan.sections) → AreEnds link content.merged_lens starts ends
+    → ArePassed link ends (flat_map (file_takers link content.live) done) next → ArePassed link next (map section_taker (live_of link content.live f)) later
     → common_places link later (commons_of link content.live f) ≡ map (told_common link content starts) (commons_of link content.live f)
 commons_are_placed link content starts ends done f next later h good in_link parts is passed sections =
     made_alike (common_place link later (commons_of link content.live f)) (λ (q : ℕ × Common). told_common link content starts q.1) 0 0 (commons_of link content.live f) (λ k c there.
@@ -410,45 +417,55 @@ numbered_append n (x ∷ xs) ys =
     ap (λ zs. (n, x) ∷ zs) (numbered_append (n + 1) xs ys ∙ ap (λ m. enumerate_from (n + 1) xs ++ enumerate_from m ys) e)
 
 -- with the next file
-pub file_done : (link : LinkInput) (content : Content) (starts ends : List ℕ) (done : List NumberedFile) (f : NumberedFile) (next later last sections new_sections : List ℕ)
+pub file_done : (link : LinkInput) (live : Live) (merged_lens starts ends : List ℕ) (done : List NumberedFile) (f : NumberedFile) (next later last sections new_sections : List ℕ)
     (commons new_commons : List CommonAddress) (h : IsNextFile link done f)
-    → IsWellFormed link → AreLive link content.live → file_in link.groups f.id ≡ Some f.file → length starts ≡ length (all_parts link.plan.sections) → AreEnds link content starts ends
-    → AreDone link content starts ends done next sections commons
-    → ArePassed link next (map section_taker (live_of link content.live f)) later → new_sections ≡ sections ++ section_places link content.live next f
-    → ArePassed link later (map common_taker (commons_of link content.live f)) last → new_commons ≡ commons ++ common_places link later (commons_of link content.live f)
-    → AreDone link content starts ends (done ++ f ∷ []) last new_sections new_commons
-file_done link content starts ends done f next later last sections new_sections commons new_commons h good are in_link parts is so_far by_sections told_sections by_commons told_commons =
-    let before : List Taker = flat_map (file_takers link content) done in
-    let g : ℕ × Input → ℕ = section_address link content starts in
-    let tell : Common → CommonAddress = told_common link content starts in
+    → IsWellFormed link → AreLive link live → file_in link.groups f.id ≡ Some f.file → length starts ≡ length (all_parts link.plan.sections) → AreEnds link merged_lens starts ends
+    → AreDone link live merged_lens starts ends done next sections commons
+    → ArePassed link next (map section_taker (live_of link live f)) later → new_sections ≡ sections ++ section_places link live next f
+    → ArePassed link later (map common_taker (commons_of link live f)) last → new_commons ≡ commons ++ common_places link later (commons_of link live f)
+    → AreDone link live merged_lens starts ends (done ++ f ∷ []) last new_sections new_commons
+file_done link live merged_lens starts ends done f next later last sections new_sections commons new_commons h good are in_link parts is so_far by_sections told_sections by_commons told_commons =
+    let before : List Taker = flat_map (file_takers link live) done in
     let n : ℕ = length (inputs_of done) in
     let zero_more : 0 + n ≡ n = omega arith in
     let inputs : inputs_of (done ++ f ∷ []) ≡ inputs_of done ++ sections_of_file f
     = flat_map-append sections_of_file done (f ∷ []) ∙ ap (λ (xs : List Input). inputs_of done ++ xs) (append-nil (sections_of_file f)) in
-    let takes : flat_map (file_takers link content) (done ++ f ∷ []) ≡ before ++ file_takers link content f
-    = flat_map-append (file_takers link content) done (f ∷ []) ∙ ap (λ (ts : List Taker). before ++ ts) (append-nil (file_takers link content f)) in
-    let cs : flat_map (commons_of link content.live) (done ++ f ∷ []) ≡ flat_map (commons_of link content.live) done ++ commons_of link content.live f
-    = flat_map-append (commons_of link content.live) done (f ∷ []) ∙ ap (λ (c : List Common). flat_map (commons_of link content.live) done ++ c) (append-nil (commons_of link content.live f)) in
+    let takes : flat_map (file_takers link live) (done ++ f ∷ []) ≡ before ++ file_takers link live f
+    = flat_map-append (file_takers link live) done (f ∷ []) ∙ ap (λ (ts : List Taker). before ++ ts) (append-nil (file_takers link live f)) in
+    let cs : flat_map (commons_of link live) (done ++ f ∷ []) ≡ flat_map (commons_of link live) done ++ commons_of link live f
+    = flat_map-append (commons_of link live) done (f ∷ []) ∙ ap (λ (c : List Common). flat_map (commons_of link live) done ++ c) (append-nil (commons_of link live f)) in
     record {
       passed = subst (λ (ts : List Taker). ArePassed link ends ts last) (sym takes)
-          (passed_both link ends next last before (file_takers link content f) so_far.passed
-          (passed_both link next later last (map section_taker (live_of link content.live f)) (map common_taker (commons_of link content.live f)) by_sections by_commons));
-      addresses =
+          (passed_both link ends next last before (file_takers link live f) so_far.passed
+          (passed_both link next later last (map section_taker (live_of link live f)) (map common_taker (commons_of link live f)) by_sections by_commons));
+      addresses = λ sizes.
+          let content : Content = content_of sizes live merged_lens in
+          let g : ℕ × Input → ℕ = section_address link content starts in
           told_sections
-          ∙ ap (λ (ns : List ℕ). ns ++ section_places link content.live next f) so_far.addresses
+          ∙ ap (λ (ns : List ℕ). ns ++ section_places link live next f) (so_far.addresses sizes)
           ∙ ap (λ (ns : List ℕ). map g (enumerate_from 0 (inputs_of done)) ++ ns) (sections_are_placed link content starts ends done f next h good are parts is so_far.passed)
           ∙ sym (ap (λ (xs : List Input). map g (enumerate_from 0 xs)) inputs
           ∙ ap (map g) (numbered_append 0 (inputs_of done) (sections_of_file f))
           ∙ map-append g (enumerate_from 0 (inputs_of done)) (enumerate_from (0 + n) (sections_of_file f))
           ∙ ap (λ (m : ℕ). map g (enumerate_from 0 (inputs_of done)) ++ map g (enumerate_from m (sections_of_file f))) zero_more);
-      told =
+      told = λ sizes.
+          let content : Content = content_of sizes live merged_lens in
+          let tell : Common → CommonAddress = told_common link content starts in
           told_commons
-          ∙ ap (λ (c : List CommonAddress). c ++ common_places link later (commons_of link content.live f)) so_far.told
-          ∙ ap (λ (c : List CommonAddress). map tell (flat_map (commons_of link content.live) done) ++ c) (commons_are_placed link content starts ends done f next later h good in_link parts is so_far.passed by_sections)
-          ∙ sym (ap (map tell) cs ∙ map-append tell (flat_map (commons_of link content.live) done) (commons_of link content.live f));
+          ∙ ap (λ (c : List CommonAddress). c ++ common_places link later (commons_of link live f)) (so_far.told sizes)
+          ∙ ap (λ (c : List CommonAddress). map tell (flat_map (commons_of link live) done) ++ c) (commons_are_placed link content starts ends done f next later h good in_link parts is so_far.passed by_sections)
+          ∙ sym (ap (map tell) cs ∙ map-append tell (flat_map (commons_of link live) done) (commons_of link live f));
     }
 
 -- ---- in the middle of a walk over a file's sections
+
+-- its number can be told
+pub number_fits : (link : LinkInput) (f : NumberedFile) (k first : ℕ) → IsWellFormed link → file_in link.groups f.id ≡ Some f.file → k < length f.file.sections
+    → first ≡ first_input link.groups f.id → first + k < 2 ^ 64
+number_fits link f k first good in_link below is =
+    let at = at_index f.file.sections k below in
+    let within = slice_get_within (all_inputs link.groups) (input_number link.groups f.id k) _ (inputs_follow.at link.groups f.id f.file k at.0 in_link at.1) in
+    omega (arith, is, within, inputs_follow.count link.groups, inputs_few link good)
 
 -- the next section, with its number and its mark
 pub record IsSectionTurn (link : LinkInput) (live : Live) (f : NumberedFile) (marks : List Bool) (k : ℕ) (section : InputSection) (number : ℕ) : Type 0 where

@@ -12,9 +12,8 @@ use Rattle.lk_link.specs.declared.link.LinkInput.{LinkInput}
 use Rattle.lk_link.specs.declared.plan.PlanPart.{PlanPart}
 use Rattle.lk_link.specs.Inputs.{Input, NumberedFile}
 use Rattle.lk_link.specs.Parts.{part_at}
-use Rattle.lk_link.specs.Sizes.{capacity}
 use Rattle.lk_reach.proofs.LiveWalk.{split_at}
-use Rattle.lk_sizes.specs.Owners.{Owner, SectionOwner, Taker, bytes_of, into, owner_bytes, owner_size, owners_in, section_taker}
+use Rattle.lk_sizes.specs.Owners.{Owner, SectionOwner, Taker, bytes_of, into, owner_bytes, owners_in, section_taker}
 use Rattle.lk_sizes.specs.Tables.{ArePassed, HaveSpace, bytes_in, next_behind}
 
 pub owners_in-append : (p : ℕ) (ts us : List Taker) → owners_in p (ts ++ us) ≡ owners_in p ts ++ owners_in p us
@@ -43,7 +42,7 @@ bytes_in-append link p ts us =
     let part : PlanPart = part_at link.plan.sections p in
     ap (bytes_of part) (owners_in-append p ts us) ∙ sum_by-append (owner_bytes part) (owners_in p ts) (owners_in p us)
 
-pub bytes_in_here : (link : LinkInput) (p : ℕ) (t : Taker) → t.part ≡ p → bytes_in link p (t ∷ []) ≡ capacity (part_at link.plan.sections p) (owner_size t.owner)
+pub bytes_in_here : (link : LinkInput) (p : ℕ) (t : Taker) → t.part ≡ p → bytes_in link p (t ∷ []) ≡ owner_bytes (part_at link.plan.sections p) t.owner
 bytes_in_here link p t h = ap (bytes_of (part_at link.plan.sections p)) (owners_in_here p t [] h) ∙ omega arith
 
 pub bytes_in_other : (link : LinkInput) (p : ℕ) (t : Taker) → (t.part ≡ p → ⊥) → bytes_in link p (t ∷ []) ≡ 0
@@ -76,7 +75,7 @@ none_passed link next = record { count = refl; moved = λ p h. omega arith }
 
 -- one more taker
 pub one_passed : (link : LinkInput) (old : List ℕ) (done : List Taker) (t : Taker) (next : List ℕ) (at moved : ℕ)
-    → ArePassed link old done next → at ≡ t.part → at < length old → moved ≡ slice_index next at + capacity (part_at link.plan.sections at) (owner_size t.owner)
+    → ArePassed link old done next → at ≡ t.part → at < length old → moved ≡ slice_index next at + owner_bytes (part_at link.plan.sections at) t.owner
     → ArePassed link old (done ++ t ∷ []) (set next at moved)
 one_passed link old done t next at moved h here within is = record {
   count = length-set next at moved ∙ h.count;
@@ -105,7 +104,7 @@ one_passed link old done t next at moved h here within is = record {
 -- there is room for it
 pub room_for : (link : LinkInput) (old : List ℕ) (done : List Taker) (t : Taker) (rest : List Taker) (next : List ℕ) (at : ℕ)
     → HaveSpace link old (done ++ t ∷ rest) → ArePassed link old done next → at ≡ t.part → at < length old
-    → slice_index next at + capacity (part_at link.plan.sections at) (owner_size t.owner) < 2 ^ 64
+    → slice_index next at + owner_bytes (part_at link.plan.sections at) t.owner < 2 ^ 64
 room_for link old done t rest next at space h here within =
     omega (
       arith,

@@ -1,7 +1,8 @@
 -- The owners of a part tile it.
-use Rattle.std.proofs.Common.{◌≡◌, ℕ, ◌+◌, ◌<◌, ◌≤◌, suc, zero, List, [], ◌∷◌, take, inl, inr, ap, sym, subst, refl, true, false, arith, cond, length}
+use Rattle.std.proofs.Common.{◌≡◌, ℕ, ◌+◌, ◌<◌, ◌≤◌, suc, zero, List, [], ◌∷◌, ◌++◌, ◌∙◌, map, take, inl, inr, ap, sym, subst, refl, true, false, arith, cond, length}
 use Rattle.std.specs.Int.{◌∣◌, next_multiple_of}
-use Rattle.std.proofs.lemmas.List.{get_or_past}
+use Rattle.std.specs.List.{AllByRecursion, flat_map}
+use Rattle.std.proofs.lemmas.List.{append-nil, get_or_past}
 use Rattle.std.proofs.lemmas.List.Sums.{sum_by-cons}
 use Rattle.std.proofs.lemmas.Bool.{cases_lt}
 use Rattle.std.proofs.lemmas.Nat.Gcd.{dvd-zero}
@@ -16,7 +17,14 @@ use Rattle.lk_link.proofs.Powers.{alignment-pos}
 use Rattle.lk_link.specs.Sizes.{capacity}
 use Rattle.lk_link.proofs.Starts.{next_multiple_is_least}
 use Rattle.lk_link.specs.WellFormed.{IsWellFormed}
-use Rattle.lk_sizes.specs.Owners.{Owner, owner_address, owner_bytes, owner_size, owners_of, bytes_of}
+use Rattle.lk_sizes.specs.Owners.{EntryOwner, Owner, Taker, bytes_of, common_taker, commons_of, content_owners, file_takers, leading_of, live_of, owner_address, owner_bytes, owners_in, section_taker, takers}
+use Rattle.lk_sizes.specs.PartOwners.{owners_of, tables_of}
+use Rattle.lk_sizes.specs.declared.commons.Common.{Common}
+use Rattle.lk_gc.specs.declared.live.Live.{Live}
+use Rattle.lk_tables.specs.SymbolTable.{TableEntry}
+use Rattle.lk_tables.proofs.PartLists.{other_parts}
+use Rattle.lk_sizes.proofs.Addressing.{all_joined, of_leading, of_takers}
+use Rattle.lk_link.specs.Inputs.{Input, NumberedFile, numbered_files}
 use Rattle.lk_sizes.specs.Tiles.{HasByte, IsTiled, OwnersTileTheirPart, OwnersAreAligned}
 
 -- an owner behind the first stands where it stands in the rest, counted from the end of the first
@@ -104,16 +112,47 @@ rounded part size h i =
     let e : capacity part size ≡ next_multiple_of size part.alignment = ap (λ b. cond b size (next_multiple_of size part.alignment)) h in
     subst (λ (n : ℕ). part.alignment ∣ n) (sym e) (next_multiple_is_least part.alignment size i).multiple
 
-owner_rounded : (part : PlanPart) (o : Owner) → part.packed ≡ false → 0 < part.alignment → part.alignment ∣ owner_bytes part o
-owner_rounded part o h i = rounded part (owner_size o) h i
+-- an owner takes a multiple of the alignment
+abbrev pub IsRounded : PlanPart → Owner → Type 0
+IsRounded part o = part.alignment ∣ owner_bytes part o
 
-aligned : (part : PlanPart) (owners : List Owner) (k : ℕ) → part.packed ≡ false → 0 < part.alignment → part.alignment ∣ bytes_of part (take k owners)
-aligned part owners zero h i = dvd-zero part.alignment
-aligned part [] (suc k) h i = dvd-zero part.alignment
-aligned part (o ∷ owners) (suc k) h i =
-    subst (λ (n : ℕ). part.alignment ∣ n) (sym (whole part o (take k owners)))
-    (dvd-add part.alignment (owner_rounded part o h i) (aligned part owners k h i))
+aligned : (part : PlanPart) (owners : List Owner) (k : ℕ) → AllByRecursion (IsRounded part) owners → part.alignment ∣ bytes_of part (take k owners)
+aligned part owners zero h = dvd-zero part.alignment
+aligned part [] (suc k) h = dvd-zero part.alignment
+aligned part (o ∷ owners) (suc k) h =
+    subst (λ (n : ℕ). part.alignment ∣ n) (sym (whole part o (take k owners))) (dvd-add part.alignment h.0 (aligned part owners k h.1))
+
+rounded_sections : (part : PlanPart) (xs : List Input) → part.packed ≡ false → 0 < part.alignment
+    → AllByRecursion (λ (t : Taker). IsRounded part t.owner) (map section_taker xs)
+rounded_sections part [] h i = tt
+rounded_sections part (x ∷ xs) h i = (rounded part x.section.size h i, rounded_sections part xs h i)
+
+rounded_commons : (part : PlanPart) (cs : List Common) → part.packed ≡ false → 0 < part.alignment
+    → AllByRecursion (λ (t : Taker). IsRounded part t.owner) (map common_taker cs)
+rounded_commons part [] h i = tt
+rounded_commons part (c ∷ cs) h i = (rounded part c.size h i, rounded_commons part cs h i)
+
+rounded_takers : (part : PlanPart) (link : LinkInput) (live : Live) (files : List NumberedFile) → part.packed ≡ false → 0 < part.alignment
+    → AllByRecursion (λ (t : Taker). IsRounded part t.owner) (flat_map (file_takers link live) files)
+rounded_takers part link live [] h i = tt
+rounded_takers part link live (f ∷ files) h i =
+    let each : Taker → Type 0 = λ t. IsRounded part t.owner in
+    all_joined each (file_takers link live f) (flat_map (file_takers link live) files)
+    (all_joined each (map section_taker (live_of link live f)) (map common_taker (commons_of link live f))
+    (rounded_sections part (live_of link live f) h i) (rounded_commons part (commons_of link live f) h i))
+    (rounded_takers part link live files h i)
 
 pub owners_are_aligned : OwnersAreAligned
 owners_are_aligned link content p k good free unpacked =
-    aligned (part_at link.plan.sections p) (owners_of link content p) k unpacked (alignment-pos (part_at link.plan.sections p).alignment (part_is_aligned link p good))
+    let part : PlanPart = part_at link.plan.sections p in
+    let above = alignment-pos part.alignment (part_is_aligned link p good) in
+    let own : List Owner = content_owners link content.live content.merged_lens p in
+    let none : owners_of link content p ≡ own
+    = ap (λ (es : List TableEntry). own ++ map EntryOwner es) (other_parts link.plan.named (tables_of link content) p free) ∙ append-nil own in
+    let brought : List Owner = owners_in p (takers link content.live) in
+    let all : AllByRecursion (IsRounded part) own
+    = all_joined (IsRounded part) (leading_of link content.merged_lens p) brought
+    (of_leading (IsRounded part) link content.merged_lens p
+    (record { image = λ section len. rounded part len unpacked above; identity = λ size. rounded part size unpacked above }))
+    (of_takers (IsRounded part) p (takers link content.live) (rounded_takers part link content.live (numbered_files link.groups) unpacked above)) in
+    subst (λ (os : List Owner). part.alignment ∣ bytes_of part (take k os)) (sym none) (aligned part own k all)

@@ -9,7 +9,8 @@ use Rattle.lk_gc.specs.Reach.{live_inputs, marked}
 use Rattle.lk_sizes.specs.declared.addresses.CommonAddress.{CommonAddress}
 use Rattle.lk_sizes.specs.declared.addresses.LiveSection.{LiveSection}
 use Rattle.lk_sizes.specs.declared.commons.Common.{Common}
-use Rattle.lk_sizes.specs.Owners.{Content, all_commons, common_address, live_address}
+use Rattle.lk_sizes.specs.Owners.{Content, all_commons}
+use Rattle.lk_sizes.specs.PartOwners.{common_address, live_address}
 
 -- a live section, with the address that it has among the owners of its part, by the starts of all parts in memory
 abbrev pub live_section : LinkInput → Content → List ℕ → Input → LiveSection

@@ -1,24 +1,53 @@
 -- Which output sections are emitted, and which segments are active.
-use Rattle.std.specs.Prelude.{ℕ, ◌==◌, ◌&&◌, ◌||◌, not, Bool, List, Option, filter, map, nat_lt}
+use Rattle.std.specs.Prelude.{ℕ, ◌==◌, ◌&&◌, ◌||◌, not, Bool, false, if◌then◌else◌, List, Option, None, filter, map, nat_lt}
 use Rattle.std.specs.List.{enumerate_from, list_any, position}
+use Rattle.std.specs.Option.{option_map_or}
+use Rattle.lk_link.specs.declared.file.FileKind.{FileKind}
 use Rattle.lk_link.specs.declared.link.LinkInput.{LinkInput}
 use Rattle.lk_link.specs.declared.plan.Plan.{Plan}
+use Rattle.lk_link.specs.declared.symbol.InputSymbol.{InputSymbol}
 use Rattle.lk_link.specs.EmitKinds.{is_always, is_never}
+use Rattle.lk_link.specs.FileKinds.{is_prelude}
+use Rattle.lk_link.specs.Inputs.{NumberedFile, numbered_files}
 use Rattle.lk_link.specs.Inside.{sections_inside}
 use Rattle.lk_link.specs.OutputKinds.{is_partial}
 use Rattle.lk_link.specs.PlanSections.{is_singletons, primary_of, section_at}
 use Rattle.lk_link.specs.SegmentKinds.{is_stack, segment_at}
 use Rattle.lk_link.specs.Marks.{is_marked}
+use Rattle.lk_gc.specs.declared.live.Live.{Live}
+use Rattle.lk_reach.specs.Placements.{edge_of}
+use Rattle.lk_tables.specs.Copied.{is_wanted}
 use Rattle.lk_tables.specs.HeaderParts.{event_sections}
-use Rattle.lk_sizes.specs.Attributes.{parts_of}
+use Rattle.lk_tables.specs.Late.{flags_at}
+use Rattle.lk_tables.specs.SymbolTable.{symbols_by_number}
+use Rattle.lk_sizes.specs.Attributes.{by_section, parts_of}
 use Rattle.lk_sizes.specs.Owners.{Content, first_size}
 
 -- ---- sections
 
--- whether an output section is kept: the plan always emits it, what is live keeps it, or one of its parts has bytes by its first size
+-- the output section that a symbol of a file of a kind, with its number, keeps: of one of the prelude that gets a resolution, the section
+-- at whose start or end it stands, or at the end of which and its secondaries
+abbrev pub section_kept_by : Live → FileKind → ℕ × InputSymbol → Option ℕ
+section_kept_by live kind q =
+    if is_prelude kind && is_wanted kind q.0 q.1 (flags_at live.flags q.0) then edge_of q.1.at else None
+
+-- whether it keeps this one
+abbrev pub keeps : Live → FileKind → ℕ → ℕ × InputSymbol → Bool
+keeps live kind s q = option_map_or (λ o. o == s) (section_kept_by live kind q) false
+
+-- whether one of a file does
+abbrev pub file_keeps : LinkInput → Live → ℕ → NumberedFile → Bool
+file_keeps link live s f = list_any (keeps live f.file.kind s) (symbols_by_number link f)
+
+-- whether one of the link does
+abbrev pub is_kept_by_symbol : LinkInput → Live → ℕ → Bool
+is_kept_by_symbol link live s = list_any (file_keeps link live s) (numbered_files link.groups)
+
+-- whether an output section is kept: the plan always emits it, what is live keeps it, a symbol of the prelude does, or one of its parts has
+-- bytes by its first size
 abbrev pub is_kept : LinkInput → Content → ℕ → Bool
 is_kept link content s =
-    is_always (section_at link.plan.sections s).emit || is_marked content.live.kept s
+    is_always (section_at link.plan.sections s).emit || is_marked content.live.kept s || is_kept_by_symbol link content.live s
     || list_any (λ p. nat_lt 0 (first_size link content p)) (parts_of link.plan.sections s)
 
 -- whether an output section can be emitted: the plan doesn't say never, and it isn't that of singletons
@@ -30,6 +59,10 @@ abbrev pub is_emitted : LinkInput → Content → ℕ → Bool
 is_emitted link content s =
     list_any (λ q. primary_of link.plan.sections q.0 == s && is_kept link content q.0) (enumerate_from 0 link.plan.sections)
     && can_be_emitted link.plan s
+
+-- for each output section, whether it is emitted
+abbrev pub emitted_marks : LinkInput → Content → List Bool
+emitted_marks link content = by_section (is_emitted link content) link
 
 -- a section's index in the output: its place among the emitted ones, in the order of events
 abbrev pub output_index : LinkInput → Content → ℕ → Option ℕ

@@ -8,7 +8,9 @@ use Rattle.lk_link.specs.Parts.{part_at}
 use Rattle.lk_link.specs.PartRules.{is_table_part}
 use Rattle.lk_link.specs.WellFormed.{IsWellFormed}
 use Rattle.lk_sizes.specs.Attributes.{by_section, parts_of}
-use Rattle.lk_sizes.specs.Owners.{CommonOwner, Content, ImageOwner, Owner, SectionOwner, has_image, is_merged, owner_address, owners_of, part_sections}
+use Rattle.lk_sizes.specs.Owners.{Content, ImageOwner, Owner, has_image, is_merged, owner_address}
+use Rattle.lk_sizes.specs.PartOwners.{owners_of}
+use Rattle.lk_link.specs.Parts.{part_sections}
 
 -- the part of an output section in which its merged image stands; none where nothing is merged
 abbrev pub image_part : LinkInput → ℕ → Option ℕ
@@ -17,8 +19,7 @@ image_part link s = find (has_image link) (parts_of link.plan.sections s)
 -- whether an owner is the image of this output section
 abbrev pub is_image_of : ℕ → Owner → Bool
 is_image_of s (ImageOwner section len) = section == s
-is_image_of s (SectionOwner x size) = false
-is_image_of s (CommonOwner t size) = false
+is_image_of s _ = false
 
 -- how many owners of its part stand before it
 abbrev pub image_number : LinkInput → Content → ℕ → ℕ → ℕ

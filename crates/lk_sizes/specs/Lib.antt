@@ -6,5 +6,7 @@ pub mod Header
 pub mod Images
 pub mod Kept
 pub mod Owners
+pub mod PartOwners
+pub mod Sizing
 pub mod Tables
 pub mod Tiles

@@ -1,18 +1,21 @@
 -- What the code goes by: lists by part, and marks of sections. Contracts of private functions speak of these.
-use Rattle.std.specs.Prelude.{◌≡◌, ℕ, ◌+◌, ◌^◌, ◌<◌, Bool, if◌then◌else◌, List, filter, length, map, min, slice_index, slice_range, take}
+use Rattle.std.specs.Prelude.{◌≡◌, ℕ, ◌+◌, ◌-◌, ◌^◌, ◌<◌, Bool, if◌then◌else◌, List, filter, length, map, min, slice_index, slice_range, take}
 use Rattle.std.specs.List.{enumerate_from, slice_index_or}
 use Rattle.lk_link.specs.declared.link.LinkInput.{LinkInput}
+use Rattle.lk_link.specs.declared.plan.NamedParts.{NamedParts}
 use Rattle.lk_link.specs.declared.plan.PlanSection.{PlanSection}
 use Rattle.lk_link.specs.Inputs.{Input, NumberedFile, input_number, inputs_from}
 use Rattle.lk_link.specs.Marks.{is_marked}
 use Rattle.lk_link.specs.Parts.{first_part, part_at}
 use Rattle.lk_gc.specs.declared.live.Live.{Live}
 use Rattle.lk_gc.specs.Reach.{live_inputs}
+use Rattle.lk_tables.specs.HeaderParts.{told_sum}
+use Rattle.lk_tables.specs.TableLists.{TableLists, table_bytes}
 use Rattle.lk_sizes.specs.declared.addresses.CommonAddress.{CommonAddress}
 use Rattle.lk_sizes.specs.declared.commons.Common.{Common}
-use Rattle.lk_sizes.specs.declared.owners.Total.{Total}
+use Rattle.lk_sizes.specs.declared.owners.PartTotal.{PartTotal}
 use Rattle.lk_sizes.specs.Emitted.{is_told}
-use Rattle.lk_sizes.specs.Owners.{Taker, bytes_of, common_taker, images_of, owners_in, section_taker}
+use Rattle.lk_sizes.specs.Owners.{Taker, bytes_of, common_taker, leading_of, owners_in, section_taker}
 
 -- of what is listed by part, that of a section's parts
 abbrev pub in_section : {X : Type 0} → List PlanSection → ℕ → List X → List X
@@ -31,12 +34,26 @@ abbrev pub commons_size : LinkInput → ℕ → List Common → ℕ
 commons_size link p cs = bytes_in link p (map common_taker cs)
 
 -- each part's total gains what these commons bring to it; sums are told apart below 2^64
-pub record AreAdded (link : LinkInput) (cs : List Common) (old new : List Total) : Type 0 where
+pub record AreAdded (link : LinkInput) (cs : List Common) (old new : List PartTotal) : Type 0 where
   pub count : length new ≡ length old
-  pub bytes : (p : ℕ) (d : Total) → p < length old
+  pub bytes : (p : ℕ) (d : PartTotal) → p < length old
       → min (slice_index_or new p d).bytes (2 ^ 64) ≡ min ((slice_index_or old p d).bytes + commons_size link p cs) (2 ^ 64)
-  pub image : (p : ℕ) (d : Total) → p < length old → (slice_index_or new p d).has_image ≡ (slice_index_or old p d).has_image
-  pub attrs : (p : ℕ) (d : Total) → p < length old → (slice_index_or new p d).attrs ≡ (slice_index_or old p d).attrs
+  pub image : (p : ℕ) (d : PartTotal) → p < length old → (slice_index_or new p d).has_image ≡ (slice_index_or old p d).has_image
+  pub attrs : (p : ℕ) (d : PartTotal) → p < length old → (slice_index_or new p d).attrs ≡ (slice_index_or old p d).attrs
+
+-- ---- entries
+
+-- a total with so many bytes of entries
+abbrev pub with_entries : PartTotal → ℕ → PartTotal
+with_entries t more = record { bytes = min (t.bytes + more) (2 ^ 128 - 1); has_image = t.has_image; attrs = t.attrs }
+
+-- that of the part with this number, with the entries there of these tables
+abbrev pub with_table : NamedParts → TableLists → ℕ × PartTotal → PartTotal
+with_table named lists q = with_entries q.1 (told_sum (table_bytes named lists q.0))
+
+-- those of all parts
+abbrev pub with_tables : NamedParts → TableLists → List PartTotal → List PartTotal
+with_tables named lists totals = map (with_table named lists) (enumerate_from 0 totals)
 
 -- ---- addresses
 
@@ -75,11 +92,11 @@ common_place link next cs q = record { symbol = q.1.symbol; address = next_behin
 abbrev pub common_places : LinkInput → List ℕ → List Common → List CommonAddress
 common_places link next cs = map (common_place link next cs) (enumerate_from 0 cs)
 
--- ---- images
+-- ---- what leads
 
--- where the image of a part ends, if it has one, else where the part starts
-abbrev pub behind_image : LinkInput → List ℕ → List ℕ → ℕ → ℕ
-behind_image link merged_lens starts p = slice_index starts p + bytes_of (part_at link.plan.sections p) (images_of link merged_lens p)
+-- where what leads in a part ends, the image and the identity; where nothing does, the part starts there
+abbrev pub behind_leading : LinkInput → List ℕ → List ℕ → ℕ → ℕ
+behind_leading link merged_lens starts p = slice_index starts p + bytes_of (part_at link.plan.sections p) (leading_of link merged_lens p)
 
 -- whether a segment is active, by marks of emitted sections
 abbrev pub active_by : LinkInput → List Bool → ℕ → Bool

@@ -4,7 +4,8 @@ use Rattle.std.specs.Int.{◌∣◌}
 use Rattle.lk_link.specs.declared.link.LinkInput.{LinkInput}
 use Rattle.lk_link.specs.declared.plan.PlanPart.{PlanPart}
 use Rattle.lk_link.specs.WellFormed.{IsWellFormed}
-use Rattle.lk_sizes.specs.Owners.{Content, Owner, owner_address, owner_bytes, owners_of, bytes_of}
+use Rattle.lk_sizes.specs.Owners.{Content, Owner, owner_address, owner_bytes, bytes_of}
+use Rattle.lk_sizes.specs.PartOwners.{owners_of}
 use Rattle.lk_link.specs.PartRules.{is_table_part}
 use Rattle.lk_link.specs.Parts.{part_at}
 

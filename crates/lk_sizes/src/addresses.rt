@@ -1,26 +1,29 @@
 //! The addresses of live sections and commons.
 //!
-//! The owners of a part stand one behind the other from the part's start: its merged image, then file by file the live sections
-//! and the commons. A table holds the next address of each part, at first the end of the image; one pass over the files gives
+//! The owners of a part stand one behind the other from the part's start: its merged image and the identity, then file by file the
+//! live sections and the commons. A table holds the next address of each part, at first the end of what leads; one pass over the files gives
 //! each live section and each common the next address of its part, which moves on by the bytes that it takes.
 
-ghost use Rattle.std.specs.Prelude.{◌≡◌, ◌+◌, ◌-◌, ◌^◌, ◌<◌, ◌++◌, ℕ, if◌then◌else◌, IfOk, IsTrue, OnOk, Some, length, map, slice_index};
+ghost use Rattle.std.specs.Prelude.{◌≡◌, ◌+◌, ◌-◌, ◌^◌, ◌<◌, ◌++◌, ℕ, if◌then◌else◌, IfOk, IfSome, IsTrue, OnOk, Some, length, map, slice_index};
 ghost use Rattle.std.specs.List.{enumerate_from, filter_map, range_with_len};
+ghost use Rattle.std.specs.Option.{option_map_or};
 ghost use Rattle.lk_link.specs.Alignments.{is_alignment};
 ghost use Rattle.lk_link.specs.Files.{file_in};
-ghost use Rattle.lk_link.specs.Inputs.{input_number};
+ghost use Rattle.lk_link.specs.Inputs.{first_input};
 ghost use Rattle.lk_link.specs.Parts.{all_parts};
 ghost use Rattle.lk_link.specs.Sizes.{capacity};
+ghost use Rattle.lk_link.specs.TableSizes.{TableSizes};
 ghost use Rattle.lk_link.specs.Walks.{file_of};
 ghost use Rattle.lk_link.specs.WellFormed.{IsWellFormed};
 ghost use Rattle.lk_gc.specs.Reach.{AreLive};
 ghost use Rattle.lk_sizes.specs.Addresses.{common_addresses, section_addresses};
 ghost use Rattle.lk_sizes.specs.Contents.{part_contents};
-ghost use Rattle.lk_sizes.specs.Owners.{EndsFit, by_part, common_of, common_taker, commons_of, content_of, has_image, live_of, section_taker};
-ghost use Rattle.lk_sizes.specs.Tables.{ArePassed, HaveSpace, behind_image, common_places, section_places};
+ghost use Rattle.lk_sizes.specs.Owners.{by_part, common_of, common_taker, commons_of, content_of, has_image, live_of, section_taker};
+ghost use Rattle.lk_sizes.specs.PartOwners.{EndsFit};
+ghost use Rattle.lk_sizes.specs.Tables.{ArePassed, HaveSpace, behind_leading, common_places, section_places};
 
 use crate::commons::file_commons;
-use crate::owners::{PartContents, image_bytes, image_lens};
+use crate::owners::{PartContents, identity_bytes, identity_size, image_bytes, image_lens};
 use lk_gc::Live;
 use lk_link::marks::is_marked;
 use lk_link::{FileId, FileRef, LinkInput, PlanPart, Section, SymbolId};
@@ -68,15 +71,15 @@ pub fn owner_addresses(
 ) -> Result<OwnerAddresses, AllocError>
     requires good { IsWellFormed link.now }
     requires live { AreLive link.now live.now }
-    requires contents { contents.now ≡ part_contents link.now (content_of live.now merged_lens.now) }
     requires starts { length starts.now ≡ length (all_parts link.now.plan.sections) }
-    requires fit { EndsFit link.now (content_of live.now merged_lens.now) starts.now }
-    ensures sections { IfOk result (λ told. told.sections.items
-        ≡ section_addresses link.now (content_of live.now merged_lens.now) starts.now) }
-    ensures commons { IfOk result (λ told. told.commons.items
-        ≡ common_addresses link.now (content_of live.now merged_lens.now) starts.now) }
+    requires room { (sizes : TableSizes) × (contents.now ≡ part_contents link.now (content_of sizes live.now merged_lens.now))
+        × EndsFit link.now (content_of sizes live.now merged_lens.now) starts.now }
+    ensures sections { (sizes : TableSizes) → IfOk result (λ told. told.sections.items
+        ≡ section_addresses link.now (content_of sizes live.now merged_lens.now) starts.now) }
+    ensures commons { (sizes : TableSizes) → IfOk result (λ told. told.commons.items
+        ≡ common_addresses link.now (content_of sizes live.now merged_lens.now) starts.now) }
 {
-    let mut next = behind_images(alloc, link, merged_lens, contents, starts)?;
+    let mut next = behind_leading(alloc, link, merged_lens, contents, starts)?;
     let mut sections = Vec::with_capacity(alloc, live.marks.len())?;
     let mut commons = Vec::new(alloc);
     for file in link.groups.files() {
@@ -84,27 +87,6 @@ pub fn owner_addresses(
         place_commons(link, live, file, &mut next, &mut commons)?;
     }
     Ok(OwnerAddresses { sections, commons })
-}
-
-/// The addresses of live sections alone, by number; 0 for others.
-pub fn section_addresses(
-    alloc: Global,
-    link: &LinkInput,
-    live: &Live,
-    merged_lens: &[u64],
-    contents: &[PartContents],
-    starts: &[u64],
-) -> Result<Vec<u64>, AllocError>
-    requires good { IsWellFormed link.now }
-    requires live { AreLive link.now live.now }
-    requires contents { contents.now ≡ part_contents link.now (content_of live.now merged_lens.now) }
-    requires starts { length starts.now ≡ length (all_parts link.now.plan.sections) }
-    requires fit { EndsFit link.now (content_of live.now merged_lens.now) starts.now }
-    ensures { IfOk result (λ addresses. addresses.items
-        ≡ section_addresses link.now (content_of live.now merged_lens.now) starts.now) }
-{
-    let told = owner_addresses(alloc, link, live, merged_lens, contents, starts)?;
-    Ok(told.sections)
 }
 
 /// Adds the addresses of a file's sections; those that are live get the next ones of their parts.
@@ -126,8 +108,9 @@ fn place_sections(
 {
     let parts = link.plan.sections.parts();
     let marks = live.marks.as_slice();
+    let first = first_number(link, file);
     for (index, section) in file.file.sections.as_slice().iter().enumerate() {
-        let is_live = is_marked(marks, input_number(link, file, index));
+        let is_live = is_marked(marks, first + index);
         let mut address = 0u64;
         if is_live {
             let part = section.part.as_usize();
@@ -138,15 +121,14 @@ fn place_sections(
     Ok(())
 }
 
-/// The number of a section of a file over all files.
-fn input_number(link: &LinkInput, file: FileRef<'_>, index: usize) -> usize
+/// The number of a file's first section over all files.
+fn first_number(link: &LinkInput, file: FileRef<'_>) -> usize
     requires good { IsWellFormed link.now }
     requires there { file_in link.now.groups file.id ≡ Some file.file.now }
-    requires inside { index < length file.file.now.sections }
-    ensures { result ≡ input_number link.now.groups file.entry.id index }
+    ensures { result ≡ first_input link.now.groups file.entry.id }
 {
     match link.groups.input_start(file.id) {
-        Some(first) => first + index,
+        Some(first) => first,
         None => 0,
     }
 }
@@ -177,8 +159,8 @@ fn place_commons(
     Ok(())
 }
 
-/// For each part where its image ends, if it has one, else where it starts.
-fn behind_images(
+/// For each part where what leads in it ends, the image and the identity; where nothing does, where it starts.
+fn behind_leading(
     alloc: Global,
     link: &LinkInput,
     merged_lens: &[u64],
@@ -188,27 +170,37 @@ fn behind_images(
     requires good { IsWellFormed link.now }
     requires images { map (λ c. c.has_image) contents.now ≡ by_part (has_image link.now) link.now }
     requires starts { length starts.now ≡ length (all_parts link.now.plan.sections) }
-    requires fit { (p : ℕ) → p < length starts.now → behind_image link.now merged_lens.now starts.now p < 2 ^ 64 }
+    requires fit { (p : ℕ) → p < length starts.now → behind_leading link.now merged_lens.now starts.now p < 2 ^ 64 }
     ensures { IfOk result (λ next. next.items
-        ≡ map (behind_image link.now merged_lens.now starts.now) (range_with_len 0 (length starts.now))) }
+        ≡ map (behind_leading link.now merged_lens.now starts.now) (range_with_len 0 (length starts.now))) }
 {
     let parts = link.plan.sections.parts();
     let lens = image_lens(alloc, link.plan.sections.as_slice(), merged_lens)?;
     let mut next = Vec::with_capacity(alloc, starts.len())?;
     for number in 0..starts.len() {
         let has_image = contents[number].has_image;
-        next.push(image_end(starts[number], &parts[number], has_image, lens[number]))?;
+        let identity = identity_size(link, number);
+        let start = starts[number];
+        next.push(leading_end(start, &parts[number], has_image, lens[number], identity))?;
     }
     Ok(next)
 }
 
-/// Where the image of a part that starts here ends, if it has one, so many bytes long.
-fn image_end(start: u64, part: &PlanPart, has_image: bool, len: u64) -> u64
+/// Where what leads in a part that starts here ends: its image and the identity, if they stand there, so many bytes long.
+fn leading_end(
+    start: u64,
+    part: &PlanPart,
+    has_image: bool,
+    len: u64,
+    identity: Option<u128>,
+) -> u64
     requires aligned { IsTrue (is_alignment part.now.alignment) }
-    requires room { start + (if has_image then capacity part.now len else 0) < 2 ^ 64 }
-    ensures { result ≡ start + (if has_image then capacity part.now len else 0) }
+    requires small { IfSome identity (λ n. n < 2 ^ 65) }
+    requires room { start + ((if has_image then capacity part.now len else 0) + option_map_or (capacity part.now) identity 0) < 2 ^ 64 }
+    ensures { result ≡ start + ((if has_image then capacity part.now len else 0) + option_map_or (capacity part.now) identity 0) }
 {
-    start + image_bytes(part, has_image, len) as u64
+    let image = image_bytes(part, has_image, len) as u64;
+    start + (image + identity_bytes(part, identity) as u64)
 }
 
 /// The next address of a part, which moves on by the bytes that an owner of this size takes there.

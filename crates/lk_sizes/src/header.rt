@@ -3,9 +3,10 @@
 //! What is told of a section may depend on whether anything went into it: an output file has no header for a section that
 //! stayed empty, unless the plan wants one. Each step is a pass over the plan.
 //!
-//! First, which sections are kept: those that the plan always emits, those that what is live keeps, whatever its bytes, and
-//! those with a part that has bytes by its first size. The first sizes go by the input sections as they are described:
-//! whether a section is emitted must be known before later steps, which may change sizes, can run. Then the marks of
+//! First, which sections are kept: those that the plan always emits, those that what is live keeps, whatever its bytes, those at
+//! whose edges a symbol of the prelude stands that something refers to, and those with a part that has bytes by its first size. The
+//! first sizes go by the input sections as they are described, and by the entries of tables that are known by then: whether a
+//! section is emitted must be known before later steps, which may change sizes, can run. Then the marks of
 //! secondary sections move to their primaries, since both stand in the output as one section, and sections that the plan
 //! never emits lose theirs, as does the section of singletons, whose input sections are told one by one. The marked ones are
 //! numbered in the order in which events place them; a section that no event places has no index.
@@ -26,14 +27,16 @@ ghost use Rattle.lk_link.specs.OutputKinds.{is_partial};
 ghost use Rattle.lk_link.specs.Parts.{all_parts};
 ghost use Rattle.lk_link.specs.PlanSections.{primary_of, section_at};
 ghost use Rattle.lk_link.specs.SegmentKinds.{is_stack};
+ghost use Rattle.lk_link.specs.TableSizes.{TableSizes};
 ghost use Rattle.lk_link.specs.WellFormed.{IsInRange, IsWellFormed};
 ghost use Rattle.lk_sizes.specs.Attributes.{by_section};
 ghost use Rattle.lk_tables.specs.HeaderParts.{event_sections};
-ghost use Rattle.lk_sizes.specs.Emitted.{can_be_emitted, is_emitted, is_kept};
+ghost use Rattle.lk_sizes.specs.Emitted.{can_be_emitted, is_emitted, is_kept, is_kept_by_symbol};
 ghost use Rattle.lk_sizes.specs.Header.{header_info};
 ghost use Rattle.lk_sizes.specs.Tables.{active_by, in_section};
 ghost use Rattle.lk_sizes.specs.Owners.{AreFirstSizes, content_of};
 
+use crate::kept_symbols::mark_kept_by_symbols;
 use lk_gc::Live;
 use lk_link::limits::{EVENTS, SEGMENTS};
 use lk_link::marks::is_marked;
@@ -53,10 +56,10 @@ pub fn determine_header_sizes(
 ) -> Result<HeaderInfo, AllocError>
     requires good { IsWellFormed link.now }
     requires sizes { length first_sizes.now ≡ length (all_parts link.now.plan.sections) }
-    ensures header { (lens : List ℕ) → AreFirstSizes link.now (content_of live.now lens) first_sizes.now
-        → IfOk result (λ header. header ≡ header_info link.now (content_of live.now lens)) }
-    ensures marks { (lens : List ℕ) → AreFirstSizes link.now (content_of live.now lens) first_sizes.now
-        → IfOk result (λ header. is_marked header.emitted ≡ is_emitted link.now (content_of live.now lens)) }
+    ensures header { (sizes : TableSizes) (lens : List ℕ) → AreFirstSizes link.now (content_of sizes live.now lens) first_sizes.now
+        → IfOk result (λ header. header ≡ header_info link.now (content_of sizes live.now lens)) }
+    ensures marks { (sizes : TableSizes) (lens : List ℕ) → AreFirstSizes link.now (content_of sizes live.now lens) first_sizes.now
+        → IfOk result (λ header. is_marked header.emitted ≡ is_emitted link.now (content_of sizes live.now lens)) }
 {
     let emitted = mark_emitted(alloc, link, live, first_sizes)?;
     let indexes = index_emitted(alloc, &link.plan, &emitted)?;
@@ -86,46 +89,56 @@ fn mark_emitted(
     requires good { IsWellFormed link.now }
     requires sizes { length first_sizes.now ≡ length (all_parts link.now.plan.sections) }
     ensures count { IfOk result (λ emitted. length emitted.items ≡ length link.now.plan.sections) }
-    ensures emitted { (lens : List ℕ) → AreFirstSizes link.now (content_of live.now lens) first_sizes.now
-        → IfOk result (λ emitted. emitted.items ≡ by_section (is_emitted link.now (content_of live.now lens)) link.now) }
+    ensures emitted { (sizes : TableSizes) (lens : List ℕ) → AreFirstSizes link.now (content_of sizes live.now lens) first_sizes.now
+        → IfOk result (λ emitted. emitted.items ≡ by_section (is_emitted link.now (content_of sizes live.now lens)) link.now) }
 {
-    let kept = mark_kept(alloc, link, live, first_sizes)?;
+    let by_symbols = mark_kept_by_symbols(alloc, link, live)?;
+    let kept = mark_kept(alloc, link, live, &by_symbols, first_sizes)?;
     let marks = mark_primaries(alloc, &link.plan.sections, &kept)?;
     let emitted = leave_out(alloc, &link.plan, &marks)?;
     Ok(emitted)
 }
 
-/// Whether an output section is kept: the plan always emits it, what is live keeps it, or one of its parts has bytes.
+/// Whether an output section is kept: the plan always emits it, what is live keeps it, a symbol does, or one of its parts has bytes.
 #[tactic(auto, using(lk_link::proofs::PartNumbers::part_numbers))]
-fn is_kept(plan: &Plan, section: usize, live: &Live, first_sizes: &[u64]) -> bool
+fn is_kept(
+    plan: &Plan,
+    section: usize,
+    live: &Live,
+    by_symbols: &[bool],
+    first_sizes: &[u64],
+) -> bool
     requires within { section < length plan.now.sections }
     requires sizes { length first_sizes.now ≡ length (all_parts plan.now.sections) }
-    ensures { result ≡ (is_always (section_at plan.now.sections section).emit || is_marked live.now.kept section
+    ensures { result ≡ (is_always (section_at plan.now.sections section).emit || is_marked live.now.kept section || is_marked by_symbols.now section
         || list_any (λ n. nat_lt 0 n) (in_section plan.now.sections section first_sizes.now)) }
 {
     let (first, behind) = plan.sections.part_range(section);
     let emit = plan.sections.as_slice()[section].emit;
     emit.is_always()
         || is_marked(live.kept.as_slice(), section)
+        || is_marked(by_symbols, section)
         || have_bytes(&first_sizes[first..behind])
 }
 
-/// For each output section, whether it is kept.
+/// For each output section, whether it is kept, by marks of those that symbols keep.
 fn mark_kept(
     alloc: Global,
     link: &LinkInput,
     live: &Live,
+    by_symbols: &[bool],
     first_sizes: &[u64],
 ) -> Result<Vec<bool>, AllocError>
+    requires symbols { (s : ℕ) → s < length link.now.plan.sections → is_marked by_symbols.now s ≡ is_kept_by_symbol link.now live.now s }
     requires sizes { length first_sizes.now ≡ length (all_parts link.now.plan.sections) }
     ensures count { IfOk result (λ kept. length kept.items ≡ length link.now.plan.sections) }
-    ensures kept { (lens : List ℕ) → AreFirstSizes link.now (content_of live.now lens) first_sizes.now
-        → IfOk result (λ kept. kept.items ≡ by_section (is_kept link.now (content_of live.now lens)) link.now) }
+    ensures kept { (sizes : TableSizes) (lens : List ℕ) → AreFirstSizes link.now (content_of sizes live.now lens) first_sizes.now
+        → IfOk result (λ kept. kept.items ≡ by_section (is_kept link.now (content_of sizes live.now lens)) link.now) }
 {
     let plan = &link.plan;
     let mut kept = Vec::with_capacity(alloc, plan.sections.len())?;
     for number in 0..plan.sections.len() {
-        kept.push(is_kept(plan, number, live, first_sizes))?;
+        kept.push(is_kept(plan, number, live, by_symbols, first_sizes))?;
     }
     Ok(kept)
 }

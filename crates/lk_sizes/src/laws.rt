@@ -2,13 +2,8 @@
 
 ghost use Rattle.lk_sizes.specs.Addresses.{CommonsRise, TableTellsLiveSections};
 ghost use Rattle.lk_sizes.specs.Images.{ImagesAreOwners, ImagesStandWhereInputsGo};
-ghost use Rattle.lk_sizes.specs.Owners.{CommonsAreOwners, FirstSizesAreSizes, LiveSectionsAreOwners, OwnersAreLive};
+ghost use Rattle.lk_sizes.specs.PartOwners.{CommonsAreOwners, LiveSectionsAreOwners, OwnersAreLive, OwnersStandOnce, TablePartsHaveEntriesAlone};
 ghost use Rattle.lk_sizes.specs.Tiles.{OwnersTileTheirPart, OwnersAreAligned};
-
-/// A law: the sizes that tell which sections are emitted are the sizes of the parts, where nothing changes them in between.
-pub fn first_sizes_are_sizes()
-    ensures { FirstSizesAreSizes }
-{}
 
 /// A law: the owners of a part tile it. Each byte of the part has one owner, and no owner reaches out of the part.
 pub fn owners_tile_their_part()
@@ -30,7 +25,8 @@ pub fn commons_are_owners()
     ensures { CommonsAreOwners }
 {}
 
-/// A law: each owner of a part is the image of its output section, a live section that goes to it, or one of its commons.
+/// A law: each owner of a part is the image of its output section, the identity, a live section that goes to it, one of its commons, or
+/// an entry of a table there.
 pub fn owners_are_live()
     ensures { OwnersAreLive }
 {}
@@ -53,4 +49,14 @@ pub fn images_are_owners()
 /// A law: where a section that is merged goes, the image of its output section stands.
 pub fn images_stand_where_inputs_go()
     ensures { ImagesStandWhereInputsGo }
+{}
+
+/// A law: a part that the plan names for a table has the entries of its table, and no other owner.
+pub fn table_parts_have_entries_alone()
+    ensures { TablePartsHaveEntriesAlone }
+{}
+
+/// A law: each live section and each common among the owners of a part stands there once, under its number.
+pub fn owners_stand_once()
+    ensures { OwnersStandOnce }
 {}

@@ -8,12 +8,12 @@ pub mod error;
 pub mod header;
 pub mod images;
 mod kept;
+mod kept_symbols;
 pub mod laws;
 pub mod owners;
+pub mod part_owners;
 
-pub use addresses::{
-    CommonAddress, LiveSection, OwnerAddresses, owner_addresses, section_addresses,
-};
+pub use addresses::{CommonAddress, LiveSection, OwnerAddresses, owner_addresses};
 pub use attributes::propagate_section_attributes;
 pub use error::SizeError;
 pub use header::determine_header_sizes;
@@ -22,4 +22,5 @@ pub use lk_tables::{
     DynamicSizes, HeaderInfo, HeaderSizes, SymbolCopyInfo, dynamic_indexes, dynamic_sizes,
     dynamic_table, entry_sizes, header_sizes, symbol_sizes,
 };
-pub use owners::{PartContents, part_contents, part_sizes};
+pub use owners::{PartContents, PartTotal, content_totals, first_sizes, part_contents, part_sizes};
+pub use part_owners::PartOwners;

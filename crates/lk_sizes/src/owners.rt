@@ -2,36 +2,47 @@
 //!
 //! One pass over the live and merged sections adds each to the row of its part, in a flat table by part number; another over the
 //! symbols adds the commons. Sums have 128 bits there, so that one that passes 2^64 - 1 is told from one that fits. A part to
-//! which merged sections go has the image of its output section, which comes on top. A last pass over the rows adds the sums
+//! which merged sections go has the image of its output section, which comes on top, and the part for comments the identity. When it
+//! is known which sections are emitted, the entries of tables come on top of that, and a last pass over the rows adds the sums
 //! up, part by part, and refuses the first part at which they pass 2^64 - 1 together.
 
-ghost use Rattle.std.specs.Prelude.{◌≡◌, ◌+◌, ◌-◌, ◌<◌, ◌^◌, ◌||◌, ℕ, IsTrue, IfOk, OnOk, Some, ◌++◌, if◌then◌else◌, bit_or, length, map, min, slice_get, slice_index};
+ghost use Rattle.std.specs.Prelude.{◌≡◌, ◌+◌, ◌-◌, ◌<◌, ◌^◌, ◌||◌, ℕ, IsTrue, IfOk, IfSome, List, OnOk, Some, ◌++◌, if◌then◌else◌, bit_or, length, map, min, slice_get, slice_index};
+ghost use Rattle.std.specs.Option.{option_map_or};
 ghost use Rattle.lk_link.specs.Alignments.{is_alignment};
 ghost use Rattle.lk_link.specs.Files.{file_in};
 ghost use Rattle.lk_link.specs.InputSlots.{is_merge};
-ghost use Rattle.lk_link.specs.Parts.{all_parts};
+ghost use Rattle.lk_link.specs.Parts.{all_parts, part_sections};
 ghost use Rattle.lk_link.specs.Sizes.{capacity};
+ghost use Rattle.lk_link.specs.TableSizes.{TableSizes};
 ghost use Rattle.lk_link.specs.Walks.{file_of};
 ghost use Rattle.lk_link.specs.WellFormed.{IsWellFormed};
 ghost use Rattle.lk_link.specs.declared.link.LinkInput.{LinkInput};
 ghost use Rattle.lk_gc.specs.Reach.{AreLive};
+ghost use Rattle.lk_gc.specs.declared.live.Live.{Live};
+ghost use Rattle.lk_tables.specs.ShareWords.{first_shares};
+ghost use Rattle.lk_tables.specs.TableLists.{TableLists};
+ghost use Rattle.lk_tables.specs.Totals.{totals_of};
 ghost use Rattle.lk_sizes.specs.Attributes.{part_attributes};
-ghost use Rattle.lk_sizes.specs.Contents.{GivesContents, part_contents};
-ghost use Rattle.lk_sizes.specs.Owners.{Content, all_commons, commons_of, content_of, has_image, part_sections, part_size, part_sizes};
-ghost use Rattle.lk_sizes.specs.Tables.{AreAdded, commons_size, live_size};
-ghost use Rattle.lk_sizes.specs.declared.owners.Total.{Total};
+ghost use Rattle.lk_sizes.specs.Contents.{AreContentTotals, GivesContents, part_contents};
+ghost use Rattle.lk_sizes.specs.Owners.{AreFirstSizes, Content, all_commons, commons_of, content_of, has_image, identity_size};
+ghost use Rattle.lk_sizes.specs.PartOwners.{part_sizes, tables_of};
+ghost use Rattle.lk_sizes.specs.Tables.{AreAdded, commons_size, live_size, with_entries, with_tables};
+ghost use Rattle.lk_sizes.specs.declared.owners.PartTotal.{PartTotal};
 
 use crate::commons::file_commons;
 use crate::error::SizeError;
 use crate::kept::KeptInputs;
 use lk_gc::Live;
-use lk_link::{FileRef, InputSection, LinkInput, List, Place, PlanPart, PlanSection, Section};
+use lk_link::{
+    FileRef, InputSection, LinkInput, List, PartId, Place, PlanPart, PlanSection, Section,
+};
+use lk_tables::{FileShare, TableTotals, bytes_in_part, first_totals};
 use std::alloc::{AllocError, Global};
 
 /// What comes into a part.
 #[derive(Clone, Copy, Debug, PartialEq, Eq)]
 pub struct PartContents {
-    /// Bytes of the image, of the live sections and of the commons; those of all parts are at most 2^64 - 1 together.
+    /// Bytes of all its owners; those of all parts are at most 2^64 - 1 together.
     pub bytes: u64,
     /// Whether merged sections go to it, so that the merged image of its output section stands there, before the sections.
     pub has_image: bool,
@@ -40,17 +51,19 @@ pub struct PartContents {
 }
 
 /// What was added up for a part.
-#[derive(Clone, Copy)]
-struct Total {
+#[derive(Clone, Copy, Debug, PartialEq, Eq)]
+pub struct PartTotal {
     /// Bytes; a sum past 2^128 - 1 is given as that.
-    bytes: u128,
-    has_image: bool,
-    attrs: u32,
+    pub bytes: u128,
+    /// Whether merged sections go to it.
+    pub has_image: bool,
+    /// The attributes of its live and merged sections together.
+    pub attrs: u32,
 }
 
-impl Total {
+impl PartTotal {
     /// With what one more section brings: a merged one has its bytes in the image.
-    fn with(self, part: &PlanPart, section: &InputSection) -> Total
+    fn with(self, part: &PlanPart, section: &InputSection) -> PartTotal
         requires { IsTrue (is_alignment part.now.alignment) }
         ensures bytes { result.bytes ≡ (if is_merge section.now.slot then self.bytes
             else min (self.bytes + capacity part.now section.now.size) (2 ^ 128 - 1)) }
@@ -65,7 +78,7 @@ impl Total {
             self.bytes
                 .saturating_add(Section { size }.exact_capacity(part))
         };
-        Total {
+        PartTotal {
             bytes,
             has_image: self.has_image || merged,
             attrs: self.attrs | section.attrs,
@@ -73,18 +86,18 @@ impl Total {
     }
 
     /// With a common, so many bytes large.
-    fn with_common(self, part: &PlanPart, size: u64) -> Total
+    fn with_common(self, part: &PlanPart, size: u64) -> PartTotal
         requires { IsTrue (is_alignment part.now.alignment) }
         ensures bytes { result.bytes ≡ min (self.bytes + capacity part.now size) (2 ^ 128 - 1) }
         ensures image { result.has_image ≡ self.has_image }
         ensures attrs { result.attrs ≡ self.attrs }
     {
-        let Total {
+        let PartTotal {
             bytes,
             has_image,
             attrs,
         } = self;
-        Total {
+        PartTotal {
             bytes: bytes.saturating_add(Section { size }.exact_capacity(part)),
             has_image,
             attrs,
@@ -92,21 +105,52 @@ impl Total {
     }
 
     /// With the image, if one stands there, so many bytes long.
-    fn with_image(self, part: &PlanPart, len: u64) -> Total
+    fn with_image(self, part: &PlanPart, len: u64) -> PartTotal
         requires { IsTrue (is_alignment part.now.alignment) }
         ensures bytes { result.bytes ≡ min (self.bytes + (if self.has_image then capacity part.now len else 0)) (2 ^ 128 - 1) }
         ensures image { result.has_image ≡ self.has_image }
         ensures attrs { result.attrs ≡ self.attrs }
     {
-        let Total {
+        let PartTotal {
             bytes,
             has_image,
             attrs,
         } = self;
-        Total {
+        PartTotal {
             bytes: bytes.saturating_add(image_bytes(part, has_image, len)),
             has_image,
             attrs,
+        }
+    }
+
+    /// With the identity, if it stands there, so many bytes long.
+    fn with_identity(self, part: &PlanPart, size: Option<u128>) -> PartTotal
+        requires aligned { IsTrue (is_alignment part.now.alignment) }
+        requires small { IfSome size (λ n. n < 2 ^ 65) }
+        ensures bytes { result.bytes ≡ min (self.bytes + option_map_or (capacity part.now) size 0) (2 ^ 128 - 1) }
+        ensures image { result.has_image ≡ self.has_image }
+        ensures attrs { result.attrs ≡ self.attrs }
+    {
+        let PartTotal {
+            bytes,
+            has_image,
+            attrs,
+        } = self;
+        PartTotal {
+            bytes: bytes.saturating_add(identity_bytes(part, size)),
+            has_image,
+            attrs,
+        }
+    }
+
+    /// With so many bytes of entries.
+    fn with_entries(&self, more: u128) -> PartTotal
+        ensures { result ≡ with_entries self.now more }
+    {
+        PartTotal {
+            bytes: self.bytes.saturating_add(more),
+            has_image: self.has_image,
+            attrs: self.attrs,
         }
     }
 }
@@ -123,23 +167,66 @@ pub(crate) fn image_bytes(part: &PlanPart, has_image: bool, len: u64) -> u128
     }
 }
 
-/// What comes into each part, by its number, where the merged images of output sections are so many bytes long; none is
-/// where nothing is merged. Looks at each input section and each symbol once, and takes memory for the parts alone. Refuses the first part
-/// at which the sizes so far pass 2^64 - 1 together (libwild: `compute_total_section_part_sizes`).
+/// The size of the linker's identity, if it stands in a part.
+pub(crate) fn identity_size(link: &LinkInput, part: usize) -> Option<u128>
+    ensures size { result ≡ identity_size link.now part }
+    ensures small { IfSome result (λ n. n < 2 ^ 65) }
+{
+    match link.plan.named.comment {
+        Some(comment) if comment.as_usize() == part => match &link.options.identity {
+            Some(text) => Some(text.len() as u128 + 9),
+            None => None,
+        },
+        _ => None,
+    }
+}
+
+/// The bytes that the identity takes in a part, if it stands there, so many bytes long.
+pub(crate) fn identity_bytes(part: &PlanPart, size: Option<u128>) -> u128
+    requires aligned { IsTrue (is_alignment part.now.alignment) }
+    requires small { IfSome size (λ n. n < 2 ^ 65) }
+    ensures { result ≡ option_map_or (capacity part.now) size 0 }
+{
+    match size {
+        Some(size) => padded(part, size),
+        None => 0,
+    }
+}
+
+/// The bytes that so many take in a part, with the padding behind them.
+#[tactic(auto, using(lk_link::proofs::Rounding::rounding))]
+fn padded(part: &PlanPart, size: u128) -> u128
+    requires aligned { IsTrue (is_alignment part.now.alignment) }
+    requires small { size < 2 ^ 65 }
+    ensures { result ≡ capacity part.now size }
+{
+    let alignment = u128::from(part.alignment);
+    let rest = size % alignment;
+    let padding = if part.packed || rest == 0 {
+        0
+    } else {
+        alignment - rest
+    };
+    size + padding
+}
+
+/// What comes into each part, by its number: what was added up, with the entries of the tables. Looks at each part once. Refuses the
+/// first part at which the sizes so far pass 2^64 - 1 together (libwild: `compute_total_section_part_sizes`).
 pub fn part_contents(
     alloc: Global,
     link: &LinkInput,
-    live: &Live,
-    merged_lens: &[u64],
+    totals: &[PartTotal],
+    tables: &TableTotals,
 ) -> Result<List<PartContents>, SizeError>
     requires good { IsWellFormed link.now }
-    requires live { AreLive link.now live.now }
-    ensures { GivesContents link.now (content_of live.now merged_lens.now) result }
+    requires count { length totals.now ≡ length (all_parts link.now.plan.sections) }
+    ensures { (content : Content) → AreContentTotals link.now content.live content.merged_lens totals.now
+        → tables.now ≡ totals_of (tables_of link.now content) → GivesContents link.now content result }
 {
-    let totals = add_up(alloc, link, live, merged_lens)?;
-    let mut contents = Vec::with_capacity(alloc, totals.len())?;
+    let whole = add_tables(alloc, link, totals, tables)?;
+    let mut contents = Vec::with_capacity(alloc, whole.len())?;
     let mut sum = 0u128;
-    for (part, total) in totals.as_slice().iter().enumerate() {
+    for (part, total) in whole.as_slice().iter().enumerate() {
         sum = sum.saturating_add(total.bytes);
         if sum > u128::from(u64::MAX) {
             let place = Place::Part(part);
@@ -154,43 +241,93 @@ pub fn part_contents(
     Ok(List::from_vec(contents))
 }
 
-/// What comes into each part; bytes may pass 2^64 - 1.
-fn add_up(
+/// The totals of the parts with the entries of tables.
+fn add_tables(
+    alloc: Global,
+    link: &LinkInput,
+    totals: &[PartTotal],
+    tables: &TableTotals,
+) -> Result<Vec<PartTotal>, AllocError>
+    requires good { IsWellFormed link.now }
+    requires count { length totals.now ≡ length (all_parts link.now.plan.sections) }
+    ensures { (lists : TableLists) → tables.now ≡ totals_of lists
+        → IfOk result (λ whole. whole.items ≡ with_tables link.now.plan.named lists totals.now) }
+{
+    let mut whole = Vec::with_capacity(alloc, totals.len())?;
+    for (number, total) in totals.iter().enumerate() {
+        let part = PartId::from_u32(number as u32);
+        let more = bytes_in_part(&link.plan.named, tables, part);
+        whole.push(total.with_entries(more))?;
+    }
+    Ok(whole)
+}
+
+/// The first sizes of the parts, which tell which sections are emitted: what was added up, with the entries of tables that are
+/// known before that, by what files take first. One past 2^64 - 1 is given as that. Looks at each part once.
+pub fn first_sizes(
+    alloc: Global,
+    link: &LinkInput,
+    totals: &[PartTotal],
+    shares: &[FileShare],
+) -> Result<Vec<u64>, AllocError>
+    requires good { IsWellFormed link.now }
+    requires count { length totals.now ≡ length (all_parts link.now.plan.sections) }
+    ensures { (sizes : TableSizes) (live : Live) (merged_lens : List ℕ) → AreContentTotals link.now live merged_lens totals.now
+        → shares.now ≡ first_shares sizes link.now live
+        → IfOk result (λ first. AreFirstSizes link.now (content_of sizes live merged_lens) first.items) }
+{
+    let tables = first_totals(link, shares);
+    let whole = add_tables(alloc, link, totals, &tables)?;
+    let first = capped(alloc, &whole)?;
+    Ok(first)
+}
+
+/// The bytes of totals, each at most 2^64 - 1.
+fn capped(alloc: Global, totals: &[PartTotal]) -> Result<Vec<u64>, AllocError>
+    ensures { IfOk result (λ sizes. sizes.items ≡ map (λ t. min t.bytes (2 ^ 64 - 1)) totals.now) }
+{
+    let mut sizes = Vec::with_capacity(alloc, totals.len())?;
+    for total in totals {
+        sizes.push(total.bytes.min(u128::from(u64::MAX)) as u64)?;
+    }
+    Ok(sizes)
+}
+
+/// What the images, the identity, the live sections and the commons bring to each part, by the number of the part, where the merged
+/// images of output sections are so many bytes long; none is where nothing is merged. Looks at each input section and each
+/// symbol once, and takes memory for the parts alone.
+pub fn content_totals(
     alloc: Global,
     link: &LinkInput,
     live: &Live,
     merged_lens: &[u64],
-) -> Result<Vec<Total>, AllocError>
+) -> Result<Vec<PartTotal>, AllocError>
     requires good { IsWellFormed link.now }
     requires live { AreLive link.now live.now }
-    ensures count { IfOk result (λ totals. length totals.items ≡ length (all_parts link.now.plan.sections)) }
-    ensures bytes { IfOk result (λ totals. (p : ℕ) (total : Total) → slice_get totals.items p ≡ Some total
-        → min total.bytes (2 ^ 64) ≡ min (part_size link.now (content_of live.now merged_lens.now) p) (2 ^ 64)) }
-    ensures image { IfOk result (λ totals. (p : ℕ) (total : Total) → slice_get totals.items p ≡ Some total
-        → total.has_image ≡ has_image link.now p) }
-    ensures attrs { IfOk result (λ totals. (p : ℕ) (total : Total) → slice_get totals.items p ≡ Some total
-        → total.attrs ≡ part_attributes link.now live.now p) }
+    ensures { IfOk result (λ totals. AreContentTotals link.now live.now merged_lens.now totals.items) }
 {
     let parts = link.plan.sections.parts();
     let lens = image_lens(alloc, link.plan.sections.as_slice(), merged_lens)?;
     let inputs = add_takers(alloc, link, live)?;
     let mut totals = Vec::with_capacity(alloc, inputs.len())?;
     for number in 0..inputs.len() {
-        totals.push(inputs[number].with_image(&parts[number], lens[number]))?;
+        let part = &parts[number];
+        let total = inputs[number].with_image(part, lens[number]);
+        totals.push(total.with_identity(part, identity_size(link, number)))?;
     }
     Ok(totals)
 }
 
 /// What sections and commons bring to each part, without the images.
-fn add_takers(alloc: Global, link: &LinkInput, live: &Live) -> Result<Vec<Total>, AllocError>
+fn add_takers(alloc: Global, link: &LinkInput, live: &Live) -> Result<Vec<PartTotal>, AllocError>
     requires good { IsWellFormed link.now }
     requires live { AreLive link.now live.now }
     ensures count { IfOk result (λ totals. length totals.items ≡ length (all_parts link.now.plan.sections)) }
-    ensures bytes { IfOk result (λ totals. (p : ℕ) (total : Total) → slice_get totals.items p ≡ Some total → min total.bytes (2 ^ 64)
+    ensures bytes { IfOk result (λ totals. (p : ℕ) (total : PartTotal) → slice_get totals.items p ≡ Some total → min total.bytes (2 ^ 64)
         ≡ min (live_size link.now live.now p + commons_size link.now p (all_commons link.now live.now)) (2 ^ 64)) }
-    ensures image { IfOk result (λ totals. (p : ℕ) (total : Total) → slice_get totals.items p ≡ Some total
+    ensures image { IfOk result (λ totals. (p : ℕ) (total : PartTotal) → slice_get totals.items p ≡ Some total
         → total.has_image ≡ has_image link.now p) }
-    ensures attrs { IfOk result (λ totals. (p : ℕ) (total : Total) → slice_get totals.items p ≡ Some total
+    ensures attrs { IfOk result (λ totals. (p : ℕ) (total : PartTotal) → slice_get totals.items p ≡ Some total
         → total.attrs ≡ part_attributes link.now live.now p) }
 {
     let mut totals = add_inputs(alloc, link, live)?;
@@ -199,7 +336,7 @@ fn add_takers(alloc: Global, link: &LinkInput, live: &Live) -> Result<Vec<Total>
 }
 
 /// Adds what the commons bring to each part.
-fn add_commons(link: &LinkInput, live: &Live, totals: &mut [Total])
+fn add_commons(link: &LinkInput, live: &Live, totals: &mut [PartTotal])
     requires good { IsWellFormed link.now }
     requires count { length totals.old ≡ length (all_parts link.now.plan.sections) }
     ensures { AreAdded link.now (all_commons link.now live.now) totals.old totals.new }
@@ -210,7 +347,7 @@ fn add_commons(link: &LinkInput, live: &Live, totals: &mut [Total])
 }
 
 /// Adds what the commons of a file bring to each part.
-fn add_file_commons(link: &LinkInput, live: &Live, file: FileRef<'_>, totals: &mut [Total])
+fn add_file_commons(link: &LinkInput, live: &Live, file: FileRef<'_>, totals: &mut [PartTotal])
     requires good { IsWellFormed link.now }
     requires there { file_in link.now.groups file.id ≡ Some file.file.now }
     requires count { length totals.old ≡ length (all_parts link.now.plan.sections) }
@@ -224,19 +361,19 @@ fn add_file_commons(link: &LinkInput, live: &Live, file: FileRef<'_>, totals: &m
 }
 
 /// What the live and merged sections bring to each part, without the images.
-fn add_inputs(alloc: Global, link: &LinkInput, live: &Live) -> Result<Vec<Total>, AllocError>
+fn add_inputs(alloc: Global, link: &LinkInput, live: &Live) -> Result<Vec<PartTotal>, AllocError>
     requires good { IsWellFormed link.now }
     requires live { AreLive link.now live.now }
     ensures count { IfOk result (λ totals. length totals.items ≡ length (all_parts link.now.plan.sections)) }
-    ensures bytes { IfOk result (λ totals. (p : ℕ) (total : Total) → slice_get totals.items p ≡ Some total
+    ensures bytes { IfOk result (λ totals. (p : ℕ) (total : PartTotal) → slice_get totals.items p ≡ Some total
         → min total.bytes (2 ^ 64) ≡ min (live_size link.now live.now p) (2 ^ 64)) }
-    ensures image { IfOk result (λ totals. (p : ℕ) (total : Total) → slice_get totals.items p ≡ Some total
+    ensures image { IfOk result (λ totals. (p : ℕ) (total : PartTotal) → slice_get totals.items p ≡ Some total
         → total.has_image ≡ has_image link.now p) }
-    ensures attrs { IfOk result (λ totals. (p : ℕ) (total : Total) → slice_get totals.items p ≡ Some total
+    ensures attrs { IfOk result (λ totals. (p : ℕ) (total : PartTotal) → slice_get totals.items p ≡ Some total
         → total.attrs ≡ part_attributes link.now live.now p) }
 {
     let parts = link.plan.sections.parts();
-    let nothing = Total {
+    let nothing = PartTotal {
         bytes: 0,
         has_image: false,
         attrs: 0,

@@ -11,7 +11,8 @@ use Rattle.lk_sizes.specs.Images.{image_addresses}
 use Rattle.lk_sizes.specs.Addresses.{common_addresses, section_addresses}
 use Rattle.lk_layout.specs.Tables.{AreRising}
 use Rattle.lk_layout.proofs.CommonsFound.{table_rises}
-use Rattle.lk_sizes.specs.Owners.{EndsFit, content_of}
+use Rattle.lk_sizes.specs.Owners.{content_of}
+use Rattle.lk_sizes.specs.PartOwners.{EndsFit}
 use Rattle.lk_layout.specs.OutputContent.{image_lens, output_content}
 use Rattle.lk_layout.specs.Defined.{starts_of}
 use Rattle.lk_layout.specs.Resolutions.{images_at, merged_value}
@@ -19,76 +20,83 @@ use Rattle.lk_layout.proofs.Imaging.{images_fit, same_values}
 use Rattle.lk_layout.proofs.Placing.{ends_fit, have_room, resolutions_by, room_by, starts_count, table}
 use Rattle.lk_layout.proofs.Settings.{contents_count}
 use Rattle.lk_layout.proofs.addresses.addresses_of.Goals as goal
+use Rattle.lk_link.specs.TableSizes.{TableSizes}
 
-pub owner_addresses-requires-clause-contents : goal.owner_addresses-requires-clause-contents
-owner_addresses-requires-clause-contents c =
-    let lens : c.deref.result.now ≡ image_lens c.args.link.now = c.deref.ensures.value ∙ c.requires.images.lens in
-    c.requires.contents ∙ ap (λ (ls : List ℕ). part_contents c.args.link.now (content_of c.args.live.now ls)) (sym lens)
-
-pub owner_addresses-requires-clause-fit : goal.owner_addresses-requires-clause-fit
-owner_addresses-requires-clause-fit c =
+pub owner_addresses-requires-clause-room : goal.owner_addresses-requires-clause-room
+owner_addresses-requires-clause-room g c =
+    let tables : TableSizes = g.P.Platform.table_sizes c.args._platform.now in
     let link = c.args.link.now in
     let live : Live = c.args.live.now in
     let starts : List ℕ = c.in_ok-starts.starts.items in
     let lens : c.deref.result.now ≡ image_lens link = c.deref.ensures.value ∙ c.requires.images.lens in
-    let fit : EndsFit link (output_content link live) starts = ends_fit link live c.args.parts.now starts c.in_ok-starts.ensures.value c.in_ok-starts.ensures.fit c.requires.takes in
-    subst (λ (ls : List ℕ). EndsFit link (content_of live ls) c.deref-2.result.now) (sym lens)
-    (subst (λ (ss : List ℕ). EndsFit link (output_content link live) ss) (sym c.deref-2.ensures.value) fit)
+    let fit : EndsFit link (output_content tables link live) starts = ends_fit tables link live c.args.parts.now starts c.in_ok-starts.ensures.value c.in_ok-starts.ensures.fit c.requires.takes in (
+      tables,
+      c.requires.contents ∙ ap (λ (ls : List ℕ). part_contents link (content_of tables live ls)) (sym lens),
+      subst (λ (ls : List ℕ). EndsFit link (content_of tables live ls) c.deref-2.result.now) (sym lens)
+          (subst (λ (ss : List ℕ). EndsFit link (output_content tables link live) ss) (sym c.deref-2.ensures.value) fit),
+    )
 
 pub image_addresses-requires-clause-count : goal.image_addresses-requires-clause-count
-image_addresses-requires-clause-count c = contents_count c.args.link.now c.args.live.now c.args.contents.now c.requires.contents
+image_addresses-requires-clause-count g c =
+    let tables : TableSizes = g.P.Platform.table_sizes c.args._platform.now in
+    contents_count tables c.args.link.now c.args.live.now c.args.contents.now c.requires.contents
 
 pub compute-requires : goal.compute-requires
-compute-requires c =
+compute-requires g c =
+    let tables : TableSizes = g.P.Platform.table_sizes c.args._platform.now in
     let link = c.args.link.now in
     let live : Live = c.args.live.now in
     let starts : List ℕ = c.in_ok-starts.starts.items in
-    let fit : EndsFit link (output_content link live) starts = ends_fit link live c.args.parts.now starts c.in_ok-starts.ensures.value c.in_ok-starts.ensures.fit c.requires.takes in
+    let fit : EndsFit link (output_content tables link live) starts = ends_fit tables link live c.args.parts.now starts c.in_ok-starts.ensures.value c.in_ok-starts.ensures.fit c.requires.takes in
     let count = starts_count link c.args.parts.now starts c.in_ok-starts.ensures.value c.requires.each in
-    let places : c.deref-4.result.now ≡ image_addresses link (output_content link live) starts
-    = c.deref-4.ensures.value ∙ c.in_ok-places.ensures (output_content link live) c.requires.contents ∙ ap (image_addresses link (output_content link live)) c.deref-3.ensures.value in
+    let places : c.deref-4.result.now ≡ image_addresses link (output_content tables link live) starts
+    = c.deref-4.ensures.value ∙ c.in_ok-places.ensures (output_content tables link live) c.requires.contents ∙ ap (image_addresses link (output_content tables link live)) c.deref-3.ensures.value in
     let merged : c.as_slice-merged.result.now ≡ (link_inputs link).outputs = c.as_slice-merged.ensures ∙ c.requires.images.sections in
     subst (λ (m : List (List MergeInput)). ImagesFit m c.deref-4.result.now) (sym merged)
-    (subst (λ (ss : List ℕ). ImagesFit (link_inputs link).outputs ss) (sym places) (images_fit link live starts c.requires.good count fit))
+    (subst (λ (ss : List ℕ). ImagesFit (link_inputs link).outputs ss) (sym places) (images_fit tables link live starts c.requires.good count fit))
 
 pub resolve_all-requires-clause-belong : goal.resolve_all-requires-clause-belong
-resolve_all-requires-clause-belong c = record {
+resolve_all-requires-clause-belong g c = record {
   good = c.requires.good;
   sections = c.as_slice-merged.ensures ∙ c.requires.images.sections;
   starts = c.in_ok-buckets.ensures.each;
 }
 
 pub resolve_all-requires-clause-rising : goal.resolve_all-requires-clause-rising
-resolve_all-requires-clause-rising c =
+resolve_all-requires-clause-rising g c =
+    let tables : TableSizes = g.P.Platform.table_sizes c.args._platform.now in
     let link = c.args.link.now in
-    let commons = c.as_slice-3.ensures.value ∙ c.in_ok-owners.ensures.commons in
-    subst AreRising (sym commons) (table_rises link (content_of c.args.live.now c.deref.result.now) c.deref-2.result.now)
+    let commons = c.as_slice-3.ensures.value ∙ c.in_ok-owners.ensures.commons tables in
+    subst AreRising (sym commons) (table_rises link (content_of tables c.args.live.now c.deref.result.now) c.deref-2.result.now)
 
 pub resolve_all-requires-clause-room : goal.resolve_all-requires-clause-room
-resolve_all-requires-clause-room c =
+resolve_all-requires-clause-room g c =
+    let tables : TableSizes = g.P.Platform.table_sizes c.args._platform.now in
     let link = c.args.link.now in
     let live : Live = c.args.live.now in
     let starts : List ℕ = c.in_ok-starts.starts.items in
     let lens : c.deref.result.now ≡ image_lens link = c.deref.ensures.value ∙ c.requires.images.lens in
-    let read : c.as_slice-2.result.now ≡ table link live starts
-    = c.as_slice-2.ensures.value ∙ c.in_ok-owners.ensures.sections ∙ ap (λ (ls : List ℕ). section_addresses link (content_of live ls) c.deref-2.result.now) lens
-    ∙ ap (section_addresses link (output_content link live)) c.deref-2.ensures.value in
-    room_by live.marks c.as_slice.result.now (table link live starts) c.as_slice-2.result.now link.groups c.as_slice.ensures read
-    (have_room link live starts c.requires.good c.requires.live (starts_count link c.args.parts.now starts c.in_ok-starts.ensures.value c.requires.each)
-    (ends_fit link live c.args.parts.now starts c.in_ok-starts.ensures.value c.in_ok-starts.ensures.fit c.requires.takes))
+    let read : c.as_slice-2.result.now ≡ table tables link live starts
+    = c.as_slice-2.ensures.value ∙ c.in_ok-owners.ensures.sections tables ∙ ap (λ (ls : List ℕ). section_addresses link (content_of tables live ls) c.deref-2.result.now) lens
+    ∙ ap (section_addresses link (output_content tables link live)) c.deref-2.ensures.value in
+    room_by live.marks c.as_slice.result.now (table tables link live starts) c.as_slice-2.result.now link.groups c.as_slice.ensures read
+    (have_room tables link live starts c.requires.good c.requires.live (starts_count link c.args.parts.now starts c.in_ok-starts.ensures.value c.requires.each)
+    (ends_fit tables link live c.args.parts.now starts c.in_ok-starts.ensures.value c.in_ok-starts.ensures.fit c.requires.takes))
 
 pub returns-clause-sections : goal.returns-clause-sections
-returns-clause-sections c =
+returns-clause-sections g c =
+    let tables : TableSizes = g.P.Platform.table_sizes c.args._platform.now in
     let link = c.args.link.now in
     let live : Live = c.args.live.now in
     let lens : c.deref.result.now ≡ image_lens link = c.deref.ensures.value ∙ c.requires.images.lens in
-    c.in_ok-owners.ensures.sections ∙ ap (λ (ls : List ℕ). section_addresses link (content_of live ls) c.deref-2.result.now) lens
-    ∙ ap (section_addresses link (output_content link live)) (c.deref-2.ensures.value ∙ c.in_ok-starts.ensures.value)
+    c.in_ok-owners.ensures.sections tables ∙ ap (λ (ls : List ℕ). section_addresses link (content_of tables live ls) c.deref-2.result.now) lens
+    ∙ ap (section_addresses link (output_content tables link live)) (c.deref-2.ensures.value ∙ c.in_ok-starts.ensures.value)
 
 pub returns-clause-buckets : goal.returns-clause-buckets
-returns-clause-buckets c =
+returns-clause-buckets g c =
+    let tables : TableSizes = g.P.Platform.table_sizes c.args._platform.now in
     let link = c.args.link.now in
-    let content = output_content link c.args.live.now in
+    let content = output_content tables link c.args.live.now in
     let places : c.deref-4.result.now ≡ image_addresses link content (starts_of c.args.parts.now)
     = c.deref-4.ensures.value ∙ c.in_ok-places.ensures content c.requires.contents ∙ ap (image_addresses link content) (c.deref-3.ensures.value ∙ c.in_ok-starts.ensures.value) in
     let merged : c.as_slice-merged.result.now ≡ (link_inputs link).outputs = c.as_slice-merged.ensures ∙ c.requires.images.sections in
@@ -96,31 +104,32 @@ returns-clause-buckets c =
     ∙ ap (start_addresses fnv64 (link_inputs link).outputs) places
 
 pub returns-clause-belong : goal.returns-clause-belong
-returns-clause-belong c = record {
+returns-clause-belong g c = record {
   good = c.requires.good;
   sections = c.requires.images.sections;
   starts = subst (λ (m : List (List MergeInput)). AreStartsOf m c.in_ok-buckets.buckets) c.as_slice-merged.ensures c.in_ok-buckets.ensures.each;
 }
 
 pub returns-clause-resolutions : goal.returns-clause-resolutions
-returns-clause-resolutions c =
+returns-clause-resolutions g c =
+    let tables : TableSizes = g.P.Platform.table_sizes c.args._platform.now in
     let link = c.args.link.now in
     let live : Live = c.args.live.now in
-    let content = output_content link live in
+    let content = output_content tables link live in
     let starts : List ℕ = c.in_ok-starts.starts.items in
     let wanted : List ℕ = starts_of c.args.parts.now in
     let lens : c.deref.result.now ≡ image_lens link = c.deref.ensures.value ∙ c.requires.images.lens in
-    let read : c.as_slice-2.result.now ≡ table link live starts
-    = c.as_slice-2.ensures.value ∙ c.in_ok-owners.ensures.sections ∙ ap (λ (ls : List ℕ). section_addresses link (content_of live ls) c.deref-2.result.now) lens
+    let read : c.as_slice-2.result.now ≡ table tables link live starts
+    = c.as_slice-2.ensures.value ∙ c.in_ok-owners.ensures.sections tables ∙ ap (λ (ls : List ℕ). section_addresses link (content_of tables live ls) c.deref-2.result.now) lens
     ∙ ap (section_addresses link content) c.deref-2.ensures.value in
     let places : c.deref-4.result.now ≡ image_addresses link content wanted
     = c.deref-4.ensures.value ∙ c.in_ok-places.ensures content c.requires.contents ∙ ap (image_addresses link content) (c.deref-3.ensures.value ∙ c.in_ok-starts.ensures.value) in
     let merged : c.as_slice-merged.result.now ≡ (link_inputs link).outputs = c.as_slice-merged.ensures ∙ c.requires.images.sections in
     let commons : c.as_slice-3.result.now ≡ common_addresses link content starts
-    = c.as_slice-3.ensures.value ∙ c.in_ok-owners.ensures.commons ∙ ap (λ (ls : List ℕ). common_addresses link (content_of live ls) c.deref-2.result.now) lens
+    = c.as_slice-3.ensures.value ∙ c.in_ok-owners.ensures.commons tables ∙ ap (λ (ls : List ℕ). common_addresses link (content_of tables live ls) c.deref-2.result.now) lens
     ∙ ap (common_addresses link content) c.deref-2.ensures.value in
-    let values : merged_value link (image_start c.in_ok-buckets.buckets) ≡ merged_value link (images_at link live wanted)
-    = same_values link (image_start c.in_ok-buckets.buckets) (images_at link live wanted) c.requires.good (λ t below.
+    let values : merged_value link (image_start c.in_ok-buckets.buckets) ≡ merged_value link (images_at tables link live wanted)
+    = same_values link (image_start c.in_ok-buckets.buckets) (images_at tables link live wanted) c.requires.good (λ t below.
     c.in_ok-buckets.ensures.images t (omega (arith, below, outputs_count link, ap (λ (m : List (List MergeInput)). length m) merged)) ∙ ap (λ (ss : List ℕ). slice_index ss t) places) in
-    resolutions_by link live starts wanted c.as_slice.result.now c.as_slice-2.result.now c.in_ok-buckets.buckets c.as_slice-3.result.now c.as_slice-4.result.now _ c.requires.live c.as_slice.ensures read commons c.as_slice-4.ensures
+    resolutions_by tables link live starts wanted c.as_slice.result.now c.as_slice-2.result.now c.in_ok-buckets.buckets c.as_slice-3.result.now c.as_slice-4.result.now _ c.requires.live c.as_slice.ensures read commons c.as_slice-4.ensures
     c.in_ok-starts.ensures.value values c.in_ok-resolutions.ensures

@@ -21,66 +21,72 @@ use Rattle.lk_layout.specs.Resolutions.{symbol_resolutions}
 use Rattle.lk_layout.proofs.Answering.{err_exit, refused, same_layout, told, with_error}
 use Rattle.lk_link.specs.Marks.{is_marked}
 use Rattle.lk_layout.specs.OutputContent.{output_content}
+use Rattle.lk_link.specs.TableSizes.{TableSizes}
 
 pub propagate_section_attributes-requires-clause-count : goal.propagate_section_attributes-requires-clause-count
-propagate_section_attributes-requires-clause-count c = ap length c.requires.contents ∙ length-by_part (contents_of c.args.link.now (output_content c.args.link.now c.args.live)) c.args.link.now
+propagate_section_attributes-requires-clause-count g c =
+    let tables : TableSizes = g.P.Platform.table_sizes c.args.platform.now in
+    ap length c.requires.contents ∙ length-by_part (contents_of c.args.link.now (output_content tables c.args.link.now c.args.live)) c.args.link.now
 
 pub merge_secondary_parts-requires-clause-each : goal.merge_secondary_parts-requires-clause-each
-merge_secondary_parts-requires-clause-each c =
+merge_secondary_parts-requires-clause-each g c =
     ap length (c.as_slice.ensures ∙ c.requires.sections) ∙ length-section_records c.args.link.now.plan.sections c.args.placed.parts
 
 pub compute_segment_layout-requires-clause-each : goal.compute_segment_layout-requires-clause-each
-compute_segment_layout-requires-clause-each c =
+compute_segment_layout-requires-clause-each g c =
     ap length (c.as_slice-2.ensures ∙ c.requires.sections) ∙ length-section_records c.args.link.now.plan.sections c.args.placed.parts
 
 pub compute_segment_layout-requires-clause-there : goal.compute_segment_layout-requires-clause-there
-compute_segment_layout-requires-clause-there c =
+compute_segment_layout-requires-clause-there g c =
+    let tables : TableSizes = g.P.Platform.table_sizes c.args.platform.now in
     let link = c.args.link.now in
     let live = c.args.live in
-    let active : c.as_slice-4.result.now ≡ (header_info link (output_content link live)).active_segment_ids = c.as_slice-4.ensures ∙ ap (λ (h : HeaderInfo). h.active_segment_ids) c.requires.header in
+    let active : c.as_slice-4.result.now ≡ (header_info link (output_content tables link live)).active_segment_ids = c.as_slice-4.ensures ∙ ap (λ (h : HeaderInfo). h.active_segment_ids) c.requires.header in
     let There : List ℕ → Type 0 = All (λ i. i < length link.plan.segments) in
-    subst There (sym active) (active_there link live)
+    subst There (sym active) (active_there tables link live)
 
 pub returns-in_err-check_offsets : goal.returns-in_err-check_offsets
-returns-in_err-check_offsets c =
+returns-in_err-check_offsets g c =
+    let tables : TableSizes = g.P.Platform.table_sizes c.args.platform.now in
     let link = c.args.link.now in
     let live = c.args.live in
     let records : List Record = c.args.placed.parts in
     let spans : c.as_slice.result.now ≡ section_records link.plan.sections records = c.as_slice.ensures ∙ c.requires.sections in
     let fit : merge_refusal link.plan.sections (section_records link.plan.sections records) ≡ None = ap (merge_refusal link.plan.sections) (sym spans) ∙ c.in_ok-joined.ensures.fits in
     let sections : c.as_slice-2.result.now ≡ section_records link.plan.sections records = c.as_slice-2.ensures ∙ c.requires.sections in
-    let marks : is_marked c.as_slice-3.result.now ≡ is_emitted link (output_content link live)
+    let marks : is_marked c.as_slice-3.result.now ≡ is_emitted link (output_content tables link live)
     = ap is_marked c.as_slice-3.ensures ∙ c.requires.marks in
-    let active : c.as_slice-4.result.now ≡ active_segments link (output_content link live) = c.as_slice-4.ensures ∙ ap (λ (h : HeaderInfo). h.active_segment_ids) c.requires.header in
+    let active : c.as_slice-4.result.now ≡ active_segments link (output_content tables link live) = c.as_slice-4.ensures ∙ ap (λ (h : HeaderInfo). h.active_segment_ids) c.requires.header in
     let inside = rw (sections, marks, active) at c.in_ok-segments.ensures.refuses_none in
-    err_exit (WithMemory (IsPlacedAnswer link live records)) _ c.from_residual-in_err-check_offsets.result c.from_residual-in_err-check_offsets.ensures.1 (λ e is.
-    with_error (IsPlacedAnswer link live records) e (λ memory. refused link live records c.in_err-check_offsets.field-0.0 e fit inside c.in_err-check_offsets.ensures is))
+    err_exit (WithMemory (IsPlacedAnswer tables link live records)) _ c.from_residual-in_err-check_offsets.result c.from_residual-in_err-check_offsets.ensures.1 (λ e is.
+    with_error (IsPlacedAnswer tables link live records) e (λ memory. refused tables link live records c.in_err-check_offsets.field-0.0 e fit inside c.in_err-check_offsets.ensures is))
 
 pub returns : goal.returns
-returns c =
+returns g c =
+    let tables : TableSizes = g.P.Platform.table_sizes c.args.platform.now in
     let link = c.args.link.now in
     let live = c.args.live in
     let records : List Record = c.args.placed.parts in
     let spans : c.as_slice.result.now ≡ section_records link.plan.sections records = c.as_slice.ensures ∙ c.requires.sections in
     let fit : merge_refusal link.plan.sections (section_records link.plan.sections records) ≡ None = ap (merge_refusal link.plan.sections) (sym spans) ∙ c.in_ok-joined.ensures.fits in
     let sections : c.as_slice-2.result.now ≡ section_records link.plan.sections records = c.as_slice-2.ensures ∙ c.requires.sections in
-    let marks : is_marked c.as_slice-3.result.now ≡ is_emitted link (output_content link live)
+    let marks : is_marked c.as_slice-3.result.now ≡ is_emitted link (output_content tables link live)
     = ap is_marked c.as_slice-3.ensures ∙ c.requires.marks in
-    let active : c.as_slice-4.result.now ≡ active_segments link (output_content link live) = c.as_slice-4.ensures ∙ ap (λ (h : HeaderInfo). h.active_segment_ids) c.requires.header in
+    let active : c.as_slice-4.result.now ≡ active_segments link (output_content tables link live) = c.as_slice-4.ensures ∙ ap (λ (h : HeaderInfo). h.active_segment_ids) c.requires.header in
     let read : c.as_slice-parts.result.now ≡ records = c.as_slice-parts.ensures in
-    let content = output_content link live in
+    let content = output_content tables link live in
     let layouts : c.in_ok-segments.segments.segments ≡ segment_layouts FromSections link.plan link.options.stack (section_records link.plan.sections records) (is_emitted link content) (active_segments link content)
     = rw (sections, marks, active) at c.in_ok-segments.ensures.layouts in
-    told link live records _ fit (rw (sections, marks, active) at c.in_ok-segments.ensures.refuses_none) c.in_ok-check_offsets.ensures
+    told tables link live records _ fit (rw (sections, marks, active) at c.in_ok-segments.ensures.refuses_none) c.in_ok-check_offsets.ensures
     (same_layout _ _ _ _ records _ _ _ _ _ _ _ _ _ _ _ _ _ _ _ _ _ _ _ _ c.requires.sections
     (c.from_vec.ensures ∙ c.in_ok-joined.ensures.merged ∙ ap (merged_records link.plan.sections) spans)
-    (c.from_vec-2.ensures ∙ c.in_ok-attributes.ensures (output_content link live) c.requires.contents)
+    (c.from_vec-2.ensures ∙ c.in_ok-attributes.ensures (output_content tables link live) c.requires.contents)
     (ap (λ (h : HeaderInfo). h.output_section_indexes) c.requires.header)
     layouts
     (c.in_ok-segments.ensures.thread_local ∙ ap (λ (ls : List SegmentLayout). option_map (λ l. l.sizes) (thread_local_one link.plan ls)) layouts)
     refl
-    (c.from_vec-3.ensures ∙ c.in_ok-addresses.ensures.sections ∙ ap (λ (rs : List Record). section_addresses link (output_content link live) (starts_of rs)) read)
+    (c.from_vec-3.ensures ∙ c.in_ok-addresses.ensures.sections ∙ ap (λ (rs : List Record). section_addresses link (output_content tables link live) (starts_of rs)) read)
     c.requires.images.sections
     (c.in_ok-addresses.ensures.buckets ∙ ap (λ (rs : List Record). start_addresses fnv64 (link_inputs link).outputs (image_addresses link content (starts_of rs))) read)
-    (c.in_ok-addresses.ensures.resolutions ∙ ap (λ (rs : List Record). symbol_resolutions link live (starts_of rs)) read)
+    (c.in_ok-addresses.ensures.resolutions ∙ ap (λ (rs : List Record). symbol_resolutions tables link live (starts_of rs)) read)
     c.entry_symbol.ensures)

@@ -9,21 +9,21 @@ use Rattle.lk_reach.proofs.WalkLemmas.{file_turn}
 use Rattle.lk_sizes.specs.declared.owners.PartContents.{PartContents}
 use Rattle.lk_sizes.specs.Contents.{contents_of}
 use Rattle.lk_sizes.specs.Owners.{content_of}
-use Rattle.lk_sizes.specs.Tables.{behind_image}
+use Rattle.lk_sizes.specs.Tables.{behind_leading}
 use Rattle.lk_sizes.proofs.Made.{made_map}
 use Rattle.lk_sizes.proofs.Placed.{IsNextFile, all_fit, common_space, ends_count, file_done, section_space}
 use Rattle.lk_sizes.proofs.Takers.{turn_of}
 use Rattle.lk_sizes.proofs.addresses.owner_addresses.Goals as goal
 
-pub behind_images-requires-clause-images : goal.behind_images-requires-clause-images
-behind_images-requires-clause-images c =
-    let content = content_of c.args.live.now c.args.merged_lens.now in
-    ap (map (λ (p : PartContents). p.has_image)) c.requires.contents
+pub behind_leading-requires-clause-images : goal.behind_leading-requires-clause-images
+behind_leading-requires-clause-images c =
+    let content = content_of c.requires.room.0 c.args.live.now c.args.merged_lens.now in
+    ap (map (λ (p : PartContents). p.has_image)) c.requires.room.1
     ∙ made_map (λ (p : PartContents). p.has_image) (contents_of c.args.link.now content) (all_parts c.args.link.now.plan.sections) 0
 
-pub behind_images-requires-clause-fit : goal.behind_images-requires-clause-fit
-behind_images-requires-clause-fit c = λ p below.
-    omega (arith, all_fit c.args.link.now (content_of c.args.live.now c.args.merged_lens.now) c.args.starts.now p c.requires.fit below)
+pub behind_leading-requires-clause-fit : goal.behind_leading-requires-clause-fit
+behind_leading-requires-clause-fit c = λ p below.
+    omega (arith, all_fit c.args.link.now (content_of c.requires.room.0 c.args.live.now c.args.merged_lens.now) c.args.starts.now p c.requires.room.2 below)
 
 pub files-file-items-requires : goal.files-file-items-requires
 files-file-items-requires c = are_numbered c.args.link.now c.requires.good
@@ -42,25 +42,25 @@ place_commons-requires-clause-there c =
 
 pub place_sections-requires-clause-count : goal.place_sections-requires-clause-count
 place_sections-requires-clause-count c =
-    let content = content_of c.args.live.now c.args.merged_lens.now in
-    let ends : List ℕ = map (behind_image c.args.link.now c.args.merged_lens.now c.args.starts.now) (range_with_len 0 (length c.args.starts.now)) in
+    let content = content_of c.requires.room.0 c.args.live.now c.args.merged_lens.now in
+    let ends : List ℕ = map (behind_leading c.args.link.now c.args.merged_lens.now c.args.starts.now) (range_with_len 0 (length c.args.starts.now)) in
     omega (arith, ap length c.deref_mut.ensures.value, c.loop-file.invariant.passed.count, ends_count c.args.link.now content c.args.starts.now ends refl, c.requires.starts)
 
 pub place_sections-requires-clause-space : goal.place_sections-requires-clause-space
 place_sections-requires-clause-space c =
     let link = c.args.link.now in
-    let content = content_of c.args.live.now c.args.merged_lens.now in
-    let ends : List ℕ = map (behind_image link c.args.merged_lens.now c.args.starts.now) (range_with_len 0 (length c.args.starts.now)) in
+    let content = content_of c.requires.room.0 c.args.live.now c.args.merged_lens.now in
+    let ends : List ℕ = map (behind_leading link c.args.merged_lens.now c.args.starts.now) (range_with_len 0 (length c.args.starts.now)) in
     let f : NumberedFile = file_of c.in-Some.file in
     let done : List NumberedFile = map file_of c.loop-file.yielded in
     let turn = turn_of file_of (numbered_files link.groups) c.into_iter-file-iterator.result c.loop-file.file-iterator c.next.new.self c.loop-file.yielded c.in-Some.file (cc) c.loop-file.yielded_by c.in-Some.ensures.steps in
     let next : IsNextFile link done f = record { rest = turn.0; splits = turn.1 } in
-    rw c.deref_mut.ensures.value (section_space link content c.args.starts.now ends done f c.loop-file.next.items next c.requires.fit refl c.loop-file.invariant.passed)
+    rw c.deref_mut.ensures.value (section_space link content c.args.starts.now ends done f c.loop-file.next.items next c.requires.room.2 refl c.loop-file.invariant.passed)
 
 pub place_commons-requires-clause-count : goal.place_commons-requires-clause-count
 place_commons-requires-clause-count c =
-    let content = content_of c.args.live.now c.args.merged_lens.now in
-    let ends : List ℕ = map (behind_image c.args.link.now c.args.merged_lens.now c.args.starts.now) (range_with_len 0 (length c.args.starts.now)) in
+    let content = content_of c.requires.room.0 c.args.live.now c.args.merged_lens.now in
+    let ends : List ℕ = map (behind_leading c.args.link.now c.args.merged_lens.now c.args.starts.now) (range_with_len 0 (length c.args.starts.now)) in
     let later : List ℕ = c.place_sections.new.next in
     let long : length later ≡ c.loop-file.next.len = search rules in
     let value = c.deref_mut-in-loop-file.ensures.value ∙ take_at later (drop (length later) c.loop-file.next.items) c.loop-file.next.len long in
@@ -69,8 +69,8 @@ place_commons-requires-clause-count c =
 pub place_commons-requires-clause-space : goal.place_commons-requires-clause-space
 place_commons-requires-clause-space c =
     let link = c.args.link.now in
-    let content = content_of c.args.live.now c.args.merged_lens.now in
-    let ends : List ℕ = map (behind_image link c.args.merged_lens.now c.args.starts.now) (range_with_len 0 (length c.args.starts.now)) in
+    let content = content_of c.requires.room.0 c.args.live.now c.args.merged_lens.now in
+    let ends : List ℕ = map (behind_leading link c.args.merged_lens.now c.args.starts.now) (range_with_len 0 (length c.args.starts.now)) in
     let f : NumberedFile = file_of c.in-Some.file in
     let done : List NumberedFile = map file_of c.loop-file.yielded in
     let turn = turn_of file_of (numbered_files link.groups) c.into_iter-file-iterator.result c.loop-file.file-iterator c.next.new.self c.loop-file.yielded c.in-Some.file (cc) c.loop-file.yielded_by c.in-Some.ensures.steps in
@@ -79,13 +79,12 @@ place_commons-requires-clause-space c =
     let long : length later ≡ c.loop-file.next.len = search rules in
     let value = c.deref_mut-in-loop-file.ensures.value ∙ take_at later (drop (length later) c.loop-file.next.items) c.loop-file.next.len long in
     let moved = rw c.deref_mut.ensures.value at c.in_ok-place_sections.ensures.moved in
-    rw value (common_space link content c.args.starts.now ends done f c.loop-file.next.items later next c.requires.fit refl c.loop-file.invariant.passed moved)
+    rw value (common_space link content c.args.starts.now ends done f c.loop-file.next.items later next c.requires.room.2 refl c.loop-file.invariant.passed moved)
 
 pub loop-file-preserved : goal.loop-file-preserved
 loop-file-preserved c =
     let link = c.args.link.now in
-    let content = content_of c.args.live.now c.args.merged_lens.now in
-    let ends : List ℕ = map (behind_image link c.args.merged_lens.now c.args.starts.now) (range_with_len 0 (length c.args.starts.now)) in
+    let ends : List ℕ = map (behind_leading link c.args.merged_lens.now c.args.starts.now) (range_with_len 0 (length c.args.starts.now)) in
     let f : NumberedFile = file_of c.in-Some.file in
     let done : List NumberedFile = map file_of c.loop-file.yielded in
     let turn = turn_of file_of (numbered_files link.groups) c.into_iter-file-iterator.result c.loop-file.file-iterator c.next.new.self c.loop-file.yielded c.in-Some.file (cc) c.loop-file.yielded_by c.in-Some.ensures.steps in
@@ -103,5 +102,5 @@ loop-file-preserved c =
     let middle : List ℕ = take c.loop-file.next.len (later ++ drop (length later) c.loop-file.next.items) in
     let last_taken = take_at last (drop (length last) middle) c.loop-file.next.len last_long in
     rw (map_push file_of c.loop-file.yielded c.in-Some.file, last_taken)
-    (file_done link content c.args.starts.now ends done f c.loop-file.next.items later last c.loop-file.sections.items c.place_sections.new.addresses.items c.loop-file.commons.items c.place_commons.new.commons.items next
+    (file_done link c.args.live.now c.args.merged_lens.now c.args.starts.now ends done f c.loop-file.next.items later last c.loop-file.sections.items c.place_sections.new.addresses.items c.loop-file.commons.items c.place_commons.new.commons.items next
     c.requires.good c.requires.live there c.requires.starts refl c.loop-file.invariant sections.moved sections.told commons.moved commons.told)

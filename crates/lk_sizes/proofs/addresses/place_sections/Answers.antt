@@ -1,22 +1,27 @@
-use Rattle.std.proofs.Common.{◌≡◌, ◌++◌, ◌∷◌, [], ◌<◌, ℕ, false, List, length, ap, sym, ◌∙◌, arith}
+use Rattle.std.proofs.Common.{◌≡◌, ◌++◌, ◌∷◌, [], ◌<◌, ◌+◌, ℕ, false, List, length, ap, sym, ◌∙◌, arith}
 use Rattle.std.specs.List.{slice_index}
 use Rattle.lk_link.specs.Inputs.{Input}
 use Rattle.lk_link.specs.Parts.{all_parts}
 use Rattle.lk_link.specs.Walks.{file_of}
 use Rattle.lk_sizes.proofs.Limited.{part_fits}
 use Rattle.lk_sizes.proofs.LiveParts.{read_alignment, read_part}
-use Rattle.lk_sizes.proofs.Placed.{all_reached, live_reached, live_room, other_reached, section_turn}
+use Rattle.lk_sizes.proofs.Placed.{all_reached, live_reached, live_room, number_fits, other_reached, section_turn}
 use Rattle.lk_sizes.proofs.addresses.place_sections.Goals as goal
 use Rattle.lk_sizes.proofs.addresses.place_sections.Goals.{else-is_live, then-is_live}
 
-pub input_number-requires-clause-inside : goal.input_number-requires-clause-inside
-input_number-requires-clause-inside c = omega (arith, c.loop-index-test.true, ap length c.as_slice-section-items.ensures)
+pub overflow_add-first : goal.overflow_add-first
+overflow_add-first c =
+    omega (
+      arith,
+      number_fits c.args.link.now (file_of c.args.file) c.loop-index.index c.first_number-first.result c.requires.good c.requires.there
+          (omega (arith, c.loop-index-test.true, ap length c.as_slice-section-items.ensures)) c.first_number-first.ensures,
+    )
 
 pub offset_bounds-next-part : goal.offset_bounds-next-part
 offset_bounds-next-part c =
     let link = c.args.link.now in
-    let at = section_turn link c.args.live.now (file_of c.args.file) c.as_slice-section-items.result.now c.as_slice-marks.result.now c.loop-index.index c.section-item.result c.input_number.result c.requires.good c.requires.live c.requires.there c.as_slice-section-items.ensures
-    c.as_slice-marks.ensures c.loop-index-test.true c.section-item.is c.input_number.ensures in
+    let at = section_turn link c.args.live.now (file_of c.args.file) c.as_slice-section-items.result.now c.as_slice-marks.result.now c.loop-index.index c.section-item.result (c.first_number-first.result + c.loop-index.index) c.requires.good c.requires.live c.requires.there c.as_slice-section-items.ensures
+    c.as_slice-marks.ensures c.loop-index-test.true c.section-item.is (ap (λ (n : ℕ). n + c.loop-index.index) c.first_number-first.ensures) in
     let below = at.goes (sym c.is_marked-is_live.ensures ∙ c.if-is_live.true) in
     let fits = part_fits link c.as_usize-part.result c.requires.good (omega (arith, below, c.as_usize-part.ensures)) in
     omega arith
@@ -24,40 +29,40 @@ offset_bounds-next-part c =
 pub bounds-next-part : goal.bounds-next-part
 bounds-next-part c =
     let link = c.args.link.now in
-    let at = section_turn link c.args.live.now (file_of c.args.file) c.as_slice-section-items.result.now c.as_slice-marks.result.now c.loop-index.index c.section-item.result c.input_number.result c.requires.good c.requires.live c.requires.there c.as_slice-section-items.ensures
-    c.as_slice-marks.ensures c.loop-index-test.true c.section-item.is c.input_number.ensures in
+    let at = section_turn link c.args.live.now (file_of c.args.file) c.as_slice-section-items.result.now c.as_slice-marks.result.now c.loop-index.index c.section-item.result (c.first_number-first.result + c.loop-index.index) c.requires.good c.requires.live c.requires.there c.as_slice-section-items.ensures
+    c.as_slice-marks.ensures c.loop-index-test.true c.section-item.is (ap (λ (n : ℕ). n + c.loop-index.index) c.first_number-first.ensures) in
     let below = at.goes (sym c.is_marked-is_live.ensures ∙ c.if-is_live.true) in
     omega (arith, below, c.as_usize-part.ensures, c.requires.count, c.loop-index.invariant.passed.count)
 
 pub offset_bounds-parts-part : goal.offset_bounds-parts-part
 offset_bounds-parts-part c =
     let link = c.args.link.now in
-    let at = section_turn link c.args.live.now (file_of c.args.file) c.as_slice-section-items.result.now c.as_slice-marks.result.now c.loop-index.index c.section-item.result c.input_number.result c.requires.good c.requires.live c.requires.there c.as_slice-section-items.ensures
-    c.as_slice-marks.ensures c.loop-index-test.true c.section-item.is c.input_number.ensures in
+    let at = section_turn link c.args.live.now (file_of c.args.file) c.as_slice-section-items.result.now c.as_slice-marks.result.now c.loop-index.index c.section-item.result (c.first_number-first.result + c.loop-index.index) c.requires.good c.requires.live c.requires.there c.as_slice-section-items.ensures
+    c.as_slice-marks.ensures c.loop-index-test.true c.section-item.is (ap (λ (n : ℕ). n + c.loop-index.index) c.first_number-first.ensures) in
     let below = at.goes (sym c.is_marked-is_live.ensures ∙ c.if-is_live.true) in
     part_fits link c.as_usize-part.result c.requires.good (omega (arith, below, c.as_usize-part.ensures))
 
 pub bounds-parts-part : goal.bounds-parts-part
 bounds-parts-part c =
     let link = c.args.link.now in
-    let at = section_turn link c.args.live.now (file_of c.args.file) c.as_slice-section-items.result.now c.as_slice-marks.result.now c.loop-index.index c.section-item.result c.input_number.result c.requires.good c.requires.live c.requires.there c.as_slice-section-items.ensures
-    c.as_slice-marks.ensures c.loop-index-test.true c.section-item.is c.input_number.ensures in
+    let at = section_turn link c.args.live.now (file_of c.args.file) c.as_slice-section-items.result.now c.as_slice-marks.result.now c.loop-index.index c.section-item.result (c.first_number-first.result + c.loop-index.index) c.requires.good c.requires.live c.requires.there c.as_slice-section-items.ensures
+    c.as_slice-marks.ensures c.loop-index-test.true c.section-item.is (ap (λ (n : ℕ). n + c.loop-index.index) c.first_number-first.ensures) in
     let below : c.as_usize-part.result < length (all_parts link.plan.sections) = omega (arith, at.goes (sym c.is_marked-is_live.ensures ∙ c.if-is_live.true), c.as_usize-part.ensures) in
     rw c.parts-parts.ensures below
 
 pub take_next-address-requires-clause-aligned : goal.take_next-address-requires-clause-aligned
 take_next-address-requires-clause-aligned c =
     let link = c.args.link.now in
-    let at = section_turn link c.args.live.now (file_of c.args.file) c.as_slice-section-items.result.now c.as_slice-marks.result.now c.loop-index.index c.section-item.result c.input_number.result c.requires.good c.requires.live c.requires.there c.as_slice-section-items.ensures
-    c.as_slice-marks.ensures c.loop-index-test.true c.section-item.is c.input_number.ensures in
+    let at = section_turn link c.args.live.now (file_of c.args.file) c.as_slice-section-items.result.now c.as_slice-marks.result.now c.loop-index.index c.section-item.result (c.first_number-first.result + c.loop-index.index) c.requires.good c.requires.live c.requires.there c.as_slice-section-items.ensures
+    c.as_slice-marks.ensures c.loop-index-test.true c.section-item.is (ap (λ (n : ℕ). n + c.loop-index.index) c.first_number-first.ensures) in
     let below : c.as_usize-part.result < length (all_parts link.plan.sections) = omega (arith, at.goes (sym c.is_marked-is_live.ensures ∙ c.if-is_live.true), c.as_usize-part.ensures) in
     read_alignment link c.parts-parts.result.now c.as_usize-part.result _ c.requires.good c.parts-parts.ensures (rw c.parts-parts.ensures below)
 
 pub take_next-address-requires-clause-room : goal.take_next-address-requires-clause-room
 take_next-address-requires-clause-room c =
     let link = c.args.link.now in
-    let at = section_turn link c.args.live.now (file_of c.args.file) c.as_slice-section-items.result.now c.as_slice-marks.result.now c.loop-index.index c.section-item.result c.input_number.result c.requires.good c.requires.live c.requires.there c.as_slice-section-items.ensures
-    c.as_slice-marks.ensures c.loop-index-test.true c.section-item.is c.input_number.ensures in
+    let at = section_turn link c.args.live.now (file_of c.args.file) c.as_slice-section-items.result.now c.as_slice-marks.result.now c.loop-index.index c.section-item.result (c.first_number-first.result + c.loop-index.index) c.requires.good c.requires.live c.requires.there c.as_slice-section-items.ensures
+    c.as_slice-marks.ensures c.loop-index-test.true c.section-item.is (ap (λ (n : ℕ). n + c.loop-index.index) c.first_number-first.ensures) in
     let x : Input = record { file = c.args.file.id; index = c.loop-index.index; section = c.section-item.result } in
     let set = sym c.is_marked-is_live.ensures ∙ c.if-is_live.true in
     let below : c.as_usize-part.result < length (all_parts link.plan.sections) = omega (arith, at.goes set, c.as_usize-part.ensures) in
@@ -76,8 +81,8 @@ loop-index-preserved c =
     let old : List ℕ = c.args.next.now in
     let front : List ℕ = c.args.addresses.now.items in
     let addresses : List ℕ = c.loop-index.addresses.items in
-    let at = section_turn link live f c.as_slice-section-items.result.now c.as_slice-marks.result.now i c.section-item.result c.input_number.result c.requires.good c.requires.live c.requires.there c.as_slice-section-items.ensures
-    c.as_slice-marks.ensures c.loop-index-test.true c.section-item.is c.input_number.ensures in
+    let at = section_turn link live f c.as_slice-section-items.result.now c.as_slice-marks.result.now i c.section-item.result (c.first_number-first.result + c.loop-index.index) c.requires.good c.requires.live c.requires.there c.as_slice-section-items.ensures
+    c.as_slice-marks.ensures c.loop-index-test.true c.section-item.is (ap (λ (n : ℕ). n + c.loop-index.index) c.first_number-first.ensures) in
     let x : Input = record { file = c.args.file.id; index = i; section = c.section-item.result } in
     elim c.if-is_live.branch [
       | then-is_live w ↦

@@ -22,16 +22,16 @@ pub find_active-requires-clause-few : goal.find_active-requires-clause-few
 find_active-requires-clause-few c = (few c.args.link.now c.requires.good).segments
 
 pub returns-clause-header : goal.returns-clause-header
-returns-clause-header c = λ lens first.
+returns-clause-header c = λ sizes lens first.
     let link = c.args.link.now in
-    let content = content_of c.args.live.now lens in
-    let emitted = c.in_ok-emitted.ensures.emitted lens first in
+    let content = content_of sizes c.args.live.now lens in
+    let emitted = c.in_ok-emitted.ensures.emitted sizes lens first in
     let indexes = indexes_are link content c.in_ok-emitted.emitted.items c.in_ok-indexes.indexes.items c.requires.good emitted c.in_ok-indexes.ensures.count
     (rw c.deref.ensures.value at c.in_ok-indexes.ensures.indexes) in
     let active = (rw c.deref-2.ensures.value at c.in_ok-active.ensures) ∙ active_are link content c.in_ok-emitted.emitted.items c.requires.good emitted in
     same_info _ _ _ _ _ _ (c.from_vec.ensures ∙ emitted) (c.from_vec-2.ensures ∙ indexes) (c.from_vec-3.ensures ∙ active)
 
 pub returns-clause-marks : goal.returns-clause-marks
-returns-clause-marks c = λ lens first.
-    let emitted = c.from_vec.ensures ∙ c.in_ok-emitted.ensures.emitted lens first in
-    fun_ext (λ s. emitted_at c.args.link.now (content_of c.args.live.now lens) c.from_vec.result s c.requires.good emitted)
+returns-clause-marks c = λ sizes lens first.
+    let emitted = c.from_vec.ensures ∙ c.in_ok-emitted.ensures.emitted sizes lens first in
+    fun_ext (λ s. emitted_at c.args.link.now (content_of sizes c.args.live.now lens) c.from_vec.result s c.requires.good emitted)

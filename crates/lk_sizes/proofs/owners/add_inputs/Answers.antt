@@ -5,7 +5,7 @@ use Rattle.lk_link.specs.Parts.{all_parts, part_at}
 use Rattle.lk_link.specs.Walks.{input_of}
 use Rattle.lk_reach.proofs.LiveWalk.{finish}
 use Rattle.lk_reach.proofs.Numbered.{are_numbered}
-use Rattle.lk_sizes.specs.declared.owners.Total.{Total}
+use Rattle.lk_sizes.specs.declared.owners.PartTotal.{PartTotal}
 use Rattle.lk_sizes.specs.Kept.{kept_inputs}
 use Rattle.lk_sizes.proofs.Adding.{AreTotals, add_one, bytes_into, no_totals, total_at}
 use Rattle.lk_sizes.proofs.KeptOnes.{image_kept, unmerged_live}
@@ -21,7 +21,7 @@ new-input-items-requires c = are_numbered c.args.link.now c.requires.good
 
 pub loop-input-init : goal.loop-input-init
 loop-input-init c =
-    let nothing : Total = record { bytes = 0; has_image = false; attrs = 0 } in
+    let nothing : PartTotal = record { bytes = 0; has_image = false; attrs = 0 } in
     let items : c.in_ok-totals.totals.items ≡ replicate (length (all_parts c.args.link.now.plan.sections)) nothing = search rules in
     subst (AreTotals c.args.link.now []) (sym items) (no_totals c.args.link.now nothing refl)
 

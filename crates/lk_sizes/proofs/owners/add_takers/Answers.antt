@@ -1,7 +1,7 @@
 use Rattle.std.proofs.Common.{◌≡◌, List, length, drop, ap, sym, ◌∙◌, arith, rules}
 use Rattle.std.specs.List.{slice_get}
 use Rattle.std.proofs.lemmas.List.{take_at}
-use Rattle.lk_sizes.specs.declared.owners.Total.{Total}
+use Rattle.lk_sizes.specs.declared.owners.PartTotal.{PartTotal}
 use Rattle.lk_sizes.specs.Owners.{all_commons}
 use Rattle.lk_sizes.specs.Tables.{AreAdded}
 use Rattle.lk_sizes.proofs.CommonAdding.{added_at}
@@ -11,34 +11,34 @@ pub returns-clause-bytes : goal.returns-clause-bytes
 returns-clause-bytes c = λ p total there.
     let link = c.args.link.now in
     let commons = all_commons link c.args.live.now in
-    let old : List Total = c.in_ok-totals.totals.items in
-    let new : List Total = c.add_commons.new.totals in
+    let old : List PartTotal = c.in_ok-totals.totals.items in
+    let new : List PartTotal = c.add_commons.new.totals in
     let added : AreAdded link commons old new = rw c.deref_mut.ensures.value at c.add_commons.ensures in
     let long : length new ≡ c.in_ok-totals.totals.len = search rules in
     let taken = take_at new (drop (length new) old) c.in_ok-totals.totals.len long in
-    let at = added_at link commons old new p total added (ap (λ (ts : List Total). slice_get ts p) (sym taken) ∙ there) in
+    let at = added_at link commons old new p total added (ap (λ (ts : List PartTotal). slice_get ts p) (sym taken) ∙ there) in
     omega (arith, at.bytes, c.in_ok-totals.ensures.bytes p at.before at.there)
 
 pub returns-clause-image : goal.returns-clause-image
 returns-clause-image c = λ p total there.
     let link = c.args.link.now in
     let commons = all_commons link c.args.live.now in
-    let old : List Total = c.in_ok-totals.totals.items in
-    let new : List Total = c.add_commons.new.totals in
+    let old : List PartTotal = c.in_ok-totals.totals.items in
+    let new : List PartTotal = c.add_commons.new.totals in
     let added : AreAdded link commons old new = rw c.deref_mut.ensures.value at c.add_commons.ensures in
     let long : length new ≡ c.in_ok-totals.totals.len = search rules in
     let taken = take_at new (drop (length new) old) c.in_ok-totals.totals.len long in
-    let at = added_at link commons old new p total added (ap (λ (ts : List Total). slice_get ts p) (sym taken) ∙ there) in
+    let at = added_at link commons old new p total added (ap (λ (ts : List PartTotal). slice_get ts p) (sym taken) ∙ there) in
     at.image ∙ c.in_ok-totals.ensures.image p at.before at.there
 
 pub returns-clause-attrs : goal.returns-clause-attrs
 returns-clause-attrs c = λ p total there.
     let link = c.args.link.now in
     let commons = all_commons link c.args.live.now in
-    let old : List Total = c.in_ok-totals.totals.items in
-    let new : List Total = c.add_commons.new.totals in
+    let old : List PartTotal = c.in_ok-totals.totals.items in
+    let new : List PartTotal = c.add_commons.new.totals in
     let added : AreAdded link commons old new = rw c.deref_mut.ensures.value at c.add_commons.ensures in
     let long : length new ≡ c.in_ok-totals.totals.len = search rules in
     let taken = take_at new (drop (length new) old) c.in_ok-totals.totals.len long in
-    let at = added_at link commons old new p total added (ap (λ (ts : List Total). slice_get ts p) (sym taken) ∙ there) in
+    let at = added_at link commons old new p total added (ap (λ (ts : List PartTotal). slice_get ts p) (sym taken) ∙ there) in
     at.attrs ∙ c.in_ok-totals.ensures.attrs p at.before at.there

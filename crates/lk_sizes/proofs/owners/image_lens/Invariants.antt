@@ -1,6 +1,6 @@
 use Rattle.std.proofs.Common.{◌≡◌, ◌++◌, drop, map}
 use Rattle.std.specs.List.{slice_index}
-use Rattle.lk_sizes.specs.Owners.{part_sections}
+use Rattle.lk_link.specs.Parts.{part_sections}
 use Rattle.lk_sizes.proofs.ImageLemmas.{sections_from}
 use Rattle.lk_sizes.proofs.owners.image_lens.Given as goal
 

@@ -2,24 +2,25 @@ use Rattle.std.proofs.Common.{◌∷◌, [], ◌++◌, arith, false, ap, sym, �
 use Rattle.std.specs.List.{sum_by}
 use Rattle.std.proofs.lemmas.List.{take_all, take_more, map-append}
 use Rattle.std.proofs.lemmas.List.Sums.{sum_by_more}
-use Rattle.lk_sizes.specs.declared.owners.Total.{Total}
-use Rattle.lk_sizes.specs.Owners.{content_of}
-use Rattle.lk_sizes.proofs.Fitting.{AreSums, as_contents, fitting, refused}
+use Rattle.lk_sizes.specs.declared.owners.PartTotal.{PartTotal}
+use Rattle.lk_sizes.specs.PartOwners.{tables_of}
+use Rattle.lk_sizes.proofs.Fitting.{AreSums, are_sums, as_contents, fitting, refused}
 use Rattle.lk_sizes.proofs.owners.part_contents.Goals as goal
 
 pub returns-then-sum-from : goal.returns-then-sum-from
-returns-then-sum-from c =
+returns-then-sum-from c = λ content added told.
     let totals = c.as_slice-total-items.result.now in
-    let are : AreSums c.args.link.now (content_of c.args.live.now c.args.merged_lens.now) c.in_ok-totals.totals.items = record { count = c.in_ok-totals.ensures.count; bytes = c.in_ok-totals.ensures.bytes; image = c.in_ok-totals.ensures.image; attrs = c.in_ok-totals.ensures.attrs } in
-    let sums = subst (AreSums c.args.link.now (content_of c.args.live.now c.args.merged_lens.now)) (sym c.as_slice-total-items.ensures.value) are in
-    let more = sum_by_more (λ (t : Total). t.bytes) totals c.loop-part.part (record { bytes = 0; has_image = false; attrs = 0 }) c.loop-part-test.true in
-    refused c.args.link.now (content_of c.args.live.now c.args.merged_lens.now) totals c.loop-part.part sums c.loop-part-test.true (omega arith) (omega (arith, more))
+    let link = c.args.link.now in
+    let whole = c.in_ok-whole.ensures (tables_of link content) told in
+    let sums = subst (AreSums link content) (sym c.as_slice-total-items.ensures.value) (subst (AreSums link content) (sym whole) (are_sums link content c.args.totals.now added)) in
+    let more = sum_by_more (λ (t : PartTotal). t.bytes) totals c.loop-part.part (record { bytes = 0; has_image = false; attrs = 0 }) c.loop-part-test.true in
+    refused link content totals c.loop-part.part sums c.loop-part-test.true (omega arith) (omega (arith, more))
 
 pub loop-part-preserved : goal.loop-part-preserved
 loop-part-preserved c =
     let totals = c.as_slice-total-items.result.now in
-    let nothing : Total = record { bytes = 0; has_image = false; attrs = 0 } in
-    let more = sum_by_more (λ (t : Total). t.bytes) totals c.loop-part.part nothing c.loop-part-test.true in
+    let nothing : PartTotal = record { bytes = 0; has_image = false; attrs = 0 } in
+    let more = sum_by_more (λ (t : PartTotal). t.bytes) totals c.loop-part.part nothing c.loop-part-test.true in
     let front = take_more totals c.loop-part.part nothing c.loop-part-test.true in
     let pushed = c.in_ok-push.ensures.items in
     record {
@@ -32,10 +33,11 @@ loop-part-preserved c =
     }
 
 pub returns : goal.returns
-returns c =
+returns c = λ content added told.
     let totals = c.as_slice-total-items.result.now in
-    let are : AreSums c.args.link.now (content_of c.args.live.now c.args.merged_lens.now) c.in_ok-totals.totals.items = record { count = c.in_ok-totals.ensures.count; bytes = c.in_ok-totals.ensures.bytes; image = c.in_ok-totals.ensures.image; attrs = c.in_ok-totals.ensures.attrs } in
-    let sums = subst (AreSums c.args.link.now (content_of c.args.live.now c.args.merged_lens.now)) (sym c.as_slice-total-items.ensures.value) are in
+    let link = c.args.link.now in
+    let whole = c.in_ok-whole.ensures (tables_of link content) told in
+    let sums = subst (AreSums link content) (sym c.as_slice-total-items.ensures.value) (subst (AreSums link content) (sym whole) (are_sums link content c.args.totals.now added)) in
     let all = take_all c.loop-part.part totals c.loop-part-test.false in
-    let fit = fitting c.args.link.now (content_of c.args.live.now c.args.merged_lens.now) totals sums (omega (arith, ap (sum_by (λ (t : Total). t.bytes)) all)) in
+    let fit = fitting link content totals sums (omega (arith, ap (sum_by (λ (t : PartTotal). t.bytes)) all)) in
     (fit.0, c.from_vec.ensures ∙ c.loop-part.invariant.contents ∙ ap (map as_contents) all ∙ fit.1)

@@ -1,0 +1,90 @@
+use Rattle.std.proofs.Common.{◌≡◌, ℕ, None, List, [], length, ap, subst, ◌∙◌, arith}
+use Rattle.std.specs.Prelude.{option_map}
+use Rattle.lk_gc.specs.declared.live.Live.{Live}
+use Rattle.lk_link.specs.TableSizes.{TableSizes}
+use Rattle.lk_place.specs.Answers.{ArePlaced}
+use Rattle.lk_place.specs.Setting.{setting_of}
+use Rattle.lk_tables.specs.declared.header_info.HeaderInfo.{HeaderInfo}
+use Rattle.lk_tables.specs.HeaderParts.{header_sizes}
+use Rattle.lk_sizes.specs.Header.{header_info}
+use Rattle.lk_sizes.specs.PartOwners.{part_size, part_sizes}
+use Rattle.lk_layout.specs.Defined.{IsPlacedAnswer, IsSizedAnswer, setting, walk_refusal}
+use Rattle.lk_layout.specs.Errors.{place_error}
+use Rattle.lk_layout.specs.Headers.{header_bytes, leading_bytes}
+use Rattle.lk_layout.specs.Machines.{platform_machine}
+use Rattle.lk_layout.specs.OutputContent.{output_content}
+use Rattle.lk_layout.proofs.Answering.{passed_on, unless_none}
+use Rattle.lk_layout.proofs.FewHeaders.{few_active}
+use Rattle.lk_layout.proofs.PlacingRefused.{placing_refused}
+use Rattle.lk_layout.proofs.Settings.{length-by_part, takes}
+use Rattle.lk_layout.proofs.compute.lay_out_sized.Goals as goal
+
+pub header_bytes-headers-requires : goal.header_bytes-headers-requires
+header_bytes-headers-requires g c =
+    let tables : TableSizes = g.P.Platform.table_sizes c.args.platform.now in
+    let link = c.args.link.now in
+    let live : Live = c.args.live in
+    let count : length c.args.sized.header.active_segment_ids ≡ length (header_info link (output_content tables link live)).active_segment_ids = ap (λ (h : HeaderInfo). length h.active_segment_ids) c.requires.sized.2 in
+    let few = few_active tables link live c.requires.good in
+    omega (arith, count, few)
+
+pub compute_layout_sections-requires-clause-each : goal.compute_layout_sections-requires-clause-each
+compute_layout_sections-requires-clause-each g c =
+    let tables : TableSizes = g.P.Platform.table_sizes c.args.platform.now in
+    let link = c.args.link.now in
+    let live : Live = c.args.live in
+    ap length (c.deref.ensures.value ∙ c.in_ok-sizes.ensures.sizes link (output_content tables link live) (c.as_slice.ensures ∙ c.requires.sized.1))
+    ∙ length-by_part (part_size link (output_content tables link live)) link
+
+pub lay_out_placed-requires-clause-contents : goal.lay_out_placed-requires-clause-contents
+lay_out_placed-requires-clause-contents g c = c.as_slice-2.ensures ∙ c.requires.sized.1
+
+pub lay_out_placed-requires-clause-takes : goal.lay_out_placed-requires-clause-takes
+lay_out_placed-requires-clause-takes g c =
+    let tables : TableSizes = g.P.Platform.table_sizes c.args.platform.now in
+    let machine = platform_machine (g.P.Platform.segment_start c.args.platform.now) (g.P.Platform.table_sizes c.args.platform.now) in
+    let link = c.args.link.now in
+    let live : Live = c.args.live in
+    let headers : c.header_bytes-headers.result ≡ header_bytes machine link live
+    = c.header_bytes-headers.ensures ∙ ap (λ (h : HeaderInfo). leading_bytes (header_sizes machine.sizes link h.emitted h.active_segment_ids)) c.requires.sized.2 in
+    let sizes : c.deref.result.now ≡ part_sizes link (output_content tables link live)
+    = c.deref.ensures.value ∙ c.in_ok-sizes.ensures.sizes link (output_content tables link live) (c.as_slice.ensures ∙ c.requires.sized.1) in
+    let all : List ℕ = part_sizes link (output_content tables link live) in
+    let none : c.new-positions.result ≡ [] = c.new-positions.ensures ∙ c.new.ensures in
+    let at : ArePlaced (setting_of link machine.target all (header_bytes machine link live) c.new-positions.result) c.in_ok-placed.placed = rw (sizes, headers) at c.in_ok-placed.ensures in
+    let are : ArePlaced (setting machine link live) c.in_ok-placed.placed
+    = subst (λ positions. ArePlaced (setting_of link machine.target all (header_bytes machine link live) positions) c.in_ok-placed.placed) none at in
+    takes c.parts_take_their_bytes.ensures machine link live are.states c.in_ok-placed.placed.parts c.requires.good are.is are.unrefused
+
+pub returns-in_err-placed : goal.returns-in_err-placed
+returns-in_err-placed g c =
+    let tables : TableSizes = g.P.Platform.table_sizes c.args.platform.now in
+    let machine = platform_machine (g.P.Platform.segment_start c.args.platform.now) (g.P.Platform.table_sizes c.args.platform.now) in
+    let link = c.args.link.now in
+    let live : Live = c.args.live in
+    let headers : c.header_bytes-headers.result ≡ header_bytes machine link live
+    = c.header_bytes-headers.ensures ∙ ap (λ (h : HeaderInfo). leading_bytes (header_sizes machine.sizes link h.emitted h.active_segment_ids)) c.requires.sized.2 in
+    let sizes : c.deref.result.now ≡ part_sizes link (output_content tables link live)
+    = c.deref.ensures.value ∙ c.in_ok-sizes.ensures.sizes link (output_content tables link live) (c.as_slice.ensures ∙ c.requires.sized.1) in
+    placing_refused machine link live c.deref.result.now c.header_bytes-headers.result c.new-positions.result c.in_err-placed.field-0.0 c.from_residual-in_err-placed.result sizes headers
+    (c.new-positions.ensures ∙ c.new.ensures) c.in_err-placed.ensures c.from_residual-in_err-placed.ensures.1
+
+pub returns : goal.returns
+returns g c =
+    let tables : TableSizes = g.P.Platform.table_sizes c.args.platform.now in
+    let machine = platform_machine (g.P.Platform.segment_start c.args.platform.now) (g.P.Platform.table_sizes c.args.platform.now) in
+    let link = c.args.link.now in
+    let live : Live = c.args.live in
+    let headers : c.header_bytes-headers.result ≡ header_bytes machine link live
+    = c.header_bytes-headers.ensures ∙ ap (λ (h : HeaderInfo). leading_bytes (header_sizes machine.sizes link h.emitted h.active_segment_ids)) c.requires.sized.2 in
+    let sizes : c.deref.result.now ≡ part_sizes link (output_content tables link live)
+    = c.deref.ensures.value ∙ c.in_ok-sizes.ensures.sizes link (output_content tables link live) (c.as_slice.ensures ∙ c.requires.sized.1) in
+    let all : List ℕ = part_sizes link (output_content tables link live) in
+    let none : c.new-positions.result ≡ [] = c.new-positions.ensures ∙ c.new.ensures in
+    let at : ArePlaced (setting_of link machine.target all (header_bytes machine link live) c.new-positions.result) c.in_ok-placed.placed = rw (sizes, headers) at c.in_ok-placed.ensures in
+    let are : ArePlaced (setting machine link live) c.in_ok-placed.placed
+    = subst (λ positions. ArePlaced (setting_of link machine.target all (header_bytes machine link live) positions) c.in_ok-placed.placed) none at in
+    let parts = c.in_ok-placed.placed.parts in
+    passed_on (IsPlacedAnswer tables link live parts) (IsSizedAnswer machine link live) c.lay_out_placed.result (λ a h.
+    (are.states, parts, are.is, unless_none (walk_refusal machine link live are.states parts) a (IsPlacedAnswer tables link live parts a) (ap (option_map place_error) are.unrefused) h))
+    c.lay_out_placed.ensures

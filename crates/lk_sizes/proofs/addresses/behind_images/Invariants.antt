@@ -1,8 +1,0 @@
-use Rattle.std.proofs.Common.{◌≡◌, map}
-use Rattle.std.specs.List.{range_with_len}
-use Rattle.lk_sizes.specs.Tables.{behind_image}
-use Rattle.lk_sizes.proofs.addresses.behind_images.Given as goal
-
--- the ends of the images of the parts so far
-abbrev pub invariant-loop-number : goal.invariant-loop-number
-invariant-loop-number l = l.next.items ≡ map (behind_image l.link l.merged_lens l.starts) (range_with_len 0 l.number)

@@ -1,7 +1,0 @@
-use Rattle.lk_sizes.specs.Owners.{content_of}
-use Rattle.lk_sizes.proofs.Wholes.{AreWhole}
-use Rattle.lk_sizes.proofs.owners.add_up.Given as goal
-
--- the totals so far are what comes into the first parts
-abbrev pub invariant-loop-number : goal.invariant-loop-number
-invariant-loop-number l = AreWhole l.link (content_of l.live l.merged_lens) l.number l.totals.items

@@ -1,0 +1,67 @@
+//! Who takes the bytes of all parts, and which sections and segments are told by that.
+//!
+//! What input sections bring is added up first, and what symbols take in tables, as far as no late mark changes it. That tells
+//! which sections are emitted, and so which symbols of the prelude are marked late and how many headers there are. Then the
+//! tables are whole, and the sums of all parts are looked at.
+
+ghost use Rattle.std.specs.Prelude.{◌≡◌, false, IfOk};
+ghost use Rattle.lk_link.specs.Marks.{is_marked};
+ghost use Rattle.lk_link.specs.OutputKinds.{is_partial};
+ghost use Rattle.lk_link.specs.WellFormed.{IsWellFormed};
+ghost use Rattle.lk_gc.specs.Reach.{AreLive};
+ghost use Rattle.lk_sizes.specs.Emitted.{is_emitted};
+ghost use Rattle.lk_sizes.specs.Owners.{content_of};
+ghost use Rattle.lk_sizes.specs.Sizing.{GivesOwners};
+
+use crate::error::SizeError;
+use crate::header::determine_header_sizes;
+use crate::owners::{PartContents, content_totals, first_sizes, part_contents};
+use lk_gc::Live;
+use lk_link::{LinkInput, List, Platform};
+use lk_tables::{FileShare, HeaderInfo, file_shares, mark_prelude, whole_totals};
+use std::alloc::Global;
+
+/// What comes into the parts, and what is told by that (libwild keeps these in its states of groups).
+#[derive(Drop)]
+pub struct PartOwners {
+    /// What comes into each part.
+    pub contents: List<PartContents>,
+    /// Which sections and segments are told.
+    pub header: HeaderInfo,
+    /// For each file, by group and index, what its symbols take in tables, of the prelude what no late mark changes.
+    pub shares: List<FileShare>,
+    /// What the prelude takes behind that.
+    pub prelude: FileShare,
+}
+
+/// What comes into the parts where the merged images of output sections are so many bytes long, and what is told by that.
+/// Looks at each input section and at each symbol a few times. Refuses the first part at which the sizes so far pass 2^64 - 1
+/// together. Not yet for output that is linked again, in whose symbol table sections have entries too.
+pub fn owners<P: Platform>(
+    alloc: Global,
+    link: &LinkInput,
+    platform: &P,
+    live: &Live,
+    merged_lens: &[u64],
+) -> Result<PartOwners, SizeError>
+    requires good { IsWellFormed link.now }
+    requires live { AreLive link.now live.now }
+    requires whole { is_partial link.now.options.output ≡ false }
+    ensures owners { GivesOwners link.now (content_of (P.table_sizes platform.now) live.now merged_lens.now) result }
+    ensures marks { IfOk result (λ owners. is_marked owners.header.emitted
+        ≡ is_emitted link.now (content_of (P.table_sizes platform.now) live.now merged_lens.now)) }
+{
+    let totals = content_totals(alloc, link, live, merged_lens)?;
+    let shares = file_shares(alloc, link, platform, live)?;
+    let first = first_sizes(alloc, link, &totals, &shares)?;
+    let header = determine_header_sizes(alloc, link, live, &first)?;
+    let prelude = mark_prelude(link, platform, live, header.emitted.as_slice());
+    let tables = whole_totals(link, platform, &shares, prelude, &header);
+    let contents = part_contents(alloc, link, &totals, &tables)?;
+    Ok(PartOwners {
+        contents,
+        header,
+        shares: List::from_vec(shares),
+        prelude,
+    })
+}
