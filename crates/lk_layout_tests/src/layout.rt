@@ -3,11 +3,13 @@
 ghost use Rattle.std.specs.Prelude.{◌≡◌, ◌≤◌, true};
 
 use crate::report::report_of;
-use crate::rows::{Asked, add, expect_rows};
+use crate::rows::{Asked, expect_rows};
 use crate::runs::expect_reports;
+use crate::shown::Shown;
 use lk_layout::Small64Arch;
 use lk_layout::compute::compute;
 use lk_link::{Gate, LinkInput, NoGate, Small64};
+use lk_test_rows::add;
 use std::alloc::{AllocError, Global};
 use std::sync::Wait;
 use std::test::Fail;
@@ -372,4 +374,14 @@ pub fn add_workers(
 #[test]
 fn every_number_of_workers_lays_out(rt: HostRuntime) -> Result<(), Fail> {
     expect_rows(&rt, rt.alloc(), Asked::Workers, TWO_SEGMENTS)
+}
+
+/// What isn't carried.
+const UNCARRIED: &str = r#"
+{"options":{"relax":true},"plan":{"page":16},"groups":[[{"kind":"prelude"}]]} => first Some(Relax)
+"#;
+
+#[test]
+fn what_is_not_carried_is_found(rt: HostRuntime) -> Result<(), Fail> {
+    expect_rows(&rt, rt.alloc(), Asked::Of(Shown::Uncarried), UNCARRIED)
 }

@@ -6,7 +6,7 @@ ghost use Rattle.lk_link.specs.Parts.{all_parts};
 ghost use Rattle.lk_link.specs.WellFormed.{IsWellFormed};
 ghost use Rattle.lk_gc.specs.Reach.{AreLive};
 
-use crate::rows::{Asked, add, expect_rows};
+use crate::rows::{Asked, expect_rows};
 use crate::shown::Shown;
 use lk_check::check_link;
 use lk_gc::{Live, traverse_alone};
@@ -18,6 +18,7 @@ use lk_sizes::{
 use lk_tables::{
     FileShare, TableTotals, bytes_in_part, file_shares, first_totals, mark_prelude, whole_totals,
 };
+use lk_test_rows::add;
 use std::alloc::{AllocError, Global};
 use std::test::Fail;
 

@@ -5,7 +5,7 @@ ghost use Rattle.std.specs.Prelude.{◌≤◌, ◌<◌, ◌^◌, All, length};
 ghost use Rattle.lk_link.specs.WellFormed.{IsWellFormed};
 ghost use Rattle.lk_place.specs.Shallow.{AreShallow};
 
-use crate::rows::{Asked, add, expect_rows};
+use crate::rows::{Asked, expect_rows};
 use crate::shown::Shown;
 use lk_check::check_link;
 use lk_link::{Alignment, LinkInput, List, PartId, SymbolId};
@@ -15,6 +15,7 @@ use lk_place::{
     evaluate_const, evaluate_early_expression, evaluate_expression, evaluate_regions, first_memory,
     is_plain,
 };
+use lk_test_rows::add;
 use std::alloc::{AllocError, Global};
 use std::test::Fail;
 

@@ -5,7 +5,7 @@ ghost use Rattle.lk_link.specs.Parts.{all_parts};
 ghost use Rattle.lk_link.specs.WellFormed.{IsWellFormed};
 ghost use Rattle.lk_gc.specs.Reach.{AreLive};
 
-use crate::rows::{Asked, add, expect_rows};
+use crate::rows::{Asked, expect_rows};
 use crate::shown::Shown;
 use lk_check::check_link;
 use lk_gc::{Live, traverse_alone};
@@ -14,6 +14,7 @@ use lk_sizes::{
     HeaderInfo, PartContents, determine_header_sizes, image_addresses, part_contents, part_sizes,
     propagate_section_attributes,
 };
+use lk_test_rows::add;
 use std::alloc::{AllocError, Global};
 use std::test::Fail;
 
@@ -36,11 +37,6 @@ const MERGED_LENS: &[u64] = &[6, 0];
 const OTHER_FILES: &str = "
 p00 o00 d00 => live (FileId { group: 1, file: 0 }, 0, 0) live (FileId { group: 1, file: 0 }, 1, 0)
 ";
-
-/// What isn't carried.
-const UNCARRIED: &str = r#"
-{"options":{"relax":true},"plan":{"page":16},"groups":[[{"kind":"prelude"}]]} => first Some(Relax)
-"#;
 
 /// Adds file, index and size of each live section of groups and files that aren't too many.
 fn add_inputs(line: &mut String, link: &LinkInput, live: &Live) -> Result<(), AllocError> {
@@ -192,9 +188,4 @@ fn sections_of_other_files_are_not_live(rt: HostRuntime) -> Result<(), Fail> {
 #[test]
 fn parts_have_contents_and_sections_indexes(rt: HostRuntime) -> Result<(), Fail> {
     expect_rows(&rt, rt.alloc(), Asked::Of(Shown::Sizes), SIZES)
-}
-
-#[test]
-fn what_is_not_carried_is_found(rt: HostRuntime) -> Result<(), Fail> {
-    expect_rows(&rt, rt.alloc(), Asked::Of(Shown::Uncarried), UNCARRIED)
 }

@@ -1,10 +1,10 @@
 //! What a description holds, in a line of text.
 
-use crate::rows::add;
 use lk_link::{
     Expression, InputFile, InputGroups, InputSection, InputSymbol, Names, Options, OrderEvent,
     Plan, PlanSection, Region, SymbolPlacement, Text, Token,
 };
+use lk_test_rows::add;
 use std::alloc::AllocError;
 
 /// All names, or none where none are given.

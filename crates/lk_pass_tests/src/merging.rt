@@ -6,7 +6,7 @@ ghost use Rattle.lk_link.specs.WellFormed.{IsWellFormed};
 ghost use Rattle.lk_merge.specs.Addresses.{AreStartsOf};
 ghost use Rattle.lk_merge.specs.LinkInputs.{link_inputs};
 
-use crate::rows::{Asked, add, expect_rows, expect_text};
+use crate::rows::{Asked, expect_rows, expect_text};
 use crate::shown::Shown;
 use lk_check::check_link;
 use lk_link::{FileId, LinkInput, List, NoGate, OutputSectionId, Relocation, SymbolId};
@@ -16,6 +16,7 @@ use lk_merge::{
     find_string, get_merged_string_output_address, merge_strings, merge_strings_alone,
     split_sections, total_input_size,
 };
+use lk_test_rows::add;
 use std::alloc::{AllocError, Global};
 use std::sync::Wait;
 use std::test::Fail;

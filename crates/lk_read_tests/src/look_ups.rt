@@ -4,11 +4,12 @@ ghost use Rattle.std.specs.Prelude.{◌<◌, ◌^◌};
 ghost use Rattle.lk_link.specs.Files.{AreNumbered};
 ghost use Rattle.lk_link.specs.Symbols.{all_files, symbol_count};
 
-use crate::rows::{Asked, add, expect_rows, expect_text};
+use crate::rows::{Asked, expect_rows, expect_text};
 use crate::shown::Shown;
 use lk_link::{
     FileId, InputGroups, InputSymbol, Options, OutputSectionId, SymbolId, SymbolIdRange,
 };
+use lk_test_rows::add;
 use std::alloc::AllocError;
 use std::test::Fail;
 

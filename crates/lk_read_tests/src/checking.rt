@@ -5,10 +5,9 @@ use crate::shown::Shown;
 use lk_check::check_link;
 use lk_input::{InputError, read_link};
 use lk_link::{
-    Candidates, Emit, FileKind, InputFile, InputGroups, InputSection, InputSections, InputSlot,
-    InputSymbol, LinkInput, List, OrderEvent, OutputSectionId, PartId, PlanPart, PlanSection,
-    PlanSections, Relocation, RelocationKind, SymbolPlacement, Text, ValueFlags,
+    Emit, LinkInput, List, OrderEvent, OutputSectionId, PlanPart, PlanSection, PlanSections, Text,
 };
+use lk_test_rows::{groups_of, with_groups};
 use std::alloc::{AllocError, Global};
 use std::test::Fail;
 
@@ -502,179 +501,14 @@ fn parts_and_events_have_limits(rt: HostRuntime) -> Result<(), Fail> {
     expect_rows(&rt, rt.alloc(), Asked::OfCrowded(Shown::Check), CROWDED)
 }
 
-/// A section of a part.
-fn section_of(alloc: Global, part: u32) -> InputSection {
-    InputSection {
-        name: Text::new(alloc),
-        slot: InputSlot::MustLoad,
-        part: PartId::from_u32(part),
-        size: 0,
-        bytes: List::new(alloc),
-        strings: false,
-        sorted: false,
-        attrs: 0,
-        group: None,
-        relocs: List::new(alloc),
-        relax: List::new(alloc),
-    }
-}
-
-/// A section for each digit of a word, of the part with that number.
-fn sections_of(alloc: Global, word: &str) -> Result<InputSections, AllocError> {
-    let mut sections = Vec::new(alloc);
-    for letter in word.chars() {
-        if letter == '0' || letter == '1' {
-            sections.push(section_of(alloc, u32::from(letter == '1')))?;
-        }
-    }
-    InputSections::new(alloc, List::from_vec(sections))
-}
-
-/// The kind of file that the first letter of a word stands for.
-fn kind_of(word: &str) -> FileKind {
-    match word.as_bytes().first() {
-        Some(b'p') => FileKind::Prelude,
-        Some(b'd') => FileKind::Dynamic,
-        Some(b's') => FileKind::LinkerScript,
-        _ => FileKind::Object,
-    }
-}
-
-/// The file that a word stands for, as `d01`: its kind, and the parts of its sections. No description gives it where it has
-/// sections and is no object.
-fn file_of(alloc: Global, word: &str) -> Result<InputFile, AllocError> {
-    Ok(InputFile {
-        kind: kind_of(word),
-        name: Text::new(alloc),
-        symbols: List::new(alloc),
-        sections: sections_of(alloc, word)?,
-        archive: false,
-        export: false,
-        check: false,
-        candidates: Candidates::empty(alloc),
-    })
-}
-
-/// The files that the words of a line stand for, in groups of their own.
-fn groups_of(alloc: Global, line: &str) -> Result<InputGroups, AllocError> {
-    let mut groups = Vec::new(alloc);
-    for word in line.split_whitespace() {
-        let mut group = Vec::new(alloc);
-        group.push(file_of(alloc, word)?)?;
-        groups.push(List::from_vec(group))?;
-    }
-    InputGroups::new(alloc, List::from_vec(groups))
-}
-
-/// The bytes that a text of hexadecimal digits stands for; none where it isn't one.
-fn bytes_of(alloc: Global, text: &str) -> Result<List<u8>, AllocError> {
-    let mut bytes = Vec::new(alloc);
-    for pair in text.as_bytes().chunks(2) {
-        let pair = std::str::from_utf8(pair).unwrap_or("");
-        if let Ok(byte) = u8::from_str_radix(pair, 16) {
-            bytes.push(byte)?;
-        }
-    }
-    Ok(List::from_vec(bytes))
-}
-
-/// A section of strings that are merged, of this size, whatever its data are.
-fn sized_section(alloc: Global, size: &str, data: &str) -> Result<InputSection, AllocError> {
-    let mut section = section_of(alloc, 0);
-    section.slot = InputSlot::Merge;
-    section.size = size.parse().unwrap_or(0);
-    section.bytes = bytes_of(alloc, data)?;
-    section.strings = true;
-    Ok(section)
-}
-
-/// A plan of one part.
-const ONE_PART: &[u8] =
-    br#"{"plan":{"page":1,"sections":[{"attrs":1,"parts":[[1,false]]}],"events":[["sec",0]]}}"#;
-
 /// A plan of the parts 0 and 1, of which part 1 is a table.
 const TWO_PARTS: &[u8] =
     br#"{"plan":{"page":1,"sections":[{"parts":[[1,false]]},{"parts":[[1,false]]}],"events":[["sec",0],["sec",1]],"got":1}}"#;
-
-/// A link with these groups.
-fn with_groups(mut link: LinkInput, groups: InputGroups) -> LinkInput {
-    link.groups = groups;
-    link
-}
 
 /// The files that the words of a line stand for, under that plan.
 pub fn hand_made_link(alloc: Global, line: &str) -> Result<LinkInput, InputError> {
     let groups = groups_of(alloc, line)?;
     match read_link(alloc, TWO_PARTS) {
-        Ok(link) => Ok(with_groups(link, groups)),
-        Err(error) => Err(error),
-    }
-}
-
-/// A symbol with a name that stands for a place in the first section.
-fn named_symbol(alloc: Global, name: &str, offset: u64) -> Result<InputSymbol, AllocError> {
-    Ok(InputSymbol {
-        name: Text::from_string(String::from_str(alloc, name)?),
-        at: SymbolPlacement::Section { index: 0, offset },
-        def: None,
-        flags: ValueFlags(0),
-        local: false,
-        weak: false,
-        hidden: false,
-    })
-}
-
-/// A section that is kept and refers to the first two symbols of its file.
-fn referring_section(alloc: Global) -> Result<InputSection, AllocError> {
-    let mut relocs = Vec::new(alloc);
-    for symbol in 0..2 {
-        relocs.push(Relocation {
-            offset: 0,
-            kind: RelocationKind::Absolute,
-            symbol,
-            addend: 0,
-            thunkable: false,
-        })?;
-    }
-    let mut section = section_of(alloc, 0);
-    section.size = 1;
-    section.relocs = List::from_vec(relocs);
-    Ok(section)
-}
-
-/// An object with a merged section of a size and with data that a line tells, and named symbols at 1 and at 2 there, to which
-/// another section refers.
-fn sized_object(alloc: Global, line: &str) -> Result<InputFile, AllocError> {
-    let (size, data) = line.split_once(' ').unwrap_or((line, ""));
-    let mut sections = Vec::new(alloc);
-    sections.push(sized_section(alloc, size, data)?)?;
-    sections.push(referring_section(alloc)?)?;
-    let mut symbols = Vec::new(alloc);
-    symbols.push(named_symbol(alloc, "a", 1)?)?;
-    symbols.push(named_symbol(alloc, "b", 2)?)?;
-    let mut object = file_of(alloc, "o")?;
-    object.symbols = List::from_vec(symbols);
-    object.sections = InputSections::new(alloc, List::from_vec(sections))?;
-    Ok(object)
-}
-
-/// A prelude and such an object.
-fn sized_groups(alloc: Global, line: &str) -> Result<InputGroups, AllocError> {
-    let mut prelude = Vec::new(alloc);
-    prelude.push(file_of(alloc, "p")?)?;
-    let mut objects = Vec::new(alloc);
-    objects.push(sized_object(alloc, line)?)?;
-    let mut groups = Vec::new(alloc);
-    groups.push(List::from_vec(prelude))?;
-    groups.push(List::from_vec(objects))?;
-    InputGroups::new(alloc, List::from_vec(groups))
-}
-
-/// The files that a line stands for, under a plan of one part. No description gives a merged section a size that isn't that
-/// of its data.
-pub fn sized_link(alloc: Global, line: &str) -> Result<LinkInput, InputError> {
-    let groups = sized_groups(alloc, line)?;
-    match read_link(alloc, ONE_PART) {
         Ok(link) => Ok(with_groups(link, groups)),
         Err(error) => Err(error),
     }

@@ -2,7 +2,7 @@
 
 ghost use Rattle.lk_link.specs.WellFormed.{IsWellFormed};
 
-use crate::rows::{Asked, add, expect_rows};
+use crate::rows::{Asked, expect_rows};
 use crate::shown::Shown;
 use lk_check::check_link;
 use lk_layout::resolution::Resolution;
@@ -11,6 +11,7 @@ use lk_link::{Alignment, LinkInput, List, SegmentId, SymbolId, ValueFlags};
 use lk_merge::MergedStringStartAddresses;
 use lk_place::{OutputRecordLayout, SegmentLayout};
 use lk_run::report::report_text;
+use lk_test_rows::add;
 use std::alloc::{AllocError, Global};
 use std::test::Fail;
 

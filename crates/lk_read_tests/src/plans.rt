@@ -2,9 +2,10 @@
 
 ghost use Rattle.std.specs.Prelude.{◌≤◌, length};
 
-use crate::rows::{Asked, add, expect_rows, expect_text};
+use crate::rows::{Asked, expect_rows, expect_text};
 use crate::shown::Shown;
 use lk_link::{InputSlot, OutputSectionId, Plan};
+use lk_test_rows::add;
 use std::alloc::{AllocError, Global};
 use std::test::Fail;
 

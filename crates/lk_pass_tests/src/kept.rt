@@ -5,7 +5,7 @@ ghost use Rattle.lk_link.specs.SymbolRanges.{IsWithin};
 ghost use Rattle.lk_link.specs.Symbols.{definition_of};
 ghost use Rattle.lk_link.specs.WellFormed.{IsWellFormed};
 
-use crate::rows::{Asked, add, expect_rows};
+use crate::rows::{Asked, expect_rows};
 use crate::shown::Shown;
 use lk_check::check_link;
 use lk_gc::{
@@ -13,6 +13,7 @@ use lk_gc::{
     SymbolRequestHandler, can_export_global_def, export_symbols_mode, traverse,
 };
 use lk_link::{FileId, InputSymbol, LinkInput, NoGate, SymbolId};
+use lk_test_rows::add;
 use std::alloc::{AllocError, Global};
 use std::sync::Wait;
 use std::test::Fail;

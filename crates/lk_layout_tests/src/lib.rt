@@ -1,0 +1,27 @@
+//! Tests of whole layouts, reports and runs. There is nothing else here.
+#![tactic(auto)]
+
+#[cfg(test)]
+mod commons;
+#[cfg(test)]
+mod devices;
+#[cfg(test)]
+mod groups;
+#[cfg(test)]
+mod layout;
+#[cfg(test)]
+mod merged_links;
+#[cfg(test)]
+mod reach;
+#[cfg(test)]
+mod report;
+#[cfg(test)]
+mod rows;
+#[cfg(test)]
+mod runs;
+#[cfg(test)]
+mod shown;
+#[cfg(test)]
+mod texts;
+#[cfg(test)]
+mod words;

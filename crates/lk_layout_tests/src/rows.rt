@@ -1,0 +1,123 @@
+//! What rows ask here, and that the answers are theirs.
+
+use crate::devices::{add_calls, add_held, add_reads, add_run, add_whole, add_writes};
+use crate::layout::add_workers;
+use crate::runs::{add_end, add_words};
+use crate::shown::{Shown, add_shown};
+use crate::words::add_both_runs;
+use lk_input::{InputError, read_link};
+use lk_link::LinkInput;
+use lk_test_rows::{Row, rows_of};
+use std::alloc::{AllocError, Global};
+use std::process::Abort;
+use std::sync::Wait;
+use std::test::Fail;
+use std::thread::Threads;
+
+/// What is asked about a text.
+#[derive(Clone, Copy)]
+pub enum Asked {
+    /// What is told of the description that it is.
+    Of(Shown),
+    /// What reports are made of it by how many workers.
+    Workers,
+    /// How a run over it ends.
+    Run,
+    /// What command its words are, and how a run with them ends.
+    Words,
+    /// How runs with its words end, alone and by workers.
+    BothRuns,
+    /// What reads of a source give.
+    Reads,
+    /// What is read of a whole source.
+    Whole,
+    /// Under which limits so many bytes are read.
+    Held,
+    /// What becomes of pieces that are written.
+    Writes,
+    /// What odd readers and writers give.
+    Calls,
+    /// How a run over failing devices ends.
+    FaultyRun,
+}
+
+/// Adds what is answered of a link that there is.
+fn add_found(
+    rt: &(impl Threads + Wait + Sync),
+    alloc: Global,
+    line: &mut String,
+    asked: Asked,
+    link: &Result<LinkInput, InputError>,
+) -> Result<(), AllocError> {
+    match (link, asked) {
+        (Ok(link), Asked::Of(shown)) => add_shown(alloc, line, shown, link),
+        (Ok(link), _) => add_workers(rt, alloc, line, link),
+        (Err(error), _) => write!(line, "no link: {error}"),
+    }
+}
+
+/// Adds what is answered where the text stands for a link.
+fn add_linked(
+    rt: &(impl Threads + Wait + Sync),
+    alloc: Global,
+    line: &mut String,
+    asked: Asked,
+    text: &str,
+) -> Result<(), AllocError> {
+    let link = read_link(alloc, text.as_bytes());
+    add_found(rt, alloc, line, asked, &link)
+}
+
+/// Adds what is answered.
+fn add_answer(
+    rt: &(impl Threads + Wait + Sync),
+    alloc: Global,
+    line: &mut String,
+    asked: Asked,
+    text: &str,
+) -> Result<(), AllocError> {
+    match asked {
+        Asked::Of(_) | Asked::Workers => add_linked(rt, alloc, line, asked, text),
+        Asked::Run => add_end(alloc, line, text),
+        Asked::Words => add_words(alloc, line, text),
+        Asked::BothRuns => add_both_runs(rt, alloc, line, text),
+        Asked::Reads => add_reads(alloc, line, text),
+        Asked::Whole => add_whole(alloc, line, text),
+        Asked::Held => add_held(alloc, line, text),
+        Asked::Writes => add_writes(alloc, line, text),
+        Asked::Calls => add_calls(line, text),
+        Asked::FaultyRun => add_run(rt, alloc, line, text),
+    }
+}
+
+/// Wants a row's answer.
+fn expect_row(
+    rt: &(impl Abort + Threads + Wait + Sync),
+    alloc: Global,
+    asked: Asked,
+    row: Row,
+) -> Result<(), Fail> {
+    let text = row.text(alloc)?;
+    let mut line = String::new(alloc);
+    add_answer(rt, alloc, &mut line, asked, text.as_str())?;
+    assert_eq!(rt; line.as_str(), row.want, "for {front}", front = row.front);
+    Ok(())
+}
+
+/// Wants each row's answer.
+pub fn expect_rows(
+    rt: &(impl Abort + Threads + Wait + Sync),
+    alloc: Global,
+    asked: Asked,
+    rows: &'static str,
+) -> Result<(), Fail> {
+    for row in rows_of(alloc, rows)? {
+        expect_row(rt, alloc, asked, row)?;
+    }
+    Ok(())
+}
+
+/// Wants this text.
+pub fn expect_text(rt: &impl Abort, found: &str, want: &str) {
+    assert_eq!(rt; found, want);
+}

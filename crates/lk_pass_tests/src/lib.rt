@@ -1,0 +1,23 @@
+//! Tests of the passes by their own calls: the traversal, merging, sizes, tables and placement. There is nothing else here.
+#![tactic(auto)]
+
+#[cfg(test)]
+mod commons;
+#[cfg(test)]
+mod expressions;
+#[cfg(test)]
+mod kept;
+#[cfg(test)]
+mod made;
+#[cfg(test)]
+mod merging;
+#[cfg(test)]
+mod rows;
+#[cfg(test)]
+mod shown;
+#[cfg(test)]
+mod sizes;
+#[cfg(test)]
+mod tables;
+#[cfg(test)]
+mod traversal;

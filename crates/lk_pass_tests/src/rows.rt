@@ -1,0 +1,113 @@
+//! What rows ask here, and that the answers are theirs.
+
+use crate::kept::add_traversals;
+use crate::made::{hand_made_link, sized_link};
+use crate::merging::add_merged_by_workers;
+use crate::shown::{Shown, add_shown};
+use lk_input::{InputError, read_link};
+use lk_link::LinkInput;
+use lk_test_rows::{Row, rows_of};
+use std::alloc::{AllocError, Global};
+use std::process::Abort;
+use std::sync::Wait;
+use std::test::Fail;
+use std::thread::Threads;
+
+/// What is asked about a text.
+#[derive(Clone, Copy)]
+pub enum Asked {
+    /// What is told of the description that it is.
+    Of(Shown),
+    /// What is told of the link that its words stand for.
+    OfHandMade(Shown),
+    /// What is told of the link with a merged section of the size and the data that its words say.
+    OfSized(Shown),
+    /// What is live of it by how many workers.
+    Traversals,
+    /// What is merged of it by how many workers.
+    MergedByWorkers,
+}
+
+/// The link that a text stands for.
+fn link_of(alloc: Global, asked: Asked, text: &str) -> Result<LinkInput, InputError> {
+    match asked {
+        Asked::OfHandMade(_) => hand_made_link(alloc, text),
+        Asked::OfSized(_) => sized_link(alloc, text),
+        _ => read_link(alloc, text.as_bytes()),
+    }
+}
+
+/// Adds what is answered of a link.
+fn add_of(
+    rt: &(impl Threads + Wait + Sync),
+    alloc: Global,
+    line: &mut String,
+    asked: Asked,
+    link: &LinkInput,
+) -> Result<(), AllocError> {
+    match asked {
+        Asked::Of(shown) | Asked::OfHandMade(shown) | Asked::OfSized(shown) => {
+            add_shown(alloc, line, shown, link)
+        }
+        Asked::Traversals => add_traversals(rt, alloc, line, link),
+        Asked::MergedByWorkers => add_merged_by_workers(rt, alloc, line, link),
+    }
+}
+
+/// Adds what is answered of a link that there is.
+fn add_found(
+    rt: &(impl Threads + Wait + Sync),
+    alloc: Global,
+    line: &mut String,
+    asked: Asked,
+    link: &Result<LinkInput, InputError>,
+) -> Result<(), AllocError> {
+    match link {
+        Ok(link) => add_of(rt, alloc, line, asked, link),
+        Err(error) => write!(line, "no link: {error}"),
+    }
+}
+
+/// Adds what is answered.
+fn add_answer(
+    rt: &(impl Threads + Wait + Sync),
+    alloc: Global,
+    line: &mut String,
+    asked: Asked,
+    text: &str,
+) -> Result<(), AllocError> {
+    let link = link_of(alloc, asked, text);
+    add_found(rt, alloc, line, asked, &link)
+}
+
+/// Wants a row's answer.
+fn expect_row(
+    rt: &(impl Abort + Threads + Wait + Sync),
+    alloc: Global,
+    asked: Asked,
+    row: Row,
+) -> Result<(), Fail> {
+    let text = row.text(alloc)?;
+    let mut line = String::new(alloc);
+    add_answer(rt, alloc, &mut line, asked, text.as_str())?;
+    assert_eq!(rt; line.as_str(), row.want, "for {front}", front = row.front);
+    Ok(())
+}
+
+/// Wants each row's answer.
+pub fn expect_rows(
+    rt: &(impl Abort + Threads + Wait + Sync),
+    alloc: Global,
+    asked: Asked,
+    rows: &'static str,
+) -> Result<(), Fail> {
+    for row in rows_of(alloc, rows)? {
+        expect_row(rt, alloc, asked, row)?;
+    }
+    Ok(())
+}
+
+/// Wants this text.
+pub fn expect_text(rt: &impl Abort, found: &str, want: &str) {
+    assert_eq!(rt; found, want);
+}
