@@ -231,17 +231,31 @@ fn add_late(
     add(line, word, &value)
 }
 
+/// Adds what the base is worth while sections are placed.
+fn add_placing(alloc: Global, line: &mut String, link: &LinkInput) -> Result<(), AllocError>
+    requires { AreShallow link.now }
+{
+    let constants = constant_redirects(alloc, link, 120, REGIONS)?;
+    let positions = positions(alloc)?;
+    add_early(line, link, &constants, &positions)
+}
+
+/// Adds what the base is worth when all is placed, at a location and at none.
+fn add_lates(alloc: Global, line: &mut String, link: &LinkInput) -> Result<(), AllocError>
+    requires { AreShallow link.now }
+{
+    let values = values(alloc)?;
+    add_late(line, "late", link, Some(80), &values)?;
+    add_late(line, "nowhere", link, None, &values)
+}
+
 /// Adds what the base is worth everywhere, of a link whose expressions aren't too deep.
 fn add_worth(alloc: Global, line: &mut String, link: &LinkInput) -> Result<(), AllocError>
     requires { AreShallow link.now }
 {
     add(line, "const", &evaluate_const(link, &link.plan.base))?;
-    let constants = constant_redirects(alloc, link, 120, REGIONS)?;
-    let positions = positions(alloc)?;
-    add_early(line, link, &constants, &positions)?;
-    let values = values(alloc)?;
-    add_late(line, "late", link, Some(80), &values)?;
-    add_late(line, "nowhere", link, None, &values)
+    add_placing(alloc, line, link)?;
+    add_lates(alloc, line, link)
 }
 
 /// Adds what the base is worth everywhere, of a link that is well formed.

@@ -12,6 +12,8 @@ mod made;
 #[cfg(test)]
 mod merging;
 #[cfg(test)]
+mod placed;
+#[cfg(test)]
 mod rows;
 #[cfg(test)]
 mod shown;
@@ -21,3 +23,5 @@ mod sizes;
 mod tables;
 #[cfg(test)]
 mod traversal;
+#[cfg(test)]
+mod walked;

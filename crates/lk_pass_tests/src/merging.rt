@@ -91,26 +91,26 @@ const PLACES: &str = r#"
 {"slot":"merge","strings":true,"data":"«299 times 61»00"},{"slot":"merge","data":"6162"},{"slot":"merge","strings":true,"data":"616200"} => start 0 14:0 14:1 14:2 14:3 14:4 14:5 14:6 14:7 - start 512 10:0 10:1 - - - - - - - start 768 14:300 14:301 14:302 - - - - - -
 "#;
 
-/// All padded bytes, and the groups.
+/// All padded bytes, where each input starts, and the groups.
 const GROUPS: &str = r#"
 @ {"options":{"merge_group":...},"plan":{"page":16,"sections":[{"attrs":1,"parts":[[1,false]]}],"events":[["sec",0]]},"groups":[[{"kind":"prelude"}],[{"kind":"object","sections":[{"slot":"merge","strings":true,"data":"«9 times 61»00"},{"slot":"merge","strings":true,"data":"«299 times 61»00"}]}]]}
-256 => total 768 group (0, 256) group (256, 512) group (512, 768)
-512 => total 768 group (0, 512) group (512, 768)
+256 => total 768 start 0 start 256 group (0, 256) group (256, 512) group (512, 768)
+512 => total 768 start 0 start 256 group (0, 512) group (512, 768)
 # Rounded up to a multiple of 256.
-1 => total 768 group (0, 256) group (256, 512) group (512, 768)
-257 => total 768 group (0, 512) group (512, 768)
-4294967295 => total 768 group (0, 768)
-4294967296 => total 768 group (0, 768)
+1 => total 768 start 0 start 256 group (0, 256) group (256, 512) group (512, 768)
+257 => total 768 start 0 start 256 group (0, 512) group (512, 768)
+4294967295 => total 768 start 0 start 256 group (0, 768)
+4294967296 => total 768 start 0 start 256 group (0, 768)
 @ {"options":{"merge_group":...},"plan":{"page":16,"sections":[{"attrs":1,"parts":[[1,false]]}],"events":[["sec",0]]},"groups":[[{"kind":"prelude"}],[{"kind":"object","sections":[{"slot":"merge","strings":true,"data":"«299 times 61»00"},{"slot":"merge","strings":true,"data":"«299 times 61»00"}]}]]}
-256 => total 1024 group (0, 256) group (256, 512) group (512, 768) group (768, 1024)
+256 => total 1024 start 0 start 512 group (0, 256) group (256, 512) group (512, 768) group (768, 1024)
 @ {"options":{"merge_group":...},"plan":{"page":16,"sections":[{"attrs":1,"parts":[[1,false]]}],"events":[["sec",0]]},"groups":[[{"kind":"prelude"}],[{"kind":"object","sections":[{"slot":"merge","data":"«256 times 61»"},{"slot":"merge","data":"«300 times 61»"},{"slot":"merge","strings":true,"data":"6100"}]}]]}
-256 => total 1024 group (0, 256) group (256, 768) group (768, 1024)
-512 => total 1024 group (0, 768) group (768, 1024)
+256 => total 1024 start 0 start 256 start 768 group (0, 256) group (256, 768) group (768, 1024)
+512 => total 1024 start 0 start 256 start 768 group (0, 768) group (768, 1024)
 @ {"options":{"merge_group":...},"plan":{"page":16,"sections":[{"attrs":1,"parts":[[1,false]]}],"events":[["sec",0]]},"groups":[[{"kind":"prelude"}],[{"kind":"object","sections":[{"slot":"merge","strings":true,"data":"6100"},{"slot":"merge","data":"«600 times 61»"},{"slot":"merge","data":""}]}]]}
-256 => total 1024 group (0, 256) group (256, 1024)
-512 => total 1024 group (0, 1024)
+256 => total 1024 start 0 start 256 start 1024 group (0, 256) group (256, 1024)
+512 => total 1024 start 0 start 256 start 1024 group (0, 1024)
 @ {"options":{"merge_group":...},"plan":{"page":16,"sections":[{"attrs":1,"parts":[[1,false]]}],"events":[["sec",0]]},"groups":[[{"kind":"prelude"}],[{"kind":"object","sections":[{"slot":"merge","strings":true,"data":""}]}]]}
-256 => total 0
+256 => total 0 start 0
 "#;
 
 /// What a relocation has of its symbol, where the image starts at 4096: as it is, and where unnamed symbols are 0. The symbols
@@ -223,7 +223,15 @@ fn add_places(
     Ok(())
 }
 
-/// Adds the bytes of all inputs of an output section, and the groups of about so many into which they are cut.
+/// Adds where each input of an output section starts.
+fn add_starts(line: &mut String, inputs: &StringMergeInputSections<'_>) -> Result<(), AllocError> {
+    for input in inputs.as_slice() {
+        add(line, "start", &input.start_input_offset.as_u64())?;
+    }
+    Ok(())
+}
+
+/// Adds the bytes of all inputs of an output section, their starts, and the groups of about so many into which they are cut.
 fn add_groups(
     alloc: Global,
     line: &mut String,
@@ -234,6 +242,7 @@ fn add_groups(
     requires blocks { size % 256 ≡ 0 }
 {
     add(line, "total", &total_input_size(inputs))?;
+    add_starts(line, inputs)?;
     for group in split_sections(alloc, inputs, size)? {
         add(line, "group", &(group.start.as_u64(), group.end.as_u64()))?;
     }
@@ -352,6 +361,32 @@ fn add_merged(
     }
 }
 
+/// Adds what so many workers keep.
+fn add_by(
+    rt: &(impl Threads + Wait + Sync),
+    alloc: Global,
+    line: &mut String,
+    inputs: &StringMergeInputs<'_>,
+    workers: u32,
+) -> Result<(), AllocError> {
+    add(line, "workers", &workers)?;
+    add_merged(line, &merge_strings(rt, alloc, inputs, workers, &NoGate))
+}
+
+/// Adds what workers keep, and what is kept on the caller alone.
+fn add_by_all(
+    rt: &(impl Threads + Wait + Sync),
+    alloc: Global,
+    line: &mut String,
+    inputs: &StringMergeInputs<'_>,
+) -> Result<(), AllocError> {
+    add_by(rt, alloc, line, inputs, 0)?;
+    add_by(rt, alloc, line, inputs, 2)?;
+    add_by(rt, alloc, line, inputs, 8)?;
+    line.push_str(" alone")?;
+    add_merged(line, &merge_strings_alone(alloc, inputs))
+}
+
 /// Adds what workers keep of a link that is well formed, and what is kept on the caller alone.
 pub fn add_merged_by_workers(
     rt: &(impl Threads + Wait + Sync),
@@ -363,12 +398,7 @@ pub fn add_merged_by_workers(
         return Ok(());
     }
     let inputs = StringMergeInputs::new(alloc, link)?;
-    for workers in [0, 2, 8] {
-        add(line, "workers", &workers)?;
-        add_merged(line, &merge_strings(rt, alloc, &inputs, workers, &NoGate))?;
-    }
-    line.push_str(" alone")?;
-    add_merged(line, &merge_strings_alone(alloc, &inputs))
+    add_by_all(rt, alloc, line, &inputs)
 }
 
 /// Adds what is told of merging, of a link that is well formed; or why it isn't merged.

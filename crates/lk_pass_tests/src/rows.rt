@@ -3,7 +3,9 @@
 use crate::kept::add_traversals;
 use crate::made::{hand_made_link, sized_link};
 use crate::merging::add_merged_by_workers;
+use crate::placed::{Spanned, add_placed};
 use crate::shown::{Shown, add_shown};
+use crate::walked::add_walk;
 use lk_input::{InputError, read_link};
 use lk_link::LinkInput;
 use lk_test_rows::{Row, rows_of};
@@ -26,6 +28,10 @@ pub enum Asked {
     Traversals,
     /// What is merged of it by how many workers.
     MergedByWorkers,
+    /// What its records span.
+    Placed(Spanned),
+    /// Where the placement walk puts all.
+    Walked,
 }
 
 /// The link that a text stands for.
@@ -50,7 +56,7 @@ fn add_of(
             add_shown(alloc, line, shown, link)
         }
         Asked::Traversals => add_traversals(rt, alloc, line, link),
-        Asked::MergedByWorkers => add_merged_by_workers(rt, alloc, line, link),
+        _ => add_merged_by_workers(rt, alloc, line, link),
     }
 }
 
@@ -68,8 +74,8 @@ fn add_found(
     }
 }
 
-/// Adds what is answered.
-fn add_answer(
+/// Adds what is answered where the text stands for a link.
+fn add_linked(
     rt: &(impl Threads + Wait + Sync),
     alloc: Global,
     line: &mut String,
@@ -80,6 +86,39 @@ fn add_answer(
     add_found(rt, alloc, line, asked, &link)
 }
 
+/// Adds what is answered.
+fn add_answer(
+    rt: &(impl Threads + Wait + Sync),
+    alloc: Global,
+    line: &mut String,
+    asked: Asked,
+    text: &str,
+) -> Result<(), AllocError> {
+    match asked {
+        Asked::Placed(asked) => add_placed(alloc, line, asked, text),
+        Asked::Walked => add_walk(alloc, line, text),
+        _ => add_linked(rt, alloc, line, asked, text),
+    }
+}
+
+/// What is answered to a row.
+fn answer(
+    rt: &(impl Threads + Wait + Sync),
+    alloc: Global,
+    asked: Asked,
+    row: Row,
+) -> Result<String, AllocError> {
+    let text = row.text(alloc)?;
+    let mut line = String::new(alloc);
+    add_answer(rt, alloc, &mut line, asked, text.as_str())?;
+    Ok(line)
+}
+
+/// Wants this text of a row with this front.
+fn expect_answer(rt: &impl Abort, front: &str, found: &str, want: &str) {
+    assert_eq!(rt; found, want, "for {front}");
+}
+
 /// Wants a row's answer.
 fn expect_row(
     rt: &(impl Abort + Threads + Wait + Sync),
@@ -87,10 +126,8 @@ fn expect_row(
     asked: Asked,
     row: Row,
 ) -> Result<(), Fail> {
-    let text = row.text(alloc)?;
-    let mut line = String::new(alloc);
-    add_answer(rt, alloc, &mut line, asked, text.as_str())?;
-    assert_eq!(rt; line.as_str(), row.want, "for {front}", front = row.front);
+    let line = answer(rt, alloc, asked, row)?;
+    expect_answer(rt, row.front, line.as_str(), row.want);
     Ok(())
 }
 

@@ -11,8 +11,8 @@ use lk_check::check_link;
 use lk_gc::{Live, traverse_alone};
 use lk_link::LinkInput;
 use lk_sizes::{
-    HeaderInfo, PartContents, determine_header_sizes, image_addresses, part_contents, part_sizes,
-    propagate_section_attributes,
+    HeaderInfo, PartContents, SizeError, determine_header_sizes, image_addresses, part_contents,
+    part_sizes, propagate_section_attributes,
 };
 use lk_test_rows::add;
 use std::alloc::{AllocError, Global};
@@ -28,6 +28,30 @@ const LIVE: &str = r#"
 const SIZES: &str = r#"
 {"plan":{"page":16,"sections":[{"attrs":1,"parts":[[8,false]]},{"attrs":16,"parts":[[4,true]]}],"segments":[{"kind":"load"},{"kind":"other"}],"events":[["sec",1],["seg",0],["sec",0],["endseg",0],["seg",1],["endseg",1]]},"groups":[[{"kind":"prelude"},{"kind":"object","sections":[{"slot":"must","size":7,"attrs":2},{"slot":"must"},{"slot":"must","size":8,"attrs":4}]}]]} => parts [PartContents { bytes: 16, has_image: false, attrs: 6 }, PartContents { bytes: 0, has_image: false, attrs: 0 }] attributes [7, 16] sizes [16, 0] images [0, 0] headers ([true, false], [Some(0), None], [SegmentId { number: 0 }])
 {"plan":{"page":16,"sections":[{"attrs":1,"parts":[[4,false],[1,false]]},{"attrs":1,"parts":[[1,true]]}],"segments":[{"kind":"load"}],"events":[["seg",0],["sec",0],["sec",1],["endseg",0]]},"groups":[[{"kind":"prelude"},{"kind":"object","sections":[{"slot":"must","size":3},{"slot":"must","part":1,"size":5},{"slot":"merge","part":1,"data":"6100","attrs":2},{"slot":"merge","part":2}]}]]} => parts [PartContents { bytes: 4, has_image: false, attrs: 0 }, PartContents { bytes: 11, has_image: true, attrs: 2 }, PartContents { bytes: 0, has_image: true, attrs: 0 }] attributes [3, 1] sizes [4, 11, 0] images [111, 100] headers ([true, false], [Some(0), None], [SegmentId { number: 0 }])
+"#;
+
+/// The bytes of three parts, which together are at most 2^64 - 1; or the first part at which they pass it.
+const SUMS: &str = r#"
+@ {"plan":{"page":16,"sections":[{"attrs":1,"parts":[[1,false]]},{"attrs":1,"parts":[[8,false],[1,false]]}],"segments":[{"kind":"load"}],"events":[["seg",0],["sec",0],["sec",1],["endseg",0]]},"groups":[[{"kind":"prelude"}],[{"kind":"object",...}]]}
+# Sections of one part and of several, with the bytes up to the alignment.
+"sections":[{"slot":"must","size":18446744073709551615}] => sizes [18446744073709551615, 0, 0]
+"sections":[{"slot":"must","size":18446744073709551614},{"slot":"must","size":1}] => sizes [18446744073709551615, 0, 0]
+"sections":[{"slot":"must","size":18446744073709551615},{"slot":"must","size":18446744073709551615}] => refused AddressOverflow { place: Part(0) }
+"sections":[{"slot":"must","size":18446744073709551607},{"slot":"must","part":1,"size":1}] => sizes [18446744073709551607, 8, 0]
+"sections":[{"slot":"must","size":18446744073709551608},{"slot":"must","part":1,"size":1}] => refused AddressOverflow { place: Part(1) }
+"sections":[{"slot":"must","part":1,"size":18446744073709551608}] => sizes [0, 18446744073709551608, 0]
+"sections":[{"slot":"must","part":1,"size":18446744073709551609}] => refused AddressOverflow { place: Part(1) }
+"sections":[{"slot":"must","part":2,"size":1},{"slot":"must","size":18446744073709551614}] => sizes [18446744073709551614, 0, 1]
+"sections":[{"slot":"must","part":2,"size":2},{"slot":"must","size":18446744073709551614}] => refused AddressOverflow { place: Part(2) }
+# What isn't live takes nothing.
+"sections":[{"slot":"unloaded","size":18446744073709551615},{"slot":"must","size":18446744073709551615}] => sizes [18446744073709551615, 0, 0]
+# Commons, one that nothing asks for, and a merged image of 6 bytes.
+"symbols":[{"at":["common",0,18446744073709551614]}],"sections":[{"slot":"must","size":1,"relocs":[[0,"Absolute",0,0,false]]}] => sizes [18446744073709551615, 0, 0]
+"symbols":[{"at":["common",0,18446744073709551615]}],"sections":[{"slot":"must","size":1,"relocs":[[0,"Absolute",0,0,false]]}] => refused AddressOverflow { place: Part(0) }
+"symbols":[{"at":["common",1,18446744073709551607]}],"sections":[{"slot":"must","size":8,"relocs":[[0,"Absolute",0,0,false]]}] => refused AddressOverflow { place: Part(1) }
+"symbols":[{"at":["common",0,18446744073709551615]}],"sections":[{"slot":"must","size":1}] => sizes [1, 0, 0]
+"sections":[{"slot":"merge","data":"6100"},{"slot":"must","size":18446744073709551609}] => sizes [18446744073709551615, 0, 0]
+"sections":[{"slot":"merge","data":"6100"},{"slot":"must","size":18446744073709551610}] => refused AddressOverflow { place: Part(0) }
 "#;
 
 /// The lengths of the images of the first two output sections, where something is merged there.
@@ -173,6 +197,39 @@ pub fn add_sizes(alloc: Global, line: &mut String, link: &LinkInput) -> Result<(
         Ok(live) => add_brought(alloc, line, link, &live),
         Err(_) => Ok(()),
     }
+}
+
+/// Adds the bytes of all parts, or why there are none.
+fn add_sums_of(
+    alloc: Global,
+    line: &mut String,
+    link: &LinkInput,
+    live: &Live,
+) -> Result<(), AllocError>
+    requires good { IsWellFormed link.now }
+    requires live { AreLive link.now live.now }
+{
+    match part_contents(alloc, link, live, MERGED_LENS) {
+        Ok(contents) => add(line, "sizes", &part_sizes(alloc, contents.as_slice())?),
+        Err(SizeError::NoMemory) => Err(AllocError),
+        Err(error) => add(line, "refused", &error),
+    }
+}
+
+/// Adds the bytes of all parts of a link that is well formed, or why there are none.
+pub fn add_sums(alloc: Global, line: &mut String, link: &LinkInput) -> Result<(), AllocError> {
+    if check_link(link).is_err() {
+        return Ok(());
+    }
+    match traverse_alone(alloc, link) {
+        Ok(live) => add_sums_of(alloc, line, link, &live),
+        Err(_) => Ok(()),
+    }
+}
+
+#[test]
+fn sums_end_at_the_greatest_number(rt: HostRuntime) -> Result<(), Fail> {
+    expect_rows(&rt, rt.alloc(), Asked::Of(Shown::Sums), SUMS)
 }
 
 #[test]

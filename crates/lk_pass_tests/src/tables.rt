@@ -28,7 +28,7 @@ use std::test::Fail;
 /// without a name; of a link without a symbol table; of two that are exported; of one that is exported and dynamic; of symbols of
 /// the prelude, which are marked late; of one with entries in both tables; of headers that stand in parts; of dynamic symbols in
 /// parts, among them an export of the prelude that keeps the section; of both symbol tables in parts, also of a section that is
-/// never emitted; of a table's own name, which keeps no section; of a symbol with every flag; and of output that is linked again.
+/// never emitted; of a table's own name, which keeps no section; of a symbol with every flag; of output that is linked again; and of names of a megabyte and of no bytes.
 const TABLES: &str = r#"
 {"plan":{"page":16,"sections":[{"attrs":0,"parts":[[8,false],[4,false]]},{"attrs":1,"parts":[[1,false]]}],"segments":[{"kind":"load"}],"events":[["seg",0],["sec",0],["sec",1],["endseg",0]]},"groups":[[{"kind":"prelude"}],[{"kind":"object","sections":[{"slot":"must","part":2,"size":1}],"symbols":[{"at":["sec",0,0],"name":"x","flags":8}]}]]} => first TableTotals { got: 0, plt: 0, symtab_local: 0, symtab_global: 24, strtab: 2, dynsym: 0, dynstr: 0, file_header: 0, program_headers: 0, section_headers: 0, shstrtab: 0 } copied [Some("x")] symbols [(FileId { group: 0, file: 0 }, 24, 0, 1), (FileId { group: 1, file: 0 }, 0, 24, 2)] whole TableTotals { got: 0, plt: 0, symtab_local: 24, symtab_global: 24, strtab: 3, dynsym: 0, dynstr: 0, file_header: 64, program_headers: 56, section_headers: 64, shstrtab: 1 } parts [0, 0, 0] entries [(FileId { group: 0, file: 0 }, 0, 0), (FileId { group: 1, file: 0 }, 0, 0)] headers HeaderSizes { file_header: 64, program_headers: 56, section_headers: 64, shstrtab: 1 } dynamic [] sizes DynamicSizes { dynsym: 0, dynstr: 0 } indexes [None]
 {"options":{"strip_names":["s"]},"plan":{"page":16},"groups":[[{"kind":"prelude"}],[{"kind":"object","symbols":[{"at":["abs",1],"name":".Lx","local":true},{"at":["abs",1],"name":"s"},{"at":["abs",1],"name":"l","local":true},{"at":["abs",1],"name":"h","hidden":true},{"at":["abs",1],"name":".Lg","local":true,"flags":16},{"at":["undef"],"name":"u"},{"at":["abs",1]}]}]]} => first TableTotals { got: 0, plt: 0, symtab_local: 48, symtab_global: 24, strtab: 8, dynsym: 0, dynstr: 0, file_header: 0, program_headers: 0, section_headers: 0, shstrtab: 0 } copied [None, None, Some("l"), Some("h"), Some(".Lg"), None, None] symbols [(FileId { group: 0, file: 0 }, 24, 0, 1), (FileId { group: 1, file: 0 }, 48, 24, 8)] whole TableTotals { got: 0, plt: 0, symtab_local: 72, symtab_global: 24, strtab: 9, dynsym: 0, dynstr: 0, file_header: 64, program_headers: 0, section_headers: 0, shstrtab: 0 } parts [] entries [(FileId { group: 0, file: 0 }, 0, 0), (FileId { group: 1, file: 0 }, 0, 0)] headers HeaderSizes { file_header: 64, program_headers: 0, section_headers: 0, shstrtab: 0 } dynamic [] sizes DynamicSizes { dynsym: 0, dynstr: 0 } indexes [None, None, None, None, None, None, None]
@@ -46,7 +46,14 @@ const TABLES: &str = r#"
 {"plan":{"page":1,"sections":[{"attrs":1,"parts":[[1,false]]}],"strtab":0,"events":[["sec",0]]},"groups":[[{"kind":"prelude"}]]} => first TableTotals { got: 0, plt: 0, symtab_local: 0, symtab_global: 0, strtab: 0, dynsym: 0, dynstr: 0, file_header: 0, program_headers: 0, section_headers: 0, shstrtab: 0 } copied [] symbols [(FileId { group: 0, file: 0 }, 24, 0, 1)] whole TableTotals { got: 0, plt: 0, symtab_local: 24, symtab_global: 0, strtab: 1, dynsym: 0, dynstr: 0, file_header: 64, program_headers: 0, section_headers: 0, shstrtab: 0 } parts [1] entries [(FileId { group: 0, file: 0 }, 0, 0)] headers HeaderSizes { file_header: 64, program_headers: 0, section_headers: 0, shstrtab: 0 } dynamic [] sizes DynamicSizes { dynsym: 0, dynstr: 0 } indexes []
 {"plan":{"page":16,"sections":[{"attrs":1,"parts":[[1,false]]}],"segments":[{"kind":"load"}],"events":[["seg",0],["sec",0],["endseg",0]]},"groups":[[{"kind":"prelude"}],[{"kind":"object","sections":[{"slot":"must","size":4}],"symbols":[{"at":["sec",0,0],"name":"x","flags":63}]}]]} => first TableTotals { got: 0, plt: 0, symtab_local: 0, symtab_global: 24, strtab: 2, dynsym: 0, dynstr: 0, file_header: 0, program_headers: 0, section_headers: 0, shstrtab: 0 } copied [Some("x")] symbols [(FileId { group: 0, file: 0 }, 24, 0, 1), (FileId { group: 1, file: 0 }, 0, 24, 2)] whole TableTotals { got: 0, plt: 0, symtab_local: 24, symtab_global: 24, strtab: 3, dynsym: 0, dynstr: 0, file_header: 64, program_headers: 56, section_headers: 64, shstrtab: 1 } parts [0] entries [(FileId { group: 0, file: 0 }, 0, 0), (FileId { group: 1, file: 0 }, 0, 0)] headers HeaderSizes { file_header: 64, program_headers: 56, section_headers: 64, shstrtab: 1 } dynamic [] sizes DynamicSizes { dynsym: 0, dynstr: 0 } indexes [None]
 {"plan":{"page":16,"sections":[{"attrs":0,"parts":[[8,false]]},{"attrs":0,"parts":[[1,false]]}],"segments":[],"events":[["sec",0],["sec",1]],"symtab_global":0},"groups":[[{"kind":"prelude"}],[{"kind":"dynamic","symbols":[{"at":["undef"],"name":"u"}]}],[{"kind":"object","sections":[{"slot":"must","part":1,"size":4,"relocs":[[0,"Relative",0,0,false]]}],"symbols":[{"at":["undef"],"weak":true,"def":0}]}]],"options":{"output":"partial"}} => first TableTotals { got: 0, plt: 0, symtab_local: 0, symtab_global: 24, strtab: 2, dynsym: 0, dynstr: 0, file_header: 0, program_headers: 0, section_headers: 0, shstrtab: 0 } copied [None, None] entries [(FileId { group: 0, file: 0 }, 0, 0), (FileId { group: 1, file: 0 }, 0, 0), (FileId { group: 2, file: 0 }, 0, 0)] headers HeaderSizes { file_header: 64, program_headers: 0, section_headers: 128, shstrtab: 2 } dynamic [] sizes DynamicSizes { dynsym: 0, dynstr: 0 } indexes [None, None]
+{"options":{"output":"shared"},"plan":{"page":16,"sections":[{"name":"«1048576 times s»","attrs":1,"parts":[[8,false],[1,false]]},{"attrs":1,"parts":[[4,false]]}],"segments":[{"kind":"load"}],"events":[["seg",0],["sec",0],["sec",1],["endseg",0]],"dynsym":0,"dynstr":1},"groups":[[{"kind":"prelude"}],[{"kind":"object","sections":[{"slot":"must","part":2,"size":4}],"symbols":[{"at":["sec",0,0],"name":"«1048576 times a»"}]}]]} => first TableTotals { got: 0, plt: 0, symtab_local: 0, symtab_global: 24, strtab: 1048577, dynsym: 24, dynstr: 1048577, file_header: 0, program_headers: 0, section_headers: 0, shstrtab: 0 } copied [Some("long")] symbols [(FileId { group: 0, file: 0 }, 24, 0, 1), (FileId { group: 1, file: 0 }, 0, 24, 1048577)] whole TableTotals { got: 0, plt: 0, symtab_local: 24, symtab_global: 24, strtab: 1048578, dynsym: 48, dynstr: 1048578, file_header: 64, program_headers: 56, section_headers: 128, shstrtab: 1048578 } parts [48, 1048578, 0] entries [(FileId { group: 0, file: 0 }, 0, 0), (FileId { group: 1, file: 0 }, 0, 0)] headers HeaderSizes { file_header: 64, program_headers: 56, section_headers: 128, shstrtab: 1048578 } dynamic [SymbolId { number: 0 }] sizes DynamicSizes { dynsym: 48, dynstr: 1048578 } indexes [Some(1)]
+{"options":{"output":"shared"},"plan":{"page":16,"sections":[{"attrs":1,"parts":[[8,false],[1,false]]},{"attrs":1,"parts":[[4,false]]}],"segments":[{"kind":"load"}],"events":[["seg",0],["sec",0],["sec",1],["endseg",0]],"dynsym":0,"dynstr":1},"groups":[[{"kind":"prelude"}],[{"kind":"object","sections":[{"slot":"must","part":2,"size":4}],"symbols":[{"at":["sec",0,0]}]}]]} => first TableTotals { got: 0, plt: 0, symtab_local: 0, symtab_global: 0, strtab: 0, dynsym: 24, dynstr: 1, file_header: 0, program_headers: 0, section_headers: 0, shstrtab: 0 } copied [None] symbols [(FileId { group: 0, file: 0 }, 24, 0, 1), (FileId { group: 1, file: 0 }, 0, 0, 0)] whole TableTotals { got: 0, plt: 0, symtab_local: 24, symtab_global: 0, strtab: 1, dynsym: 48, dynstr: 2, file_header: 64, program_headers: 56, section_headers: 128, shstrtab: 2 } parts [48, 2, 0] entries [(FileId { group: 0, file: 0 }, 0, 0), (FileId { group: 1, file: 0 }, 0, 0)] headers HeaderSizes { file_header: 64, program_headers: 56, section_headers: 128, shstrtab: 2 } dynamic [SymbolId { number: 0 }] sizes DynamicSizes { dynsym: 48, dynstr: 2 } indexes [Some(1)]
 "#;
+
+/// A name, or a word for it where it has a hundred bytes.
+fn short_name(name: &str) -> &str {
+    if name.len() < 100 { name } else { "long" }
+}
 
 /// Adds the name under which each symbol is copied, by the flags that the traversal gives it.
 fn add_copies(
@@ -61,7 +68,7 @@ fn add_copies(
     let mut number = 0u32;
     for flags in live.flags.as_slice() {
         let copy = SymbolCopyInfo::new(link, SymbolId::from_u32(number), live, *flags);
-        names.push(copy.map(|copy| copy.name()))?;
+        names.push(copy.map(|copy| short_name(copy.name())))?;
         number = number.saturating_add(1);
     }
     add(line, "copied", &names)
@@ -134,6 +141,55 @@ fn add_whole(
     add(line, "parts", &part_bytes(alloc, link, &whole)?)
 }
 
+/// Adds what each file's symbols take in the symbol table and its names.
+fn add_symbols(
+    alloc: Global,
+    line: &mut String,
+    link: &LinkInput,
+    live: &Live,
+    header: &HeaderInfo,
+) -> Result<(), AllocError>
+    requires good { IsWellFormed link.now }
+    requires whole { is_partial link.now.options.output ≡ false }
+{
+    let symbols = symbol_sizes(alloc, link, &Small64, live, header)?;
+    add(line, "symbols", &symbols)
+}
+
+/// Adds what each file's symbols take in `got` and `plt`.
+fn add_entries(
+    alloc: Global,
+    line: &mut String,
+    link: &LinkInput,
+    live: &Live,
+) -> Result<(), AllocError>
+    requires { IsWellFormed link.now }
+{
+    let entries = entry_sizes(alloc, link, &Small64, live)?;
+    add(line, "entries", &entries)
+}
+
+/// Adds what symbols take in tables, by what has headers and what files take first.
+fn add_by_header(
+    alloc: Global,
+    line: &mut String,
+    link: &LinkInput,
+    live: &Live,
+    header: &HeaderInfo,
+    shares: &[FileShare],
+) -> Result<(), AllocError>
+    requires { IsWellFormed link.now }
+{
+    add_copies(alloc, line, link, live)?;
+    if !link.options.output.is_partial() {
+        add_symbols(alloc, line, link, live, header)?;
+        add_whole(alloc, line, link, live, header, shares)?;
+    }
+    add_entries(alloc, line, link, live)?;
+    add(line, "headers", &header_sizes(link, &Small64, header))?;
+    add_dynamic(alloc, line, link, live, header)
+}
+
 /// Adds what symbols take in tables, by the sizes of the parts and what files take first.
 fn add_taken(
     alloc: Global,
@@ -147,15 +203,7 @@ fn add_taken(
     requires sizes { length sizes.now ≡ length (all_parts link.now.plan.sections) }
 {
     let header = determine_header_sizes(alloc, link, live, sizes)?;
-    add_copies(alloc, line, link, live)?;
-    if !link.options.output.is_partial() {
-        let symbols = symbol_sizes(alloc, link, &Small64, live, &header)?;
-        add(line, "symbols", &symbols)?;
-        add_whole(alloc, line, link, live, &header, shares)?;
-    }
-    add(line, "entries", &entry_sizes(alloc, link, &Small64, live)?)?;
-    add(line, "headers", &header_sizes(link, &Small64, &header))?;
-    add_dynamic(alloc, line, link, live, &header)
+    add_by_header(alloc, line, link, live, &header, shares)
 }
 
 /// Adds what symbols take in tables, where there is a size for each part.

@@ -1,0 +1,309 @@
+//! Where the placement walk puts parts and sections, event after event, and what it refuses.
+//!
+//! A row has the bytes of the headers, those of all parts, the places of symbols as `PART:OFFSET` or `-`, and then a description.
+//! Records are told as in `placed`; refusals as they are.
+
+ghost use Rattle.std.specs.Prelude.{IsTrue};
+ghost use Rattle.lk_link.specs.WellFormed.{IsWellFormed};
+ghost use Rattle.lk_place.specs.Plans.{IsPlaceable};
+
+use crate::placed::add_records;
+use crate::rows::{Asked, expect_rows};
+use lk_check::check_link;
+use lk_input::read_link;
+use lk_link::{LinkInput, List, PartId, Small64};
+use lk_place::{Placed, SymbolPosition, SymbolPositions, compute_layout_sections};
+use lk_test_rows::add;
+use std::alloc::{AllocError, Global};
+use std::test::Fail;
+
+/// Moves of the location, between sections of 8 and 4 bytes.
+const MOVES: &str = r#"
+@ 0 8,4 {"plan":{"page":16,"sections":[{"attrs":1,"parts":[[1,false]]},{"attrs":1,"parts":[[1,false]]}],"segments":[{"kind":"load"}],"events":[...]},"groups":[[{"kind":"prelude"}],[{"kind":"script"}]]}
+["seg",0],["sec",0],["loc",["num",4]],["sec",1],["endseg",0] | ["seg",0],["sec",0],["addr",["num",4]],["sec",1],["endseg",0] => refused LocationBackwards { from: 8, to: 4 }
+["seg",0],["sec",0],["locrel",["num",7],0],["sec",1],["endseg",0] | ["seg",0],["sec",0],["locrel",["num",7],1],["sec",1],["endseg",0] => refused LocationBackwards { from: 8, to: 7 }
+["seg",0],["sec",0],["loc",["num",32]],["sec",1],["endseg",0] | ["seg",0],["sec",0],["locrel",["num",32],0],["sec",1],["endseg",0] | ["seg",0],["sec",0],["loc",["add",["addr",0],["mul",["sizeof",0],["num",4]]]],["sec",1],["endseg",0] => parts 0,8,0,8,1 32,4,32,4,1 sections 0,8,0,8,1 32,4,32,4,1 counters [0, 32]
+["seg",0],["sec",0],["addr",["num",32]],["sec",1],["endseg",0] => parts 0,8,0,8,1 32,4,32,4,1 sections 0,8,0,8,1 32,4,32,4,1 counters [0]
+["seg",0],["locrel",["num",3],0],["sec",0],["sec",1],["endseg",0] => parts 3,8,3,8,1 11,4,11,4,1 sections 3,8,3,8,1 11,4,11,4,1 counters [0, 3]
+# The location is the one that waits, else memory.
+["seg",0],["sec",0],["loc",["add",["dot"],["num",4]]],["sec",1],["endseg",0] => parts 0,8,0,8,1 12,4,12,4,1 sections 0,8,0,8,1 12,4,12,4,1 counters [0, 12]
+["seg",0],["sec",0],["loc",["num",32]],["loc",["add",["dot"],["num",1]]],["sec",1],["endseg",0] => parts 0,8,0,8,1 33,4,33,4,1 sections 0,8,0,8,1 33,4,33,4,1 counters [0, 32, 33]
+["seg",0],["sec",0],["sec",1],["loc",["num",99]],["endseg",0] => parts 0,8,0,8,1 8,4,8,4,1 sections 0,8,0,8,1 8,4,8,4,1 counters [0, 99]
+# A load segment opens at a location that waits, and the next section takes it all the same.
+["loc",["num",40]],["seg",0],["sec",0],["sec",1],["endseg",0] => parts 40,8,8,8,1 48,4,16,4,1 sections 40,8,8,8,1 48,4,16,4,1 counters [0, 40]
+["seg",0],["sec",0],["loc",["num",18446744073709551611]],["sec",1],["endseg",0] => parts 0,8,0,8,1 18446744073709551611,4,18446744073709551611,4,1 sections 0,8,0,8,1 18446744073709551611,4,18446744073709551611,4,1 counters [0, 18446744073709551611]
+["seg",0],["sec",0],["loc",["num",18446744073709551612]],["sec",1],["endseg",0] => refused AddressOverflow { place: Event(3) }
+["seg",0],["sec",0],["loc",["div",["num",1],["num",0]]],["sec",1],["endseg",0] => refused Expression { place: Event(2), cause: DivideByZero }
+["seg",0],["loc",["addr",0]],["sec",0],["sec",1],["endseg",0] | ["seg",0],["loc",["sizeof",1]],["sec",0],["sec",1],["endseg",0] => refused Expression { place: Event(1), cause: NoAddress }
+["seg",0],["sec",0],["sec",1],["endseg",0],["addr",["sub",["dot"],["num",13]]] => refused Expression { place: Event(4), cause: Overflow }
+# What takes no bytes of the file, or has no memory, may go back; the file alone may pass its end.
+@ 0 8,4 {"plan":{"page":16,"base":["num",64],"sections":[...],"segments":[{"kind":"load"}],"events":[["seg",0],["sec",0],["locrel",["num",3],0],["sec",1],["endseg",0]]},"groups":[[{"kind":"prelude"}],[{"kind":"script"}]]}
+{"attrs":0,"parts":[[1,false]]},{"attrs":0,"parts":[[1,false]]} => parts 0,8,0,8,1 0,4,8,4,1 sections 0,8,0,8,1 0,4,8,4,1 counters [64, 3]
+{"attrs":1,"parts":[[1,false]]},{"attrs":17,"parts":[[1,false]]} => refused LocationBackwards { from: 64, to: 3 }
+@ 0 8,4 {"plan":{"page":16,"sections":[{"attrs":1,"parts":[[1,false]]},{"attrs":17,"parts":[[1,false]]}],"segments":[{"kind":"load"}],"events":[["seg",0],["sec",0],["addr",["num",...]],["sec",1],["endseg",0]]},"groups":[[{"kind":"prelude"}]]}
+2 => parts 0,8,0,8,1 2,4,8,0,1 sections 0,8,0,8,1 2,4,8,0,1 counters [0]
+18446744073709551611 => parts 0,8,0,8,1 18446744073709551611,4,8,0,1 sections 0,8,0,8,1 18446744073709551611,4,8,0,1 counters [0]
+18446744073709551612 => refused AddressOverflow { place: Event(3) }
+@ 0 8,0 {"plan":{"page":16,"sections":[{"attrs":0,"parts":[[1,false]]},{"attrs":1,"parts":[[1,false]]}],"segments":[{"kind":"load"}],"events":[["seg",0],["sec",0],["addr",["num",...]],["sec",1],["endseg",0]]},"groups":[[{"kind":"prelude"}]]}
+18446744073709551607 => parts 0,8,0,8,1 18446744073709551607,0,18446744073709551615,0,1 sections 0,8,0,8,1 18446744073709551607,0,18446744073709551615,0,1 counters [0]
+18446744073709551608 => refused AddressOverflow { place: Event(3) }
+# A symbol has an address where its part is placed.
+@ 0 8,4 0:4 1:0 - {"plan":{"page":16,"sections":[{"attrs":1,"parts":[[1,false]]},{"attrs":1,"parts":[[1,false]]}],"segments":[{"kind":"load"}],"events":[["seg",0],["sec",0],["addr",["add",["sym",...],["num",9]]],["sec",1],["endseg",0]]},"groups":[[{"kind":"prelude"}],[{"kind":"object","symbols":[{"at":["sec",0,4]},{"at":["sec",1,0]},{"at":["sec",1,1]},{"at":["undef"]},{"at":["abs",20]}],"sections":[{"slot":"must","size":8},{"slot":"must","part":1,"size":4}]}]]}
+0 => parts 0,8,0,8,1 13,4,13,4,1 sections 0,8,0,8,1 13,4,13,4,1 counters [0]
+4 => parts 0,8,0,8,1 29,4,29,4,1 sections 0,8,0,8,1 29,4,29,4,1 counters [0]
+1 | 2 => refused Expression { place: Event(2), cause: NoAddress }
+3 => refused Expression { place: Event(2), cause: Missing }
+# In partial output all counts from 0, and a location moves the file all the same.
+@ 0 4,4 {"plan":{"page":16,"sections":[{"attrs":1,"parts":[[1,false]]},{"attrs":1,"parts":[[1,false]]}],"segments":[],"events":[["sec",0],["addr",["num",100]],["sec",1]]},"groups":[[{"kind":"prelude"}]],"options":{"output":"partial"}}
+ => parts 0,4,0,4,1 0,4,104,4,1 sections 0,4,0,4,1 0,4,104,4,1 counters [0]
+"#;
+
+/// Regions.
+const REGIONS: &str = r#"
+@ 0 ... {"plan":{"page":16,"sections":[{"attrs":1,"region":"ram","parts":[[1,false]]}],"segments":[{"kind":"load"}],"regions":[{"name":"ram","origin":["num",256],"length":["num",8]}],"events":[["seg",0],["sec",0],["endseg",0]]},"groups":[[{"kind":"prelude"}]]}
+8 => parts 256,8,0,8,1 sections 256,8,0,8,1 counters [0]
+9 => refused RegionOverflow { region: RegionId { number: 0 }, by: 1 }
+18446744073709551359 => refused RegionOverflow { region: RegionId { number: 0 }, by: 18446744073709551351 }
+18446744073709551360 => refused AddressOverflow { place: Event(1) }
+# What is used stays used, also where something else stands between; the second section stands in no region.
+@ 0 ... {"plan":{"page":16,"sections":[{"attrs":1,"region":"ram","parts":[[1,false]]},{"attrs":1,"parts":[[1,false]]},{"attrs":1,"region":"ram","parts":[[1,false]]}],"segments":[{"kind":"load"}],"regions":[{"name":"rom","origin":["num",0],"length":["num",0]},{"name":"ram","origin":["num",256],"length":["num",8]}],"events":[["seg",0],["sec",0],["sec",1],["sec",2],["endseg",0]]},"groups":[[{"kind":"prelude"}]]}
+4,2,4 => parts 256,4,0,4,1 260,2,4,2,1 260,4,6,4,1 sections 256,4,0,4,1 260,2,4,2,1 260,4,6,4,1 counters [0]
+4,2,5 => refused RegionOverflow { region: RegionId { number: 1 }, by: 1 }
+10,2,5 => refused RegionOverflow { region: RegionId { number: 1 }, by: 2 }
+# Locations inside.
+@ 0 6 {"plan":{"page":16,"sections":[{"attrs":1,"region":"ram","parts":[[1,false]]}],"segments":[{"kind":"load"}],"regions":[{"name":"ram","origin":["num",256],"length":["num",8]}],"events":[["seg",0],["addr",["num",...]],["sec",0],["endseg",0]]},"groups":[[{"kind":"prelude"}]]}
+256 => parts 256,6,0,6,1 sections 256,6,0,6,1 counters [0]
+258 => parts 258,6,2,6,1 sections 258,6,2,6,1 counters [0]
+264 => refused RegionOverflow { region: RegionId { number: 0 }, by: 6 }
+265 => refused OutsideRegion { event: 2, address: 265 }
+268 => refused OutsideRegion { event: 2, address: 268 }
+255 => refused OutsideRegion { event: 2, address: 255 }
+# A second section's location begins where the first ends, and may stand at the end of a region as long that begins there.
+@ 0 4,2 {"plan":{"page":16,"sections":[{"attrs":1,"region":"ram","parts":[[1,false]]},{"attrs":1,"region":"ram","parts":[[1,false]]}],"segments":[{"kind":"load"}],"regions":[{"name":"ram","origin":["num",256],"length":["num",8]}],"events":[["seg",0],["sec",0],["addr",["num",...]],["sec",1],["endseg",0]]},"groups":[[{"kind":"prelude"}]]}
+262 => parts 256,4,0,4,1 262,2,6,2,1 sections 256,4,0,4,1 262,2,6,2,1 counters [0]
+266 => refused RegionOverflow { region: RegionId { number: 0 }, by: 4 }
+268 => refused RegionOverflow { region: RegionId { number: 0 }, by: 6 }
+259 => refused OutsideRegion { event: 3, address: 259 }
+269 => refused OutsideRegion { event: 3, address: 269 }
+# A bound that is only compared may pass 2^64 - 1.
+@ 0 ... {"plan":{"page":16,"sections":[{"attrs":1,"region":"r","parts":[[1,false]]}],"segments":[{"kind":"load"}],"regions":[{"name":"r","origin":["num",18446744073709551615],"length":["num",18446744073709551615]}],"events":[["seg",0],["sec",0],["endseg",0]]},"groups":[[{"kind":"prelude"}]]}
+0 => parts 18446744073709551615,0,0,0,1 sections 18446744073709551615,0,0,0,1 counters [0]
+1 => refused AddressOverflow { place: Event(1) }
+# Regions that aren't there, and names that stand twice.
+@ 0 9,9 {"plan":{"page":16,"sections":[{"attrs":1...,"parts":[[1,false]]}],"segments":[{"kind":"load"}],"events":[["seg",0],["sec",0],["sec",1],["endseg",0]]},"groups":[[{"kind":"prelude"}]]}
+,"region":"ram","parts":[[1,false]]},{"attrs":1 => refused RegionUnknown { section: OutputSectionId { number: 0 } }
+,"parts":[[1,false]]},{"attrs":1,"region":"ram" => refused RegionUnknown { section: OutputSectionId { number: 1 } }
+@ 0 9,9 {"plan":{"page":16,"sections":[{"attrs":1,"region":"ram","parts":[[1,false]]},{"attrs":1,"region":"rom","parts":[[1,false]]}],"segments":[{"kind":"load"}],"regions":[...],"events":[["seg",0],["sec",0],["sec",1],["endseg",0]]},"groups":[[{"kind":"prelude"}]]}
+{"name":"ram","origin":["num",256],"length":["num",8]} => refused RegionOverflow { region: RegionId { number: 0 }, by: 1 }
+{"name":"ram","origin":["num",256],"length":["num",9]} => refused RegionUnknown { section: OutputSectionId { number: 1 } }
+{"name":"ram","origin":["num",256],"length":["num",9]},{"name":"ram","origin":["num",256],"length":["num",9]} => refused RegionDuplicate { region: RegionId { number: 1 } }
+{"name":"ram","origin":["num",256],"length":["headers"]} => refused Expression { place: Region(0), cause: NoAddress }
+{"name":"ram","origin":["num",256],"length":["num",9]},{"name":"rom","origin":["num",0],"length":["num",9]},{"name":"rom","origin":["num",0],"length":["num",9]} => refused RegionDuplicate { region: RegionId { number: 2 } }
+{"name":"ram","origin":["num",256],"length":["num",9]},{"name":"rom","origin":["num",0],"length":["div",["num",1],["num",0]]} => refused Expression { place: Region(1), cause: DivideByZero }
+# The name of a region comes before its numbers, and both before the next region's.
+{"name":"ram","origin":["num",256],"length":["num",9]},{"name":"ram","origin":["dot"],"length":["num",9]} => refused RegionDuplicate { region: RegionId { number: 1 } }
+{"name":"ram","origin":["num",256],"length":["dot"]},{"name":"ram","origin":["num",256],"length":["num",9]} => refused Expression { place: Region(0), cause: NoAddress }
+{"name":"ram","origin":["sub",["num",0],["num",1]],"length":["div",["num",1],["num",0]]} => refused Expression { place: Region(0), cause: Overflow }
+# A section without memory uses nothing of its region, but what a location takes.
+@ 0 9 {"plan":{"page":16,"sections":[{"attrs":0,"region":"r","parts":[[1,false]]}],"segments":[{"kind":"load"}],"regions":[{"name":"r","origin":["num",0],"length":["num",1]}],"events":[["seg",0],["sec",0],["endseg",0]]},"groups":[[{"kind":"prelude"}]]}
+ => parts 0,9,0,9,1 sections 0,9,0,9,1 counters [0]
+# Nor does one of partial output, where a region moves nothing.
+@ 0 9 {"options":{"output":"partial"},"plan":{"page":16,"sections":[{"attrs":1,"region":"r","parts":[[1,false]]}],"regions":[{"name":"r","origin":["num",256],"length":["num",1]}],"events":[...["sec",0]]},"groups":[[{"kind":"prelude"}]]}
+ => parts 0,9,0,9,1 sections 0,9,0,9,1 counters [0]
+["addr",["num",257]], => parts 0,9,1,9,1 sections 0,9,1,9,1 counters [0]
+["addr",["num",258]], => refused OutsideRegion { event: 1, address: 258 }
+# Zero-fill thread-local data use their region up.
+@ 0 4,2 {"plan":{"page":16,"sections":[{"attrs":25,"region":"ram","parts":[[1,false]]},{"attrs":1,"region":"ram","parts":[[1,false]]}],"segments":[{"kind":"load"}],"regions":[{"name":"ram","origin":["num",256],"length":["num",...]}],"events":[["seg",0],["sec",0],["sec",1],["endseg",0]]},"groups":[[{"kind":"prelude"}]]}
+6 => parts 256,4,0,0,1 260,2,0,2,1 sections 256,4,0,0,1 260,2,0,2,1 counters [0]
+5 => refused RegionOverflow { region: RegionId { number: 0 }, by: 1 }
+# A region as long as memory.
+@ 0 ... {"plan":{"page":16,"sections":[{"attrs":1,"region":"r","parts":[[1,false]]},{"attrs":1,"region":"r","parts":[[1,false]]}],"segments":[{"kind":"load"}],"regions":[{"name":"r","origin":["num",0],"length":["num",18446744073709551615]}],"events":[["seg",0],["sec",0],["sec",1],["endseg",0]]},"groups":[[{"kind":"prelude"}]]}
+18446744073709551615,0 => parts 0,18446744073709551615,0,18446744073709551615,1 18446744073709551615,0,18446744073709551615,0,1 sections 0,18446744073709551615,0,18446744073709551615,1 18446744073709551615,0,18446744073709551615,0,1 counters [0]
+18446744073709551615,1 => refused AddressOverflow { place: Event(2) }
+"#;
+
+/// Thread-local data, parts, bases, and the ends of numbers.
+const WALKS: &str = r#"
+# Zero-fill data give memory back, also where a load segment opens behind them.
+@ 0 4,16,4 {"plan":{"page":4096,"base":["num",4096],"sections":[{"attrs":9,"parts":[[4,false]]},{"attrs":25,"parts":[[16,false]]},{"attrs":1,"parts":[[4,false]]}],"segments":[{"kind":"load"},{"kind":"load"}],"events":[...]},"groups":[[{"kind":"prelude"}]]}
+["seg",0],["sec",0],["sec",1],["sec",2],["endseg",0],["seg",1],["endseg",1] | ["seg",0],["sec",0],["sec",1],["endseg",0],["seg",1],["sec",2],["endseg",1] => parts 4096,4,0,4,4 4112,16,4,0,16 4100,4,4,4,4 sections 4096,4,0,4,4 4112,16,4,0,16 4100,4,4,4,4 counters [4096]
+# The first of a run is rounded up for all, without bytes too, and the file with it.
+@ 0 1,0,1 {"plan":{"page":16,"sections":[{"attrs":1,"parts":[[1,false]]},{"attrs":9,"parts":[[1,false]],"align":64},{"attrs":1,"parts":[[1,false]]}],"segments":[{"kind":"load"}],"events":[["seg",0],["sec",0],["sec",1],["sec",2],["endseg",0]]},"groups":[[{"kind":"prelude"}]]}
+ => parts 0,1,0,1,1 64,0,64,0,64 64,1,64,1,1 sections 0,1,0,1,1 64,0,64,0,64 64,1,64,1,1 counters [0]
+# Runs that are broken by an empty section, and one whose first section takes a location.
+@ 0 1,2,0,2,8 {"plan":{"page":16,"sections":[{"attrs":1,"parts":[[1,false]]},{"attrs":9,"parts":[[2,false]]},{"attrs":...,"parts":[[1,false]]},{"attrs":9,"parts":[[2,false]]},{"attrs":25,"parts":[[8,false]]}],"segments":[{"kind":"load"}],"events":[["seg",0],["sec",0],["sec",1],["sec",2],["sec",3],["sec",4],["endseg",0]]},"groups":[[{"kind":"prelude"}]]}
+1 => parts 0,1,0,1,1 8,2,8,2,2 10,0,10,0,1 16,2,16,2,2 24,8,18,0,8 sections 0,1,0,1,1 8,2,8,2,2 10,0,10,0,1 16,2,16,2,2 24,8,18,0,8 counters [0]
+9 => parts 0,1,0,1,1 8,2,8,2,2 10,0,10,0,1 10,2,10,2,2 16,8,12,0,8 sections 0,1,0,1,1 8,2,8,2,2 10,0,10,0,1 10,2,10,2,2 16,8,12,0,8 counters [0]
+@ 0 1,2,8 {"plan":{"page":16,"sections":[{"attrs":1,"parts":[[1,false]]},{"attrs":9,"parts":[[2,false]]},{"attrs":25,"parts":[[8,false]]}],"segments":[{"kind":"load"}],"events":[["seg",0],["sec",0],["addr",["num",...]],["sec",1],["sec",2],["endseg",0]]},"groups":[[{"kind":"prelude"}]]}
+2 => parts 0,1,0,1,1 2,2,2,2,2 8,8,4,0,8 sections 0,1,0,1,1 2,2,2,2,2 8,8,4,0,8 counters [0]
+# A secondary of zero-fill data that its primary backs, and an empty section at its own alignment.
+@ 0 4,4,4 {"plan":{"page":16,"sections":[{"attrs":1,"parts":[[1,false]]},{"attrs":24,"parts":[[1,false]],"primary":0},{"attrs":1,"parts":[[1,false]]}],"segments":[{"kind":"load"}],"events":[["seg",0],["sec",0],["sec",1],["sec",2],["endseg",0]]},"groups":[[{"kind":"prelude"}]]}
+ => parts 0,4,0,4,1 4,4,4,4,1 4,4,8,4,1 sections 0,4,0,4,1 4,4,4,4,1 4,4,8,4,1 counters [0]
+@ 0 1,0 {"plan":{"page":16,"sections":[{"attrs":1,"parts":[[1,false]]},{"attrs":1,"parts":[[64,false]]}],"segments":[{"kind":"load"}],"events":[["seg",0],["sec",0],["sec",1],["endseg",0]]},"groups":[[{"kind":"prelude"}]]}
+ => parts 0,1,0,1,1 1,0,1,0,1 sections 0,1,0,1,1 1,0,1,0,1 counters [0]
+# The parts of a section: those with bytes are walked, the first at the greatest alignment; the others rest beside it.
+@ 0 ... {"plan":{"page":1,"base":["num",1],"sections":[{"attrs":1,"parts":[[8,false],[4,false],[2,false]]}],"segments":[{"kind":"load"}],"events":[["seg",0],["sec",0],["endseg",0]]},"groups":[[{"kind":"prelude"}]]}
+3,5,0 => parts 8,3,0,3,8 12,5,4,5,4 8,0,0,0,2 sections 8,9,0,9,8 counters [1]
+0,5,0 => parts 4,0,0,0,8 4,5,0,5,4 4,0,0,0,2 sections 4,5,0,5,4 counters [1]
+# Where memory begins, by headers of 512 bytes.
+@ 512 8 {"plan":{"page":4096,"sections":[{"attrs":1,"parts":[[1,false]]}],"segments":[{"kind":"load"}],"events":[["seg",0],["sec",0],["endseg",0]],"base":["num",...},"groups":[[{"kind":"prelude"}]]}
+65536],"custom_base":true => parts 61440,8,0,8,1 sections 61440,8,0,8,1 counters [65536]
+66304],"custom_base":true => parts 65536,8,0,8,1 sections 65536,8,0,8,1 counters [66304]
+66304] => parts 69632,8,0,8,1 sections 69632,8,0,8,1 counters [66304]
+256],"custom_base":true => refused BaseTooLow { base: 256, headers: 512 }
+18446744073709547520] => parts 18446744073709547520,8,0,8,1 sections 18446744073709547520,8,0,8,1 counters [18446744073709547520]
+18446744073709547521] => refused AddressOverflow { place: Event(0) }
+# Bytes up to the end of memory.
+@ 0 ... {"plan":{"page":1,"sections":[{"attrs":1,"parts":[[1,false]]},{"attrs":1,"parts":[[1,false]]}],"segments":[{"kind":"load"}],"events":[["seg",0],["sec",0],["sec",1],["endseg",0]]},"groups":[[{"kind":"prelude"}]]}
+18446744073709551615,0 => parts 0,18446744073709551615,0,18446744073709551615,1 18446744073709551615,0,18446744073709551615,0,1 sections 0,18446744073709551615,0,18446744073709551615,1 18446744073709551615,0,18446744073709551615,0,1 counters [0]
+18446744073709551615,1 => refused AddressOverflow { place: Event(2) }
+@ 0 ... {"plan":{"page":1,"base":["num",1],"sections":[{"attrs":1,"parts":[[1,false]]}],"segments":[{"kind":"load"}],"events":[["seg",0],["sec",0],["endseg",0]]},"groups":[[{"kind":"prelude"}]]}
+18446744073709551614 => parts 1,18446744073709551614,0,18446744073709551614,1 sections 1,18446744073709551614,0,18446744073709551614,1 counters [1]
+18446744073709551615 => refused AddressOverflow { place: Event(1) }
+# What a base can be worth: before memory begins a location is 0, and nothing has an address.
+@ 0 8 {"plan":{"page":16,"sections":[{"attrs":1,"parts":[[1,false]]}],"segments":[{"kind":"load"}],"regions":[{"name":"r","origin":["num",32],"length":["num",8]}],"events":[["seg",0],["sec",0],["endseg",0]],"base":...},"groups":[[{"kind":"prelude"}]]}
+["dot"] => parts 0,8,0,8,1 sections 0,8,0,8,1 counters [0]
+["add",["origin",0],["length",0]] => parts 48,8,0,8,1 sections 48,8,0,8,1 counters [40]
+["addr",0] | ["sizeof",0] => refused Expression { place: Base, cause: NoAddress }
+["div",["num",1],["num",0]] => refused Expression { place: Base, cause: DivideByZero }
+["sub",["num",1],["num",2]] => refused Expression { place: Base, cause: Overflow }
+# What is rounded up passes the end of memory: a part, the first of a thread-local run; and without memory a count of its own,
+# where the file stands still.
+@ 0 0,0 {"plan":{"page":1,"base":["num",18446744073709551615],"sections":[{"attrs":1,"parts":[[1,false]]},{"attrs":...,false]]}],"events":[["sec",0],["sec",1]]},"groups":[[{"kind":"prelude"}]]}
+1,"parts":[[2 => parts 18446744073709551615,0,0,0,1 18446744073709551615,0,0,0,1 sections 18446744073709551615,0,0,0,1 18446744073709551615,0,0,0,1 counters [18446744073709551615]
+1,"align":2,"parts":[[1 | 9,"align":2,"parts":[[1 => refused AddressOverflow { place: Event(1) }
+@ 0 ... {"plan":{"page":1,"sections":[{"attrs":16,"parts":[[2,false],[1,false]]}],"events":[["sec",0]]},"groups":[[{"kind":"prelude"}]]}
+18446744073709551614,1 => parts 0,18446744073709551614,0,0,2 18446744073709551614,1,0,0,1 sections 0,18446744073709551615,0,0,2 counters [0]
+18446744073709551614,2 | 18446744073709551615,1 => refused AddressOverflow { place: Event(0) }
+"#;
+
+/// The place of a symbol that a word tells.
+fn position_of(word: &str) -> Option<SymbolPosition> {
+    let (part, offset) = word.split_once(':')?;
+    Some(SymbolPosition {
+        part: PartId::from_u32(part.parse::<u32>().ok()?),
+        offset: offset.parse::<u64>().ok()?,
+    })
+}
+
+/// The numbers that a word tells, with commas between.
+fn numbers_of(alloc: Global, word: &str) -> Result<Vec<u64>, AllocError> {
+    let mut numbers = Vec::new(alloc);
+    for digits in word.split(',') {
+        numbers.push(digits.parse::<u64>().unwrap_or(0))?;
+    }
+    Ok(numbers)
+}
+
+/// What is given beside the link.
+#[derive(Clone, Copy)]
+struct Given<'a> {
+    headers: u64,
+    sizes: &'a [u64],
+    positions: &'a SymbolPositions,
+}
+
+/// Adds where all stands.
+fn add_all(line: &mut String, placed: &Placed) -> Result<(), AllocError> {
+    add_records(line, "parts", placed.parts.as_slice())?;
+    add_records(line, "sections", placed.sections.as_slice())?;
+    add(line, "counters", &placed.counters.as_slice())
+}
+
+/// Whether no section of a link has a load address, which no walk takes yet.
+fn is_placeable(link: &LinkInput) -> bool
+    ensures { IsTrue result → IsPlaceable link.now.plan link.now.options.output }
+{
+    for section in link.plan.sections.as_slice() {
+        if section.at.is_some() {
+            return false;
+        }
+    }
+    true
+}
+
+/// Adds where all stands, or the refusal.
+fn add_walked(
+    alloc: Global,
+    line: &mut String,
+    link: &LinkInput,
+    given: Given<'_>,
+) -> Result<(), AllocError>
+    requires { IsWellFormed link.now }
+{
+    if given.sizes.len() != link.plan.sections.parts().len() || !is_placeable(link) {
+        return line.push_str("other parts, or a load address");
+    }
+    match compute_layout_sections(
+        alloc,
+        link,
+        given.sizes,
+        given.positions,
+        given.headers,
+        &Small64,
+    ) {
+        Ok(placed) => add_all(line, &placed),
+        Err(error) => add(line, "refused", &error),
+    }
+}
+
+/// The same of a link that is well formed.
+fn add_checked(
+    alloc: Global,
+    line: &mut String,
+    link: &LinkInput,
+    given: Given<'_>,
+) -> Result<(), AllocError> {
+    match check_link(link) {
+        Ok(()) => add_walked(alloc, line, link, given),
+        Err(fault) => add(line, "fault", &fault),
+    }
+}
+
+/// The same of the link that a text stands for.
+fn add_read(
+    alloc: Global,
+    line: &mut String,
+    text: &str,
+    given: Given<'_>,
+) -> Result<(), AllocError> {
+    match &read_link(alloc, text.as_bytes()) {
+        Ok(link) => add_checked(alloc, line, link, given),
+        Err(error) => write!(line, "no link: {error}"),
+    }
+}
+
+/// Adds where all stands by what a row tells.
+pub fn add_walk(alloc: Global, line: &mut String, row: &str) -> Result<(), AllocError> {
+    let (told, text) = row.split_once(" {").unwrap_or((row, ""));
+    let mut words = told.split_whitespace();
+    let headers = words.next().unwrap_or("").parse::<u64>().unwrap_or(0);
+    let sizes = numbers_of(alloc, words.next().unwrap_or(""))?;
+    let mut positions = Vec::new(alloc);
+    for word in words {
+        positions.push(position_of(word))?;
+    }
+    let positions = SymbolPositions::new(List::from_vec(positions));
+    let text = format!(in alloc; "{{{text}")?;
+    let given = Given {
+        headers,
+        sizes: &sizes,
+        positions: &positions,
+    };
+    add_read(alloc, line, text.as_str(), given)
+}
+
+#[test]
+fn locations_move_what_comes_next(rt: HostRuntime) -> Result<(), Fail> {
+    expect_rows(&rt, rt.alloc(), Asked::Walked, MOVES)
+}
+
+#[test]
+fn regions_hold_their_sections(rt: HostRuntime) -> Result<(), Fail> {
+    expect_rows(&rt, rt.alloc(), Asked::Walked, REGIONS)
+}
+
+#[test]
+fn sections_stand_behind_one_another(rt: HostRuntime) -> Result<(), Fail> {
+    expect_rows(&rt, rt.alloc(), Asked::Walked, WALKS)
+}
