@@ -1,6 +1,7 @@
 //! What is live, what that brings to the parts, and which sections and segments are told.
 
-ghost use Rattle.std.specs.Prelude.{◌≡◌, length};
+ghost use Rattle.std.specs.Prelude.{◌≡◌, false, length};
+ghost use Rattle.lk_link.specs.OutputKinds.{is_partial};
 ghost use Rattle.lk_link.specs.Parts.{all_parts};
 ghost use Rattle.lk_link.specs.WellFormed.{IsWellFormed};
 ghost use Rattle.lk_gc.specs.Reach.{AreLive};
@@ -9,10 +10,11 @@ use crate::rows::{Asked, expect_rows};
 use crate::shown::Shown;
 use lk_check::check_link;
 use lk_gc::{Live, traverse_alone};
-use lk_link::LinkInput;
+use lk_link::{LinkInput, Small64};
+use lk_sizes::part_owners::owners;
 use lk_sizes::{
-    HeaderInfo, PartContents, SizeError, determine_header_sizes, image_addresses, part_contents,
-    part_sizes, propagate_section_attributes,
+    HeaderInfo, PartContents, PartOwners, SizeError, image_addresses, part_sizes,
+    propagate_section_attributes,
 };
 use lk_test_rows::add;
 use std::alloc::{AllocError, Global};
@@ -28,6 +30,13 @@ const LIVE: &str = r#"
 const SIZES: &str = r#"
 {"plan":{"page":16,"sections":[{"attrs":1,"parts":[[8,false]]},{"attrs":16,"parts":[[4,true]]}],"segments":[{"kind":"load"},{"kind":"other"}],"events":[["sec",1],["seg",0],["sec",0],["endseg",0],["seg",1],["endseg",1]]},"groups":[[{"kind":"prelude"},{"kind":"object","sections":[{"slot":"must","size":7,"attrs":2},{"slot":"must"},{"slot":"must","size":8,"attrs":4}]}]]} => parts [PartContents { bytes: 16, has_image: false, attrs: 6 }, PartContents { bytes: 0, has_image: false, attrs: 0 }] attributes [7, 16] sizes [16, 0] images [0, 0] headers ([true, false], [Some(0), None], [SegmentId { number: 0 }])
 {"plan":{"page":16,"sections":[{"attrs":1,"parts":[[4,false],[1,false]]},{"attrs":1,"parts":[[1,true]]}],"segments":[{"kind":"load"}],"events":[["seg",0],["sec",0],["sec",1],["endseg",0]]},"groups":[[{"kind":"prelude"},{"kind":"object","sections":[{"slot":"must","size":3},{"slot":"must","part":1,"size":5},{"slot":"merge","part":1,"data":"6100","attrs":2},{"slot":"merge","part":2}]}]]} => parts [PartContents { bytes: 4, has_image: false, attrs: 0 }, PartContents { bytes: 11, has_image: true, attrs: 2 }, PartContents { bytes: 0, has_image: true, attrs: 0 }] attributes [3, 1] sizes [4, 11, 0] images [111, 100] headers ([true, false], [Some(0), None], [SegmentId { number: 0 }])
+# With tables: entries of both kinds of one symbol; two exported symbols; headers, which keep no section; an export of the prelude,
+# which keeps one; and the identity, which does as well.
+{"plan":{"page":16,"sections":[{"attrs":1,"parts":[[16,false],[8,false],[1,false]]}],"segments":[{"kind":"load"}],"events":[["seg",0],["sec",0],["endseg",0]],"plt":0,"got":1},"groups":[[{"kind":"prelude"}],[{"kind":"object","sections":[{"slot":"must","part":2,"size":4,"relocs":[[0,"PltRelative",0,0,false],[0,"GotTpOff",0,0,false]]}],"symbols":[{"at":["sec",0,0],"name":"x"}]}]]} => parts [PartContents { bytes: 16, has_image: false, attrs: 0 }, PartContents { bytes: 16, has_image: false, attrs: 0 }, PartContents { bytes: 4, has_image: false, attrs: 0 }] attributes [1] sizes [16, 16, 4] images [0] headers ([true], [Some(0)], [SegmentId { number: 0 }])
+{"options":{"output":"shared"},"plan":{"page":16,"sections":[{"attrs":1,"parts":[[8,false],[1,false]]},{"attrs":1,"parts":[[4,false]]}],"segments":[{"kind":"load"}],"events":[["seg",0],["sec",0],["sec",1],["endseg",0]],"dynsym":0,"dynstr":1},"groups":[[{"kind":"prelude"}],[{"kind":"object","sections":[{"slot":"must","part":2,"size":4}],"symbols":[{"at":["sec",0,0],"name":"a"},{"at":["sec",0,0],"name":"bb"}]}]]} => parts [PartContents { bytes: 72, has_image: false, attrs: 0 }, PartContents { bytes: 6, has_image: false, attrs: 0 }, PartContents { bytes: 4, has_image: false, attrs: 0 }] attributes [1, 1] sizes [72, 6, 4] images [0, 0] headers ([true, true], [Some(0), Some(1)], [SegmentId { number: 0 }])
+{"plan":{"page":4096,"base":["num",4096],"sections":[{"name":"H","attrs":1,"parts":[[8,false],[4,false]]},{"name":"A","attrs":1,"parts":[[8,false]]},{"name":"B","attrs":1,"parts":[[1,false]]},{"name":"C","attrs":17,"parts":[[16,false]]}],"segments":[{"kind":"load"}],"events":[["seg",0],["sec",0],["sec",1],["sec",2],["sec",3],["endseg",0]],"file_header":0,"program_headers":1},"groups":[[{"kind":"prelude"}],[{"kind":"object","name":"a.o","sections":[{"slot":"must","part":2,"size":8},{"slot":"must","part":3,"size":7},{"slot":"must","part":4,"size":16}]}]]} => parts [PartContents { bytes: 64, has_image: false, attrs: 0 }, PartContents { bytes: 56, has_image: false, attrs: 0 }, PartContents { bytes: 8, has_image: false, attrs: 0 }, PartContents { bytes: 7, has_image: false, attrs: 0 }, PartContents { bytes: 16, has_image: false, attrs: 0 }] attributes [1, 1, 1, 17] sizes [64, 56, 8, 7, 16] images [0, 0, 0, 0] headers ([false, true, true, true], [None, Some(0), Some(1), Some(2)], [SegmentId { number: 0 }])
+{"plan":{"page":16,"sections":[{"attrs":1,"parts":[[8,false]]}],"segments":[{"kind":"load"}],"events":[["seg",0],["sec",0],["endseg",0]],"dynsym":0},"options":{"output":"shared"},"groups":[[{"kind":"prelude","symbols":[{"at":["redirect",["num",1],["none"],false]}]}]]} => parts [PartContents { bytes: 48, has_image: false, attrs: 0 }] attributes [1] sizes [48] images [0] headers ([true], [Some(0)], [SegmentId { number: 0 }])
+{"plan":{"page":16,"sections":[{"attrs":0,"parts":[[1,false]]}],"segments":[],"events":[["sec",0]],"comment":0},"groups":[[{"kind":"prelude"}]],"options":{"identity":"x"}} => parts [PartContents { bytes: 10, has_image: false, attrs: 0 }] attributes [0] sizes [10] images [0] headers ([true], [Some(0)], [])
 "#;
 
 /// The bytes of three parts, which together are at most 2^64 - 1; or the first part at which they pass it.
@@ -52,6 +61,14 @@ const SUMS: &str = r#"
 "symbols":[{"at":["common",0,18446744073709551615]}],"sections":[{"slot":"must","size":1}] => sizes [1, 0, 0]
 "sections":[{"slot":"merge","data":"6100"},{"slot":"must","size":18446744073709551609}] => sizes [18446744073709551615, 0, 0]
 "sections":[{"slot":"merge","data":"6100"},{"slot":"must","size":18446744073709551610}] => refused AddressOverflow { place: Part(0) }
+# A table's bytes: the empty name that begins the names of symbols, and the names of the emitted sections. The identity's.
+@ {"options":{"identity":"x"},"plan":{"page":1,"sections":[{"parts":[[1,false]]},{"parts":[[1,false]]},{"parts":[[1,false]]}],"events":[["sec",0],["sec",1],["sec",2]],...}]}]]}
+"strtab":0},"groups":[[{"kind":"prelude"}],[{"kind":"object","sections":[{"slot":"must","part":1,"size":18446744073709551614 => sizes [1, 18446744073709551614, 0]
+"strtab":0},"groups":[[{"kind":"prelude"}],[{"kind":"object","sections":[{"slot":"must","part":1,"size":18446744073709551615},{"slot":"must","part":2,"size":1 => refused AddressOverflow { place: Part(1) }
+"shstrtab":0},"groups":[[{"kind":"prelude"}],[{"kind":"object","sections":[{"slot":"must","part":1,"size":18446744073709551614 => sizes [1, 18446744073709551614, 0]
+"shstrtab":0},"groups":[[{"kind":"prelude"}],[{"kind":"object","sections":[{"slot":"must","part":1,"size":18446744073709551614},{"slot":"must","part":2,"size":9223372036854775808},{"slot":"must","part":2,"size":9223372036854775808 => refused AddressOverflow { place: Part(1) }
+"comment":0},"groups":[[{"kind":"prelude"}],[{"kind":"object","sections":[{"slot":"must","part":1,"size":18446744073709551605 => sizes [10, 18446744073709551605, 0]
+"comment":0},"groups":[[{"kind":"prelude"}],[{"kind":"object","sections":[{"slot":"must","part":1,"size":18446744073709551606 => refused AddressOverflow { place: Part(1) }
 "#;
 
 /// The lengths of the images of the first two output sections, where something is merged there.
@@ -83,27 +100,17 @@ pub fn add_live(alloc: Global, line: &mut String, link: &LinkInput) -> Result<()
     }
 }
 
-/// Adds which sections and segments are told, by what is live and the sizes of the parts.
-fn add_headers(
-    alloc: Global,
-    line: &mut String,
-    link: &LinkInput,
-    live: &Live,
-    sizes: &[u64],
-) -> Result<(), AllocError>
-    requires good { IsWellFormed link.now }
-    requires sizes { length sizes.now ≡ length (all_parts link.now.plan.sections) }
-{
-    let HeaderInfo {
-        emitted,
-        output_section_indexes,
-        active_segment_ids,
-    } = determine_header_sizes(alloc, link, live, sizes)?;
+/// Adds which sections and segments are told.
+fn add_headers(line: &mut String, header: &HeaderInfo) -> Result<(), AllocError> {
     let (indexes, active) = (
-        output_section_indexes.as_slice(),
-        active_segment_ids.as_slice(),
+        header.output_section_indexes.as_slice(),
+        header.active_segment_ids.as_slice(),
     );
-    add(line, "headers", &(emitted.as_slice(), indexes, active))
+    add(
+        line,
+        "headers",
+        &(header.emitted.as_slice(), indexes, active),
+    )
 }
 
 /// For each part a start, 100 bytes behind its size.
@@ -133,12 +140,11 @@ fn add_images(
     }
 }
 
-/// Adds what comes into each part, the sizes, and what that makes of images, sections and segments.
+/// Adds what comes into each part, the sizes, and what that makes of images.
 fn add_counted(
     alloc: Global,
     line: &mut String,
     link: &LinkInput,
-    live: &Live,
     contents: &[PartContents],
 ) -> Result<(), AllocError>
     requires good { IsWellFormed link.now }
@@ -150,25 +156,23 @@ fn add_counted(
     let sizes = part_sizes(alloc, contents)?;
     add(line, "sizes", &sizes)?;
     let starts = starts_behind(alloc, &sizes)?;
-    add_images(alloc, line, link, contents, &starts)?;
-    add_headers(alloc, line, link, live, &sizes)
+    add_images(alloc, line, link, contents, &starts)
 }
 
-/// The same, where there are contents for each part.
-fn add_contents(
+/// Adds the same, where there are contents for each part, and which sections and segments are told.
+fn add_owners(
     alloc: Global,
     line: &mut String,
     link: &LinkInput,
-    live: &Live,
-    contents: &[PartContents],
+    owners: &PartOwners,
 ) -> Result<(), AllocError>
     requires { IsWellFormed link.now }
 {
+    let contents = owners.contents.as_slice();
     if contents.len() == link.plan.sections.parts().len() {
-        add_counted(alloc, line, link, live, contents)
-    } else {
-        Ok(())
+        add_counted(alloc, line, link, contents)?;
     }
+    add_headers(line, &owners.header)
 }
 
 /// Adds what comes into each part, and what that makes of images, sections and segments.
@@ -181,14 +185,17 @@ fn add_brought(
     requires good { IsWellFormed link.now }
     requires live { AreLive link.now live.now }
 {
-    match part_contents(alloc, link, live, MERGED_LENS) {
-        Ok(contents) => add_contents(alloc, line, link, live, contents.as_slice()),
+    if link.options.output.is_partial() {
+        return Ok(());
+    }
+    match owners(alloc, link, &Small64, live, MERGED_LENS) {
+        Ok(owners) => add_owners(alloc, line, link, &owners),
         Err(_) => Ok(()),
     }
 }
 
-/// Adds what comes into each part, and what that makes of images, sections and segments, of a link that is well formed and
-/// whose sizes aren't refused.
+/// Adds what comes into each part, and what that makes of images, sections and segments, of a link that is well formed, whose
+/// output isn't partial, and whose sizes aren't refused.
 pub fn add_sizes(alloc: Global, line: &mut String, link: &LinkInput) -> Result<(), AllocError> {
     if check_link(link).is_err() {
         return Ok(());
@@ -209,8 +216,15 @@ fn add_sums_of(
     requires good { IsWellFormed link.now }
     requires live { AreLive link.now live.now }
 {
-    match part_contents(alloc, link, live, MERGED_LENS) {
-        Ok(contents) => add(line, "sizes", &part_sizes(alloc, contents.as_slice())?),
+    if link.options.output.is_partial() {
+        return Ok(());
+    }
+    match owners(alloc, link, &Small64, live, MERGED_LENS) {
+        Ok(owners) => add(
+            line,
+            "sizes",
+            &part_sizes(alloc, owners.contents.as_slice())?,
+        ),
         Err(SizeError::NoMemory) => Err(AllocError),
         Err(error) => add(line, "refused", &error),
     }

@@ -12,8 +12,8 @@ use lk_check::check_link;
 use lk_gc::{Live, traverse_alone};
 use lk_link::{LinkInput, PartId, Small64, SymbolId};
 use lk_sizes::{
-    HeaderInfo, SymbolCopyInfo, determine_header_sizes, dynamic_indexes, dynamic_sizes,
-    dynamic_table, entry_sizes, header_sizes, part_contents, part_sizes, symbol_sizes,
+    HeaderInfo, PartTotal, SymbolCopyInfo, content_totals, determine_header_sizes, dynamic_indexes,
+    dynamic_sizes, dynamic_table, entry_sizes, first_sizes, header_sizes, symbol_sizes,
 };
 use lk_tables::{
     FileShare, TableTotals, bytes_in_part, file_shares, first_totals, mark_prelude, whole_totals,
@@ -109,20 +109,6 @@ fn part_bytes(
     Ok(bytes)
 }
 
-/// The sizes by which it is decided which sections are emitted: those of parts without tables, with what tables take first.
-fn first_sizes(alloc: Global, sizes: &[u64], bytes: &[u128]) -> Result<Vec<u64>, AllocError> {
-    let mut sums = Vec::new(alloc);
-    for (part, size) in sizes.iter().enumerate() {
-        let more = match bytes.get(part) {
-            Some(bytes) => *bytes,
-            None => 0,
-        };
-        let sum = u128::from(*size).saturating_add(more);
-        sums.push(sum.min(18_446_744_073_709_551_615) as u64)?;
-    }
-    Ok(sums)
-}
-
 /// Adds the bytes of the whole tables, and those in each part.
 fn add_whole(
     alloc: Global,
@@ -206,20 +192,21 @@ fn add_taken(
     add_by_header(alloc, line, link, live, &header, shares)
 }
 
-/// Adds what symbols take in tables, where there is a size for each part.
+/// Adds what symbols take in tables, by what input sections bring to the parts.
 fn add_sized(
     alloc: Global,
     line: &mut String,
     link: &LinkInput,
     live: &Live,
-    sizes: &[u64],
+    totals: &[PartTotal],
 ) -> Result<(), AllocError>
-    requires { IsWellFormed link.now }
+    requires good { IsWellFormed link.now }
+    requires count { length totals.now ≡ length (all_parts link.now.plan.sections) }
 {
     let shares = file_shares(alloc, link, &Small64, live)?;
     let first = first_totals(link, &shares);
     add(line, "first", &first)?;
-    let sizes = first_sizes(alloc, sizes, &part_bytes(alloc, link, &first)?)?;
+    let sizes = first_sizes(alloc, link, totals, &shares)?;
     if sizes.len() == link.plan.sections.parts().len() {
         add_taken(alloc, line, link, live, &sizes, &shares)
     } else {
@@ -237,16 +224,15 @@ fn add_counted(
     requires good { IsWellFormed link.now }
     requires live { AreLive link.now live.now }
 {
-    match part_contents(alloc, link, live, &[]) {
-        Ok(contents) => {
-            let sizes = part_sizes(alloc, contents.as_slice())?;
-            add_sized(alloc, line, link, live, &sizes)
-        }
-        Err(_) => Ok(()),
+    let totals = content_totals(alloc, link, live, &[])?;
+    if totals.len() == link.plan.sections.parts().len() {
+        add_sized(alloc, line, link, live, &totals)
+    } else {
+        Ok(())
     }
 }
 
-/// Adds what symbols take in tables, of a link that is well formed and whose sizes aren't refused.
+/// Adds what symbols take in tables, of a link that is well formed.
 pub fn add_tables(alloc: Global, line: &mut String, link: &LinkInput) -> Result<(), AllocError> {
     if check_link(link).is_err() {
         return Ok(());
