@@ -6,8 +6,8 @@ use crate::report::report_of;
 use crate::rows::{Asked, expect_rows};
 use crate::runs::expect_reports;
 use crate::shown::Shown;
-use lk_layout::Small64Arch;
 use lk_layout::compute::compute;
+use lk_layout::{Layout, LayoutError, Small64Arch};
 use lk_link::{Gate, LinkInput, NoGate, Small64};
 use lk_test_rows::add;
 use std::alloc::{AllocError, Global};
@@ -341,6 +341,18 @@ impl Gate for Door {
     fn enter(&self, _group: u32) {}
 }
 
+/// The report of a layout, or why there is none.
+fn told_answer(
+    alloc: Global,
+    link: &LinkInput,
+    answer: &Result<Layout<'_>, LayoutError>,
+) -> Result<String, AllocError> {
+    match answer {
+        Ok(layout) => report_of(alloc, link, layout),
+        Err(error) => format!(in alloc; "{error:?}"),
+    }
+}
+
 /// The report of the layout that so many workers make, behind a gate that two or more of them may enter.
 fn told_layout<R: Threads + Wait + Sync, G: Gate + Sync>(
     rt: &R,
@@ -351,10 +363,8 @@ fn told_layout<R: Threads + Wait + Sync, G: Gate + Sync>(
 ) -> Result<String, AllocError>
     requires { 2 ≤ workers → G.may_enter gate.now }
 {
-    match compute(rt, alloc, link, &Small64, &Small64Arch, workers, gate) {
-        Ok(layout) => report_of(alloc, link, &layout),
-        Err(error) => format!(in alloc; "{error:?}"),
-    }
+    let answer = compute(rt, alloc, link, &Small64, &Small64Arch, workers, gate);
+    told_answer(alloc, link, &answer)
 }
 
 /// Adds the reports that workers make.

@@ -52,9 +52,13 @@ fn segment() -> SegmentLayout {
     }
 }
 
-/// A layout of nothing.
-fn empty_layout(alloc: Global) -> Result<Layout<'static>, AllocError> {
-    Ok(Layout {
+/// A layout of nothing but these.
+fn layout_with(
+    alloc: Global,
+    starts: MergedStringStartAddresses,
+    symbol_resolutions: SymbolResolutions,
+) -> Layout<'static> {
+    Layout {
         section_layouts: List::new(alloc),
         merged_section_layouts: List::new(alloc),
         section_part_layouts: List::new(alloc),
@@ -65,10 +69,19 @@ fn empty_layout(alloc: Global) -> Result<Layout<'static>, AllocError> {
         live_marks: List::new(alloc),
         section_addresses: List::new(alloc),
         merged_strings: List::new(alloc),
-        merged_string_start_addresses: MergedStringStartAddresses::compute(alloc, &[], &[])?,
-        symbol_resolutions: SymbolResolutions::with_capacity(alloc, 0)?,
+        merged_string_start_addresses: starts,
+        symbol_resolutions,
         entry_symbol_id: None,
-    })
+    }
+}
+
+/// A layout of nothing but these resolutions.
+fn layout_of(
+    alloc: Global,
+    symbol_resolutions: SymbolResolutions,
+) -> Result<Layout<'static>, AllocError> {
+    let starts = MergedStringStartAddresses::compute(alloc, &[], &[])?;
+    Ok(layout_with(alloc, starts, symbol_resolutions))
 }
 
 /// Gives a layout the records of three sections and five parts, and attributes and indexes of sections.
@@ -109,7 +122,7 @@ pub fn add_report(alloc: Global, line: &mut String, link: &LinkInput) -> Result<
     if check_link(link).is_err() {
         return Ok(());
     }
-    let mut layout = empty_layout(alloc)?;
+    let mut layout = layout_of(alloc, SymbolResolutions::with_capacity(alloc, 0)?)?;
     add_layout(alloc, line, link, &mut layout)
 }
 
@@ -127,16 +140,19 @@ fn add_resolution(
     }
 }
 
-/// A layout of four symbols.
-fn layout_of_symbols(alloc: Global) -> Result<Layout<'static>, AllocError> {
-    let mut layout = empty_layout(alloc)?;
+/// Adds the resolutions of four symbols.
+fn add_resolutions(resolutions: &mut SymbolResolutions) -> Result<(), AllocError> {
+    add_resolution(resolutions, 0, 0)?;
+    add_resolution(resolutions, 43981, 64)?;
+    add_resolution(resolutions, u64::MAX, u32::MAX)?;
+    add_resolution(resolutions, 7, 66)
+}
+
+/// The resolutions of four symbols.
+fn resolutions(alloc: Global) -> Result<SymbolResolutions, AllocError> {
     let mut resolutions = SymbolResolutions::with_capacity(alloc, 4)?;
-    add_resolution(&mut resolutions, 0, 0)?;
-    add_resolution(&mut resolutions, 43981, 64)?;
-    add_resolution(&mut resolutions, u64::MAX, u32::MAX)?;
-    add_resolution(&mut resolutions, 7, 66)?;
-    layout.symbol_resolutions = resolutions;
-    Ok(layout)
+    add_resolutions(&mut resolutions)?;
+    Ok(resolutions)
 }
 
 /// The report of a layout; nothing where the link isn't well formed.
@@ -151,15 +167,37 @@ pub fn report_of(
     report_text(alloc, link, layout)
 }
 
-/// Adds the reports of four symbols without an entry, and with each of five.
-pub fn add_entries(alloc: Global, line: &mut String, link: &LinkInput) -> Result<(), AllocError> {
-    let mut layout = layout_of_symbols(alloc)?;
-    add(line, "none", &report_of(alloc, link, &layout)?)?;
+/// Adds the report of a layout with an entry, or without.
+fn add_entry(
+    alloc: Global,
+    line: &mut String,
+    link: &LinkInput,
+    layout: &mut Layout<'_>,
+    entry: Option<u32>,
+) -> Result<(), AllocError> {
+    layout.entry_symbol_id = entry.map(SymbolId::from_u32);
+    let word = if entry.is_some() { "entry" } else { "none" };
+    add(line, word, &report_of(alloc, link, layout)?)
+}
+
+/// Adds the reports of a layout without an entry, and with each of five.
+fn add_each_entry(
+    alloc: Global,
+    line: &mut String,
+    link: &LinkInput,
+    layout: &mut Layout<'_>,
+) -> Result<(), AllocError> {
+    add_entry(alloc, line, link, layout, None)?;
     for number in 0..5 {
-        layout.entry_symbol_id = Some(SymbolId::from_u32(number));
-        add(line, "entry", &report_of(alloc, link, &layout)?)?;
+        add_entry(alloc, line, link, layout, Some(number))?;
     }
     Ok(())
+}
+
+/// Adds the reports of four symbols without an entry, and with each of five.
+pub fn add_entries(alloc: Global, line: &mut String, link: &LinkInput) -> Result<(), AllocError> {
+    let mut layout = layout_of(alloc, resolutions(alloc)?)?;
+    add_each_entry(alloc, line, link, &mut layout)
 }
 
 #[test]

@@ -90,6 +90,24 @@ fn add_answer(
     }
 }
 
+/// What is answered to a row.
+fn answer(
+    rt: &(impl Threads + Wait + Sync),
+    alloc: Global,
+    asked: Asked,
+    row: Row,
+) -> Result<String, AllocError> {
+    let text = row.text(alloc)?;
+    let mut line = String::new(alloc);
+    add_answer(rt, alloc, &mut line, asked, text.as_str())?;
+    Ok(line)
+}
+
+/// Wants this text of a row with this front.
+fn expect_answer(rt: &impl Abort, front: &str, found: &str, want: &str) {
+    assert_eq!(rt; found, want, "for {front}");
+}
+
 /// Wants a row's answer.
 fn expect_row(
     rt: &(impl Abort + Threads + Wait + Sync),
@@ -97,10 +115,8 @@ fn expect_row(
     asked: Asked,
     row: Row,
 ) -> Result<(), Fail> {
-    let text = row.text(alloc)?;
-    let mut line = String::new(alloc);
-    add_answer(rt, alloc, &mut line, asked, text.as_str())?;
-    assert_eq!(rt; line.as_str(), row.want, "for {front}", front = row.front);
+    let line = answer(rt, alloc, asked, row)?;
+    expect_answer(rt, row.front, line.as_str(), row.want);
     Ok(())
 }
 
