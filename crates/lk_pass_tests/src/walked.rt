@@ -3,9 +3,7 @@
 //! A row has the bytes of the headers, those of all parts, the places of symbols as `PART:OFFSET` or `-`, and then a description.
 //! Records are told as in `placed`; refusals as they are.
 
-ghost use Rattle.std.specs.Prelude.{IsTrue};
 ghost use Rattle.lk_link.specs.WellFormed.{IsWellFormed};
-ghost use Rattle.lk_place.specs.Plans.{IsPlaceable};
 
 use crate::placed::add_records;
 use crate::rows::{Asked, expect_rows};
@@ -177,6 +175,32 @@ const WALKS: &str = r#"
 18446744073709551614,2 | 18446744073709551615,1 => refused AddressOverflow { place: Event(0) }
 "#;
 
+/// Load addresses, of sections of 5 and 3 bytes at 32.
+const LOADS: &str = r#"
+# A section is placed for its own load address, and the location is behind it.
+@ 0 5,3 {"plan":{"page":16,"base":["num",32],"sections":[{"attrs":1,"parts":[[1,false]],"at":...},{"attrs":1,"parts":[[1,false]]}],"segments":[{"kind":"load"}],"events":[["seg",0],["sec",0],["sec",1],["endseg",0]]},"groups":[[{"kind":"prelude"}]]}
+["add",["addr",0],["sizeof",0]] | ["dot"] => parts 32,5,0,5,1,37 37,3,5,3,1 sections 32,5,0,5,1,37 37,3,5,3,1 counters [32]
+["num",18446744073709551615] => parts 32,5,0,5,1,18446744073709551615 37,3,5,3,1 sections 32,5,0,5,1,18446744073709551615 37,3,5,3,1 counters [32]
+["addr",1] | ["sizeof",1] => refused Expression { place: Section(0), cause: NoAddress }
+["sub",["num",0],["num",1]] => refused Expression { place: Section(0), cause: Overflow }
+# The second section's.
+@ 0 5,3 {"plan":{"page":16,"base":["num",32],"sections":[{"attrs":1,"parts":[[1,false]]},{"attrs":1,"parts":[[1,false]],"at":...}],"segments":[{"kind":"load"}],"events":[["seg",0],["sec",0],["sec",1],["endseg",0]]},"groups":[[{"kind":"prelude"}]]}
+["addr",0] => parts 32,5,0,5,1 37,3,5,3,1,32 sections 32,5,0,5,1 37,3,5,3,1,32 counters [32]
+["sub",["dot"],["num",40]] => parts 32,5,0,5,1 37,3,5,3,1,0 sections 32,5,0,5,1 37,3,5,3,1,0 counters [32]
+["div",["num",1],["num",0]] => refused Expression { place: Section(1), cause: DivideByZero }
+# It is that of all parts, and of a section without memory, whose bytes count from 0 while the location stays.
+@ 0 4,1 {"plan":{"page":16,"base":["num",32],"sections":[{"attrs":...,"parts":[[4,false],[1,false]],"at":["add",["dot"],["num",100]]}],"segments":[{"kind":"load"}],"events":[["seg",0],["sec",0],["endseg",0]]},"groups":[[{"kind":"prelude"}]]}
+1 => parts 32,4,0,4,4,137 36,1,4,1,1,137 sections 32,5,0,5,4,137 counters [32]
+0 => parts 0,4,0,4,4,132 4,1,4,1,1,132 sections 0,5,0,5,4,132 counters [32]
+# A symbol in the section has an address there.
+@ 0 5 0:4 {"plan":{"page":16,"base":["num",32],"sections":[{"attrs":1,"parts":[[1,false]],"at":["sym",0]}],"segments":[{"kind":"load"}],"events":[["seg",0],["sec",0],["endseg",0]]},"groups":[[{"kind":"prelude"}],[{"kind":"object","symbols":[{"at":["sec",0,4]}],"sections":[{"slot":"must","size":5}]}]]}
+ => parts 32,5,0,5,1,36 sections 32,5,0,5,1,36 counters [32]
+# The end of a section comes before its load address, and that before the end of its region.
+@ 0 ... {"plan":{"page":16,"sections":[{"attrs":1,"region":"ram","parts":[[1,false]],"at":["addr",1]},{"attrs":1,"parts":[[1,false]]}],"segments":[{"kind":"load"}],"regions":[{"name":"ram","origin":["num",256],"length":["num",8]}],"events":[["seg",0],["sec",0],["sec",1],["endseg",0]]},"groups":[[{"kind":"prelude"}]]}
+18446744073709551360,0 => refused AddressOverflow { place: Event(1) }
+9,0 => refused Expression { place: Section(0), cause: NoAddress }
+"#;
+
 /// The place of a symbol that a word tells.
 fn position_of(word: &str) -> Option<SymbolPosition> {
     let (part, offset) = word.split_once(':')?;
@@ -210,18 +234,6 @@ fn add_all(line: &mut String, placed: &Placed) -> Result<(), AllocError> {
     add(line, "counters", &placed.counters.as_slice())
 }
 
-/// Whether no section of a link has a load address, which no walk takes yet.
-fn is_placeable(link: &LinkInput) -> bool
-    ensures { IsTrue result → IsPlaceable link.now.plan link.now.options.output }
-{
-    for section in link.plan.sections.as_slice() {
-        if section.at.is_some() {
-            return false;
-        }
-    }
-    true
-}
-
 /// Adds where all stands, or the refusal.
 fn add_walked(
     alloc: Global,
@@ -231,8 +243,8 @@ fn add_walked(
 ) -> Result<(), AllocError>
     requires { IsWellFormed link.now }
 {
-    if given.sizes.len() != link.plan.sections.parts().len() || !is_placeable(link) {
-        return line.push_str("other parts, or a load address");
+    if given.sizes.len() != link.plan.sections.parts().len() {
+        return line.push_str("other parts");
     }
     match compute_layout_sections(
         alloc,
@@ -296,6 +308,11 @@ pub fn add_walk(alloc: Global, line: &mut String, row: &str) -> Result<(), Alloc
 #[test]
 fn locations_move_what_comes_next(rt: HostRuntime) -> Result<(), Fail> {
     expect_rows(&rt, rt.alloc(), Asked::Walked, MOVES)
+}
+
+#[test]
+fn sections_have_load_addresses(rt: HostRuntime) -> Result<(), Fail> {
+    expect_rows(&rt, rt.alloc(), Asked::Walked, LOADS)
 }
 
 #[test]

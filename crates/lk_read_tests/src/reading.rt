@@ -14,7 +14,10 @@ mod nesting;
 pub mod summary;
 
 /// Adds what reading gave: read, no JSON, or where the first fault is.
-fn add_result(line: &mut String, read: &Result<LinkInput, InputError>) -> Result<(), AllocError> {
+pub fn add_result(
+    line: &mut String,
+    read: &Result<LinkInput, InputError>,
+) -> Result<(), AllocError> {
     match read {
         Ok(_) => line.push_str("read"),
         Err(InputError::NotJson) => line.push_str("not JSON"),
@@ -22,12 +25,6 @@ fn add_result(line: &mut String, read: &Result<LinkInput, InputError>) -> Result
         Err(InputError::Shape(path)) => write!(line, "at {path}", path = path.as_str()),
         Err(InputError::NoMemory) => Err(AllocError),
     }
-}
-
-/// Adds what becomes of a text.
-pub fn add_outcome(alloc: Global, line: &mut String, text: &[u8]) -> Result<(), AllocError> {
-    let read = read_link(alloc, text);
-    add_result(line, &read)
 }
 
 /// Texts, and what becomes of them.
@@ -93,11 +90,8 @@ fn texts_are_read_or_refused(rt: HostRuntime) -> Result<(), Fail> {
 #[test]
 fn bytes_that_are_no_text_are_no_json(rt: HostRuntime) -> Result<(), Fail> {
     let mut line = String::new(rt.alloc());
-    add_outcome(
-        rt.alloc(),
-        &mut line,
-        b"{\"plan\":{\"page\":1},\"x\":\"\xff\"}",
-    )?;
+    let read = read_link(rt.alloc(), b"{\"plan\":{\"page\":1},\"x\":\"\xff\"}");
+    add_result(&mut line, &read)?;
     expect_text(&rt, line.as_str(), "not JSON");
     Ok(())
 }

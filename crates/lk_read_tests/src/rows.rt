@@ -1,7 +1,7 @@
 //! What rows ask here, and that the answers are theirs.
 
 use crate::checking::{crowded_link, hand_made_link};
-use crate::reading::add_outcome;
+use crate::reading::add_result;
 use crate::shown::{Shown, add_shown};
 use lk_input::{InputError, read_link};
 use lk_link::LinkInput;
@@ -23,6 +23,15 @@ pub enum Asked {
     OfCrowded(Shown),
 }
 
+/// The link that a text stands for.
+fn link_of(alloc: Global, asked: Asked, text: &str) -> Result<LinkInput, InputError> {
+    match asked {
+        Asked::OfHandMade(_) => hand_made_link(alloc, text),
+        Asked::OfCrowded(_) => crowded_link(alloc, text),
+        _ => read_link(alloc, text.as_bytes()),
+    }
+}
+
 /// Adds what is told of a link that there is.
 fn add_found(
     alloc: Global,
@@ -36,6 +45,21 @@ fn add_found(
     }
 }
 
+/// Adds what is answered of what a text stands for.
+fn add_of(
+    alloc: Global,
+    line: &mut String,
+    asked: Asked,
+    link: &Result<LinkInput, InputError>,
+) -> Result<(), AllocError> {
+    match asked {
+        Asked::Outcome => add_result(line, link),
+        Asked::Of(shown) | Asked::OfHandMade(shown) | Asked::OfCrowded(shown) => {
+            add_found(alloc, line, shown, link)
+        }
+    }
+}
+
 /// Adds what is answered.
 fn add_answer(
     alloc: Global,
@@ -43,20 +67,27 @@ fn add_answer(
     asked: Asked,
     text: &str,
 ) -> Result<(), AllocError> {
-    match asked {
-        Asked::Outcome => add_outcome(alloc, line, text.as_bytes()),
-        Asked::Of(shown) => add_found(alloc, line, shown, &read_link(alloc, text.as_bytes())),
-        Asked::OfHandMade(shown) => add_found(alloc, line, shown, &hand_made_link(alloc, text)),
-        Asked::OfCrowded(shown) => add_found(alloc, line, shown, &crowded_link(alloc, text)),
-    }
+    let link = link_of(alloc, asked, text);
+    add_of(alloc, line, asked, &link)
+}
+
+/// What is answered to a row.
+fn answer(alloc: Global, asked: Asked, row: Row) -> Result<String, AllocError> {
+    let text = row.text(alloc)?;
+    let mut line = String::new(alloc);
+    add_answer(alloc, &mut line, asked, text.as_str())?;
+    Ok(line)
+}
+
+/// Wants this text of a row with this front.
+fn expect_answer(rt: &impl Abort, front: &str, found: &str, want: &str) {
+    assert_eq!(rt; found, want, "for {front}");
 }
 
 /// Wants a row's answer.
 fn expect_row(rt: &impl Abort, alloc: Global, asked: Asked, row: Row) -> Result<(), Fail> {
-    let text = row.text(alloc)?;
-    let mut line = String::new(alloc);
-    add_answer(alloc, &mut line, asked, text.as_str())?;
-    assert_eq!(rt; line.as_str(), row.want, "for {front}", front = row.front);
+    let line = answer(alloc, asked, row)?;
+    expect_answer(rt, row.front, line.as_str(), row.want);
     Ok(())
 }
 

@@ -132,20 +132,41 @@ fn referring_section(alloc: Global) -> Result<InputSection, AllocError> {
     Ok(section)
 }
 
-/// An object with a merged section of a size and with data that a line tells, and named symbols at 1 and at 2 there, to which
-/// another section refers.
-fn sized_object(alloc: Global, line: &str) -> Result<InputFile, AllocError> {
+/// Named symbols at 1 and at 2 in the first section.
+fn sized_symbols(alloc: Global) -> Result<List<InputSymbol>, AllocError> {
+    let mut symbols = Vec::new(alloc);
+    symbols.push(named_symbol(alloc, "a", 1)?)?;
+    symbols.push(named_symbol(alloc, "b", 2)?)?;
+    Ok(List::from_vec(symbols))
+}
+
+/// A merged section of a size and with data that a line tells, and one that refers to the first two symbols.
+fn sized_sections(alloc: Global, line: &str) -> Result<InputSections, AllocError> {
     let (size, data) = line.split_once(' ').unwrap_or((line, ""));
     let mut sections = Vec::new(alloc);
     sections.push(sized_section(alloc, size, data)?)?;
     sections.push(referring_section(alloc)?)?;
-    let mut symbols = Vec::new(alloc);
-    symbols.push(named_symbol(alloc, "a", 1)?)?;
-    symbols.push(named_symbol(alloc, "b", 2)?)?;
-    let mut object = file_of(alloc, "o")?;
-    object.symbols = List::from_vec(symbols);
-    object.sections = InputSections::new(alloc, List::from_vec(sections))?;
-    Ok(object)
+    InputSections::new(alloc, List::from_vec(sections))
+}
+
+/// A file with these symbols and sections.
+fn with_contents(
+    mut file: InputFile,
+    symbols: List<InputSymbol>,
+    sections: InputSections,
+) -> InputFile {
+    file.symbols = symbols;
+    file.sections = sections;
+    file
+}
+
+/// An object with a merged section of a size and with data that a line tells, and named symbols at 1 and at 2 there, to which
+/// another section refers.
+fn sized_object(alloc: Global, line: &str) -> Result<InputFile, AllocError> {
+    let sections = sized_sections(alloc, line)?;
+    let symbols = sized_symbols(alloc)?;
+    let object = file_of(alloc, "o")?;
+    Ok(with_contents(object, symbols, sections))
 }
 
 /// A prelude and such an object.
