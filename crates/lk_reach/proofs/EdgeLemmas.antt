@@ -1,17 +1,23 @@
 -- What was taken already changes nothing: candidates of one output section, and the location counter's expressions.
-use Rattle.std.proofs.Common.{◌≡◌, ℕ, ◌++◌, Bool, true, false, List, [], ◌∷◌, Some, refl, sym, ap, ◌∙◌, subst, inl, inr, replicate}
+use Rattle.std.proofs.Common.{◌≡◌, ℕ, ◌++◌, Bool, true, false, if◌then◌else◌, List, [], ◌∷◌, Option, Some, None, option_map, refl, sym, ap, ◌∙◌, subst, inl, inr, replicate}
 use Rattle.std.specs.List.{All, slice_set}
 use Rattle.lk_link.specs.declared.file.FileKind.{FileKind}
 use Rattle.lk_link.specs.declared.file.FileKind.TheVariants as kind
+use Rattle.lk_link.specs.declared.file.InputFile.{InputFile}
+use Rattle.lk_link.specs.declared.ids.FileId.{FileId}
 use Rattle.lk_link.specs.declared.link.LinkInput.{LinkInput}
+use Rattle.lk_link.specs.declared.symbol.SymbolPlacement.{SymbolPlacement}
 use Rattle.lk_link.specs.FileKinds.{is_script, is_synthetic}
 use Rattle.lk_link.specs.Files.{file_in}
 use Rattle.lk_link.specs.Inputs.{NumberedFile}
 use Rattle.lk_link.specs.Marks.{is_marked}
 use Rattle.lk_link.specs.WellFormed.{IsWellFormed}
+use Rattle.lk_reach.specs.declared.edges.EdgeAt.{EdgeAt}
 use Rattle.lk_reach.specs.declared.units.Ask.{Ask}
 use Rattle.lk_reach.specs.declared.units.Unit.TheVariants.{Sym}
 use Rattle.lk_reach.specs.declared.walk.Walk.{Walk}
+use Rattle.lk_reach.specs.Edges.{edge_in}
+use Rattle.lk_reach.specs.Placements.{edge_of}
 use Rattle.lk_reach.specs.Marks.{IsInside, IsJoined, asking, join_all}
 use Rattle.lk_reach.specs.Units.{file_roots, follows, kind_roots, location_asks, script_roots, wanted_symbol_asks}
 use Rattle.lk_reach.specs.Walking.{Adds, AreAsked, IsDone, IsSized}
@@ -86,6 +92,19 @@ synthetic_kind kind.Dynamic h = absurd (cc)
 synthetic_kind kind.NotLoaded h = absurd (cc)
 synthetic_kind kind.SyntheticSymbols h = refl
 synthetic_kind kind.LinkerScript h = absurd (cc)
+
+edge_by : (synthetic : Bool) (output : Option ℕ) (id : FileId) (e : EdgeAt)
+    → (if synthetic then option_map (λ o. record { file = id; output = o }) output else None) ≡ Some e → (e.file ≡ id) × (synthetic ≡ true) × (output ≡ Some e.output)
+edge_by false output id e h = absurd (cc)
+edge_by true None id e h = absurd (cc)
+edge_by true (Some o) id e h =
+    let made : EdgeAt = record { file = id; output = o } in
+    let same : made ≡ e = cc in
+    (ap (λ (x : EdgeAt). x.file) (sym same), refl, ap (λ (x : EdgeAt). Some x.output) same)
+
+-- what is known of a place at an edge
+pub edge_given : (id : FileId) (f : InputFile) (p : SymbolPlacement) (e : EdgeAt) → edge_in id f p ≡ Some e → (e.file ≡ id) × (is_synthetic f.kind ≡ true) × (edge_of p ≡ Some e.output)
+edge_given id f p e h = edge_by (is_synthetic f.kind) (edge_of p) id e h
 
 append_none : {X : Type 0} (xs : List X) → xs ++ [] ≡ xs
 append_none [] = refl

@@ -246,17 +246,17 @@ words_are_flags link s i wf lt = (λ bit. flags_meant link s i wf bit, λ f. fla
 
 -- ---- laws on paths
 
-more_path : (a b : LinkInput) (first : LinkUnit) (rest : List LinkUnit) (last : LinkUnit) → ((u : LinkUnit) → follows a u ≡ follows b u) → IsPath a first rest last → IsPath b first rest last
-more_path a b first [] last same path = path
-more_path a b first (next ∷ rest) last same path = (subst (λ asks. AskFor asks next) (same first) path.0, more_path a b next rest last same path.1)
+-- a path goes on in b, or begins anew at one of its roots
+more_path : (a b : LinkInput) (first : LinkUnit) (rest : List LinkUnit) (last : LinkUnit) → ((u next : LinkUnit) → AsksFor a u next → AsksFor b u next ⊎ IsRoot b next) → IsReached b first
+    → IsPath a first rest last → IsReached b last
+more_path a b first [] last more r path = subst (IsReached b) path r
+more_path a b first (next ∷ rest) last more r path = elim (more first next path.0) [
+  | inl asks ↦ more_path a b next rest last more (reach_more b first next r asks) path.1
+  | inr root ↦ more_path a b next rest last more (reach_root b next root) path.1
+]
 
 pub more_roots_reach_more : MoreRootsReachMore
-more_roots_reach_more a b unit more same r = record {
-  first = r.first;
-  rest = r.rest;
-  root = record { ask = r.root.ask; among = All-contains (Contains (roots b)) (roots a) r.root.ask more r.root.among; target = r.root.target };
-  path = more_path a b r.first r.rest unit same r.path;
-}
+more_roots_reach_more a b unit roots more r = more_path a b r.first r.rest unit more (reach_root b r.first (roots r.first r.root)) r.path
 
 -- the last but one of a path asks for the last
 pub last_asks : (link : LinkInput) (first : LinkUnit) (rest : List LinkUnit) (last : LinkUnit) → IsReached link first → IsPath link first rest last → (first ≡ last) ⊎ ((u : LinkUnit) × IsReached link u × AsksFor link u last)

@@ -1,5 +1,5 @@
 -- Symbols by their numbers, each with its file.
-use Rattle.std.proofs.Common.{◌≡◌, ℕ, ◌+◌, ◌-◌, ◌^◌, ◌<◌, ◌≤◌, true, get_or, List, [], length, map, take, Option, Some, None, sum_by, refl, sym, ap, ◌∙◌, subst, inl, inr, arith, is_some, ltb, option_map}
+use Rattle.std.proofs.Common.{◌≡◌, ℕ, ◌+◌, ◌-◌, ◌^◌, ◌<◌, ◌≤◌, true, get_or, List, [], length, map, take, Option, Some, None, sum_by, refl, sym, ap, ◌∙◌, subst, inl, inr, arith, is_some, ltb, option_and_then, option_map}
 use Rattle.std.specs.List.{All, flat_map, range_with_len, slice_get}
 use Rattle.std.specs.Option.{IsSome, option_map_or}
 use Rattle.std.proofs.lemmas.Bool.{ltb-true}
@@ -149,6 +149,15 @@ pub one_known : (s : ℕ) (t : ℕ × NumberedFile × InputSymbol) (asks : Numbe
     → Some t ≡ option_map (told s) o → option_map_or asks o [] ≡ asks (t.1, t.2)
 one_known s t asks None h = absurd (none-some t (sym h))
 one_known s t asks (Some q) h = ap asks (sym (ap (or_file_told q) h))
+
+-- what is known stands under its number
+pub at_known : (s : ℕ) (t : ℕ × NumberedFile × InputSymbol) (o : Option (NumberedFile × InputSymbol)) → Some t ≡ option_map (told s) o → o ≡ Some (t.1, t.2)
+at_known s t None h = absurd (none-some t (sym h))
+at_known s t (Some q) h = ap Some (sym (ap (or_file_told q) h))
+
+pub none_found : {X : Type 0} (s : ℕ) (by : NumberedFile × InputSymbol → Option X) (o : Option (NumberedFile × InputSymbol)) → None ≡ option_map (told s) o → option_and_then by o ≡ None
+none_found s by None h = refl
+none_found s by (Some q) h = absurd (none-some (told s q) h)
 
 -- what the symbol of a file asks for
 pub symbol_follows : (link : LinkInput) (id : FileId) (s : ℕ) (file : InputFile) (x : InputSymbol) → IsSymbolIn link.groups id s → file_in link.groups id ≡ Some file → symbol_at link.groups s ≡ Some x

@@ -1,5 +1,5 @@
 -- Laws on what is reached.
-use Rattle.std.specs.Prelude.{◌≡◌, ◌↔◌, ℕ, ◌+◌, ◌<◌, ◌≤◌, Bool, List, All, Contains, length, slice_index}
+use Rattle.std.specs.Prelude.{◌≡◌, ◌↔◌, ◌⊎◌, ℕ, ◌+◌, ◌<◌, ◌≤◌, Bool, List, All, length, slice_index}
 use Rattle.std.specs.Int.{bit_at}
 use Rattle.lk_link.specs.declared.link.LinkInput.{LinkInput}
 use Rattle.lk_link.specs.WellFormed.{IsWellFormed}
@@ -7,7 +7,7 @@ use Rattle.lk_reach.specs.declared.units.Unit.{Unit as LinkUnit}
 use Rattle.lk_reach.specs.declared.units.Unit.TheVariants.{Sym}
 use Rattle.lk_reach.specs.Marks.{IsClosed, IsInside, IsMarked, IsUnit, all_units, asking, flag_words, handed_in, reached_marks, symbols_in_all, unit_number, word_of}
 use Rattle.lk_reach.specs.Reach.{HasFlag, IsReached}
-use Rattle.lk_reach.specs.Units.{follows, roots}
+use Rattle.lk_reach.specs.Units.{AsksFor, IsRoot, follows, roots}
 
 -- ---- numbers
 
@@ -63,7 +63,7 @@ ResolvedIsReached = (link : LinkInput) (s i : ℕ) → IsWellFormed link → 6 �
 
 -- ---- paths
 
--- where units ask for the same, more roots reach no less
+-- where a has no root that b hasn't, and what a unit asks for in a it asks for in b too, unless a root of b does, no less is reached in b
 abbrev pub MoreRootsReachMore : Type 0
-MoreRootsReachMore = (a b : LinkInput) (unit : LinkUnit) → All (Contains (roots b)) (roots a)
-    → ((u : LinkUnit) → follows a u ≡ follows b u) → IsReached a unit → IsReached b unit
+MoreRootsReachMore = (a b : LinkInput) (unit : LinkUnit) → ((u : LinkUnit) → IsRoot a u → IsRoot b u)
+    → ((u next : LinkUnit) → AsksFor a u next → AsksFor b u next ⊎ IsRoot b next) → IsReached a unit → IsReached b unit

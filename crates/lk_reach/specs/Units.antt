@@ -29,6 +29,7 @@ use Rattle.lk_link.specs.Expressions.{Term, postfix}
 use Rattle.lk_link.specs.Files.{file_in}
 use Rattle.lk_link.specs.Inputs.{Input, NumberedFile, inputs_from, numbered_files}
 use Rattle.lk_link.specs.InputSlots.{can_be_kept, is_regular}
+pub use Rattle.lk_link.specs.NumberedSymbols.{numbered_symbols, symbols_of}
 use Rattle.lk_link.specs.PartRules.{is_part}
 use Rattle.lk_link.specs.Relocations.{resolution_flags}
 use Rattle.lk_link.specs.SectionGroups.{group_members}
@@ -144,16 +145,6 @@ asked_members link id i =
 abbrev pub asked_references : LinkInput → FileId → ℕ → List Ask
 asked_references link id i =
     option_map_or (λ f. option_map_or (section_references link id f) (slice_get f.sections i) []) (file_in link.groups id) []
-
--- ---- symbols
-
--- the symbols of a file, each with the file
-abbrev pub symbols_of : NumberedFile → List (NumberedFile × InputSymbol)
-symbols_of f = map (λ s. (f, s)) f.file.symbols
-
--- all symbols, by their numbers
-abbrev pub numbered_symbols : List (List InputFile) → List (NumberedFile × InputSymbol)
-numbered_symbols groups = flat_map symbols_of (numbered_files groups)
 
 -- ---- expressions
 

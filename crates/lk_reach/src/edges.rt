@@ -6,13 +6,15 @@ ghost use Rattle.std.specs.List.{list_any};
 ghost use Rattle.std.specs.Option.{ForSome};
 ghost use Rattle.lk_link.specs.Inputs.{numbered_files};
 ghost use Rattle.lk_link.specs.WellFormed.{IsWellFormed};
-ghost use Rattle.lk_reach.specs.Edges.{IsEdgeAt, offers_candidates};
+ghost use Rattle.lk_reach.specs.Edges.{IsEdgeAt, edge_in, offers_candidates};
 ghost use Rattle.lk_reach.specs.Units.{follows};
 ghost use Rattle.lk_reach.specs.declared.units.Unit.TheVariants.{Sym};
 
 use crate::reaching::edge_of;
 use crate::walk::{set_mark, unmarked};
-use lk_link::{FileId, InputFile, InputSymbol, LinkInput, OutputSectionId, SymbolId};
+use lk_link::{
+    FileId, InputFile, InputSymbol, LinkInput, OutputSectionId, SymbolId, SymbolPlacement,
+};
 use std::alloc::{AllocError, Global};
 
 /// No symbol's number.
@@ -95,13 +97,24 @@ fn edge_at(link: &LinkInput, symbol: SymbolId) -> Option<EdgeAt>
     requires { IsWellFormed link.now }
     ensures { ForSome result (IsEdgeAt link.now symbol) }
 {
-    let id = link.groups.file_of_symbol(symbol)?;
-    let file = link.groups.file(id)?;
-    let own = link.groups.symbol(symbol)?;
+    match link.groups.symbol_in_file(symbol) {
+        Some(found) => {
+            let file = found.file;
+            let own = found.symbol;
+            edge_in(file.id, file.file, &own.at)
+        }
+        None => None,
+    }
+}
+
+/// The place of a placement in this file that is at an edge, if the file is synthetic.
+fn edge_in(id: FileId, file: &InputFile, at: &SymbolPlacement) -> Option<EdgeAt>
+    ensures { result ≡ edge_in id file.now at.now }
+{
     if !file.kind.is_synthetic() {
         return None;
     }
-    let output = edge_of(&own.at)?;
+    let output = edge_of(at)?;
     Some(EdgeAt { file: id, output })
 }
 

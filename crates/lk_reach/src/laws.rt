@@ -42,7 +42,7 @@ pub fn resolved_is_reached()
     ensures { ResolvedIsReached }
 {}
 
-/// A law: where units ask for the same, more roots reach no less.
+/// A law: more roots reach no less, where what a unit asks for is still asked for, by it or by a root.
 pub fn more_roots_reach_more()
     ensures { MoreRootsReachMore }
 {}

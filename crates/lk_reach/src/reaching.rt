@@ -390,10 +390,13 @@ fn asked_definition(link: &LinkInput, definition: SymbolId) -> Option<Ask>
     requires { IsWellFormed link.now }
     ensures { result ≡ asked_definition link.now definition }
 {
-    let id = link.groups.file_of_symbol(definition)?;
-    let file = link.groups.file(id)?;
-    let own = link.groups.symbol(definition)?;
-    definition_ask(link, definition, file, own)
+    match link.groups.symbol_in_file(definition) {
+        Some(found) => {
+            let file = found.file;
+            definition_ask(link, definition, file.file, found.symbol)
+        }
+        None => None,
+    }
 }
 
 /// What a dynamic file asks for by a definition in this file: of an object one that it can export, outside discarded sections; of

@@ -1,40 +1,34 @@
-use Rattle.std.proofs.Common.{◌≡◌, [], true, Some, sym, ap, ◌∙◌, subst}
+use Rattle.std.proofs.Common.{◌≡◌, [], Some, sym, ap, ◌∙◌}
+use Rattle.std.specs.List.{slice_get}
 use Rattle.std.specs.Option.{option_map_or}
-use Rattle.std.proofs.lemmas.Option.{MatchOption-at_some}
 use Rattle.lk_link.specs.declared.file.InputFile.{InputFile}
+use Rattle.lk_link.specs.declared.ids.FileId.{FileId}
 use Rattle.lk_link.specs.declared.symbol.InputSymbol.{InputSymbol}
-use Rattle.lk_link.specs.FileKinds.{is_synthetic}
+use Rattle.lk_link.specs.NumberedSymbols.{symbol_of}
 use Rattle.lk_link.specs.Files.{file_in}
-use Rattle.lk_link.specs.Symbols.{IsSymbolIn, symbol_at}
-use Rattle.lk_reach.specs.declared.edges.EdgeAt.{EdgeAt}
-use Rattle.lk_reach.specs.Edges.{IsEdgeAt}
-use Rattle.lk_reach.specs.Units.{candidate_asks, kind_asks}
-use Rattle.lk_reach.proofs.EdgeLemmas.{synthetic_kind}
+use Rattle.lk_reach.specs.Units.{candidate_asks, kind_asks, numbered_symbols, symbol_asks}
+use Rattle.lk_reach.proofs.EdgeLemmas.{edge_given, synthetic_kind}
 use Rattle.lk_reach.proofs.Numbered.{are_numbered}
-use Rattle.lk_reach.proofs.SymbolNumbers.{symbol_follows}
+use Rattle.lk_reach.proofs.SymbolNumbers.{at_known}
+use Rattle.lk_reach.proofs.UnitLemmas.{symbol_stands}
 use Rattle.lk_reach.proofs.edges.edge_at.Goals as goal
 
-pub file_of_symbol-requires : goal.file_of_symbol-requires
-file_of_symbol-requires c = are_numbered c.args.link.now c.requires
+pub symbol_in_file-requires : goal.symbol_in_file-requires
+symbol_in_file-requires c = are_numbered c.args.link.now c.requires
 
-pub returns : goal.returns
-returns c e is =
+pub returns-in-Some : goal.returns-in-Some
+returns-in-Some c e is =
     let link = c.args.link.now in
     let s = c.args.symbol in
-    let id = c.in_ok-id.id in
-    let f : InputFile = c.in_ok-file.file.now in
-    let x : InputSymbol = c.in_ok-own.own.now in
-    let h : IsSymbolIn link.groups id s = MatchOption-at_some _ _ id c.in_ok-id.was c.file_of_symbol.ensures in
-    let file : file_in link.groups id ≡ Some f = sym c.in_ok-file.ensures in
-    let own : symbol_at link.groups s ≡ Some x = sym c.in_ok-own.ensures in
-    let synthetic : is_synthetic f.kind ≡ true = sym c.is_synthetic.ensures ∙ c.if-not-is_synthetic.false in
-    let made : EdgeAt = record { file = id; output = c.in_ok-output.output } in
-    let same : made ≡ e = cc in
-    let place : IsEdgeAt link s made
-    = record {
+    let t = symbol_of c.in-Some.found in
+    let id : FileId = t.1.id in
+    let f : InputFile = t.1.file in
+    let x : InputSymbol = t.2 in
+    let known : slice_get (numbered_symbols link.groups) s ≡ Some (t.1, t.2) = at_known s t (slice_get (numbered_symbols link.groups) s) c.in-Some.ensures in
+    let edge = edge_given id f x.at e (sym c.edge_in.ensures ∙ is) in
+    record {
       file = f;
-      there = file;
-      asks = symbol_follows link id s f x h file own ∙ ap (kind_asks link.groups s id f x) (synthetic_kind f.kind synthetic)
-          ∙ ap (λ o. option_map_or (candidate_asks f.candidates) o []) (sym c.edge_of.ensures ∙ c.in_ok-output.was);
-    } in
-    subst (IsEdgeAt link s) same place
+      there = ap (file_in link.groups) edge.0 ∙ (symbol_stands link.groups s (t.1, t.2) known).there;
+      asks = ap (λ o. option_map_or (symbol_asks link.groups s) o []) known ∙ ap (kind_asks link.groups s id f x) (synthetic_kind f.kind edge.1)
+          ∙ ap (λ o. option_map_or (candidate_asks f.candidates) o []) edge.2;
+    }
