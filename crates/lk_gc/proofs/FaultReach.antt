@@ -1,9 +1,9 @@
 -- The references that are told are those that can't be met.
-use Rattle.std.proofs.Common.{◌≡◌, ℕ, zero, suc, ◌+◌, ◌<◌, Bool, true, false, if◌then◌else◌, ◌&&◌, ◌==◌, not, List, [], ◌∷◌, length, Option, Some, None, unwrap_or, refl, sym, ap, ◌∙◌, subst, inl, inr, ◌⊎◌, arith}
+use Rattle.std.proofs.Common.{◌≡◌, ℕ, zero, suc, ◌+◌, ◌<◌, Bool, true, false, if◌then◌else◌, ◌&&◌, ◌==◌, not, List, [], ◌∷◌, length, Option, Some, None, unwrap_or, refl, sym, ap, ◌∙◌, subst, inl, inr, ◌⊎◌, ◌↔◌, arith}
 use Rattle.std.specs.List.{Contains, cons_option, enumerate_from, filter_map, slice_get}
 use Rattle.std.specs.Option.{option_map_or}
 use Rattle.std.proofs.lemmas.Option.{slice_get_within}
-use Rattle.std.proofs.lemmas.Bool.{and_from, and_parts, cases_Bool}
+use Rattle.std.proofs.lemmas.Bool.{and_from, and_parts}
 use Rattle.lk_link.specs.declared.file.InputFile.{InputFile}
 use Rattle.lk_link.specs.declared.ids.FileId.{FileId}
 use Rattle.lk_link.specs.declared.link.LinkInput.{LinkInput}
@@ -27,10 +27,9 @@ use Rattle.lk_link.proofs.InputLemmas.{file_stands, numbered_get}
 use Rattle.lk_gc.specs.declared.error.ReferenceFault.{ReferenceFault}
 use Rattle.lk_gc.specs.declared.error.ReferenceFault.TheVariants.{Discarded, Undefined, UndefinedDynamic}
 use Rattle.lk_reach.specs.declared.units.Unit.TheVariants.{Sec}
-use Rattle.lk_gc.specs.FaultLaws.{FaultsAreThese, IsDiscardedFault, IsDynamicFault, IsFault, IsReachedSection, IsUndefinedFault, LacksDefinition}
+use Rattle.lk_gc.specs.FaultLaws.{IsFault, IsReachedSection, LacksDefinition}
 use Rattle.lk_gc.specs.Faults.{dynamic_fault, dynamic_faults, file_faults, held_faults, is_looked_at, is_weak, lacks_symbol, marked_faults, reference_faults, relocation_fault, relocation_faults, section_faults, undefined_placements, undefined_symbols}
 use Rattle.lk_reach.specs.Marks.{reached_marks, unit_number}
-use Rattle.lk_reach.specs.Reach.{IsReached}
 use Rattle.lk_reach.specs.Units.{local_definition}
 use Rattle.lk_reach.proofs.Numbered.{file_at}
 use Rattle.lk_reach.proofs.ReachLemmas.{marks_are_reached}
@@ -48,7 +47,7 @@ behind None ys k y h = (k, h)
 behind (Some z) ys k y h = (suc k, h)
 
 -- where an element of a list of what there may be comes from
-filter_map_at : {X Y : Type 0} (f : X → Option Y) (xs : List X) (k : ℕ) (y : Y) → slice_get (filter_map f xs) k ≡ Some y → (j : ℕ) × (x : X) × (slice_get xs j ≡ Some x) × (f x ≡ Some y)
+pub filter_map_at : {X Y : Type 0} (f : X → Option Y) (xs : List X) (k : ℕ) (y : Y) → slice_get (filter_map f xs) k ≡ Some y → (j : ℕ) × (x : X) × (slice_get xs j ≡ Some x) × (f x ≡ Some y)
 filter_map_at f [] k y h = absurd (cc)
 filter_map_at f (x ∷ xs) k y h = elim (by_option (f x) (filter_map f xs) k y h) [
   | inl own ↦ (0, x, refl, own)
@@ -64,19 +63,19 @@ filter_map_in f (z ∷ xs) (suc j) x y h e =
     let r = filter_map_in f xs j x y h e in
     behind (f z) (filter_map f xs) r.0 y r.1
 
-if_list : {Y : Type 0} (b : Bool) (xs : List Y) (k : ℕ) (y : Y) → slice_get (if b then xs else []) k ≡ Some y → (b ≡ true) × (slice_get xs k ≡ Some y)
+pub if_list : {Y : Type 0} (b : Bool) (xs : List Y) (k : ℕ) (y : Y) → slice_get (if b then xs else []) k ≡ Some y → (b ≡ true) × (slice_get xs k ≡ Some y)
 if_list true xs k y h = (refl, h)
 if_list false xs k y h = absurd (cc)
 
-if_some : {Y : Type 0} (b : Bool) (x y : Y) → (if b then Some x else None) ≡ Some y → (b ≡ true) × (x ≡ y)
+pub if_some : {Y : Type 0} (b : Bool) (x y : Y) → (if b then Some x else None) ≡ Some y → (b ≡ true) × (x ≡ y)
 if_some true x y h = let same : x ≡ y = cc in (refl, same)
 if_some false x y h = absurd (cc)
 
-single_at : {Y : Type 0} (x y : Y) (k : ℕ) → slice_get (x ∷ []) k ≡ Some y → x ≡ y
+pub single_at : {Y : Type 0} (x y : Y) (k : ℕ) → slice_get (x ∷ []) k ≡ Some y → x ≡ y
 single_at x y zero h = let same : x ≡ y = cc in same
 single_at x y (suc k) h = absurd (cc)
 
-is_false : (b : Bool) → not b ≡ true → b ≡ false
+pub is_false : (b : Bool) → not b ≡ true → b ≡ false
 is_false true h = absurd (cc)
 is_false false h = refl
 
@@ -291,5 +290,5 @@ is_told link (UndefinedDynamic s id) wf x =
     let held : List ReferenceFault = held_faults link (reached_marks link) f in
     of_file link f _ (UndefinedDynamic s id) x.there (append_right held (dynamic_faults link f) one.0 _ (UndefinedDynamic s id) refl here)
 
-pub faults_are_these : FaultsAreThese
-faults_are_these link fault wf = (told_is link fault wf, is_told link fault wf)
+pub told_are_faults : (link : LinkInput) (fault : ReferenceFault) → IsWellFormed link → Contains (reference_faults link) fault ↔ IsFault link fault
+told_are_faults link fault wf = (told_is link fault wf, is_told link fault wf)

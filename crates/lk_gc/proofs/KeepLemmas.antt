@@ -21,8 +21,8 @@ use Rattle.lk_link.specs.declared.symbol.InputSymbol.{InputSymbol}
 use Rattle.lk_link.proofs.Numbers.{length-made, made_at}
 use Rattle.lk_gc.proofs.FaultLemmas.{numbered_more}
 use Rattle.lk_reach.proofs.Passing.{or_last}
-use Rattle.lk_gc.specs.Reach.{for_sections, keeps_output, kept_marks, marked, redirect_keeps, script_keeps, section_keeps}
-use Rattle.lk_gc.specs.KeptParts.{AreKeptParts, keeps_part}
+use Rattle.lk_gc.specs.KeptParts.{AreKeptParts, for_sections, keeps_part, kept_marks, redirect_keeps, script_keeps, section_keeps}
+use Rattle.lk_gc.specs.Reach.{keeps_output, marked}
 
 -- ---- live sections
 

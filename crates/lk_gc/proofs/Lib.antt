@@ -1,8 +1,10 @@
 pub mod FaultLemmas
+pub mod FaultOrder
 pub mod FaultReach
 pub mod KeepLemmas
 pub mod LawLemmas
 pub mod Living
 pub mod Marks
 pub mod PrimaryLemmas
+pub mod PrimaryReach
 pub mod WorkLemmas

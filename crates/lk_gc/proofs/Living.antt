@@ -13,7 +13,6 @@ use Rattle.lk_link.specs.declared.file.FileKind.TheVariants as kind
 use Rattle.lk_link.specs.declared.file.InputFile.{InputFile}
 use Rattle.lk_link.specs.declared.flags.ValueFlags.{ValueFlags}
 use Rattle.lk_link.specs.declared.link.LinkInput.{LinkInput}
-use Rattle.lk_link.specs.declared.plan.PlanSection.{PlanSection}
 use Rattle.lk_link.specs.declared.section.InputSlot.{InputSlot}
 use Rattle.lk_link.specs.declared.section.InputSlot.TheVariants as slot
 use Rattle.lk_link.specs.Files.{file_in}
@@ -30,7 +29,8 @@ use Rattle.lk_gc.specs.declared.live.Live.{Live}
 use Rattle.lk_gc.specs.Laws.{LiveExists, LiveIsOne, RootsAreLive}
 use Rattle.lk_reach.specs.Marks.{IsMarked, IsUnit, asked, asking, flag_words, handed_in, reached_marks, symbols_in_all, unit_at, unit_number, word_of}
 use Rattle.lk_reach.specs.declared.units.Unit.TheVariants.{Sym}
-use Rattle.lk_gc.specs.Reach.{AreLive, IsKeptByRedirect, IsLive, keeps_output, kept_marks, live_by, live_marks, marked, names_output, redirect_keeps, redirect_output, script_keeps, section_keeps}
+use Rattle.lk_gc.specs.KeptParts.{kept_marks, live_by, live_marks, names_output, redirect_keeps, script_keeps, section_keeps}
+use Rattle.lk_gc.specs.Reach.{AreLive, IsKeptByRedirect, IsLive, keeps_output, marked, redirect_output}
 use Rattle.lk_reach.specs.Reach.{IsReached}
 use Rattle.lk_reach.specs.Units.{ask_for, export_roots, file_roots, flags_from, is_root, kind_roots, roots, section_roots, unit_of}
 use Rattle.lk_link.proofs.Elements.{numbered_at, append_left, at_index, contains_at, filter_in, flat_map_at, flat_map_in, map_at, map_in}
@@ -130,13 +130,13 @@ either true b h = inl refl
 either false b h = inr h
 
 -- an element for which it holds, where there is one
-record Holds {X : Type 0} (p : X → Bool) (xs : List X) : Type 0 where
-  place : ℕ
-  element : X
-  there : slice_get xs place ≡ Some element
-  holds : p element ≡ true
+pub record Holds {X : Type 0} (p : X → Bool) (xs : List X) : Type 0 where
+  pub place : ℕ
+  pub element : X
+  pub there : slice_get xs place ≡ Some element
+  pub holds : p element ≡ true
 
-holds_of : {X : Type 0} (p : X → Bool) (xs : List X) → list_any p xs ≡ true → Holds p xs
+pub holds_of : {X : Type 0} (p : X → Bool) (xs : List X) → list_any p xs ≡ true → Holds p xs
 holds_of p xs h =
     let x = Any-from_list_any p xs h in
     record { place = x.0; element = x.1; there = slice_get-get_or xs x.0 x.1 x.2 ∙ ap Some x.3; holds = x.4 }

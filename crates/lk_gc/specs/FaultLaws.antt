@@ -1,5 +1,8 @@
 -- References at fault, in words of reach and of symbols.
-use Rattle.std.specs.Prelude.{◌≡◌, ◌↔◌, ℕ, ◌+◌, ◌==◌, true, false, Some, Contains, slice_get, unwrap_or}
+use Rattle.std.specs.Prelude.{◌≡◌, ◌↔◌, ℕ, ◌+◌, ◌==◌, true, false, List, [], ◌∷◌, AllPairs, Some, Contains, slice_get, unwrap_or}
+use Rattle.std.specs.Cmp.Lexicographic.{slice_cmp}
+use Rattle.std.specs.Ordering.{nat_cmp}
+use Rattle.std.specs.declared.cmp.Ordering.TheVariants.{Less}
 use Rattle.lk_link.specs.declared.file.InputFile.{InputFile}
 use Rattle.lk_link.specs.declared.ids.FileId.{FileId}
 use Rattle.lk_link.specs.declared.link.LinkInput.{LinkInput}
@@ -74,6 +77,25 @@ IsFault link (Discarded id i) = IsDiscardedFault link id i
 IsFault link (Undefined s id i r) = IsUndefinedFault link s id i r
 IsFault link (UndefinedDynamic s id) = IsDynamicFault link s id
 
--- the references that are told of a well-formed link are those that can't be met
+-- its place: its file, then the section there, by its index, and the relocation; symbols come behind the sections of their file
+abbrev pub fault_place : ReferenceFault → List ℕ
+fault_place (Discarded id i) = id.group ∷ id.file ∷ 0 ∷ i ∷ []
+fault_place (Undefined s id i r) = id.group ∷ id.file ∷ 0 ∷ i ∷ r ∷ []
+fault_place (UndefinedDynamic s id) = id.group ∷ id.file ∷ 1 ∷ s ∷ []
+
+-- the place of the first is before that of the second, number by number
+abbrev pub ComesBefore : ReferenceFault → ReferenceFault → Type 0
+ComesBefore a b = slice_cmp nat_cmp (fault_place a) (fault_place b) ≡ Less
+
+-- a list has just the references that can't be met, each once, in the order of their places
+pub record AreFaults (link : LinkInput) (faults : List ReferenceFault) : Type 0 where
+  pub these : (fault : ReferenceFault) → Contains faults fault ↔ IsFault link fault
+  pub in_order : AllPairs ComesBefore faults
+
+-- the references that are told of a well-formed link are such a list
 abbrev pub FaultsAreThese : Type 0
-FaultsAreThese = (link : LinkInput) (fault : ReferenceFault) → IsWellFormed link → Contains (reference_faults link) fault ↔ IsFault link fault
+FaultsAreThese = (link : LinkInput) → IsWellFormed link → AreFaults link (reference_faults link)
+
+-- there is no other
+abbrev pub FaultsAreOne : Type 0
+FaultsAreOne = (link : LinkInput) (a b : List ReferenceFault) → AreFaults link a → AreFaults link b → a ≡ b

@@ -1,8 +1,7 @@
 -- What is live.
-use Rattle.std.specs.Prelude.{◌≡◌, ◌≢◌, ◌↔◌, ◌⊎◌, ℕ, ◌+◌, ◌<◌, ◌==◌, ◌&&◌, ◌||◌, not, Bool, true, false, if◌then◌else◌, List, [], ◌∷◌, Option, Some, None, Result, Ok, Err, drop, length, map, slice_get}
+use Rattle.std.specs.Prelude.{◌≡◌, ◌≢◌, ◌↔◌, ◌⊎◌, ℕ, ◌+◌, ◌<◌, ◌==◌, ◌&&◌, not, Bool, true, false, if◌then◌else◌, List, [], ◌∷◌, Option, Some, None, Result, Ok, Err, length, slice_get}
 use Rattle.std.specs.Int.{bit_at}
-use Rattle.std.specs.List.{enumerate_from, list_any, slice_index_or}
-use Rattle.std.specs.Option.{option_map_or}
+use Rattle.std.specs.List.{slice_index_or}
 use Rattle.lk_link.specs.declared.flags.ValueFlags.{ValueFlags}
 use Rattle.lk_link.specs.declared.file.InputFile.{InputFile}
 use Rattle.lk_link.specs.declared.ids.FileId.{FileId}
@@ -14,9 +13,8 @@ use Rattle.lk_link.specs.declared.symbol.SymbolPlacement.{SymbolPlacement}
 use Rattle.lk_link.specs.declared.symbol.SymbolPlacement.TheVariants as at
 use Rattle.lk_link.specs.FileKinds.{is_script}
 use Rattle.lk_link.specs.Files.{file_in}
-use Rattle.lk_link.specs.Inputs.{Input, NumberedFile, all_inputs, numbered_files}
+use Rattle.lk_link.specs.Inputs.{Input, all_inputs}
 use Rattle.lk_link.specs.InputSlots.{can_be_kept, is_debug}
-use Rattle.lk_link.specs.Marks.{is_marked}
 use Rattle.lk_link.specs.PartRules.{is_part_of}
 use Rattle.lk_link.specs.Symbols.{all_symbols, first_symbol}
 use Rattle.lk_gc.specs.declared.error.GcError.{GcError}
@@ -24,9 +22,8 @@ use Rattle.lk_gc.specs.declared.error.GcError.TheVariants.{NoMemory, References}
 use Rattle.lk_gc.specs.declared.live.Live.{Live}
 use Rattle.lk_reach.specs.declared.units.Unit.TheVariants.{Sym}
 use Rattle.lk_gc.specs.Faults.{reference_faults}
-use Rattle.lk_reach.specs.Marks.{symbols_in_all}
 use Rattle.lk_reach.specs.Reach.{HasFlag, IsReached}
-use Rattle.lk_reach.specs.Units.{flags_from, unit_of}
+use Rattle.lk_reach.specs.Units.{unit_of}
 
 -- ---- live
 
@@ -95,48 +92,6 @@ marked (m ∷ marks) (x ∷ xs) = if m then x ∷ marked marks xs else marked ma
 -- the live input sections, by file and index
 abbrev pub live_inputs : LinkInput → Live → List Input
 live_inputs link live = marked live.marks (all_inputs link.groups)
-
--- ---- live, by marks of units and words of flags
-
--- whether the unit of an input section with its number is marked, and its slot lets it be kept
-abbrev pub live_mark : LinkInput → List Bool → ℕ × Input → Bool
-live_mark link marks q = is_marked marks (symbols_in_all link.groups + q.0) && can_be_kept q.1.section.slot
-
--- the same for each input section
-abbrev pub live_marks : LinkInput → List Bool → List Bool
-live_marks link marks = map (live_mark link marks) (enumerate_from 0 (all_inputs link.groups))
-
--- whether a live section without bytes keeps an output section
-abbrev pub section_keeps : LinkInput → List Bool → ℕ → Bool
-section_keeps link live o = list_any (keeps_output link o) (marked live (all_inputs link.groups))
-
--- whether a symbol with its number is marked, and a redirect at the start or the end of an output section
-abbrev pub names_output : List Bool → ℕ → ℕ × InputSymbol → Bool
-names_output marks o q = is_marked marks q.0 && option_map_or (λ n. n == o) (redirect_output q.1.at) false
-
--- whether a file is a script that has such a symbol, and whether any file is
-abbrev pub script_keeps : LinkInput → List Bool → ℕ → NumberedFile → Bool
-script_keeps link marks o f =
-    is_script f.file.kind && list_any (names_output marks o) (enumerate_from (first_symbol link.groups f.id) f.file.symbols)
-
-abbrev pub redirect_keeps : LinkInput → List Bool → ℕ → Bool
-redirect_keeps link marks o = list_any (script_keeps link marks o) (numbered_files link.groups)
-
--- a mark for each output section, by its number
-abbrev pub for_sections : (ℕ → Bool) → LinkInput → List Bool
-for_sections keeps link = map (λ q. keeps q.0) (enumerate_from 0 link.plan.sections)
-
--- for each output section whether either keeps it
-abbrev pub kept_marks : LinkInput → List Bool → List Bool → List Bool
-kept_marks link live marks = for_sections (λ o. section_keeps link live o || redirect_keeps link marks o) link
-
--- what is live
-abbrev pub live_by : LinkInput → List Bool → List ℕ → Live
-live_by link marks words = record {
-  marks = live_marks link marks;
-  flags = map flags_from (drop 1 words);
-  kept = kept_marks link (live_marks link marks) marks;
-}
 
 -- what the traversal answers: what is live, where no reference is at fault; else all that are; nothing is said for want of memory
 abbrev pub GivesLive : LinkInput → Result Live GcError → Type 0

@@ -1,20 +1,20 @@
 //! What is live, by the marks of units and the words of flags that a walk left.
 
-ghost use Rattle.std.specs.Prelude.{◌≡◌, ◌-◌, ◌≤◌, ◌<◌, ◌&&◌, ◌||◌, ℕ, IfOk, drop, false, length, map, replicate};
+ghost use Rattle.std.specs.Prelude.{◌≡◌, ◌-◌, ◌≤◌, ◌<◌, ◌&&◌, ◌||◌, ℕ, IfOk, drop, length, map};
 ghost use Rattle.std.specs.List.{list_any, range_with_len};
 ghost use Rattle.lk_link.specs.InputSlots.{can_be_kept};
 ghost use Rattle.lk_link.specs.Marks.{is_marked};
 ghost use Rattle.lk_link.specs.WellFormed.{IsWellFormed};
-ghost use Rattle.lk_gc.specs.Reach.{for_sections, kept_marks, live_by, live_marks};
+ghost use Rattle.lk_gc.specs.KeptParts.{AreKeptParts, for_sections, keeps_part, kept_marks, live_by, live_marks, part_keeps};
 ghost use Rattle.lk_reach.specs.Units.{flags_from};
 ghost use Rattle.lk_reach.specs.Marks.{AreFew};
-ghost use Rattle.lk_gc.specs.KeptParts.{AreKeptParts, keeps_part, part_keeps};
 
 use crate::live::Live;
 use crate::named::keep_named;
 use lk_link::marks::is_marked;
 use lk_link::{InputSection, InputSlot, LinkInput, List, ValueFlags};
 use lk_reach::Walk;
+use lk_reach::walk::unmarked;
 use std::alloc::{AllocError, Global};
 
 /// What is live after a walk.
@@ -51,7 +51,7 @@ fn live_pass(alloc: Global, link: &LinkInput, marks: &[bool]) -> Result<LivePass
 {
     let symbols = link.groups.symbol_count() as usize;
     let mut live = Vec::with_capacity(alloc, link.groups.input_count() as usize)?;
-    let mut parts = no_parts(alloc, link.plan.sections.parts().len())?;
+    let mut parts = unmarked(alloc, link.plan.sections.parts().len())?;
     for input in link.groups.inputs() {
         let unit = symbols + live.len();
         let alive = is_live(marks, unit, input.section.slot);
@@ -127,13 +127,6 @@ fn any_marked(marks: &[bool], first: usize, behind: usize) -> bool
     ensures { result ≡ list_any (is_marked marks.now) (range_with_len first (behind - first)) }
 {
     (first..behind).any(|number| is_marked(marks, number))
-}
-
-/// So many parts, none of them kept.
-fn no_parts(alloc: Global, count: usize) -> Result<Vec<bool>, AllocError>
-    ensures { IfOk result (λ parts. parts.items ≡ replicate count false) }
-{
-    vec![in alloc; false; count]
 }
 
 /// Keeps the part of a section, if the section is live, has no bytes and isn't debug data.

@@ -1,6 +1,6 @@
 //! Laws on what is live, beside those on what is reached.
 
-ghost use Rattle.lk_gc.specs.FaultLaws.{FaultsAreThese};
+ghost use Rattle.lk_gc.specs.FaultLaws.{FaultsAreOne, FaultsAreThese};
 ghost use Rattle.lk_gc.specs.Laws.{AllIsLive, AskedForIsLive, GroupsStayTogether, LiveExists, LiveIsOne, LiveWasAskedFor, RootsAreLive};
 
 use lk_link::file::group_members_rise;
@@ -48,8 +48,14 @@ pub fn live_was_asked_for()
     ensures { LiveWasAskedFor }
 {}
 
-/// A law: the references that are told of a well-formed link are just those that can't be met: of sections that are reached,
-/// those that are discarded and relocations that need an undefined symbol; and undefined symbols of dynamic files.
+/// A law: the references that are told of a well-formed link are just those that can't be met, each once, by file, section and
+/// relocation: of sections that are reached, those that are discarded and relocations that need an undefined symbol; and behind
+/// the sections of its file each undefined symbol of a dynamic file.
 pub fn faults_are_these()
     ensures { FaultsAreThese }
+{}
+
+/// A law: no other list is so.
+pub fn faults_are_one()
+    ensures { FaultsAreOne }
 {}

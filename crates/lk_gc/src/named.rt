@@ -7,7 +7,8 @@ ghost use Rattle.lk_link.specs.Files.{file_in};
 ghost use Rattle.lk_link.specs.Marks.{is_marked};
 ghost use Rattle.lk_link.specs.Walks.{file_of};
 ghost use Rattle.lk_link.specs.WellFormed.{IsWellFormed};
-ghost use Rattle.lk_gc.specs.Reach.{loc_output, names_output, redirect_keeps, redirect_output, script_keeps};
+ghost use Rattle.lk_gc.specs.KeptParts.{names_output, redirect_keeps, script_keeps};
+ghost use Rattle.lk_gc.specs.Reach.{loc_output, redirect_output};
 
 use lk_link::marks::is_marked;
 use lk_link::{FileRef, InputSymbol, LinkInput, OutputSectionId, SymbolLoc, SymbolPlacement};

@@ -1,7 +1,6 @@
 use Rattle.std.proofs.Common.{◌+◌, ap, ◌∙◌, Bool, List, refl}
 use Rattle.lk_link.specs.Parts.{first_part}
-use Rattle.lk_gc.specs.KeptParts.{part_keeps}
-use Rattle.lk_gc.specs.Reach.{for_sections, section_keeps}
+use Rattle.lk_gc.specs.KeptParts.{for_sections, part_keeps, section_keeps}
 use Rattle.lk_gc.proofs.KeepLemmas.{kept_same, kept_whole, same_for_all}
 use Rattle.lk_gc.proofs.keep.kept_marks.Goals as goal
 

@@ -1,4 +1,4 @@
-use Rattle.std.proofs.Common.{rules, ◌≡◌, ◌+◌, ◌<◌, ◌&&◌, ℕ, Bool, List, ◌++◌, ◌∷◌, [], length, map, sym, ap, ◌∙◌, arith}
+use Rattle.std.proofs.Common.{rules, ◌≡◌, ◌+◌, ◌<◌, ◌&&◌, Bool, List, ◌++◌, ◌∷◌, [], length, map, sym, ap, ◌∙◌, arith}
 use Rattle.std.specs.List.{enumerate_from, list_any}
 use Rattle.std.proofs.lemmas.List.{length-map}
 use Rattle.std.proofs.lemmas.List.FromFn.{length-enumerate_from}
@@ -7,8 +7,8 @@ use Rattle.lk_link.specs.InputSlots.{can_be_kept}
 use Rattle.lk_link.specs.Marks.{is_marked}
 use Rattle.lk_link.specs.Walks.{input_of}
 use Rattle.lk_reach.specs.Marks.{symbols_in_all}
-use Rattle.lk_gc.specs.Reach.{live_mark, marked}
-use Rattle.lk_gc.specs.KeptParts.{keeps_part}
+use Rattle.lk_gc.specs.KeptParts.{keeps_part, live_mark}
+use Rattle.lk_gc.specs.Reach.{marked}
 use Rattle.lk_gc.proofs.KeepLemmas.{live_next, part_next}
 use Rattle.lk_reach.proofs.Numbered.{are_numbered}
 use Rattle.lk_reach.proofs.SymbolNumbers.{symbols_few}

@@ -3,8 +3,8 @@ use Rattle.std.specs.List.{enumerate_from, list_any}
 use Rattle.lk_link.specs.Marks.{is_marked}
 use Rattle.lk_link.specs.Parts.{all_parts}
 use Rattle.lk_link.specs.Walks.{input_of}
-use Rattle.lk_gc.specs.Reach.{live_mark, marked}
-use Rattle.lk_gc.specs.KeptParts.{keeps_part}
+use Rattle.lk_gc.specs.KeptParts.{keeps_part, live_mark}
+use Rattle.lk_gc.specs.Reach.{marked}
 use Rattle.lk_gc.proofs.keep.live_pass.Given as goal
 
 -- the marks of the sections so far, and the parts that they keep

@@ -1,4 +1,4 @@
-use Rattle.lk_gc.proofs.FaultReach.{faults_are_these}
+use Rattle.lk_gc.proofs.FaultOrder.{faults_are_these}
 use Rattle.lk_gc.proofs.laws.faults_are_these.Goals as goal
 
 pub returns : goal.returns

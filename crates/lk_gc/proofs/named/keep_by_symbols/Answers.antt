@@ -1,7 +1,6 @@
-use Rattle.std.proofs.Common.{◌≡◌, ◌+◌, ◌<◌, ◌||◌, length, take, refl, sym, ap, ◌∙◌, arith}
-use Rattle.std.specs.List.{enumerate_from, list_any}
+use Rattle.std.proofs.Common.{◌<◌, length, refl, sym, ◌∙◌, arith}
 use Rattle.lk_link.specs.Marks.{is_marked}
-use Rattle.lk_gc.specs.Reach.{names_output}
+use Rattle.lk_gc.specs.KeptParts.{names_output}
 use Rattle.lk_reach.proofs.Passing.{or_last}
 use Rattle.lk_gc.proofs.KeepLemmas.{symbol_next}
 use Rattle.lk_gc.proofs.named.keep_by_symbols.Goals as goal

@@ -1,7 +1,7 @@
 use Rattle.std.proofs.Common.{◌≡◌, ℕ, ◌<◌, ◌||◌, length, take}
 use Rattle.std.specs.List.{enumerate_from, list_any}
 use Rattle.lk_link.specs.Marks.{is_marked}
-use Rattle.lk_gc.specs.Reach.{names_output}
+use Rattle.lk_gc.specs.KeptParts.{names_output}
 use Rattle.lk_gc.proofs.named.keep_by_symbols.Given as goal
 
 -- what the symbols so far keep is kept, with what was kept before

@@ -1,9 +1,9 @@
-use Rattle.std.proofs.Common.{◌≡◌, ℕ, ◌<◌, ◌||◌, length, refl, sym, ap, ◌∙◌, arith}
+use Rattle.std.proofs.Common.{◌<◌, ◌||◌, length, refl, sym, ap, ◌∙◌, arith}
 use Rattle.std.specs.List.{list_any}
 use Rattle.lk_link.specs.Inputs.{numbered_files}
 use Rattle.lk_link.specs.Marks.{is_marked}
 use Rattle.lk_link.specs.Walks.{file_of}
-use Rattle.lk_gc.specs.Reach.{script_keeps}
+use Rattle.lk_gc.specs.KeptParts.{script_keeps}
 use Rattle.lk_gc.proofs.KeepLemmas.{file_next}
 use Rattle.lk_reach.proofs.Passing.{or_last}
 use Rattle.lk_reach.proofs.Numbered.{are_numbered, file_at}

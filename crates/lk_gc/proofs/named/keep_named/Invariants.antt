@@ -2,7 +2,7 @@ use Rattle.std.proofs.Common.{◌≡◌, ℕ, ◌<◌, ◌||◌, length, map}
 use Rattle.std.specs.List.{list_any}
 use Rattle.lk_link.specs.Marks.{is_marked}
 use Rattle.lk_link.specs.Walks.{file_of}
-use Rattle.lk_gc.specs.Reach.{script_keeps}
+use Rattle.lk_gc.specs.KeptParts.{script_keeps}
 use Rattle.lk_gc.proofs.named.keep_named.Given as goal
 
 -- what the files so far keep is kept, with what was kept before

@@ -1,9 +1,13 @@
-use Rattle.std.proofs.Common.{rules, ◌≡◌, ◌<◌, ◌||◌, Bool, List, false, length, replicate, ap, ◌∙◌, arith}
+use Rattle.std.proofs.Common.{rules, ◌≡◌, ◌<◌, ◌||◌, Bool, List, false, length, map, replicate, sym, ap, ◌∙◌, arith}
 use Rattle.std.proofs.lemmas.List.{length-replicate}
 use Rattle.lk_link.specs.Marks.{is_marked}
 use Rattle.lk_link.specs.Walks.{input_of}
 use Rattle.lk_gc.specs.Primary.{names_primary, primary_symbols}
+use Rattle.lk_gc.specs.Reach.{live_inputs}
+use Rattle.std.specs.List.{list_any}
+use Rattle.lk_reach.proofs.LiveWalk.{finish}
 use Rattle.lk_reach.proofs.Numbered.{are_numbered}
+use Rattle.lk_gc.proofs.PrimaryReach.{is_named, named_is}
 use Rattle.lk_gc.proofs.PrimaryLemmas.{input_turn, named_next, none_named, primary_count}
 use Rattle.lk_gc.proofs.primary.primary_references.Goals as goal
 
@@ -39,3 +43,18 @@ loop-input-preserved c =
           named_next (names_primary link (primary_symbols link) s) c.loop-input.yielded c.in-Some.input (is_marked old s) (is_marked new s) (c.loop-input.invariant.1 s before)
           (c.mark_named.ensures.marks s before ∙ ap (λ (p : List Bool). is_marked old s || names_primary link p s x) primary),
     )
+
+pub returns : goal.returns
+returns c =
+    let link = c.args.link.now in
+    let live = c.args.live.now in
+    let all : map input_of c.loop-input.yielded ≡ live_inputs link live
+    = finish (live_inputs link live) c.into_iter-input-iterator.result c.loop-input.input-iterator c.next.new.self c.loop-input.yielded (cc) c.loop-input.yielded_by c.in-None.ensures.steps in
+    let marks : List Bool = c.loop-input.marks.items in
+    record {
+      count = c.loop-input.invariant.0;
+      each = λ s lt.
+          let told : is_marked marks s ≡ list_any (names_primary link (primary_symbols link) s) (live_inputs link live)
+          = c.loop-input.invariant.1 s lt ∙ ap (list_any (names_primary link (primary_symbols link) s)) all in
+          (λ marked. named_is link live s (sym told ∙ marked), λ named. told ∙ is_named link live s named.0 named.1);
+    }

@@ -3,7 +3,8 @@ use Rattle.std.proofs.lemmas.List.{nil_from_length}
 use Rattle.lk_gc.specs.declared.error.ReferenceFault.{ReferenceFault}
 use Rattle.lk_gc.specs.Faults.{faults_by, reference_faults}
 use Rattle.lk_reach.specs.Marks.{flag_words, reached_marks}
-use Rattle.lk_gc.specs.Reach.{AreLive, live_by}
+use Rattle.lk_gc.specs.KeptParts.{live_by}
+use Rattle.lk_gc.specs.Reach.{AreLive}
 use Rattle.lk_gc.proofs.Living.{are_live}
 use Rattle.lk_gc.proofs.traversal.traverse_alone.Goals as goal
 

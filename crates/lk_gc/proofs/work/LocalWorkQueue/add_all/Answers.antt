@@ -1,7 +1,5 @@
-use Rattle.std.proofs.Common.{◌++◌, List, ap, ◌∙◌}
+use Rattle.std.proofs.Common.{◌++◌, ap, ◌∙◌}
 use Rattle.std.specs.Option.{option_to_list}
-use Rattle.lk_reach.specs.declared.units.Ask.{Ask}
-use Rattle.lk_gc.specs.declared.work.WorkItem.{WorkItem}
 use Rattle.lk_gc.proofs.WorkLemmas.{items_next}
 use Rattle.lk_gc.proofs.work.LocalWorkQueue.add_all.Goals as goal
 
