@@ -22,11 +22,12 @@ file of it is held at a time. SHAPE says what the bytes go to:
     named     strings that are merged, each with a symbol that a relocation names
     grouped   linked ones with section groups, merge data, debug data, dynamic files and commons
     whole     the same with tables, a script, and symbols of the linker
+    candidates  symbols at the start of one output section, and as many sections that each of them asks for
     moves     output sections, up to the limit, each at a location of an expression of depth 50
     regions   output sections in 64 regions, each with a load address
     secondary output sections of which three in four are secondary
 
-The last four shapes aren't laid out yet, but read and checked; the others are laid out.
+The last five shapes aren't laid out yet, but read and checked; the others are laid out.
 """
 
 import math
@@ -37,7 +38,7 @@ from attributes import ALLOCATED, EXECUTABLE, WRITABLE, ZERO_FILL
 from forms import GROUPED, LINKED, WHOLE
 from merges import MERGES, put_merges
 from plans import PLANS, put_plans
-from ways import put_exports, put_ways
+from ways import put_candidates, put_exports, put_ways
 from whole import put_whole_link
 
 PAGE = 4096
@@ -47,7 +48,7 @@ MOST_OUTPUT_SECTIONS = 65_000
 MOST_SEGMENTS = 8
 FORMS = {"linked": LINKED, "grouped": GROUPED, "whole": WHOLE}
 WAYS = ("chain", "star")
-SHAPES = ("objects", "plan", "files", "single", *WAYS, "exports", *MERGES, *FORMS, *PLANS)
+SHAPES = ("objects", "plan", "files", "single", *WAYS, "exports", "candidates", *MERGES, *FORMS, *PLANS)
 
 # Share of the output sections, attributes, name, and alignments to choose from. The order is the
 # order in memory: within a segment nothing with file bytes follows a zero-filled section.
@@ -193,6 +194,9 @@ def generate(stream, total, seed, shape):
         return
     if shape == "exports":
         put_exports(writer, total, PAGE, BASE)
+        return
+    if shape == "candidates":
+        put_candidates(writer, total, PAGE, BASE)
         return
     if shape in PLANS:
         put_plans(writer, total, PAGE, shape)

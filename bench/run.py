@@ -39,6 +39,7 @@ DEFAULT_PROGRAM = os.path.join(HERE, "..", "crates", "lk_program", "out", "lk_pr
 DEFAULT_MEGABYTES = (1, 10, 100)
 SHAPE_MEGABYTES = (1, 4)
 LARGE_SHAPES = ("objects", "linked", "grouped", "chain", "star", "exports")
+CHECKED_SHAPES = ("whole", "candidates")
 PLAN_MEGABYTES = (1, 4, 16)
 SMALL_SHAPES = ("plan", "files", "single")
 RUNS, MOST_RUNS, SMALL_BYTES = 3, 7, 5_000_000
@@ -377,7 +378,7 @@ def main(words):
         print(REST_LEGEND)
         if special:
             return
-        checked = [Series(program, folder, "whole")]
+        checked = [Series(program, folder, shape) for shape in CHECKED_SHAPES]
         print_table(CHECKED_COLUMNS, CHECKED_LEGEND, checked, sizes_of, Series.checked_row)
 
 

@@ -1,5 +1,5 @@
-"""Links in which much depends on a few things: a way that leads through all sections, one symbol that all name, and a
-list in which all symbols are looked up."""
+"""Links in which much depends on a few things: a way that leads through all sections, one symbol that all name, a list in
+which all symbols are looked up, and an output section at whose start all symbols stand."""
 
 SECTIONS = 25  # of an object
 REFERENCES = 8  # of a section to the one symbol
@@ -90,4 +90,34 @@ def put_exports(writer, total, page, base):
         symbols = ['{"at":["undef"],"def":%d}' % number for number in numbers]
         start = '],\n[{"kind":"dynamic","symbols":[' if first == 0 else ","
         writer.put(start + ",".join(symbols))
+    writer.put("]}]\n]}\n")
+
+
+# Candidates of one output section, for all of which each of as many symbols asks
+
+CANDIDATE_BYTES = 148  # of a candidate, its section, a symbol at the start, and the reference to it
+
+
+def put_listed(writer, count, text_of):
+    """The texts of so many numbers, in lines of a thousand."""
+    for first in range(0, count, PER_FILE):
+        numbers = range(first, min(first + PER_FILE, count))
+        writer.put((",\n" if first > 0 else "") + ",".join(map(text_of, numbers)))
+
+
+def put_candidates(writer, total, page, base):
+    """An object whose first section refers to all symbols of a synthetic file, and these to all its other sections."""
+    count = max(2, total // CANDIDATE_BYTES)
+    unloaded = section_text("unloaded", [])
+    writer.put('{"plan":%s,\n"groups":[\n[{"kind":"prelude"}],\n' % plan_text(page, base))
+    writer.put('[{"kind":"object","name":"candidates.o","symbols":[')
+    put_listed(writer, count, lambda number: '{"at":["undef"],"def":%d}' % (count + number))
+    writer.put('],\n"sections":[{"slot":"must","size":%d,"attrs":4,"relocs":[' % (8 * count))
+    put_listed(writer, count, lambda number: RELOCATION % (8 * number, "Absolute", number, 0))
+    writer.put("]},\n")
+    put_listed(writer, count, lambda _: unloaded)
+    writer.put(']}],\n[{"kind":"synthetic","name":"edges","symbols":[')
+    put_listed(writer, count, lambda _: '{"at":["start",0]}')
+    writer.put('],\n"candidates":[')
+    put_listed(writer, count, lambda number: "[0,1,0,%d]" % (number + 1))
     writer.put("]}]\n]}\n")
