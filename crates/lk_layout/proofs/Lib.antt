@@ -6,12 +6,14 @@ mod Fitting
 mod ImagesShow
 mod Imaging
 mod LaidOut
+mod NamedOperands
 mod NamedSymbols
 mod NothingMerged
 mod OneAnswer
 mod PartStarts
 mod Placing
 mod PlacingRefused
+mod Positioned
 mod ReferencesShow
 mod Resolved
 mod Settings

@@ -18,6 +18,7 @@ use Rattle.lk_layout.specs.Defined.{IsPlacedAnswer, IsSizedAnswer, WithMemory, s
 use Rattle.lk_layout.specs.Errors.{place_error}
 use Rattle.lk_layout.specs.Headers.{header_bytes}
 use Rattle.lk_layout.specs.OutputContent.{output_content}
+use Rattle.lk_layout.specs.Positions.{asked_positions}
 use Rattle.lk_layout.proofs.Answering.{unless_some}
 
 -- a refusal of the placement
@@ -40,12 +41,12 @@ told machine link live (place.SectionOutsideSegments s) h = refused machine link
 
 -- the same where it is handed on, told of the sizes, the bytes of headers and the places of symbols that are
 pub placing_refused : (machine : Machine) (link : LinkInput) (live : Live) (sizes : List ℕ) (headers : ℕ) (positions : List (Option SymbolPosition)) (e : PlaceError) (answer : Result Layout LayoutError)
-    → sizes ≡ part_sizes link (output_content machine.sizes link live) → headers ≡ header_bytes machine link live → positions ≡ []
+    → sizes ≡ part_sizes link (output_content machine.sizes link live) → headers ≡ header_bytes machine link live → positions ≡ asked_positions link (output_content machine.sizes link live)
     → GivesPlaced (setting_of link machine.target sizes headers positions) (Err e) → IsErrAnd answer (λ x. x ≡ place_error e) → WithMemory (IsSizedAnswer machine link live) answer
-placing_refused machine link live sizes headers positions e (Ok layout) same leading none gives h = absurd h
-placing_refused machine link live sizes headers positions e (Err x) same leading none gives h =
+placing_refused machine link live sizes headers positions e (Ok layout) same leading asked gives h = absurd h
+placing_refused machine link live sizes headers positions e (Err x) same leading asked gives h =
     let all : List ℕ = part_sizes link (output_content machine.sizes link live) in
     let sized : GivesPlaced (setting_of link machine.target all headers positions) (Err e) = subst (λ ns. GivesPlaced (setting_of link machine.target ns headers positions) (Err e)) same gives in
     let led : GivesPlaced (setting_of link machine.target all (header_bytes machine link live) positions) (Err e) = subst (λ n. GivesPlaced (setting_of link machine.target all n positions) (Err e)) leading sized in
-    let there : GivesPlaced (setting machine link live) (Err e) = subst (λ ps. GivesPlaced (setting_of link machine.target all (header_bytes machine link live) ps) (Err e)) none led in
+    let there : GivesPlaced (setting machine link live) (Err e) = subst (λ ps. GivesPlaced (setting_of link machine.target all (header_bytes machine link live) ps) (Err e)) asked led in
     subst (λ y. WithMemory (IsSizedAnswer machine link live) (Err y)) (sym h) (told machine link live e there)

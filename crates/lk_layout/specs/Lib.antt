@@ -10,6 +10,7 @@ pub mod Machines
 pub mod Merging
 pub mod OutputContent
 pub mod Outside
+pub mod Positions
 pub mod Resolutions
 pub mod Sound
 pub mod Tables

@@ -1,15 +1,17 @@
 -- What the code goes by: places by marks and a table of addresses, and the room behind them. Contracts of private functions speak
 -- of this.
-use Rattle.std.specs.Prelude.{◌≡◌, ℕ, ◌+◌, ◌<◌, ◌^◌, Bool, true, if◌then◌else◌, List, All, Option, Some, None, Result, Ok, Err, ◌==◌, find, slice_get, unwrap_or}
+use Rattle.std.specs.Prelude.{◌≡◌, ℕ, ◌+◌, ◌<◌, ◌^◌, ◌&&◌, not, Bool, true, if◌then◌else◌, List, All, Option, Some, None, Result, Ok, Err, ◌==◌, find, option_and_then, slice_get, unwrap_or}
 use Rattle.std.specs.List.{slice_index_or}
 use Rattle.std.specs.Option.{option_map_or}
 use Rattle.lk_sizes.specs.declared.addresses.CommonAddress.{CommonAddress}
 use Rattle.lk_link.specs.declared.file.InputFile.{InputFile}
 use Rattle.lk_link.specs.declared.ids.FileId.{FileId}
+use Rattle.lk_link.specs.declared.section.InputSection.{InputSection}
 use Rattle.lk_link.specs.declared.symbol.SymbolPlacement.{SymbolPlacement}
 use Rattle.lk_link.specs.declared.symbol.SymbolPlacement.TheVariants as at
 use Rattle.lk_link.specs.Files.{file_in}
 use Rattle.lk_link.specs.Inputs.{first_input}
+use Rattle.lk_link.specs.InputSlots.{is_regular}
 use Rattle.lk_link.specs.Marks.{is_marked}
 use Rattle.lk_link.specs.declared.link.LinkInput.{LinkInput}
 use Rattle.lk_link.specs.WellFormed.{IsWellFormed}
@@ -17,6 +19,7 @@ use Rattle.lk_merge.specs.Addresses.{AreStartsOf, image_start}
 use Rattle.lk_merge.specs.LinkInputs.{link_inputs}
 use Rattle.lk_merge.specs.Pieces.{MergeInput}
 use Rattle.lk_merge.specs.declared.output_address.OffsetPastEnd.{OffsetPastEnd}
+use Rattle.lk_place.specs.declared.expressions.positions.SymbolPosition.{SymbolPosition}
 use Rattle.lk_layout.specs.Resolutions.{Places, merged_value}
 
 -- the address at an offset of an input section, by marks of sections and a table of their addresses
@@ -33,6 +36,17 @@ HasRoom marks addresses first _ = Unit {0}
 abbrev pub HaveRoom : List Bool → List ℕ → List (List InputFile) → Type 0
 HaveRoom marks addresses groups = (id : FileId) (file : InputFile) → file_in groups id ≡ Some file
     → All (λ x. HasRoom marks addresses (first_input groups id) x.at) file.symbols
+
+-- the place in its part of an offset of a section with a number over all files, by marks and a table of the sections' places in parts
+abbrev pub section_position_in : List Bool → List ℕ → ℕ → ℕ → InputSection → Option SymbolPosition
+section_position_in marks offsets k offset section =
+    if is_marked marks k && (is_regular section.slot && not section.sorted)
+    then Some (record { part = section.part; offset = slice_index_or offsets k 0 + offset }) else None
+
+-- that of a symbol of a file with these sections; `first` is the number of the first one
+abbrev pub position_in : List Bool → List ℕ → ℕ → List InputSection → SymbolPlacement → Option SymbolPosition
+position_in marks offsets first sections (at.Section i offset) = option_and_then (section_position_in marks offsets (first + i) offset) (slice_get sections i)
+position_in marks offsets first sections _ = None
 
 -- the merged sections of a well-formed link, with addresses of their buckets
 pub record AreMergedOf (link : LinkInput) (merged : List (List MergeInput)) (addresses : List ℕ) : Type 0 where

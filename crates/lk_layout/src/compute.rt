@@ -31,6 +31,7 @@ use crate::headers::header_bytes;
 use crate::images::{Images, merge_images};
 use crate::layout::Layout;
 use crate::outside::check_offsets;
+use crate::positions::asked_positions;
 use crate::resolution::entry_symbol;
 use lk_check::check_link;
 use lk_gc::{Live, traverse_alone};
@@ -40,7 +41,7 @@ use lk_link::list::List;
 use lk_link::platform::Platform;
 use lk_place::laws::parts_take_their_bytes;
 use lk_place::{
-    Placed, SegmentFileLayout, SymbolPositions, compute_layout_sections, compute_segment_layout,
+    Placed, SegmentFileLayout, compute_layout_sections, compute_segment_layout,
     merge_secondary_parts,
 };
 use lk_sizes::part_owners::owners;
@@ -135,21 +136,12 @@ fn lay_out_sized<'data, P: Platform>(
     let header = sized.header;
     let sizes = part_sizes(alloc, contents.as_slice())?;
     let headers = header_bytes(link, platform, &header);
-    // What is laid out asks for no place of a symbol.
-    let positions = SymbolPositions::new(List::new(alloc));
+    let parts = contents.as_slice();
+    let positions = asked_positions(alloc, link, &live, &images, parts, &sizes, platform)?;
     let placed = compute_layout_sections(alloc, link, &sizes, &positions, headers, platform)?;
     // A law, which does nothing: the parts end where their owners do.
     parts_take_their_bytes();
-    lay_out_placed(
-        alloc,
-        link,
-        images,
-        live,
-        contents.as_slice(),
-        header,
-        placed,
-        platform,
-    )
+    lay_out_placed(alloc, link, images, live, parts, header, placed, platform)
 }
 
 /// The layout of a link that is placed, of which it is known what its headers tell: primaries with their secondaries, segments,

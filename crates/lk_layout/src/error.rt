@@ -1,7 +1,11 @@
 //! Why a link isn't laid out.
 
-ghost use Rattle.std.specs.Prelude.{◌≡◌};
-ghost use Rattle.lk_layout.specs.Texts.{uncarried_text};
+ghost use Rattle.std.specs.Prelude.{◌≡◌, Some};
+ghost use Rattle.std.specs.Fmt.{DisplaysOnOk};
+ghost use Rattle.lk_link.specs.declared.fault.LinkFault.TheVariants as fault;
+ghost use Rattle.lk_link.specs.Texts.{link_fault_text};
+ghost use Rattle.lk_layout.specs.Texts.{backwards_text, full_bucket_text, full_region_text, low_base_text, outside_text, references_text};
+ghost use Rattle.lk_layout.specs.Texts.{uncarried_text, unterminated_text};
 
 use crate::outside::MergeOffsetPlace;
 use crate::references::FurtherLines;
@@ -133,148 +137,126 @@ impl Uncarried {
     }
 }
 
-/// A base without room for the headers below it.
-#[derive(Clone, Copy)]
-struct LowBase {
-    base: u64,
-    headers: u64,
+/// Writes that a list is too long.
+fn write_too_many<W: fmt::Write>(
+    f: &mut fmt::Formatter<W>,
+    what: Limited,
+    count: u64,
+    limit: u64,
+) -> fmt::Result
+    ensures { DisplaysOnOk W.write_str_gives f.old result (Some (link_fault_text (fault.TooMany what count limit))) f.new }
+{
+    let fault = LinkFault::TooMany { what, count, limit };
+    write!(f, "{fault}")
 }
 
-/// With both numbers, in hexadecimal.
-impl fmt::Display for LowBase {
-    ghost use Rattle.std.specs.Prelude.{Some};
-    ghost use Rattle.lk_layout.specs.Texts.{low_base_text};
-
-    ghost output = { λ low. Some (low_base_text low.base low.headers) };
-
-    #[tactic(auto, unfolding(crate::specs::Texts::low_base_text))]
-    fn fmt<W: fmt::Write>(&self, f: &mut fmt::Formatter<W>) -> fmt::Result {
-        let (base, headers) = (self.base, self.headers);
-        write!(
-            f,
-            "base address (0x{base:x}) is less than the size of headers (0x{headers:x})"
-        )
-    }
+/// Writes that a rule is broken, and where.
+fn write_bad_link<W: fmt::Write>(f: &mut fmt::Formatter<W>, rule: Rule, place: Place) -> fmt::Result
+    ensures { DisplaysOnOk W.write_str_gives f.old result (Some (link_fault_text (fault.BadLink rule place))) f.new }
+{
+    let fault = LinkFault::BadLink { rule, place };
+    write!(f, "{fault}")
 }
 
-/// An input whose strings don't end in a zero byte.
-#[derive(Clone, Copy)]
-struct Unterminated {
+/// Writes that the strings of an input don't end in a zero byte: with the output section, and the input's number there.
+#[tactic(auto, unfolding(crate::specs::Texts::unterminated_text))]
+fn write_unterminated<W: fmt::Write>(
+    f: &mut fmt::Formatter<W>,
     section: OutputSectionId,
     input: u32,
+) -> fmt::Result
+    ensures { DisplaysOnOk W.write_str_gives f.old result (Some (unterminated_text section input)) f.new }
+{
+    let section = section.as_u32();
+    write!(
+        f,
+        "String in merge-string section is not null-terminated: section {section}, input {input}"
+    )
 }
 
-/// With the output section, and the input's number there.
-impl fmt::Display for Unterminated {
-    ghost use Rattle.std.specs.Prelude.{Some};
-    ghost use Rattle.lk_layout.specs.Texts.{unterminated_text};
-
-    ghost output = { λ at. Some (unterminated_text at.section at.input) };
-
-    #[tactic(auto, unfolding(crate::specs::Texts::unterminated_text))]
-    fn fmt<W: fmt::Write>(&self, f: &mut fmt::Formatter<W>) -> fmt::Result {
-        let (section, input) = (self.section.as_u32(), self.input);
-        write!(
-            f,
-            "String in merge-string section is not null-terminated: section {section}, input {input}"
-        )
-    }
-}
-
-/// A bucket without room for a piece.
-#[derive(Clone, Copy)]
-struct FullBucket {
+/// Writes that a bucket has no room for a piece: with the output section, the bucket's number there, and where the piece would
+/// start.
+#[tactic(auto, unfolding(crate::specs::Texts::full_bucket_text))]
+fn write_full_bucket<W: fmt::Write>(
+    f: &mut fmt::Formatter<W>,
     section: OutputSectionId,
     bucket: u32,
     offset: u64,
     len: u64,
+) -> fmt::Result
+    ensures { DisplaysOnOk W.write_str_gives f.old result (Some (full_bucket_text section bucket offset len)) f.new }
+{
+    let section = section.as_u32();
+    write!(
+        f,
+        "Merge-string bucket too large: section {section}, bucket {bucket}, offset {offset}, length {len}"
+    )
 }
 
-/// With the output section, the bucket's number there, and where the piece would start.
-impl fmt::Display for FullBucket {
-    ghost use Rattle.std.specs.Prelude.{Some};
-    ghost use Rattle.lk_layout.specs.Texts.{full_bucket_text};
-
-    ghost output = { λ full. Some (full_bucket_text full.section full.bucket full.offset full.len) };
-
-    #[tactic(auto, unfolding(crate::specs::Texts::full_bucket_text))]
-    fn fmt<W: fmt::Write>(&self, f: &mut fmt::Formatter<W>) -> fmt::Result {
-        let (section, bucket) = (self.section.as_u32(), self.bucket);
-        let (offset, len) = (self.offset, self.len);
-        write!(
-            f,
-            "Merge-string bucket too large: section {section}, bucket {bucket}, offset {offset}, length {len}"
-        )
+/// Writes references that can't be met, a line for each; no line ends behind the last.
+fn write_references<W: fmt::Write>(
+    f: &mut fmt::Formatter<W>,
+    faults: &[ReferenceFault],
+) -> fmt::Result
+    ensures { DisplaysOnOk W.write_str_gives f.old result (Some (references_text faults.now)) f.new }
+{
+    match faults.split_first() {
+        Some((first, faults)) => {
+            let further = FurtherLines { faults };
+            write!(f, "{first}{further}")
+        }
+        None => Ok(()),
     }
 }
 
-/// A region whose sections take more bytes than it has.
-#[derive(Clone, Copy)]
-struct FullRegion {
-    region: u32,
+/// Writes that the sections of a region take more bytes than it has: with the bytes too many.
+#[tactic(auto, unfolding(crate::specs::Texts::full_region_text))]
+fn write_full_region<W: fmt::Write>(
+    f: &mut fmt::Formatter<W>,
+    region: RegionId,
     by: u64,
+) -> fmt::Result
+    ensures { DisplaysOnOk W.write_str_gives f.old result (Some (full_region_text region by)) f.new }
+{
+    let region = region.as_u32();
+    write!(f, "region {region} overflowed by {by} bytes")
 }
 
-/// With the region's number and the bytes too many.
-impl fmt::Display for FullRegion {
-    ghost use Rattle.std.specs.Prelude.{Some};
-    ghost use Rattle.lk_layout.specs.Texts.{full_region_text};
-
-    ghost output = { λ full. Some (full_region_text full.region full.by) };
-
-    #[tactic(auto, unfolding(crate::specs::Texts::full_region_text))]
-    fn fmt<W: fmt::Write>(&self, f: &mut fmt::Formatter<W>) -> fmt::Result {
-        let (region, by) = (self.region, self.by);
-        write!(f, "region {region} overflowed by {by} bytes")
-    }
-}
-
-/// A location outside its region.
-#[derive(Clone, Copy)]
-struct Outside {
+/// Writes that a location stands outside its region: with the address in hexadecimal.
+#[tactic(auto, unfolding(crate::specs::Texts::outside_text))]
+fn write_outside<W: fmt::Write>(
+    f: &mut fmt::Formatter<W>,
     event: usize,
     address: u64,
+) -> fmt::Result
+    ensures { DisplaysOnOk W.write_str_gives f.old result (Some (outside_text event address)) f.new }
+{
+    write!(
+        f,
+        "address 0x{address:x} at event {event} is outside its region"
+    )
 }
 
-/// With the address in hexadecimal.
-impl fmt::Display for Outside {
-    ghost use Rattle.std.specs.Prelude.{Some};
-    ghost use Rattle.lk_layout.specs.Texts.{outside_text};
-
-    ghost output = { λ outside. Some (outside_text outside.event outside.address) };
-
-    #[tactic(auto, unfolding(crate::specs::Texts::outside_text))]
-    fn fmt<W: fmt::Write>(&self, f: &mut fmt::Formatter<W>) -> fmt::Result {
-        let (event, address) = (self.event, self.address);
-        write!(
-            f,
-            "address 0x{address:x} at event {event} is outside its region"
-        )
-    }
+/// Writes that a location stands before where it may: with both numbers, in hexadecimal.
+#[tactic(auto, unfolding(crate::specs::Texts::backwards_text))]
+fn write_backwards<W: fmt::Write>(f: &mut fmt::Formatter<W>, from: u64, to: u64) -> fmt::Result
+    ensures { DisplaysOnOk W.write_str_gives f.old result (Some (backwards_text from to)) f.new }
+{
+    write!(
+        f,
+        "Cannot move location counter backwards (from 0x{from:x} to 0x{to:x})"
+    )
 }
 
-/// A location before where it may stand.
-#[derive(Clone, Copy)]
-struct Backwards {
-    from: u64,
-    to: u64,
-}
-
-/// With both numbers, in hexadecimal.
-impl fmt::Display for Backwards {
-    ghost use Rattle.std.specs.Prelude.{Some};
-    ghost use Rattle.lk_layout.specs.Texts.{backwards_text};
-
-    ghost output = { λ back. Some (backwards_text back.from back.to) };
-
-    #[tactic(auto, unfolding(crate::specs::Texts::backwards_text))]
-    fn fmt<W: fmt::Write>(&self, f: &mut fmt::Formatter<W>) -> fmt::Result {
-        let (from, to) = (self.from, self.to);
-        write!(
-            f,
-            "Cannot move location counter backwards (from 0x{from:x} to 0x{to:x})"
-        )
-    }
+/// Writes that a base has no room for the headers below it: with both numbers, in hexadecimal.
+#[tactic(auto, unfolding(crate::specs::Texts::low_base_text))]
+fn write_low_base<W: fmt::Write>(f: &mut fmt::Formatter<W>, base: u64, headers: u64) -> fmt::Result
+    ensures { DisplaysOnOk W.write_str_gives f.old result (Some (low_base_text base headers)) f.new }
+{
+    write!(
+        f,
+        "base address (0x{base:x}) is less than the size of headers (0x{headers:x})"
+    )
 }
 
 /// In a word, as `table`.
@@ -298,81 +280,39 @@ impl fmt::Display for LayoutError {
     ghost output = { λ error. Some (error_text error) };
 
     fn fmt<W: fmt::Write>(&self, f: &mut fmt::Formatter<W>) -> fmt::Result {
+        use LayoutError as E;
         match self {
-            LayoutError::NoMemory => Ok(()),
-            LayoutError::TooMany { what, count, limit } => {
-                let (what, count, limit) = (*what, *count, *limit);
-                let fault = LinkFault::TooMany { what, count, limit };
-                write!(f, "{fault}")
-            }
-            LayoutError::BadLink { rule, place } => {
-                let (rule, place) = (*rule, *place);
-                let fault = LinkFault::BadLink { rule, place };
-                write!(f, "{fault}")
-            }
-            LayoutError::NotCarried(what) => write!(f, "not carried: {what}"),
-            LayoutError::MergeNotTerminated { section, input } => {
-                let (section, input) = (*section, *input);
-                let at = Unterminated { section, input };
-                write!(f, "{at}")
-            }
-            LayoutError::MergeTooLarge {
+            E::NoMemory => Ok(()),
+            E::TooMany { what, count, limit } => write_too_many(f, *what, *count, *limit),
+            E::BadLink { rule, place } => write_bad_link(f, *rule, *place),
+            E::NotCarried(what) => write!(f, "not carried: {what}"),
+            E::MergeNotTerminated { section, input } => write_unterminated(f, *section, *input),
+            E::MergeTooLarge {
                 section,
                 bucket,
                 offset,
                 len,
-            } => {
-                let (section, bucket, offset, len) = (*section, *bucket, *offset, *len);
-                let full = FullBucket {
-                    section,
-                    bucket,
-                    offset,
-                    len,
-                };
-                write!(f, "{full}")
-            }
-            LayoutError::References(faults) => match faults.as_slice().split_first() {
-                Some((first, faults)) => {
-                    let further = FurtherLines { faults };
-                    write!(f, "{first}{further}")
-                }
-                None => Ok(()),
-            },
-            LayoutError::AddressOverflow { place } => write!(f, "address overflow: {place}"),
-            LayoutError::RegionDuplicate { region } => {
+            } => write_full_bucket(f, *section, *bucket, *offset, *len),
+            E::References(faults) => write_references(f, faults.as_slice()),
+            E::AddressOverflow { place } => write!(f, "address overflow: {place}"),
+            E::RegionDuplicate { region } => {
                 let region = region.as_u32();
                 write!(f, "region {region} already defined")
             }
-            LayoutError::Expression { place, cause } => write!(f, "expression at {place}: {cause}"),
-            LayoutError::RegionUnknown { section } => {
+            E::Expression { place, cause } => write!(f, "expression at {place}: {cause}"),
+            E::RegionUnknown { section } => {
                 let section = section.as_u32();
                 write!(f, "region of section {section} not declared")
             }
-            LayoutError::RegionOverflow { region, by } => {
-                let (region, by) = (region.as_u32(), *by);
-                let full = FullRegion { region, by };
-                write!(f, "{full}")
-            }
-            LayoutError::OutsideRegion { event, address } => {
-                let (event, address) = (*event, *address);
-                let outside = Outside { event, address };
-                write!(f, "{outside}")
-            }
-            LayoutError::LocationBackwards { from, to } => {
-                let (from, to) = (*from, *to);
-                let back = Backwards { from, to };
-                write!(f, "{back}")
-            }
-            LayoutError::BaseTooLow { base, headers } => {
-                let (base, headers) = (*base, *headers);
-                let low = LowBase { base, headers };
-                write!(f, "{low}")
-            }
-            LayoutError::SectionOutsideSegments { section } => {
+            E::RegionOverflow { region, by } => write_full_region(f, *region, *by),
+            E::OutsideRegion { event, address } => write_outside(f, *event, *address),
+            E::LocationBackwards { from, to } => write_backwards(f, *from, *to),
+            E::BaseTooLow { base, headers } => write_low_base(f, *base, *headers),
+            E::SectionOutsideSegments { section } => {
                 let section = section.as_u32();
                 write!(f, "section {section} is in no segment")
             }
-            LayoutError::MergeOffset(place) => write!(f, "{place}"),
+            E::MergeOffset(place) => write!(f, "{place}"),
         }
     }
 }

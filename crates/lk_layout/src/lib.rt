@@ -13,6 +13,7 @@ pub mod laws;
 pub mod layout;
 mod merged;
 pub mod outside;
+mod positions;
 mod references;
 pub mod resolution;
 mod symbol_resolutions;

@@ -1,4 +1,4 @@
-use Rattle.std.proofs.Common.{◌≡◌, ℕ, None, List, [], length, ap, subst, ◌∙◌, arith}
+use Rattle.std.proofs.Common.{◌≡◌, ℕ, None, List, length, ap, subst, ◌∙◌, arith}
 use Rattle.std.specs.Prelude.{option_map}
 use Rattle.lk_gc.specs.declared.live.Live.{Live}
 use Rattle.lk_link.specs.TableSizes.{TableSizes}
@@ -28,16 +28,25 @@ header_bytes-headers-requires g c =
     let few = few_active tables link live c.requires.good in
     omega (arith, count, few)
 
+pub asked_positions-requires-clause-contents : goal.asked_positions-requires-clause-contents
+asked_positions-requires-clause-contents g c = c.as_slice-parts.ensures ∙ c.requires.sized.1
+
+pub asked_positions-requires-clause-sizes : goal.asked_positions-requires-clause-sizes
+asked_positions-requires-clause-sizes g c =
+    let tables : TableSizes = g.P.Platform.table_sizes c.args.platform.now in
+    let content = output_content tables c.args.link.now c.args.live in
+    c.deref.ensures.value ∙ c.in_ok-sizes.ensures.sizes c.args.link.now content (c.as_slice.ensures ∙ c.requires.sized.1)
+
 pub compute_layout_sections-requires-clause-each : goal.compute_layout_sections-requires-clause-each
 compute_layout_sections-requires-clause-each g c =
     let tables : TableSizes = g.P.Platform.table_sizes c.args.platform.now in
     let link = c.args.link.now in
     let live : Live = c.args.live in
-    ap length (c.deref.ensures.value ∙ c.in_ok-sizes.ensures.sizes link (output_content tables link live) (c.as_slice.ensures ∙ c.requires.sized.1))
+    ap length (c.deref-2.ensures.value ∙ c.in_ok-sizes.ensures.sizes link (output_content tables link live) (c.as_slice.ensures ∙ c.requires.sized.1))
     ∙ length-by_part (part_size link (output_content tables link live)) link
 
 pub lay_out_placed-requires-clause-contents : goal.lay_out_placed-requires-clause-contents
-lay_out_placed-requires-clause-contents g c = c.as_slice-2.ensures ∙ c.requires.sized.1
+lay_out_placed-requires-clause-contents g c = c.as_slice-parts.ensures ∙ c.requires.sized.1
 
 pub lay_out_placed-requires-clause-takes : goal.lay_out_placed-requires-clause-takes
 lay_out_placed-requires-clause-takes g c =
@@ -47,13 +56,12 @@ lay_out_placed-requires-clause-takes g c =
     let live : Live = c.args.live in
     let headers : c.header_bytes-headers.result ≡ header_bytes machine link live
     = c.header_bytes-headers.ensures ∙ ap (λ (h : HeaderInfo). leading_bytes (header_sizes machine.sizes link h.emitted h.active_segment_ids)) c.requires.sized.2 in
-    let sizes : c.deref.result.now ≡ part_sizes link (output_content tables link live)
-    = c.deref.ensures.value ∙ c.in_ok-sizes.ensures.sizes link (output_content tables link live) (c.as_slice.ensures ∙ c.requires.sized.1) in
+    let sizes : c.deref-2.result.now ≡ part_sizes link (output_content tables link live)
+    = c.deref-2.ensures.value ∙ c.in_ok-sizes.ensures.sizes link (output_content tables link live) (c.as_slice.ensures ∙ c.requires.sized.1) in
     let all : List ℕ = part_sizes link (output_content tables link live) in
-    let none : c.new-positions.result ≡ [] = c.new-positions.ensures ∙ c.new.ensures in
-    let at : ArePlaced (setting_of link machine.target all (header_bytes machine link live) c.new-positions.result) c.in_ok-placed.placed = rw (sizes, headers) at c.in_ok-placed.ensures in
+    let at : ArePlaced (setting_of link machine.target all (header_bytes machine link live) c.in_ok-positions.positions) c.in_ok-placed.placed = rw (sizes, headers) at c.in_ok-placed.ensures in
     let are : ArePlaced (setting machine link live) c.in_ok-placed.placed
-    = subst (λ positions. ArePlaced (setting_of link machine.target all (header_bytes machine link live) positions) c.in_ok-placed.placed) none at in
+    = subst (λ positions. ArePlaced (setting_of link machine.target all (header_bytes machine link live) positions) c.in_ok-placed.placed) c.in_ok-positions.ensures at in
     takes c.parts_take_their_bytes.ensures machine link live are.states c.in_ok-placed.placed.parts c.requires.good are.is are.unrefused
 
 pub returns-in_err-placed : goal.returns-in_err-placed
@@ -64,10 +72,10 @@ returns-in_err-placed g c =
     let live : Live = c.args.live in
     let headers : c.header_bytes-headers.result ≡ header_bytes machine link live
     = c.header_bytes-headers.ensures ∙ ap (λ (h : HeaderInfo). leading_bytes (header_sizes machine.sizes link h.emitted h.active_segment_ids)) c.requires.sized.2 in
-    let sizes : c.deref.result.now ≡ part_sizes link (output_content tables link live)
-    = c.deref.ensures.value ∙ c.in_ok-sizes.ensures.sizes link (output_content tables link live) (c.as_slice.ensures ∙ c.requires.sized.1) in
-    placing_refused machine link live c.deref.result.now c.header_bytes-headers.result c.new-positions.result c.in_err-placed.field-0.0 c.from_residual-in_err-placed.result sizes headers
-    (c.new-positions.ensures ∙ c.new.ensures) c.in_err-placed.ensures c.from_residual-in_err-placed.ensures.1
+    let sizes : c.deref-2.result.now ≡ part_sizes link (output_content tables link live)
+    = c.deref-2.ensures.value ∙ c.in_ok-sizes.ensures.sizes link (output_content tables link live) (c.as_slice.ensures ∙ c.requires.sized.1) in
+    placing_refused machine link live c.deref-2.result.now c.header_bytes-headers.result c.in_ok-positions.positions c.in_err-placed.field-0.0 c.from_residual-in_err-placed.result sizes headers
+    c.in_ok-positions.ensures c.in_err-placed.ensures c.from_residual-in_err-placed.ensures.1
 
 pub returns : goal.returns
 returns g c =
@@ -77,13 +85,12 @@ returns g c =
     let live : Live = c.args.live in
     let headers : c.header_bytes-headers.result ≡ header_bytes machine link live
     = c.header_bytes-headers.ensures ∙ ap (λ (h : HeaderInfo). leading_bytes (header_sizes machine.sizes link h.emitted h.active_segment_ids)) c.requires.sized.2 in
-    let sizes : c.deref.result.now ≡ part_sizes link (output_content tables link live)
-    = c.deref.ensures.value ∙ c.in_ok-sizes.ensures.sizes link (output_content tables link live) (c.as_slice.ensures ∙ c.requires.sized.1) in
+    let sizes : c.deref-2.result.now ≡ part_sizes link (output_content tables link live)
+    = c.deref-2.ensures.value ∙ c.in_ok-sizes.ensures.sizes link (output_content tables link live) (c.as_slice.ensures ∙ c.requires.sized.1) in
     let all : List ℕ = part_sizes link (output_content tables link live) in
-    let none : c.new-positions.result ≡ [] = c.new-positions.ensures ∙ c.new.ensures in
-    let at : ArePlaced (setting_of link machine.target all (header_bytes machine link live) c.new-positions.result) c.in_ok-placed.placed = rw (sizes, headers) at c.in_ok-placed.ensures in
+    let at : ArePlaced (setting_of link machine.target all (header_bytes machine link live) c.in_ok-positions.positions) c.in_ok-placed.placed = rw (sizes, headers) at c.in_ok-placed.ensures in
     let are : ArePlaced (setting machine link live) c.in_ok-placed.placed
-    = subst (λ positions. ArePlaced (setting_of link machine.target all (header_bytes machine link live) positions) c.in_ok-placed.placed) none at in
+    = subst (λ positions. ArePlaced (setting_of link machine.target all (header_bytes machine link live) positions) c.in_ok-placed.placed) c.in_ok-positions.ensures at in
     let parts = c.in_ok-placed.placed.parts in
     passed_on (IsPlacedAnswer tables link live parts) (IsSizedAnswer machine link live) c.lay_out_placed.result (λ a h.
     (are.states, parts, are.is, unless_none (walk_refusal machine link live are.states parts) a (IsPlacedAnswer tables link live parts a) (ap (option_map place_error) are.unrefused) h))

@@ -1,0 +1,96 @@
+-- Places of symbols in parts: those by a table of the sections' places are those that are defined.
+use Rattle.std.proofs.Common.{◌≡◌, ℕ, ◌+◌, ◌<◌, ◌^◌, Bool, true, false, List, [], ◌∷◌, length, map, Option, Some, None, refl, ap, sym, ◌∙◌, subst, arith}
+use Rattle.std.specs.Prelude.{◌&&◌, if◌then◌else◌, not, option_and_then, slice_get, slice_index}
+use Rattle.std.specs.List.{slice_index_or}
+use Rattle.std.proofs.lemmas.List.{length-map}
+use Rattle.lk_link.specs.declared.link.LinkInput.{LinkInput}
+use Rattle.lk_link.specs.declared.plan.PlanPart.{PlanPart}
+use Rattle.lk_link.specs.declared.section.InputSection.{InputSection}
+use Rattle.lk_link.specs.declared.symbol.SymbolPlacement.{SymbolPlacement}
+use Rattle.lk_link.specs.declared.symbol.SymbolPlacement.TheVariants as at
+use Rattle.lk_link.specs.TableSizes.{TableSizes}
+use Rattle.lk_link.specs.Files.{file_in}
+use Rattle.lk_link.specs.Inputs.{Input, NumberedFile, all_inputs, first_input}
+use Rattle.lk_link.specs.InputSlots.{is_regular}
+use Rattle.lk_link.specs.Marks.{is_marked}
+use Rattle.lk_link.specs.Parts.{all_parts}
+use Rattle.lk_link.proofs.InputLemmas.{inputs_follow}
+use Rattle.lk_gc.specs.declared.live.Live.{Live}
+use Rattle.lk_place.specs.declared.expressions.positions.SymbolPosition.{SymbolPosition}
+use Rattle.lk_sizes.specs.Addresses.{section_addresses}
+use Rattle.lk_sizes.specs.PartOwners.{EndsFit, live_address, part_size, part_sizes}
+use Rattle.lk_sizes.proofs.Numbering.{table_at as address_by_number}
+use Rattle.lk_layout.specs.OutputContent.{output_content}
+use Rattle.lk_layout.specs.Positions.{no_starts, position_of, section_of, section_position}
+use Rattle.lk_layout.specs.Tables.{position_in, section_position_in}
+use Rattle.lk_layout.proofs.Settings.{length-by_part, size_of}
+
+-- ---- parts that start at 0
+
+-- as many zeros are the same list, whatever they are made of
+zeros_alike : {X Y : Type 0} (xs : List X) (ys : List Y) → length xs ≡ length ys → map {B = ℕ} (λ (x : X). 0) xs ≡ map {B = ℕ} (λ (y : Y). 0) ys
+zeros_alike [] [] h = refl
+zeros_alike [] (y ∷ ys) h = absurd (omega (arith, h))
+zeros_alike (x ∷ xs) [] h = absurd (omega (arith, h))
+zeros_alike (x ∷ xs) (y ∷ ys) h = ap (λ (zs : List ℕ). 0 ∷ zs) (zeros_alike xs ys (omega (arith, h)))
+
+-- a zero for each size is a start of 0 for each part
+pub no_starts_by_sizes : (tables : TableSizes) (link : LinkInput) (live : Live) (sizes : List ℕ) → sizes ≡ part_sizes link (output_content tables link live) → map {B = ℕ} (λ (n : ℕ). 0) sizes ≡ no_starts link
+no_starts_by_sizes tables link live sizes are = zeros_alike sizes (all_parts link.plan.sections) (ap length are ∙ length-by_part (part_size link (output_content tables link live)) link)
+
+pub length-no_starts : (link : LinkInput) → length (no_starts link) ≡ length (all_parts link.plan.sections)
+length-no_starts link = length-map (all_parts link.plan.sections) (λ (p : PlanPart). 0)
+
+-- parts that end below 2^64 where they start at 0 have owners that do
+pub no_starts_fit : (tables : TableSizes) (link : LinkInput) (live : Live) (starts sizes : List ℕ) → starts ≡ no_starts link → sizes ≡ part_sizes link (output_content tables link live)
+    → ((p : ℕ) → p < length sizes → slice_index starts p + slice_index sizes p < 2 ^ 64) → EndsFit link (output_content tables link live) (no_starts link)
+no_starts_fit tables link live starts sizes are_starts are_sizes fit p below =
+    let count : length sizes ≡ length (all_parts link.plan.sections) = ap length are_sizes ∙ length-by_part (part_size link (output_content tables link live)) link in
+    let within : p < length (all_parts link.plan.sections) = omega (arith, below, length-no_starts link) in
+    let size : slice_index sizes p ≡ part_size link (output_content tables link live) p = ap (λ (ns : List ℕ). slice_index ns p) are_sizes ∙ size_of tables link live p within in
+    let start : slice_index starts p ≡ slice_index (no_starts link) p = ap (λ (ns : List ℕ). slice_index ns p) are_starts in
+    omega (arith, size, start, fit p (omega (arith, within, count)))
+
+-- ---- places
+
+section_alike : (tables : TableSizes) (link : LinkInput) (live : Live) (f : NumberedFile) (i offset : ℕ) (s : InputSection) → file_in link.groups f.id ≡ Some f.file → slice_get f.file.sections i ≡ Some s
+    → section_position_in live.marks (section_addresses link (output_content tables link live) (no_starts link)) (first_input link.groups f.id + i) offset s
+    ≡ section_position link (output_content tables link live) f i offset s
+section_alike tables link live f i offset s there at_i =
+    let starts : List ℕ = no_starts link in
+    let k : ℕ = first_input link.groups f.id + i in
+    let x : Input = section_of f i s in
+    let at_k : slice_get (all_inputs link.groups) k ≡ Some x = inputs_follow.at link.groups f.id f.file i s there at_i in
+    let stands : Bool = is_regular s.slot && not s.sorted in
+    let place : ℕ → Option SymbolPosition = λ n. Some (record { part = s.part; offset = n + offset }) in
+    let told : ℕ = slice_index_or (section_addresses link (output_content tables link live) starts) k 0 in
+    let address : ℕ = live_address link (output_content tables link live) starts x in
+    elim (is_marked live.marks k) as (λ b. is_marked live.marks k ≡ b → (if b && stands then place told else None) ≡ (if b && stands then place address else None)) [
+      | true ↦ λ set. ap (λ n. if stands then place n else None) (address_by_number link (output_content tables link live) starts k x at_k set)
+      | false ↦ λ set. refl
+    ] refl
+
+-- the place of a symbol by the table is its place
+pub position_alike : (tables : TableSizes) (link : LinkInput) (live : Live) (f : NumberedFile) (p : SymbolPlacement) → file_in link.groups f.id ≡ Some f.file
+    → position_in live.marks (section_addresses link (output_content tables link live) (no_starts link)) (first_input link.groups f.id) f.file.sections p
+    ≡ position_of link (output_content tables link live) f p
+position_alike tables link live f (at.Section i offset) there =
+    let k : ℕ = first_input link.groups f.id + i in
+    let table : List ℕ = section_addresses link (output_content tables link live) (no_starts link) in
+    elim (slice_get f.file.sections i) as (λ o. slice_get f.file.sections i ≡ o → option_and_then (section_position_in live.marks table k offset) o
+    ≡ option_and_then (section_position link (output_content tables link live) f i offset) o) [
+      | None ↦ λ h. refl
+      | Some s ↦ λ h. section_alike tables link live f i offset s there h
+    ] refl
+position_alike tables link live f (at.Common p n) there = refl
+position_alike tables link live f (at.Absolute n) there = refl
+position_alike tables link live f at.Undef there = refl
+position_alike tables link live f at.Dynamic there = refl
+position_alike tables link live f at.Undefined there = refl
+position_alike tables link live f at.ForceUndefined there = refl
+position_alike tables link live f (at.SectionStart s) there = refl
+position_alike tables link live f (at.SectionEnd s) there = refl
+position_alike tables link live f (at.SectionGroupEnd s) there = refl
+position_alike tables link live f at.TlsEnd there = refl
+position_alike tables link live f at.LoadBaseAddress there = refl
+position_alike tables link live f (at.Redirect e l provide) there = refl

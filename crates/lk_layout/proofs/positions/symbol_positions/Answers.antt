@@ -1,0 +1,71 @@
+use Rattle.std.proofs.Common.{◌≡◌, List, ℕ, length, refl, sym, ap, subst, ◌∙◌}
+use Rattle.lk_gc.specs.declared.live.Live.{Live}
+use Rattle.lk_link.specs.Inputs.{numbered_files}
+use Rattle.lk_link.specs.Walks.{file_of}
+use Rattle.lk_reach.proofs.Numbered.{are_numbered, file_at}
+use Rattle.lk_reach.proofs.WalkLemmas.{file_turn}
+use Rattle.lk_sizes.specs.Addresses.{section_addresses}
+use Rattle.lk_sizes.specs.Contents.{part_contents}
+use Rattle.lk_link.specs.TableSizes.{TableSizes}
+use Rattle.lk_sizes.specs.Owners.{content_of}
+use Rattle.lk_sizes.specs.PartOwners.{EndsFit}
+use Rattle.lk_layout.specs.OutputContent.{image_lens, output_content}
+use Rattle.lk_layout.specs.Positions.{no_starts}
+use Rattle.lk_layout.proofs.Placing.{have_room, room_by, table}
+use Rattle.lk_layout.proofs.Positioned.{length-no_starts, no_starts_by_sizes, no_starts_fit}
+use Rattle.lk_layout.proofs.positions.symbol_positions.Goals as goal
+
+pub owner_addresses-requires-clause-starts : goal.owner_addresses-requires-clause-starts
+owner_addresses-requires-clause-starts g c =
+    let tables : TableSizes = g.P.Platform.table_sizes c.args.platform.now in
+    let link = c.args.link.now in
+    let starts : c.deref-2.result.now ≡ no_starts link
+    = c.deref-2.ensures.value ∙ c.in_ok-starts.ensures.value ∙ no_starts_by_sizes tables link c.args.live.now c.args.sizes.now c.requires.sizes in
+    ap length starts ∙ length-no_starts link
+
+pub owner_addresses-requires-clause-room : goal.owner_addresses-requires-clause-room
+owner_addresses-requires-clause-room g c =
+    let tables : TableSizes = g.P.Platform.table_sizes c.args.platform.now in
+    let link = c.args.link.now in
+    let live : Live = c.args.live.now in
+    let lens : c.deref.result.now ≡ image_lens link = c.deref.ensures.value ∙ c.requires.images.lens in
+    let zeros : c.in_ok-starts.starts.items ≡ no_starts link = c.in_ok-starts.ensures.value ∙ no_starts_by_sizes tables link live c.args.sizes.now c.requires.sizes in
+    let fit : EndsFit link (output_content tables link live) (no_starts link) = no_starts_fit tables link live c.in_ok-starts.starts.items c.args.sizes.now zeros c.requires.sizes c.in_ok-starts.ensures.fit in (
+      tables,
+      c.requires.contents ∙ ap (λ (ls : List ℕ). part_contents link (content_of tables live ls)) (sym lens),
+      subst (λ (ls : List ℕ). EndsFit link (content_of tables live ls) c.deref-2.result.now) (sym lens)
+          (subst (λ (ss : List ℕ). EndsFit link (output_content tables link live) ss) (sym (c.deref-2.ensures.value ∙ zeros)) fit),
+    )
+
+pub files-file-items-requires : goal.files-file-items-requires
+files-file-items-requires g c = are_numbered c.args.link.now c.requires.good
+
+pub push_file_positions-requires-clause-there : goal.push_file_positions-requires-clause-there
+push_file_positions-requires-clause-there g c =
+    let groups = c.args.link.now.groups in
+    let at = file_turn (numbered_files groups) c.into_iter-file-iterator.result c.loop-file.file-iterator c.next.new.self c.loop-file.yielded c.in-Some.file (cc) c.loop-file.yielded_by c.in-Some.ensures.steps in
+    (file_at groups _ (file_of c.in-Some.file) at).there
+
+pub push_file_positions-requires-clause-offsets : goal.push_file_positions-requires-clause-offsets
+push_file_positions-requires-clause-offsets g c =
+    let tables : TableSizes = g.P.Platform.table_sizes c.args.platform.now in
+    let link = c.args.link.now in
+    let live : Live = c.args.live.now in
+    let lens : c.deref.result.now ≡ image_lens link = c.deref.ensures.value ∙ c.requires.images.lens in
+    let zeros : c.in_ok-starts.starts.items ≡ no_starts link = c.in_ok-starts.ensures.value ∙ no_starts_by_sizes tables link live c.args.sizes.now c.requires.sizes in
+    c.as_slice-offsets.ensures.value ∙ c.in_ok-owners.ensures.sections tables ∙ ap (λ (ls : List ℕ). section_addresses link (content_of tables live ls) c.deref-2.result.now) lens
+    ∙ ap (section_addresses link (output_content tables link live)) (c.deref-2.ensures.value ∙ zeros)
+
+pub push_file_positions-requires-clause-room : goal.push_file_positions-requires-clause-room
+push_file_positions-requires-clause-room g c =
+    let tables : TableSizes = g.P.Platform.table_sizes c.args.platform.now in
+    let link = c.args.link.now in
+    let live : Live = c.args.live.now in
+    let lens : c.deref.result.now ≡ image_lens link = c.deref.ensures.value ∙ c.requires.images.lens in
+    let zeros : c.in_ok-starts.starts.items ≡ no_starts link = c.in_ok-starts.ensures.value ∙ no_starts_by_sizes tables link live c.args.sizes.now c.requires.sizes in
+    let fit : EndsFit link (output_content tables link live) (no_starts link) = no_starts_fit tables link live c.in_ok-starts.starts.items c.args.sizes.now zeros c.requires.sizes c.in_ok-starts.ensures.fit in
+    let read : c.as_slice-offsets.result.now ≡ table tables link live (no_starts link)
+    = c.as_slice-offsets.ensures.value ∙ c.in_ok-owners.ensures.sections tables ∙ ap (λ (ls : List ℕ). section_addresses link (content_of tables live ls) c.deref-2.result.now) lens
+    ∙ ap (section_addresses link (output_content tables link live)) (c.deref-2.ensures.value ∙ zeros) in
+    room_by live.marks live.marks (table tables link live (no_starts link)) c.as_slice-offsets.result.now link.groups refl read
+    (have_room tables link live (no_starts link) c.requires.good c.requires.live (length-no_starts link) fit)

@@ -1,0 +1,269 @@
+//! Where symbols stand in parts, before it is known where the parts stand.
+//!
+//! An expression of the plan may name a symbol. If that stands in a live section, its value is where the section's part starts, once
+//! the part is placed, and the bytes from there to the symbol. Those bytes are the address that the symbol would have if all
+//! parts started at 0: so a table has the addresses of live sections for such starts, and one pass over the symbols adds each
+//! one's own offset. All this is left out where no expression asks for a symbol.
+
+ghost use Rattle.std.specs.Prelude.{◌≡◌, ◌+◌, ◌<◌, ◌^◌, ◌++◌, ℕ, All, IfOk, None, OnOk, Some, length, map, slice_index, true};
+ghost use Rattle.std.specs.List.{list_any, slice_index_or};
+ghost use Rattle.lk_gc.specs.Reach.{AreLive};
+ghost use Rattle.lk_link.specs.Files.{file_in};
+ghost use Rattle.lk_link.specs.Marks.{is_marked};
+ghost use Rattle.lk_link.specs.Walks.{file_of};
+ghost use Rattle.lk_link.specs.WellFormed.{IsWellFormed};
+ghost use Rattle.lk_sizes.specs.Addresses.{section_addresses};
+ghost use Rattle.lk_sizes.specs.Contents.{part_contents};
+ghost use Rattle.lk_sizes.specs.PartOwners.{part_sizes};
+ghost use Rattle.lk_layout.specs.Merging.{AreImages};
+ghost use Rattle.lk_layout.specs.OutputContent.{output_content};
+ghost use Rattle.lk_layout.specs.Positions.{asked_positions, asks_for_symbols, file_positions, is_symbol_token, loads_by_symbol, moves_by_symbol};
+ghost use Rattle.lk_layout.specs.Positions.{names_symbol, no_starts, symbol_positions};
+ghost use Rattle.lk_layout.specs.Tables.{HasRoom, HaveRoom, position_in, section_position_in};
+
+use crate::images::Images;
+use lk_gc::Live;
+use lk_link::expression::{Expression, Operand, Token};
+use lk_link::list::List;
+use lk_link::marks::is_marked;
+use lk_link::plan::{OrderEvent, Plan, PlanSection};
+use lk_link::{FileRef, InputSection, InputSymbol, LinkInput, Platform, SymbolPlacement};
+use lk_place::{SymbolPosition, SymbolPositions};
+use lk_sizes::{PartContents, owner_addresses};
+use std::alloc::{AllocError, Global};
+
+/// The places of symbols in parts, if an expression of the plan asks for one; else none is told, which takes no memory.
+pub(crate) fn asked_positions<P: Platform>(
+    alloc: Global,
+    link: &LinkInput,
+    live: &Live,
+    images: &Images<'_>,
+    contents: &[PartContents],
+    sizes: &[u64],
+    platform: &P,
+) -> Result<SymbolPositions, AllocError>
+    requires good { IsWellFormed link.now }
+    requires live { AreLive link.now live.now }
+    requires images { AreImages link.now images.now }
+    requires contents { contents.now ≡ part_contents link.now (output_content (P.table_sizes platform.now) link.now live.now) }
+    requires sizes { sizes.now ≡ part_sizes link.now (output_content (P.table_sizes platform.now) link.now live.now) }
+    ensures { IfOk result (λ positions. positions ≡ asked_positions link.now (output_content (P.table_sizes platform.now) link.now live.now)) }
+{
+    if asks_for_symbols(&link.plan) {
+        symbol_positions(alloc, link, live, images, contents, sizes, platform)
+    } else {
+        Ok(SymbolPositions::new(List::new(alloc)))
+    }
+}
+
+/// The place of each symbol in its part, if it has one. Looks at each input section and each symbol once, and takes 8 bytes for
+/// each section, and at most 24 for each symbol.
+fn symbol_positions<P: Platform>(
+    alloc: Global,
+    link: &LinkInput,
+    live: &Live,
+    images: &Images<'_>,
+    contents: &[PartContents],
+    sizes: &[u64],
+    platform: &P,
+) -> Result<SymbolPositions, AllocError>
+    requires good { IsWellFormed link.now }
+    requires live { AreLive link.now live.now }
+    requires images { AreImages link.now images.now }
+    requires contents { contents.now ≡ part_contents link.now (output_content (P.table_sizes platform.now) link.now live.now) }
+    requires sizes { sizes.now ≡ part_sizes link.now (output_content (P.table_sizes platform.now) link.now live.now) }
+    ensures { IfOk result (λ positions. positions ≡ symbol_positions link.now (output_content (P.table_sizes platform.now) link.now live.now)) }
+{
+    let starts = no_starts(alloc, sizes)?;
+    let owners = owner_addresses(alloc, link, live, &images.lens, contents, &starts)?;
+    let offsets = owners.sections.as_slice();
+    let count = link.groups.symbol_count() as usize;
+    let mut positions = Vec::with_capacity(alloc, count)?;
+    for file in link.groups.files() {
+        push_file_positions(&mut positions, link, live, offsets, file, platform)?;
+    }
+    Ok(SymbolPositions::new(List::from_vec(positions)))
+}
+
+/// A start of 0 for each part, by their sizes.
+fn no_starts(alloc: Global, sizes: &[u64]) -> Result<Vec<u64>, AllocError>
+    ensures value { IfOk result (λ starts. starts.items ≡ map (λ _. 0) sizes.now) }
+    ensures fit { IfOk result (λ starts. (p : ℕ) → p < length sizes.now
+        → slice_index starts.items p + slice_index sizes.now p < 2 ^ 64) }
+{
+    let mut starts = Vec::with_capacity(alloc, sizes.len())?;
+    for size in sizes {
+        // A part of this size ends below 2^64 if it starts at 0.
+        let _end = *size;
+        starts.push(0)?;
+    }
+    Ok(starts)
+}
+
+/// Adds for each symbol of a file its place in its part, if it has one.
+fn push_file_positions<P: Platform>(
+    positions: &mut Vec<Option<SymbolPosition>>,
+    link: &LinkInput,
+    live: &Live,
+    offsets: &[u64],
+    file: FileRef<'_>,
+    platform: &P,
+) -> Result<(), AllocError>
+    requires good { IsWellFormed link.now }
+    requires there { file_in link.now.groups file.id ≡ Some file.file.now }
+    requires offsets { offsets.now ≡ section_addresses link.now (output_content (P.table_sizes platform.now) link.now live.now) (no_starts link.now) }
+    requires room { HaveRoom live.now.marks offsets.now link.now.groups }
+    ensures { OnOk result (positions.new.items
+        ≡ positions.old.items ++ file_positions link.now (output_content (P.table_sizes platform.now) link.now live.now) (file_of file.entry)) }
+{
+    let symbols = file.file.symbols.as_slice();
+    if !file.file.kind.is_object() {
+        return push_nowhere(positions, symbols);
+    }
+    let marks = live.marks.as_slice();
+    if let Some(first) = link.groups.input_start(file.id) {
+        let sections = file.file.sections.as_slice();
+        push_positions(positions, marks, offsets, first, sections, symbols)?;
+    }
+    Ok(())
+}
+
+/// Adds for each of some symbols that it has no place in a part.
+fn push_nowhere(
+    positions: &mut Vec<Option<SymbolPosition>>,
+    symbols: &[InputSymbol],
+) -> Result<(), AllocError>
+    ensures { OnOk result (positions.new.items ≡ positions.old.items ++ map (λ _. None) symbols.now) }
+{
+    for _symbol in symbols {
+        positions.push(None)?;
+    }
+    Ok(())
+}
+
+/// Adds for each symbol of a file its place in its part, if it has one, by marks and places of sections. `first` is the number of the
+/// file's first section.
+fn push_positions(
+    positions: &mut Vec<Option<SymbolPosition>>,
+    marks: &[bool],
+    offsets: &[u64],
+    first: usize,
+    sections: &[InputSection],
+    symbols: &[InputSymbol],
+) -> Result<(), AllocError>
+    requires few { first < 2 ^ 32 }
+    requires room { All (λ x. HasRoom marks.now offsets.now first x.at) symbols.now }
+    ensures { OnOk result (positions.new.items
+        ≡ positions.old.items ++ map (λ x. position_in marks.now offsets.now first sections.now x.at) symbols.now) }
+{
+    for symbol in symbols {
+        positions.push(position(marks, offsets, first, sections, &symbol.at))?;
+    }
+    Ok(())
+}
+
+/// The place in its part of a symbol with this placement, if it has one.
+fn position(
+    marks: &[bool],
+    offsets: &[u64],
+    first: usize,
+    sections: &[InputSection],
+    placement: &SymbolPlacement,
+) -> Option<SymbolPosition>
+    requires few { first < 2 ^ 32 }
+    requires room { HasRoom marks.now offsets.now first placement.now }
+    ensures { result ≡ position_in marks.now offsets.now first sections.now placement.now }
+{
+    match placement {
+        SymbolPlacement::Section { index, offset } => {
+            let section = sections.get(*index as usize)?;
+            section_position(marks, offsets, first + *index as usize, *offset, section)
+        }
+        _ => None,
+    }
+}
+
+/// The place in its part of an offset of a section with this number over all files, if it has one.
+fn section_position(
+    marks: &[bool],
+    offsets: &[u64],
+    number: usize,
+    offset: u64,
+    section: &InputSection,
+) -> Option<SymbolPosition>
+    requires room { is_marked marks.now number ≡ true → slice_index_or offsets.now number 0 + offset < 2 ^ 64 }
+    ensures { result ≡ section_position_in marks.now offsets.now number offset section.now }
+{
+    if !is_marked(marks, number) || !section.slot.is_regular() || section.sorted {
+        return None;
+    }
+    let start = offsets.get(number).copied().unwrap_or(0);
+    Some(SymbolPosition {
+        part: section.part,
+        offset: start + offset,
+    })
+}
+
+/// Whether an expression of the plan asks for a symbol, once sections are placed.
+fn asks_for_symbols(plan: &Plan) -> bool
+    ensures { result ≡ asks_for_symbols plan.now }
+{
+    has_move_by_symbol(plan.events.as_slice()) || has_load_by_symbol(plan.sections.as_slice())
+}
+
+/// Whether the location moves to where an expression with a symbol says.
+fn has_move_by_symbol(events: &[OrderEvent]) -> bool
+    ensures { result ≡ list_any moves_by_symbol events.now }
+{
+    events.iter().any(moves_by_symbol)
+}
+
+/// Whether an event has an expression with a symbol.
+fn moves_by_symbol(event: &OrderEvent) -> bool
+    ensures { result ≡ moves_by_symbol event.now }
+{
+    match event {
+        OrderEvent::SetLocation(expression)
+        | OrderEvent::SetLocationRelative(expression, _)
+        | OrderEvent::SetSectionAddress(expression) => names_symbol(expression),
+        _ => false,
+    }
+}
+
+/// Whether a section is loaded from where an expression with a symbol says.
+fn has_load_by_symbol(sections: &[PlanSection]) -> bool
+    ensures { result ≡ list_any loads_by_symbol sections.now }
+{
+    sections.iter().any(loads_by_symbol)
+}
+
+/// Whether this section is.
+fn loads_by_symbol(section: &PlanSection) -> bool
+    ensures { result ≡ loads_by_symbol section.now }
+{
+    match &section.at {
+        Some(expression) => names_symbol(expression),
+        None => false,
+    }
+}
+
+/// Whether an expression names a symbol.
+fn names_symbol(expression: &Expression) -> bool
+    ensures { result ≡ names_symbol expression.now }
+{
+    has_symbol_token(expression.tokens())
+}
+
+/// Whether one of some tokens is a symbol.
+fn has_symbol_token(tokens: &[Token]) -> bool
+    ensures { result ≡ list_any is_symbol_token tokens.now }
+{
+    tokens.iter().any(is_symbol_token)
+}
+
+/// Whether a token is a symbol.
+fn is_symbol_token(token: &Token) -> bool
+    ensures { result ≡ is_symbol_token token.now }
+{
+    matches!(token, Token::Operand(Operand::Symbol(_)))
+}
