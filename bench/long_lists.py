@@ -108,7 +108,7 @@ LONG_LISTS = (
         '["addr",["dot"]]',
         262_144,
         "]}," + PRELUDE,
-        "not carried: plan\n",
+        "layout\n",
     ),
     LongList(
         "parts",

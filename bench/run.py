@@ -13,7 +13,7 @@ over the same bytes differ. Seconds are processor seconds, the least of the runs
 each is set against others of the same run.
 
 With --merges, the descriptions are of strings that are merged, and little else. With --plans they have many
-output sections that the plan moves; until these are laid out, they are read and checked.
+output sections that the plan moves.
 
 With --long, each description has one list that is as long as it may be, or millions long. The run fails
 where the program crashes, runs out of its stack of 8 MB or answers something else.

@@ -360,23 +360,7 @@ def check_link(link, refused):
 # What isn't laid out yet
 
 # The words of what the program doesn't carry yet.
-NOT_CARRIED = ("output", "table", "plan", "partial", "sorted", "primary", "relax", "symbol")
-
-
-def wants_whole_plan(plan):
-    """Whether the plan has more than sections and segments one behind the other."""
-    return (
-        plan.custom_base
-        or plan.custom_phdrs
-        or plan.phdrs_headers
-        or len(plan.regions) > 0
-        or any(event[0] in (*listed.LOCATION_EVENTS, "addr") for event in plan.events)
-        or any(section.attrs & listed.THREAD_LOCAL for section in plan.sections)
-        or any(segment.kind == "tls" for segment in plan.segments)
-        or any(section.primary is not None for section in plan.sections)
-        or any(section.region is not None or section.at is not None for section in plan.sections)
-        or plan.base[0] != "num"
-    )
+NOT_CARRIED = ("output", "table", "partial", "sorted", "primary", "relax", "symbol")
 
 
 def uncarried(link):
@@ -389,7 +373,6 @@ def uncarried(link):
     yield "output", output in ("dynamic", "shared")
     has_table = table_parts(link) or plan.named["comment"] is not None
     yield "table", has_table or kinds.intersection(listed.TABLE_RELOCATIONS)
-    yield "plan", wants_whole_plan(plan)
     yield "partial", output == "partial" or plan.singletons is not None
     yield "sorted", any(entry.sorted for entry in inputs)
     yield "primary", plan.named["primary"] is not None

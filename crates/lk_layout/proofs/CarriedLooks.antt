@@ -59,7 +59,6 @@ module _ (s : InputSection) (h : section_has_any s ≡ false) where
 has_none : (what : Uncarried) (f : InputFile) → has_any f ≡ false → file_has what f ≡ false
 has_none uncarried.Output f h = refl
 has_none uncarried.Table f h = none_passes (λ s. list_any (λ r. wants_entry r.kind) s.relocs) section_has_any f.sections section_enters (sections f h)
-has_none uncarried.Plan f h = refl
 has_none uncarried.Partial f h = refl
 has_none uncarried.Sorted f h = none_passes (λ s. s.sorted) section_has_any f.sections section_sorts (sections f h)
 has_none uncarried.Primary f h = refl
@@ -75,7 +74,6 @@ outside : (what : Uncarried) (link : LinkInput) → any_file has_any link ≡ fa
 unfolding has
 outside uncarried.Output link h = refl
 outside uncarried.Table link h = sym (ap (λ b. names_table link.plan.named || b) (no_file uncarried.Table link h) ∙ or_none (names_table link.plan.named))
-outside uncarried.Plan link h = refl
 outside uncarried.Partial link h = refl
 outside uncarried.Sorted link h = sym (no_file uncarried.Sorted link h)
 outside uncarried.Primary link h = refl

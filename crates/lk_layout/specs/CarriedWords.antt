@@ -9,7 +9,7 @@ use Rattle.lk_link.specs.PartRules.{names_table}
 use Rattle.lk_link.specs.Relocations.{wants_entry}
 use Rattle.lk_layout.specs.declared.error.Uncarried.{Uncarried}
 use Rattle.lk_layout.specs.declared.error.Uncarried.TheVariants as uncarried
-use Rattle.lk_layout.specs.Carried.{file_has, is_special_plan}
+use Rattle.lk_layout.specs.Carried.{file_has}
 
 -- a section has anything that isn't laid out yet
 abbrev pub section_has_any : InputSection → Bool
@@ -23,7 +23,6 @@ has_any f = file_has uncarried.Symbol f || list_any section_has_any f.sections
 abbrev pub has_outside : LinkInput → Uncarried → Bool
 has_outside link uncarried.Output = is_loaded_dynamically link.options.output
 has_outside link uncarried.Table = names_table link.plan.named
-has_outside link uncarried.Plan = is_special_plan link.plan
 has_outside link uncarried.Partial = is_partial link.options.output || is_some link.plan.singletons
 has_outside link uncarried.Primary = is_some link.plan.named.primary
 has_outside link uncarried.Relax = link.options.relax

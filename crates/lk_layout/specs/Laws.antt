@@ -1,19 +1,15 @@
 -- Laws: every link has one defined answer, a defined layout is sound, and what symbols stand for is live.
-use Rattle.std.specs.Prelude.{◌≡◌, ℕ, ◌<◌, true, false, [], Result, Ok, take}
+use Rattle.std.specs.Prelude.{◌≡◌, [], Result, Ok}
 use Rattle.lk_link.specs.declared.link.LinkInput.{LinkInput}
-use Rattle.lk_link.specs.Inside.{is_open}
-use Rattle.lk_link.specs.PlanSections.{is_allocated, is_file_backed}
 use Rattle.lk_link.specs.TableSizes.{Machine}
 use Rattle.lk_link.specs.WellFormed.{IsWellFormed}
 use Rattle.lk_gc.specs.declared.live.Live.{Live}
 use Rattle.lk_gc.specs.Faults.{reference_faults}
 use Rattle.lk_gc.specs.Reach.{AreLive}
-use Rattle.lk_place.specs.Plain.{IsLoadSegment, IsPlain, OpensLoad, PlacesInLoad}
 use Rattle.lk_place.specs.Plans.{IsUnmoved}
 use Rattle.lk_place.specs.Ranges.{MemoryIsDisjoint}
 use Rattle.lk_layout.specs.declared.error.LayoutError.{LayoutError}
 use Rattle.lk_layout.specs.declared.layout.Layout.{Layout}
-use Rattle.lk_layout.specs.Carried.{IsCarried}
 use Rattle.lk_layout.specs.Defined.{IsDefined}
 use Rattle.lk_layout.specs.Machines.{IsLawfulMachine}
 use Rattle.lk_layout.specs.Sound.{IsSound, LiveSectionsAreApart, OwnersAreApart, SymbolsStandInLiveSections}
@@ -47,18 +43,6 @@ abbrev pub LaidOutSectionsAreApart : Type 0
 LaidOutSectionsAreApart = (machine : Machine) (link : LinkInput) (layout : Layout) → IsUnmoved link.plan link.options.output
     → IsLawfulMachine machine → IsDefined machine link (Ok layout)
     → (live : Live) × IsSound machine.sizes link live layout × LiveSectionsAreApart link live layout × OwnersAreApart machine.sizes link live layout
-
--- what makes the plan of a link plain of which all is laid out: no load segment opens while another is open, and inside each all
--- is allocated, and what takes bytes of the file comes before what takes none
-pub record HasPlainLoads (link : LinkInput) : Type 0 where
-  pub apart : (i j k : ℕ) → IsLoadSegment link.plan i → OpensLoad link.plan j k → is_open i (take k link.plan.events) ≡ false
-  pub allocated : (i s k : ℕ) → PlacesInLoad link.plan i s k → is_allocated link.plan s ≡ true
-  pub backed_first : (i s t m n : ℕ) → m < n → PlacesInLoad link.plan i s m → PlacesInLoad link.plan i t n
-      → is_file_backed link.plan t ≡ true → is_file_backed link.plan s ≡ true
-
--- the other conditions of a plain plan hold of what is laid out
-abbrev pub CarriedPlansArePlain : Type 0
-CarriedPlansArePlain = (link : LinkInput) → IsCarried link → HasPlainLoads link → IsPlain link.plan link.options.output
 
 -- where references are met, a symbol that has a resolution stands in a live section
 abbrev pub ResolvedSectionsAreLive : Type 0

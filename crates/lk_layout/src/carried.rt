@@ -8,22 +8,18 @@ ghost use Rattle.std.specs.List.{list_any};
 ghost use Rattle.lk_link.specs.OutputKinds.{is_loaded_dynamically, is_partial};
 ghost use Rattle.lk_link.specs.PartRules.{names_table};
 ghost use Rattle.lk_link.specs.Relocations.{wants_entry};
-ghost use Rattle.lk_link.specs.Rules.{moves_location};
-ghost use Rattle.lk_link.specs.SegmentKinds.{is_tls};
 ghost use Rattle.lk_layout.specs.CarriedWords.{has_any, has_outside, section_has_any};
-ghost use Rattle.lk_layout.specs.Carried.{all_uncarried, any_file, file_has, first_uncarried, has, is_special_plan, is_special_section};
+ghost use Rattle.lk_layout.specs.Carried.{all_uncarried, any_file, file_has, first_uncarried, has};
 
 use crate::error::Uncarried;
 use lk_link::file::InputFile;
 use lk_link::link::LinkInput;
-use lk_link::plan::{OrderEvent, Plan, PlanSection, PlanSegment, attributes};
 use lk_link::section::InputSection;
 
 /// What is looked for, in this order.
-const ALL_UNCARRIED: [Uncarried; 8] = [
+const ALL_UNCARRIED: [Uncarried; 7] = [
     Uncarried::Output,
     Uncarried::Table,
-    Uncarried::Plan,
     Uncarried::Partial,
     Uncarried::Sorted,
     Uncarried::Primary,
@@ -68,7 +64,6 @@ fn has_outside(link: &LinkInput, what: Uncarried) -> bool
     match what {
         Uncarried::Output => link.options.output.is_loaded_dynamically(),
         Uncarried::Table => link.plan.named.names_table(),
-        Uncarried::Plan => is_special_plan(&link.plan),
         Uncarried::Partial => { link.options.output.is_partial() || link.plan.singletons.is_some() }
         Uncarried::Primary => link.plan.named.primary.is_some(),
         Uncarried::Relax => link.options.relax,
@@ -122,52 +117,11 @@ fn has(link: &LinkInput, what: Uncarried) -> bool
     match what {
         Uncarried::Output => link.options.output.is_loaded_dynamically(),
         Uncarried::Table => link.plan.named.names_table() || any_file(link, what),
-        Uncarried::Plan => is_special_plan(&link.plan),
         Uncarried::Partial => { link.options.output.is_partial() || link.plan.singletons.is_some() }
         Uncarried::Primary => link.plan.named.primary.is_some(),
         Uncarried::Relax => link.options.relax,
         _ => any_file(link, what),
     }
-}
-
-/// Whether the plan places something otherwise than from a given number on, section by section.
-fn is_special_plan(plan: &Plan) -> bool
-    ensures { result ≡ is_special_plan plan.now }
-{
-    plan.custom_base
-        || plan.custom_phdrs
-        || plan.phdrs_headers
-        || !plan.regions.is_empty()
-        || plan.base.as_number().is_none()
-        || has_moving_event(plan.events.as_slice())
-        || has_special_section(plan.sections.as_slice())
-        || has_tls_segment(plan.segments.as_slice())
-}
-
-/// Whether an event moves the location.
-fn has_moving_event(events: &[OrderEvent]) -> bool
-    ensures { result ≡ list_any moves_location events.now }
-{
-    events.iter().any(|event| event.moves_location())
-}
-
-/// Whether a section is thread-local, secondary to another section, in a region, or loaded from elsewhere.
-fn has_special_section(sections: &[PlanSection]) -> bool
-    ensures { result ≡ list_any is_special_section sections.now }
-{
-    sections.iter().any(|section| {
-        section.attrs & attributes::TLS != 0
-            || section.primary.is_some()
-            || section.region.is_some()
-            || section.at.is_some()
-    })
-}
-
-/// Whether a segment is one for thread-local data.
-fn has_tls_segment(segments: &[PlanSegment]) -> bool
-    ensures { result ≡ list_any (λ s. is_tls s.kind) segments.now }
-{
-    segments.iter().any(|segment| segment.kind.is_tls())
 }
 
 /// Whether a file of the description has it.

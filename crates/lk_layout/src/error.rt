@@ -26,9 +26,6 @@ pub enum Uncarried {
     Output,
     /// A table part, the comment part, or a relocation that wants an entry of a table.
     Table,
-    /// A base that is asked for or isn't a number, headers in segments, regions, moves of the location, thread-local
-    /// data, and sections that are secondary, in a region or loaded from elsewhere.
-    Plan,
     /// Partial output, or a section for singletons.
     Partial,
     /// A section that is put in order by its name.
@@ -127,7 +124,6 @@ impl Uncarried {
         match self {
             Uncarried::Output => "output",
             Uncarried::Table => "table",
-            Uncarried::Plan => "plan",
             Uncarried::Partial => "partial",
             Uncarried::Sorted => "sorted",
             Uncarried::Primary => "primary",

@@ -1,7 +1,6 @@
 //! Laws on the answer, each proved as the contract of a function that does nothing.
 
-ghost use Rattle.lk_layout.specs.Laws.{CarriedPlansArePlain, DefinedAnswerExists, DefinedAnswerIsOne};
-ghost use Rattle.lk_layout.specs.Laws.{LaidOutLinksAreWellFormed};
+ghost use Rattle.lk_layout.specs.Laws.{DefinedAnswerExists, DefinedAnswerIsOne, LaidOutLinksAreWellFormed};
 ghost use Rattle.lk_layout.specs.Laws.{DefinedLayoutsAreSound, LaidOutMemoryIsDisjoint, LaidOutSectionsAreApart, ResolvedSectionsAreLive};
 
 use lk_check::well_formed_exactly_unfaulted;
@@ -72,12 +71,6 @@ pub fn laid_out_sections_are_apart()
     defined_layouts_are_sound();
     laid_out_memory_is_disjoint();
 }
-
-/// A law: where all is laid out, a plan is plain if no load segment opens while another is open, and inside each all is
-/// allocated, and what takes bytes of the file comes before what takes none.
-pub fn carried_plans_are_plain()
-    ensures { CarriedPlansArePlain }
-{}
 
 /// A law: where references are met, a symbol of an object that has a resolution, and stands for a place in a section, stands in a
 /// live one, unless the section is merged.
