@@ -283,26 +283,16 @@ const REFUSED: &str = r#"
 ,"got":0 => 1 not carried: table
 ,"shstrtab":0 => 1 not carried: table
 ,"comment":0 => 1 not carried: table
-,"custom_base":true => 1 not carried: plan
-,"custom_phdrs":true => 1 not carried: plan
-,"phdrs_headers":true => 1 not carried: plan
-,"base":["dot"] => 1 not carried: plan
-,"base":["add",["num",1],["num",2]] => 1 not carried: plan
-,"regions":[{"name":"r","origin":["num",0],"length":["num",1]}] => 1 not carried: plan
-,"events":[["addr",["num",1]],["sec",0]] => 1 not carried: plan
-,"segments":[{"kind":"tls"}],"events":[["seg",0],["sec",0],["endseg",0]] => 1 not carried: plan
+,"custom_base":true => 1 base address (0x0) is less than the size of headers (0x40)
 ,"singletons":0 => 1 not carried: partial
 ,"primary":0},"options":{"branch_range":2097153 => 1 not carried: primary
 ,"primary":0,"comment":0},"options":{"branch_range":2097153 => 1 not carried: table
 ,"primary":0 => 1 bad link: rule 4, part field 12
 ,"base":["sym",0] => 1 bad link: rule 8, plan
-,"custom_base":true,"singletons":0 => 1 not carried: plan
+,"custom_base":true,"singletons":0 => 1 not carried: partial
 # in the first of two output sections,
 @ {"plan":{"page":16,"sections":[{"parts":[[1,false]],...},{"parts":[[1,false]]}],"events":[["sec",0],["sec",1]]},"groups":[[{"kind":"prelude"}]]}
-"attrs":9 => 1 not carried: plan
-"primary":1 => 1 not carried: plan
-"region":"r" => 1 not carried: plan
-"at":["num",1] => 1 not carried: plan
+"region":"r" => 1 region of section 0 not declared
 # and in an object with a symbol.
 @ {"plan":{"page":16,"sections":[{"parts":[[1,false]]}],"events":[["sec",0]]},"groups":[[{"kind":"prelude"},{"kind":"object","symbols":[{"at":["undef"]}],"sections":[...]}]]}
 {"slot":"must","size":1,"relocs":[[0,"GotTpOff",0,0,false]]} => 1 bad link: rule 12, input 0 1 0
