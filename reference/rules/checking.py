@@ -360,19 +360,15 @@ def check_link(link, refused):
 # What isn't laid out yet
 
 # The words of what the program doesn't carry yet.
-NOT_CARRIED = ("output", "table", "partial", "sorted", "primary", "relax", "symbol")
+NOT_CARRIED = ("partial", "sorted", "primary", "relax", "symbol")
 
 
 def uncarried(link):
     """What may not be laid out yet, in the order in which it is looked for, with whether the link has it."""
     plan, output = link.plan, link.options.output
     inputs = [entry for _, _, entry in inputs_of(link)]
-    kinds = {kind for entry in inputs for _, kind, _, _, _ in entry.relocs}
     symbols = symbols_of(link)
     owners = {file.kind for file, _ in symbols}
-    yield "output", output in ("dynamic", "shared")
-    has_table = table_parts(link) or plan.named["comment"] is not None
-    yield "table", has_table or kinds.intersection(listed.TABLE_RELOCATIONS)
     yield "partial", output == "partial" or plan.singletons is not None
     yield "sorted", any(entry.sorted for entry in inputs)
     yield "primary", plan.named["primary"] is not None

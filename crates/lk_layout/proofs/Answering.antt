@@ -10,7 +10,7 @@ use Rattle.lk_layout.specs.declared.error.LayoutError.{LayoutError}
 use Rattle.lk_layout.specs.declared.error.LayoutError.TheVariants.{NoMemory, TooMany, BadLink, NotCarried, MergeNotTerminated, MergeOffset, MergeTooLarge, References, AddressOverflow, RegionDuplicate, Expression, BaseTooLow, RegionUnknown, RegionOverflow, OutsideRegion, LocationBackwards, SectionOutsideSegments}
 use Rattle.lk_layout.specs.declared.error.Uncarried.{Uncarried}
 use Rattle.lk_layout.specs.declared.layout.Layout.{Layout}
-use Rattle.lk_layout.specs.declared.resolution.Resolution.{Resolution}
+use Rattle.lk_link.specs.declared.resolution.Resolution.{Resolution}
 use Rattle.lk_layout.specs.Carried.{IsCarried, first_uncarried}
 use Rattle.lk_layout.specs.Defined.{Gives, IsCarriedAnswer, IsDefined, IsMergedAnswer, Unless, WithMemory, fault_refusal, not_carried, uncarried_refusal, IsPlacedAnswer, joining_refusal, layout_of, offsets_refusal, references_error, references_refusal, segment_refusal}
 use Rattle.lk_layout.specs.Errors.{fault_error, gc_error, offset_error, place_error}

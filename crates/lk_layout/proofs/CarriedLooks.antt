@@ -4,13 +4,10 @@ use Rattle.std.specs.Prelude.{find}
 use Rattle.std.specs.List.{list_any}
 use Rattle.lk_link.specs.declared.file.InputFile.{InputFile}
 use Rattle.lk_link.specs.declared.link.LinkInput.{LinkInput}
-use Rattle.lk_link.specs.declared.section.InputSection.{InputSection}
-use Rattle.lk_link.specs.PartRules.{names_table}
-use Rattle.lk_link.specs.Relocations.{wants_entry}
 use Rattle.lk_layout.specs.declared.error.Uncarried.{Uncarried}
 use Rattle.lk_layout.specs.declared.error.Uncarried.TheVariants as uncarried
 use Rattle.lk_layout.specs.Carried.{all_uncarried, any_file, file_has, first_uncarried, has}
-use Rattle.lk_layout.specs.CarriedWords.{has_any, has_outside, section_has_any}
+use Rattle.lk_layout.specs.CarriedWords.{has_any, has_outside}
 
 left : (a b : Bool) → (a || b) ≡ false → a ≡ false
 left true b h = h
@@ -28,42 +25,13 @@ none_passes p q (x ∷ xs) stronger h =
     let here : p x ≡ false = stronger x (left (q x) _ h) in
     ap (λ b. b || list_any p xs) here ∙ none_passes p q xs stronger (right (q x) _ h)
 
-or_none : (b : Bool) → (b || false) ≡ b
-or_none true = refl
-or_none false = refl
-
-module _ (f : InputFile) (h : has_any f ≡ false) where
-  abbrev by_symbols : Bool
-  by_symbols = file_has uncarried.Symbol f
-
-  abbrev by_sections : Bool
-  by_sections = list_any section_has_any f.sections
-
-  symbols : file_has uncarried.Symbol f ≡ false
-  symbols = left by_symbols by_sections h
-
-  sections : list_any section_has_any f.sections ≡ false
-  sections = right by_symbols by_sections h
-
-module _ (s : InputSection) (h : section_has_any s ≡ false) where
-  abbrev enters : Bool
-  enters = list_any (λ r. wants_entry r.kind) s.relocs
-
-  section_sorts : s.sorted ≡ false
-  section_sorts = left s.sorted enters h
-
-  section_enters : list_any (λ r. wants_entry r.kind) s.relocs ≡ false
-  section_enters = right s.sorted enters h
-
 -- a file that has nothing of it has none of these
 has_none : (what : Uncarried) (f : InputFile) → has_any f ≡ false → file_has what f ≡ false
-has_none uncarried.Output f h = refl
-has_none uncarried.Table f h = none_passes (λ s. list_any (λ r. wants_entry r.kind) s.relocs) section_has_any f.sections section_enters (sections f h)
 has_none uncarried.Partial f h = refl
-has_none uncarried.Sorted f h = none_passes (λ s. s.sorted) section_has_any f.sections section_sorts (sections f h)
+has_none uncarried.Sorted f h = right (file_has uncarried.Symbol f) (file_has uncarried.Sorted f) h
 has_none uncarried.Primary f h = refl
 has_none uncarried.Relax f h = refl
-has_none uncarried.Symbol f h = symbols f h
+has_none uncarried.Symbol f h = left (file_has uncarried.Symbol f) (file_has uncarried.Sorted f) h
 
 no_file : (what : Uncarried) (link : LinkInput) → any_file has_any link ≡ false → any_file (file_has what) link ≡ false
 no_file what link h =
@@ -72,8 +40,6 @@ no_file what link h =
 
 outside : (what : Uncarried) (link : LinkInput) → any_file has_any link ≡ false → has_outside link what ≡ has link what
 unfolding has
-outside uncarried.Output link h = refl
-outside uncarried.Table link h = sym (ap (λ b. names_table link.plan.named || b) (no_file uncarried.Table link h) ∙ or_none (names_table link.plan.named))
 outside uncarried.Partial link h = refl
 outside uncarried.Sorted link h = sym (no_file uncarried.Sorted link h)
 outside uncarried.Primary link h = refl

@@ -12,4 +12,4 @@ use Rattle.lk_layout.specs.Carried.{IsCarried, all_uncarried, first_uncarried, h
 pub whole_output : (link : LinkInput) → IsCarried link → is_partial link.options.output ≡ false
 unfolding first_uncarried has
 whole_output link carried =
-    (or_parts (is_partial link.options.output) (is_some link.plan.singletons) (none_found (has link) all_uncarried 2 uncarried.Partial carried refl)).0
+    (or_parts (is_partial link.options.output) (is_some link.plan.singletons) (none_found (has link) all_uncarried 0 uncarried.Partial carried refl)).0

@@ -3,11 +3,9 @@ use Rattle.std.proofs.Common.{◌≡◌, ℕ, zero, suc, ◌+◌, ◌<◌, ◌�
 use Rattle.std.specs.Prelude.{find, unwrap_or}
 use Rattle.std.specs.List.{enumerate_from, flat_map, position_or_len, slice_get}
 use Rattle.std.specs.Option.{option_map_or}
-use Rattle.std.proofs.lemmas.Bool.{cases_lt, eqb-true, false_from_ne_true}
+use Rattle.std.proofs.lemmas.Bool.{and_parts, cases_lt, eqb-true, false_from_ne_true}
 use Rattle.std.proofs.lemmas.List.Folds.{find_at}
 use Rattle.std.proofs.lemmas.Option.{slice_get_past, slice_get_within}
-use Rattle.lk_link.specs.declared.file.FileKind.{FileKind}
-use Rattle.lk_link.specs.declared.file.FileKind.TheVariants as kind
 use Rattle.lk_link.specs.declared.file.InputFile.{InputFile}
 use Rattle.lk_link.specs.declared.flags.ValueFlags.{ValueFlags}
 use Rattle.lk_link.specs.declared.link.LinkInput.{LinkInput}
@@ -20,17 +18,19 @@ use Rattle.lk_link.proofs.Elements.{flat_map_in, map_at, map_in}
 use Rattle.lk_link.proofs.InputLemmas.{file_stands}
 use Rattle.lk_reach.proofs.Numbered.{file_at}
 use Rattle.lk_gc.specs.declared.live.Live.{Live}
-use Rattle.lk_tables.specs.Copied.{can_resolve, is_named, is_wanted}
+use Rattle.lk_tables.specs.Copied.{is_wanted}
 use Rattle.lk_sizes.specs.declared.addresses.CommonAddress.{CommonAddress}
 use Rattle.lk_sizes.specs.Addresses.{common_addresses, told_common}
 use Rattle.lk_sizes.specs.Owners.{Content, IsCommonIn, all_commons, commons_of}
 use Rattle.lk_sizes.specs.PartOwners.{common_address}
 use Rattle.lk_sizes.proofs.Addressing.{same_number}
 use Rattle.lk_sizes.proofs.CommonOnes.{common_at_index, commons_rise}
-use Rattle.lk_layout.specs.declared.resolution.Resolution.{Resolution}
+use Rattle.lk_link.specs.declared.resolution.Resolution.{Resolution}
 use Rattle.lk_layout.specs.OutputContent.{output_content}
-use Rattle.lk_layout.specs.Resolutions.{Places, file_resolutions, flags_at, has_resolutions, is_resolved, placed_value, places_of, resolution_of}
+use Rattle.lk_layout.specs.Entries.{EntrySetting, told_flags, with_entries}
+use Rattle.lk_layout.specs.Resolutions.{Places, entries_of, file_resolutions, has_resolutions, placed_value, places_of, resolution_of}
 use Rattle.lk_layout.specs.Tables.{AreRising, common_in}
+use Rattle.lk_layout.proofs.EntriesTaken.{plain_flags}
 use Rattle.lk_link.specs.TableSizes.{TableSizes}
 
 -- ---- the first that passes
@@ -118,22 +118,6 @@ common_found link content starts p s size h =
 
 -- ---- the same resolutions by the table
 
-can_have : (k : FileKind) (x : InputSymbol) → has_resolutions k ≡ true → can_resolve k x ≡ true
-can_have kind.Object x h = or_true (is_named x)
-  where
-    or_true : (b : Bool) → (b || true) ≡ true
-    or_true true = refl
-    or_true false = refl
-can_have kind.Dynamic x h = or_true (is_named x)
-  where
-    or_true : (b : Bool) → (b || true) ≡ true
-    or_true true = refl
-    or_true false = refl
-can_have kind.NotLoaded x h = absurd (cc)
-can_have kind.Prelude x h = absurd (cc)
-can_have kind.SyntheticSymbols x h = absurd (cc)
-can_have kind.LinkerScript x h = absurd (cc)
-
 -- what values go by, with commons by the table
 abbrev pub places_with : TableSizes → LinkInput → Live → List ℕ → Places
 places_with sizes link live starts = record (places_of sizes link live starts) { common = λ p s. common_in (common_addresses link (output_content sizes link live) starts) s }
@@ -168,16 +152,21 @@ flat_alike : {X Y : Type 0} (g h : X → List Y) (xs : List X) → ((k : ℕ) (x
 flat_alike g h [] same = refl
 flat_alike g h (x ∷ xs) same = ap (λ ys. ys ++ flat_map g xs) (same 0 x refl) ∙ ap (λ ys. h x ++ ys) (flat_alike g h xs (λ k y there. same (suc k) y there))
 
-one_alike : (sizes : TableSizes) (link : LinkInput) (live : Live) (starts : List ℕ) (f : NumberedFile) (i k : ℕ) (x : InputSymbol) → slice_get (numbered_files link.groups) i ≡ Some f → has_resolutions f.file.kind ≡ true
-    → slice_get f.file.symbols k ≡ Some x → resolution_of (places_with sizes link live starts) live.flags (first_input link.groups f.id) (first_symbol link.groups f.id + k, x)
-    ≡ resolution_of (places_of sizes link live starts) live.flags (first_input link.groups f.id) (first_symbol link.groups f.id + k, x)
-one_alike sizes link live starts f i k x at_f has at_k =
+one_alike : (sizes : TableSizes) (link : LinkInput) (live : Live) (starts : List ℕ) (f : NumberedFile) (i k : ℕ) (x : InputSymbol) → slice_get (numbered_files link.groups) i ≡ Some f
+    → slice_get f.file.symbols k ≡ Some x
+    → resolution_of (places_with sizes link live starts) (entries_of sizes link live starts) f.file.kind (first_input link.groups f.id) (first_symbol link.groups f.id + k, x)
+    ≡ resolution_of (places_of sizes link live starts) (entries_of sizes link live starts) f.file.kind (first_input link.groups f.id) (first_symbol link.groups f.id + k, x)
+one_alike sizes link live starts f i k x at_f at_k =
     let s : ℕ = first_symbol link.groups f.id + k in
     let first : ℕ = first_input link.groups f.id in
-    let told : ℕ → Option Resolution = λ n. Some (record { raw_value = n; flags = flags_at live.flags s }) in
-    (elim (is_resolved s x (flags_at live.flags s)) as (λ b. is_resolved s x (flags_at live.flags s) ≡ b
+    let by : EntrySetting = entries_of sizes link live starts in
+    let flags : ValueFlags = told_flags by f.file.kind (s, x) in
+    let told : ℕ → Option Resolution = λ n. Some (with_entries by s flags n) in
+    let test : Bool = has_resolutions f.file.kind && is_wanted f.file.kind s x flags in
+    (elim test as (λ b. test ≡ b
     → (if b then told (placed_value (places_with sizes link live starts) first s x.at) else None) ≡ (if b then told (placed_value (places_of sizes link live starts) first s x.at) else None)) [
-      | true ↦ λ resolved. ap told (same_value sizes link live starts first s x.at (λ q size placed.
+      | true ↦ λ given. ap told (same_value sizes link live starts first s x.at (λ q size placed.
+          let both = and_parts (has_resolutions f.file.kind) (is_wanted f.file.kind s x flags) given in
           common_found link (output_content sizes link live) starts q s size (record {
             file = f;
             there = (file_at link.groups i f at_f).there;
@@ -186,20 +175,16 @@ one_alike sizes link live starts f i k x at_f has at_k =
             stands = at_k;
             number = refl;
             placed = placed;
-            wanted = ap (λ b. b && can_resolve f.file.kind x) resolved ∙ can_have f.file.kind x has;
+            wanted = ap (is_wanted f.file.kind s x) (sym (plain_flags by f.file.kind (s, x) both.0)) ∙ both.1;
           })))
-      | false ↦ λ resolved. refl
+      | false ↦ λ given. refl
     ]) refl
 
 pub resolutions_alike : (sizes : TableSizes) (link : LinkInput) (live : Live) (starts : List ℕ)
-    → flat_map (file_resolutions (places_with sizes link live starts) live.flags link.groups) (numbered_files link.groups)
-    ≡ flat_map (file_resolutions (places_of sizes link live starts) live.flags link.groups) (numbered_files link.groups)
+    → flat_map (file_resolutions (places_with sizes link live starts) (entries_of sizes link live starts)) (numbered_files link.groups)
+    ≡ flat_map (file_resolutions (places_of sizes link live starts) (entries_of sizes link live starts)) (numbered_files link.groups)
 resolutions_alike sizes link live starts =
-    flat_alike (file_resolutions (places_with sizes link live starts) live.flags link.groups) (file_resolutions (places_of sizes link live starts) live.flags link.groups) (numbered_files link.groups) (λ i f at_f.
-    let one : Places → ℕ × InputSymbol → Option Resolution = λ places. resolution_of places live.flags (first_input link.groups f.id) in
-    let all : Places → List (Option Resolution) = λ places. map (one places) (enumerate_from (first_symbol link.groups f.id) f.file.symbols) in
-    let none : List (Option Resolution) = map (λ (x : InputSymbol). let n : Option Resolution = None in n) f.file.symbols in
-    (elim (has_resolutions f.file.kind) as (λ b. has_resolutions f.file.kind ≡ b → (if b then all (places_with sizes link live starts) else none) ≡ (if b then all (places_of sizes link live starts) else none)) [
-      | true ↦ λ has. map_alike (one (places_with sizes link live starts)) (one (places_of sizes link live starts)) (first_symbol link.groups f.id) f.file.symbols (λ k x at_k. one_alike sizes link live starts f i k x at_f has at_k)
-      | false ↦ λ has. refl
-    ]) refl)
+    let by : EntrySetting = entries_of sizes link live starts in
+    flat_alike (file_resolutions (places_with sizes link live starts) by) (file_resolutions (places_of sizes link live starts) by) (numbered_files link.groups) (λ i f at_f.
+    let one : Places → ℕ × InputSymbol → Option Resolution = λ places. resolution_of places by f.file.kind (first_input link.groups f.id) in
+    map_alike (one (places_with sizes link live starts)) (one (places_of sizes link live starts)) (first_symbol link.groups f.id) f.file.symbols (λ k x at_k. one_alike sizes link live starts f i k x at_f at_k))

@@ -5,7 +5,6 @@ use Rattle.std.specs.Int.{◌∣◌}
 use Rattle.std.specs.List.{slice_index_or}
 use Rattle.std.proofs.Math.ListN as lists
 use Rattle.std.proofs.Math.Nat.{dvd-add}
-use Rattle.std.proofs.lemmas.Bool.{and_parts}
 use Rattle.lk_link.specs.declared.file.FileKind.{FileKind}
 use Rattle.lk_link.specs.declared.file.FileKind.TheVariants as kind
 use Rattle.lk_link.specs.declared.file.InputFile.{InputFile}
@@ -22,22 +21,23 @@ use Rattle.lk_link.specs.WellFormed.{IsWellFormed}
 use Rattle.lk_link.proofs.GoodSymbols.{symbol_of}
 use Rattle.lk_gc.specs.declared.live.Live.{Live}
 use Rattle.lk_place.specs.Records.{Record, nowhere, record_at}
-use Rattle.lk_tables.specs.Copied.{can_resolve}
 use Rattle.lk_sizes.specs.Owners.{CommonOwner, Content, IsCommonIn, Owner, owner_address}
 use Rattle.lk_sizes.specs.PartOwners.{common_address, common_number, owners_of, part_size}
 use Rattle.lk_sizes.specs.Tiles.{HasByte, OwnersAreAligned, OwnersTileTheirPart}
 use Rattle.lk_sizes.proofs.CommonOnes.{common_is_placed, commons_are_owners}
 use Rattle.lk_layout.specs.declared.layout.Layout.{Layout}
-use Rattle.lk_layout.specs.declared.resolution.Resolution.{Resolution}
+use Rattle.lk_link.specs.declared.resolution.Resolution.{Resolution}
 use Rattle.lk_layout.specs.Defined.{setting, starts_of}
 use Rattle.lk_layout.specs.OutputContent.{output_content}
-use Rattle.lk_layout.specs.Resolutions.{Places, flags_at, is_resolved, placed_value, places_of, resolution_at, resolution_of, symbol_resolutions}
+use Rattle.lk_layout.specs.Entries.{EntrySetting}
+use Rattle.lk_layout.specs.Resolutions.{Places, entries_of, placed_value, places_of, resolution_at, resolution_of, symbol_resolutions}
 use Rattle.lk_layout.specs.Sound.{CommonsStand, part_record}
 use Rattle.lk_layout.proofs.LaidOut.{IsLaidOut}
 use Rattle.lk_layout.proofs.PartStarts.{part_starts}
 use Rattle.lk_layout.proofs.Placing.{size-le}
 use Rattle.lk_layout.proofs.Settings.{size_of}
-use Rattle.lk_layout.proofs.Valued.{resolution_is}
+use Rattle.lk_layout.proofs.EntriesTaken.{own_value}
+use Rattle.lk_layout.proofs.Valued.{object_has, resolution_is}
 
 -- ---- its file
 
@@ -57,15 +57,7 @@ of_object link live p s size good c =
 
 -- ---- its value
 
--- a common that is resolved has its address as its value
-common_value : (places : Places) (live : Live) (first s p size : ℕ) (x : InputSymbol) → is_resolved s x (flags_at live.flags s) ≡ true → x.at ≡ at.Common p size
-    → option_map (λ (r : Resolution). r.raw_value) (resolution_of places live.flags first (s, x)) ≡ Some (places.common p s)
-common_value places live first s p size x resolved stands =
-    let made : ℕ → Option Resolution = λ n. Some (record { raw_value = n; flags = flags_at live.flags s }) in
-    ap (λ b. option_map (λ (r : Resolution). r.raw_value) (if b then made (placed_value places first s x.at) else None)) resolved
-    ∙ ap (λ (n : ℕ). Some n) (ap (placed_value places first s) stands)
-
--- what is told of its symbol, by where the parts start
+-- what is told of its symbol, by where the parts start: its address
 value_told : (sizes : TableSizes) (link : LinkInput) (live : Live) (starts : List ℕ) (p s size : ℕ) (c : IsCommonIn link live p s size) → is_object c.file.file.kind ≡ true
     → option_map (λ (r : Resolution). r.raw_value) (resolution_at (symbol_resolutions sizes link live starts) s) ≡ Some (common_address link (output_content sizes link live) starts p s)
 value_told sizes link live starts p s size c object =
@@ -73,13 +65,13 @@ value_told sizes link live starts p s size c object =
     let file : InputFile = c.file.file in
     let first : ℕ = first_input link.groups c.file.id in
     let places : Places = places_of sizes link live starts in
+    let by : EntrySetting = entries_of sizes link live starts in
     let raw : Option Resolution → Option ℕ = option_map (λ (r : Resolution). r.raw_value) in
-    let resolved : is_resolved s x (flags_at live.flags s) ≡ true = (and_parts (is_resolved s x (flags_at live.flags s)) (can_resolve file.kind x) c.wanted).0 in
-    let read : resolution_at (symbol_resolutions sizes link live starts) s ≡ resolution_of places live.flags first (s, x)
+    let read : resolution_at (symbol_resolutions sizes link live starts) s ≡ resolution_of places by file.kind first (s, x)
     = ap (λ (n : ℕ). resolution_at (symbol_resolutions sizes link live starts) n) c.number
-    ∙ resolution_is sizes link live starts c.file.id file c.index x c.there object c.stands
-    ∙ ap (λ (n : ℕ). resolution_of places live.flags first (n, x)) (sym c.number) in
-    ap raw read ∙ common_value places live first s p size x resolved c.placed
+    ∙ resolution_is sizes link live starts c.file.id file c.index x c.there c.stands
+    ∙ ap (λ (n : ℕ). resolution_of places by file.kind first (n, x)) (sym c.number) in
+    ap raw read ∙ own_value places by file.kind first (s, x) (object_has file.kind object) c.wanted ∙ ap (λ (n : ℕ). Some n) (ap (placed_value places first s) c.placed)
 
 -- ---- where it stands
 

@@ -1,6 +1,8 @@
 mod Answering
 mod CarriedPlans
 mod CommonsStand
+mod EntriesStand
+mod EntriesTaken
 mod FewHeaders
 mod Fitting
 mod ImagesShow
@@ -14,11 +16,13 @@ mod PartStarts
 mod Placing
 mod PlacingRefused
 mod Positioned
+mod Pushing
 mod ReferencesShow
 mod Resolved
 mod Settings
 mod Soundness
 mod Stopping
+mod TablesAlone
 mod Valued
 pub mod CarriedLooks
 pub mod CommonsFound

@@ -32,16 +32,18 @@ use Rattle.lk_merge.specs.OutputAddresses.{MergePlace, address_in, merge_place, 
 use Rattle.lk_merge.specs.Pieces.{MergeInput, is_terminated}
 use Rattle.lk_merge.proofs.AddressLemmas.{starts_at}
 use Rattle.lk_merge.proofs.SymbolPlaces.{is_input, output_at, symbol_numbered}
+use Rattle.lk_tables.specs.SymbolEntries.{is_resolved}
 use Rattle.lk_sizes.specs.Images.{image_addresses}
 use Rattle.lk_sizes.specs.PartOwners.{live_address}
 use Rattle.lk_layout.specs.declared.layout.Layout.{Layout}
 use Rattle.lk_layout.specs.declared.outside.MergeOffsetPlace.{MergeOffsetPlace}
 use Rattle.lk_layout.specs.declared.outside.MergeOffsetPlace.TheVariants.{OfSymbol}
-use Rattle.lk_layout.specs.declared.resolution.Resolution.{Resolution}
+use Rattle.lk_link.specs.declared.resolution.Resolution.{Resolution}
 use Rattle.lk_layout.specs.Defined.{starts_of}
 use Rattle.lk_layout.specs.OutputContent.{output_content}
 use Rattle.lk_layout.specs.Outside.{merge_offsets, relocations_outside, symbol_outside, symbols_outside}
-use Rattle.lk_layout.specs.Resolutions.{Places, flags_at, images_at, is_resolved, places_of, resolution_at, resolution_of, value_at}
+use Rattle.lk_layout.specs.Entries.{EntrySetting}
+use Rattle.lk_layout.specs.Resolutions.{Places, entries_of, images_at, places_of, resolution_at, resolution_of, value_at}
 use Rattle.lk_layout.specs.Sound.{NamedSymbolsShow}
 use Rattle.lk_layout.proofs.Imaging.{output_there, symbol_place_is}
 use Rattle.lk_layout.proofs.ImagesShow.{all_terminated, shows}
@@ -92,7 +94,7 @@ has_none [] n place is h = absurd (cc)
 has_none (x ∷ places) n place is h = absurd (cc)
 
 stands_inside : (link : LinkInput) (live : Live) (id : FileId) (file : InputFile) (i offset k : ℕ) (x : InputSymbol) (section : InputSection) → Stands link id file i offset k x section
-    → is_resolved (first_symbol link.groups id + k) x (flags_at live.flags (first_symbol link.groups id + k)) ≡ true → merge_offsets link live ≡ [] → offset < length section.bytes
+    → is_resolved live file.kind (first_symbol link.groups id + k, x) ≡ true → merge_offsets link live ≡ [] → offset < length section.bytes
 stands_inside link live id file i offset k x section s resolved inside =
     elim (cases_lt offset (length section.bytes)) [
       | inl below ↦ below
@@ -104,11 +106,10 @@ stands_inside link live id file i offset k x section s resolved inside =
           let outside : stands_outside link number ≡ true
           = ap may_stand_outside (names link id file i offset k x section s)
           ∙ ap not (past_tells offset (length section.bytes) past) in
-          let flags = flags_at live.flags number in
-          let one : slice_get (symbol_outside link live (number, x)) 0 ≡ Some (OfSymbol number)
+          let one : slice_get (symbol_outside link live file.kind (number, x)) 0 ≡ Some (OfSymbol number)
           = ap (λ b. slice_get (if b && stands_outside link number then OfSymbol number ∷ [] else []) 0) resolved
           ∙ ap (λ b. slice_get (if b then OfSymbol number ∷ [] else []) 0) outside in
-          let of_file = flat_map_in (symbol_outside link live) (enumerate_from first file.symbols) k 0 (number, x) (OfSymbol number) (numbered_get first file.symbols k x s.at_k) one in
+          let of_file = flat_map_in (symbol_outside link live file.kind) (enumerate_from first file.symbols) k 0 (number, x) (OfSymbol number) (numbered_get first file.symbols k x s.at_k) one in
           let of_all = flat_map_in (symbols_outside link live) (numbered_files groups) (file_number groups id) of_file.0 f (OfSymbol number) (file_stands groups id file s.there) of_file.1 in
           let there = append_left (flat_map (symbols_outside link live) (numbered_files groups)) (flat_map (relocations_outside link live) (numbered_files groups)) of_all.0 (OfSymbol number) of_all.1 in
           absurd (has_none (merge_offsets link live) of_all.0 (OfSymbol number) inside there)
@@ -150,20 +151,21 @@ named_symbols_show machine link layout laid id file i offset section there r pla
     let address : ℕ = images t + n in
     let found : address_in link images place offset ≡ Some address = ap (λ b. cond b (Some address) None) (lt-ltb offset (length section.bytes) inside) in
     let places : Places = places_of machine.sizes link live starts in
+    let by : EntrySetting = entries_of machine.sizes link live starts in
     let none : places.live (first + i) offset ≡ None
     = ap (λ b. if b then option_map (λ z. live_address link (output_content machine.sizes link live) starts z + offset) (slice_get (all_inputs groups) (first + i)) else None) (not_live link live (first + i) input laid.are_live at_input merged) in
     let value : unwrap_or (places.live (first + i) offset) (places.merged number) ≡ address
     = ap (λ (o : Option ℕ). unwrap_or o (places.merged number)) none
     ∙ ap (λ (o : Option MergePlace). option_map_or (value_at link images) o 0) is
     ∙ ap (λ (o : Option ℕ). unwrap_or o 0) found in
-    let read : resolution_at layout.symbol_resolutions number ≡ resolution_of places live.flags first (number, x)
-    = ap (λ (l : Layout). resolution_at l.symbol_resolutions number) laid.same ∙ resolution_is machine.sizes link live starts id file r.index x there r.object r.there in
+    let read : resolution_at layout.symbol_resolutions number ≡ resolution_of places by file.kind first (number, x)
+    = ap (λ (l : Layout). resolution_at l.symbol_resolutions number) laid.same ∙ resolution_is machine.sizes link live starts id file r.index x there r.there in
     let image_is : image_start layout.merged_string_start_addresses t ≡ images t
     = ap (λ (l : Layout). image_start l.merged_string_start_addresses t) laid.same
     ∙ starts_at (link_inputs link).outputs (image_addresses link (output_content machine.sizes link live) starts) t inputs at_t in
     let terminated : list_all is_terminated inputs ≡ true = all_terminated link.options.bucket_limit 0 (link_inputs link).outputs t inputs laid.merged at_t in (
       address,
-      ap (option_map (λ (z : Resolution). z.raw_value)) read ∙ value_of places live first number i offset address x r.resolved placed value,
+      ap (option_map (λ (z : Resolution). z.raw_value)) read ∙ value_of places by file.kind first number i offset address x r.object r.resolved placed value,
       record {
         place = n;
         at = ap (λ m. m + n) (sym image_is);

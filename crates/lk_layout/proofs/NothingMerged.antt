@@ -5,6 +5,7 @@ use Rattle.std.specs.List.{enumerate_from, flat_map, list_any, slice_get}
 use Rattle.std.proofs.lemmas.Bool.Decides.{eqb_tells}
 use Rattle.std.proofs.lemmas.List.Folds.{list_any_at}
 use Rattle.std.proofs.lemmas.Option.{get_or_from_slice_get, slice_get_within}
+use Rattle.lk_link.specs.declared.file.FileKind.{FileKind}
 use Rattle.lk_link.specs.declared.link.LinkInput.{LinkInput}
 use Rattle.lk_link.specs.declared.relocation.Relocation.{Relocation}
 use Rattle.lk_link.specs.declared.section.InputSection.{InputSection}
@@ -23,9 +24,9 @@ use Rattle.lk_merge.specs.OffsetsOutside.{may_choose_outside, may_stand_outside,
 use Rattle.lk_merge.specs.OutputAddresses.{MergePlace, output_of, symbol_place}
 use Rattle.lk_merge.specs.Pieces.{MergeInput}
 use Rattle.lk_merge.proofs.SymbolPlaces.{is_input, output_at}
+use Rattle.lk_tables.specs.SymbolEntries.{is_resolved}
 use Rattle.lk_layout.specs.declared.outside.MergeOffsetPlace.TheVariants.{OfRelocation, OfSymbol}
 use Rattle.lk_layout.specs.Outside.{merge_offsets, relocation_outside, relocations_outside, section_outside, symbol_outside, symbols_outside}
-use Rattle.lk_layout.specs.Resolutions.{flags_at, is_resolved}
 use Rattle.lk_layout.proofs.Imaging.{output_there, symbol_place_is}
 
 -- where nothing comes of any, nothing comes of all
@@ -76,8 +77,8 @@ module _ (link : LinkInput) (good : IsWellFormed link) (none : list_any (λ xs. 
   not_both true b xs h = ap (λ c. if c then xs else []) h
   not_both false b xs h = refl
 
-  symbol_none : (live : Live) (q : ℕ × InputSymbol) → symbol_outside link live q ≡ []
-  symbol_none live q = not_both (is_resolved q.0 q.1 (flags_at live.flags q.0)) (stands_outside link q.0) (OfSymbol q.0 ∷ []) (stands_nowhere q.0)
+  symbol_none : (live : Live) (k : FileKind) (q : ℕ × InputSymbol) → symbol_outside link live k q ≡ []
+  symbol_none live k q = not_both (is_resolved live k q) (stands_outside link q.0) (OfSymbol q.0 ∷ []) (stands_nowhere q.0)
 
   relocation_none : (f : NumberedFile) (section : ℕ) (q : ℕ × Relocation) → relocation_outside link f section q ≡ []
   relocation_none f section q =
@@ -94,5 +95,5 @@ module _ (link : LinkInput) (good : IsWellFormed link) (none : list_any (λ xs. 
   pub no_offsets : (live : Live) → merge_offsets link live ≡ []
   no_offsets live =
       ap (λ ys. ys ++ flat_map (relocations_outside link live) (numbered_files link.groups))
-      (nothing (symbols_outside link live) (numbered_files link.groups) (λ f. nothing (symbol_outside link live) (enumerate_from (first_symbol link.groups f.id) f.file.symbols) (symbol_none live)))
+      (nothing (symbols_outside link live) (numbered_files link.groups) (λ f. nothing (symbol_outside link live f.file.kind) (enumerate_from (first_symbol link.groups f.id) f.file.symbols) (symbol_none live f.file.kind)))
       ∙ nothing (relocations_outside link live) (numbered_files link.groups) (λ f. nothing (section_outside link live f) (enumerate_from 0 f.file.sections) (section_none live f))

@@ -8,7 +8,6 @@ use Rattle.std.proofs.lemmas.Bool.{cases_lt}
 use Rattle.std.proofs.lemmas.List.{get_or_past, length-map}
 use Rattle.std.proofs.lemmas.Option.{slice_get-get_or}
 use Rattle.lk_link.specs.declared.file.InputFile.{InputFile}
-use Rattle.lk_link.specs.declared.flags.ValueFlags.{ValueFlags}
 use Rattle.lk_link.specs.declared.ids.FileId.{FileId}
 use Rattle.lk_link.specs.declared.link.LinkInput.{LinkInput}
 use Rattle.lk_link.specs.declared.plan.PlanPart.{PlanPart}
@@ -33,12 +32,14 @@ use Rattle.lk_gc.specs.Reach.{AreLive, IsLive, live_inputs, marked}
 use Rattle.lk_merge.specs.Addresses.{image_start}
 use Rattle.lk_place.specs.Records.{Record, record_at}
 use Rattle.lk_sizes.specs.Addresses.{common_addresses, section_addresses}
+use Rattle.lk_sizes.specs.Header.{header_info}
 use Rattle.lk_sizes.specs.PartOwners.{EndsFit, live_address, part_size}
 use Rattle.lk_sizes.proofs.LiveOnes.{live_goes}
 use Rattle.lk_sizes.proofs.Numbering.{table_at as address_by_number}
 use Rattle.lk_sizes.proofs.Placed.{live_ends}
-use Rattle.lk_layout.specs.declared.resolution.Resolution.{Resolution}
+use Rattle.lk_link.specs.declared.resolution.Resolution.{Resolution}
 use Rattle.lk_layout.specs.Defined.{starts_of}
+use Rattle.lk_layout.specs.Entries.{entry_setting}
 use Rattle.lk_layout.specs.Resolutions.{Places, address_at, file_resolutions, images_at, merged_value, places_of, symbol_resolutions}
 use Rattle.lk_layout.specs.Tables.{HasRoom, HaveRoom, common_in, place_in, places_in}
 use Rattle.lk_layout.proofs.CommonsFound.{places_with, resolutions_alike}
@@ -181,18 +182,19 @@ room_by marks read addresses table groups is_marks is_table h =
     subst (λ (ms : List Bool). HaveRoom ms table groups) (sym is_marks) (subst (λ (ns : List ℕ). HaveRoom marks ns groups) (sym is_table) h)
 
 -- and the same resolutions
-pub resolutions_by : (sizes : TableSizes) (link : LinkInput) (live : Live) (starts wanted : List ℕ) (marks : List Bool) (addresses buckets : List ℕ) (commons : List CommonAddress) (flags : List ValueFlags) (items : List (Option Resolution)) → AreLive link live
-    → marks ≡ live.marks → addresses ≡ table sizes link live starts → commons ≡ common_addresses link (output_content sizes link live) starts → flags ≡ live.flags → starts ≡ wanted
-    → merged_value link (image_start buckets) ≡ merged_value link (images_at sizes link live wanted)
-    → items ≡ flat_map (file_resolutions (places_in marks addresses commons link buckets) flags link.groups) (numbered_files link.groups) → items ≡ symbol_resolutions sizes link live wanted
-resolutions_by sizes link live starts wanted marks addresses buckets commons flags items are is_marks is_table is_commons is_flags is_starts is_merged made =
-    let all : Places → List ValueFlags → List (Option Resolution) = λ places fs. flat_map (file_resolutions places fs link.groups) (numbered_files link.groups) in
+pub resolutions_by : (sizes : TableSizes) (link : LinkInput) (live : Live) (starts wanted own : List ℕ) (marks : List Bool) (addresses buckets : List ℕ) (commons : List CommonAddress) (told : List Bool) (items : List (Option Resolution)) → AreLive link live
+    → marks ≡ live.marks → addresses ≡ table sizes link live starts → commons ≡ common_addresses link (output_content sizes link live) starts → told ≡ (header_info link (output_content sizes link live)).emitted
+    → starts ≡ wanted → own ≡ wanted → merged_value link (image_start buckets) ≡ merged_value link (images_at sizes link live wanted)
+    → items ≡ flat_map (file_resolutions (places_in marks addresses commons link buckets) (entry_setting sizes link live told own)) (numbered_files link.groups) → items ≡ symbol_resolutions sizes link live wanted
+resolutions_by sizes link live starts wanted own marks addresses buckets commons told items are is_marks is_table is_commons is_told is_starts is_own is_merged made =
+    let all : Places → List Bool → List ℕ → List (Option Resolution) = λ places ts ss. flat_map (file_resolutions places (entry_setting sizes link live ts ss)) (numbered_files link.groups) in
     let both : (ℕ → ℕ → Option ℕ) → List CommonAddress → (ℕ → ℕ) → Places = λ place cs values. record { live = place; common = λ p s. common_in cs s; merged = values } in
     let place : place_in marks addresses ≡ address_at sizes link live wanted
     = ap (λ (ms : List Bool). place_in ms addresses) is_marks ∙ ap (place_in live.marks) is_table ∙ places_are sizes link live starts are ∙ ap (address_at sizes link live) is_starts in
     let commons_are : commons ≡ common_addresses link (output_content sizes link live) wanted = is_commons ∙ ap (common_addresses link (output_content sizes link live)) is_starts in
-    made ∙ ap (λ at. all (both at commons (merged_value link (image_start buckets))) flags) place
-    ∙ ap (λ cs. all (both (address_at sizes link live wanted) cs (merged_value link (image_start buckets))) flags) commons_are
-    ∙ ap (λ values. all (both (address_at sizes link live wanted) (common_addresses link (output_content sizes link live) wanted) values) flags) is_merged
-    ∙ ap (all (places_with sizes link live wanted)) is_flags
+    made ∙ ap (λ at. all (both at commons (merged_value link (image_start buckets))) told own) place
+    ∙ ap (λ cs. all (both (address_at sizes link live wanted) cs (merged_value link (image_start buckets))) told own) commons_are
+    ∙ ap (λ values. all (both (address_at sizes link live wanted) (common_addresses link (output_content sizes link live) wanted) values) told own) is_merged
+    ∙ ap (λ (ts : List Bool). all (places_with sizes link live wanted) ts own) is_told
+    ∙ ap (all (places_with sizes link live wanted) (header_info link (output_content sizes link live)).emitted) is_own
     ∙ resolutions_alike sizes link live wanted

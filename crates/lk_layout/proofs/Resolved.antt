@@ -41,8 +41,9 @@ use Rattle.lk_reach.proofs.PlainAsks.{resolved_is_reached}
 use Rattle.lk_reach.proofs.ReachLemmas.{marks_are_reached, reach_more}
 use Rattle.lk_reach.proofs.SymbolNumbers.{object_follows}
 use Rattle.lk_reach.proofs.UnitLemmas.{section_unit}
+use Rattle.lk_tables.specs.Copied.{can_resolve, is_canonical}
+use Rattle.lk_tables.specs.Late.{flags_at}
 use Rattle.lk_layout.specs.Laws.{ResolvedSectionsAreLive}
-use Rattle.lk_layout.specs.Resolutions.{flags_at}
 
 -- ---- bits
 
@@ -146,7 +147,8 @@ resolved_sections_are_live link live wf are met id file i section there r at_i u
     let lt = slice_get_within file.symbols r.index r.symbol r.there in
     let at_s : symbol_at link.groups s ≡ Some r.symbol = symbols_follow link.groups id file r.index there lt ∙ r.there in
     let few : s < length live.flags = omega (arith, are.symbols, slice_get_within (all_symbols link.groups) s r.symbol at_s) in
-    let bit = asked_bit f.0 (and_parts _ (has_resolution f.0) r.resolved).1 in
+    let asked = and_parts (is_canonical s r.symbol && has_resolution f.0) (can_resolve file.kind r.symbol) r.resolved in
+    let bit = asked_bit f.0 (and_parts (is_canonical s r.symbol) (has_resolution f.0) asked.0).1 in
     let flag_is = (are.flags s f (slice_get-get_or live.flags s (flags_from 0) few) bit.place).0 bit.set in
     let reached = section_reached link id file i r.index r.symbol there r.there r.object r.at (resolved_is_reached link s bit.place wf bit.from bit.below flag_is) in
     let kept = false_from_ne_true (is_discarded section.slot) (λ discarded.

@@ -37,6 +37,8 @@ use Rattle.lk_layout.specs.Laws.{DefinedLayoutsAreSound, LaidOutMemoryIsDisjoint
 use Rattle.lk_layout.specs.Resolutions.{symbol_resolutions}
 use Rattle.lk_layout.specs.Sound.{AreOutputsTold, OwnersAreApart, IsInSection, IsSharedOut, IsSound, IsTold, LiveSectionsAreAligned, LiveSectionsAreApart, MemoryIsCongruent, part_record}
 use Rattle.lk_layout.proofs.CommonsStand.{commons_stand}
+use Rattle.lk_layout.proofs.EntriesStand.{entries_stand}
+use Rattle.lk_layout.proofs.TablesAlone.{tables_alone}
 use Rattle.lk_layout.proofs.Fitting.{buckets_start}
 use Rattle.lk_layout.proofs.LaidOut.{IsLaidOut, laid_out}
 use Rattle.lk_layout.proofs.ImagesShow.{images_stand}
@@ -244,6 +246,8 @@ is_sound tile aligned owners mass refused file memory in_step keep machine link 
       valued = values_are_in_live_sections machine.sizes link laid.live layout (starts_of records) (shown machine link layout laid) (resolved machine link layout laid)
           (resolved_sections_are_live link laid.live laid.good laid.are_live laid.met);
       commons = commons_stand tile aligned machine link layout laid (resolved machine link layout laid);
+      alone = tables_alone machine.sizes link laid.live laid.good laid.are_live;
+      entries = entries_stand machine link layout laid (tables_alone machine.sizes link laid.live laid.good laid.are_live) (resolved machine link layout laid);
       entered = ap (λ (l : Layout). l.entry_symbol_id) laid.same;
       outputs = outputs_told machine link layout laid;
       aligned = sections_aligned tile aligned owners machine link layout laid;

@@ -73,7 +73,7 @@ all_gone f n xs ys k are past none =
 
 -- ---- files
 
-files_so_far : (all s t : List NumberedFile) (done : List FileRef) → s ≡ all → Yields (YieldsFirstBy {S = List NumberedFile} file_of (λ left. left)) s done t
+pub files_so_far : (all s t : List NumberedFile) (done : List FileRef) → s ≡ all → Yields (YieldsFirstBy {S = List NumberedFile} file_of (λ left. left)) s done t
     → map file_of done ≡ take (length done) all
 files_so_far all s t done begins yielded =
     let walk = YieldsList-from_first file_of (λ (left : List NumberedFile). left) {s = s} all begins in

@@ -6,6 +6,7 @@ use Rattle.std.proofs.lemmas.List.{length-map}
 use Rattle.std.proofs.lemmas.List.Concat.{get_or-flat_map, length-flat_map}
 use Rattle.std.proofs.lemmas.List.FromFn.{length-enumerate_from}
 use Rattle.std.proofs.lemmas.Option.{get_or_from_slice_get, slice_get_within}
+use Rattle.lk_link.specs.declared.file.FileKind.{FileKind}
 use Rattle.lk_link.specs.declared.file.InputFile.{InputFile}
 use Rattle.lk_link.specs.declared.ids.FileId.{FileId}
 use Rattle.lk_link.specs.declared.link.LinkInput.{LinkInput}
@@ -20,54 +21,54 @@ use Rattle.lk_link.proofs.Elements.{map_in}
 use Rattle.lk_link.proofs.InputLemmas.{file_stands, files_from_are, inputs_follow, numbered_get, sum_taken}
 use Rattle.lk_gc.specs.declared.live.Live.{Live}
 use Rattle.lk_gc.specs.Reach.{live_inputs}
+use Rattle.lk_tables.specs.SymbolEntries.{is_resolved}
+use Rattle.lk_tables.specs.SymbolTable.{symbols_by_number}
 use Rattle.lk_sizes.specs.declared.addresses.LiveSection.{LiveSection}
 use Rattle.lk_sizes.specs.Addresses.{live_section, live_sections}
 use Rattle.lk_sizes.specs.PartOwners.{live_address}
 use Rattle.lk_layout.specs.declared.layout.Layout.{Layout}
-use Rattle.lk_layout.specs.declared.resolution.Resolution.{Resolution}
+use Rattle.lk_link.specs.declared.resolution.Resolution.{Resolution}
 use Rattle.lk_layout.specs.Layouts.{told_live}
 use Rattle.lk_layout.specs.OutputContent.{output_content}
-use Rattle.lk_layout.specs.Resolutions.{Places, address_at, places_of, file_resolutions, flags_at, has_resolutions, is_resolved, placed_value, resolution_at, resolution_of, symbol_resolutions}
+use Rattle.lk_layout.specs.Entries.{EntrySetting}
+use Rattle.lk_layout.specs.Resolutions.{Places, address_at, entries_of, places_of, file_resolutions, has_resolutions, placed_value, resolution_at, resolution_of, symbol_resolutions}
 use Rattle.lk_layout.specs.Sound.{SymbolsStandInLiveSections, ValuesAreInLiveSections}
+use Rattle.lk_layout.proofs.EntriesTaken.{own_value}
 use Rattle.lk_layout.proofs.Placing.{marked_in}
 use Rattle.lk_link.specs.TableSizes.{TableSizes}
 
 -- ---- the resolution of a file's symbol
 
 -- each symbol of a file has its place among the file's
-pub as_many : (places : Places) (link : LinkInput) (live : Live) (f : NumberedFile) → length (file_resolutions places live.flags link.groups f) ≡ symbols_in f.file
-as_many places link live f =
-    elim (has_resolutions f.file.kind) as (λ b. length (if b then map (resolution_of places live.flags (first_input link.groups f.id)) (enumerate_from (first_symbol link.groups f.id) f.file.symbols)
-    else map (λ _. None) f.file.symbols) ≡ symbols_in f.file) [
-      | true ↦ length-map (enumerate_from (first_symbol link.groups f.id) f.file.symbols) (resolution_of places live.flags (first_input link.groups f.id))
-          ∙ length-enumerate_from (first_symbol link.groups f.id) f.file.symbols
-      | false ↦ length-map f.file.symbols (λ (x : InputSymbol). let none : Option Resolution = None in none)
-    ]
+pub as_many : (places : Places) (by : EntrySetting) (f : NumberedFile) → length (file_resolutions places by f) ≡ symbols_in f.file
+as_many places by f =
+    length-map (symbols_by_number by.link f) (resolution_of places by f.file.kind (first_input by.link.groups f.id))
+    ∙ length-enumerate_from (first_symbol by.link.groups f.id) f.file.symbols
 
 -- it stands there behind those of the files before
-pub resolution_is : (sizes : TableSizes) (link : LinkInput) (live : Live) (starts : List ℕ) (id : FileId) (file : InputFile) (k : ℕ) (x : InputSymbol) → file_in link.groups id ≡ Some file → is_object file.kind ≡ true
+pub resolution_is : (sizes : TableSizes) (link : LinkInput) (live : Live) (starts : List ℕ) (id : FileId) (file : InputFile) (k : ℕ) (x : InputSymbol) → file_in link.groups id ≡ Some file
     → slice_get file.symbols k ≡ Some x → resolution_at (symbol_resolutions sizes link live starts) (first_symbol link.groups id + k)
-    ≡ resolution_of (places_of sizes link live starts) live.flags (first_input link.groups id) (first_symbol link.groups id + k, x)
-resolution_is sizes link live starts id file k x there object at_k =
+    ≡ resolution_of (places_of sizes link live starts) (entries_of sizes link live starts) file.kind (first_input link.groups id) (first_symbol link.groups id + k, x)
+resolution_is sizes link live starts id file k x there at_k =
     let groups = link.groups in
     let place : Places = places_of sizes link live starts in
+    let by : EntrySetting = entries_of sizes link live starts in
     let f : NumberedFile = record { id = id; file = file } in
     let n : ℕ = file_number groups id in
     let files : List NumberedFile = numbered_files groups in
-    let of_file : NumberedFile → List (Option Resolution) = file_resolutions place live.flags groups in
+    let of_file : NumberedFile → List (Option Resolution) = file_resolutions place by in
     let first : ℕ = first_symbol groups id in
-    let one : ℕ × InputSymbol → Option Resolution = resolution_of place live.flags (first_input groups id) in
+    let one : ℕ × InputSymbol → Option Resolution = resolution_of place by file.kind (first_input groups id) in
     let before : length (flat_map of_file (take n files)) ≡ first
     = length-flat_map of_file (take n files)
-    ∙ sum_taken (λ (g : NumberedFile). length (of_file g)) symbols_in (λ (g : NumberedFile). g.file) (as_many place link live) n files
+    ∙ sum_taken (λ (g : NumberedFile). length (of_file g)) symbols_in (λ (g : NumberedFile). g.file) (as_many place by) n files
     ∙ ap (λ fs. sum_by symbols_in (take n fs)) (files_from_are 0 groups) in
     let few = slice_get_within file.symbols k x at_k in
     let at_f : slice_get files n ≡ Some f = file_stands groups id file there in
     let is_f : get_or files n f ≡ f = get_or_from_slice_get files n f f at_f in
-    let within : k < length (of_file (get_or files n f)) = omega (arith, ap (λ (g : NumberedFile). length (of_file g)) is_f, as_many place link live f, few) in
+    let within : k < length (of_file (get_or files n f)) = omega (arith, ap (λ (g : NumberedFile). length (of_file g)) is_f, as_many place by f, few) in
     let here : slice_get (of_file f) k ≡ Some (one (first + k, x))
-    = ap (λ b. slice_get (if b || is_dynamic file.kind then map one (enumerate_from first file.symbols) else map (λ _. None) file.symbols) k) object
-    ∙ map_in one (enumerate_from first file.symbols) k (first + k, x) (numbered_get first file.symbols k x at_k) in
+    = map_in one (enumerate_from first file.symbols) k (first + k, x) (numbered_get first file.symbols k x at_k) in
     ap (λ (m : ℕ). resolution_at (symbol_resolutions sizes link live starts) (m + k)) (sym before)
     ∙ get_or-flat_map of_file files n k f None (slice_get_within files n f at_f) within
     ∙ ap (λ (g : NumberedFile). get_or (of_file g) k None) is_f
@@ -75,14 +76,15 @@ resolution_is sizes link live starts id file k x there object at_k =
 
 -- ---- its value
 
+-- objects have resolutions
+pub object_has : (k : FileKind) → is_object k ≡ true → has_resolutions k ≡ true
+object_has k h = ap (λ b. b || is_dynamic k) h
+
 -- what is resolved has its value
-pub value_of : (places : Places) (live : Live) (first s i offset address : ℕ) (x : InputSymbol) → is_resolved s x (flags_at live.flags s) ≡ true → x.at ≡ at.Section i offset
-    → unwrap_or (places.live (first + i) offset) (places.merged s) ≡ address → option_map (λ (r : Resolution). r.raw_value) (resolution_of places live.flags first (s, x)) ≡ Some address
-value_of places live first s i offset address x resolved stands is =
-    let made : ℕ → Option Resolution = λ n. Some (record { raw_value = n; flags = flags_at live.flags s }) in
-    let value : placed_value places first s x.at ≡ address = ap (placed_value places first s) stands ∙ is in
-    ap (λ b. option_map (λ (r : Resolution). r.raw_value) (if b then made (placed_value places first s x.at) else None)) resolved
-    ∙ ap (λ (n : ℕ). Some n) value
+pub value_of : (places : Places) (by : EntrySetting) (k : FileKind) (first s i offset address : ℕ) (x : InputSymbol) → is_object k ≡ true → is_resolved by.live k (s, x) ≡ true → x.at ≡ at.Section i offset
+    → unwrap_or (places.live (first + i) offset) (places.merged s) ≡ address → option_map (λ (r : Resolution). r.raw_value) (resolution_of places by k first (s, x)) ≡ Some address
+value_of places by k first s i offset address x object resolved stands is =
+    own_value places by k first (s, x) (object_has k object) resolved ∙ ap (λ (n : ℕ). Some n) (ap (placed_value places first s) stands ∙ is)
 
 pub values_are_in_live_sections : (sizes : TableSizes) (link : LinkInput) (live : Live) (layout : Layout) (starts : List ℕ) → told_live link layout ≡ live_sections link (output_content sizes link live) starts
     → layout.symbol_resolutions ≡ symbol_resolutions sizes link live starts → SymbolsStandInLiveSections link live → ValuesAreInLiveSections link live layout
@@ -101,12 +103,13 @@ values_are_in_live_sections sizes link live layout starts shown resolved placed 
     let address : address_at sizes link live starts k offset ≡ Some (live_address link content starts x + offset)
     = ap (λ b. if b then option_map shift (slice_get (all_inputs link.groups) k) else None) set ∙ ap (option_map shift) at_k in
     let places : Places = places_of sizes link live starts in
-    let one : Option Resolution = resolution_of places live.flags first (number, s.symbol) in
+    let by : EntrySetting = entries_of sizes link live starts in
+    let one : Option Resolution = resolution_of places by file.kind first (number, s.symbol) in
     let read : resolution_at layout.symbol_resolutions number ≡ one
     = ap (λ (rs : List (Option Resolution)). resolution_at rs number) resolved
-    ∙ resolution_is sizes link live starts id file s.index s.symbol there s.object s.there in (
+    ∙ resolution_is sizes link live starts id file s.index s.symbol there s.there in (
       live_section link content starts x,
       record { number = among.0; told = told; file = refl; index = refl },
       ap (option_map (λ (r : Resolution). r.raw_value)) read
-          ∙ value_of places live first number i offset (live_address link content starts x + offset) s.symbol s.resolved stands (ap (λ (o : Option ℕ). unwrap_or o (places.merged number)) address),
+          ∙ value_of places by file.kind first number i offset (live_address link content starts x + offset) s.symbol s.object s.resolved stands (ap (λ (o : Option ℕ). unwrap_or o (places.merged number)) address),
     )

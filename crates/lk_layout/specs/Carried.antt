@@ -4,9 +4,7 @@ use Rattle.std.specs.List.{list_any}
 use Rattle.lk_link.specs.declared.file.InputFile.{InputFile}
 use Rattle.lk_link.specs.declared.link.LinkInput.{LinkInput}
 use Rattle.lk_link.specs.FileKinds.{is_internal}
-use Rattle.lk_link.specs.OutputKinds.{is_loaded_dynamically, is_partial}
-use Rattle.lk_link.specs.PartRules.{names_table}
-use Rattle.lk_link.specs.Relocations.{wants_entry}
+use Rattle.lk_link.specs.OutputKinds.{is_partial}
 use Rattle.lk_layout.specs.declared.error.Uncarried.{Uncarried}
 use Rattle.lk_layout.specs.declared.error.Uncarried.TheVariants as uncarried
 
@@ -23,15 +21,12 @@ has_symbols f = not (length f.symbols == 0)
 
 -- a file of the description has it
 abbrev pub file_has : Uncarried → InputFile → Bool
-file_has uncarried.Table f = list_any (λ s. list_any (λ r. wants_entry r.kind) s.relocs) f.sections
 file_has uncarried.Sorted f = list_any (λ s. s.sorted) f.sections
 file_has uncarried.Symbol f = is_internal f.kind && has_symbols f
 file_has _ f = false
 
 -- the description has it
 unfoldable pub has : LinkInput → Uncarried → Bool
-has link uncarried.Output = is_loaded_dynamically link.options.output
-has link uncarried.Table = names_table link.plan.named || any_file (file_has uncarried.Table) link
 has link uncarried.Partial = is_partial link.options.output || is_some link.plan.singletons
 has link uncarried.Primary = is_some link.plan.named.primary
 has link uncarried.Relax = link.options.relax
@@ -40,8 +35,7 @@ has link what = any_file (file_has what) link
 -- the order in which it is looked for
 abbrev pub all_uncarried : List Uncarried
 all_uncarried =
-    uncarried.Output ∷ uncarried.Table ∷ uncarried.Partial
-    ∷ uncarried.Sorted ∷ uncarried.Primary ∷ uncarried.Relax ∷ uncarried.Symbol ∷ []
+    uncarried.Partial ∷ uncarried.Sorted ∷ uncarried.Primary ∷ uncarried.Relax ∷ uncarried.Symbol ∷ []
 
 -- what is found first
 unfoldable pub first_uncarried : LinkInput → Option Uncarried

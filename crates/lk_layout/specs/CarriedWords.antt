@@ -1,28 +1,18 @@
 -- Words of private contracts: a look at everything that isn't laid out yet at once.
 use Rattle.std.specs.Prelude.{◌||◌, Bool, false, is_some}
-use Rattle.std.specs.List.{list_any}
 use Rattle.lk_link.specs.declared.file.InputFile.{InputFile}
 use Rattle.lk_link.specs.declared.link.LinkInput.{LinkInput}
-use Rattle.lk_link.specs.declared.section.InputSection.{InputSection}
-use Rattle.lk_link.specs.OutputKinds.{is_loaded_dynamically, is_partial}
-use Rattle.lk_link.specs.PartRules.{names_table}
-use Rattle.lk_link.specs.Relocations.{wants_entry}
+use Rattle.lk_link.specs.OutputKinds.{is_partial}
 use Rattle.lk_layout.specs.declared.error.Uncarried.{Uncarried}
 use Rattle.lk_layout.specs.declared.error.Uncarried.TheVariants as uncarried
 use Rattle.lk_layout.specs.Carried.{file_has}
 
--- a section has anything that isn't laid out yet
-abbrev pub section_has_any : InputSection → Bool
-section_has_any s = s.sorted || list_any (λ r. wants_entry r.kind) s.relocs
-
 -- a file has anything that isn't laid out yet
 abbrev pub has_any : InputFile → Bool
-has_any f = file_has uncarried.Symbol f || list_any section_has_any f.sections
+has_any f = file_has uncarried.Symbol f || file_has uncarried.Sorted f
 
 -- the description has it outside its files
 abbrev pub has_outside : LinkInput → Uncarried → Bool
-has_outside link uncarried.Output = is_loaded_dynamically link.options.output
-has_outside link uncarried.Table = names_table link.plan.named
 has_outside link uncarried.Partial = is_partial link.options.output || is_some link.plan.singletons
 has_outside link uncarried.Primary = is_some link.plan.named.primary
 has_outside link uncarried.Relax = link.options.relax

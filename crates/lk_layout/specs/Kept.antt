@@ -1,7 +1,7 @@
 -- How what symbols stand for is kept.
 use Rattle.std.specs.Prelude.{◌≡◌, true, if◌then◌else◌, Option, Some, None}
 use Rattle.lk_link.specs.Flags.{has_resolution}
-use Rattle.lk_layout.specs.declared.resolution.Resolution.{Resolution}
+use Rattle.lk_link.specs.declared.resolution.Resolution.{Resolution}
 
 -- a resolution stands for none, if its flags don't ask for a value
 abbrev pub told_of : Resolution → Option Resolution

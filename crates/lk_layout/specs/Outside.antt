@@ -1,6 +1,7 @@
 -- Offsets that are chosen outside the data of merged sections: at its end, or past it.
 use Rattle.std.specs.Prelude.{◌≡◌, ℕ, ◌==◌, ◌&&◌, not, Bool, if◌then◌else◌, List, [], ◌∷◌, ◌++◌, Some, Result, Ok, Err}
 use Rattle.std.specs.List.{enumerate_from, flat_map, slice_get}
+use Rattle.lk_link.specs.declared.file.FileKind.{FileKind}
 use Rattle.lk_link.specs.declared.link.LinkInput.{LinkInput}
 use Rattle.lk_link.specs.declared.relocation.Relocation.{Relocation}
 use Rattle.lk_link.specs.declared.section.InputSection.{InputSection}
@@ -13,20 +14,19 @@ use Rattle.lk_link.specs.Symbols.{first_symbol}
 use Rattle.lk_gc.specs.declared.live.Live.{Live}
 use Rattle.lk_reach.specs.Units.{local_definition}
 use Rattle.lk_merge.specs.OffsetsOutside.{refers_outside, stands_outside}
+use Rattle.lk_tables.specs.SymbolEntries.{is_resolved}
 use Rattle.lk_layout.specs.declared.outside.MergeOffsetPlace.{MergeOffsetPlace}
 use Rattle.lk_layout.specs.declared.outside.MergeOffsetPlace.TheVariants.{OfRelocation, OfSymbol}
-use Rattle.lk_layout.specs.Resolutions.{flags_at, is_resolved}
 
 -- ---- symbols
 
--- a symbol with its number, where it has a resolution and is placed outside the data of a merged section
-abbrev pub symbol_outside : LinkInput → Live → ℕ × InputSymbol → List MergeOffsetPlace
-symbol_outside link live q =
-    if is_resolved q.0 q.1 (flags_at live.flags q.0) && stands_outside link q.0 then OfSymbol q.0 ∷ [] else []
+-- a symbol of a file of a kind, with its number, where it is wanted and is placed outside the data of a merged section
+abbrev pub symbol_outside : LinkInput → Live → FileKind → ℕ × InputSymbol → List MergeOffsetPlace
+symbol_outside link live kind q = if is_resolved live kind q && stands_outside link q.0 then OfSymbol q.0 ∷ [] else []
 
 -- those of a file
 abbrev pub symbols_outside : LinkInput → Live → NumberedFile → List MergeOffsetPlace
-symbols_outside link live f = flat_map (symbol_outside link live) (enumerate_from (first_symbol link.groups f.id) f.file.symbols)
+symbols_outside link live f = flat_map (symbol_outside link live f.file.kind) (enumerate_from (first_symbol link.groups f.id) f.file.symbols)
 
 -- ---- relocations
 

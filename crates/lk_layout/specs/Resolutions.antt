@@ -1,29 +1,31 @@
 -- The values of symbols, and the entry.
 use Rattle.std.specs.Prelude.{ℕ, ◌+◌, ◌==◌, ◌&&◌, ◌||◌, not, if◌then◌else◌, List, Option, Some}
 use Rattle.std.specs.Prelude.{None, Result, Ok, Err, map, option_and_then, option_map, slice_get, slice_index, unwrap_or, Bool}
-use Rattle.std.specs.List.{enumerate_from, flat_map, slice_index_or}
+use Rattle.std.specs.List.{flat_map, slice_index_or}
 use Rattle.std.specs.Option.{option_map_or}
 use Rattle.lk_link.specs.declared.file.FileKind.{FileKind}
-use Rattle.lk_link.specs.declared.file.InputFile.{InputFile}
 use Rattle.lk_link.specs.declared.flags.TheConstants.ValueFlags as flag
-use Rattle.lk_link.specs.declared.flags.ValueFlags.{ValueFlags}
 use Rattle.lk_link.specs.declared.link.LinkInput.{LinkInput}
+use Rattle.lk_link.specs.declared.resolution.Resolution.{Resolution}
 use Rattle.lk_link.specs.declared.symbol.InputSymbol.{InputSymbol}
 use Rattle.lk_link.specs.declared.symbol.SymbolPlacement.{SymbolPlacement}
 use Rattle.lk_link.specs.declared.symbol.SymbolPlacement.TheVariants as at
 use Rattle.lk_link.specs.FileKinds.{is_dynamic, is_object}
-use Rattle.lk_link.specs.Flags.{has_flag, has_resolution}
+use Rattle.lk_link.specs.Flags.{has_flag}
 use Rattle.lk_link.specs.Inputs.{NumberedFile, all_inputs, first_input, numbered_files}
 use Rattle.lk_link.specs.Marks.{is_marked}
-use Rattle.lk_link.specs.Symbols.{definition_of, first_symbol}
+use Rattle.lk_link.specs.Symbols.{definition_of}
 use Rattle.lk_link.specs.TableSizes.{TableSizes}
 use Rattle.lk_gc.specs.declared.live.Live.{Live}
+use Rattle.lk_tables.specs.Copied.{is_wanted}
+use Rattle.lk_tables.specs.SymbolTable.{symbols_by_number}
 use Rattle.lk_merge.specs.OutputAddresses.{MergePlace, address_in, symbol_place}
+use Rattle.lk_sizes.specs.Header.{header_info}
 use Rattle.lk_sizes.specs.Images.{image_addresses}
 use Rattle.lk_sizes.specs.PartOwners.{common_address, live_address}
 use Rattle.lk_layout.specs.declared.resolution.EntryFault.{EntryFault}
 use Rattle.lk_layout.specs.declared.resolution.EntryFault.TheVariants.{NotAnAddress, NotLoaded}
-use Rattle.lk_layout.specs.declared.resolution.Resolution.{Resolution}
+use Rattle.lk_layout.specs.Entries.{EntrySetting, entry_setting, told_flags, with_entries}
 use Rattle.lk_layout.specs.OutputContent.{output_content}
 
 -- ---- places in input sections
@@ -77,36 +79,29 @@ placed_value places first s _ = 0
 
 -- ---- resolutions
 
--- whether a symbol stands for itself, and its flags ask for its value
-abbrev pub is_resolved : ℕ → InputSymbol → ValueFlags → Bool
-is_resolved s x flags = unwrap_or x.def s == s && has_resolution flags.0
-
--- the flags of a symbol, by those of all symbols
-abbrev pub flags_at : List ValueFlags → ℕ → ValueFlags
-flags_at flags s = slice_index_or flags s (record { 0 = 0 })
-
--- the resolution of a symbol of such a file, with its number, if it has one
-abbrev pub resolution_of : Places → List ValueFlags → ℕ → ℕ × InputSymbol → Option Resolution
-resolution_of places flags first q =
-    if is_resolved q.0 q.1 (flags_at flags q.0)
-    then Some (record { raw_value = placed_value places first q.0 q.1.at; flags = flags_at flags q.0 })
-    else None
-
 -- a file whose symbols may have resolutions: an object, or a dynamic file, whose symbols are 0 here
 abbrev pub has_resolutions : FileKind → Bool
 has_resolutions kind = is_object kind || is_dynamic kind
 
+-- the resolution of a symbol of such a file, with its number, if it is wanted
+abbrev pub resolution_of : Places → EntrySetting → FileKind → ℕ → ℕ × InputSymbol → Option Resolution
+resolution_of places by kind first q =
+    if has_resolutions kind && is_wanted kind q.0 q.1 (told_flags by kind q)
+    then Some (with_entries by q.0 (told_flags by kind q) (placed_value places first q.0 q.1.at))
+    else None
+
 -- for each symbol of a file its resolution, if it has one
-abbrev pub file_resolutions : Places → List ValueFlags → List (List InputFile) → NumberedFile → List (Option Resolution)
-file_resolutions places flags groups f =
-    if has_resolutions f.file.kind
-    then map (resolution_of places flags (first_input groups f.id)) (enumerate_from (first_symbol groups f.id) f.file.symbols)
-    else map (λ _. None) f.file.symbols
+abbrev pub file_resolutions : Places → EntrySetting → NumberedFile → List (Option Resolution)
+file_resolutions places by f = map (resolution_of places by f.file.kind (first_input by.link.groups f.id)) (symbols_by_number by.link f)
+
+-- what the entries of a link go by: edges are told of the sections that are emitted
+abbrev pub entries_of : TableSizes → LinkInput → Live → List ℕ → EntrySetting
+entries_of sizes link live starts = entry_setting sizes link live (header_info link (output_content sizes link live)).emitted starts
 
 -- for each symbol of a link its resolution, if it has one, by where the parts start (libwild: `SymbolResolutions`)
 abbrev pub symbol_resolutions : TableSizes → LinkInput → Live → List ℕ → List (Option Resolution)
 symbol_resolutions sizes link live starts =
-    flat_map (file_resolutions (places_of sizes link live starts) live.flags link.groups) (numbered_files link.groups)
+    flat_map (file_resolutions (places_of sizes link live starts) (entries_of sizes link live starts)) (numbered_files link.groups)
 
 -- the resolution of a symbol, by its number, if it has one
 abbrev pub resolution_at : List (Option Resolution) → ℕ → Option Resolution

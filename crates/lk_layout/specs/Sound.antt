@@ -1,10 +1,12 @@
 -- What a layout keeps apart, and what it keeps in step.
-use Rattle.std.specs.Prelude.{◌≡◌, ◌≢◌, ◌⊎◌, [], List, ℕ, ◌+◌, ◌%◌, ◌<◌, ◌≤◌, ◌==◌, true, false, if◌then◌else◌, Some, None, Ok, length, option_map, slice_get, slice_index}
+use Rattle.std.specs.Prelude.{◌≡◌, ◌≢◌, ◌⊎◌, [], List, ℕ, ◌+◌, ◌%◌, ◌<◌, ◌≤◌, ◌==◌, true, false, if◌then◌else◌, Some, None, Ok, length, map, option_map, slice_get, slice_index}
 use Rattle.std.specs.Int.{◌∣◌}
+use Rattle.std.specs.Option.{ForSome}
 use Rattle.lk_link.specs.declared.file.InputFile.{InputFile}
 use Rattle.lk_link.specs.declared.ids.FileId.{FileId}
 use Rattle.lk_link.specs.declared.link.LinkInput.{LinkInput}
 use Rattle.lk_link.specs.declared.relocation.Relocation.{Relocation}
+use Rattle.lk_link.specs.declared.resolution.Resolution.{Resolution}
 use Rattle.lk_link.specs.declared.section.InputSection.{InputSection}
 use Rattle.lk_link.specs.declared.symbol.InputSymbol.{InputSymbol}
 use Rattle.lk_link.specs.declared.symbol.SymbolPlacement.TheVariants as at
@@ -13,6 +15,7 @@ use Rattle.lk_link.specs.Files.{file_in}
 use Rattle.lk_link.specs.Inputs.{Input, input_number}
 use Rattle.lk_link.specs.InputSlots.{is_merge, is_regular}
 use Rattle.lk_link.specs.Marks.{is_marked}
+use Rattle.lk_link.specs.PartRules.{table_parts}
 use Rattle.lk_link.specs.Parts.{all_parts, part_at, part_sections}
 use Rattle.lk_link.specs.PlanSections.{is_file_backed}
 use Rattle.lk_link.specs.Relocations.{resolution_flags}
@@ -37,14 +40,18 @@ use Rattle.lk_sizes.specs.declared.addresses.LiveSection.{LiveSection}
 use Rattle.lk_sizes.specs.Attributes.{all_section_attributes, by_section}
 use Rattle.lk_sizes.specs.Emitted.{active_segments, is_emitted, output_index}
 use Rattle.lk_sizes.specs.Addresses.{live_sections}
-use Rattle.lk_sizes.specs.Owners.{CommonOwner, ImageOwner, IsCommonIn, bytes_of, owner_address}
-use Rattle.lk_sizes.specs.PartOwners.{owners_of}
+use Rattle.lk_sizes.specs.Owners.{CommonOwner, EntryOwner, ImageOwner, IsCommonIn, bytes_of, owner_address}
+use Rattle.lk_sizes.specs.PartOwners.{owners_of, tables_of}
+use Rattle.lk_tables.specs.SymbolTable.{SymbolEntry}
+use Rattle.lk_tables.specs.TableLaws.{HasLastEntry}
+use Rattle.lk_tables.specs.TableLists.{table_of}
 use Rattle.lk_sizes.specs.Tiles.{HasByte, IsTiled}
+use Rattle.lk_tables.specs.SymbolEntries.{is_resolved}
 use Rattle.lk_layout.specs.declared.layout.Layout.{Layout}
 use Rattle.lk_layout.specs.Defined.{starts_of}
 use Rattle.lk_layout.specs.Layouts.{told_live}
 use Rattle.lk_layout.specs.Outside.{merge_offsets}
-use Rattle.lk_layout.specs.Resolutions.{entry_symbol, flags_at, is_resolved, resolution_at, symbol_resolutions}
+use Rattle.lk_layout.specs.Resolutions.{entry_symbol, resolution_at, symbol_resolutions}
 use Rattle.lk_layout.specs.OutputContent.{output_content}
 use Rattle.lk_link.specs.TableSizes.{TableSizes}
 
@@ -93,7 +100,7 @@ pub record IsResolvedIn (link : LinkInput) (live : Live) (id : FileId) (file : I
   pub object : is_object file.kind ≡ true
   pub there : slice_get file.symbols index ≡ Some symbol
   pub at : section_of symbol.at ≡ Some i
-  pub resolved : is_resolved (first_symbol link.groups id + index) symbol (flags_at live.flags (first_symbol link.groups id + index)) ≡ true
+  pub resolved : is_resolved live file.kind (first_symbol link.groups id + index, symbol) ≡ true
 
 -- that section is live, unless its data is merged
 abbrev pub SymbolsStandInLiveSections : LinkInput → Live → Type 0
@@ -131,6 +138,33 @@ pub record IsCommonAt (sizes : TableSizes) (link : LinkInput) (live : Live) (lay
 -- so stands each common that has a resolution
 abbrev pub CommonsStand : TableSizes → LinkInput → Live → Layout → Type 0
 CommonsStand sizes link live layout = (p s size : ℕ) → IsCommonIn link live p s size → IsCommonAt sizes link live layout p s size
+
+-- ---- entries
+
+-- a symbol has an entry with bytes in a part: it is an owner there, and this is its address
+pub record IsEntryAt (sizes : TableSizes) (link : LinkInput) (live : Live) (layout : Layout) (p s address : ℕ) : Type 0 where
+  pub part : p < length (all_parts link.plan.sections)
+  pub number : ℕ
+  pub bytes : ℕ
+  pub some : 0 < bytes
+  pub owner : slice_get (owners_of link (output_content sizes link live) p) number ≡ Some (EntryOwner (record { owner = SymbolEntry s; bytes = bytes }))
+  pub at : address ≡ owner_address (part_record layout p).mem_offset (part_at link.plan.sections p) (owners_of link (output_content sizes link live) p) number
+
+-- what a resolution tells of entries is its symbol's own: its address in got, and in plt, is that of the symbol's entry in the part that
+-- the plan names, and its number is the place of the symbol's last entry in the dynamic symbol table
+pub record AreOwnEntries (sizes : TableSizes) (link : LinkInput) (live : Live) (layout : Layout) (s : ℕ) (r : Resolution) : Type 0 where
+  pub got : (address : ℕ) → r.got ≡ Some address → ForSome link.plan.named.got (λ p. IsEntryAt sizes link live layout p s address)
+  pub plt : (address : ℕ) → r.plt ≡ Some address → ForSome link.plan.named.plt (λ p. IsEntryAt sizes link live layout p s address)
+  pub dynamic : (k : ℕ) → r.dynamic ≡ Some k → HasLastEntry s k sizes.symbol_entry (tables_of link (output_content sizes link live)).dynsym
+
+-- so it is of each resolution
+abbrev pub EntriesStand : TableSizes → LinkInput → Live → Layout → Type 0
+EntriesStand sizes link live layout = (s : ℕ) (r : Resolution) → resolution_at layout.symbol_resolutions s ≡ Some r → AreOwnEntries sizes link live layout s r
+
+-- the part that the plan names for a table has its entries, and nothing else
+abbrev pub TablesStandAlone : TableSizes → LinkInput → Live → Type 0
+TablesStandAlone sizes link live = (k p : ℕ) → slice_get (table_parts link.plan.named) k ≡ Some (Some p)
+    → owners_of link (output_content sizes link live) p ≡ map EntryOwner (table_of link.plan.named (tables_of link (output_content sizes link live)) p)
 
 -- ---- merged data
 
@@ -228,7 +262,7 @@ pub record IsSoundInMemory (sizes : TableSizes) (link : LinkInput) (live : Live)
 -- a sound layout: all references are met; the live sections are those that are reached, each where its part's owners let it
 -- stand, aligned; what is merged is all that the link has to merge, with the starts of its buckets, each image stands in a part, with its
 -- pieces apart, and shows its inputs, nothing refers outside their data, and references into it have addresses that show what they choose; each symbol that is asked for stands for a place in a live section, at its address, or
--- in merged data, or for a number, or is a common, at the address of its bytes in a part; output sections, their indexes and attributes, and segments are told as they are; each byte of a part
+-- in merged data, or for a number, or is a common, at the address of its bytes in a part; tables stand alone in their parts, and what a resolution tells of entries is its symbol's own; output sections, their indexes and attributes, and segments are told as they are; each byte of a part
 -- has one owner; no two parts share a byte of the file; and under a plain plan the same holds of memory
 pub record IsSound (sizes : TableSizes) (link : LinkInput) (live : Live) (layout : Layout) : Type 0 where
   pub met : reference_faults link ≡ []
@@ -244,6 +278,8 @@ pub record IsSound (sizes : TableSizes) (link : LinkInput) (live : Live) (layout
   pub placed : SymbolsStandInLiveSections link live
   pub valued : ValuesAreInLiveSections link live layout
   pub commons : CommonsStand sizes link live layout
+  pub alone : TablesStandAlone sizes link live
+  pub entries : EntriesStand sizes link live layout
   pub entered : layout.entry_symbol_id ≡ entry_symbol link
   pub outputs : AreOutputsTold sizes link live layout
   pub aligned : LiveSectionsAreAligned link live layout

@@ -16,8 +16,6 @@ use Rattle.lk_layout.specs.declared.outside.MergeOffsetPlace.TheVariants.{OfRelo
 
 -- what isn't laid out yet, in a word
 unfoldable pub uncarried_text : Uncarried → List ℕ
-uncarried_text uncarried.Output = codes "output"
-uncarried_text uncarried.Table = codes "table"
 uncarried_text uncarried.Partial = codes "partial"
 uncarried_text uncarried.Sorted = codes "sorted"
 uncarried_text uncarried.Primary = codes "primary"

@@ -12,6 +12,8 @@ ghost use Rattle.lk_sizes.specs.Images.{image_addresses};
 ghost use Rattle.lk_sizes.specs.Addresses.{section_addresses};
 ghost use Rattle.lk_sizes.specs.Contents.{part_contents};
 ghost use Rattle.lk_sizes.specs.PartOwners.{part_size};
+ghost use Rattle.lk_sizes.specs.Header.{header_info};
+ghost use Rattle.lk_tables.specs.DynamicCounters.{AreNumbersAt};
 ghost use Rattle.lk_layout.specs.OutputContent.{output_content};
 ghost use Rattle.lk_layout.specs.Defined.{starts_of};
 ghost use Rattle.lk_layout.specs.Merging.{AreImages};
@@ -27,6 +29,7 @@ use lk_link::{LinkInput, Platform};
 use lk_merge::MergedStringStartAddresses;
 use lk_place::OutputRecordLayout;
 use lk_sizes::{OwnerAddresses, PartContents, image_addresses, owner_addresses};
+use lk_tables::DynamicNumbers;
 use std::alloc::{AllocError, Global};
 
 /// The addresses of a layout.
@@ -40,6 +43,15 @@ pub(crate) struct Addresses {
     pub(crate) resolutions: SymbolResolutions,
 }
 
+/// What the entries of symbols go by.
+#[derive(Clone, Copy)]
+pub(crate) struct Entries<'a> {
+    /// Of each output section whether its edges are told.
+    pub(crate) told: &'a [bool],
+    /// The numbers of the first symbol in the dynamic symbol table.
+    pub(crate) numbers: DynamicNumbers,
+}
+
 /// The addresses of live sections and of merged data, and what symbols stand for, by the records of all parts. Looks at each
 /// input section and each symbol once.
 pub(crate) fn addresses_of<P: Platform>(
@@ -49,21 +61,24 @@ pub(crate) fn addresses_of<P: Platform>(
     images: &Images<'_>,
     contents: &[PartContents],
     parts: &[OutputRecordLayout],
-    _platform: &P,
+    entries: Entries<'_>,
+    platform: &P,
 ) -> Result<Addresses, AllocError>
     requires good { IsWellFormed link.now }
     requires live { AreLive link.now live.now }
     requires images { AreImages link.now images.now }
-    requires contents { contents.now ≡ part_contents link.now (output_content (P.table_sizes _platform.now) link.now live.now) }
+    requires contents { contents.now ≡ part_contents link.now (output_content (P.table_sizes platform.now) link.now live.now) }
+    requires told { entries.told.now ≡ (header_info link.now (output_content (P.table_sizes platform.now) link.now live.now)).emitted }
+    requires numbers { AreNumbersAt link.now live.now entries.told.now 0 entries.numbers }
     requires each { length parts.now ≡ length (all_parts link.now.plan.sections) }
     requires takes { (p : ℕ) → p < length parts.now
-        → (record_at parts.now p).mem_size ≡ part_size link.now (output_content (P.table_sizes _platform.now) link.now live.now) p }
+        → (record_at parts.now p).mem_size ≡ part_size link.now (output_content (P.table_sizes platform.now) link.now live.now) p }
     ensures sections { IfOk result (λ told. told.sections.items
-        ≡ section_addresses link.now (output_content (P.table_sizes _platform.now) link.now live.now) (starts_of parts.now)) }
+        ≡ section_addresses link.now (output_content (P.table_sizes platform.now) link.now live.now) (starts_of parts.now)) }
     ensures buckets { IfOk result (λ told. told.buckets
-        ≡ start_addresses fnv64 (link_inputs link.now).outputs (image_addresses link.now (output_content (P.table_sizes _platform.now) link.now live.now) (starts_of parts.now))) }
+        ≡ start_addresses fnv64 (link_inputs link.now).outputs (image_addresses link.now (output_content (P.table_sizes platform.now) link.now live.now) (starts_of parts.now))) }
     ensures belong { IfOk result (λ told. AreMergedOf link.now images.now.sections told.buckets) }
-    ensures resolutions { IfOk result (λ told. told.resolutions ≡ symbol_resolutions (P.table_sizes _platform.now) link.now live.now (starts_of parts.now)) }
+    ensures resolutions { IfOk result (λ told. told.resolutions ≡ symbol_resolutions (P.table_sizes platform.now) link.now live.now (starts_of parts.now)) }
 {
     let starts = starts_of(alloc, parts)?;
     let owners = owner_addresses(alloc, link, live, &images.lens, contents, &starts)?;
@@ -72,17 +87,19 @@ pub(crate) fn addresses_of<P: Platform>(
     let merged = images.sections.as_slice();
     let buckets = MergedStringStartAddresses::compute(alloc, merged, &places)?;
     let tables = Tables {
+        live,
         marks: live.marks.as_slice(),
         addresses: sections.as_slice(),
         commons: commons.as_slice(),
-        flags: live.flags.as_slice(),
+        told: entries.told,
+        starts: &starts,
     };
     let merged = Merged {
         link,
         sections: merged,
         starts: &buckets,
     };
-    let resolutions = resolve_all(alloc, link, tables, merged)?;
+    let resolutions = resolve_all(alloc, platform, tables, merged, entries.numbers)?;
     Ok(Addresses {
         sections,
         buckets,

@@ -5,21 +5,16 @@
 
 ghost use Rattle.std.specs.Prelude.{◌≡◌, find};
 ghost use Rattle.std.specs.List.{list_any};
-ghost use Rattle.lk_link.specs.OutputKinds.{is_loaded_dynamically, is_partial};
-ghost use Rattle.lk_link.specs.PartRules.{names_table};
-ghost use Rattle.lk_link.specs.Relocations.{wants_entry};
-ghost use Rattle.lk_layout.specs.CarriedWords.{has_any, has_outside, section_has_any};
+ghost use Rattle.lk_link.specs.OutputKinds.{is_partial};
+ghost use Rattle.lk_layout.specs.CarriedWords.{has_any, has_outside};
 ghost use Rattle.lk_layout.specs.Carried.{all_uncarried, any_file, file_has, first_uncarried, has};
 
 use crate::error::Uncarried;
 use lk_link::file::InputFile;
 use lk_link::link::LinkInput;
-use lk_link::section::InputSection;
 
 /// What is looked for, in this order.
-const ALL_UNCARRIED: [Uncarried; 7] = [
-    Uncarried::Output,
-    Uncarried::Table,
+const ALL_UNCARRIED: [Uncarried; 5] = [
     Uncarried::Partial,
     Uncarried::Sorted,
     Uncarried::Primary,
@@ -27,8 +22,8 @@ const ALL_UNCARRIED: [Uncarried; 7] = [
     Uncarried::Symbol,
 ];
 
-/// The first thing that the description has and that isn't laid out yet; none where all is. Looks once at each section, each of
-/// its relocations and each symbol, and again only where one of them isn't carried.
+/// The first thing that the description has and that isn't laid out yet; none where all is. Looks once at each section, and again only
+/// where one of them, or a symbol, isn't carried.
 pub fn first_uncarried(link: &LinkInput) -> Option<Uncarried>
     ensures { result ≡ first_uncarried link.now }
 {
@@ -62,8 +57,6 @@ fn has_outside(link: &LinkInput, what: Uncarried) -> bool
     ensures { result ≡ has_outside link.now what }
 {
     match what {
-        Uncarried::Output => link.options.output.is_loaded_dynamically(),
-        Uncarried::Table => link.plan.named.names_table(),
         Uncarried::Partial => { link.options.output.is_partial() || link.plan.singletons.is_some() }
         Uncarried::Primary => link.plan.named.primary.is_some(),
         Uncarried::Relax => link.options.relax,
@@ -92,21 +85,7 @@ fn any_of_group_has_any(files: &[InputFile]) -> bool
 fn has_any(file: &InputFile) -> bool
     ensures { result ≡ has_any file.now }
 {
-    file_has(file, Uncarried::Symbol) || any_section_has_any(file)
-}
-
-/// Whether a section of a file has anything that isn't laid out yet.
-fn any_section_has_any(file: &InputFile) -> bool
-    ensures { result ≡ list_any section_has_any file.now.sections }
-{
-    file.sections.as_slice().iter().any(section_has_any)
-}
-
-/// Whether a section has anything that isn't laid out yet.
-fn section_has_any(section: &InputSection) -> bool
-    ensures { result ≡ section_has_any section.now }
-{
-    section.sorted || wants_entries(section)
+    file_has(file, Uncarried::Symbol) || has_sorted(file)
 }
 
 /// Whether the description has it.
@@ -115,8 +94,6 @@ fn has(link: &LinkInput, what: Uncarried) -> bool
     ensures { result ≡ has link.now what }
 {
     match what {
-        Uncarried::Output => link.options.output.is_loaded_dynamically(),
-        Uncarried::Table => link.plan.named.names_table() || any_file(link, what),
         Uncarried::Partial => { link.options.output.is_partial() || link.plan.singletons.is_some() }
         Uncarried::Primary => link.plan.named.primary.is_some(),
         Uncarried::Relax => link.options.relax,
@@ -146,29 +123,10 @@ fn file_has(file: &InputFile, what: Uncarried) -> bool
     ensures { result ≡ file_has what file.now }
 {
     match what {
-        Uncarried::Table => has_entry(file),
         Uncarried::Sorted => has_sorted(file),
         Uncarried::Symbol => file.kind.is_internal() && !file.symbols.is_empty(),
         _ => false,
     }
-}
-
-/// Whether a relocation wants an entry of a table.
-fn has_entry(file: &InputFile) -> bool
-    ensures { result ≡ list_any (λ s. list_any (λ r. wants_entry r.kind) s.relocs) file.now.sections }
-{
-    file.sections.as_slice().iter().any(wants_entries)
-}
-
-/// Whether a relocation of a section wants an entry of a table.
-fn wants_entries(section: &InputSection) -> bool
-    ensures { result ≡ list_any (λ r. wants_entry r.kind) section.now.relocs }
-{
-    section
-        .relocs
-        .as_slice()
-        .iter()
-        .any(|reloc| reloc.kind.wants_entry())
 }
 
 /// Whether a section is put in order by its name.

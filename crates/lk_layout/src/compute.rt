@@ -17,13 +17,14 @@ ghost use Rattle.lk_sizes.specs.Emitted.{is_emitted};
 ghost use Rattle.lk_sizes.specs.Header.{header_info};
 ghost use Rattle.lk_sizes.specs.Sizing.{GivesOwners};
 ghost use Rattle.lk_sizes.specs.PartOwners.{part_size};
+ghost use Rattle.lk_tables.specs.DynamicCounters.{AreNumbersAt};
 ghost use Rattle.lk_layout.specs.OutputContent.{output_content};
 ghost use Rattle.lk_layout.specs.Carried.{IsCarried};
 ghost use Rattle.lk_layout.specs.Defined.{Gives, IsCarriedAnswer, IsLiveAnswer, IsMergedAnswer, IsPlacedAnswer, IsSizedAnswer, WithMemory};
 ghost use Rattle.lk_layout.specs.Machines.{platform_machine};
 ghost use Rattle.lk_layout.specs.Merging.{AreImages};
 
-use crate::addresses::addresses_of;
+use crate::addresses::{Entries, addresses_of};
 use crate::arch::Arch;
 use crate::carried::first_uncarried;
 use crate::error::LayoutError;
@@ -46,6 +47,7 @@ use lk_place::{
 };
 use lk_sizes::part_owners::owners;
 use lk_sizes::{HeaderInfo, PartContents, PartOwners, part_sizes, propagate_section_attributes};
+use lk_tables::DynamicNumbers;
 use std::alloc::Global;
 use std::sync::Wait;
 use std::thread::Threads;
@@ -136,12 +138,17 @@ fn lay_out_sized<'data, P: Platform>(
     let header = sized.header;
     let sizes = part_sizes(alloc, contents.as_slice())?;
     let headers = header_bytes(link, platform, &header);
+    let shares = sized.shares;
+    let first = shares.as_slice();
+    let numbers = DynamicNumbers::new(first, sized.prelude);
     let parts = contents.as_slice();
     let positions = asked_positions(alloc, link, &live, &images, parts, &sizes, platform)?;
     let placed = compute_layout_sections(alloc, link, &sizes, &positions, headers, platform)?;
     // A law, which does nothing: the parts end where their owners do.
     parts_take_their_bytes();
-    lay_out_placed(alloc, link, images, live, parts, header, placed, platform)
+    lay_out_placed(
+        alloc, link, images, live, parts, header, placed, numbers, platform,
+    )
 }
 
 /// The layout of a link that is placed, of which it is known what its headers tell: primaries with their secondaries, segments,
@@ -155,6 +162,7 @@ fn lay_out_placed<'data, P: Platform>(
     contents: &[PartContents],
     header: HeaderInfo,
     placed: Placed,
+    numbers: DynamicNumbers,
     platform: &P,
 ) -> Result<Layout<'data>, LayoutError>
     requires good { IsWellFormed link.now }
@@ -163,6 +171,7 @@ fn lay_out_placed<'data, P: Platform>(
     requires contents { contents.now ≡ part_contents link.now (output_content (P.table_sizes platform.now) link.now live) }
     requires header { header ≡ header_info link.now (output_content (P.table_sizes platform.now) link.now live) }
     requires marks { is_marked header.emitted ≡ is_emitted link.now (output_content (P.table_sizes platform.now) link.now live) }
+    requires numbers { AreNumbersAt link.now live header.emitted 0 numbers }
     requires sections { placed.sections ≡ section_records link.now.plan.sections placed.parts }
     requires each { length placed.parts ≡ length (all_parts link.now.plan.sections) }
     requires takes { (p : ℕ) → p < length placed.parts
@@ -180,7 +189,9 @@ fn lay_out_placed<'data, P: Platform>(
     )?;
     let attributes = propagate_section_attributes(alloc, link, contents)?;
     let parts = placed.parts.as_slice();
-    let addresses = addresses_of(alloc, link, &live, &images, contents, parts, platform)?;
+    let told = header.emitted.as_slice();
+    let entries = Entries { told, numbers };
+    let addresses = addresses_of(alloc, link, &live, &images, contents, parts, entries, platform)?;
     check_offsets(link, &live, images.sections.as_slice())?;
     Ok(Layout {
         section_layouts: placed.sections,

@@ -22,10 +22,6 @@ use std::fmt;
 /// What a description may have that isn't laid out yet, in the order in which it is looked for.
 #[derive(Clone, Copy, Debug, PartialEq, Eq)]
 pub enum Uncarried {
-    /// Output that a dynamic linker loads.
-    Output,
-    /// A table part, the comment part, or a relocation that wants an entry of a table.
-    Table,
     /// Partial output, or a section for singletons.
     Partial,
     /// A section that is put in order by its name.
@@ -122,8 +118,6 @@ impl Uncarried {
         ensures { result.now ≡ uncarried_text self }
     {
         match self {
-            Uncarried::Output => "output",
-            Uncarried::Table => "table",
             Uncarried::Partial => "partial",
             Uncarried::Sorted => "sorted",
             Uncarried::Primary => "primary",
@@ -255,7 +249,7 @@ fn write_low_base<W: fmt::Write>(f: &mut fmt::Formatter<W>, base: u64, headers: 
     )
 }
 
-/// In a word, as `table`.
+/// In a word, as `partial`.
 impl fmt::Display for Uncarried {
     ghost use Rattle.std.specs.Prelude.{Some};
     ghost use Rattle.lk_layout.specs.Texts.{uncarried_text};

@@ -14,15 +14,14 @@ ghost use Rattle.lk_merge.specs.LinkInputs.{link_inputs};
 ghost use Rattle.lk_merge.specs.OffsetsOutside.{refers_outside, stands_outside};
 ghost use Rattle.lk_layout.specs.Outside.{StopsAtFirst, merge_offsets, outside_in, relocation_outside, relocations_outside};
 ghost use Rattle.lk_layout.specs.Outside.{symbol_outside, symbols_outside};
-ghost use Rattle.lk_layout.specs.Resolutions.{flags_at, is_resolved};
 
+use crate::resolution::flags_at;
 use lk_gc::Live;
 use lk_link::marks::is_marked;
 use lk_link::relocation::resolution_flags;
-use lk_link::{
-    FileId, FileRef, InputSection, InputSymbol, LinkInput, Relocation, SymbolId, ValueFlags,
-};
+use lk_link::{FileId, FileRef, InputSection, InputSymbol, LinkInput, Relocation, SymbolId};
 use lk_merge::{MergedStringsSection, refers_outside, refers_outside_in, stands_outside_in};
+use lk_tables::is_wanted;
 use std::fmt;
 
 /// What chooses an offset outside the data of a merged section.
@@ -143,11 +142,11 @@ fn check_symbol(
     requires good { IsWellFormed link.now }
     requires there { file_in link.now.groups file.id ≡ Some file.file.now }
     requires numbered { numbered_symbol link.now.groups number ≡ Some (file_of file, symbol.now) }
-    ensures { StopsAtFirst (symbol_outside link.now live.now (number, symbol.now)) result }
+    ensures { StopsAtFirst (symbol_outside link.now live.now file.entry.file.now.kind (number, symbol.now)) result }
 {
-    if is_resolved(live.flags.as_slice(), number, symbol)
-        && is_outside(link, file, number, symbol)
-    {
+    let flags = flags_at(live, number);
+    let is_resolved = is_wanted(file.file.kind, SymbolId::from_u32(number), symbol, flags);
+    if is_resolved && is_outside(link, file, number, symbol) {
         return Err(MergeOffsetPlace::OfSymbol(SymbolId::from_u32(number)));
     }
     Ok(())
@@ -264,19 +263,5 @@ fn reference_outside(
             None => refers_outside_in(link, file, symbol, addend),
         },
         None => refers_outside(link, SymbolId::from_u32(first + index), addend),
-    }
-}
-
-/// Whether a symbol with this number stands for itself, and its flags ask for its value.
-fn is_resolved(flags: &[ValueFlags], number: u32, symbol: &InputSymbol) -> bool
-    ensures { result ≡ is_resolved number symbol.now (flags_at flags.now number) }
-{
-    let is_definition = match symbol.def {
-        Some(definition) => definition.as_u32() == number,
-        None => true,
-    };
-    match flags.get(number as usize) {
-        Some(flags) => is_definition && flags.has_resolution(),
-        None => false,
     }
 }

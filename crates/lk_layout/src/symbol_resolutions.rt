@@ -4,8 +4,7 @@ ghost use Rattle.std.specs.Prelude.{◌≡◌, ◌++◌, ◌∷◌, [], IfOk, On
 ghost use Rattle.lk_layout.specs.Kept.{IsAskedFor};
 ghost use Rattle.lk_layout.specs.Resolutions.{resolution_at};
 
-use crate::resolution::Resolution;
-use lk_link::{SymbolId, ValueFlags};
+use lk_link::{Resolution, SymbolId, ValueFlags};
 use std::alloc::{AllocError, Global};
 use std::marker::Model;
 
@@ -13,10 +12,13 @@ use std::marker::Model;
 const NO_RESOLUTION: Resolution = Resolution {
     raw_value: 0,
     flags: ValueFlags(0),
+    dynamic: None,
+    got: None,
+    plt: None,
 };
 
 /// Of each symbol, by number, what it stands for in the output; none where it has no resolution (libwild: `SymbolResolutions`).
-/// Takes 16 bytes a symbol. Contracts see a list of options.
+/// Takes 56 bytes a symbol. Contracts see a list of options.
 #[derive(Drop)]
 pub struct SymbolResolutions {
     /// By symbol number. What has flags that ask for no value stands for none.
@@ -25,7 +27,7 @@ pub struct SymbolResolutions {
 
 impl Model for SymbolResolutions {
     ghost use Rattle.std.specs.Prelude.{List, Option, map};
-    ghost use Rattle.lk_layout.specs.declared.resolution.Resolution.{Resolution};
+    ghost use Rattle.lk_link.specs.declared.resolution.Resolution.{Resolution};
     ghost use Rattle.lk_layout.specs.Kept.{told_of};
 
     ghost Value = { List (Option Resolution) };

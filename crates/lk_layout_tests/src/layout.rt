@@ -271,8 +271,7 @@ const REFUSED: &str = r#"
 {"plan":{"page":1,"sections":[{"attrs":1,"parts":[[8,false],[4,false],[2,false],[1,false]]}],"segments":[{"kind":"load"}],"events":[["seg",0],["sec",0],["endseg",0]]},"groups":[[{"kind":"prelude"}],[{"kind":"object","sections":[{"slot":"must","part":3,"size":18446744073709551615},{"slot":"must","part":3,"size":1}]}]]} => 1 address overflow: part 3
 # What is not carried: from the options to the symbols of the prelude,
 @ {"plan":{"page":16,"sections":[{"parts":[[1,false]]}],"events":[["sec",0]]},"options":{...]}]]}
-"output":"dynamic"},"groups":[[{"kind":"prelude","symbols":[ => 1 not carried: output
-"output":"shared"},"groups":[[{"kind":"prelude","symbols":[ => 1 not carried: output
+"output":"shared","relax":true},"groups":[[{"kind":"prelude","symbols":[ => 1 not carried: relax
 "output":"partial"},"groups":[[{"kind":"prelude","symbols":[ => 1 not carried: partial
 "relax":true},"groups":[[{"kind":"prelude","symbols":[ => 1 not carried: relax
 },"groups":[[{"kind":"prelude","symbols":[{"name":"x","at":["undefined"]} => 1 not carried: symbol
@@ -280,13 +279,10 @@ const REFUSED: &str = r#"
 "output":"partial","relax":true},"groups":[[{"kind":"prelude","symbols":[{"name":"x","at":["undefined"]} => 1 not carried: partial
 # in a plan, behind its sections and events,
 @ {"plan":{"page":16,"sections":[{"parts":[[1,false]]}],"events":[["sec",0]]...},"groups":[[{"kind":"prelude"}]]}
-,"got":0 => 1 not carried: table
-,"shstrtab":0 => 1 not carried: table
-,"comment":0 => 1 not carried: table
 ,"custom_base":true => 1 base address (0x0) is less than the size of headers (0x40)
 ,"singletons":0 => 1 not carried: partial
 ,"primary":0},"options":{"branch_range":2097153 => 1 not carried: primary
-,"primary":0,"comment":0},"options":{"branch_range":2097153 => 1 not carried: table
+,"primary":0,"comment":0},"options":{"branch_range":2097153 => 1 not carried: primary
 ,"primary":0 => 1 bad link: rule 4, part field 12
 ,"base":["sym",0] => 1 bad link: rule 8, plan
 ,"custom_base":true,"singletons":0 => 1 not carried: partial
@@ -303,7 +299,7 @@ const REFUSED: &str = r#"
 {"slot":"must","group":7},{"slot":"merge","strings":true,"data":"61"} => 1 String in merge-string section is not null-terminated: section 0, input 0
 # Relocations that want entries of tables, and a candidate that is no section.
 @ {"plan":{"page":16,"sections":[{"parts":[[2,false],[1,false]]}],"events":[["sec",0]],"got":0},"groups":[[{"kind":"prelude"},{"kind":"object","symbols":[{"at":["undef"]}],"sections":[{"slot":"must","part":1,"size":1,"relocs":[...]}]}]]}
-[0,"GotTpOff",0,0,false] => 1 not carried: table
+[0,"GotTpOff",0,0,false] => 1 undefined: symbol 0 from 0 1 0 relocation 0
 [0,"Relative",0,0,false]]}],"candidates":[[0,0,1,1]],"x":[{"x":[ => 1 bad link: rule 13, file 0 1
 "#;
 

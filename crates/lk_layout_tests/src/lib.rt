@@ -24,6 +24,8 @@ mod runs;
 #[cfg(test)]
 mod shown;
 #[cfg(test)]
+mod tabled;
+#[cfg(test)]
 mod texts;
 #[cfg(test)]
 mod words;

@@ -5,9 +5,8 @@ ghost use Rattle.lk_link.specs.WellFormed.{IsWellFormed};
 use crate::rows::{Asked, expect_rows};
 use crate::shown::Shown;
 use lk_check::check_link;
-use lk_layout::resolution::Resolution;
 use lk_layout::{Layout, SymbolResolutions};
-use lk_link::{Alignment, LinkInput, List, SegmentId, SymbolId, ValueFlags};
+use lk_link::{Alignment, LinkInput, List, Resolution, SegmentId, SymbolId, ValueFlags};
 use lk_merge::MergedStringStartAddresses;
 use lk_place::{OutputRecordLayout, SegmentLayout};
 use lk_run::report::report_text;
@@ -134,7 +133,13 @@ fn add_resolution(
 ) -> Result<(), AllocError> {
     let flags = ValueFlags(flags);
     if flags.has_resolution() {
-        resolutions.push(Some(Resolution { raw_value, flags }))
+        resolutions.push(Some(Resolution {
+            raw_value,
+            flags,
+            dynamic: None,
+            got: None,
+            plt: None,
+        }))
     } else {
         resolutions.push(None)
     }

@@ -12,7 +12,7 @@ use Rattle.lk_link.specs.Texts.{joined}
 use Rattle.lk_layout.specs.declared.layout.Layout.{Layout}
 use Rattle.lk_layout.specs.declared.resolution.EntryFault.{EntryFault}
 use Rattle.lk_layout.specs.declared.resolution.EntryFault.TheVariants.{NotAnAddress, NotLoaded}
-use Rattle.lk_layout.specs.declared.resolution.Resolution.{Resolution}
+use Rattle.lk_link.specs.declared.resolution.Resolution.{Resolution}
 use Rattle.lk_layout.specs.Layouts.{resolved_entry, told_live}
 use Rattle.lk_merge.specs.Addresses.{image_start}
 use Rattle.lk_merge.specs.Hash.{fnv64}
@@ -169,17 +169,17 @@ merged_report merged starts = merged_lines merged starts ++ all_piece_lines merg
 
 -- ---- symbols and the entry
 
--- the line of a symbol with this resolution, whose entries stand at these places in got and plt, and which has this number
--- among dynamic symbols
-unfoldable pub symbol_line : ℕ → Resolution → Option ℕ → Option ℕ → Option ℕ → List ℕ
-symbol_line s r got plt dynamic = joined (
+-- the line of a symbol with this resolution: its value and flags, where its entries stand in got and plt, and its number among dynamic
+-- symbols
+unfoldable pub symbol_line : ℕ → Resolution → List ℕ
+symbol_line s r = joined (
     codes "symbol " ∷ decimal s ∷ codes " 0x" ∷ hexadecimal r.raw_value ∷ codes " " ∷ decimal r.flags.0 ∷
-    codes " got " ∷ address_text got ∷ codes " plt " ∷ address_text plt ∷ codes " dyn " ∷ index_text dynamic ∷ codes "\n" ∷ [])
+    codes " got " ∷ address_text r.got ∷ codes " plt " ∷ address_text r.plt ∷ codes " dyn " ∷ index_text r.dynamic ∷ codes "\n" ∷ [])
 
--- the same, where the symbol has a resolution; else nothing. No symbol has entries in tables yet
+-- the same, where the symbol has a resolution; else nothing
 unfoldable pub symbol_text : ℕ → Option Resolution → List ℕ
 symbol_text s None = []
-symbol_text s (Some r) = symbol_line s r None None None
+symbol_text s (Some r) = symbol_line s r
 
 -- the lines of all symbols with a resolution, by number
 abbrev pub symbol_lines : List (Option Resolution) → List ℕ

@@ -13,9 +13,9 @@ ghost use Rattle.lk_run.specs.Report.{symbol_line, symbol_text, symbol_lines, en
 
 use crate::line::{Line, ROOM};
 use crate::merged::{merged_room, write_merged};
-use lk_layout::resolution::{EntryFault, Resolution};
+use lk_layout::resolution::EntryFault;
 use lk_layout::{Layout, SymbolResolutions};
-use lk_link::InputRef;
+use lk_link::{InputRef, Resolution};
 use lk_link::link::LinkInput;
 use lk_link::marks::is_marked;
 use lk_link::plan::{PlanSection, PlanSections};
@@ -380,7 +380,7 @@ fn write_symbols(text: &mut String, resolutions: &SymbolResolutions) -> Result<(
     Ok(())
 }
 
-/// The line of a symbol that has a resolution. No symbol has entries in tables yet.
+/// The line of a symbol that has a resolution.
 #[tactic(auto, unfolding(crate::specs::Report::symbol_text))]
 fn write_symbol(
     text: &mut String,
@@ -390,31 +390,28 @@ fn write_symbol(
     ensures { IfOk result (λ _. string_bytes text.new ≡ string_bytes text.old ++ symbol_text number resolution) }
 {
     match resolution {
-        Some(resolution) => write_symbol_line(text, number, resolution, None, None, None),
+        Some(resolution) => write_symbol_line(text, number, resolution),
         None => Ok(()),
     }
 }
 
-/// The line of a symbol with this resolution, whose entries stand at these places in the GOT and the PLT, and which has this
-/// number among dynamic symbols.
+/// The line of a symbol with this resolution: its value and flags, where its entries stand in `got` and `plt`, and its number among
+/// dynamic symbols.
 #[tactic(auto, unfolding(crate::specs::Report::symbol_line))]
 fn write_symbol_line(
     text: &mut String,
     number: usize,
     resolution: Resolution,
-    got: Option<u64>,
-    plt: Option<u64>,
-    dynamic: Option<u32>,
 ) -> Result<(), AllocError>
-    ensures { IfOk result (λ _. string_bytes text.new ≡ string_bytes text.old ++ symbol_line number resolution got plt dynamic) }
+    ensures { IfOk result (λ _. string_bytes text.new ≡ string_bytes text.old ++ symbol_line number resolution) }
 {
     let mut line = Line::new();
     line.put("\n");
-    put_index(&mut line, dynamic);
+    put_index(&mut line, resolution.dynamic);
     line.put(" dyn ");
-    put_address(&mut line, plt);
+    put_address(&mut line, resolution.plt);
     line.put(" plt ");
-    put_address(&mut line, got);
+    put_address(&mut line, resolution.got);
     line.put(" got ");
     line.put_decimal(u64::from(resolution.flags.0));
     line.put(" ");

@@ -16,6 +16,8 @@ use Rattle.lk_sizes.specs.PartOwners.{EndsFit}
 use Rattle.lk_layout.specs.OutputContent.{image_lens, output_content}
 use Rattle.lk_layout.specs.Defined.{starts_of}
 use Rattle.lk_layout.specs.Resolutions.{images_at, merged_value}
+use Rattle.lk_layout.specs.Entries.{TablesFit, entry_setting}
+use Rattle.lk_layout.proofs.EntriesTaken.{tables_fit}
 use Rattle.lk_layout.proofs.Imaging.{images_fit, same_values}
 use Rattle.lk_layout.proofs.Placing.{ends_fit, have_room, resolutions_by, room_by, starts_count, table}
 use Rattle.lk_layout.proofs.Settings.{contents_count}
@@ -24,7 +26,7 @@ use Rattle.lk_link.specs.TableSizes.{TableSizes}
 
 pub owner_addresses-requires-clause-room : goal.owner_addresses-requires-clause-room
 owner_addresses-requires-clause-room g c =
-    let tables : TableSizes = g.P.Platform.table_sizes c.args._platform.now in
+    let tables : TableSizes = g.P.Platform.table_sizes c.args.platform.now in
     let link = c.args.link.now in
     let live : Live = c.args.live.now in
     let starts : List ℕ = c.in_ok-starts.starts.items in
@@ -38,12 +40,12 @@ owner_addresses-requires-clause-room g c =
 
 pub image_addresses-requires-clause-count : goal.image_addresses-requires-clause-count
 image_addresses-requires-clause-count g c =
-    let tables : TableSizes = g.P.Platform.table_sizes c.args._platform.now in
+    let tables : TableSizes = g.P.Platform.table_sizes c.args.platform.now in
     contents_count tables c.args.link.now c.args.live.now c.args.contents.now c.requires.contents
 
 pub compute-requires : goal.compute-requires
 compute-requires g c =
-    let tables : TableSizes = g.P.Platform.table_sizes c.args._platform.now in
+    let tables : TableSizes = g.P.Platform.table_sizes c.args.platform.now in
     let link = c.args.link.now in
     let live : Live = c.args.live.now in
     let starts : List ℕ = c.in_ok-starts.starts.items in
@@ -64,14 +66,14 @@ resolve_all-requires-clause-belong g c = record {
 
 pub resolve_all-requires-clause-rising : goal.resolve_all-requires-clause-rising
 resolve_all-requires-clause-rising g c =
-    let tables : TableSizes = g.P.Platform.table_sizes c.args._platform.now in
+    let tables : TableSizes = g.P.Platform.table_sizes c.args.platform.now in
     let link = c.args.link.now in
     let commons = c.as_slice-3.ensures.value ∙ c.in_ok-owners.ensures.commons tables in
     subst AreRising (sym commons) (table_rises link (content_of tables c.args.live.now c.deref.result.now) c.deref-2.result.now)
 
 pub resolve_all-requires-clause-room : goal.resolve_all-requires-clause-room
 resolve_all-requires-clause-room g c =
-    let tables : TableSizes = g.P.Platform.table_sizes c.args._platform.now in
+    let tables : TableSizes = g.P.Platform.table_sizes c.args.platform.now in
     let link = c.args.link.now in
     let live : Live = c.args.live.now in
     let starts : List ℕ = c.in_ok-starts.starts.items in
@@ -83,9 +85,20 @@ resolve_all-requires-clause-room g c =
     (have_room tables link live starts c.requires.good c.requires.live (starts_count link c.args.parts.now starts c.in_ok-starts.ensures.value c.requires.each)
     (ends_fit tables link live c.args.parts.now starts c.in_ok-starts.ensures.value c.in_ok-starts.ensures.fit c.requires.takes))
 
+pub resolve_all-requires-clause-tables_fit : goal.resolve_all-requires-clause-tables_fit
+resolve_all-requires-clause-tables_fit g c =
+    let tables : TableSizes = g.P.Platform.table_sizes c.args.platform.now in
+    let link = c.args.link.now in
+    let live : Live = c.args.live.now in
+    let starts : List ℕ = c.in_ok-starts.starts.items in
+    let same : c.deref-5.result.now ≡ starts = c.deref-5.ensures.value in
+    let fit : EndsFit link (output_content tables link live) starts = ends_fit tables link live c.args.parts.now starts c.in_ok-starts.ensures.value c.in_ok-starts.ensures.fit c.requires.takes in
+    subst (λ (ss : List ℕ). TablesFit (entry_setting tables link live c.args.entries.told.now ss)) (sym same)
+    (tables_fit tables link live c.args.entries.told.now starts c.requires.good (starts_count link c.args.parts.now starts c.in_ok-starts.ensures.value c.requires.each) fit)
+
 pub returns-clause-sections : goal.returns-clause-sections
 returns-clause-sections g c =
-    let tables : TableSizes = g.P.Platform.table_sizes c.args._platform.now in
+    let tables : TableSizes = g.P.Platform.table_sizes c.args.platform.now in
     let link = c.args.link.now in
     let live : Live = c.args.live.now in
     let lens : c.deref.result.now ≡ image_lens link = c.deref.ensures.value ∙ c.requires.images.lens in
@@ -94,7 +107,7 @@ returns-clause-sections g c =
 
 pub returns-clause-buckets : goal.returns-clause-buckets
 returns-clause-buckets g c =
-    let tables : TableSizes = g.P.Platform.table_sizes c.args._platform.now in
+    let tables : TableSizes = g.P.Platform.table_sizes c.args.platform.now in
     let link = c.args.link.now in
     let content = output_content tables link c.args.live.now in
     let places : c.deref-4.result.now ≡ image_addresses link content (starts_of c.args.parts.now)
@@ -112,7 +125,7 @@ returns-clause-belong g c = record {
 
 pub returns-clause-resolutions : goal.returns-clause-resolutions
 returns-clause-resolutions g c =
-    let tables : TableSizes = g.P.Platform.table_sizes c.args._platform.now in
+    let tables : TableSizes = g.P.Platform.table_sizes c.args.platform.now in
     let link = c.args.link.now in
     let live : Live = c.args.live.now in
     let content = output_content tables link live in
@@ -131,5 +144,5 @@ returns-clause-resolutions g c =
     let values : merged_value link (image_start c.in_ok-buckets.buckets) ≡ merged_value link (images_at tables link live wanted)
     = same_values link (image_start c.in_ok-buckets.buckets) (images_at tables link live wanted) c.requires.good (λ t below.
     c.in_ok-buckets.ensures.images t (omega (arith, below, outputs_count link, ap (λ (m : List (List MergeInput)). length m) merged)) ∙ ap (λ (ss : List ℕ). slice_index ss t) places) in
-    resolutions_by tables link live starts wanted c.as_slice.result.now c.as_slice-2.result.now c.in_ok-buckets.buckets c.as_slice-3.result.now c.as_slice-4.result.now _ c.requires.live c.as_slice.ensures read commons c.as_slice-4.ensures
-    c.in_ok-starts.ensures.value values c.in_ok-resolutions.ensures
+    resolutions_by tables link live starts wanted c.deref-5.result.now c.as_slice.result.now c.as_slice-2.result.now c.in_ok-buckets.buckets c.as_slice-3.result.now c.args.entries.told.now _ c.requires.live c.as_slice.ensures read commons
+    c.requires.told c.in_ok-starts.ensures.value (c.deref-5.ensures.value ∙ c.in_ok-starts.ensures.value) values c.in_ok-resolutions.ensures

@@ -15,8 +15,8 @@ use Rattle.lk_layout.proofs.Answering.{passed_on, unless_none}
 use Rattle.lk_layout.proofs.CarriedPlans.{whole_output}
 use Rattle.lk_layout.proofs.compute.lay_out_live.Goals as goal
 
-pub owners-sized-requires-clause-whole : goal.owners-sized-requires-clause-whole
-owners-sized-requires-clause-whole g c = whole_output c.args.link.now c.requires.carried
+pub owners-requires-clause-whole : goal.owners-requires-clause-whole
+owners-requires-clause-whole g c = whole_output c.args.link.now c.requires.carried
 
 pub lay_out_sized-requires-clause-sized : goal.lay_out_sized-requires-clause-sized
 lay_out_sized-requires-clause-sized g c =

@@ -1,4 +1,4 @@
-use Rattle.std.proofs.Common.{◌≡◌, ◌<◌, ℕ, List, None, length, refl, sym, ap, subst, ◌∙◌}
+use Rattle.std.proofs.Common.{◌≡◌, ◌<◌, ℕ, Bool, List, None, length, refl, sym, ap, subst, ◌∙◌}
 use Rattle.std.specs.Prelude.{All, option_map}
 use Rattle.lk_place.specs.Records.{Record}
 use Rattle.lk_sizes.specs.Contents.{contents_of}
@@ -9,6 +9,7 @@ use Rattle.lk_place.specs.Secondaries.{merge_refusal, merged_records}
 use Rattle.lk_place.specs.declared.segments.SegmentFileLayout.TheVariants.{FromSections}
 use Rattle.lk_place.specs.declared.segments.SegmentLayout.{SegmentLayout}
 use Rattle.lk_place.specs.Segments.{section_records, segment_layouts, thread_local_one}
+use Rattle.lk_tables.specs.DynamicCounters.{AreNumbersAt}
 use Rattle.lk_tables.specs.declared.header_info.HeaderInfo.{HeaderInfo}
 use Rattle.lk_sizes.specs.Emitted.{active_segments, is_emitted}
 use Rattle.lk_merge.specs.Addresses.{start_addresses}
@@ -44,6 +45,13 @@ compute_segment_layout-requires-clause-there g c =
     let active : c.as_slice-4.result.now ≡ (header_info link (output_content tables link live)).active_segment_ids = c.as_slice-4.ensures ∙ ap (λ (h : HeaderInfo). h.active_segment_ids) c.requires.header in
     let There : List ℕ → Type 0 = All (λ i. i < length link.plan.segments) in
     subst There (sym active) (active_there tables link live)
+
+pub addresses_of-requires-clause-told : goal.addresses_of-requires-clause-told
+addresses_of-requires-clause-told g c = c.as_slice-told.ensures ∙ ap (λ (h : HeaderInfo). h.emitted) c.requires.header
+
+pub addresses_of-requires-clause-numbers : goal.addresses_of-requires-clause-numbers
+addresses_of-requires-clause-numbers g c =
+    subst (λ (told : List Bool). AreNumbersAt c.args.link.now c.args.live told 0 c.args.numbers) (sym c.as_slice-told.ensures) c.requires.numbers
 
 pub returns-in_err-check_offsets : goal.returns-in_err-check_offsets
 returns-in_err-check_offsets g c =

@@ -1,11 +1,14 @@
-use Rattle.std.proofs.Common.{◌≡◌, ℕ, None, List, length, ap, subst, ◌∙◌, arith}
+use Rattle.std.proofs.Common.{◌≡◌, ℕ, Bool, None, List, length, sym, ap, subst, ◌∙◌, arith}
 use Rattle.std.specs.Prelude.{option_map}
 use Rattle.lk_gc.specs.declared.live.Live.{Live}
 use Rattle.lk_link.specs.TableSizes.{TableSizes}
 use Rattle.lk_place.specs.Answers.{ArePlaced}
 use Rattle.lk_place.specs.Setting.{setting_of}
 use Rattle.lk_tables.specs.declared.header_info.HeaderInfo.{HeaderInfo}
+use Rattle.lk_tables.specs.DynamicCounters.{AreNumbersAt}
 use Rattle.lk_tables.specs.HeaderParts.{header_sizes}
+use Rattle.lk_tables.specs.ShareWords.{first_shares}
+use Rattle.lk_sizes.specs.Emitted.{emitted_marks}
 use Rattle.lk_sizes.specs.Header.{header_info}
 use Rattle.lk_sizes.specs.PartOwners.{part_size, part_sizes}
 use Rattle.lk_layout.specs.Defined.{IsPlacedAnswer, IsSizedAnswer, setting, walk_refusal}
@@ -47,6 +50,16 @@ compute_layout_sections-requires-clause-each g c =
 
 pub lay_out_placed-requires-clause-contents : goal.lay_out_placed-requires-clause-contents
 lay_out_placed-requires-clause-contents g c = c.as_slice-parts.ensures ∙ c.requires.sized.1
+
+pub lay_out_placed-requires-clause-numbers : goal.lay_out_placed-requires-clause-numbers
+lay_out_placed-requires-clause-numbers g c =
+    let tables : TableSizes = g.P.Platform.table_sizes c.args.platform.now in
+    let link = c.args.link.now in
+    let live : Live = c.args.live in
+    let told : List Bool = emitted_marks link (output_content tables link live) in
+    let shares : c.as_slice-first.result.now ≡ first_shares tables link live = c.as_slice-first.ensures ∙ c.requires.sized.3 in
+    let at : AreNumbersAt link live told 0 c.new-numbers.result = c.new-numbers.ensures tables link live told c.requires.good shares c.requires.sized.4 in
+    subst (λ (ms : List Bool). AreNumbersAt link live ms 0 c.new-numbers.result) (sym (ap (λ (h : HeaderInfo). h.emitted) c.requires.sized.2)) at
 
 pub lay_out_placed-requires-clause-takes : goal.lay_out_placed-requires-clause-takes
 lay_out_placed-requires-clause-takes g c =

@@ -28,7 +28,7 @@ check_symbol-requires-clause-numbered c =
 pub returns-in_err-check_symbol : goal.returns-in_err-check_symbol
 returns-in_err-check_symbol c =
     let link = c.args.link.now in
-    let f = symbol_outside link c.args.live.now in
+    let f = symbol_outside link c.args.live.now c.args.file.file.now.kind in
     let k = c.loop-symbol.symbol-index in
     exit _ _ c.from_residual.result c.from_residual.ensures.1 (λ e is.
     stops_at f (first_symbol link.groups c.args.file.id) c.args.file.file.now.symbols c.as_slice-symbol-items.result.now k c.loop-symbol.number c.symbol-item.result _ c.as_slice-symbol-items.ensures
@@ -49,7 +49,7 @@ overflow_add-number c =
 pub loop-symbol-preserved : goal.loop-symbol-preserved
 loop-symbol-preserved c =
     let link = c.args.link.now in
-    let f = symbol_outside link c.args.live.now in
+    let f = symbol_outside link c.args.live.now c.args.file.file.now.kind in
     let k = c.loop-symbol.symbol-index in
     record {
       none = one_more f (first_symbol link.groups c.args.file.id) c.args.file.file.now.symbols c.as_slice-symbol-items.result.now k c.loop-symbol.number c.symbol-item.result
@@ -61,5 +61,5 @@ loop-symbol-preserved c =
 pub returns : goal.returns
 returns c =
     let link = c.args.link.now in
-    all_gone (symbol_outside link c.args.live.now) (first_symbol link.groups c.args.file.id) c.args.file.file.now.symbols c.as_slice-symbol-items.result.now c.loop-symbol.symbol-index
+    all_gone (symbol_outside link c.args.live.now c.args.file.file.now.kind) (first_symbol link.groups c.args.file.id) c.args.file.file.now.symbols c.as_slice-symbol-items.result.now c.loop-symbol.symbol-index
     c.as_slice-symbol-items.ensures c.loop-symbol-test.false c.loop-symbol.invariant.none

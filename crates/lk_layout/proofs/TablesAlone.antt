@@ -1,0 +1,24 @@
+-- The part that the plan names for a table has its entries alone.
+use Rattle.std.proofs.Common.{◌≡◌, ℕ, true, List, Option, Some, refl, ap, ◌∙◌}
+use Rattle.std.specs.List.{slice_get}
+use Rattle.std.proofs.lemmas.Bool.{eq-eqb}
+use Rattle.std.proofs.lemmas.List.Folds.{list_any_at}
+use Rattle.std.proofs.lemmas.Option.{get_or_from_slice_get, slice_get_within}
+use Rattle.lk_link.specs.declared.link.LinkInput.{LinkInput}
+use Rattle.lk_link.specs.PartRules.{is_part, is_table_part, table_parts}
+use Rattle.lk_link.specs.TableSizes.{TableSizes}
+use Rattle.lk_link.specs.WellFormed.{IsWellFormed}
+use Rattle.lk_gc.specs.declared.live.Live.{Live}
+use Rattle.lk_gc.specs.Reach.{AreLive}
+use Rattle.lk_sizes.proofs.TableParts.{table_parts_have_entries_alone}
+use Rattle.lk_layout.specs.OutputContent.{output_content}
+use Rattle.lk_layout.specs.Sound.{TablesStandAlone}
+
+-- the part of a table is a table part
+named_is_table : (link : LinkInput) (k p : ℕ) → slice_get (table_parts link.plan.named) k ≡ Some (Some p) → is_table_part link.plan.named p ≡ true
+named_is_table link k p named =
+    let parts : List (Option ℕ) = table_parts link.plan.named in
+    list_any_at (is_part p) parts k (slice_get_within parts k (Some p) named) (ap (is_part p) (get_or_from_slice_get parts k (Some p) (Some p) named) ∙ eq-eqb p p refl)
+
+pub tables_alone : (sizes : TableSizes) (link : LinkInput) (live : Live) → IsWellFormed link → AreLive link live → TablesStandAlone sizes link live
+tables_alone sizes link live good are k p named = table_parts_have_entries_alone link (output_content sizes link live) p good are (named_is_table link k p named)

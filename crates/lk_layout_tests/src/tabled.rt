@@ -1,0 +1,109 @@
+//! Layouts with tables: entries of symbols, headers, names and the identity.
+
+use crate::rows::{Asked, expect_rows};
+use crate::runs::expect_reports;
+use std::test::Fail;
+
+/// Descriptions with their reports.
+const TABLED: &str = r#"# A jump and a thread-local offset of one symbol: 16 bytes in each part.
+{"plan":{"page":16,"sections":[{"attrs":1,"parts":[[16,false],[8,false],[1,false]]}],"segments":[{"kind":"load"}],"events":[["seg",0],["sec",0],["endseg",0]],"plt":0,"got":1},"groups":[[{"kind":"prelude"}],[{"kind":"object","symbols":[{"at":["sec",0,0],"name":"f"}],"sections":[{"slot":"must","part":2,"size":4,"relocs":[[0,"PltRelative",0,0,false],[0,"GotTpOff",0,0,false]]}]}]]}
+0 layout
+section 0 index 0 mem 0x0 36 file 0x0 36 align 16 lma 0x0 attrs 1
+part 0 mem 0x0 16 file 0x0 16 align 16
+part 1 mem 0x10 16 file 0x10 16 align 8
+part 2 mem 0x20 4 file 0x20 4 align 1
+segment 0 mem 0x0 36 file 0x0 36 align 16
+live 1 0 0 0x20 4
+symbol 0 0x20 896 got 0x10 plt 0x0 dyn -
+entry -
+end
+
+# Entries of two symbols stand in their order, a symbol that asks for none between them.
+{"plan":{"page":16,"sections":[{"attrs":1,"parts":[[16,false],[8,false],[1,false]]}],"segments":[{"kind":"load"}],"events":[["seg",0],["sec",0],["endseg",0]],"plt":0,"got":1},"groups":[[{"kind":"prelude"}],[{"kind":"object","symbols":[{"at":["sec",0,0],"name":"f"},{"at":["sec",0,1]},{"at":["sec",0,2],"name":"h"}],"sections":[{"slot":"must","part":2,"size":4,"relocs":[[0,"GotRelative",0,0,false],[0,"Absolute",1,0,false],[0,"Got",2,0,false],[0,"PltRelative",2,0,false]]}]}]]}
+0 layout
+section 0 index 0 mem 0x0 36 file 0x0 36 align 16 lma 0x0 attrs 1
+part 0 mem 0x0 16 file 0x0 16 align 16
+part 1 mem 0x10 16 file 0x10 16 align 8
+part 2 mem 0x20 4 file 0x20 4 align 1
+segment 0 mem 0x0 36 file 0x0 36 align 16
+live 1 0 0 0x20 4
+symbol 0 0x20 128 got 0x10 plt - dyn -
+symbol 1 0x21 64 got - plt - dyn -
+symbol 2 0x22 384 got 0x18 plt 0x0 dyn -
+entry -
+end
+
+# A shared object: symbols that are defined nowhere, and one that is exported.
+{"options":{"output":"shared"},"plan":{"page":16,"sections":[{"attrs":1,"parts":[[8,false],[1,false]]},{"attrs":1,"parts":[[4,false]]}],"segments":[{"kind":"load"}],"events":[["seg",0],["sec",0],["sec",1],["endseg",0]],"dynsym":0,"dynstr":1},"groups":[[{"kind":"prelude"}],[{"kind":"object","symbols":[{"at":["sec",0,0],"name":"a"},{"at":["sec",0,0],"name":"bb"}],"sections":[{"slot":"must","part":2,"size":4}]}]]}
+0 layout
+section 0 index 0 mem 0x0 78 file 0x0 78 align 8 lma 0x0 attrs 1
+section 1 index 1 mem 0x50 4 file 0x50 4 align 4 lma 0x50 attrs 1
+part 0 mem 0x0 72 file 0x0 72 align 8
+part 1 mem 0x48 6 file 0x48 6 align 1
+part 2 mem 0x50 4 file 0x50 4 align 4
+segment 0 mem 0x0 84 file 0x0 84 align 8
+live 1 0 0 0x50 4
+symbol 0 0x50 8192 got - plt - dyn 1
+symbol 1 0x50 8192 got - plt - dyn 2
+entry -
+end
+
+# Headers in front of a section, which they don't emit.
+{"plan":{"page":4096,"base":["num",4096],"sections":[{"name":"H","attrs":1,"parts":[[8,false],[4,false]]},{"name":"A","attrs":1,"parts":[[8,false]]},{"name":"B","attrs":1,"parts":[[1,false]]},{"name":"C","attrs":17,"parts":[[16,false]]}],"segments":[{"kind":"load"}],"events":[["seg",0],["sec",0],["sec",1],["sec",2],["sec",3],["endseg",0]],"file_header":0,"program_headers":1},"groups":[[{"kind":"prelude"}],[{"kind":"object","sections":[{"slot":"must","part":2,"size":5},{"slot":"must","part":3,"size":7},{"slot":"must","part":4,"size":9}]}]]}
+0 layout
+section 0 index - mem 0x1000 120 file 0x0 120 align 8 lma 0x1000 attrs 1
+section 1 index 0 mem 0x1078 8 file 0x78 8 align 8 lma 0x1078 attrs 1
+section 2 index 1 mem 0x1080 7 file 0x80 7 align 1 lma 0x1080 attrs 1
+section 3 index 2 mem 0x1090 16 file 0x87 0 align 16 lma 0x1090 attrs 17
+part 0 mem 0x1000 64 file 0x0 64 align 8
+part 1 mem 0x1040 56 file 0x40 56 align 4
+part 2 mem 0x1078 8 file 0x78 8 align 8
+part 3 mem 0x1080 7 file 0x80 7 align 1
+part 4 mem 0x1090 16 file 0x87 0 align 16
+segment 0 mem 0x1000 160 file 0x0 135 align 16
+live 1 0 0 0x1078 5
+live 1 0 1 0x1080 7
+live 1 0 2 0x1090 9
+entry -
+end
+
+# The identity stands behind the image of its part, and emits the section.
+{"options":{"identity":"x"},"plan":{"page":1,"sections":[{"parts":[[1,false]]}],"events":[["sec",0]],"comment":0},"groups":[[{"kind":"prelude"}],[{"kind":"object","sections":[{"slot":"merge","strings":true,"data":"616200"},{"slot":"must","size":2}]}]]}
+0 layout
+section 0 index 0 mem 0x0 15 file 0x0 15 align 1 lma 0x0 attrs 0
+part 0 mem 0x0 15 file 0x0 15 align 1
+live 1 0 1 0xd 2
+merged 0 3 1 1 3 0x0
+piece 0 0x0 3
+entry -
+end
+
+# Symbol tables, their names, and those of sections.
+{"plan":{"page":16,"sections":[{"name":"t","attrs":1,"parts":[[4,false]]},{"name":"sy","parts":[[8,false],[4,false],[2,false],[1,false]]}],"segments":[{"kind":"load"}],"events":[["seg",0],["sec",0],["endseg",0],["sec",1]],"symtab_local":1,"symtab_global":2,"strtab":3,"shstrtab":4},"groups":[[{"kind":"prelude"}],[{"kind":"object","symbols":[{"at":["sec",0,0],"name":"a","local":true},{"at":["sec",0,0],"name":"bb"},{"at":["sec",0,0],"name":".Lc","local":true}],"sections":[{"slot":"must","size":4}]}]]}
+0 layout
+section 0 index 0 mem 0x0 4 file 0x0 4 align 4 lma 0x0 attrs 1
+section 1 index 1 mem 0x0 83 file 0x8 83 align 8 lma 0x0 attrs 0
+part 0 mem 0x0 4 file 0x0 4 align 4
+part 1 mem 0x0 48 file 0x8 48 align 8
+part 2 mem 0x30 24 file 0x38 24 align 4
+part 3 mem 0x48 6 file 0x50 6 align 2
+part 4 mem 0x4e 5 file 0x56 5 align 1
+segment 0 mem 0x0 4 file 0x0 4 align 4
+live 1 0 0 0x0 4
+entry -
+end"#;
+
+#[test]
+fn tables_are_laid_out(rt: HostRuntime) -> Result<(), Fail> {
+    expect_reports(&rt, rt.alloc(), TABLED)
+}
+
+/// An empty name that takes the one byte that is too many.
+const OVERFLOWING: &str = r#"
+{"plan":{"page":1,"sections":[{"parts":[[1,false]]},{"parts":[[1,false]]},{"parts":[[1,false]]}],"events":[["sec",0],["sec",1],["sec",2]],"strtab":0},"groups":[[{"kind":"prelude"}],[{"kind":"object","sections":[{"slot":"must","part":1,"size":18446744073709551615},{"slot":"must","part":2,"size":1}]}]]} => 1 address overflow: part 1
+"#;
+
+#[test]
+fn tables_count_in_sums(rt: HostRuntime) -> Result<(), Fail> {
+    expect_rows(&rt, rt.alloc(), Asked::Run, OVERFLOWING)
+}
