@@ -191,7 +191,9 @@ fn lay_out_placed<'data, P: Platform>(
     let parts = placed.parts.as_slice();
     let told = header.emitted.as_slice();
     let entries = Entries { told, numbers };
-    let addresses = addresses_of(alloc, link, &live, &images, contents, parts, entries, platform)?;
+    let addresses = addresses_of(
+        alloc, link, &live, &images, contents, parts, entries, platform,
+    )?;
     check_offsets(link, &live, images.sections.as_slice())?;
     Ok(Layout {
         section_layouts: placed.sections,

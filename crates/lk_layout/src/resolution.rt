@@ -28,8 +28,8 @@ use lk_gc::Live;
 use lk_link::file::FileKind;
 use lk_link::marks::is_marked;
 use lk_link::{
-    FileRef, InputSymbol, LinkInput, PartId, Platform, Resolution, SymbolId, SymbolPlacement, TableCursors,
-    ValueFlags,
+    FileRef, InputSymbol, LinkInput, PartId, Platform, Resolution, SymbolId, SymbolPlacement,
+    TableCursors, ValueFlags,
 };
 use lk_sizes::CommonAddress;
 use lk_tables::{DynamicNumbers, is_wanted};
@@ -101,7 +101,14 @@ pub(crate) fn resolve_all<P: Platform>(
         cursors: first_cursors(merged.link, tables.starts),
     };
     for file in groups.files() {
-        push_file_resolutions(&mut resolutions, platform, tables, merged, &mut entries, file)?;
+        push_file_resolutions(
+            &mut resolutions,
+            platform,
+            tables,
+            merged,
+            &mut entries,
+            file,
+        )?;
     }
     Ok(resolutions)
 }
@@ -160,7 +167,17 @@ fn push_file_resolutions<P: Platform>(
     let first = first_input_of(merged.link, file);
     let number = first_symbol_of(merged.link, file);
     let symbols = file.file.symbols.as_slice();
-    push_resolutions(resolutions, platform, tables, merged, next, file, first, number, symbols)
+    push_resolutions(
+        resolutions,
+        platform,
+        tables,
+        merged,
+        next,
+        file,
+        first,
+        number,
+        symbols,
+    )
 }
 
 /// The number of a file's first input section.
@@ -276,7 +293,14 @@ fn resolve<P: Platform>(
     }
     let raw_value = symbol_value(tables, merged, first, number, symbol);
     let named = &link.plan.named;
-    let made = take_entries(platform, named, &mut next.cursors, flags, raw_value, dynamic);
+    let made = take_entries(
+        platform,
+        named,
+        &mut next.cursors,
+        flags,
+        raw_value,
+        dynamic,
+    );
     if has_resolutions(kind) {
         Some(made)
     } else {
