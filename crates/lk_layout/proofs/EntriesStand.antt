@@ -157,7 +157,10 @@ entry_stands sizes link live layout starts k p s bytes address table good alone 
     }
 
 for_named : (named : Option ℕ) (P : ℕ → Type 0) (p : ℕ) → named ≡ Some p → P p → ForSome named P
-for_named named P p is h = subst (λ (o : Option ℕ). ForSome o P) (sym is) h
+for_named named P p is h = λ x e.
+    let both : Some p ≡ Some x = sym is ∙ e in
+    let same : p ≡ x = cc in
+    subst P same h
 
 -- ---- all
 
@@ -179,10 +182,10 @@ entries_stand machine link layout laid alone resolved s r told =
       got = λ address h.
           let entry = told_entry link.plan.named.got starts (got_table by) s bytes.got address (ap (λ (x : Resolution). x.got) (sym has.is) ∙ h) in
           for_named link.plan.named.got (λ p. IsEntryAt sizes link live layout p s address) entry.0 entry.1
-          (entry_stands sizes link live layout starts 0 entry.0 s bytes.got address (got_table by) laid.good alone (ap (λ (o : Option ℕ). Some o) entry.1) refl (start entry.0) entry.2.0 reach.0.there entry.2.1);
+          (entry_stands sizes link live layout starts 0 entry.0 s bytes.got address (got_table by) laid.good alone (ap (λ (o : Option ℕ). Some o) entry.1) refl (start entry.0) entry.2 reach.0.there entry.3);
       plt = λ address h.
           let entry = told_entry link.plan.named.plt starts (plt_table by) s bytes.plt address (ap (λ (x : Resolution). x.plt) (sym has.is) ∙ h) in
           for_named link.plan.named.plt (λ p. IsEntryAt sizes link live layout p s address) entry.0 entry.1
-          (entry_stands sizes link live layout starts 1 entry.0 s bytes.plt address (plt_table by) laid.good alone (ap (λ (o : Option ℕ). Some o) entry.1) refl (start entry.0) entry.2.0 reach.1.there entry.2.1);
+          (entry_stands sizes link live layout starts 1 entry.0 s bytes.plt address (plt_table by) laid.good alone (ap (λ (o : Option ℕ). Some o) entry.1) refl (start entry.0) entry.2 reach.1.there entry.3);
       dynamic = λ k h. (indexes_name_entries sizes link live by.told by.told (active_segments link content) s).0 k (ap (λ (x : Resolution). x.dynamic) (sym has.is) ∙ h);
     }

@@ -18,7 +18,7 @@ use Rattle.lk_layout.specs.Sound.{TablesStandAlone}
 named_is_table : (link : LinkInput) (k p : ℕ) → slice_get (table_parts link.plan.named) k ≡ Some (Some p) → is_table_part link.plan.named p ≡ true
 named_is_table link k p named =
     let parts : List (Option ℕ) = table_parts link.plan.named in
-    list_any_at (is_part p) parts k (slice_get_within parts k (Some p) named) (ap (is_part p) (get_or_from_slice_get parts k (Some p) (Some p) named) ∙ eq-eqb p p refl)
+    list_any_at (is_part p) parts k (Some p) (slice_get_within parts k (Some p) named) (ap (is_part p) (get_or_from_slice_get parts k (Some p) (Some p) named) ∙ eq-eqb p p refl)
 
 pub tables_alone : (sizes : TableSizes) (link : LinkInput) (live : Live) → IsWellFormed link → AreLive link live → TablesStandAlone sizes link live
 tables_alone sizes link live good are k p named = table_parts_have_entries_alone link (output_content sizes link live) p good are (named_is_table link k p named)
