@@ -1,5 +1,5 @@
 -- Places in live input sections: their addresses by a table, and the room behind them.
-use Rattle.std.proofs.Common.{◌≡◌, ℕ, zero, suc, ◌+◌, ◌<◌, ◌≤◌, ◌^◌, Bool, true, false, cond, List, [], ◌∷◌, ◌++◌, length, take, Option, Some, None, refl, sym, ap, subst, ◌∙◌, inl, inr, arith, get_or}
+use Rattle.std.proofs.Common.{◌≡◌, ℕ, zero, suc, ◌+◌, ◌<◌, ◌≤◌, ◌^◌, Bool, true, false, cond, List, [], ◌∷◌, length, Option, Some, None, refl, sym, ap, subst, ◌∙◌, inl, inr, arith, get_or}
 use Rattle.std.specs.Prelude.{if◌then◌else◌, option_map, slice_get}
 use Rattle.std.specs.Int.{next_multiple_of}
 use Rattle.std.specs.List.{flat_map, slice_index, slice_index_or}
@@ -40,7 +40,7 @@ use Rattle.lk_sizes.proofs.Placed.{live_ends}
 use Rattle.lk_link.specs.declared.resolution.Resolution.{Resolution}
 use Rattle.lk_layout.specs.Defined.{starts_of}
 use Rattle.lk_layout.specs.Entries.{entry_setting}
-use Rattle.lk_layout.specs.Resolutions.{Places, address_at, file_resolutions, images_at, merged_value, places_of, symbol_resolutions}
+use Rattle.lk_layout.specs.Resolutions.{Places, address_at, file_resolutions, images_at, merged_value, symbol_resolutions}
 use Rattle.lk_layout.specs.Tables.{HasRoom, HaveRoom, common_in, place_in, places_in}
 use Rattle.lk_layout.proofs.CommonsFound.{places_with, resolutions_alike}
 use Rattle.lk_sizes.specs.declared.addresses.CommonAddress.{CommonAddress}

@@ -1,5 +1,5 @@
 -- What a placement refuses is the answer.
-use Rattle.std.proofs.Common.{◌≡◌, Option, Some, None, Result, Ok, Err, sym, ap, subst, ◌∙◌, List, [], ℕ}
+use Rattle.std.proofs.Common.{◌≡◌, Option, Result, Ok, Err, sym, ap, subst, List, ℕ}
 use Rattle.std.specs.Prelude.{option_map}
 use Rattle.std.specs.Result.{IsErrAnd}
 use Rattle.lk_gc.specs.declared.live.Live.{Live}
@@ -10,7 +10,6 @@ use Rattle.lk_place.specs.declared.error.PlaceError.TheVariants as place
 use Rattle.lk_place.specs.declared.expressions.positions.SymbolPosition.{SymbolPosition}
 use Rattle.lk_place.specs.Answers.{GivesPlaced, IsRefused}
 use Rattle.lk_place.specs.Setting.{setting_of}
-use Rattle.lk_sizes.specs.Contents.{size_refusal}
 use Rattle.lk_sizes.specs.PartOwners.{part_sizes}
 use Rattle.lk_layout.specs.declared.error.LayoutError.{LayoutError}
 use Rattle.lk_layout.specs.declared.layout.Layout.{Layout}

@@ -1,4 +1,4 @@
-use Rattle.std.proofs.Common.{◌≡◌, length, ap, ◌∙◌, arith}
+use Rattle.std.proofs.Common.{◌≡◌, ◌∙◌, arith}
 use Rattle.lk_link.specs.Symbols.{AreSymbolsOf, first_symbol}
 use Rattle.lk_link.proofs.SymbolLemmas.{symbols_within}
 use Rattle.lk_reach.proofs.SymbolNumbers.{symbols_few}

@@ -1,12 +1,5 @@
-use Rattle.std.proofs.Common.{◌≡◌, ◌++◌, ◌+◌, ◌<◌, ◌^◌, ℕ, List, Option, length, map, sym, ap, subst, ◌∙◌, arith}
-use Rattle.std.specs.List.{enumerate_from}
-use Rattle.lk_link.specs.declared.resolution.Resolution.{Resolution}
-use Rattle.lk_link.specs.declared.symbol.InputSymbol.{InputSymbol}
-use Rattle.lk_link.specs.Inputs.{first_input}
-use Rattle.lk_link.specs.Symbols.{first_symbol}
+use Rattle.std.proofs.Common.{ℕ, length, sym, ap, subst, arith}
 use Rattle.lk_layout.specs.Entries.{AreNextAt, EntrySetting, entry_setting}
-use Rattle.lk_layout.specs.Resolutions.{Places, resolution_of}
-use Rattle.lk_layout.specs.Tables.{places_in}
 use Rattle.lk_layout.proofs.resolution.push_file_resolutions.Goals as goal
 
 pub first_input_of-first-requires-clause-good : goal.first_input_of-first-requires-clause-good

@@ -4,7 +4,6 @@ use Rattle.std.proofs.lemmas.List.{append-nil}
 use Rattle.std.proofs.lemmas.Option.{slice_get-get_or}
 use Rattle.lk_link.specs.declared.resolution.Resolution.{Resolution}
 use Rattle.lk_link.specs.declared.symbol.InputSymbol.{InputSymbol}
-use Rattle.lk_link.specs.Walks.{file_of}
 use Rattle.lk_link.proofs.NumberedSymbolLemmas.{stands}
 use Rattle.lk_reach.specs.Units.{numbered_symbols}
 use Rattle.lk_layout.specs.Entries.{AreNextAt, EntrySetting, entry_setting}
