@@ -1,5 +1,5 @@
 -- What a bucket answers, by its table.
-use Rattle.std.proofs.Common.{◌≡◌, ℕ, ◌+◌, ◌-◌, ◌/◌, ◌%◌, ◌^◌, ◌<◌, ◌≤◌, Bool, true, false, cond, ◌||◌, List, [], ◌∷◌, ◌++◌, length, map, None, Some, Ok, Err, inl, inr, refl, sym, ap, subst, ◌∙◌, arith, leb, suc, length-append}
+use Rattle.std.proofs.Common.{◌≡◌, ℕ, ◌+◌, ◌-◌, ◌^◌, ◌<◌, ◌≤◌, Bool, true, false, cond, ◌||◌, List, [], ◌∷◌, ◌++◌, length, map, None, Some, Ok, Err, inl, inr, refl, sym, ap, subst, ◌∙◌, arith, leb, suc, length-append}
 use Rattle.std.specs.List.{concat, slice_get}
 use Rattle.std.specs.Map.{keys_of, lookup}
 use Rattle.std.proofs.lemmas.Bool.{le-leb, lt-leb}

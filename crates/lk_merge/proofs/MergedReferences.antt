@@ -1,5 +1,5 @@
 -- References into merged sections: the inputs that they name, and what stands at their addresses.
-use Rattle.std.proofs.Common.{◌≡◌, ℕ, zero, suc, ◌+◌, ◌<◌, Bool, true, false, List, [], ◌∷◌, length, Option, None, Some, Result, Ok, Err, option_and_then, option_map, refl, sym, ap, ◌∙◌, subst, arith}
+use Rattle.std.proofs.Common.{◌≡◌, ℕ, zero, suc, ◌+◌, ◌<◌, Bool, true, false, List, [], ◌∷◌, length, Option, None, Some, Ok, Err, option_and_then, option_map, refl, sym, ap, ◌∙◌, arith}
 use Rattle.std.specs.Prelude.{ℤ, ◌==◌, if◌then◌else◌, not}
 use Rattle.std.specs.List.{list_all, position, slice_get}
 use Rattle.std.specs.Option.{option_map_or}
@@ -18,10 +18,9 @@ use Rattle.lk_link.specs.WellFormed.{IsWellFormed}
 use Rattle.lk_link.proofs.InputLemmas.{inputs_follow}
 use Rattle.lk_merge.specs.declared.error.MergeError.{MergeError}
 use Rattle.lk_merge.specs.declared.error.MergeError.TheVariants.{NotTerminated}
-use Rattle.lk_merge.specs.declared.output_address.OffsetPastEnd.{OffsetPastEnd}
 use Rattle.lk_merge.specs.Hash.{fnv64}
 use Rattle.lk_merge.specs.Image.{all_pieces}
-use Rattle.lk_merge.specs.LinkInputs.{first_refusal, link_inputs, merge_input, merge_inputs}
+use Rattle.lk_merge.specs.LinkInputs.{first_refusal, link_inputs, merge_input}
 use Rattle.lk_merge.specs.MergedReferences.{IsShownAt, MergedReferencesShow, NothingRefused, inputs_with, moved}
 use Rattle.lk_merge.specs.Merging.{first_of, long_refusal, merge_refusal}
 use Rattle.lk_merge.specs.OutputAddresses.{MergePlace, address_in, chosen_offset, merge_place, merged_address, output_of, past_end, placed_in, plus_addend, reference_address, symbol_place}

@@ -1,5 +1,5 @@
 -- Which input sections of a link are merged into which output section.
-use Rattle.std.specs.Prelude.{◌≡◌, ℕ, ◌+◌, ◌==◌, ◌&&◌, Bool, false, List, [], ◌∷◌, Option, None, Some, Result, Ok, Err, filter, length, map, slice_get}
+use Rattle.std.specs.Prelude.{◌≡◌, ℕ, ◌==◌, ◌&&◌, Bool, false, List, Option, None, Some, Result, Ok, Err, filter, length, map, slice_get}
 use Rattle.std.specs.Int.{next_multiple_of}
 use Rattle.std.specs.List.{enumerate_from, range_with_len}
 use Rattle.std.specs.Option.{option_map_or}

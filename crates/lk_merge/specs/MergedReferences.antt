@@ -1,5 +1,5 @@
 -- What stands at the addresses of references into merged sections, in a link of which merging refuses nothing.
-use Rattle.std.specs.Prelude.{◌≡◌, ℕ, ℤ, ◌+◌, Bool, true, false, List, None, Some, Ok, if◌then◌else◌, length, slice_get}
+use Rattle.std.specs.Prelude.{◌≡◌, ℕ, ℤ, ◌+◌, true, false, List, None, Some, Ok, if◌then◌else◌, slice_get}
 use Rattle.std.specs.List.{list_all}
 use Rattle.lk_link.specs.declared.link.LinkInput.{LinkInput}
 use Rattle.lk_link.specs.WellFormed.{IsWellFormed}

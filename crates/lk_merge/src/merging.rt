@@ -14,7 +14,7 @@ ghost use Rattle.lk_merge.specs.Hash.{fnv64};
 ghost use Rattle.lk_merge.specs.Image.{all_pieces, firsts_behind, is_among, place_in};
 ghost use Rattle.lk_merge.specs.Inputs.{AreInputs, Located, input_of, located, located_in, padded_total};
 ghost use Rattle.lk_merge.specs.Merging.{GivesMerged};
-ghost use Rattle.lk_merge.specs.MergingTables.{GivesFitting, AreAdded, AreTaken, HasMerged, HasMergedAll, HasTaken};
+ghost use Rattle.lk_merge.specs.MergingTables.{AreAdded, AreTaken, GivesFitting, HasMerged, HasMergedAll, HasTaken};
 ghost use Rattle.lk_merge.specs.Pieces.{Piece, cut, is_terminated, pieces_of};
 ghost use Rattle.lk_merge.specs.declared.merging.BucketState.{BucketState};
 ghost use Rattle.lk_merge.specs.declared.string.MergeString.{MergeString};
