@@ -83,6 +83,11 @@ fn layout_of(
     Ok(layout_with(alloc, starts, symbol_resolutions))
 }
 
+/// A layout of nothing.
+fn empty_layout(alloc: Global) -> Result<Layout<'static>, AllocError> {
+    layout_of(alloc, SymbolResolutions::with_capacity(alloc, 0)?)
+}
+
 /// Gives a layout the records of three sections and five parts, and attributes and indexes of sections.
 fn fill_sections(alloc: Global, layout: &mut Layout<'_>) -> Result<(), AllocError> {
     let (none, some) = (record_of(false), record_of(true));
@@ -121,7 +126,7 @@ pub fn add_report(alloc: Global, line: &mut String, link: &LinkInput) -> Result<
     if check_link(link).is_err() {
         return Ok(());
     }
-    let mut layout = layout_of(alloc, SymbolResolutions::with_capacity(alloc, 0)?)?;
+    let mut layout = empty_layout(alloc)?;
     add_layout(alloc, line, link, &mut layout)
 }
 
