@@ -45,6 +45,16 @@ piece 0 0x40 2
 entry -
 end
 
+# A load address that is where a symbol of the section stands, which is placed by then.
+{"plan":{"page":16,"sections":[{"attrs":1,"parts":[[1,false]],"at":["sym",0]}],"segments":[{"kind":"load"}],"events":[["seg",0],["sec",0],["endseg",0]],"base":["num",32]},"groups":[[{"kind":"prelude"}],[{"kind":"object","symbols":[{"at":["sec",0,4]}],"sections":[{"slot":"must","part":0,"size":5}]}]]}
+0 layout
+section 0 index 0 mem 0x20 5 file 0x0 5 align 1 lma 0x24 attrs 1
+part 0 mem 0x20 5 file 0x0 5 align 1
+segment 0 mem 0x20 5 file 0x0 5 align 1
+live 1 0 0 0x20 5
+entry -
+end
+
 # A section is loaded from behind itself.
 {"plan":{"page":16,"sections":[{"attrs":1,"parts":[[1,false]],"at":["add",["addr",0],["sizeof",0]]}],"segments":[{"kind":"load"}],"events":[["seg",0],["sec",0],["endseg",0]],"base":["num",32]},"groups":[[{"kind":"prelude"}],[{"kind":"object","sections":[{"slot":"must","part":0,"size":5}]}]]}
 0 layout
