@@ -81,10 +81,13 @@ reference_address link starts addend zero_unnamed place =
     else if zero_unnamed then Ok (Some 0)
     else option_map_or (λ a. Ok (Some a)) (address_in link starts place (chosen_offset place addend)) (Err past_end)
 
--- that of a reference to a symbol; none where the symbol isn't placed in a merged section (libwild: `get_merged_string_output_address`)
+-- that of a reference to what a symbol names; none where it names no place in a merged section
+abbrev pub place_address : LinkInput → (ℕ → ℕ) → ℤ → Bool → Option MergePlace → Result (Option ℕ) OffsetPastEnd
+place_address link starts addend zero_unnamed place = option_map_or (reference_address link starts addend zero_unnamed) place (Ok None)
+
+-- that of a reference to the symbol with a number (libwild: `get_merged_string_output_address`)
 abbrev pub merged_address : LinkInput → (ℕ → ℕ) → ℕ → ℤ → Bool → Result (Option ℕ) OffsetPastEnd
-merged_address link starts s addend zero_unnamed =
-    option_map_or (reference_address link starts addend zero_unnamed) (symbol_place link.groups s) (Ok None)
+merged_address link starts s addend zero_unnamed = place_address link starts addend zero_unnamed (symbol_place link.groups s)
 
 -- ---- what stands there
 

@@ -30,6 +30,8 @@ pub use link_merging::{merge_strings, merge_strings_alone};
 pub use offset::{BucketOffset, LinearInputOffset};
 pub use offset_map::OffsetMap;
 pub use offsets_outside::{refers_outside, refers_outside_in, stands_outside_in};
-pub use output_address::{OffsetPastEnd, get_merged_string_output_address};
+pub use output_address::{
+    OffsetPastEnd, get_merged_string_output_address, get_merged_string_output_address_in,
+};
 pub use section::{MergedStringsSection, find_string};
 pub use string::MergeString;

@@ -8,7 +8,7 @@ ghost use Rattle.lk_link.specs.WellFormed.{IsWellFormed};
 ghost use Rattle.lk_merge.specs.Addresses.{AreStartsOf, image_start};
 ghost use Rattle.lk_merge.specs.LinkInputs.{link_inputs};
 ghost use Rattle.lk_merge.specs.OffsetsOutside.{chooses_outside};
-ghost use Rattle.lk_merge.specs.OutputAddresses.{address_in, chosen_offset, merge_place, merged_address, symbol_place};
+ghost use Rattle.lk_merge.specs.OutputAddresses.{address_in, chosen_offset, merge_place, merged_address, place_address, reference_address, symbol_place};
 ghost use Rattle.lk_merge.specs.OutputAddressTables.{IsMergePlace, lent_place};
 ghost use Rattle.lk_merge.specs.declared.output_address.SymbolPlace.{SymbolPlace};
 
@@ -71,9 +71,49 @@ pub fn get_merged_string_output_address(
     requires starts { AreStartsOf merged.now starts.now }
     ensures { result ≡ merged_address link.now (image_start starts.now) symbol addend zero_unnamed }
 {
-    let Some(place) = symbol_place(link, symbol) else {
-        return Ok(None);
-    };
+    match symbol_place(link, symbol) {
+        Some(place) => reference_address(link, place, addend, merged, starts, zero_unnamed),
+        None => Ok(None),
+    }
+}
+
+/// The same for a symbol of a file, without a look-up of it. Takes logarithmic time.
+pub fn get_merged_string_output_address_in(
+    link: &LinkInput,
+    file: FileRef<'_>,
+    symbol: &InputSymbol,
+    addend: i64,
+    merged: &[MergedStringsSection<'_>],
+    starts: &MergedStringStartAddresses,
+    zero_unnamed: bool,
+) -> Result<Option<u64>, OffsetPastEnd>
+    requires well_formed { IsWellFormed link.now }
+    requires there { file_in link.now.groups file.id ≡ Some file.file.now }
+    requires merged { merged.now ≡ (link_inputs link.now).outputs }
+    requires starts { AreStartsOf merged.now starts.now }
+    ensures { result ≡ place_address link.now (image_start starts.now) addend zero_unnamed (merge_place link.now.groups (file_of file.entry, symbol.now)) }
+{
+    match place_in(link, file, symbol) {
+        Some(place) => reference_address(link, place, addend, merged, starts, zero_unnamed),
+        None => Ok(None),
+    }
+}
+
+/// The address of a reference, with an addend, to what a symbol names.
+fn reference_address(
+    link: &LinkInput,
+    place: SymbolPlace<'_>,
+    addend: i64,
+    merged: &[MergedStringsSection<'_>],
+    starts: &MergedStringStartAddresses,
+    zero_unnamed: bool,
+) -> Result<Option<u64>, OffsetPastEnd>
+    requires well_formed { IsWellFormed link.now }
+    requires merged { merged.now ≡ (link_inputs link.now).outputs }
+    requires starts { AreStartsOf merged.now starts.now }
+    requires place { IsMergePlace link.now (lent_place place) }
+    ensures { result ≡ reference_address link.now (image_start starts.now) addend zero_unnamed (lent_place place.entry) }
+{
     let offset = place.chosen_offset(addend);
     if place.is_named {
         let address = address_in(link, merged, starts, place, offset).ok_or(OffsetPastEnd)?;
