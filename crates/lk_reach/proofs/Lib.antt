@@ -7,6 +7,8 @@ pub mod Numbered
 pub mod Passing
 pub mod PlainAsks
 pub mod ReachLemmas
+pub mod Rising
+pub mod SelfStanding
 pub mod SuccessorLemmas
 pub mod SymbolNumbers
 pub mod UnitLemmas

@@ -1,7 +1,7 @@
 -- What is reached by paths, and by rounds of marking: the same units and flags.
 use Rattle.std.proofs.Common.{◌≡◌, ℕ, suc, ◌+◌, ◌<◌, Bool, List, [], ◌∷◌, ◌++◌, length, map, Option, Some, None, refl, sym, ap, ◌∙◌, subst, inl, inr, ◌⊎◌, arith, get_or, option_map}
 use Rattle.std.specs.Int.{bit_at}
-use Rattle.std.specs.List.{All, Contains, slice_index}
+use Rattle.std.specs.List.{All, slice_index}
 use Rattle.std.specs.Option.{ForSome, option_map_or}
 use Rattle.std.proofs.lemmas.List.{length-map, get_or-map}
 use Rattle.std.proofs.lemmas.List.Elements.{All-append, All-contains, Contains-get_or}

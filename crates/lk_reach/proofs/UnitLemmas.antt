@@ -48,7 +48,6 @@ use Rattle.lk_reach.specs.declared.exports.ExportSymbolsMode.TheVariants as mode
 use Rattle.lk_link.specs.declared.expression.Operand.TheVariants as operand
 use Rattle.lk_link.specs.declared.expression.Token.{Token}
 use Rattle.lk_link.specs.declared.expression.Token.TheVariants as token
-use Rattle.lk_link.specs.CandidateIndex.{candidates_of}
 use Rattle.lk_link.specs.Expressions.{Term, postfix}
 use Rattle.lk_link.specs.SymbolPlacements.{is_undefined}
 use Rattle.lk_reach.specs.Placements.{edge_of, is_defined, section_of}
@@ -116,7 +115,7 @@ number_of groups n u h = elim (append_at (map Sym (range_with_len 0 (symbols_in_
 
 -- ---- what is asked for is there
 
-all_joined : {X Y : Type 0} (P : Y → Type 0) (f : X → List Y) (xs : List X) → ((k : ℕ) (x : X) → slice_get xs k ≡ Some x → All P (f x)) → All P (flat_map f xs)
+pub all_joined : {X Y : Type 0} (P : Y → Type 0) (f : X → List Y) (xs : List X) → ((k : ℕ) (x : X) → slice_get xs k ≡ Some x → All P (f x)) → All P (flat_map f xs)
 all_joined P f [] h = All-nil P
 all_joined P f (x ∷ xs) h = All-append P (f x) (flat_map f xs) (h 0 x refl) (all_joined P f xs (λ k y e. h (suc k) y e))
 

@@ -1,14 +1,13 @@
 -- Closed marks and words that hold nothing more are those of what is reached.
-use Rattle.std.proofs.Common.{◌≡◌, ℕ, zero, suc, ◌+◌, ◌<◌, Bool, true, false, List, length, get_or, Some, refl, sym, ap, ◌∙◌, subst, inl, inr, arith}
+use Rattle.std.proofs.Common.{◌≡◌, ℕ, zero, suc, ◌+◌, ◌<◌, Bool, true, false, List, length, get_or, refl, sym, ap, ◌∙◌, subst, arith}
 use Rattle.std.specs.Int.{bit_at}
-use Rattle.std.specs.List.{All, slice_get, slice_index}
+use Rattle.std.specs.List.{All}
 use Rattle.std.proofs.lemmas.List.{ext_get_or}
 use Rattle.std.proofs.lemmas.List.Elements.{All-append}
 use Rattle.std.proofs.lemmas.Nat.Bits.{bit_at-zero}
 use Rattle.lk_link.specs.declared.link.LinkInput.{LinkInput}
 use Rattle.lk_link.specs.WellFormed.{IsWellFormed}
 use Rattle.lk_link.proofs.Elements.{at_index}
-use Rattle.lk_reach.specs.declared.units.Unit.{Unit as LinkUnit}
 use Rattle.lk_reach.specs.Laws.{ClosedAndReachedIsAll, IsAllReached}
 use Rattle.lk_reach.specs.Marks.{IsJoined, IsMarked, IsUnit, all_units, asked, asked_from, asking, flag_words, handed_in, reached_marks, symbols_in_all, unit_at, unit_number, word_of}
 use Rattle.lk_reach.specs.Units.{roots}

@@ -1,7 +1,8 @@
 -- Laws on what is reached.
-use Rattle.std.specs.Prelude.{◌≡◌, ◌↔◌, ◌⊎◌, ℕ, ◌+◌, ◌<◌, ◌≤◌, Bool, List, All, length, slice_index}
+use Rattle.std.specs.Prelude.{◌≡◌, ◌↔◌, ◌⊎◌, ℕ, ◌+◌, ◌<◌, ◌≤◌, Bool, List, All, Some, length, slice_index}
 use Rattle.std.specs.Int.{bit_at}
 use Rattle.lk_link.specs.declared.link.LinkInput.{LinkInput}
+use Rattle.lk_link.specs.Symbols.{definition_of}
 use Rattle.lk_link.specs.WellFormed.{IsWellFormed}
 use Rattle.lk_reach.specs.declared.units.Unit.{Unit as LinkUnit}
 use Rattle.lk_reach.specs.declared.units.Unit.TheVariants.{Sym}
@@ -60,6 +61,10 @@ ClosedAndReachedIsAll = (link : LinkInput) (marks : List Bool) (words : List ℕ
 -- a symbol with a flag for which it gets a resolution, from DIRECT to EXPORT_DYNAMIC, is reached
 abbrev pub ResolvedIsReached : Type 0
 ResolvedIsReached = (link : LinkInput) (s i : ℕ) → IsWellFormed link → 6 ≤ i → i < 14 → HasFlag link s i → IsReached link (Sym s)
+
+-- a symbol that is reached stands for itself
+abbrev pub ReachedStandForThemselves : Type 0
+ReachedStandForThemselves = (link : LinkInput) (s : ℕ) → IsWellFormed link → IsReached link (Sym s) → definition_of link.groups s ≡ Some s
 
 -- ---- paths
 

@@ -133,7 +133,7 @@ pub(crate) fn is_exported(
 }
 
 /// Whether a placement is in a section that is discarded, of a file with these sections.
-fn is_in_discarded(sections: &[InputSection], at: &SymbolPlacement) -> bool
+pub fn is_in_discarded(sections: &[InputSection], at: &SymbolPlacement) -> bool
     ensures { result ≡ is_in_discarded sections.now at.now }
 {
     match at {

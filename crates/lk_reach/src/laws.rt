@@ -1,6 +1,6 @@
 //! Laws on what is reached.
 
-ghost use Rattle.lk_reach.specs.Laws.{AsksAreInside, ClosedAndReachedIsAll, ClosedMarksHoldReach, ClosedWordsHoldFlags, MarksAreReached, MoreRootsReachMore, ReachIsClosed, ResolvedIsReached, WordsAreFlags};
+ghost use Rattle.lk_reach.specs.Laws.{AsksAreInside, ClosedAndReachedIsAll, ClosedMarksHoldReach, ClosedWordsHoldFlags, MarksAreReached, MoreRootsReachMore, ReachedStandForThemselves, ReachIsClosed, ResolvedIsReached, WordsAreFlags};
 
 /// A law: what roots and units of a well-formed link ask for is there: units that have numbers, and symbols of the link.
 pub fn asks_are_inside()
@@ -40,6 +40,11 @@ pub fn closed_and_reached_is_all()
 /// A law: a symbol with a flag for which it gets a resolution is reached.
 pub fn resolved_is_reached()
     ensures { ResolvedIsReached }
+{}
+
+/// A law: a symbol of a well-formed link that is reached stands for itself.
+pub fn reached_stand_for_themselves()
+    ensures { ReachedStandForThemselves }
 {}
 
 /// A law: more roots reach no less, where what a unit asks for is still asked for, by it or by a root.

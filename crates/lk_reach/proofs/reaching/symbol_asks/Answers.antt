@@ -1,7 +1,7 @@
-use Rattle.std.proofs.Common.{◌≡◌, [], Some, None, sym, ap, ◌∙◌}
+use Rattle.std.proofs.Common.{sym, ◌∙◌}
 use Rattle.std.specs.List.{slice_get}
 use Rattle.lk_link.specs.NumberedSymbols.{symbol_of}
-use Rattle.lk_reach.specs.Units.{all_of, numbered_symbols, symbol_asks}
+use Rattle.lk_reach.specs.Units.{numbered_symbols, symbol_asks}
 use Rattle.lk_reach.proofs.Numbered.{are_numbered}
 use Rattle.lk_reach.proofs.SymbolNumbers.{none_known, one_known}
 use Rattle.lk_reach.proofs.reaching.symbol_asks.Goals as goal

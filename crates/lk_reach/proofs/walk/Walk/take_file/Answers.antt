@@ -1,8 +1,7 @@
-use Rattle.std.proofs.Common.{◌≡◌, ◌++◌, true, List, [], sym, ap, ◌∙◌, subst}
+use Rattle.std.proofs.Common.{◌≡◌, ◌++◌, true, [], sym, ◌∙◌, subst}
 use Rattle.std.specs.List.{All}
 use Rattle.lk_link.specs.FileKinds.{is_script}
 use Rattle.lk_link.specs.Walks.{file_of}
-use Rattle.lk_reach.specs.declared.units.Ask.{Ask}
 use Rattle.lk_reach.specs.Marks.{IsInside}
 use Rattle.lk_reach.specs.Units.{file_roots, location_asks, wanted_symbol_asks}
 use Rattle.lk_reach.specs.Walking.{Adds}

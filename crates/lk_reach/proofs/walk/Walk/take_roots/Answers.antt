@@ -1,4 +1,4 @@
-use Rattle.std.proofs.Common.{◌≡◌, List, ◌++◌, map, sym, subst}
+use Rattle.std.proofs.Common.{List, ◌++◌, map, sym, subst}
 use Rattle.std.specs.List.{flat_map}
 use Rattle.lk_link.specs.declared.walks.FileRef.{FileRef}
 use Rattle.lk_link.specs.Inputs.{numbered_files}
