@@ -1,4 +1,4 @@
-"""What whole links are made of, in three forms: with everything that real ones have, and with what is laid out."""
+"""What whole links are made of, in four forms: with everything that real ones have, and with what is laid out."""
 
 from attributes import ALLOCATED, EXECUTABLE, THREAD_LOCAL, WRITABLE, ZERO_FILL
 
@@ -16,6 +16,7 @@ class Form:
     def __init__(self, outputs, segments, inputs, kinds, options, extras=()):
         self.outputs, self.segments, self.options = outputs, segments, options
         self.extras = frozenset(extras)
+        self.lines = inputs
         self.inputs = [line[1:] for line in inputs for _ in range(line[0])]
         self.pairs = kinds
         self.kinds = [pair for pair, weight in kinds for _ in range(weight)]
@@ -158,4 +159,17 @@ GROUPED = Form(
     kinds=LINKED.pairs,
     options=LINKED.options,
     extras=("groups", "dynamic", "common"),
+)
+
+# A shared object: what `GROUPED` has, thread-local data, and a part for each table. Every symbol that others may name is exported.
+TABLED = Form(
+    outputs=WHOLE.outputs,
+    segments=WHOLE.segments,
+    inputs=WHOLE.lines,
+    kinds=WHOLE.pairs,
+    options=(
+        '{"output":"shared","gc":true,"discard":"default","strip_names":["__unused_start","__unused_end"],'
+        '"identity":"measured","stack":8388608,"entry":%d}'
+    ),
+    extras=GROUPED.extras,
 )

@@ -21,13 +21,14 @@ file of it is held at a time. SHAPE says what the bytes go to:
     empty     sections without data that are merged
     named     strings that are merged, each with a symbol that a relocation names
     grouped   linked ones with section groups, merge data, debug data, dynamic files and commons
-    whole     the same with tables, a script, and symbols of the linker
+    tabled    the same, thread-local data, and all tables, of which a good part of the symbols has entries
+    whole     the same with a script, and symbols of the linker, but without commons
     candidates  symbols at the start of one output section, and as many sections that each of them asks for
     moves     output sections, up to the limit, each at a location of an expression of depth 50
     regions   output sections in 64 regions, each with a load address
     secondary output sections of which three in four are secondary
 
-The last five shapes aren't laid out yet, but read and checked; the others are laid out.
+`whole` and `candidates` aren't laid out yet, but read and checked; the others are laid out.
 """
 
 import math
@@ -35,7 +36,7 @@ import random
 import sys
 
 from attributes import ALLOCATED, EXECUTABLE, WRITABLE, ZERO_FILL
-from forms import GROUPED, LINKED, WHOLE
+from forms import GROUPED, LINKED, TABLED, WHOLE
 from merges import MERGES, put_merges
 from plans import PLANS, put_plans
 from ways import put_candidates, put_exports, put_ways
@@ -46,7 +47,7 @@ BASE = 4194304
 MOST_BYTES = 500_000_000
 MOST_OUTPUT_SECTIONS = 65_000
 MOST_SEGMENTS = 8
-FORMS = {"linked": LINKED, "grouped": GROUPED, "whole": WHOLE}
+FORMS = {"linked": LINKED, "grouped": GROUPED, "tabled": TABLED, "whole": WHOLE}
 WAYS = ("chain", "star")
 SHAPES = ("objects", "plan", "files", "single", *WAYS, "exports", "candidates", *MERGES, *FORMS, *PLANS)
 

@@ -1,7 +1,7 @@
 """Links with many output sections that a plan moves: by locations, into regions, and as parts of others."""
 
 OBJECT_BYTES = 45  # of an input section
-MOST_SECTIONS = 65_000
+MOST_SECTIONS = 65_000  # the limit is 65,279
 DEPTH = 50
 REGIONS = 64
 # Names of the shapes, in the order in which they are measured.
@@ -10,15 +10,19 @@ PLANS = ("moves", "regions", "secondary")
 PRELUDE = '[{"kind":"prelude"}],[{"kind":"script"}]'
 
 
-def location_text(number):
+def deep_text(first):
     """An expression that is as deep as that, a little behind the location."""
     text = '["dot"]'
     for level in range(1, DEPTH):
         if level % 2:
             text = '["max",%s,["sym",0]]' % text
         else:
-            text = '["add",["num",%d],%s]' % ((number + level) % 3, text)
+            text = '["add",["num",%d],%s]' % ((first + level) % 3, text)
     return text
+
+
+# Three of them, for section after section.
+LOCATIONS = tuple(map(deep_text, range(3)))
 
 
 def section_texts(shape, count):
@@ -41,7 +45,7 @@ def event_texts(shape, count):
     yield '["seg",0]'
     for number in range(count):
         if shape == "moves":
-            yield '["loc",%s]' % location_text(number)
+            yield '["loc",%s]' % LOCATIONS[number % 3]
         yield '["sec",%d]' % number
     yield '["endseg",0]'
 
@@ -54,7 +58,7 @@ def region_texts():
 
 def section_count(total, shape):
     """The number of output sections of a description of `total` bytes."""
-    one = {"moves": 30 + len(location_text(0)), "regions": 100, "secondary": 75}[shape] + OBJECT_BYTES + 10
+    one = {"moves": 30 + len(LOCATIONS[0]), "regions": 100, "secondary": 75}[shape] + OBJECT_BYTES + 10
     return max(4, min(MOST_SECTIONS, total // one))
 
 

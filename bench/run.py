@@ -18,7 +18,8 @@ output sections that the plan moves.
 With --long, each description has one list that is as long as it may be, or millions long. The run fails
 where the program crashes, runs out of its stack of 8 MB or answers something else.
 
-With --memory, glibc counts what the program holds of memory over some descriptions of 10 MB.
+With --memory, glibc counts what the program holds of memory over some descriptions of 10 MB, or of as much of
+it as the limit of output sections lets there be.
 """
 
 import hashlib
@@ -38,7 +39,7 @@ HERE = os.path.dirname(os.path.abspath(__file__))
 DEFAULT_PROGRAM = os.path.join(HERE, "..", "crates", "lk_program", "out", "lk_program")
 DEFAULT_MEGABYTES = (1, 10, 100)
 SHAPE_MEGABYTES = (1, 4)
-LARGE_SHAPES = ("objects", "linked", "grouped", "chain", "star", "exports")
+LARGE_SHAPES = ("objects", "linked", "grouped", "tabled", "chain", "star", "exports")
 CHECKED_SHAPES = ("whole", "candidates")
 PLAN_MEGABYTES = (1, 4, 16)
 SMALL_SHAPES = ("plan", "files", "single")
@@ -88,6 +89,8 @@ bytes for each section and 24 for each symbol; room: that of the report, as a mu
 at most 1.
 """
 MEMORY_BYTES = 10_000_000
+# How the placement of a symbol begins; the load address of an output section has the same key.
+SYMBOL_PLACES = tuple(b'"at":["%s"' % kind for kind in (b"sec", b"common", b"abs", b"undef", b"dyn"))
 CHECKED_COLUMNS = (
     *(("ms/MB", 7), ("x wc -l", 8), ("read", 7), ("check", 6), ("growth", 11), ("peak", 8)),
     ("read peak", 10),
@@ -328,7 +331,8 @@ def memory_row(program, folder, shape):
     path, output = os.path.join(folder, "description"), os.path.join(folder, "output")
     generate(path, MEMORY_BYTES, shape)
     size = os.path.getsize(path)
-    sections, symbols = count_texts(path, b'"slot":', b'"at":')
+    sections, *placed = count_texts(path, b'"slot":', *SYMBOL_PLACES)
+    symbols = sum(placed)
     held = memory.held([program, "layout", "0"], path, output, os.path.join(folder, "trace"))
     return (
         "%.1f" % (size / 1e6),
@@ -345,7 +349,7 @@ def memory_row(program, folder, shape):
 
 def measure_memory(program, folder):
     print_headings(MEMORY_COLUMNS)
-    for shape in LARGE_SHAPES:
+    for shape in (*LARGE_SHAPES, *PLANS):
         print_line(MEMORY_COLUMNS, (shape, *memory_row(program, folder, shape)))
     print(MEMORY_LEGEND)
 
