@@ -1,5 +1,5 @@
 -- The references that are told are those that can't be met.
-use Rattle.std.proofs.Common.{◌≡◌, ℕ, zero, suc, ◌+◌, ◌<◌, Bool, true, false, if◌then◌else◌, ◌&&◌, ◌==◌, not, List, [], ◌∷◌, length, Option, Some, None, unwrap_or, refl, sym, ap, ◌∙◌, subst, inl, inr, ◌⊎◌, ◌↔◌, arith}
+use Rattle.std.proofs.Common.{◌≡◌, ℕ, zero, suc, ◌+◌, ◌<◌, Bool, true, false, if◌then◌else◌, ◌&&◌, ◌==◌, not, List, [], ◌∷◌, length, Option, Some, None, unwrap_or, refl, sym, ap, ◌∙◌, subst, inl, inr, ◌↔◌, arith}
 use Rattle.std.specs.List.{Contains, cons_option, enumerate_from, filter_map, slice_get}
 use Rattle.std.specs.Option.{option_map_or}
 use Rattle.std.proofs.lemmas.Option.{slice_get_within}
@@ -33,26 +33,14 @@ use Rattle.lk_reach.specs.Marks.{reached_marks, unit_number}
 use Rattle.lk_reach.specs.Units.{local_definition}
 use Rattle.lk_reach.proofs.Numbered.{file_at}
 use Rattle.lk_reach.proofs.ReachLemmas.{marks_are_reached}
+use Rattle.lk_reach.proofs.Rising.{filter_map_at}
 use Rattle.lk_reach.proofs.UnitLemmas.{section_unit}
 
 -- ---- lists of what there may be
 
-by_option : {Y : Type 0} (o : Option Y) (ys : List Y) (k : ℕ) (y : Y) → slice_get (cons_option o ys) k ≡ Some y → (o ≡ Some y) ⊎ ((j : ℕ) × (slice_get ys j ≡ Some y))
-by_option None ys k y h = inr (k, h)
-by_option (Some z) ys zero y h = inl h
-by_option (Some z) ys (suc k) y h = inr (k, h)
-
 behind : {Y : Type 0} (o : Option Y) (ys : List Y) (k : ℕ) (y : Y) → slice_get ys k ≡ Some y → (j : ℕ) × (slice_get (cons_option o ys) j ≡ Some y)
 behind None ys k y h = (k, h)
 behind (Some z) ys k y h = (suc k, h)
-
--- where an element of a list of what there may be comes from
-pub filter_map_at : {X Y : Type 0} (f : X → Option Y) (xs : List X) (k : ℕ) (y : Y) → slice_get (filter_map f xs) k ≡ Some y → (j : ℕ) × (x : X) × (slice_get xs j ≡ Some x) × (f x ≡ Some y)
-filter_map_at f [] k y h = absurd (cc)
-filter_map_at f (x ∷ xs) k y h = elim (by_option (f x) (filter_map f xs) k y h) [
-  | inl own ↦ (0, x, refl, own)
-  | inr rest ↦ let r = filter_map_at f xs rest.0 y rest.1 in (suc r.0, r.1, r.2, r.3)
-]
 
 filter_map_in : {X Y : Type 0} (f : X → Option Y) (xs : List X) (j : ℕ) (x : X) (y : Y) → slice_get xs j ≡ Some x → f x ≡ Some y → (k : ℕ) × (slice_get (filter_map f xs) k ≡ Some y)
 filter_map_in f [] j x y h e = absurd (cc)

@@ -12,7 +12,7 @@ use Rattle.lk_link.specs.Marks.{is_marked}
 use Rattle.lk_link.specs.Symbols.{all_symbols}
 use Rattle.lk_link.specs.Walks.{input_of}
 use Rattle.lk_gc.specs.declared.live.Live.{Live}
-use Rattle.lk_gc.specs.Primary.{IsInputOf, is_primary_symbol, primary_symbols}
+use Rattle.lk_gc.specs.PrimaryMarks.{IsInputOf, is_primary_symbol, primary_symbols}
 use Rattle.lk_gc.specs.Reach.{live_inputs, marked}
 use Rattle.lk_reach.specs.Units.{numbered_symbols, symbols_of}
 use Rattle.lk_reach.proofs.LiveWalk.{turn}

@@ -14,7 +14,8 @@ use Rattle.lk_link.specs.NumberedSymbols.{numbered_symbols}
 use Rattle.lk_link.specs.Symbols.{first_symbol}
 use Rattle.lk_link.proofs.Elements.{at_contained, contains_at}
 use Rattle.lk_gc.specs.declared.live.Live.{Live}
-use Rattle.lk_gc.specs.Primary.{IsInPrimaryPart, IsNamedElsewhere, is_primary_symbol, names_primary, names_symbol, primary_symbols}
+use Rattle.lk_gc.specs.Primary.{IsInPrimaryPart, IsNamedElsewhere}
+use Rattle.lk_gc.specs.PrimaryMarks.{is_primary_symbol, names_primary, names_symbol, primary_symbols}
 use Rattle.lk_gc.specs.Reach.{live_inputs}
 use Rattle.lk_reach.specs.Placements.{section_of}
 use Rattle.lk_reach.specs.Units.{is_primary_section, local_definition}

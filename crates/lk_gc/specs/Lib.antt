@@ -3,6 +3,7 @@ pub mod Faults
 pub mod KeptParts
 pub mod Laws
 pub mod Primary
+pub mod PrimaryMarks
 pub mod Reach
 pub mod Slots
 pub mod StateTexts

@@ -18,9 +18,9 @@ pub enum ReferenceFault {
 
 /// An input section, by its file and its index there.
 #[derive(Clone, Copy)]
-struct InputAt {
-    file: FileId,
-    section: u32,
+pub struct InputAt {
+    pub file: FileId,
+    pub section: u32,
 }
 
 /// As `1 0 2`: group, file and section.

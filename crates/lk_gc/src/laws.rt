@@ -6,8 +6,8 @@ ghost use Rattle.lk_gc.specs.Laws.{AllIsLive, AskedForIsLive, GroupsStayTogether
 use lk_link::file::group_members_rise;
 pub use lk_reach::laws::{
     asks_are_inside, closed_and_reached_is_all, closed_marks_hold_reach, closed_words_hold_flags,
-    marks_are_reached, more_roots_reach_more, reach_is_closed, resolved_is_reached,
-    words_are_flags,
+    marks_are_reached, more_roots_reach_more, reach_is_closed, reached_stand_for_themselves,
+    resolved_is_reached, words_are_flags,
 };
 
 /// A law: every well-formed link has its live sections.

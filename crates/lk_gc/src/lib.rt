@@ -12,7 +12,7 @@ pub mod states;
 pub mod traversal;
 pub mod work;
 
-pub use error::{GcError, ReferenceFault};
+pub use error::{GcError, InputAt, ReferenceFault};
 pub use laws::{live_exists, live_is_one};
 pub use live::{Live, LiveInputs};
 pub use lk_reach::{

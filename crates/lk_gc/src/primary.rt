@@ -8,7 +8,8 @@ ghost use Rattle.lk_link.specs.Walks.{input_of};
 ghost use Rattle.lk_link.specs.WellFormed.{IsWellFormed};
 ghost use Rattle.lk_link.specs.declared.relocation.Relocation.{Relocation};
 ghost use Rattle.lk_link.specs.declared.symbol.InputSymbol.{InputSymbol};
-ghost use Rattle.lk_gc.specs.Primary.{ArePrimaryReferences, IsInputOf, is_primary_symbol, names_primary, names_symbol, primary_symbols};
+ghost use Rattle.lk_gc.specs.Primary.{ArePrimaryReferences};
+ghost use Rattle.lk_gc.specs.PrimaryMarks.{IsInputOf, is_primary_symbol, names_primary, names_symbol, primary_symbols};
 
 use crate::live::Live;
 use lk_link::marks::is_marked;

@@ -38,8 +38,9 @@ pub trait HandlerData {
 
 /// A file that loads what its symbols need (libwild: `SymbolRequestHandler`).
 pub trait SymbolRequestHandler: fmt::Display + HandlerData {
-    /// Adds to the queue what a symbol of the file asks for, if the symbol stands for itself: its sections to be loaded, and the
-    /// symbols that it refers to, to be loaded or exported. It sets no flags. Without memory the queue stays as it is.
+    /// Adds to the queue what a symbol of the file asks for, if the symbol stands for itself, as each that is reached does by a
+    /// law: its sections to be loaded, and the symbols that it refers to, to be loaded or exported. It sets no flags. Without
+    /// memory the queue stays as it is.
     fn load_symbol(
         &self,
         symbol: SymbolId,

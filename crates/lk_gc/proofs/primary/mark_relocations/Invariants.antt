@@ -1,7 +1,7 @@
 use Rattle.std.proofs.Common.{◌≡◌, ℕ, ◌<◌, ◌||◌, length, take}
 use Rattle.std.specs.List.{list_any}
 use Rattle.lk_link.specs.Marks.{is_marked}
-use Rattle.lk_gc.specs.Primary.{names_symbol}
+use Rattle.lk_gc.specs.PrimaryMarks.{names_symbol}
 use Rattle.lk_gc.proofs.primary.mark_relocations.Given as goal
 
 -- what the relocations so far name is marked

@@ -2,7 +2,7 @@ use Rattle.std.proofs.Common.{rules, ◌≡◌, ◌<◌, ◌||◌, Bool, List, f
 use Rattle.std.proofs.lemmas.List.{length-replicate}
 use Rattle.lk_link.specs.Marks.{is_marked}
 use Rattle.lk_link.specs.Walks.{input_of}
-use Rattle.lk_gc.specs.Primary.{names_primary, primary_symbols}
+use Rattle.lk_gc.specs.PrimaryMarks.{names_primary, primary_symbols}
 use Rattle.lk_gc.specs.Reach.{live_inputs}
 use Rattle.std.specs.List.{list_any}
 use Rattle.lk_reach.proofs.LiveWalk.{finish}

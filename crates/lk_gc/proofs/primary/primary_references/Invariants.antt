@@ -3,7 +3,7 @@ use Rattle.std.specs.List.{list_any}
 use Rattle.lk_link.specs.Marks.{is_marked}
 use Rattle.lk_link.specs.Symbols.{all_symbols}
 use Rattle.lk_link.specs.Walks.{input_of}
-use Rattle.lk_gc.specs.Primary.{names_primary, primary_symbols}
+use Rattle.lk_gc.specs.PrimaryMarks.{names_primary, primary_symbols}
 use Rattle.lk_gc.proofs.primary.primary_references.Given as goal
 
 -- what the live sections so far name is marked

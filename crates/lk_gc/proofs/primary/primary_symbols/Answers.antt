@@ -1,7 +1,7 @@
 use Rattle.std.proofs.Common.{List, map, ap, ◌∙◌}
 use Rattle.std.specs.List.{flat_map}
 use Rattle.lk_link.specs.Inputs.{NumberedFile, numbered_files}
-use Rattle.lk_gc.specs.Primary.{is_primary_symbol}
+use Rattle.lk_gc.specs.PrimaryMarks.{is_primary_symbol}
 use Rattle.lk_reach.proofs.Numbered.{are_numbered}
 use Rattle.lk_gc.proofs.PrimaryLemmas.{primary_whole}
 use Rattle.lk_reach.proofs.WalkLemmas.{all_files_done}

@@ -1,7 +1,7 @@
 use Rattle.std.proofs.Common.{◌≡◌, map}
 use Rattle.std.specs.List.{flat_map}
 use Rattle.lk_link.specs.Walks.{file_of}
-use Rattle.lk_gc.specs.Primary.{is_primary_symbol}
+use Rattle.lk_gc.specs.PrimaryMarks.{is_primary_symbol}
 use Rattle.lk_gc.proofs.primary.primary_symbols.Given as goal
 
 -- the symbols of the files so far

@@ -1,5 +1,5 @@
 use Rattle.std.proofs.Common.{◌≡◌, ◌++◌, drop, map}
-use Rattle.lk_gc.specs.Primary.{is_primary_symbol}
+use Rattle.lk_gc.specs.PrimaryMarks.{is_primary_symbol}
 use Rattle.lk_gc.proofs.primary.push_primary.Given as goal
 
 -- the marks so far, followed by those of the symbols that are left, are all
