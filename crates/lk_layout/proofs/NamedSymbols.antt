@@ -27,7 +27,7 @@ use Rattle.lk_link.specs.NumberedSymbols.{numbered_symbols}
 use Rattle.lk_merge.specs.Addresses.{image_start}
 use Rattle.lk_merge.specs.Hash.{fnv64}
 use Rattle.lk_merge.specs.LinkInputs.{link_inputs, merge_input, merge_inputs}
-use Rattle.lk_merge.specs.OffsetsOutside.{may_stand_outside, stands_outside}
+use Rattle.lk_merge.specs.OffsetsOutside.{is_symbol_outside, stands_outside}
 use Rattle.lk_merge.specs.OutputAddresses.{MergePlace, address_in, merge_place, offset_place, output_of, placed_in, symbol_place}
 use Rattle.lk_merge.specs.Pieces.{MergeInput, is_terminated}
 use Rattle.lk_merge.proofs.AddressLemmas.{starts_at}
@@ -104,7 +104,7 @@ stands_inside link live id file i offset k x section s resolved inside =
           let number : ℕ = first + k in
           let f : NumberedFile = record { id = id; file = file } in
           let outside : stands_outside link number ≡ true
-          = ap may_stand_outside (names link id file i offset k x section s)
+          = ap is_symbol_outside (names link id file i offset k x section s)
           ∙ ap not (past_tells offset (length section.bytes) past) in
           let one : slice_get (symbol_outside link live file.kind (number, x)) 0 ≡ Some (OfSymbol number)
           = ap (λ b. slice_get (if b && stands_outside link number then OfSymbol number ∷ [] else []) 0) resolved

@@ -20,7 +20,7 @@ use Rattle.lk_gc.specs.declared.live.Live.{Live}
 use Rattle.lk_reach.specs.Units.{local_definition}
 use Rattle.lk_link.specs.Parts.{part_sections}
 use Rattle.lk_merge.specs.LinkInputs.{link_inputs, merge_inputs}
-use Rattle.lk_merge.specs.OffsetsOutside.{may_choose_outside, may_stand_outside, refers_outside, stands_outside}
+use Rattle.lk_merge.specs.OffsetsOutside.{is_reference_outside, is_symbol_outside, refers_outside, stands_outside}
 use Rattle.lk_merge.specs.OutputAddresses.{MergePlace, output_of, symbol_place}
 use Rattle.lk_merge.specs.Pieces.{MergeInput}
 use Rattle.lk_merge.proofs.SymbolPlaces.{is_input, output_at}
@@ -67,10 +67,10 @@ module _ (link : LinkInput) (good : IsWellFormed link) (none : list_any (λ xs. 
   no_place s = elsewhere s (symbol_place link.groups s) refl
 
   stands_nowhere : (s : ℕ) → stands_outside link s ≡ false
-  stands_nowhere s = ap may_stand_outside (no_place s)
+  stands_nowhere s = ap is_symbol_outside (no_place s)
 
   refers_nowhere : (s : ℕ) (addend : ℤ) → refers_outside link s addend ≡ false
-  refers_nowhere s addend = ap (may_choose_outside addend) (no_place s)
+  refers_nowhere s addend = ap (is_reference_outside addend) (no_place s)
 
   -- what also asks for it isn't so
   not_both : {X : Type 0} (a b : Bool) (xs : List X) → b ≡ false → (if a && b then xs else []) ≡ []

@@ -22,7 +22,7 @@ use Rattle.lk_merge.specs.declared.output_address.OffsetPastEnd.{OffsetPastEnd}
 use Rattle.lk_merge.specs.Addresses.{image_start}
 use Rattle.lk_merge.specs.Hash.{fnv64}
 use Rattle.lk_merge.specs.LinkInputs.{link_inputs, merge_input, merge_inputs}
-use Rattle.lk_merge.specs.OffsetsOutside.{may_choose_outside, refers_outside}
+use Rattle.lk_merge.specs.OffsetsOutside.{is_reference_outside, refers_outside}
 use Rattle.lk_merge.specs.OutputAddresses.{MergePlace, address_in, chosen_offset, offset_place, output_of, past_end, plus_addend, reference_address, symbol_place}
 use Rattle.lk_merge.specs.Pieces.{MergeInput, is_terminated}
 use Rattle.lk_merge.proofs.SymbolPlaces.{is_input, output_at}
@@ -72,7 +72,7 @@ chosen_inside link live id file i k r place is names inside =
       | inl below ↦ below
       | inr past ↦
           let outside : refers_outside link (local_definition (first_symbol link.groups id) file.symbols r.symbol) r.addend ≡ true
-          = ap (may_choose_outside r.addend) names
+          = ap (is_reference_outside r.addend) names
           ∙ ap not (past_tells (chosen_offset place r.addend) (length place.section.bytes) past) in
           let found = found_outside link live id file i k r is outside in
           absurd (has_none (merge_offsets link live) found.0 (OfRelocation id i k) inside found.1)

@@ -46,7 +46,7 @@ concat-append (x ∷ xs) ys = ap (λ l. x ++ l) (concat-append xs ys) ∙ sym (a
 
 -- ---- those before which no equal one stands
 
-firsts_none : (before : List Piece) → firsts_behind before [] ≡ []
+pub firsts_none : (before : List Piece) → firsts_behind before [] ≡ []
 unfolding firsts_behind
 firsts_none before = refl
 

@@ -8,7 +8,7 @@ use Rattle.lk_merge.specs.declared.merging.Merging.{Merging as Merges}
 use Rattle.lk_merge.specs.Buckets.{empty_bucket}
 use Rattle.lk_merge.specs.Hash.{fnv64}
 use Rattle.lk_merge.specs.Image.{firsts_behind, bucket_list}
-use Rattle.lk_merge.specs.Merging.{bucket_refusal, first_too_long}
+use Rattle.lk_merge.specs.Merging.{bucket_refusal}
 use Rattle.lk_merge.specs.MergingTables.{HasTaken, HasMerged}
 
 -- a bucket before its first piece
@@ -20,7 +20,6 @@ unfolding firsts_behind
 no_list b = refl
 
 pub fine : (section limit b : ℕ) → bucket_refusal section limit b [] ≡ None
-unfolding first_too_long
 fine section limit b = refl
 
 took_none : (section limit b : ℕ) → HasTaken section limit b (bucket_list fnv64 [] b) (empty_state section limit b)

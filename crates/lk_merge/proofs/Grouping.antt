@@ -8,9 +8,9 @@ use Rattle.std.proofs.lemmas.Option.{get_or_from_slice_get, slice_get-map, slice
 use Rattle.lk_link.proofs.Elements.{at_index}
 use Rattle.lk_merge.specs.declared.groups.SectionGroup.{SectionGroup}
 use Rattle.lk_merge.specs.declared.inputs.StringMergeInputSection.{StringMergeInputSection}
-use Rattle.lk_merge.specs.Groups.{AreGroups, CutsNoConstant, IsGroupEnd, input_start}
+use Rattle.lk_merge.specs.Groups.{AreGroups, CutsNoConstant, IsGroupEnd}
 use Rattle.lk_merge.specs.GroupTables.{IsInputAt}
-use Rattle.lk_merge.specs.Inputs.{AreInputs, input_of, padded_len, padded_total}
+use Rattle.lk_merge.specs.Inputs.{AreInputs, input_of, input_start, padded_len, padded_total}
 use Rattle.lk_merge.specs.Pieces.{MergeInput}
 use Rattle.lk_merge.proofs.Finding.{starts_behind}
 use Rattle.lk_merge.proofs.LocatedLemmas.{slice_within}

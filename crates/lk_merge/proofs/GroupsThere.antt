@@ -4,9 +4,9 @@ use Rattle.std.proofs.lemmas.Bool.{cases_lt}
 use Rattle.std.proofs.lemmas.List.{take_all}
 use Rattle.lk_link.proofs.Elements.{at_index}
 use Rattle.lk_merge.specs.declared.groups.SectionGroup.{SectionGroup}
-use Rattle.lk_merge.specs.Groups.{AreGroups, IsGroupEnd, input_start}
+use Rattle.lk_merge.specs.Groups.{AreGroups, IsGroupEnd}
 use Rattle.lk_merge.specs.GroupTables.{IsInputAt}
-use Rattle.lk_merge.specs.Inputs.{padded_len, padded_total}
+use Rattle.lk_merge.specs.Inputs.{input_start, padded_len, padded_total}
 use Rattle.lk_merge.specs.Pieces.{MergeInput}
 use Rattle.lk_merge.proofs.Grouping.{end_at, end_behind, end_total, groups_end, groups_more, next_start}
 

@@ -18,6 +18,7 @@ pub mod InputLemmas
 pub mod InputWalk
 pub mod LaidOut
 pub mod LocatedLemmas
+pub mod Locating
 pub mod MergeBytes
 pub mod MergedLemmas
 pub mod MergedReferences

@@ -13,13 +13,13 @@ use Rattle.lk_merge.specs.declared.merging.Merging.{Merging as Merges}
 use Rattle.lk_merge.specs.declared.offset_map.PieceEntry.{PieceEntry}
 use Rattle.lk_merge.specs.Buckets.{Bucket}
 use Rattle.lk_merge.specs.Hash.{fnv64}
-use Rattle.lk_merge.specs.Image.{all_buckets, all_pieces, bucket_list}
+use Rattle.lk_merge.specs.Image.{all_buckets, all_pieces, bucket_list, in_bucket}
 use Rattle.lk_merge.specs.Inputs.{Located, located}
 use Rattle.lk_merge.specs.MergedTables.{IsMerged}
 use Rattle.lk_merge.specs.Merging.{bucket_refusal, first_of, kept_lists, long_refusal}
 use Rattle.lk_merge.specs.MergingTables.{AllFit, GivesFitting, HasMerged, entry_of, pieces_in}
 use Rattle.lk_merge.specs.Pieces.{Piece, MergeInput, is_terminated}
-use Rattle.lk_merge.proofs.TooLong.{fits_from_none, none_first, some_first, unrefused_list}
+use Rattle.lk_merge.proofs.TooLong.{none_first, some_first, unrefused_fits}
 use Rattle.lk_merge.proofs.Beginning.{no_list}
 use Rattle.lk_link.proofs.Elements.{map_at}
 use Rattle.lk_merge.proofs.InputLemmas.{located_none, pieces_located_from}
@@ -78,7 +78,7 @@ module _ (section limit : ℕ) (done : List Located) (merging : Merges) (h : Has
       ∙ length-map merging.buckets.items (λ (s : BucketState). s.bucket) ∙ h.count) (λ k small. list_at fit k small)
 
   pub lists_small : limit ≤ 2 ^ 28 → AllFit section limit pieces → (b : ℕ) → b < 16 → length (concat (bucket_list fnv64 pieces b)) ≤ 2 ^ 28
-  lists_small small fit b below = let n = fits_from_none limit 0 (bucket_list fnv64 pieces b) (omega arith) (unrefused_list section limit b (bucket_list fnv64 pieces b) (fit b below)) in omega (arith, n)
+  lists_small small fit b below = let n = unrefused_fits section limit b (in_bucket fnv64 b pieces) (fit b below) in omega (arith, n)
 
 kept_lists_some : (inputs : List MergeInput) → length inputs ≢ 0 → kept_lists fnv64 inputs ≡ map (bucket_list fnv64 (all_pieces inputs)) all_buckets
 kept_lists_some [] h = absurd (h refl)

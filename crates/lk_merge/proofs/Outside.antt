@@ -4,7 +4,7 @@ use Rattle.std.specs.Prelude.{ℤ, ◌&&◌, not, pos}
 use Rattle.std.specs.Option.{option_map_or}
 use Rattle.lk_link.specs.declared.link.LinkInput.{LinkInput}
 use Rattle.lk_merge.specs.declared.output_address.OffsetPastEnd.{OffsetPastEnd}
-use Rattle.lk_merge.specs.OffsetsOutside.{OutsideIsRefused, may_choose_outside, may_stand_outside}
+use Rattle.lk_merge.specs.OffsetsOutside.{OutsideIsRefused, is_reference_outside, is_symbol_outside}
 use Rattle.lk_merge.specs.OutputAddresses.{MergePlace, chosen_offset, past_end, plus_addend, reference_address, symbol_place}
 
 -- the address at n of a reference, by whether it chooses an offset inside
@@ -41,19 +41,19 @@ module _ (link : LinkInput) (starts : ℕ → ℕ) where
   abbrev is_inside : MergePlace → ℤ → Bool
   is_inside place addend = ltb (chosen_offset place addend) (length place.section.bytes)
 
-  refers : (addend : ℤ) (o : Option MergePlace) → may_choose_outside addend o ≡ true → option_map_or (reference_address link starts addend false) o (Ok None) ≡ Err past_end
+  refers : (addend : ℤ) (o : Option MergePlace) → is_reference_outside addend o ≡ true → option_map_or (reference_address link starts addend false) o (Ok None) ≡ Err past_end
   refers addend None h = absurd (cc)
   refers addend (Some place) h = refused_by _ addend place.named (is_inside place addend) h
 
-  refused : (addend : ℤ) (o : Option MergePlace) → option_map_or (reference_address link starts addend false) o (Ok None) ≡ Err past_end → may_choose_outside addend o ≡ true
+  refused : (addend : ℤ) (o : Option MergePlace) → option_map_or (reference_address link starts addend false) o (Ok None) ≡ Err past_end → is_reference_outside addend o ≡ true
   refused addend None h = absurd (cc)
   refused addend (Some place) h = outside_by _ addend place.named (is_inside place addend) h
 
-  stands : (o : Option MergePlace) → may_stand_outside o ≡ true → option_map_or (reference_address link starts (pos 0) true) o (Ok None) ≡ Err past_end
+  stands : (o : Option MergePlace) → is_symbol_outside o ≡ true → option_map_or (reference_address link starts (pos 0) true) o (Ok None) ≡ Err past_end
   stands None h = absurd (cc)
   stands (Some place) h = valueless_by _ place.named (is_inside place (pos 0)) h
 
-  valueless : (o : Option MergePlace) → option_map_or (reference_address link starts (pos 0) true) o (Ok None) ≡ Err past_end → may_stand_outside o ≡ true
+  valueless : (o : Option MergePlace) → option_map_or (reference_address link starts (pos 0) true) o (Ok None) ≡ Err past_end → is_symbol_outside o ≡ true
   valueless None h = absurd (cc)
   valueless (Some place) h = stands_by _ place.named (is_inside place (pos 0)) h
 

@@ -14,10 +14,9 @@ use Rattle.lk_merge.specs.declared.inputs.StringMergeInputSection.{StringMergeIn
 use Rattle.lk_merge.specs.declared.offset_map.PieceEntry.{PieceEntry}
 use Rattle.lk_merge.specs.Addresses.{AreStartsOf, image_start}
 use Rattle.lk_merge.specs.Buckets.{Bucket}
-use Rattle.lk_merge.specs.Groups.{input_start}
 use Rattle.lk_merge.specs.Hash.{fnv64}
 use Rattle.lk_merge.specs.Image.{all_pieces, bucket_list, image_place, is_among, place_in}
-use Rattle.lk_merge.specs.Inputs.{AreInputs, input_of, padded_total}
+use Rattle.lk_merge.specs.Inputs.{AreInputs, input_of, input_start, padded_total}
 use Rattle.lk_merge.specs.LinkInputs.{link_inputs, merge_input, merge_inputs}
 use Rattle.lk_merge.specs.MergedTables.{IsMerged}
 use Rattle.lk_merge.specs.Merging.{found_place, last_from, place_at, place_of}

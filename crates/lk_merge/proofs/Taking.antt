@@ -1,6 +1,5 @@
 -- The state of a bucket with one more piece.
-use Rattle.std.proofs.Common.{◌≡◌, ℕ, ◌≤◌, Bool, true, false, cond, List, length, [], ◌∷◌, ◌++◌, Option, None, Some, Result, Ok, Err, is_some, refl, sym, ap, ◌∙◌, inl, inr, append_assoc, arith}
-use Rattle.std.specs.List.{concat}
+use Rattle.std.proofs.Common.{◌≡◌, ℕ, Bool, true, false, cond, List, [], ◌∷◌, ◌++◌, Option, None, Some, Result, Ok, Err, is_some, refl, sym, ap, ◌∙◌, inl, inr, append_assoc}
 use Rattle.std.proofs.lemmas.Bool.{true≢false}
 use Rattle.lk_merge.specs.declared.error.MergeError.{MergeError}
 use Rattle.lk_merge.specs.declared.error.MergeError.TheVariants.{NotTerminated, TooLarge, NoMemory}
@@ -10,7 +9,7 @@ use Rattle.lk_merge.specs.Image.{firsts_behind, is_among, place_in}
 use Rattle.lk_merge.specs.Merging.{bucket_refusal}
 use Rattle.lk_merge.specs.MergingTables.{HasTaken, StopsBefore}
 use Rattle.lk_merge.specs.Pieces.{Piece}
-use Rattle.lk_merge.proofs.TooLong.{fits_from_none, one_more, stays_refused, unrefused_list, wider_is}
+use Rattle.lk_merge.proofs.TooLong.{one_more, stays_refused, unrefused_fits, wider_is}
 
 -- one answer
 ok_same : (r : Result ℕ MergeError) (a b : ℕ) → r ≡ Ok a → r ≡ Ok b → a ≡ b
@@ -99,8 +98,6 @@ module _ (section limit b : ℕ) (pieces : List Piece) (p : Piece) (state : Buck
         | inl t ↦ absurd (ok_or_err (adding state.bucket p) place error (ap (λ k. adding k p) before ∙ t.answer) answer)
         | inr s ↦
             let same : error ≡ s.error = err_same (adding state.bucket p) error s.error answer (ap (λ k. adding k p) before ∙ s.answer) in
-            let ends = fits_from_none limit 0 (firsts_behind [] pieces) (omega arith) (unrefused_list section limit b (firsts_behind [] pieces) fine) in
-            let fits : length (concat (firsts_behind [] pieces)) ≤ limit = omega (arith, ends) in
             let later : Some error ≡ bucket_refusal section limit b wide = ap (λ (e : MergeError). Some e) same ∙ sym s.refusal in (
               record {
                 refusal = later;
@@ -110,7 +107,7 @@ module _ (section limit b : ℕ) (pieces : List Piece) (p : Piece) (state : Buck
                   piece = p;
                   rest = [];
                   split = s.more;
-                  fits = fits;
+                  fits = unrefused_fits section limit b pieces fine;
                   long = s.long;
                   holds = is ∙ before;
                 };

@@ -1,7 +1,6 @@
 -- Of the insides of groups: the input that an offset is in. Cited by private parts alone.
 use Rattle.std.specs.Prelude.{◌≡◌, ℕ, ◌+◌, ◌<◌, ◌≤◌, List, Some, slice_get}
-use Rattle.lk_merge.specs.Groups.{input_start}
-use Rattle.lk_merge.specs.Inputs.{padded_len}
+use Rattle.lk_merge.specs.Inputs.{input_start, padded_len}
 use Rattle.lk_merge.specs.Pieces.{MergeInput}
 
 -- the k-th input holds a padded offset

@@ -1,14 +1,10 @@
 -- Groups of inputs that are merged in one go.
-use Rattle.std.specs.Prelude.{◌≡◌, ℕ, ◌+◌, ◌<◌, ◌≤◌, ◌⊎◌, ◌&&◌, true, false, List, [], ◌∷◌, Some, filter, map, nat_le, nat_lt, slice_get, take}
+use Rattle.std.specs.Prelude.{◌≡◌, ℕ, ◌+◌, ◌<◌, ◌≤◌, ◌⊎◌, ◌&&◌, true, false, List, [], ◌∷◌, Some, filter, map, nat_le, nat_lt, slice_get}
 use Rattle.std.specs.List.{flat_map, list_all}
 use Rattle.lk_merge.specs.declared.groups.SectionGroup.{SectionGroup}
 use Rattle.lk_merge.specs.Image.{all_pieces}
-use Rattle.lk_merge.specs.Inputs.{located, padded_len, padded_total}
+use Rattle.lk_merge.specs.Inputs.{input_start, located, padded_len, padded_total}
 use Rattle.lk_merge.specs.Pieces.{Piece, MergeInput, is_terminated}
-
--- where the k-th of some inputs starts
-abbrev pub input_start : List MergeInput → ℕ → ℕ
-input_start inputs k = padded_total (take k inputs)
 
 -- a cut at an offset is strictly inside no input that is one constant
 abbrev pub CutsNoConstant : List MergeInput → ℕ → Type 0

@@ -1,11 +1,12 @@
 -- What merging makes of the inputs of an output section, or why it refuses them.
-use Rattle.std.specs.Prelude.{◌≡◌, ℕ, ◌+◌, ◌%◌, ◌==◌, not, List, [], ◌∷◌, Option, None, Some, Result, Ok, Err, if◌then◌else◌, length, map, nat_lt, option_and_then, option_map, position}
+use Rattle.std.specs.Prelude.{◌≡◌, ◌≢◌, ◌↔◌, ℕ, ◌+◌, ◌<◌, ◌%◌, ◌==◌, not, Bool, false, List, [], ◌∷◌, ◌++◌, Option, None, Some, Result, Ok, Err, if◌then◌else◌, find, length, map, nat_lt, option_and_then, option_map, position, slice_get}
+use Rattle.std.specs.List.{concat}
 use Rattle.lk_link.specs.Files.{first_some}
 use Rattle.lk_merge.specs.declared.error.MergeError.{MergeError}
 use Rattle.lk_merge.specs.declared.error.MergeError.TheVariants.{NotTerminated, TooLarge, NoMemory}
-use Rattle.lk_merge.specs.Buckets.{bucket_place}
-use Rattle.lk_merge.specs.Image.{bucket_list, all_buckets, all_pieces, piece_at, place_in}
-use Rattle.lk_merge.specs.Inputs.{padded_len}
+use Rattle.lk_merge.specs.Buckets.{Bucket, bucket_place, fits_behind}
+use Rattle.lk_merge.specs.Image.{bucket_list, all_buckets, all_pieces, is_among, piece_at, place_in}
+use Rattle.lk_merge.specs.Inputs.{input_start, padded_len}
 use Rattle.lk_merge.specs.Pieces.{Piece, MergeInput, is_terminated, pieces_of}
 
 -- ---- places
@@ -16,14 +17,17 @@ place_of hash pieces p = bucket_place (hash p % 16) (place_in (bucket_list hash 
 
 -- ---- refusals
 
--- the first of some pieces, the first of which starts at a place, that ends past the limit: where it starts, and its length
-unfoldable pub first_too_long : ℕ → ℕ → List Piece → Option (ℕ × ℕ)
-first_too_long limit at [] = None
-first_too_long limit at (p ∷ ps) = if nat_lt limit (at + length p) then Some (at, length p) else first_too_long limit (at + length p) ps
+-- whether one of the pieces that a bucket keeps ends past the limit
+abbrev pub is_too_long : ℕ → List Piece → Piece → Bool
+is_too_long limit kept p = nat_lt limit (place_in kept p + length p)
+
+-- the first of them that does: where it starts, and its length
+abbrev pub first_too_long : ℕ → List Piece → Option (ℕ × ℕ)
+first_too_long limit kept = option_map (λ p. (place_in kept p, length p)) (find (is_too_long limit kept) kept)
 
 -- the refusal of a bucket that would keep these pieces
 abbrev pub bucket_refusal : ℕ → ℕ → ℕ → List Piece → Option MergeError
-bucket_refusal section limit b kept = option_map (λ q. TooLarge section b q.0 q.1) (first_too_long limit 0 kept)
+bucket_refusal section limit b kept = option_map (λ q. TooLarge section b q.0 q.1) (first_too_long limit kept)
 
 -- the first answer among some things
 unfoldable pub first_of : {X Y : Type 0} → (X → Option Y) → List X → Option Y
@@ -66,3 +70,21 @@ last_from at (x ∷ xs) start = first_some (last_from (at + padded_len x) xs sta
 -- (libwild: `find_string`)
 abbrev pub found_place : (Piece → ℕ) → List MergeInput → ℕ → ℕ → Option ℕ
 found_place hash inputs start offset = option_and_then (λ x. place_at hash inputs x offset) (last_from 0 inputs start)
+
+-- ---- laws
+
+-- where none of what a bucket keeps is too long, one more piece fits behind it, or is the first that is too long
+abbrev pub FittingIsNotTooLong : Type 0
+FittingIsNotTooLong = (bucket : Bucket) (p : Piece) → is_among bucket.pieces p ≡ false → first_too_long bucket.limit bucket.pieces ≡ None
+    → first_too_long bucket.limit (bucket.pieces ++ p ∷ []) ≡ (if fits_behind bucket p then None else Some (length (concat bucket.pieces), length p))
+
+-- one of some inputs starts at an offset, and no later one does
+pub record IsLastStart (inputs : List MergeInput) (start : ℕ) (x : MergeInput) : Type 0 where
+  pub index : ℕ
+  pub there : slice_get inputs index ≡ Some x
+  pub starts : input_start inputs index ≡ start
+  pub last : (j : ℕ) (y : MergeInput) → index < j → slice_get inputs j ≡ Some y → input_start inputs j ≢ start
+
+-- just such an input is the last one from the first on
+abbrev pub LastStartIsFound : Type 0
+LastStartIsFound = (inputs : List MergeInput) (start : ℕ) (x : MergeInput) → (last_from 0 inputs start ≡ Some x) ↔ IsLastStart inputs start x

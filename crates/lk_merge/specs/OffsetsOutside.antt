@@ -9,20 +9,20 @@ abbrev pub chooses_outside : ℤ → MergePlace → Bool
 chooses_outside addend place = not (nat_lt (chosen_offset place addend) (length place.section.bytes))
 
 -- whether one to a symbol does, if it names such a place
-abbrev pub may_choose_outside : ℤ → Option MergePlace → Bool
-may_choose_outside addend place = option_map_or (chooses_outside addend) place false
+abbrev pub is_reference_outside : ℤ → Option MergePlace → Bool
+is_reference_outside addend place = option_map_or (chooses_outside addend) place false
 
 -- whether a symbol itself is placed so, if it names such a place: a named one; an unnamed one's value is 0
-abbrev pub may_stand_outside : Option MergePlace → Bool
-may_stand_outside place = option_map_or (λ p. p.named && chooses_outside (pos 0) p) place false
+abbrev pub is_symbol_outside : Option MergePlace → Bool
+is_symbol_outside place = option_map_or (λ p. p.named && chooses_outside (pos 0) p) place false
 
 -- whether a reference to the symbol with this number, with an addend, chooses an offset outside the data of a merged section
 abbrev pub refers_outside : LinkInput → ℕ → ℤ → Bool
-refers_outside link s addend = may_choose_outside addend (symbol_place link.groups s)
+refers_outside link s addend = is_reference_outside addend (symbol_place link.groups s)
 
 -- whether the symbol with this number has a name, and is placed outside the data of a merged section
 abbrev pub stands_outside : LinkInput → ℕ → Bool
-stands_outside link s = may_stand_outside (symbol_place link.groups s)
+stands_outside link s = is_symbol_outside (symbol_place link.groups s)
 
 -- ---- a law
 

@@ -2,7 +2,9 @@
 
 ghost use Rattle.lk_merge.specs.Groups.{GroupsCover};
 ghost use Rattle.lk_merge.specs.Image.{BucketsGrow};
+ghost use Rattle.lk_merge.specs.Inputs.{PiecesAreLocated};
 ghost use Rattle.lk_merge.specs.MergedReferences.{MergedReferencesShow};
+ghost use Rattle.lk_merge.specs.Merging.{FittingIsNotTooLong, LastStartIsFound};
 ghost use Rattle.lk_merge.specs.OffsetsOutside.{OutsideIsRefused};
 ghost use Rattle.lk_merge.specs.OutputAddresses.{MergedAddressesShow};
 ghost use Rattle.lk_merge.specs.Pieces.{PiecesAreOne};
@@ -17,6 +19,22 @@ pub fn pieces_are_one()
 /// no equal one stands.
 pub fn buckets_grow()
     ensures { BucketsGrow }
+{}
+
+/// A law: where none of what a bucket keeps is too long, one more piece fits behind it, or is the first that is too long.
+pub fn fitting_is_not_too_long()
+    ensures { FittingIsNotTooLong }
+{}
+
+/// A law: the pieces in their places are all pieces, in order, each as far behind its input's start as the pieces before it are
+/// long.
+pub fn pieces_are_located()
+    ensures { PiecesAreLocated }
+{}
+
+/// A law: the input that is found at an offset is one that starts there, and no later one does.
+pub fn last_start_is_found()
+    ensures { LastStartIsFound }
 {}
 
 /// A law: the image shows each piece at its place; two pieces with bytes have one place exactly where they are equal, and

@@ -4,7 +4,7 @@ ghost use Rattle.std.specs.Prelude.{◌≡◌, Some};
 ghost use Rattle.lk_link.specs.Files.{file_in};
 ghost use Rattle.lk_link.specs.Walks.{file_of};
 ghost use Rattle.lk_link.specs.WellFormed.{IsWellFormed};
-ghost use Rattle.lk_merge.specs.OffsetsOutside.{may_choose_outside, may_stand_outside, refers_outside};
+ghost use Rattle.lk_merge.specs.OffsetsOutside.{is_reference_outside, is_symbol_outside, refers_outside};
 ghost use Rattle.lk_merge.specs.OutputAddresses.{merge_place};
 
 use crate::output_address::{place_in, symbol_place};
@@ -32,7 +32,7 @@ pub fn refers_outside_in(
 ) -> bool
     requires well_formed { IsWellFormed link.now }
     requires there { file_in link.now.groups file.id ≡ Some file.file.now }
-    ensures { result ≡ may_choose_outside addend (merge_place link.now.groups (file_of file.entry, symbol.now)) }
+    ensures { result ≡ is_reference_outside addend (merge_place link.now.groups (file_of file.entry, symbol.now)) }
 {
     match place_in(link, file, symbol) {
         Some(place) => place.chooses_outside(addend),
@@ -44,7 +44,7 @@ pub fn refers_outside_in(
 pub fn stands_outside_in(link: &LinkInput, file: FileRef<'_>, symbol: &InputSymbol) -> bool
     requires well_formed { IsWellFormed link.now }
     requires there { file_in link.now.groups file.id ≡ Some file.file.now }
-    ensures { result ≡ may_stand_outside (merge_place link.now.groups (file_of file.entry, symbol.now)) }
+    ensures { result ≡ is_symbol_outside (merge_place link.now.groups (file_of file.entry, symbol.now)) }
 {
     match place_in(link, file, symbol) {
         Some(place) => place.is_named && place.chooses_outside(0),

@@ -7,7 +7,7 @@ ghost use Rattle.lk_merge.specs.Hash.{fnv64};
 ghost use Rattle.lk_merge.specs.Image.{all_pieces, bucket_list, image, image_pieces};
 ghost use Rattle.lk_merge.specs.MergedTables.{IsMerged};
 ghost use Rattle.lk_merge.specs.Merging.{found_place, kept_lists};
-ghost use Rattle.lk_merge.specs.Groups.{input_start};
+ghost use Rattle.lk_merge.specs.Inputs.{input_start};
 ghost use Rattle.lk_merge.specs.Pieces.{MergeInput};
 ghost use Rattle.lk_merge.specs.Places.{IsPlaceAt};
 

@@ -10,7 +10,7 @@ use Rattle.lk_link.specs.Symbols.{first_symbol}
 use Rattle.lk_link.specs.Walks.{file_of}
 use Rattle.lk_link.proofs.NumberedSymbolLemmas.{stands}
 use Rattle.lk_reach.specs.Units.{local_definition}
-use Rattle.lk_merge.specs.OffsetsOutside.{may_choose_outside, refers_outside}
+use Rattle.lk_merge.specs.OffsetsOutside.{is_reference_outside, refers_outside}
 use Rattle.lk_merge.specs.OutputAddresses.{merge_place}
 use Rattle.lk_layout.proofs.outside.reference_outside.Goals as goal
 
@@ -33,6 +33,6 @@ returns-in-None-def c =
     = stands_for_itself c.args.first c.args.index x (slice_get file.symbols c.args.index) there c.in-None-def.is ∙ ap (λ n. n + c.args.index) c.requires.first in
     let q : NumberedFile × InputSymbol = (file_of c.args.file, x) in
     c.refers_outside_in.ensures
-    ∙ ap (λ (z : ℤ). may_choose_outside z (merge_place groups q)) (to_z-of_z c.ranges.addend)
-    ∙ ap (λ (o : Option (NumberedFile × InputSymbol)). may_choose_outside c.args.addend (option_and_then (merge_place groups) o)) (sym at)
+    ∙ ap (λ (z : ℤ). is_reference_outside z (merge_place groups q)) (to_z-of_z c.ranges.addend)
+    ∙ ap (λ (o : Option (NumberedFile × InputSymbol)). is_reference_outside c.args.addend (option_and_then (merge_place groups) o)) (sym at)
     ∙ ap (λ n. refers_outside link n c.args.addend) (sym own)

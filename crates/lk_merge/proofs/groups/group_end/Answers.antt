@@ -1,6 +1,6 @@
 use Rattle.std.proofs.Common.{◌≡◌, ◌≢◌, ◌+◌, List, map, sym, ap, ◌∙◌, subst, inl, inr, arith}
-use Rattle.lk_merge.specs.Groups.{IsGroupEnd, input_start}
-use Rattle.lk_merge.specs.Inputs.{input_of, padded_len, padded_total}
+use Rattle.lk_merge.specs.Groups.{IsGroupEnd}
+use Rattle.lk_merge.specs.Inputs.{input_of, input_start, padded_len, padded_total}
 use Rattle.lk_merge.specs.Pieces.{MergeInput}
 use Rattle.lk_merge.proofs.Grouping.{end_at, end_behind, end_total, ends_by_total, found_input, found_start}
 use Rattle.lk_merge.proofs.groups.group_end.Goals as goal
