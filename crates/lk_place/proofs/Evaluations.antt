@@ -1,5 +1,5 @@
 -- The evaluation of an expression's tokens gives its value, in the room that it needs.
-use Rattle.std.proofs.Common.{◌≡◌, ◌∙◌, ap, arith, sym, refl, ℕ, ◌+◌, ◌≤◌, List, [], ◌∷◌, ◌++◌, ◌-◌, length, subst}
+use Rattle.std.proofs.Common.{◌≡◌, ◌∙◌, ap, arith, sym, refl, ℕ, ◌+◌, ◌≤◌, List, [], ◌∷◌, ◌++◌, ◌-◌, length, length-append, subst, Option, Some, None}
 use Rattle.std.specs.Prelude.{Result, Ok, Err}
 use Rattle.std.proofs.Math.Nat.{le-max_left, le-max_right}
 use Rattle.std.proofs.lemmas.List.{append_assoc, append-nil}
@@ -11,7 +11,7 @@ use Rattle.lk_link.specs.ExpressionRules.{depth}
 use Rattle.lk_link.specs.Expressions.{Term, Leaf, Node, postfix}
 use Rattle.lk_link.specs.declared.limits.TheConstants.{MOST_DEPTH}
 use Rattle.lk_place.specs.declared.expressions.no_value.NoValue.{NoValue}
-use Rattle.lk_place.specs.Evaluation.{HasRoom, HaveRoom, height_behind, on_top, run, stepped}
+use Rattle.lk_place.specs.Evaluation.{HasRoom, alone, HaveRoom, height_behind, on_top, run, stepped}
 use Rattle.lk_place.specs.Expressions.{IsShallow, Valued, ◌>>=◌, applied, expression_value}
 
 -- steps that follow each other can be grouped
@@ -100,6 +100,33 @@ stepped_height given (token.Operand o) stack next room h = higher (given o) stac
 stepped_height given (token.Operator o) (r ∷ l ∷ stack) next room h = omega (arith, higher (applied o l r) stack next h)
 stepped_height given (token.Operator o) (r ∷ []) next room h = absurd (omega (arith, room.0))
 stepped_height given (token.Operator o) [] next room h = absurd (omega (arith, room.0))
+
+-- ---- an operand alone
+
+-- an expression has tokens
+some_tokens : (t : Term) → 1 ≤ length (postfix t)
+some_tokens (Leaf o) = omega arith
+some_tokens (Node o l r) = omega (arith, length-append (postfix l ++ postfix r) (token.Operator o ∷ []))
+
+alone_is : (ts : List Token) (o : Operand) → alone ts ≡ Some o → ts ≡ token.Operand o ∷ []
+alone_is [] o h = absurd (cc)
+alone_is (token.Operand p ∷ []) o h = let same : p ≡ o = cc in ap (λ (q : Operand). token.Operand q ∷ []) same
+alone_is (token.Operator p ∷ []) o h = absurd (cc)
+alone_is (t ∷ u ∷ ts) o h = absurd (cc)
+
+-- its value is what it is worth
+pub operand_alone : (given : Operand → Valued) (t : Term) (o : Operand) → alone (postfix t) ≡ Some o → given o ≡ expression_value given t
+unfolding expression_value
+operand_alone given (Leaf p) o h = let same : o ≡ p = cc in ap given same
+operand_alone given (Node n l r) o h =
+    absurd (omega (
+      arith,
+      ap length (alone_is (postfix (Node n l r)) o h),
+      length-append (postfix l ++ postfix r) (token.Operator n ∷ []),
+      length-append (postfix l) (postfix r),
+      some_tokens l,
+      some_tokens r,
+    ))
 
 -- what the walk over an expression's tokens goes by
 pub ruleset evaluating = (run_all, room_for_all, stepped_height)

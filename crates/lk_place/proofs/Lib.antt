@@ -35,6 +35,7 @@ mod SegmentFiles
 mod ShallowLinks
 mod Steps
 mod Tables
+mod Unnamed
 mod WalkLaws
 mod WalkRecords
 mod WalkSteps

@@ -19,6 +19,7 @@ use Rattle.lk_link.proofs.PartNumbers.{first_part-le, first_part-suc, parts_end-
 use Rattle.lk_link.proofs.Places.{among, found}
 use Rattle.lk_place.specs.declared.cursors.Cursors.{Cursors}
 use Rattle.lk_place.specs.Expressions.{Valued, expression_value}
+use Rattle.lk_place.specs.Named.{AreAtHand, names_no_symbol, names_none}
 use Rattle.lk_place.specs.PlacedBefore.{Standing, dot_of, early_known, early_value, is_placing, is_placing_part, standing_before, lies_in}
 use Rattle.lk_place.specs.Ranges.{HasPart}
 use Rattle.lk_place.specs.Records.{Record, nowhere, record_at}
@@ -32,6 +33,7 @@ use Rattle.lk_place.proofs.Checked.{has_part}
 use Rattle.lk_place.proofs.ApartLaws.{section_one}
 use Rattle.lk_place.proofs.Knowing.{part_placed, placing_event, placing_part}
 use Rattle.lk_place.proofs.MassLaws.{part_place}
+use Rattle.lk_place.proofs.Unnamed.{value_at_hand}
 use Rattle.lk_place.proofs.WalkRecords.{among_is, among_part, placed_below, section_there}
 
 -- ---- what an entry tells
@@ -158,7 +160,8 @@ parts_tell setting table records n p ready at each =
 -- the value of an expression by the table is that at the event
 pub value_known : (setting : Setting) (table : List ℕ) (records : List Record) (n : ℕ) (from : Cursors) (e : Term) (dot : ℕ) (groups : List (List InputFile)) (regions : List (ℕ × ℕ)) (constants : List (Option Valued)) (r : Valued)
     → IsReady setting → ArePlacedAt setting.plan (length setting.plan.events) table → length records ≡ length (all_parts setting.plan.sections)
-    → dot ≡ dot_of from → groups ≡ setting.groups → regions ≡ given_regions (regions_of setting.plan.regions) → constants ≡ constants_by setting.groups setting.headers regions
+    → dot ≡ dot_of from → groups ≡ setting.groups → regions ≡ given_regions (regions_of setting.plan.regions) → AreAtHand setting.plan (constants_by setting.groups setting.headers regions) constants
+    → (names_no_symbol setting.plan ≡ true → names_none e ≡ true)
     → r ≡ expression_value (early_operand (record {
       groups = groups;
       dot = dot;
@@ -170,22 +173,25 @@ pub value_known : (setting : Setting) (table : List ℕ) (records : List Record)
       positions = setting.positions;
     })) e
     → r ≡ early_value setting (standing_before setting.plan records n) from e
-value_known setting table records n from e dot groups regions constants r ready at each same_dot same_groups same_regions same_constants gives =
+value_known setting table records n from e dot groups regions constants r ready at each same_dot same_groups same_regions hand spoken gives =
     let known : Standing = standing_before setting.plan records n in
     let all : ℕ → List (List InputFile) → List (ℕ × ℕ) → List (Option Valued) → (ℕ → Option Record) → (ℕ → Option Record) → Early
     = λ d gs rs cs section part. record { groups = gs; dot = d; headers = setting.headers; regions = rs; constants = cs; section = section; part = part; positions = setting.positions } in
     let section : section_before setting.plan.sections table records n ≡ known.section = fun_ext (λ s. sections_tell setting table records n s ready at each) in
     let part : part_before table records n ≡ known.part = fun_ext (λ p. parts_tell setting table records n p ready at each) in
     let regions_are : List (ℕ × ℕ) = given_regions (regions_of setting.plan.regions) in
-    let constants_are : constants ≡ constants_by setting.groups setting.headers regions_are = same_constants ∙ ap (constants_by setting.groups setting.headers) same_regions in
-    let one : all dot groups regions constants (section_before setting.plan.sections table records n) (part_before table records n) ≡ early_known setting known (dot_of from)
-    = ap (λ d. all d groups regions constants (section_before setting.plan.sections table records n) (part_before table records n)) same_dot
-    ∙ ap (λ gs. all (dot_of from) gs regions constants (section_before setting.plan.sections table records n) (part_before table records n)) same_groups
-    ∙ ap (λ rs. all (dot_of from) setting.groups rs constants (section_before setting.plan.sections table records n) (part_before table records n)) same_regions
+    let given : List (Option Valued) = constants_by setting.groups setting.headers regions in
+    let constants_are : given ≡ constants_by setting.groups setting.headers regions_are = ap (constants_by setting.groups setting.headers) same_regions in
+    let one : all dot groups regions given (section_before setting.plan.sections table records n) (part_before table records n) ≡ early_known setting known (dot_of from)
+    = ap (λ d. all d groups regions given (section_before setting.plan.sections table records n) (part_before table records n)) same_dot
+    ∙ ap (λ gs. all (dot_of from) gs regions given (section_before setting.plan.sections table records n) (part_before table records n)) same_groups
+    ∙ ap (λ rs. all (dot_of from) setting.groups rs given (section_before setting.plan.sections table records n) (part_before table records n)) same_regions
     ∙ ap (λ cs. all (dot_of from) setting.groups regions_are cs (section_before setting.plan.sections table records n) (part_before table records n)) constants_are
     ∙ ap (λ f. all (dot_of from) setting.groups regions_are (constants_by setting.groups setting.headers regions_are) f (part_before table records n)) section
     ∙ ap (all (dot_of from) setting.groups regions_are (constants_by setting.groups setting.headers regions_are) known.section) part in
-    gives ∙ ap (λ k. expression_value (early_operand k) e) one
+    gives
+    ∙ value_at_hand setting.plan (all dot groups regions constants (section_before setting.plan.sections table records n) (part_before table records n)) constants given e spoken hand
+    ∙ ap (λ k. expression_value (early_operand k) e) one
 
 -- what the table tells of a section is known at the event
 pub section_known : (setting : Setting) (table : List ℕ) (records : List Record) (n s : ℕ) (o : Option Record) → IsReady setting → ArePlacedAt setting.plan (length setting.plan.events) table

@@ -1,6 +1,6 @@
 -- The evaluation of tokens from front to back over a stack of numbers. Contracts of private functions speak of it; that it gives the
 -- expression's value is proved by lemmas.
-use Rattle.std.specs.Prelude.{◌≡◌, ℕ, ◌+◌, ◌-◌, ◌<◌, ◌≤◌, List, [], ◌∷◌, Result, Ok, Err}
+use Rattle.std.specs.Prelude.{◌≡◌, ℕ, ◌+◌, ◌-◌, ◌<◌, ◌≤◌, List, [], ◌∷◌, Option, Some, None, Result, Ok, Err}
 use Rattle.std.specs.List.{slice_index_or}
 use Rattle.lk_link.specs.declared.expression.Operand.{Operand}
 use Rattle.lk_link.specs.declared.expression.Token.{Token}
@@ -19,6 +19,13 @@ stepped given (token.Operand o) stack = given o >>= on_top stack
 stepped given (token.Operator o) (r ∷ l ∷ stack) = applied o l r >>= on_top stack
 stepped given (token.Operator o) (r ∷ []) = Ok (r ∷ [])
 stepped given (token.Operator o) [] = Ok []
+
+-- the operand that tokens are, if they are one alone
+abbrev pub alone : List Token → Option Operand
+alone [] = None
+alone (token.Operand o ∷ []) = Some o
+alone (token.Operator o ∷ []) = None
+alone (t ∷ u ∷ ts) = None
 
 -- what a step answers, and the stack that it leaves
 abbrev pub Steps : (Operand → Valued) → Token → List ℕ → Result (Unit {0}) NoValue → List ℕ → Type 0

@@ -12,6 +12,7 @@ pub mod InRegions
 pub mod KnownThen
 pub mod Laws
 pub mod Locations
+pub mod Named
 pub mod PlacedBefore
 pub mod Placement
 pub mod PlacementLaws

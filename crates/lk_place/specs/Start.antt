@@ -10,6 +10,7 @@ use Rattle.lk_place.specs.declared.start.Beginning.{Beginning}
 use Rattle.lk_place.specs.Base.{first_memory, known_first}
 use Rattle.lk_place.specs.Constants.{constants_of}
 use Rattle.lk_place.specs.Expressions.{Valued, expression_value}
+use Rattle.lk_place.specs.Named.{AreAtHand}
 use Rattle.lk_place.specs.Regions.{given_regions, regions_of}
 use Rattle.lk_place.specs.Setting.{Setting}
 use Rattle.lk_place.specs.Surroundings.{early_operand}
@@ -63,7 +64,7 @@ BeginsAt (Err e) states = states ≡ []
 -- what is known before the first event is so
 pub record IsBegun (plan : Plan) (groups : List (List InputFile)) (headers : ℕ) (positions : List (Option SymbolPosition)) (b : Beginning) : Type 0 where
   pub regions : regions_of plan.regions ≡ Ok b.regions
-  pub constants : b.constants.items ≡ constants_by groups headers b.regions
+  pub constants : AreAtHand plan (constants_by groups headers b.regions) b.constants.items
   pub base : base_by plan groups headers positions b.regions ≡ Ok b.base
   pub memory : begun_memory plan groups headers positions ≡ Ok b.memory
 

@@ -20,6 +20,7 @@ use Rattle.lk_place.specs.declared.walk.Walk.{Walk}
 use Rattle.lk_place.specs.Alignments.{section_alignment, section_alignments, segment_alignments, thread_local_alignment}
 use Rattle.lk_place.specs.Counters.{told_counter}
 use Rattle.lk_place.specs.InRegions.{named_region, places_in, span_of}
+use Rattle.lk_place.specs.Named.{AreAtHand}
 use Rattle.lk_place.specs.Placement.{first_record, first_walked, is_below, load_given, moved, next_record, numbered, overflow_at}
 use Rattle.lk_place.specs.Placement.{record_by, refusal_of, section_left, section_start}
 use Rattle.lk_place.specs.PlacedBefore.{Known, Standing, lies_in, standing_before}
@@ -55,7 +56,7 @@ pub record IsWalkable {P : Type 0} (start : P → ℕ → ℕ → ℕ → ℕ) (
   pub aligned : AreAlignments walk.link.now.plan walk.sizes.now walk.alignments.now
   pub groups : walk.unplaced.now.link.now.groups ≡ walk.link.now.groups
   pub regions : walk.unplaced.now.regions.now ≡ given_regions (regions_of walk.link.now.plan.regions)
-  pub constants : walk.unplaced.now.constants.now ≡ constants_by walk.link.now.groups walk.unplaced.now.headers walk.unplaced.now.regions.now
+  pub constants : AreAtHand walk.link.now.plan (constants_by walk.link.now.groups walk.unplaced.now.headers walk.unplaced.now.regions.now) walk.unplaced.now.constants.now
   pub section_regions : walk.section_regions.now ≡ map (λ s. named_region walk.link.now.plan.regions s.region) walk.link.now.plan.sections
   pub placed_at : ArePlacedAt walk.link.now.plan (length walk.link.now.plan.events) walk.placed_at.now
 

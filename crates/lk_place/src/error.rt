@@ -37,7 +37,7 @@ pub enum Refusal {
 #[derive(Clone, Copy, Debug, PartialEq, Eq)]
 pub enum PlaceError {
     NoMemory,
-    /// An address or an offset of the file passes 2^64 - 1, first at this event.
+    /// An address or an offset of the file passes 2^64 - 1, first at this place.
     AddressOverflow { place: Place },
     /// A region has the name of an earlier one.
     RegionDuplicate { region: RegionId },

@@ -1,7 +1,7 @@
 //! The memory regions of a plan.
 //!
 //! Regions are gone through in their order: the name of each is looked for among those before it, and then its origin and its length are
-//! evaluated, by numbers alone. A plan has few. The region of each section is looked for once, before the walk. The region of each section is looked for once, before the walk.
+//! evaluated, by numbers alone. A plan has few. The region of each section is looked for once, before the walk.
 
 ghost use Rattle.std.specs.Prelude.{◌≡◌, ◌^◌, ◌<◌, ◌≤◌, ℕ, All, IfOk, Some, length, map, position};
 ghost use Rattle.std.specs.Str.{bytes_eq};

@@ -16,7 +16,7 @@ ghost use Rattle.lk_link.specs.Target.{platform_target};
 ghost use Rattle.lk_place.specs.Alignments.{place_alignment};
 ghost use Rattle.lk_place.specs.Answers.{GivesPlaced};
 ghost use Rattle.lk_place.specs.Counters.{told_counter};
-ghost use Rattle.lk_place.specs.Expressions.{IsShallow};
+ghost use Rattle.lk_place.specs.Named.{AreWalkedEvents, AreWalkedLoads, IsWalked, IsWalkedEvent};
 ghost use Rattle.std.specs.List.{slice_index};
 ghost use Rattle.lk_place.specs.InRegions.{span_of};
 ghost use Rattle.lk_place.specs.Locations.{behind_start, within_64};
@@ -24,7 +24,6 @@ ghost use Rattle.lk_place.specs.PlacedBefore.{early_value, standing_before, valu
 ghost use Rattle.lk_place.specs.Placement.{begun_section, event_refusal, memory_moved, moved, numbered, opened, section_refusal};
 ghost use Rattle.lk_place.specs.Records.{nowhere, record_at};
 ghost use Rattle.lk_place.specs.Setting.{setting_of};
-ghost use Rattle.lk_place.specs.Shallow.{AreShallowEvents, AreShallowLoads, IsShallowEvent};
 ghost use Rattle.lk_place.specs.Start.{first_cursors, start};
 ghost use Rattle.lk_place.specs.ThreadLocal.{begins_run, padded, run_begun, saved_or_restored};
 ghost use Rattle.lk_link.specs.PlanSections.{primary_of};
@@ -223,7 +222,7 @@ impl<P: Platform> Walk<'_, P> {
     ) -> Result<u64, NoValue>
         requires walkable { IsWalkable P.segment_start self.now }
         requires each { length records.now ≡ length (all_parts self.now.link.now.plan.sections) }
-        requires shallow { IsShallow expression.now }
+        requires walked { IsWalked self.now.link.now.plan expression.now }
         ensures { result ≡ early_value (setting_in P.segment_start self.now)
             (standing_before self.now.link.now.plan records.now event) from expression.now }
     {
@@ -247,7 +246,7 @@ impl<P: Platform> Walk<'_, P> {
     ) -> Result<u64, Refusal>
         requires walkable { IsWalkable P.segment_start self.now }
         requires each { length records.now ≡ length (all_parts self.now.link.now.plan.sections) }
-        requires shallow { IsShallow expression.now }
+        requires walked { IsWalked self.now.link.now.plan expression.now }
         ensures { result ≡ value_at (setting_in P.segment_start self.now)
             (standing_before self.now.link.now.plan records.now event) from expression.now }
     {
@@ -289,7 +288,7 @@ impl<P: Platform> Walk<'_, P> {
         requires walkable { IsWalkable P.segment_start self.now }
         requires in_range { IsInRange self.now.link.now.plan event.now }
         requires each { length records.now ≡ length (all_parts self.now.link.now.plan.sections) }
-        requires shallow { IsShallowEvent event.now }
+        requires walked { IsWalkedEvent self.now.link.now.plan event.now }
         requires regions { length goes_on.now ≡ length self.now.link.now.plan.regions }
         ensures { result ≡ moved (setting_in P.segment_start self.now)
             (known_in self.now.link.now.plan records.now goes_on.now number) event.now from }
@@ -326,7 +325,7 @@ impl<P: Platform> Walk<'_, P> {
         requires here { slice_get self.now.link.now.plan.events number ≡ Some event.now }
         requires each { length records.old ≡ length (all_parts self.now.link.now.plan.sections) }
         requires regions { length goes_on.old ≡ length self.now.link.now.plan.regions }
-        requires loads { AreShallowLoads self.now.link.now.plan.sections }
+        requires loads { AreWalkedLoads self.now.link.now.plan }
         ensures ends { let setting = setting_in P.segment_start self.now in let s = placed_section event.now
             in result ≡ unless (section_refusal setting (standing_before setting.plan records.old number) s from) (left_behind setting s from) }
         ensures records { let setting = setting_in P.segment_start self.now
@@ -358,8 +357,8 @@ impl<P: Platform> Walk<'_, P> {
         requires each { length records.old ≡ length (all_parts self.now.link.now.plan.sections) }
         requires regions { length goes_on.old ≡ length self.now.link.now.plan.regions }
         requires here { slice_get self.now.link.now.plan.events number ≡ Some event.now }
-        requires shallow { IsShallowEvent event.now }
-        requires loads { AreShallowLoads self.now.link.now.plan.sections }
+        requires walked { IsWalkedEvent self.now.link.now.plan event.now }
+        requires loads { AreWalkedLoads self.now.link.now.plan }
         ensures ends { let setting = setting_in P.segment_start self.now in let known = known_in setting.plan records.old goes_on.old number
             in result ≡ unless (event_refusal setting known event.now from) (stepped setting known (Some event.now) from) }
         ensures records { let setting = setting_in P.segment_start self.now in let known = known_in setting.plan records.old goes_on.old number
@@ -386,8 +385,8 @@ impl<P: Platform> Walk<'_, P> {
         requires nothing { (p : ℕ) → record_at records.old p ≡ nowhere }
         requires regions { length goes_on.old ≡ length self.now.link.now.plan.regions }
         requires origins { (r : ℕ) → slice_index goes_on.old r ≡ (span_of (setting_in P.segment_start self.now) r).0 }
-        requires shallow { AreShallowEvents self.now.link.now.plan.events }
-        requires loads { AreShallowLoads self.now.link.now.plan.sections }
+        requires walked { AreWalkedEvents self.now.link.now.plan }
+        requires loads { AreWalkedLoads self.now.link.now.plan }
         ensures { GivesWalked (setting_in P.segment_start self.now) result records.new counters.old.items counters.new.items }
     {
         let mut cursors = Cursors {

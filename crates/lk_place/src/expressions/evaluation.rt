@@ -1,7 +1,7 @@
 //! The evaluation of an expression over its tokens.
 
 ghost use Rattle.std.specs.Prelude.{◌≡◌, length};
-ghost use Rattle.lk_place.specs.Evaluation.{HasRoom, Steps};
+ghost use Rattle.lk_place.specs.Evaluation.{HasRoom, Steps, alone};
 ghost use Rattle.lk_place.specs.Expressions.{IsShallow, expression_value};
 
 use super::no_value::NoValue;
@@ -44,10 +44,9 @@ fn step<S: Surroundings>(surroundings: &S, token: Token, stack: &mut Stack) -> R
     }
 }
 
-/// The value of an expression in its surroundings, or the first cause, from left to right, that it has none. Takes time for each
-/// token, and no memory.
+/// The value of an expression in its surroundings, by all its tokens.
 #[tactic(auto, using(crate::proofs::Evaluations::evaluating), unfolding(crate::specs::Evaluation::run, crate::specs::Evaluation::HaveRoom))]
-pub(super) fn evaluate<S: Surroundings>(
+fn evaluate_tokens<S: Surroundings>(
     surroundings: &S,
     expression: &Expression,
 ) -> Result<u64, NoValue>
@@ -60,4 +59,29 @@ pub(super) fn evaluate<S: Surroundings>(
         step(surroundings, *token, &mut stack)?;
     }
     Ok(stack.pop())
+}
+
+/// The operand that tokens are, if they are one alone.
+fn alone(tokens: &[Token]) -> Option<Operand>
+    ensures { result ≡ alone tokens.now }
+{
+    match tokens {
+        [Token::Operand(operand)] => Some(*operand),
+        _ => None,
+    }
+}
+
+/// The value of an expression in its surroundings, or the first cause, from left to right, that it has none. Takes time for each
+/// token, and no memory. An operand alone wants no stack.
+pub(super) fn evaluate<S: Surroundings>(
+    surroundings: &S,
+    expression: &Expression,
+) -> Result<u64, NoValue>
+    requires { IsShallow expression.now }
+    ensures { result ≡ expression_value (S.worth surroundings.now) expression.now }
+{
+    match alone(expression.tokens()) {
+        Some(operand) => surroundings.value(operand),
+        None => evaluate_tokens(surroundings, expression),
+    }
 }

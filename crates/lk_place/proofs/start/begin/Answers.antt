@@ -36,7 +36,7 @@ returns c =
     let link = c.args.link.now in
     record {
       regions = sym c.in_ok-regions.ensures;
-      constants = c.in_ok-constants.ensures ∙ ap (constants_by link.groups c.args.headers) c.as_slice.ensures;
+      constants = λ some. c.in_ok-constants.ensures some ∙ ap (constants_by link.groups c.args.headers) c.as_slice.ensures;
       base = based link.plan link.groups c.args.headers c.args.positions.now c.in_ok-regions.regions c.as_slice.result.now c.as_slice-2.result.now
           c.in_ok-constants.constants.items c.deref.result.now (Ok c.in-Ok.base)
           c.as_slice.ensures c.in_ok-constants.ensures c.as_slice-2.ensures c.deref.ensures.value (sym c.in-Ok.is ∙ c.base_value.ensures);

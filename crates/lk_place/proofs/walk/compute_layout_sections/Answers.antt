@@ -9,16 +9,17 @@ use Rattle.lk_place.proofs.Beginnings.{few_regions}
 use Rattle.lk_place.proofs.Computing.{based_at, begins, begins_at, refused_answer, unbegun_answer, walked_placed, written_back}
 use Rattle.lk_place.proofs.SectionRegions.{origins_are, origins_count}
 use Rattle.lk_place.proofs.ShallowLinks.{shallow_link}
+use Rattle.lk_place.proofs.Unnamed.{walked_events, walked_loads}
 use Rattle.lk_place.proofs.walk.compute_layout_sections.Goals as goal
 
 pub begin-requires-clause-shallow : goal.begin-requires-clause-shallow
 begin-requires-clause-shallow g c = shallow_link c.args.link.now c.requires.well_formed
 
-pub walk-requires-clause-shallow : goal.walk-requires-clause-shallow
-walk-requires-clause-shallow g c = (shallow_link c.args.link.now c.requires.well_formed).events
+pub walk-requires-clause-walked : goal.walk-requires-clause-walked
+walk-requires-clause-walked g c = walked_events c.args.link.now (shallow_link c.args.link.now c.requires.well_formed)
 
 pub walk-requires-clause-loads : goal.walk-requires-clause-loads
-walk-requires-clause-loads g c = (shallow_link c.args.link.now c.requires.well_formed).loads
+walk-requires-clause-loads g c = walked_loads c.args.link.now (shallow_link c.args.link.now c.requires.well_formed)
 
 pub walk-requires-clause-starts : goal.walk-requires-clause-starts
 walk-requires-clause-starts g c =

@@ -8,4 +8,4 @@ returns g c =
     let known = walk.unplaced.now in
     let able = c.requires.walkable in
     value_known (setting_in g.P.Platform.segment_start walk) walk.placed_at.now c.args.records.now c.args.event c.args.from c.args.expression.now c.unwrap_or-dot.result known.link.now.groups known.regions.now
-    known.constants.now c.evaluate_before.result able.ready able.placed_at c.requires.each c.unwrap_or-dot.ensures able.groups able.regions able.constants c.evaluate_before.ensures
+    known.constants.now c.evaluate_before.result able.ready able.placed_at c.requires.each c.unwrap_or-dot.ensures able.groups able.regions able.constants c.requires.walked.spoken c.evaluate_before.ensures

@@ -31,11 +31,11 @@ pub carry_out-end-requires-clause-here : goal.carry_out-end-requires-clause-here
 carry_out-end-requires-clause-here g c =
     read_there c.args.self.now.link.now.plan.events c.as_slice-event-items.result.now c.loop-number.number c.event-item.result c.as_slice-event-items.ensures c.loop-number-test.true c.event-item.is
 
-pub carry_out-end-requires-clause-shallow : goal.carry_out-end-requires-clause-shallow
-carry_out-end-requires-clause-shallow g c =
+pub carry_out-end-requires-clause-walked : goal.carry_out-end-requires-clause-walked
+carry_out-end-requires-clause-walked g c =
     let here : slice_get c.args.self.now.link.now.plan.events c.loop-number.number ≡ Some c.event-item.result =
     read_there c.args.self.now.link.now.plan.events c.as_slice-event-items.result.now c.loop-number.number c.event-item.result c.as_slice-event-items.ensures c.loop-number-test.true c.event-item.is in
-    c.requires.shallow c.loop-number.number c.event-item.result here
+    c.requires.walked c.loop-number.number c.event-item.result here
 
 pub carry_out-end-requires-clause-each : goal.carry_out-end-requires-clause-each
 carry_out-end-requires-clause-each g c = c.loop-number.invariant.each

@@ -1,7 +1,7 @@
 use Rattle.std.proofs.Common.{◌≡◌, drop, length}
 use Rattle.lk_place.specs.Evaluation.{HaveRoom, run}
 use Rattle.lk_place.specs.Expressions.{expression_value}
-use Rattle.lk_place.proofs.expressions.evaluation.evaluate.Given as goal
+use Rattle.lk_place.proofs.expressions.evaluation.evaluate_tokens.Given as goal
 
 -- what is left finds room, and gives the value of the whole
 abbrev pub invariant-loop-token : goal.invariant-loop-token
