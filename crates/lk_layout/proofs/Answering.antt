@@ -22,7 +22,7 @@ use Rattle.lk_gc.specs.declared.error.GcError.TheVariants as gc
 use Rattle.lk_gc.specs.declared.live.Live.{Live}
 use Rattle.lk_gc.specs.Reach.{GivesLive}
 use Rattle.lk_merge.specs.Pieces.{MergeInput}
-use Rattle.lk_place.specs.Records.{Record}
+use Rattle.lk_expressions.specs.Records.{Record}
 use Rattle.lk_place.specs.declared.segments.SegmentLayout.{SegmentLayout}
 use Rattle.lk_place.specs.declared.segments.SegmentFileLayout.TheVariants.{FromSections}
 use Rattle.lk_place.specs.Secondaries.{merge_refusal}

@@ -20,7 +20,7 @@ use Rattle.lk_link.specs.TableSizes.{Machine, TableSizes}
 use Rattle.lk_link.specs.WellFormed.{IsWellFormed}
 use Rattle.lk_link.proofs.GoodSymbols.{symbol_of}
 use Rattle.lk_gc.specs.declared.live.Live.{Live}
-use Rattle.lk_place.specs.Records.{Record, nowhere, record_at}
+use Rattle.lk_expressions.specs.Records.{Record, nowhere, record_at}
 use Rattle.lk_sizes.specs.Owners.{CommonOwner, Content, IsCommonIn, Owner, owner_address}
 use Rattle.lk_sizes.specs.PartOwners.{common_address, common_number, owners_of, part_size}
 use Rattle.lk_sizes.specs.Tiles.{HasByte, OwnersAreAligned, OwnersTileTheirPart}

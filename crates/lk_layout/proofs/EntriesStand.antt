@@ -26,7 +26,7 @@ use Rattle.lk_link.proofs.NumberedSymbolLemmas.{stands}
 use Rattle.lk_reach.proofs.Numbered.{file_at}
 use Rattle.lk_reach.specs.Units.{numbered_symbols}
 use Rattle.lk_gc.specs.declared.live.Live.{Live}
-use Rattle.lk_place.specs.Records.{Record, nowhere, record_at}
+use Rattle.lk_expressions.specs.Records.{Record, nowhere, record_at}
 use Rattle.lk_tables.specs.Late.{flags_at}
 use Rattle.lk_tables.specs.OwnEntries.{own_address, own_place}
 use Rattle.lk_tables.specs.SymbolEntries.{is_resolved}

@@ -26,7 +26,7 @@ use Rattle.lk_merge.proofs.AddressLemmas.{starts_at}
 use Rattle.lk_merge.proofs.PlaceLemmas.{pieces_have_places}
 use Rattle.lk_merge.proofs.Refusing.{all_from_none}
 use Rattle.lk_merge.proofs.Showing.{merged_addresses_show}
-use Rattle.lk_place.specs.Records.{Record, nowhere, record_at}
+use Rattle.lk_expressions.specs.Records.{Record, nowhere, record_at}
 use Rattle.lk_sizes.specs.Images.{image_addresses}
 use Rattle.lk_sizes.specs.Owners.{ImageOwner}
 use Rattle.lk_sizes.proofs.ImageLemmas.{its_section}

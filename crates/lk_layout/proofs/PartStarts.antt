@@ -17,7 +17,7 @@ use Rattle.lk_link.specs.WellFormed.{IsWellFormed}
 use Rattle.lk_place.specs.declared.cursors.Cursors.{Cursors}
 use Rattle.lk_place.specs.Alignments.{greatest_of, section_alignment}
 use Rattle.lk_place.specs.Placement.{IsPlaced, first_walked, is_walked, placement_refusal}
-use Rattle.lk_place.specs.Records.{Record, record_at}
+use Rattle.lk_expressions.specs.Records.{Record, record_at}
 use Rattle.lk_place.specs.Setting.{Setting, has_bytes, part_count, part_number, size_at}
 use Rattle.lk_sizes.proofs.Tiling.{part_is_aligned}
 use Rattle.lk_link.proofs.Powers.{alignment_divides}

@@ -30,7 +30,7 @@ use Rattle.lk_link.proofs.InputLemmas.{inputs_follow}
 use Rattle.lk_gc.specs.declared.live.Live.{Live}
 use Rattle.lk_gc.specs.Reach.{AreLive, IsLive, live_inputs, marked}
 use Rattle.lk_merge.specs.Addresses.{image_start}
-use Rattle.lk_place.specs.Records.{Record, record_at}
+use Rattle.lk_expressions.specs.Records.{Record, record_at}
 use Rattle.lk_sizes.specs.Addresses.{common_addresses, section_addresses}
 use Rattle.lk_sizes.specs.Header.{header_info}
 use Rattle.lk_sizes.specs.PartOwners.{EndsFit, live_address, part_size}

@@ -7,7 +7,7 @@ use Rattle.lk_link.specs.declared.link.LinkInput.{LinkInput}
 use Rattle.lk_link.specs.TableSizes.{Machine}
 use Rattle.lk_place.specs.declared.error.PlaceError.{PlaceError}
 use Rattle.lk_place.specs.declared.error.PlaceError.TheVariants as place
-use Rattle.lk_place.specs.declared.expressions.positions.SymbolPosition.{SymbolPosition}
+use Rattle.lk_expressions.specs.declared.positions.SymbolPosition.{SymbolPosition}
 use Rattle.lk_place.specs.Answers.{GivesPlaced, IsRefused}
 use Rattle.lk_place.specs.Setting.{setting_of}
 use Rattle.lk_sizes.specs.PartOwners.{part_sizes}

@@ -16,7 +16,7 @@ use Rattle.lk_link.specs.Marks.{is_marked}
 use Rattle.lk_link.specs.Parts.{all_parts}
 use Rattle.lk_link.proofs.InputLemmas.{inputs_follow}
 use Rattle.lk_gc.specs.declared.live.Live.{Live}
-use Rattle.lk_place.specs.declared.expressions.positions.SymbolPosition.{SymbolPosition}
+use Rattle.lk_expressions.specs.declared.positions.SymbolPosition.{SymbolPosition}
 use Rattle.lk_sizes.specs.Addresses.{section_addresses}
 use Rattle.lk_sizes.specs.PartOwners.{EndsFit, live_address, part_size, part_sizes}
 use Rattle.lk_sizes.proofs.Numbering.{table_at as address_by_number}

@@ -16,7 +16,7 @@ use Rattle.lk_link.specs.WellFormed.{IsWellFormed}
 use Rattle.lk_place.specs.declared.cursors.Cursors.{Cursors}
 use Rattle.lk_place.specs.Placement.{IsPlaced, placement_refusal}
 use Rattle.lk_place.specs.PlacementLaws.{PartsTakeTheirBytes}
-use Rattle.lk_place.specs.Records.{Record, nowhere, record_at}
+use Rattle.lk_expressions.specs.Records.{Record, nowhere, record_at}
 use Rattle.lk_place.specs.Segments.{part_records, section_record, section_records}
 use Rattle.lk_place.specs.Setting.{IsReady}
 use Rattle.lk_sizes.specs.declared.owners.PartContents.{PartContents}

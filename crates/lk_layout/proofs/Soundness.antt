@@ -20,7 +20,7 @@ use Rattle.lk_place.specs.Laws.{FileRangesAreDisjoint, IsSoundlySet, KeepAlignme
 use Rattle.lk_place.specs.PlacementLaws.{PartsTakeTheirBytes, RefusedExactlyPast}
 use Rattle.lk_place.specs.Plain.{IsPlain}
 use Rattle.lk_place.specs.Ranges.{FileIsDisjoint, MemoryIsDisjoint}
-use Rattle.lk_place.specs.Records.{Record, nowhere, record_at}
+use Rattle.lk_expressions.specs.Records.{Record, nowhere, record_at}
 use Rattle.lk_place.specs.Segments.{alignment_inside}
 use Rattle.lk_sizes.specs.declared.addresses.LiveSection.{LiveSection}
 use Rattle.lk_sizes.specs.Addresses.{live_section, live_sections}

@@ -20,7 +20,7 @@ use Rattle.lk_link.specs.Inputs.{Input, NumberedFile, input_number, numbered_fil
 use Rattle.lk_link.specs.InputSlots.{is_regular}
 use Rattle.lk_link.specs.Marks.{is_marked}
 use Rattle.lk_link.specs.Parts.{all_parts}
-use Rattle.lk_place.specs.declared.expressions.positions.SymbolPosition.{SymbolPosition}
+use Rattle.lk_expressions.specs.declared.positions.SymbolPosition.{SymbolPosition}
 use Rattle.lk_sizes.specs.Owners.{Content}
 use Rattle.lk_sizes.specs.PartOwners.{live_address}
 

@@ -32,7 +32,7 @@ use Rattle.lk_merge.specs.OutputAddresses.{MergePlace, Shows, chosen_offset, mer
 use Rattle.lk_merge.specs.Pieces.{Piece, MergeInput}
 use Rattle.lk_place.specs.Plain.{IsPlain, PlacesInLoad}
 use Rattle.lk_place.specs.Ranges.{FileIsDisjoint, HasPart, MemoryIsDisjoint, TakesMemory}
-use Rattle.lk_place.specs.Records.{Record, record_at}
+use Rattle.lk_expressions.specs.Records.{Record, record_at}
 use Rattle.lk_place.specs.declared.segments.SegmentFileLayout.TheVariants.{FromSections}
 use Rattle.lk_place.specs.Secondaries.{merged_records}
 use Rattle.lk_place.specs.Segments.{alignment_inside, first_outside, section_records, segment_layouts, thread_local_one}

@@ -19,7 +19,7 @@ use Rattle.lk_merge.specs.Addresses.{AreStartsOf, image_start}
 use Rattle.lk_merge.specs.LinkInputs.{link_inputs}
 use Rattle.lk_merge.specs.Pieces.{MergeInput}
 use Rattle.lk_merge.specs.declared.output_address.OffsetPastEnd.{OffsetPastEnd}
-use Rattle.lk_place.specs.declared.expressions.positions.SymbolPosition.{SymbolPosition}
+use Rattle.lk_expressions.specs.declared.positions.SymbolPosition.{SymbolPosition}
 use Rattle.lk_layout.specs.Resolutions.{Places, merged_value}
 
 -- the address at an offset of an input section, by marks of sections and a table of their addresses

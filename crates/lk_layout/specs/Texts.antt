@@ -6,7 +6,7 @@ use Rattle.lk_gc.specs.declared.error.ReferenceFault.{ReferenceFault}
 use Rattle.lk_gc.specs.Texts.{input_text, reference_text}
 use Rattle.lk_link.specs.declared.fault.LinkFault.TheVariants as fault
 use Rattle.lk_link.specs.Texts.{joined, link_fault_text, place_text}
-use Rattle.lk_place.specs.ExpressionTexts.{cause_text}
+use Rattle.lk_expressions.specs.ExpressionTexts.{cause_text}
 use Rattle.lk_layout.specs.declared.error.LayoutError.{LayoutError}
 use Rattle.lk_layout.specs.declared.error.LayoutError.TheVariants as layout
 use Rattle.lk_layout.specs.declared.error.Uncarried.{Uncarried}

@@ -4,7 +4,7 @@ ghost use Rattle.std.specs.Prelude.{◌≡◌, ◌+◌, ◌<◌, ◌^◌, ℕ, I
 ghost use Rattle.lk_gc.specs.Reach.{AreLive};
 ghost use Rattle.lk_link.specs.Parts.{all_parts};
 ghost use Rattle.lk_link.specs.WellFormed.{IsWellFormed};
-ghost use Rattle.lk_place.specs.Records.{record_at};
+ghost use Rattle.lk_expressions.specs.Records.{record_at};
 ghost use Rattle.lk_merge.specs.Addresses.{start_addresses};
 ghost use Rattle.lk_merge.specs.Hash.{fnv64};
 ghost use Rattle.lk_merge.specs.LinkInputs.{link_inputs};

@@ -9,7 +9,7 @@ ghost use Rattle.std.specs.Prelude.{◌≡◌, ◌<◌, ◌≤◌, ℕ, Ok, leng
 ghost use Rattle.lk_gc.specs.Reach.{AreLive};
 ghost use Rattle.lk_link.specs.Parts.{all_parts};
 ghost use Rattle.lk_link.specs.WellFormed.{IsWellFormed};
-ghost use Rattle.lk_place.specs.Records.{record_at};
+ghost use Rattle.lk_expressions.specs.Records.{record_at};
 ghost use Rattle.lk_place.specs.Segments.{section_records};
 ghost use Rattle.lk_link.specs.Marks.{is_marked};
 ghost use Rattle.lk_sizes.specs.Contents.{part_contents};

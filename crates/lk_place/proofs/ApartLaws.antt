@@ -13,7 +13,7 @@ use Rattle.lk_place.specs.declared.cursors.Cursors.{Cursors}
 use Rattle.lk_place.specs.Laws.{FileRangesAreDisjoint, IsSoundlySet, MemoryRangesAreDisjoint, PlainMemoryIsDisjoint}
 use Rattle.lk_place.specs.Placement.{IsPlaced, IsPlacedBefore, state_at}
 use Rattle.lk_place.specs.Ranges.{MemoryIsDisjoint, HasPart, TakesMemory}
-use Rattle.lk_place.specs.Records.{Record, file_end, mem_end, nowhere, record_at}
+use Rattle.lk_expressions.specs.Records.{Record, file_end, mem_end, nowhere, record_at}
 use Rattle.lk_place.specs.Setting.{IsReady, Setting, part_count}
 use Rattle.lk_place.specs.ThreadLocal.{free_memory}
 use Rattle.lk_place.proofs.Insides.{placed_in_range}

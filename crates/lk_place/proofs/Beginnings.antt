@@ -9,15 +9,15 @@ use Rattle.lk_link.specs.Limits.{counted, limit_of}
 use Rattle.lk_link.specs.WellFormed.{IsWellFormed}
 use Rattle.lk_place.specs.declared.error.PlaceError.{PlaceError}
 use Rattle.lk_place.specs.declared.error.PlaceError.TheVariants.{AddressOverflow, BaseTooLow, Expression, LocationBackwards, NoMemory, OutsideRegion, RegionDuplicate, RegionOverflow, RegionUnknown, SectionOutsideSegments}
-use Rattle.lk_place.specs.declared.expressions.positions.SymbolPosition.{SymbolPosition}
+use Rattle.lk_expressions.specs.declared.positions.SymbolPosition.{SymbolPosition}
 use Rattle.lk_place.specs.declared.start.Beginning.{Beginning}
 use Rattle.lk_place.specs.Base.{first_memory, known_first}
-use Rattle.lk_place.specs.Expressions.{Valued, expression_value}
-use Rattle.lk_place.specs.Named.{AreAtHand}
+use Rattle.lk_expressions.specs.Expressions.{Valued, expression_value}
+use Rattle.lk_place.specs.AtHand.{AreAtHand}
 use Rattle.lk_place.specs.Regions.{regions_of}
 use Rattle.lk_place.specs.Start.{GivesBeginning, base_by, begun_memory, constants_by, memory_by}
-use Rattle.lk_place.specs.Surroundings.{early_operand}
-use Rattle.lk_place.proofs.Unnamed.{base_spoken, value_at_hand}
+use Rattle.lk_expressions.specs.Surroundings.{early_operand}
+use Rattle.lk_place.proofs.AtHand.{base_spoken, value_at_hand}
 
 -- regions are few enough for their numbers
 pub few_regions : (link : LinkInput) → IsWellFormed link → length link.plan.regions ≤ 2 ^ 32

@@ -15,7 +15,7 @@ use Rattle.std.specs.List.{enumerate_from, flat_map}
 use Rattle.lk_place.specs.Counters.{counters_of, told_counter}
 use Rattle.lk_place.specs.Placement.{first_refusal, refusal_behind, refusal_of, state_at}
 use Rattle.lk_place.specs.PlacedBefore.{Known}
-use Rattle.lk_place.specs.Records.{Record, record_at}
+use Rattle.lk_expressions.specs.Records.{Record, record_at}
 use Rattle.lk_place.specs.Regions.{given_regions}
 use Rattle.lk_place.specs.Segments.{section_records}
 use Rattle.lk_place.specs.Setting.{IsReady, Setting}

@@ -18,7 +18,7 @@ use Rattle.lk_place.specs.PlacedBefore.{Known, Standing}
 use Rattle.lk_place.specs.Placement.{IsPlaced, known_before, Places, PlacesSection, Steps, moved, state_at}
 use Rattle.lk_place.specs.Plain.{IsLoadSegment, IsPlain, OpensLoad, PlacesInLoad, last_before}
 use Rattle.lk_place.specs.Ranges.{HasPart}
-use Rattle.lk_place.specs.Records.{Record, nowhere, record_at}
+use Rattle.lk_expressions.specs.Records.{Record, nowhere, record_at}
 use Rattle.lk_place.specs.Setting.{Setting, part_count, part_number}
 use Rattle.lk_place.specs.ThreadLocal.{free_memory}
 use Rattle.lk_place.proofs.AlignmentLaws.{place_aligned, place_reaches}

@@ -19,7 +19,7 @@ use Rattle.lk_place.specs.declared.cursors.Cursors.{Cursors}
 use Rattle.lk_place.specs.Alignments.{greatest_alignment, greatest_of, numbered_parts, section_alignment}
 use Rattle.lk_place.specs.Laws.{RecordsKeepAlignments}
 use Rattle.lk_place.specs.Placement.{IsPlaced, PlacesSection, first_walked, is_walked, state_at}
-use Rattle.lk_place.specs.Records.{Record, is_filled, nowhere, record_at}
+use Rattle.lk_expressions.specs.Records.{Record, is_filled, nowhere, record_at}
 use Rattle.lk_place.specs.Segments.{part_records, section_record, section_records}
 use Rattle.lk_place.specs.Setting.{IsReady, Setting, has_bytes, part_count, part_number}
 use Rattle.lk_place.proofs.AlignmentLaws.{greatest_of-least}

@@ -17,7 +17,7 @@ use Rattle.lk_place.specs.declared.error.Refusal.{Refusal}
 use Rattle.lk_place.specs.Placement.{IsPlacedBefore, event_refusal, known_before, state_at}
 use Rattle.lk_place.specs.InRegions.{goes_on_by, places_in}
 use Rattle.lk_place.specs.PlacedBefore.{Known, Standing, is_placing, is_placing_part, lies_in, standing_before}
-use Rattle.lk_place.specs.Records.{Record, nowhere, record_at}
+use Rattle.lk_expressions.specs.Records.{Record, nowhere, record_at}
 use Rattle.lk_place.specs.Segments.{hull, part_records}
 use Rattle.lk_place.specs.Setting.{IsReady, Setting, part_count, part_number}
 use Rattle.lk_place.specs.Walk.{GoesOn, cursors_after, goes_on_after, known_after, known_in, listed, walk_after, record_after, recorded, records_after, stepped, unless}

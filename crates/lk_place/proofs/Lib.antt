@@ -1,13 +1,12 @@
 pub mod AlignmentLaws
 mod ApartLaws
+mod AtHand
 mod BaseLaws
 mod Beginnings
 mod Checked
 mod Computing
 mod CongruenceLaws
 mod Congruent
-mod ConstantLaws
-mod Evaluations
 mod GivenLists
 mod InsideLaws
 mod Insides
@@ -18,7 +17,6 @@ mod MassLaws
 mod Moves
 mod Multiples
 mod OpenSegments
-mod OperandTests
 mod PlacedParts
 mod PlacedSections
 mod PlacedTables
@@ -35,7 +33,6 @@ mod SegmentFiles
 mod ShallowLinks
 mod Steps
 mod Tables
-mod Unnamed
 mod WalkLaws
 mod WalkRecords
 mod WalkSteps

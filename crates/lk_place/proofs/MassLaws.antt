@@ -11,7 +11,7 @@ use Rattle.lk_link.specs.Parts.{all_parts}
 use Rattle.lk_place.specs.declared.cursors.Cursors.{Cursors}
 use Rattle.lk_place.specs.Placement.{IsPlaced, known_before, PlacesSection, Steps, is_walked, placement_refusal, state_at}
 use Rattle.lk_place.specs.PlacementLaws.{PartsTakeTheirBytes}
-use Rattle.lk_place.specs.Records.{Record, nowhere, record_at}
+use Rattle.lk_expressions.specs.Records.{Record, nowhere, record_at}
 use Rattle.lk_place.specs.Setting.{IsReady, Setting, part_count, part_number, size_at}
 
 -- ---- the section of a part

@@ -15,7 +15,7 @@ use Rattle.lk_place.specs.declared.error.Refusal.TheVariants.{Backwards, Outside
 use Rattle.lk_place.specs.declared.regions.SectionRegion.{SectionRegion}
 use Rattle.lk_place.specs.declared.regions.SectionRegion.TheVariants.{Free, Undeclared, Within}
 use Rattle.lk_place.specs.Alignments.{place_alignment, section_alignments, thread_local_alignment, thread_local_ones}
-use Rattle.lk_place.specs.Expressions.{◌>>=◌}
+use Rattle.lk_expressions.specs.Expressions.{◌>>=◌}
 use Rattle.lk_place.specs.InRegions.{in_region, inside_region, lies_outside, span_of, stands_in}
 use Rattle.lk_place.specs.Locations.{awaiting, behind_start, moved_along, moves_file, taken, within_64}
 use Rattle.lk_place.specs.PlacedBefore.{Known, value_at}

@@ -10,7 +10,7 @@ use Rattle.lk_link.proofs.Starts.{next_multiple_is_least}
 use Rattle.lk_place.specs.declared.cursors.Cursors.{Cursors}
 use Rattle.lk_place.specs.declared.cursors.Offsets.{Offsets}
 use Rattle.lk_place.specs.Placement.{IsPlacedAt, IsRestingAt, PlacesSection, behind, end_behind, first_record, first_walked, is_walked, left_at, placed_at, pushed, reached, record_by, resting, section_start, walk_alignment}
-use Rattle.lk_place.specs.Records.{Record, record_at}
+use Rattle.lk_expressions.specs.Records.{Record, record_at}
 use Rattle.lk_place.specs.Setting.{IsReady, Setting, part_count, part_number, size_at}
 use Rattle.lk_place.specs.Walk.{loaded_by}
 use Rattle.lk_place.proofs.Congruent.{walk_aligned}

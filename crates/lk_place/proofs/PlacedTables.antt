@@ -18,22 +18,23 @@ use Rattle.lk_link.specs.WellFormed.{IsEventOrder}
 use Rattle.lk_link.proofs.PartNumbers.{first_part-le, first_part-suc, parts_end-le}
 use Rattle.lk_link.proofs.Places.{among, found}
 use Rattle.lk_place.specs.declared.cursors.Cursors.{Cursors}
-use Rattle.lk_place.specs.Expressions.{Valued, expression_value}
-use Rattle.lk_place.specs.Named.{AreAtHand, names_no_symbol, names_none}
+use Rattle.lk_expressions.specs.Expressions.{Valued, expression_value}
+use Rattle.lk_expressions.specs.Named.{names_no_symbol, names_none}
+use Rattle.lk_place.specs.AtHand.{AreAtHand}
 use Rattle.lk_place.specs.PlacedBefore.{Standing, dot_of, early_known, early_value, is_placing, is_placing_part, standing_before, lies_in}
 use Rattle.lk_place.specs.Ranges.{HasPart}
-use Rattle.lk_place.specs.Records.{Record, nowhere, record_at}
+use Rattle.lk_expressions.specs.Records.{Record, nowhere, record_at}
 use Rattle.lk_place.specs.Regions.{given_regions, regions_of}
 use Rattle.lk_place.specs.Segments.{hull, part_records}
 use Rattle.lk_place.specs.Setting.{IsReady, Setting, part_count, part_number}
 use Rattle.lk_place.specs.Start.{constants_by}
-use Rattle.lk_place.specs.Surroundings.{Early, early_operand}
+use Rattle.lk_expressions.specs.Surroundings.{Early, early_operand}
 use Rattle.lk_place.specs.Tables.{ArePlacedAt, is_before, part_before, section_before}
 use Rattle.lk_place.proofs.Checked.{has_part}
 use Rattle.lk_place.proofs.ApartLaws.{section_one}
 use Rattle.lk_place.proofs.Knowing.{part_placed, placing_event, placing_part}
 use Rattle.lk_place.proofs.MassLaws.{part_place}
-use Rattle.lk_place.proofs.Unnamed.{value_at_hand}
+use Rattle.lk_place.proofs.AtHand.{value_at_hand}
 use Rattle.lk_place.proofs.WalkRecords.{among_is, among_part, placed_below, section_there}
 
 -- ---- what an entry tells

@@ -8,7 +8,7 @@ use Rattle.lk_place.specs.declared.cursors.Offsets.{Offsets}
 use Rattle.lk_place.specs.declared.error.Refusal.TheVariants.{Overflow}
 use Rattle.lk_place.specs.Placement.{IsRestingAt, behind, end_behind, first_walked, is_below, is_walked, overflow_at, pushed, section_end, section_start, walk_alignment}
 use Rattle.lk_place.specs.PlacementLaws.{RefusedExactlyPast}
-use Rattle.lk_place.specs.Records.{Fits, Record, record_at}
+use Rattle.lk_expressions.specs.Records.{Fits, Record, record_at}
 use Rattle.lk_place.specs.Setting.{Setting, part_count, part_number, size_at}
 use Rattle.lk_place.proofs.PlacedParts.{behind_placed}
 use Rattle.lk_place.proofs.PlacedSections.{by_walked, place_walked, places_makes, unloaded, walked_record}

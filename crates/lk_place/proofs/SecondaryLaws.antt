@@ -10,7 +10,7 @@ use Rattle.std.proofs.lemmas.List.Sums.{fold-append}
 use Rattle.std.proofs.lemmas.Option.{get_or_from_slice_get, slice_get_within}
 use Rattle.lk_link.specs.declared.plan.PlanSection.{PlanSection}
 use Rattle.lk_link.specs.PlanSections.{no_section, section_at}
-use Rattle.lk_place.specs.Records.{Record, nowhere, record_at}
+use Rattle.lk_expressions.specs.Records.{Record, nowhere, record_at}
 use Rattle.lk_place.specs.declared.error.PlaceError.TheVariants.{AddressOverflow}
 use Rattle.lk_place.specs.Secondaries.{is_fitting, is_secondary_to, joined, joined_among, merge_refusal, merged_among, overflowing, overfull, secondaries_among}
 use Rattle.lk_place.specs.SecondariesSoFar.{joined_to, merged_by, merged_so_far}

@@ -13,7 +13,7 @@ use Rattle.lk_place.specs.declared.error.Refusal.{Refusal}
 use Rattle.lk_place.specs.declared.error.Refusal.TheVariants.{Overflow}
 use Rattle.lk_place.specs.Alignments.{section_alignment}
 use Rattle.lk_place.specs.Placement.{behind, end_behind, first_record, first_walked, is_below, is_walked, next_end, next_record, overflow_at, pushed, record_by, walk_alignment}
-use Rattle.lk_place.specs.Records.{Record}
+use Rattle.lk_expressions.specs.Records.{Record}
 use Rattle.lk_place.specs.Setting.{IsReady, Setting, has_bytes, of_parts, part_count, part_number, size_at}
 use Rattle.lk_place.specs.Walk.{unless}
 use Rattle.lk_place.proofs.Checked.{has_part}

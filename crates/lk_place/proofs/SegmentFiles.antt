@@ -6,7 +6,7 @@ use Rattle.lk_link.specs.declared.plan.OrderEvent.{OrderEvent}
 use Rattle.lk_link.specs.declared.plan.Plan.{Plan}
 use Rattle.lk_link.specs.Inside.{placed_section}
 use Rattle.lk_link.specs.Rules.{is_start}
-use Rattle.lk_place.specs.Records.{Record, file_end, record_at}
+use Rattle.lk_expressions.specs.Records.{Record, file_end, record_at}
 use Rattle.lk_place.specs.Segments.{end_behind, is_skipped}
 
 -- an element that doesn't pass stands before the first that does

@@ -13,7 +13,7 @@ use Rattle.lk_link.specs.ExpressionRules.{AreGoodExpressions, HasGoodMove, IsGoo
 use Rattle.lk_link.specs.Files.{file_in}
 use Rattle.lk_link.specs.WellFormed.{IsWellFormed}
 use Rattle.lk_link.proofs.GoodExpressions.{good_expressions}
-use Rattle.lk_place.specs.Constants.{HasShallowRedirects, IsShallowPlacement}
+use Rattle.lk_expressions.specs.Constants.{HasShallowRedirects, IsShallowPlacement}
 use Rattle.lk_place.specs.Shallow.{AreShallow, IsShallowEvent}
 
 shallow_redirect : (link : LinkInput) (p : SymbolPlacement) → IsGoodRedirect link p → IsShallowPlacement p

@@ -27,7 +27,7 @@ use Rattle.lk_place.specs.PlacedBefore.{Known, Standing}
 use Rattle.lk_place.specs.Placement.{IsPlaced, known_before, Places, PlacesSection, Steps, moved, reached, section_start, state_at}
 use Rattle.lk_place.specs.Plain.{IsPlain}
 use Rattle.lk_place.specs.Plans.{IsUnmoved}
-use Rattle.lk_place.specs.Records.{Record, file_end, mem_end}
+use Rattle.lk_expressions.specs.Records.{Record, file_end, mem_end}
 use Rattle.lk_place.specs.Setting.{Setting, part_count, takes_addresses}
 use Rattle.lk_place.specs.Start.{BeginsAt, begun_memory, cursors_at, first_cursors, no_cursors, start}
 use Rattle.lk_place.specs.ThreadLocal.{free_memory}

@@ -18,7 +18,7 @@ use Rattle.lk_place.specs.Placement.{IsPlaced, known_before, IsPlacedBefore, Pas
 use Rattle.lk_place.specs.InRegions.{past_region, stands_in}
 use Rattle.lk_place.specs.PlacementLaws.{PlacementExists, PlacementIsOne}
 use Rattle.lk_place.specs.PlacedBefore.{Known, Standing}
-use Rattle.lk_place.specs.Records.{Record, nowhere, record_at}
+use Rattle.lk_expressions.specs.Records.{Record, nowhere, record_at}
 use Rattle.lk_place.specs.Setting.{IsReady, Setting, part_count, part_number}
 use Rattle.lk_place.specs.Start.{BeginsAt, no_cursors, start}
 use Rattle.lk_place.specs.Walk.{AllPass, after_move, cursors_after, entered, first_state, known_after, left_behind, load_of, load_or_none, loaded_by, records_after, refused_at, record_after, stepped}

@@ -12,7 +12,7 @@ use Rattle.lk_place.specs.declared.cursors.Cursors.{Cursors}
 use Rattle.lk_place.specs.Placement.{IsPlacedBefore, record_by, section_start}
 use Rattle.lk_place.specs.PlacedBefore.{Known, Standing, lies_in}
 use Rattle.lk_place.specs.Ranges.{HasPart}
-use Rattle.lk_place.specs.Records.{Record, nowhere}
+use Rattle.lk_expressions.specs.Records.{Record, nowhere}
 use Rattle.lk_place.specs.Setting.{IsReady, Setting, part_count, part_number}
 use Rattle.lk_place.specs.Walk.{cursors_after, entered, known_after, load_of, loaded_by, record_after, recorded, rewritten, walk_after}
 use Rattle.lk_place.proofs.ApartLaws.{section_one}

@@ -14,7 +14,7 @@ use Rattle.lk_place.specs.Placement.{event_refusal, numbered, refusal_of}
 use Rattle.lk_place.specs.Counters.{told_counter}
 use Rattle.lk_place.specs.InRegions.{span_of}
 use Rattle.lk_place.specs.PlacedBefore.{Known}
-use Rattle.lk_place.specs.Records.{Record, nowhere}
+use Rattle.lk_expressions.specs.Records.{Record, nowhere}
 use Rattle.lk_place.specs.Setting.{Setting}
 use Rattle.lk_place.specs.Start.{BeginsAt, start}
 use Rattle.lk_place.specs.Walk.{AllPass, GivesWalked, GoesOn, goes_on_after, told_after, went_on, StopsBy, at_event, begun, cursors_after, first_state, known_after, refused_at, walk_after, record_after, recorded, stepped, unless}

@@ -7,7 +7,7 @@ use Rattle.lk_place.specs.declared.error.PlaceError.TheVariants.{NoMemory, Regio
 use Rattle.lk_place.specs.declared.walk.Placed.{Placed}
 use Rattle.lk_place.specs.Counters.{counters_of}
 use Rattle.lk_place.specs.Placement.{IsPlaced, placement_refusal}
-use Rattle.lk_place.specs.Records.{Record}
+use Rattle.lk_expressions.specs.Records.{Record}
 use Rattle.lk_place.specs.Segments.{section_records}
 use Rattle.lk_place.specs.Setting.{Setting}
 use Rattle.lk_place.specs.Start.{base_value}

@@ -6,9 +6,9 @@ use Rattle.lk_link.specs.declared.plan.Plan.{Plan}
 use Rattle.lk_link.specs.Alignments.{IsGreatestMultiple}
 use Rattle.lk_place.specs.declared.error.PlaceError.{PlaceError}
 use Rattle.lk_place.specs.declared.error.PlaceError.TheVariants.{BaseTooLow, Expression}
-use Rattle.lk_place.specs.declared.expressions.positions.SymbolPosition.{SymbolPosition}
-use Rattle.lk_place.specs.Expressions.{Valued}
-use Rattle.lk_place.specs.Surroundings.{Early}
+use Rattle.lk_expressions.specs.declared.positions.SymbolPosition.{SymbolPosition}
+use Rattle.lk_expressions.specs.Expressions.{Valued}
+use Rattle.lk_expressions.specs.Surroundings.{Early}
 
 -- what is known before anything is placed: memory hasn't begun, so the location counter is 0
 abbrev pub known_first : List (List InputFile) → ℕ → List (ℕ × ℕ) → List (Option Valued) → List (Option SymbolPosition) → Early

@@ -1,6 +1,6 @@
 -- Parts of a section that follow each other in the file.
 use Rattle.std.specs.Prelude.{ℕ, ◌+◌, List, take, sum_by}
-use Rattle.lk_place.specs.Records.{Record, record_at}
+use Rattle.lk_expressions.specs.Records.{Record, record_at}
 
 -- the record of part p of a section whose parts follow each other in the file from this start on: it stands behind those before it
 abbrev pub ran_on : ℕ → List Record → ℕ → Record

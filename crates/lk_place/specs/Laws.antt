@@ -16,7 +16,7 @@ use Rattle.lk_place.specs.Placement.{IsPlaced}
 use Rattle.lk_place.specs.Plain.{IsLoadSegment, IsPlain, PlacesInLoad}
 use Rattle.lk_place.specs.Plans.{IsUnmoved}
 use Rattle.lk_place.specs.Ranges.{FileIsDisjoint, HasPart, MemoryIsDisjoint}
-use Rattle.lk_place.specs.Records.{Record, record_at}
+use Rattle.lk_expressions.specs.Records.{Record, record_at}
 use Rattle.lk_place.specs.Segments.{alignment_inside, section_records}
 use Rattle.lk_place.specs.Setting.{IsReady, Setting}
 

@@ -1,18 +1,12 @@
 pub mod Alignments
 pub mod Answers
+pub mod AtHand
 pub mod Base
-pub mod Constants
 pub mod Counters
-pub mod Evaluation
-pub mod ExpressionLaws
-pub mod ExpressionTexts
-pub mod Expressions
 pub mod FileRange
 pub mod InRegions
-pub mod KnownThen
 pub mod Laws
 pub mod Locations
-pub mod Named
 pub mod PlacedBefore
 pub mod Placement
 pub mod PlacementLaws
@@ -20,7 +14,6 @@ pub mod Plain
 pub mod PlainScan
 pub mod Plans
 pub mod Ranges
-pub mod Records
 pub mod Regions
 pub mod Secondaries
 pub mod SecondariesSoFar
@@ -29,7 +22,6 @@ pub mod Setting
 pub mod Shallow
 pub mod Spans
 pub mod Start
-pub mod Surroundings
 pub mod Tables
 pub mod ThreadLocal
 pub mod Walk

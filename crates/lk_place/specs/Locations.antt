@@ -6,7 +6,7 @@ use Rattle.lk_link.specs.PlanSections.{is_allocated, is_file_backed, section_at}
 use Rattle.lk_place.specs.declared.cursors.Cursors.{Cursors}
 use Rattle.lk_place.specs.declared.error.Refusal.{Refusal}
 use Rattle.lk_place.specs.declared.error.Refusal.TheVariants.{Backwards, Overflow}
-use Rattle.lk_place.specs.Records.{Record}
+use Rattle.lk_expressions.specs.Records.{Record}
 
 -- cursors, unless one is past 2^64 - 1
 abbrev pub within_64 : Cursors → Result Cursors Refusal

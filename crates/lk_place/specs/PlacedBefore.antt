@@ -11,13 +11,13 @@ use Rattle.lk_link.specs.Parts.{first_part}
 use Rattle.lk_place.specs.declared.cursors.Cursors.{Cursors}
 use Rattle.lk_place.specs.declared.error.Refusal.{Refusal}
 use Rattle.lk_place.specs.declared.error.Refusal.TheVariants.{NoValue}
-use Rattle.lk_place.specs.Expressions.{Valued, expression_value}
-use Rattle.lk_place.specs.Records.{Record, record_at}
+use Rattle.lk_expressions.specs.Expressions.{Valued, expression_value}
+use Rattle.lk_expressions.specs.Records.{Record, record_at}
 use Rattle.lk_place.specs.Regions.{given_regions, regions_of}
 use Rattle.lk_place.specs.Segments.{hull, part_records}
 use Rattle.lk_place.specs.Setting.{Setting, part_count}
 use Rattle.lk_place.specs.Start.{constants_by}
-use Rattle.lk_place.specs.Surroundings.{Early, early_operand}
+use Rattle.lk_expressions.specs.Surroundings.{Early, early_operand}
 
 -- ---- what is placed
 

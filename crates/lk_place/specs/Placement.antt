@@ -20,11 +20,11 @@ use Rattle.lk_place.specs.declared.error.PlaceError.TheVariants.{AddressOverflow
 use Rattle.lk_place.specs.declared.error.Refusal.{Refusal}
 use Rattle.lk_place.specs.declared.error.Refusal.TheVariants.{Backwards, NoLoadAddress, NoValue, Outside, Overflow, Past, Undeclared}
 use Rattle.lk_place.specs.Alignments.{numbered_parts, place_alignment, section_alignment}
-use Rattle.lk_place.specs.Expressions.{Valued, ◌>>=◌}
+use Rattle.lk_expressions.specs.Expressions.{Valued, ◌>>=◌}
 use Rattle.lk_place.specs.InRegions.{goes_on_by, in_region, inside_region, past_region, stands_in}
 use Rattle.lk_place.specs.Locations.{awaiting, behind_start, opened_at, taken}
 use Rattle.lk_place.specs.PlacedBefore.{Known, Standing, early_value, lies_in, standing_before, value_at}
-use Rattle.lk_place.specs.Records.{Record, file_end, mem_end, nowhere, record_at}
+use Rattle.lk_expressions.specs.Records.{Record, file_end, mem_end, nowhere, record_at}
 use Rattle.lk_place.specs.Segments.{hull}
 use Rattle.lk_place.specs.Setting.{Setting, has_bytes, of_parts, part_count, part_number, size_at, takes_addresses}
 use Rattle.lk_place.specs.Start.{BeginsAt, no_cursors, start}

@@ -2,7 +2,7 @@
 use Rattle.std.specs.Prelude.{◌≡◌, ◌<◌, ◌↔◌, ℕ, List, None, length, map}
 use Rattle.lk_place.specs.declared.cursors.Cursors.{Cursors}
 use Rattle.lk_place.specs.Placement.{IsPlaced, PlacesSection, placement_refusal, section_overflow}
-use Rattle.lk_place.specs.Records.{Fits, Record, record_at}
+use Rattle.lk_expressions.specs.Records.{Fits, Record, record_at}
 use Rattle.lk_place.specs.Setting.{IsReady, Setting, part_count, part_number}
 
 -- there is a placement of each plan, up to the first refused event

@@ -3,7 +3,7 @@ use Rattle.std.specs.Prelude.{◌≡◌, ◌≢◌, ℕ, ◌+◌, ◌<◌, ◌�
 use Rattle.lk_link.specs.declared.plan.Plan.{Plan}
 use Rattle.lk_link.specs.Parts.{first_part}
 use Rattle.lk_link.specs.PlanSections.{has_memory}
-use Rattle.lk_place.specs.Records.{Record, file_end, mem_end, record_at}
+use Rattle.lk_expressions.specs.Records.{Record, file_end, mem_end, record_at}
 
 -- part p is one of section s
 pub record HasPart (plan : Plan) (s p : ℕ) : Type 0 where

@@ -6,9 +6,9 @@ use Rattle.lk_link.specs.declared.fault.Place.TheVariants as place
 use Rattle.lk_link.specs.declared.plan.Region.{Region}
 use Rattle.lk_place.specs.declared.error.PlaceError.{PlaceError}
 use Rattle.lk_place.specs.declared.error.PlaceError.TheVariants.{Expression, NoMemory, RegionDuplicate}
-use Rattle.lk_place.specs.declared.expressions.no_value.NoValue.{NoValue}
-use Rattle.lk_place.specs.Expressions.{IsShallow, ◌>>=◌, expression_value}
-use Rattle.lk_place.specs.Surroundings.{number_alone}
+use Rattle.lk_expressions.specs.declared.no_value.NoValue.{NoValue}
+use Rattle.lk_expressions.specs.Expressions.{IsShallow, ◌>>=◌, expression_value}
+use Rattle.lk_expressions.specs.Surroundings.{number_alone}
 
 -- whether one of some regions has a name
 abbrev pub is_declared : List Region → List ℕ → Bool

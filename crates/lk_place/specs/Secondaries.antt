@@ -8,7 +8,7 @@ use Rattle.lk_link.specs.declared.plan.PlanSection.{PlanSection}
 use Rattle.lk_link.specs.PlanSections.{section_at}
 use Rattle.lk_place.specs.declared.error.PlaceError.{PlaceError}
 use Rattle.lk_place.specs.declared.error.PlaceError.TheVariants.{AddressOverflow}
-use Rattle.lk_place.specs.Records.{Record, file_end, is_filled, mem_end, nowhere, record_at}
+use Rattle.lk_expressions.specs.Records.{Record, file_end, is_filled, mem_end, nowhere, record_at}
 
 -- how long a range gets by another one: it stretches to the other's end, or their sizes are added
 abbrev pub joined_size : Bool → ℕ → ℕ → ℕ → ℕ → ℕ

@@ -12,7 +12,7 @@ use Rattle.lk_link.specs.PlanSections.{is_allocated, section_at}
 use Rattle.lk_link.specs.Rules.{is_good_section}
 use Rattle.lk_link.specs.Target.{Target}
 use Rattle.lk_link.specs.WellFormed.{IsEventOrder}
-use Rattle.lk_place.specs.declared.expressions.positions.SymbolPosition.{SymbolPosition}
+use Rattle.lk_expressions.specs.declared.positions.SymbolPosition.{SymbolPosition}
 
 -- what is placed, for which output and machine; the bytes of each part, by its number over all sections; and the files whose symbols
 -- expressions name, the bytes of the headers, and the place of each symbol that stands in a part

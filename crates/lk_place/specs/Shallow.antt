@@ -5,8 +5,9 @@ use Rattle.lk_link.specs.declared.link.LinkInput.{LinkInput}
 use Rattle.lk_link.specs.declared.plan.OrderEvent.{OrderEvent}
 use Rattle.lk_link.specs.declared.plan.OrderEvent.TheVariants.{SetLocation, SetLocationRelative, SetSectionAddress}
 use Rattle.lk_link.specs.declared.plan.PlanSection.{PlanSection}
-use Rattle.lk_place.specs.Constants.{HasShallowRedirects}
-use Rattle.lk_place.specs.Expressions.{IsShallow}
+use Rattle.lk_link.specs.WellFormed.{IsWellFormed}
+use Rattle.lk_expressions.specs.Constants.{HasShallowRedirects}
+use Rattle.lk_expressions.specs.Expressions.{IsShallow}
 use Rattle.lk_place.specs.Regions.{IsShallowRegion}
 
 -- the expression of an event that moves the location isn't too deep
@@ -35,3 +36,9 @@ pub record AreShallow (link : LinkInput) : Type 0 where
   pub redirects : HasShallowRedirects link.groups
   pub events : AreShallowEvents link.plan.events
   pub loads : AreShallowLoads link.plan.sections
+
+-- ---- a law
+
+-- no expression of a well-formed link that is evaluated while sections are placed is too deep
+abbrev pub ExpressionsAreShallow : Type 0
+ExpressionsAreShallow = (link : LinkInput) → IsWellFormed link → AreShallow link

@@ -5,15 +5,15 @@ use Rattle.lk_link.specs.declared.plan.Plan.{Plan}
 use Rattle.lk_place.specs.declared.cursors.Cursors.{Cursors}
 use Rattle.lk_place.specs.declared.error.PlaceError.{PlaceError}
 use Rattle.lk_place.specs.declared.error.PlaceError.TheVariants.{NoMemory}
-use Rattle.lk_place.specs.declared.expressions.positions.SymbolPosition.{SymbolPosition}
+use Rattle.lk_expressions.specs.declared.positions.SymbolPosition.{SymbolPosition}
 use Rattle.lk_place.specs.declared.start.Beginning.{Beginning}
 use Rattle.lk_place.specs.Base.{first_memory, known_first}
-use Rattle.lk_place.specs.Constants.{constants_of}
-use Rattle.lk_place.specs.Expressions.{Valued, expression_value}
-use Rattle.lk_place.specs.Named.{AreAtHand}
+use Rattle.lk_expressions.specs.Constants.{constants_of}
+use Rattle.lk_expressions.specs.Expressions.{Valued, expression_value}
+use Rattle.lk_place.specs.AtHand.{AreAtHand}
 use Rattle.lk_place.specs.Regions.{given_regions, regions_of}
 use Rattle.lk_place.specs.Setting.{Setting}
-use Rattle.lk_place.specs.Surroundings.{early_operand}
+use Rattle.lk_expressions.specs.Surroundings.{early_operand}
 
 -- what constant redirects are worth, by the headers, and by origin and length of each region
 abbrev pub constants_by : List (List InputFile) → ℕ → List (ℕ × ℕ) → List (Option Valued)

@@ -20,11 +20,11 @@ use Rattle.lk_place.specs.declared.walk.Walk.{Walk}
 use Rattle.lk_place.specs.Alignments.{section_alignment, section_alignments, segment_alignments, thread_local_alignment}
 use Rattle.lk_place.specs.Counters.{told_counter}
 use Rattle.lk_place.specs.InRegions.{named_region, places_in, span_of}
-use Rattle.lk_place.specs.Named.{AreAtHand}
+use Rattle.lk_place.specs.AtHand.{AreAtHand}
 use Rattle.lk_place.specs.Placement.{first_record, first_walked, is_below, load_given, moved, next_record, numbered, overflow_at}
 use Rattle.lk_place.specs.Placement.{record_by, refusal_of, section_left, section_start}
 use Rattle.lk_place.specs.PlacedBefore.{Known, Standing, lies_in, standing_before}
-use Rattle.lk_place.specs.Records.{Record, nowhere, record_at}
+use Rattle.lk_expressions.specs.Records.{Record, nowhere, record_at}
 use Rattle.lk_place.specs.Setting.{IsReady, Setting, part_count, setting_of}
 use Rattle.lk_place.specs.Regions.{given_regions, regions_of}
 use Rattle.lk_place.specs.Start.{constants_by, first_cursors, start}

@@ -5,11 +5,11 @@
 
 ghost use Rattle.std.specs.Prelude.{◌≡◌, ◌<◌};
 ghost use Rattle.lk_place.specs.Base.{first_memory, known_first, memory_begun, page_for_headers};
-ghost use Rattle.lk_place.specs.Expressions.{IsShallow, expression_value};
-ghost use Rattle.lk_place.specs.Surroundings.{early_operand};
+ghost use Rattle.lk_expressions.specs.Expressions.{IsShallow, expression_value};
+ghost use Rattle.lk_expressions.specs.Surroundings.{early_operand};
 
 use crate::error::PlaceError;
-use crate::expressions::{NoValue, SymbolPositions, evaluate_early_expression};
+use lk_expressions::{NoValue, SymbolPositions, evaluate_early_expression};
 use lk_link::fault::Place;
 use lk_link::link::LinkInput;
 use lk_link::plan::Plan;

@@ -1,6 +1,6 @@
 //! Why a link isn't placed.
 
-use crate::expressions::NoValue;
+use lk_expressions::NoValue;
 use lk_link::fault::Place;
 use lk_link::ids::{OutputSectionId, RegionId};
 use std::alloc::{AllocError, AllocFailed};

@@ -2,9 +2,9 @@
 
 ghost use Rattle.std.specs.Prelude.{◌≡◌, ◌+◌, ◌^◌, ◌<◌, ℕ, length, sum_by};
 ghost use Rattle.lk_place.specs.FileRange.{ran_on};
-ghost use Rattle.lk_place.specs.Records.{record_at};
+ghost use Rattle.lk_expressions.specs.Records.{record_at};
 
-use crate::record::OutputRecordLayout;
+use lk_expressions::OutputRecordLayout;
 use lk_link::plan::PlanSection;
 
 /// Puts a part at this offset of the file, and gives its end there.

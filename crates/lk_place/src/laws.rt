@@ -1,10 +1,12 @@
 //! Laws of placement, each proved as the contract of a function that does nothing.
 
 ghost use Rattle.lk_place.specs.Base.{MemoryLeavesRoom};
-ghost use Rattle.lk_place.specs.ExpressionLaws.{ConstantsGoByThoseBefore, ExpressionsAreShallow};
 ghost use Rattle.lk_place.specs.Laws.{FileRangesAreDisjoint, InsideIsPlaced, MemoryRangesAreDisjoint, OneLoadSegmentIsPlain};
 ghost use Rattle.lk_place.specs.Laws.{PlainMemoryIsCongruent, PlainMemoryIsDisjoint, RecordsKeepAlignments};
 ghost use Rattle.lk_place.specs.PlacementLaws.{PartsTakeTheirBytes, PlacementExists, PlacementIsOne, RefusedExactlyPast};
+ghost use Rattle.lk_place.specs.Shallow.{ExpressionsAreShallow};
+
+pub use lk_expressions::laws::{constants_go_by_those_before, unnamed_read_no_symbols};
 
 /// A law: there is a placement of each plan with its events in order and good sections, up to the first refused event.
 pub fn placement_exists()
@@ -63,11 +65,6 @@ pub fn inside_is_placed()
 /// memory and take bytes of the file.
 pub fn one_load_segment_is_plain()
     ensures { OneLoadSegmentIsPlain }
-{}
-
-/// A law: each symbol has its place among the constants, and what stands there goes by the constants of the symbols before it.
-pub fn constants_go_by_those_before()
-    ensures { ConstantsGoByThoseBefore }
 {}
 
 /// A law: where headers are to stand below the base and have room there, memory begins at the last page that leaves it to them.

@@ -7,17 +7,16 @@ ghost use Rattle.std.specs.Prelude.{◌≡◌, ◌≤◌, ◌<◌, ◌+◌, ◌-
 ghost use Rattle.lk_link.specs.declared.plan.OrderEvent.TheVariants.{Section};
 ghost use Rattle.lk_link.specs.Parts.{all_parts};
 ghost use Rattle.lk_link.specs.PlanSections.{section_at};
-ghost use Rattle.lk_place.specs.Named.{AreWalkedLoads};
+ghost use Rattle.lk_place.specs.AtHand.{AreEvaluableLoads};
 ghost use Rattle.lk_place.specs.PlacedBefore.{lies_in, standing_before};
 ghost use Rattle.lk_place.specs.Placement.{load_by, loading, placing_refusal, section_left};
-ghost use Rattle.lk_place.specs.Records.{record_at};
+ghost use Rattle.lk_expressions.specs.Records.{record_at};
 ghost use Rattle.lk_place.specs.Walk.{IsWalkable, Rewrites, all_loaded, loaded_by, rewritten, setting_in, unless};
 
 use crate::cursors::Cursors;
 use crate::error::Refusal;
-use crate::expressions::NoValue;
-use crate::record::OutputRecordLayout;
 use crate::walk::Walk;
+use lk_expressions::{NoValue, OutputRecordLayout};
 use lk_link::ids::OutputSectionId;
 use lk_link::platform::Platform;
 
@@ -65,7 +64,7 @@ impl<P: Platform> Walk<'_, P> {
         requires walkable { IsWalkable P.segment_start self.now }
         requires in_range { section < length self.now.link.now.plan.sections }
         requires each { length records.now ≡ length (all_parts self.now.link.now.plan.sections) }
-        requires loads { AreWalkedLoads self.now.link.now.plan }
+        requires loads { AreEvaluableLoads self.now.link.now.plan }
         ensures { let plan = self.now.link.now.plan in result ≡ load_by (setting_in P.segment_start self.now) section
             (standing_before plan records.now event) behind (section_at plan.sections section).at }
     {
@@ -121,7 +120,7 @@ impl<P: Platform> Walk<'_, P> {
         requires in_range { section < length self.now.link.now.plan.sections }
         requires here { slice_get self.now.link.now.plan.events event ≡ Some (Section section) }
         requires each { length records.old ≡ length (all_parts self.now.link.now.plan.sections) }
-        requires loads { AreWalkedLoads self.now.link.now.plan }
+        requires loads { AreEvaluableLoads self.now.link.now.plan }
         ensures ends { let setting = setting_in P.segment_start self.now in let standing = standing_before setting.plan records.old event
             in result ≡ unless (placing_refusal setting standing section from) (section_left setting section from) }
         ensures records { let setting = setting_in P.segment_start self.now in let standing = standing_before setting.plan records.old event

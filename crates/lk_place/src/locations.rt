@@ -6,8 +6,7 @@ ghost use Rattle.lk_place.specs.PlacedBefore.{refusing};
 
 use crate::cursors::Cursors;
 use crate::error::Refusal;
-use crate::expressions::NoValue;
-use crate::record::OutputRecordLayout;
+use lk_expressions::{NoValue, OutputRecordLayout};
 use lk_link::alignment::Alignment;
 use lk_link::ids::OutputSectionId;
 use lk_link::plan::Plan;

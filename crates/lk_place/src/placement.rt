@@ -15,8 +15,8 @@ ghost use Rattle.lk_place.specs.Walk.{IsPlacing, IsWalkable, Rewrites, all_writt
 
 use crate::cursors::{Cursors, Offsets};
 use crate::error::Refusal;
-use crate::record::OutputRecordLayout;
 use crate::walk::Walk;
+use lk_expressions::OutputRecordLayout;
 use lk_link::alignment::Alignment;
 use lk_link::ids::OutputSectionId;
 use lk_link::plan::PlanPart;

@@ -9,7 +9,7 @@ ghost use Rattle.lk_place.specs.InRegions.{named_region, numbered_region};
 ghost use Rattle.lk_place.specs.Regions.{GivesRegions, IsShallowRegion, is_declared, region_of, region_value, valued_region};
 
 use crate::error::PlaceError;
-use crate::expressions::{NoValue, evaluate_const};
+use lk_expressions::{NoValue, evaluate_const};
 use lk_link::fault::Place;
 use lk_link::ids::RegionId;
 use lk_link::link::LinkInput;

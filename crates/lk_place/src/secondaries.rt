@@ -7,14 +7,14 @@ ghost use Rattle.std.specs.Option.{IfSome};
 ghost use Rattle.lk_link.specs.declared.fault.Place.TheVariants as place;
 ghost use Rattle.lk_link.specs.WellFormed.{IsWellFormed};
 ghost use Rattle.lk_place.specs.declared.error.PlaceError.TheVariants.{AddressOverflow};
-ghost use Rattle.lk_place.specs.Records.{record_at};
+ghost use Rattle.lk_expressions.specs.Records.{record_at};
 ghost use Rattle.lk_place.specs.Secondaries.{is_fitting, joined, joined_size, merge_refusal, merged_records};
 ghost use Rattle.lk_place.specs.SecondariesSoFar.{fitting, joined_to};
 ghost use Rattle.lk_place.specs.Segments.{Refuses};
 
 use crate::error::PlaceError;
 use crate::hulls::nothing;
-use crate::record::OutputRecordLayout;
+use lk_expressions::OutputRecordLayout;
 use lk_link::fault::Place;
 use lk_link::link::LinkInput;
 use lk_link::plan::PlanSection;

@@ -11,7 +11,7 @@ ghost use Rattle.lk_link.specs.WellFormed.{IsInRange, IsWellFormed};
 ghost use Rattle.lk_link.specs.Marks.{is_marked};
 ghost use Rattle.lk_link.specs.Rules.{is_start};
 ghost use Rattle.lk_link.specs.SegmentKinds.{is_tls, segment_at};
-ghost use Rattle.lk_place.specs.Records.{file_end, has_file_bytes, record_at};
+ghost use Rattle.lk_expressions.specs.Records.{file_end, has_file_bytes, record_at};
 ghost use Rattle.lk_place.specs.Segments.{Refuses, compact_end, compact_start, compacted, counts, end_behind, end_refusal, first_outside, found_outside, hull, in_file_inside};
 ghost use Rattle.lk_place.specs.Segments.{is_skipped, may_stand_outside, segment_layout, segment_layouts, segment_record, segments_refusal};
 ghost use Rattle.lk_place.specs.Segments.{stack_record, is_in_segments, thread_local_one};
@@ -19,7 +19,7 @@ ghost use Rattle.lk_place.specs.Spans.{CanSpan};
 
 use crate::error::PlaceError;
 use crate::hulls::{nothing, with_record};
-use crate::record::OutputRecordLayout;
+use lk_expressions::OutputRecordLayout;
 use lk_link::alignment::Alignment;
 use lk_link::fault::Place;
 use lk_link::ids::{OutputSectionId, SegmentId};
@@ -47,7 +47,7 @@ pub struct SegmentLayout {
 
 impl Default for SegmentLayout {
     ghost use Rattle.std.specs.Prelude.{◌≡◌};
-    ghost use Rattle.lk_place.specs.Records.{nowhere};
+    ghost use Rattle.lk_expressions.specs.Records.{nowhere};
 
     ghost is_default = { λ l. l ≡ record { id = 0; sizes = nowhere } };
 

@@ -6,15 +6,15 @@
 
 ghost use Rattle.std.specs.Prelude.{IfOk};
 ghost use Rattle.lk_link.specs.WellFormed.{IsWellFormed};
-ghost use Rattle.lk_place.specs.Constants.{HasShallowRedirects};
-ghost use Rattle.lk_place.specs.Named.{AreAtHand};
+ghost use Rattle.lk_expressions.specs.Constants.{HasShallowRedirects};
+ghost use Rattle.lk_place.specs.AtHand.{AreAtHand};
 ghost use Rattle.lk_place.specs.Shallow.{AreShallow};
 ghost use Rattle.lk_place.specs.Start.{GivesBeginning, constants_by};
 
 use crate::base::{base_value, begin_memory};
 use crate::error::PlaceError;
-use crate::expressions::{Constant, SymbolPositions, constant_redirects, names_no_symbol};
 use crate::regions::evaluate_regions;
+use lk_expressions::{Constant, SymbolPositions, constant_redirects, names_no_symbol};
 use lk_link::fault::Place;
 use lk_link::link::LinkInput;
 use lk_link::list::List;

@@ -16,13 +16,13 @@ ghost use Rattle.lk_link.specs.Target.{platform_target};
 ghost use Rattle.lk_place.specs.Alignments.{place_alignment};
 ghost use Rattle.lk_place.specs.Answers.{GivesPlaced};
 ghost use Rattle.lk_place.specs.Counters.{told_counter};
-ghost use Rattle.lk_place.specs.Named.{AreWalkedEvents, AreWalkedLoads, IsWalked, IsWalkedEvent};
+ghost use Rattle.lk_place.specs.AtHand.{AreEvaluableEvents, AreEvaluableLoads, IsEvaluable, IsEvaluableEvent};
 ghost use Rattle.std.specs.List.{slice_index};
 ghost use Rattle.lk_place.specs.InRegions.{span_of};
 ghost use Rattle.lk_place.specs.Locations.{behind_start, within_64};
 ghost use Rattle.lk_place.specs.PlacedBefore.{early_value, standing_before, value_at};
 ghost use Rattle.lk_place.specs.Placement.{begun_section, event_refusal, memory_moved, moved, numbered, opened, section_refusal};
-ghost use Rattle.lk_place.specs.Records.{nowhere, record_at};
+ghost use Rattle.lk_expressions.specs.Records.{nowhere, record_at};
 ghost use Rattle.lk_place.specs.Setting.{setting_of};
 ghost use Rattle.lk_place.specs.Start.{first_cursors, start};
 ghost use Rattle.lk_place.specs.ThreadLocal.{begins_run, padded, run_begun, saved_or_restored};
@@ -34,15 +34,14 @@ ghost use Rattle.lk_place.specs.Walk.{at_event, rewritten, unless};
 use crate::alignments::{Alignments, compute_alignments};
 use crate::cursors::Cursors;
 use crate::error::{PlaceError, Refusal};
-use crate::expressions::{
-    NoValue, PlacedRecords, RecordsBefore, SymbolPositions, Unplaced, evaluate_before,
-};
 use crate::hulls::{nothing, span_sections};
 use crate::locations::{not_before, open_at, refuse, take_location, wait_at};
 use crate::placed_at::events_of_parts;
-use crate::record::OutputRecordLayout;
+use crate::records_before::RecordsBefore;
 use crate::regions::{SectionRegion, origins, regions_of_sections};
 use crate::start::begin;
+use crate::walking::{Unplaced, evaluate_before};
+use lk_expressions::{NoValue, OutputRecordLayout, PlacedRecords, SymbolPositions};
 use lk_link::alignment::Alignment;
 use lk_link::expression::Expression;
 use lk_link::fault::Place;
@@ -222,7 +221,7 @@ impl<P: Platform> Walk<'_, P> {
     ) -> Result<u64, NoValue>
         requires walkable { IsWalkable P.segment_start self.now }
         requires each { length records.now ≡ length (all_parts self.now.link.now.plan.sections) }
-        requires walked { IsWalked self.now.link.now.plan expression.now }
+        requires walked { IsEvaluable self.now.link.now.plan expression.now }
         ensures { result ≡ early_value (setting_in P.segment_start self.now)
             (standing_before self.now.link.now.plan records.now event) from expression.now }
     {
@@ -246,7 +245,7 @@ impl<P: Platform> Walk<'_, P> {
     ) -> Result<u64, Refusal>
         requires walkable { IsWalkable P.segment_start self.now }
         requires each { length records.now ≡ length (all_parts self.now.link.now.plan.sections) }
-        requires walked { IsWalked self.now.link.now.plan expression.now }
+        requires walked { IsEvaluable self.now.link.now.plan expression.now }
         ensures { result ≡ value_at (setting_in P.segment_start self.now)
             (standing_before self.now.link.now.plan records.now event) from expression.now }
     {
@@ -288,7 +287,7 @@ impl<P: Platform> Walk<'_, P> {
         requires walkable { IsWalkable P.segment_start self.now }
         requires in_range { IsInRange self.now.link.now.plan event.now }
         requires each { length records.now ≡ length (all_parts self.now.link.now.plan.sections) }
-        requires walked { IsWalkedEvent self.now.link.now.plan event.now }
+        requires walked { IsEvaluableEvent self.now.link.now.plan event.now }
         requires regions { length goes_on.now ≡ length self.now.link.now.plan.regions }
         ensures { result ≡ moved (setting_in P.segment_start self.now)
             (known_in self.now.link.now.plan records.now goes_on.now number) event.now from }
@@ -325,7 +324,7 @@ impl<P: Platform> Walk<'_, P> {
         requires here { slice_get self.now.link.now.plan.events number ≡ Some event.now }
         requires each { length records.old ≡ length (all_parts self.now.link.now.plan.sections) }
         requires regions { length goes_on.old ≡ length self.now.link.now.plan.regions }
-        requires loads { AreWalkedLoads self.now.link.now.plan }
+        requires loads { AreEvaluableLoads self.now.link.now.plan }
         ensures ends { let setting = setting_in P.segment_start self.now in let s = placed_section event.now
             in result ≡ unless (section_refusal setting (standing_before setting.plan records.old number) s from) (left_behind setting s from) }
         ensures records { let setting = setting_in P.segment_start self.now
@@ -357,8 +356,8 @@ impl<P: Platform> Walk<'_, P> {
         requires each { length records.old ≡ length (all_parts self.now.link.now.plan.sections) }
         requires regions { length goes_on.old ≡ length self.now.link.now.plan.regions }
         requires here { slice_get self.now.link.now.plan.events number ≡ Some event.now }
-        requires walked { IsWalkedEvent self.now.link.now.plan event.now }
-        requires loads { AreWalkedLoads self.now.link.now.plan }
+        requires walked { IsEvaluableEvent self.now.link.now.plan event.now }
+        requires loads { AreEvaluableLoads self.now.link.now.plan }
         ensures ends { let setting = setting_in P.segment_start self.now in let known = known_in setting.plan records.old goes_on.old number
             in result ≡ unless (event_refusal setting known event.now from) (stepped setting known (Some event.now) from) }
         ensures records { let setting = setting_in P.segment_start self.now in let known = known_in setting.plan records.old goes_on.old number
@@ -385,8 +384,8 @@ impl<P: Platform> Walk<'_, P> {
         requires nothing { (p : ℕ) → record_at records.old p ≡ nowhere }
         requires regions { length goes_on.old ≡ length self.now.link.now.plan.regions }
         requires origins { (r : ℕ) → slice_index goes_on.old r ≡ (span_of (setting_in P.segment_start self.now) r).0 }
-        requires walked { AreWalkedEvents self.now.link.now.plan }
-        requires loads { AreWalkedLoads self.now.link.now.plan }
+        requires walked { AreEvaluableEvents self.now.link.now.plan }
+        requires loads { AreEvaluableLoads self.now.link.now.plan }
         ensures { GivesWalked (setting_in P.segment_start self.now) result records.new counters.old.items counters.new.items }
     {
         let mut cursors = Cursors {

@@ -20,7 +20,7 @@ use Rattle.lk_merge.specs.Image.{all_pieces, image, image_pieces, image_place}
 use Rattle.lk_merge.specs.Pieces.{Piece, MergeInput}
 use Rattle.lk_sizes.specs.declared.addresses.LiveSection.{LiveSection}
 use Rattle.lk_place.specs.declared.segments.SegmentLayout.{SegmentLayout}
-use Rattle.lk_place.specs.Records.{Record}
+use Rattle.lk_expressions.specs.Records.{Record}
 
 -- ---- pieces of a line
 

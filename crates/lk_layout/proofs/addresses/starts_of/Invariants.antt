@@ -1,6 +1,6 @@
 use Rattle.std.proofs.Common.{◌≡◌, ◌++◌, ◌+◌, ◌^◌, ◌<◌, ℕ, drop, map, vec_len}
 use Rattle.std.specs.Prelude.{slice_index}
-use Rattle.lk_place.specs.Records.{record_at}
+use Rattle.lk_expressions.specs.Records.{record_at}
 use Rattle.lk_layout.proofs.addresses.starts_of.Given as goal
 
 -- the starts so far, followed by those that are left, are all; those so far have room behind them

@@ -1,6 +1,6 @@
 use Rattle.std.proofs.Common.{◌≡◌, ◌<◌, ℕ, Bool, List, None, length, refl, sym, ap, subst, ◌∙◌}
 use Rattle.std.specs.Prelude.{All, option_map}
-use Rattle.lk_place.specs.Records.{Record}
+use Rattle.lk_expressions.specs.Records.{Record}
 use Rattle.lk_sizes.specs.Contents.{contents_of}
 use Rattle.lk_sizes.specs.Header.{header_info}
 use Rattle.lk_layout.proofs.Settings.{active_there, length-by_part, length-section_records}

@@ -8,7 +8,7 @@ use Rattle.lk_link.specs.TableSizes.{TableSizes}
 use Rattle.lk_link.specs.Walks.{file_of}
 use Rattle.lk_reach.proofs.SymbolNumbers.{first_within, inputs_few}
 use Rattle.lk_gc.specs.declared.live.Live.{Live}
-use Rattle.lk_place.specs.declared.expressions.positions.SymbolPosition.{SymbolPosition}
+use Rattle.lk_expressions.specs.declared.positions.SymbolPosition.{SymbolPosition}
 use Rattle.lk_sizes.specs.Addresses.{section_addresses}
 use Rattle.lk_layout.specs.OutputContent.{output_content}
 use Rattle.lk_layout.specs.Positions.{no_starts, position_of}

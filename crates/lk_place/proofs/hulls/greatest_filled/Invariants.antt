@@ -1,7 +1,7 @@
 use Rattle.std.proofs.Common.{◌≡◌, drop, map}
 use Rattle.std.specs.Prelude.{filter}
 use Rattle.lk_place.specs.Alignments.{greatest_of}
-use Rattle.lk_place.specs.Records.{is_filled}
+use Rattle.lk_expressions.specs.Records.{is_filled}
 use Rattle.lk_place.proofs.hulls.greatest_filled.Given as goal
 
 -- the greatest so far and of what is left is the greatest of all

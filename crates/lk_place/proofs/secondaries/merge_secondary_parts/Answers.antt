@@ -4,7 +4,7 @@ use Rattle.std.specs.List.{slice_index_or}
 use Rattle.std.proofs.lemmas.List.{get_or_default}
 use Rattle.lk_link.specs.declared.plan.PlanSection.{PlanSection}
 use Rattle.lk_link.proofs.Numbers.{made_of_or}
-use Rattle.lk_place.specs.Records.{Record, nowhere, record_at}
+use Rattle.lk_expressions.specs.Records.{Record, nowhere, record_at}
 use Rattle.lk_place.specs.Secondaries.{is_fitting, joined, joined_among, merge_refusal, merged_among}
 use Rattle.lk_place.specs.Segments.{Refuses}
 use Rattle.lk_place.specs.declared.error.PlaceError.{PlaceError}

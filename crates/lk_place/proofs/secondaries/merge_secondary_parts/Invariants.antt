@@ -1,6 +1,6 @@
 use Rattle.std.proofs.Common.{◌≡◌, ℕ, ◌<◌, drop, length}
 use Rattle.std.specs.List.{enumerate_from, filter_map}
-use Rattle.lk_place.specs.Records.{record_at}
+use Rattle.lk_expressions.specs.Records.{record_at}
 use Rattle.lk_place.specs.Secondaries.{overflowing}
 use Rattle.lk_place.specs.SecondariesSoFar.{merged_so_far}
 use Rattle.lk_place.proofs.secondaries.merge_secondary_parts.Given as goal

@@ -1,7 +1,7 @@
 use Rattle.std.proofs.Common.{◌≡◌, ◌∙◌, ◌++◌, ◌∷◌, [], ℕ, arith, List, length, sym, ap}
 use Rattle.lk_link.specs.Parts.{all_parts}
 use Rattle.lk_link.specs.Target.{platform_target}
-use Rattle.lk_place.specs.Records.{Record, record_at}
+use Rattle.lk_expressions.specs.Records.{Record, record_at}
 use Rattle.lk_place.specs.Segments.{section_records}
 use Rattle.lk_place.specs.Setting.{IsReady, Setting, setting_of}
 use Rattle.lk_place.specs.Walk.{counters_after}
@@ -9,17 +9,17 @@ use Rattle.lk_place.proofs.Beginnings.{few_regions}
 use Rattle.lk_place.proofs.Computing.{based_at, begins, begins_at, refused_answer, unbegun_answer, walked_placed, written_back}
 use Rattle.lk_place.proofs.SectionRegions.{origins_are, origins_count}
 use Rattle.lk_place.proofs.ShallowLinks.{shallow_link}
-use Rattle.lk_place.proofs.Unnamed.{walked_events, walked_loads}
+use Rattle.lk_place.proofs.AtHand.{evaluable_events, evaluable_loads}
 use Rattle.lk_place.proofs.walk.compute_layout_sections.Goals as goal
 
 pub begin-requires-clause-shallow : goal.begin-requires-clause-shallow
 begin-requires-clause-shallow g c = shallow_link c.args.link.now c.requires.well_formed
 
 pub walk-requires-clause-walked : goal.walk-requires-clause-walked
-walk-requires-clause-walked g c = walked_events c.args.link.now (shallow_link c.args.link.now c.requires.well_formed)
+walk-requires-clause-walked g c = evaluable_events c.args.link.now (shallow_link c.args.link.now c.requires.well_formed)
 
 pub walk-requires-clause-loads : goal.walk-requires-clause-loads
-walk-requires-clause-loads g c = walked_loads c.args.link.now (shallow_link c.args.link.now c.requires.well_formed)
+walk-requires-clause-loads g c = evaluable_loads c.args.link.now (shallow_link c.args.link.now c.requires.well_formed)
 
 pub walk-requires-clause-starts : goal.walk-requires-clause-starts
 walk-requires-clause-starts g c =

@@ -1,5 +1,5 @@
 use Rattle.std.proofs.Common.{◌≡◌, ℕ, vec_len}
-use Rattle.lk_place.specs.Records.{nowhere, record_at}
+use Rattle.lk_expressions.specs.Records.{nowhere, record_at}
 use Rattle.lk_place.proofs.walk.unplaced.Given as goal
 
 abbrev pub invariant-loop : goal.invariant-loop

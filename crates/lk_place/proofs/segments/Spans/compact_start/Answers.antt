@@ -5,7 +5,7 @@ use Rattle.lk_link.specs.declared.plan.OrderEvent.{OrderEvent}
 use Rattle.lk_link.specs.declared.plan.Plan.{Plan}
 use Rattle.lk_link.specs.Marks.{is_marked}
 use Rattle.lk_link.specs.Rules.{is_start}
-use Rattle.lk_place.specs.Records.{Record}
+use Rattle.lk_expressions.specs.Records.{Record}
 use Rattle.lk_place.specs.Segments.{end_behind}
 use Rattle.lk_place.proofs.SegmentFiles.{start_here, start_more}
 use Rattle.lk_place.proofs.WalkSteps.{read_there}

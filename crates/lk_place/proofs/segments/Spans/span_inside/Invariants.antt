@@ -1,7 +1,7 @@
 use Rattle.std.proofs.Common.{◌≡◌, drop, None, fold, map}
 use Rattle.std.specs.Prelude.{filter}
 use Rattle.lk_link.specs.Marks.{is_marked}
-use Rattle.lk_place.specs.Records.{record_at}
+use Rattle.lk_expressions.specs.Records.{record_at}
 use Rattle.lk_place.specs.Segments.{counts, with_record}
 use Rattle.lk_place.proofs.segments.Spans.span_inside.Given as goal
 

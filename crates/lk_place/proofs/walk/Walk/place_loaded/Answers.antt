@@ -7,7 +7,7 @@ use Rattle.lk_place.specs.declared.cursors.Cursors.{Cursors}
 use Rattle.lk_place.specs.declared.error.Refusal.{Refusal}
 use Rattle.lk_place.specs.PlacedBefore.{standing_before}
 use Rattle.lk_place.specs.Placement.{load_by, load_given, section_left, section_overflow}
-use Rattle.lk_place.specs.Records.{Record}
+use Rattle.lk_expressions.specs.Records.{Record}
 use Rattle.lk_place.specs.Setting.{Setting}
 use Rattle.lk_place.specs.Walk.{setting_in}
 use Rattle.lk_place.proofs.Loading.{load_known, loads_passed, loads_refused, loads_written, placed_is}

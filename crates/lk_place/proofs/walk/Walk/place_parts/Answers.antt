@@ -3,7 +3,7 @@ use Rattle.std.specs.Prelude.{◌==◌}
 use Rattle.lk_link.specs.Parts.{first_part}
 use Rattle.lk_link.proofs.PartNumbers.{first_part-suc}
 use Rattle.lk_place.specs.Placement.{next_end, record_by}
-use Rattle.lk_place.specs.Records.{Record, record_at}
+use Rattle.lk_expressions.specs.Records.{Record, record_at}
 use Rattle.lk_place.specs.Setting.{part_count, part_number}
 use Rattle.lk_place.specs.Walk.{setting_in}
 use Rattle.lk_place.proofs.SectionEnds.{given_below, handed_on, part_placed, part_recorded, part_refused, parts_end}

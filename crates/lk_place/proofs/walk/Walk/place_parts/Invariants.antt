@@ -2,7 +2,7 @@ use Rattle.std.proofs.Common.{◌≡◌, ℕ, true}
 use Rattle.std.specs.Prelude.{if◌then◌else◌}
 use Rattle.lk_link.specs.Parts.{first_part}
 use Rattle.lk_place.specs.Placement.{end_behind, is_below, record_by}
-use Rattle.lk_place.specs.Records.{record_at}
+use Rattle.lk_expressions.specs.Records.{record_at}
 use Rattle.lk_place.specs.PlacedBefore.{lies_in}
 use Rattle.lk_place.specs.Walk.{setting_in}
 use Rattle.lk_place.proofs.walk.Walk.place_parts.Given as goal

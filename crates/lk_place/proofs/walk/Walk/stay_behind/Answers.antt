@@ -2,7 +2,7 @@ use Rattle.std.specs.Prelude.{Option}
 use Rattle.std.proofs.Common.{◌∙◌, ap}
 use Rattle.lk_link.specs.PlanSections.{primary_of}
 use Rattle.lk_place.specs.Locations.{behind_start}
-use Rattle.lk_place.specs.Records.{Record}
+use Rattle.lk_expressions.specs.Records.{Record}
 use Rattle.lk_place.specs.Tables.{section_before}
 use Rattle.lk_place.specs.Walk.{setting_in}
 use Rattle.lk_place.proofs.PlacedTables.{section_known}

@@ -1,7 +1,7 @@
 use Rattle.std.proofs.Common.{◌≡◌, ◌++◌, ℕ, ◌∙◌, Some, ap, arith, length, refl, subst}
 use Rattle.std.specs.Prelude.{slice_get}
 use Rattle.lk_place.specs.declared.cursors.Cursors.{Cursors}
-use Rattle.lk_place.specs.Records.{record_at}
+use Rattle.lk_expressions.specs.Records.{record_at}
 use Rattle.lk_place.specs.Start.{first_cursors}
 use Rattle.lk_place.specs.Walk.{AllPass, counters_after, record_after, setting_in}
 use Rattle.lk_place.proofs.Knowing.{known_table, recorded_as, tried_as, went_as}

@@ -1,7 +1,7 @@
 use Rattle.std.proofs.Common.{◌≡◌, ◌++◌, ℕ, drop, length}
 use Rattle.std.specs.List.{enumerate_from, flat_map, slice_index}
 use Rattle.lk_link.specs.Parts.{all_parts}
-use Rattle.lk_place.specs.Records.{record_at}
+use Rattle.lk_expressions.specs.Records.{record_at}
 use Rattle.lk_place.specs.Walk.{AllPass, counters_after, cursors_after, goes_on_after, record_after, setting_in, told_after}
 use Rattle.lk_place.proofs.walk.Walk.walk.Given as goal
 

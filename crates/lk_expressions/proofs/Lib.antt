@@ -1,0 +1,4 @@
+mod ConstantLaws
+mod Evaluations
+mod OperandTests
+pub mod Unnamed

@@ -1,0 +1,9 @@
+pub mod Constants
+pub mod Evaluation
+pub mod ExpressionLaws
+pub mod ExpressionTexts
+pub mod Expressions
+pub mod KnownThen
+pub mod Named
+pub mod Records
+pub mod Surroundings

@@ -1,9 +1,0 @@
-use Rattle.std.proofs.Common.{◌∙◌, Option, ap, sym}
-use Rattle.lk_place.specs.Evaluation.{alone}
-use Rattle.lk_place.proofs.Evaluations.{operand_alone}
-use Rattle.lk_place.proofs.expressions.evaluation.evaluate.Goals as goal
-
-pub returns-in-Some : goal.returns-in-Some
-returns-in-Some g c =
-    c.value.ensures
-    ∙ operand_alone (g.S.Surroundings.worth c.args.surroundings.now) c.args.expression.now c.in-Some.operand (sym (ap alone c.tokens.ensures) ∙ sym c.alone.ensures ∙ c.in-Some.is)
