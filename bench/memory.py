@@ -15,17 +15,17 @@ ENTRY_WORDS, OWN_ENTRIES = 3, 2
 class Held:
     """The bytes that a run holds: at most, when all is read, and from then on."""
 
-    def __init__(self, levels):
-        falls = [after - before for before, after in zip(levels, levels[1:])]
-        # The greatest release is that of the input, when all is read.
-        end = min(range(len(falls)), key=falls.__getitem__) + 1
+    def __init__(self, levels, written):
+        steps = [after - before for before, after in zip(levels, levels[1:])]
+        # Before the last allocation of as many bytes as the report has, the greatest release is that of the input, when all is read.
+        late = max(place for place, step in enumerate(steps) if step >= written)
+        end = min(range(late), key=steps.__getitem__) + 1
+        # The greatest allocation after that is the room of the report, which is made when all else is there.
+        report = max(range(end, len(steps)), key=steps.__getitem__)
         self.description = levels[end]
         self.reading = max(levels[: end + 1])
-        # The greatest allocation after that is the room of the report, which is made when all else is there.
-        rises = [after - before for before, after in zip(levels[end:], levels[end + 1 :])]
-        report = max(range(len(rises)), key=rises.__getitem__)
-        self.report = rises[report]
-        self.before_report = max(levels[end : end + report + 1]) - self.description
+        self.report = steps[report]
+        self.before_report = max(levels[end : report + 1]) - self.description
         self.all = max(levels)
 
 
@@ -44,4 +44,4 @@ def held(command, path, output, trace):
     words = array.array("Q")
     with open(trace, "rb") as file:
         words.frombytes(file.read())
-    return Held(words[OWN_ENTRIES * ENTRY_WORDS :: ENTRY_WORDS])
+    return Held(words[OWN_ENTRIES * ENTRY_WORDS :: ENTRY_WORDS], os.path.getsize(output))
