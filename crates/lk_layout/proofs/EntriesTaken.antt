@@ -34,7 +34,8 @@ use Rattle.lk_tables.specs.SymbolEntries.{is_resolved}
 use Rattle.lk_tables.specs.SymbolTable.{TableEntry, entry_bytes}
 use Rattle.lk_tables.proofs.OwnLemmas.{cursors_move_on, cursors_reach_entries}
 use Rattle.lk_layout.specs.declared.entries.NextEntries.{NextEntries}
-use Rattle.lk_layout.specs.Entries.{AreNextAt, EntrySetting, IsCursor, TableFits, TablesFit, cursors_behind, entry_in, entry_setting, first_cursors, got_table, made_at, plt_table, start_of, told_flags, with_entries}
+use Rattle.lk_layout.specs.Entries.{EntrySetting, entry_in, entry_setting, got_table, plt_table, told_flags, with_entries}
+use Rattle.lk_layout.specs.EntryWords.{AreNextAt, IsCursor, TableFits, TablesFit, cursor_behind, cursors_behind, first_cursors, made_at, start_of}
 use Rattle.lk_layout.specs.Resolutions.{Places, has_resolutions, placed_value, resolution_of}
 
 -- ---- flags
@@ -100,7 +101,7 @@ room_is : (named : Option ℕ) (starts : List ℕ) (table : List TableEntry) (cu
 room_is None starts table cursor bytes before at fits room some = absurd (cc)
 room_is (Some p) starts table cursor bytes before at fits room some = omega (arith, at p refl, fits p refl, room (slice_index starts p))
 
-cursor_on : (named : Option ℕ) (starts : List ℕ) (before taken after cursor new : ℕ) → IsCursor named starts before cursor → new ≡ (if is_some named then cursor else 0) + taken
+cursor_on : (named : Option ℕ) (starts : List ℕ) (before taken after cursor new : ℕ) → IsCursor named starts before cursor → new ≡ cursor_behind named cursor taken
     → after ≡ before + taken → IsCursor named starts after new
 cursor_on None starts before taken after cursor new at moved more p h = absurd (cc)
 cursor_on (Some q) starts before taken after cursor new at moved more p h = let on : new ≡ cursor + taken = moved in omega (arith, at p h, on, more)

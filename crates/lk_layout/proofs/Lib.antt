@@ -7,6 +7,7 @@ mod FewHeaders
 mod Fitting
 mod ImagesShow
 mod Imaging
+mod Keeping
 mod LaidOut
 mod NamedOperands
 mod NamedSymbols

@@ -2,6 +2,7 @@ pub mod Carried
 pub mod CarriedWords
 pub mod Defined
 pub mod Entries
+pub mod EntryWords
 pub mod Errors
 pub mod Headers
 pub mod Kept

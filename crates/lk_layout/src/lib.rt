@@ -10,6 +10,7 @@ mod entries;
 pub mod error;
 mod headers;
 mod images;
+mod kept;
 pub mod laws;
 pub mod layout;
 mod merged;

@@ -16,8 +16,8 @@ ghost use Rattle.lk_link.specs.WellFormed.{IsWellFormed};
 ghost use Rattle.lk_reach.specs.Units.{numbered_symbols};
 ghost use Rattle.lk_tables.specs.DynamicCounters.{AreNumbersAt};
 ghost use Rattle.lk_tables.specs.Late.{flags_at};
-ghost use Rattle.lk_layout.specs.Entries.{AreNextAt, TablesFit, entry_setting, first_cursors, start_of};
-ghost use Rattle.lk_layout.specs.Kept.{IsAskedFor};
+ghost use Rattle.lk_layout.specs.Entries.{entry_setting};
+ghost use Rattle.lk_layout.specs.EntryWords.{AreNextAt, TablesFit, first_cursors, start_of};
 ghost use Rattle.lk_layout.specs.Resolutions.{entry_symbol, entry_value, file_resolutions, has_resolutions, placed_value, resolution_of};
 ghost use Rattle.lk_layout.specs.Tables.{AreMergedOf, AreRising, HasRoom, HaveRoom, common_in, place_in, places_in};
 
@@ -280,7 +280,6 @@ fn resolve<P: Platform>(
     requires next { AreNextAt (entry_setting (P.table_sizes platform.now) merged.link.now tables.live.now tables.told.now tables.starts.now) number next.now }
     ensures value { result ≡ resolution_of (places_in tables.entry.marks.now tables.entry.addresses.now tables.entry.commons.now merged.entry.link.now merged.entry.starts.now)
         (entry_setting (P.table_sizes platform.now) merged.entry.link.now tables.entry.live.now tables.entry.told.now tables.entry.starts.now) file.entry.file.now.kind first (number, symbol.now) }
-    ensures asked { IsAskedFor result }
     ensures moved { AreNextAt (entry_setting (P.table_sizes platform.now) merged.entry.link.now tables.entry.live.now tables.entry.told.now tables.entry.starts.now) (number + 1) next.new }
 {
     let (link, live) = (merged.link, tables.live);

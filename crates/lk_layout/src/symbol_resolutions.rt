@@ -1,38 +1,33 @@
 //! What symbols stand for, by number.
 
 ghost use Rattle.std.specs.Prelude.{◌≡◌, ◌++◌, ◌∷◌, [], IfOk, OnOk, length};
-ghost use Rattle.lk_layout.specs.Kept.{IsAskedFor};
 ghost use Rattle.lk_layout.specs.Resolutions.{resolution_at};
 
-use lk_link::{Resolution, SymbolId, ValueFlags};
+use crate::kept::{Kept, keep};
+use lk_link::{Resolution, SymbolId};
 use std::alloc::{AllocError, Global};
 use std::marker::Model;
 
-/// Stands where a symbol has no resolution: its flags ask for no value.
-const NO_RESOLUTION: Resolution = Resolution {
-    raw_value: 0,
-    flags: ValueFlags(0),
-    dynamic: None,
-    got: None,
-    plt: None,
-};
-
 /// Of each symbol, by number, what it stands for in the output; none where it has no resolution (libwild: `SymbolResolutions`).
-/// Takes 56 bytes a symbol. Contracts see a list of options.
+/// Takes 16 bytes a symbol, and 56 more for each that has an entry in `got` or `plt`. Contracts see a list of options.
 #[derive(Drop)]
 pub struct SymbolResolutions {
-    /// By symbol number. What has flags that ask for no value stands for none.
-    kept: Vec<Resolution>,
+    /// By symbol number.
+    kept: Vec<Kept>,
+    /// Those that are kept whole, in the order of their symbols.
+    wholes: Vec<Resolution>,
 }
 
 impl Model for SymbolResolutions {
-    ghost use Rattle.std.specs.Prelude.{List, Option, map};
+    ghost use Rattle.std.specs.Prelude.{All, List, Option, map};
     ghost use Rattle.lk_link.specs.declared.resolution.Resolution.{Resolution};
-    ghost use Rattle.lk_layout.specs.Kept.{told_of};
+    ghost use Rattle.lk_layout.specs.Kept.{IsWithin, told_of};
 
     ghost Value = { List (Option Resolution) };
 
-    ghost view = { λ a. map told_of a.kept.items };
+    ghost view = { λ a. map (told_of a.wholes.items) a.kept.items };
+
+    ghost invariant = { λ a. All (IsWithin a.wholes.items) a.kept.items };
 }
 
 impl SymbolResolutions {
@@ -41,15 +36,16 @@ impl SymbolResolutions {
         ensures { IfOk result (λ made. made ≡ []) }
     {
         let kept = Vec::with_capacity(alloc, count)?;
-        Ok(SymbolResolutions { kept })
+        let wholes = Vec::new(alloc);
+        Ok(SymbolResolutions { kept, wholes })
     }
 
-    /// Adds that of the next symbol, if it has one; its flags ask for its value.
+    /// Adds that of the next symbol, if it has one.
     pub fn push(&mut self, resolution: Option<Resolution>) -> Result<(), AllocError>
-        requires asked { IsAskedFor resolution }
         ensures { OnOk result (self.new ≡ self.old ++ resolution ∷ []) }
     {
-        self.kept.push(resolution.unwrap_or(NO_RESOLUTION))?;
+        let kept = keep(&mut self.wholes, resolution)?;
+        self.kept.push(kept)?;
         Ok(())
     }
 
@@ -71,10 +67,7 @@ impl SymbolResolutions {
     pub fn nth(&self, number: usize) -> Option<Resolution>
         ensures { result ≡ resolution_at self.now number }
     {
-        let resolution = self.kept.as_slice().get(number).copied()?;
-        if !resolution.flags.has_resolution() {
-            return None;
-        }
-        Some(resolution)
+        let kept = self.kept.as_slice().get(number).copied()?;
+        kept.told(self.wholes.as_slice())
     }
 }

@@ -16,7 +16,8 @@ use Rattle.lk_sizes.specs.PartOwners.{EndsFit}
 use Rattle.lk_layout.specs.OutputContent.{image_lens, output_content}
 use Rattle.lk_layout.specs.Defined.{starts_of}
 use Rattle.lk_layout.specs.Resolutions.{images_at, merged_value}
-use Rattle.lk_layout.specs.Entries.{TablesFit, entry_setting}
+use Rattle.lk_layout.specs.Entries.{entry_setting}
+use Rattle.lk_layout.specs.EntryWords.{TablesFit}
 use Rattle.lk_layout.proofs.EntriesTaken.{tables_fit}
 use Rattle.lk_layout.proofs.Imaging.{images_fit, same_values}
 use Rattle.lk_layout.proofs.Placing.{ends_fit, have_room, resolutions_by, room_by, starts_count, table}

@@ -1,5 +1,6 @@
 use Rattle.std.proofs.Common.{ℕ, length, sym, ap, subst, arith}
-use Rattle.lk_layout.specs.Entries.{AreNextAt, EntrySetting, entry_setting}
+use Rattle.lk_layout.specs.Entries.{EntrySetting, entry_setting}
+use Rattle.lk_layout.specs.EntryWords.{AreNextAt}
 use Rattle.lk_layout.proofs.resolution.push_file_resolutions.Goals as goal
 
 pub first_input_of-first-requires-clause-good : goal.first_input_of-first-requires-clause-good

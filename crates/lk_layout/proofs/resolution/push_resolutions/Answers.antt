@@ -6,7 +6,8 @@ use Rattle.lk_link.specs.declared.resolution.Resolution.{Resolution}
 use Rattle.lk_link.specs.declared.symbol.InputSymbol.{InputSymbol}
 use Rattle.lk_link.proofs.NumberedSymbolLemmas.{stands}
 use Rattle.lk_reach.specs.Units.{numbered_symbols}
-use Rattle.lk_layout.specs.Entries.{AreNextAt, EntrySetting, entry_setting}
+use Rattle.lk_layout.specs.Entries.{EntrySetting, entry_setting}
+use Rattle.lk_layout.specs.EntryWords.{AreNextAt}
 use Rattle.lk_layout.specs.Resolutions.{Places, resolution_of}
 use Rattle.lk_layout.specs.Tables.{HasRoom, places_in}
 use Rattle.lk_layout.proofs.Pushing.{made_more}

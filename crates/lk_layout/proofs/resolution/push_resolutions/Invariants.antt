@@ -1,6 +1,7 @@
 use Rattle.std.proofs.Common.{◌≡◌, ◌++◌, ◌+◌, ◌≤◌, length, map, take}
 use Rattle.std.specs.List.{enumerate_from}
-use Rattle.lk_layout.specs.Entries.{AreNextAt, entry_setting}
+use Rattle.lk_layout.specs.Entries.{entry_setting}
+use Rattle.lk_layout.specs.EntryWords.{AreNextAt}
 use Rattle.lk_layout.specs.Resolutions.{resolution_of}
 use Rattle.lk_layout.specs.Tables.{places_in}
 use Rattle.lk_layout.proofs.resolution.push_resolutions.Given as goal

@@ -8,7 +8,8 @@ use Rattle.lk_link.specs.Symbols.{first_symbol, symbols_in}
 use Rattle.lk_link.specs.Walks.{file_of}
 use Rattle.lk_reach.proofs.Numbered.{are_numbered, file_at}
 use Rattle.lk_reach.proofs.WalkLemmas.{all_files_done, file_turn, one_file_more}
-use Rattle.lk_layout.specs.Entries.{AreNextAt, EntrySetting, entry_setting}
+use Rattle.lk_layout.specs.Entries.{EntrySetting, entry_setting}
+use Rattle.lk_layout.specs.EntryWords.{AreNextAt}
 use Rattle.lk_layout.specs.Resolutions.{file_resolutions}
 use Rattle.lk_layout.specs.Tables.{places_in}
 use Rattle.lk_layout.proofs.EntriesTaken.{first_next}

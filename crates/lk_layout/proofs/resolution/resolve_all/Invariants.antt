@@ -2,7 +2,8 @@ use Rattle.std.proofs.Common.{◌≡◌, map, sum_by}
 use Rattle.std.specs.List.{flat_map}
 use Rattle.lk_link.specs.Symbols.{symbols_in}
 use Rattle.lk_link.specs.Walks.{file_of}
-use Rattle.lk_layout.specs.Entries.{AreNextAt, entry_setting}
+use Rattle.lk_layout.specs.Entries.{entry_setting}
+use Rattle.lk_layout.specs.EntryWords.{AreNextAt}
 use Rattle.lk_layout.specs.Resolutions.{file_resolutions}
 use Rattle.lk_layout.specs.Tables.{places_in}
 use Rattle.lk_layout.proofs.resolution.resolve_all.Given as goal
