@@ -1,30 +1,25 @@
 -- Where images stand in a layout, and what they show.
-use Rattle.std.proofs.Common.{◌≡◌, ℕ, zero, suc, ◌+◌, ◌<◌, true, cond, List, [], ◌∷◌, length, Option, Some, None, refl, sym, ap, ◌∙◌, subst, arith}
-use Rattle.std.specs.Prelude.{not, option_map, position}
+use Rattle.std.proofs.Common.{◌≡◌, ℕ, ◌+◌, ◌<◌, true, cond, List, [], ◌∷◌, length, Some, None, sym, ap, ◌∙◌, subst, arith}
 use Rattle.std.specs.List.{list_all, slice_get, slice_index}
 use Rattle.std.proofs.Math.ListN as lists
 use Rattle.std.proofs.lemmas.Bool.{lt-ltb}
 use Rattle.std.proofs.lemmas.Option.{get_or_from_slice_get}
 use Rattle.lk_link.specs.declared.link.LinkInput.{LinkInput}
 use Rattle.lk_link.specs.declared.section.InputSection.{InputSection}
-use Rattle.lk_link.specs.Files.{first_some}
 use Rattle.lk_link.specs.TableSizes.{Machine}
 use Rattle.lk_link.specs.WellFormed.{IsWellFormed}
 use Rattle.lk_gc.specs.declared.live.Live.{Live}
 use Rattle.lk_link.specs.Parts.{part_sections}
 use Rattle.lk_link.proofs.PartNumbers.{first_part-le}
-use Rattle.lk_merge.specs.declared.error.MergeError.{MergeError}
-use Rattle.lk_merge.specs.declared.error.MergeError.TheVariants.{NotTerminated}
 use Rattle.lk_merge.specs.Addresses.{image_start}
 use Rattle.lk_merge.specs.Hash.{fnv64}
 use Rattle.lk_merge.specs.Image.{all_pieces}
-use Rattle.lk_merge.specs.LinkInputs.{first_refusal, link_inputs, merge_input, merge_inputs}
-use Rattle.lk_merge.specs.Merging.{first_of, long_refusal, merge_refusal}
+use Rattle.lk_merge.specs.LinkInputs.{link_inputs, merge_input, merge_inputs}
 use Rattle.lk_merge.specs.OutputAddresses.{MergePlace, Shows, address_in, offset_place, output_of}
 use Rattle.lk_merge.specs.Pieces.{MergeInput, is_terminated}
 use Rattle.lk_merge.proofs.AddressLemmas.{starts_at}
+use Rattle.lk_merge.proofs.MergedReferences.{all_terminated}
 use Rattle.lk_merge.proofs.PlaceLemmas.{pieces_have_places}
-use Rattle.lk_merge.proofs.Refusing.{all_from_none}
 use Rattle.lk_merge.proofs.Showing.{merged_addresses_show}
 use Rattle.lk_expressions.specs.Records.{Record, nowhere, record_at}
 use Rattle.lk_sizes.specs.Images.{image_addresses}
@@ -36,30 +31,6 @@ use Rattle.lk_layout.specs.OutputContent.{output_content}
 use Rattle.lk_layout.specs.Sound.{ImagesStand, IsImageAt, part_record}
 use Rattle.lk_layout.proofs.Imaging.{comes_from, has_part, inputs_at, len_at, stands_at}
 use Rattle.lk_layout.proofs.LaidOut.{IsLaidOut}
-
--- ---- what is merged is terminated
-
-first_none : {X : Type 0} (a b : Option X) → first_some a b ≡ None → (a ≡ None) × (b ≡ None)
-unfolding first_some
-first_none None b h = (refl, h)
-first_none (Some x) b h = absurd (cc)
-
-no_place : (f : ℕ → MergeError) (o : Option ℕ) → option_map f o ≡ None → o ≡ None
-no_place f None h = refl
-no_place f (Some k) h = absurd (cc)
-
-pub all_terminated : (limit k : ℕ) (outputs : List (List MergeInput)) (i : ℕ) (inputs : List MergeInput) → first_refusal fnv64 limit k outputs ≡ None → slice_get outputs i ≡ Some inputs
-    → list_all is_terminated inputs ≡ true
-unfolding first_of
-all_terminated limit k [] i inputs none there = absurd (cc)
-all_terminated limit k (xs ∷ rest) zero inputs none there =
-    let same : xs ≡ inputs = cc in
-    let here = first_none (merge_refusal fnv64 k limit xs) (first_refusal fnv64 limit (k + 1) rest) none in
-    let place : Option ℕ = position (λ x. not (is_terminated x)) xs in
-    let first = first_none (option_map (λ n. NotTerminated k n) place) (long_refusal fnv64 k limit (all_pieces xs)) here.0 in
-    ap (list_all is_terminated) (sym same) ∙ all_from_none xs (no_place (λ n. NotTerminated k n) place first.0)
-all_terminated limit k (xs ∷ rest) (suc i) inputs none there =
-    all_terminated limit (k + 1) rest i inputs (first_none (merge_refusal fnv64 k limit xs) (first_refusal fnv64 limit (k + 1) rest) none).1 there
 
 -- ---- what an image shows
 

@@ -1,6 +1,6 @@
 -- Where images stand, and that they have room there.
-use Rattle.std.proofs.Common.{◌≡◌, ℕ, ◌+◌, ◌<◌, ◌≤◌, ◌^◌, Bool, true, false, List, [], ◌∷◌, length, map, Option, Some, None, Result, Ok, Err, cond, ltb, refl, sym, ap, ◌∙◌, arith, zero-add}
-use Rattle.std.specs.Prelude.{◌==◌, not, option_and_then, pos, unwrap_or, if◌then◌else◌}
+use Rattle.std.proofs.Common.{◌≡◌, ℕ, ◌+◌, ◌<◌, ◌≤◌, ◌^◌, Bool, true, false, List, [], ◌∷◌, length, map, Option, Some, None, refl, sym, ap, ◌∙◌, arith, zero-add}
+use Rattle.std.specs.Prelude.{◌==◌, pos}
 use Rattle.std.specs.List.{enumerate_from, filter, slice_get, slice_index}
 use Rattle.std.specs.Option.{option_map_or}
 use Rattle.std.proofs.Math.Path.{fun_ext}
@@ -12,42 +12,29 @@ use Rattle.std.proofs.lemmas.Option.{get_or_from_slice_get, slice_get_within}
 use Rattle.lk_link.specs.declared.link.LinkInput.{LinkInput}
 use Rattle.lk_link.specs.declared.plan.PlanPart.{PlanPart}
 use Rattle.lk_link.specs.declared.plan.PlanSection.{PlanSection}
-use Rattle.lk_link.specs.declared.section.InputSection.{InputSection}
-use Rattle.lk_link.specs.declared.symbol.InputSymbol.{InputSymbol}
-use Rattle.lk_link.specs.declared.symbol.SymbolPlacement.{SymbolPlacement}
-use Rattle.lk_link.specs.declared.symbol.SymbolPlacement.TheVariants as at
-use Rattle.lk_link.specs.Files.{file_in}
 use Rattle.lk_link.specs.InputSlots.{is_merge}
-use Rattle.lk_link.specs.Inputs.{Input, NumberedFile, all_inputs, input_number, numbered_files}
+use Rattle.lk_link.specs.Inputs.{Input, all_inputs}
 use Rattle.lk_link.specs.Parts.{all_parts, part_at, part_sections}
 use Rattle.lk_link.specs.WellFormed.{IsWellFormed}
-use Rattle.lk_link.proofs.Elements.{filter_at, flat_map_at, map_at, map_in, numbered_at}
-use Rattle.lk_link.proofs.InputLemmas.{inputs_follow}
+use Rattle.lk_link.proofs.Elements.{filter_at, map_at, map_in, numbered_at}
 use Rattle.lk_link.proofs.Numbers.{made_at}
 use Rattle.lk_link.proofs.PartNumbers.{first_part-le}
 use Rattle.lk_gc.specs.declared.live.Live.{Live}
-use Rattle.lk_reach.proofs.Numbered.{file_at}
-use Rattle.lk_link.specs.NumberedSymbols.{numbered_symbols}
-use Rattle.lk_merge.specs.Addresses.{ImagesFit, image_start}
+use Rattle.lk_merge.specs.Addresses.{ImagesFit}
 use Rattle.lk_merge.specs.Hash.{fnv64}
-use Rattle.lk_merge.specs.Image.{all_buckets, all_pieces, firsts_behind, image, image_place, piece_at}
+use Rattle.lk_merge.specs.Image.{all_buckets, all_pieces, firsts_behind, image}
 use Rattle.lk_merge.specs.LinkInputs.{is_merged_into, link_inputs, merge_input, merge_inputs}
-use Rattle.lk_merge.specs.OutputAddresses.{MergePlace, address_in, merge_place, merged_address, offset_place, output_of, past_end, placed_in, plus_addend, reference_address, symbol_place}
-use Rattle.lk_merge.specs.OutputAddressTables.{IsMergePlace}
-use Rattle.lk_merge.specs.Pieces.{Piece, MergeInput, pieces_of}
-use Rattle.lk_merge.specs.declared.output_address.OffsetPastEnd.{OffsetPastEnd}
-use Rattle.lk_merge.proofs.MergeBytes.{part_goes}
-use Rattle.lk_merge.proofs.PlaceInInput.{part_within}
-use Rattle.lk_merge.proofs.PlaceLemmas.{among_all, holds_at, pieces_have_places}
-use Rattle.lk_merge.proofs.SymbolPlaces.{is_input, output_at, outputs_count}
+use Rattle.lk_merge.specs.OutputAddresses.{MergePlace, output_of, place_address, symbol_place}
+use Rattle.lk_merge.specs.Pieces.{MergeInput}
+use Rattle.lk_merge.proofs.MergedReferences.{output_there, symbol_place_is}
+use Rattle.lk_merge.proofs.SymbolPlaces.{output_at, outputs_count}
 use Rattle.lk_sizes.specs.Images.{image_address, image_addresses, image_number, image_part}
 use Rattle.lk_sizes.specs.Owners.{ImageOwner, Owner, bytes_of, owner_address, owner_bytes}
 use Rattle.lk_sizes.specs.PartOwners.{EndsFit, owners_of}
 use Rattle.lk_sizes.proofs.ImagePlaces.{images_stand_where_inputs_go}
 use Rattle.lk_sizes.proofs.ImageStarts.{IsFirst, image_is_first}
 use Rattle.lk_layout.specs.OutputContent.{image_lens, lens_of, output_content}
-use Rattle.lk_layout.specs.Resolutions.{merged_value, value_at}
-use Rattle.lk_layout.specs.Tables.{AreMergedOf, found_or_0}
+use Rattle.lk_layout.specs.Resolutions.{found_or_0, merged_value}
 use Rattle.lk_layout.proofs.Placing.{size-le}
 use Rattle.lk_link.specs.TableSizes.{TableSizes}
 
@@ -189,142 +176,14 @@ images_fit sizes link live starts good count fit = record {
   ends = λ s inputs there. image_fits sizes link live starts s inputs good count fit there (image_part link s) refl;
 }
 
--- ---- places of symbols
-
-placed : (link : LinkInput) (f : NumberedFile) (named : Bool) (p : SymbolPlacement) (place : MergePlace) → file_in link.groups f.id ≡ Some f.file → placed_in link.groups f named p ≡ Some place → IsMergePlace link place
-placed link f named (at.Section index offset) place there is = in_section (slice_get f.file.sections index) refl is
-  where
-    here : InputSection → MergePlace
-    here x = record { number = input_number link.groups f.id index; section = x; offset = offset; named = named }
-
-    by : (x : InputSection) (b : Bool) → is_merge x.slot ≡ b → slice_get f.file.sections index ≡ Some x → (if b then Some (here x) else None) ≡ Some place → IsMergePlace link place
-    by x true merged at_x e =
-        let same : here x ≡ place = cc in
-        let input : Input = record { file = f.id; index = index; section = x } in
-        rw (sym same) (record { input = input; there = inputs_follow.at link.groups f.id f.file index x there at_x; section = refl; merged = merged })
-    by x false merged at_x e = absurd (cc)
-
-    in_section : (o : Option InputSection) → slice_get f.file.sections index ≡ o → option_and_then (λ x. if is_merge x.slot then Some (here x) else None) o ≡ Some place → IsMergePlace link place
-    in_section None at_x e = absurd (cc)
-    in_section (Some x) at_x e = by x (is_merge x.slot) refl at_x e
-placed link f named (at.Common p n) place there is = absurd (cc)
-placed link f named (at.Absolute n) place there is = absurd (cc)
-placed link f named at.Undef place there is = absurd (cc)
-placed link f named at.Dynamic place there is = absurd (cc)
-placed link f named at.Undefined place there is = absurd (cc)
-placed link f named at.ForceUndefined place there is = absurd (cc)
-placed link f named (at.SectionStart s) place there is = absurd (cc)
-placed link f named (at.SectionEnd s) place there is = absurd (cc)
-placed link f named (at.SectionGroupEnd s) place there is = absurd (cc)
-placed link f named at.TlsEnd place there is = absurd (cc)
-placed link f named at.LoadBaseAddress place there is = absurd (cc)
-placed link f named (at.Redirect e l provide) place there is = absurd (cc)
-
-abbrev symbols_of : NumberedFile → List (NumberedFile × InputSymbol)
-symbols_of f = map (λ s. (f, s)) f.file.symbols
-
-place_by : (link : LinkInput) (s : ℕ) (place : MergePlace) (o : Option (NumberedFile × InputSymbol)) → slice_get (numbered_symbols link.groups) s ≡ o → option_and_then (merge_place link.groups) o ≡ Some place → IsMergePlace link place
-place_by link s place None there is = absurd (cc)
-place_by link s place (Some q) there is =
-    let from = flat_map_at symbols_of (numbered_files link.groups) s q there in
-    let f : NumberedFile = from.from in
-    let pair : InputSymbol → NumberedFile × InputSymbol = λ x. (f, x) in
-    let x = map_at pair f.file.symbols from.inner q from.gives in
-    let same : f ≡ q.0 = ap (λ (r : NumberedFile × InputSymbol). r.0) x.2 in
-    let in_groups : file_in link.groups f.id ≡ Some f.file = (file_at link.groups from.outer f from.there).there in
-    let there_q : file_in link.groups q.0.id ≡ Some q.0.file = ap (λ (g : NumberedFile). file_in link.groups g.id) (sym same) ∙ in_groups ∙ ap (λ (g : NumberedFile). Some g.file) same in
-    placed link q.0 (not (length q.1.name == 0)) q.1.at place there_q is
-
--- what a symbol names in a merged section is a place there
-pub symbol_place_is : (link : LinkInput) (s : ℕ) (place : MergePlace) → symbol_place link.groups s ≡ Some place → IsMergePlace link place
-symbol_place_is link s place is = place_by link s place (slice_get (numbered_symbols link.groups) s) refl is
-
--- its output section is one of the plan's
-pub output_there : (link : LinkInput) (place : MergePlace) → IsWellFormed link → IsMergePlace link place
-    → (slice_get (part_sections link.plan.sections) place.section.part ≡ Some (output_of link place.section)) × (output_of link place.section < length link.plan.sections)
-output_there link place good is =
-    let goes = part_goes 0 link.plan.sections place.section.part (part_within link place good is) in
-    let same : output_of link place.section ≡ goes.0 = get_or_from_slice_get (part_sections link.plan.sections) place.section.part goes.0 0 goes.1 in
-    (goes.1 ∙ ap (λ (n : ℕ). Some n) (sym same), omega (arith, same, goes.2))
-
 -- ---- values of symbols, by where images start
 
 -- where images start at the same addresses, symbols have the same values
 same_value : (link : LinkInput) (a b : ℕ → ℕ) (s : ℕ) → IsWellFormed link → ((t : ℕ) → t < length link.plan.sections → a t ≡ b t) → (o : Option MergePlace) → symbol_place link.groups s ≡ o
-    → option_map_or (value_at link a) o 0 ≡ option_map_or (value_at link b) o 0
+    → found_or_0 (place_address link a (pos 0) true o) ≡ found_or_0 (place_address link b (pos 0) true o)
 same_value link a b s good same None is = refl
 same_value link a b s good same (Some place) is =
-    let t : ℕ = output_of link place.section in
-    ap (λ (n : ℕ). value_at link (λ _. n) place) (same t (output_there link place good (symbol_place_is link s place is)).1)
+    ap (λ (n : ℕ). found_or_0 (place_address link (λ _. n) (pos 0) true (Some place))) (same (output_of link place.section) (output_there link place good (symbol_place_is link s place is)).1)
 
 pub same_values : (link : LinkInput) (a b : ℕ → ℕ) → IsWellFormed link → ((t : ℕ) → t < length link.plan.sections → a t ≡ b t) → merged_value link a ≡ merged_value link b
 same_values link a b good same = fun_ext (λ s. same_value link a b s good same (symbol_place link.groups s) refl)
-
--- ---- values as they are looked up
-
--- no place is behind the image
-place_within : (xs : List MergeInput) (k : ℕ) (x : MergeInput) (offset : ℕ) → slice_get xs k ≡ Some x → (o : Option (Piece × ℕ)) → piece_at (pieces_of x) offset ≡ o
-    → option_map_or (λ q. image_place fnv64 (all_pieces xs) q.0 + q.1) o 0 ≤ length (image fnv64 (all_pieces xs))
-place_within xs k x offset there None is = omega arith
-place_within xs k x offset there (Some q) is =
-    let holds = holds_at (pieces_of x) offset q.0 q.1 is in
-    omega (arith, pieces_have_places.within fnv64 (all_pieces xs) q.0 (among_all xs k x q.0 there holds.among), holds.inside)
-
--- an address that is found is below 2^64
-address_fits : (link : LinkInput) (merged : List (List MergeInput)) (starts : List ℕ) (place : MergePlace) (a : ℕ) → AreMergedOf link merged starts → IsMergePlace link place
-    → address_in link (image_start starts) place place.offset ≡ Some a → a < 2 ^ 64
-address_fits link merged starts place a are is found = by (ltb place.offset (length place.section.bytes)) refl
-  where
-    t : ℕ
-    t = output_of link place.section
-
-    xs : List MergeInput
-    xs = merge_inputs link t
-
-    n : ℕ
-    n = offset_place fnv64 xs (merge_input place.number place.section) place.offset
-
-    shown : (b : Bool) → ltb place.offset (length place.section.bytes) ≡ b → cond b (Some (image_start starts t + n)) None ≡ Some a
-    shown b e = ap (λ c. cond c (Some (image_start starts t + n)) None) (sym e) ∙ found
-
-    by : (b : Bool) → ltb place.offset (length place.section.bytes) ≡ b → a < 2 ^ 64
-    by false e = absurd (let none : None ≡ Some a = shown false e in cc)
-    by true e =
-        let there = output_there link place are.good is in
-        let at_t : slice_get merged t ≡ Some xs = ap (λ (m : List (List MergeInput)). slice_get m t) are.sections ∙ output_at link t there.1 in
-        let goes : slice_get (part_sections link.plan.sections) is.input.section.part ≡ Some t
-        = ap (λ (x : InputSection). slice_get (part_sections link.plan.sections) x.part) is.section ∙ there.0 in
-        let input = is_input link place.number t is.input is.there (ap (λ (x : InputSection). is_merge x.slot) is.section ∙ is.merged) goes in
-        let at_k : slice_get xs input.0 ≡ Some (merge_input place.number place.section) = input.1 ∙ ap (λ (x : InputSection). Some (merge_input place.number x)) is.section in
-        let both : Some (image_start starts t + n) ≡ Some a = shown true e in
-        let same : image_start starts t + n ≡ a = cc in
-        omega (
-          arith,
-          same,
-          are.starts.ends t xs at_t,
-          place_within xs input.0 (merge_input place.number place.section) place.offset at_k (piece_at (pieces_of (merge_input place.number place.section)) place.offset) refl,
-        )
-
-within_64 : (a : ℕ) → a < 2 ^ 64 → plus_addend a (pos 0) ≡ a
-within_64 a h = omega (arith, h)
-
-found_value : (link : LinkInput) (merged : List (List MergeInput)) (starts : List ℕ) (place : MergePlace) → AreMergedOf link merged starts → IsMergePlace link place
-    → (o : Option ℕ) → address_in link (image_start starts) place place.offset ≡ o
-    → found_or_0 (option_map_or (λ a. Ok (Some (plus_addend a (pos 0)))) o (Err past_end)) ≡ unwrap_or o 0
-found_value link merged starts place are is None found = refl
-found_value link merged starts place are is (Some a) found = within_64 a (address_fits link merged starts place a are is found)
-
-looked_up : (link : LinkInput) (merged : List (List MergeInput)) (starts : List ℕ) (s : ℕ) → AreMergedOf link merged starts → (o : Option MergePlace) → symbol_place link.groups s ≡ o
-    → found_or_0 (option_map_or (reference_address link (image_start starts) (pos 0) true) o (Ok None)) ≡ option_map_or (value_at link (image_start starts)) o 0
-looked_up link merged starts s are None is = refl
-looked_up link merged starts s are (Some place) is =
-    let found : Bool → Option ℕ = λ b. address_in link (image_start starts) place (if b then place.offset else plus_addend place.offset (pos 0)) in
-    let named : Bool → Result (Option ℕ) OffsetPastEnd = λ b. option_map_or (λ a. Ok (Some (plus_addend a (pos 0)))) (found b) (Err past_end) in
-    elim place.named as (λ b. found_or_0 (if b then named b else Ok (Some 0)) ≡ (if b then unwrap_or (found true) 0 else 0)) [
-      | true ↦ found_value link merged starts place are (symbol_place_is link s place is) (found true) refl
-      | false ↦ refl
-    ]
-
-pub value_is : (link : LinkInput) (merged : List (List MergeInput)) (starts : List ℕ) (s : ℕ) → AreMergedOf link merged starts
-    → found_or_0 (merged_address link (image_start starts) s (pos 0) true) ≡ merged_value link (image_start starts) s
-value_is link merged starts s are = looked_up link merged starts s are (symbol_place link.groups s) refl

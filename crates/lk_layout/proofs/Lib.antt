@@ -11,6 +11,7 @@ mod Keeping
 mod LaidOut
 mod NamedOperands
 mod NamedSymbols
+mod NothingAsked
 mod NothingMerged
 mod OneAnswer
 mod PartStarts

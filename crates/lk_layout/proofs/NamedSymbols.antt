@@ -1,7 +1,7 @@
 -- A named symbol in a merged section has the address at which the image shows what stands there.
-use Rattle.std.proofs.Common.{◌≡◌, ℕ, ◌+◌, ◌<◌, ◌≤◌, Bool, true, false, cond, if◌then◌else◌, List, [], ◌∷◌, length, ltb, not, Option, Some, None, sym, ap, ◌∙◌, inl, inr, arith}
-use Rattle.std.specs.Prelude.{◌&&◌, ◌==◌, option_and_then, option_map, unwrap_or}
-use Rattle.std.specs.List.{enumerate_from, flat_map, list_all, slice_get}
+use Rattle.std.proofs.Common.{◌≡◌, ℕ, ◌+◌, ◌<◌, ◌≤◌, Bool, true, false, cond, if◌then◌else◌, List, [], ◌∷◌, length, ltb, not, Option, Some, None, Result, Ok, Err, ap, ◌∙◌, inl, inr, arith}
+use Rattle.std.specs.Prelude.{◌&&◌, ◌==◌, option_and_then, option_map, pos, unwrap_or}
+use Rattle.std.specs.List.{enumerate_from, flat_map, slice_get}
 use Rattle.std.specs.Option.{option_map_or}
 use Rattle.std.proofs.lemmas.Bool.{cases_lt, false_from_ne_true, lt-ltb}
 use Rattle.std.proofs.lemmas.Bool.Decides.{nat_tests}
@@ -28,10 +28,11 @@ use Rattle.lk_merge.specs.Addresses.{image_start}
 use Rattle.lk_merge.specs.Hash.{fnv64}
 use Rattle.lk_merge.specs.LinkInputs.{link_inputs, merge_input, merge_inputs}
 use Rattle.lk_merge.specs.OffsetsOutside.{is_symbol_outside, stands_outside}
-use Rattle.lk_merge.specs.OutputAddresses.{MergePlace, address_in, merge_place, offset_place, output_of, placed_in, symbol_place}
-use Rattle.lk_merge.specs.Pieces.{MergeInput, is_terminated}
+use Rattle.lk_merge.specs.OutputAddresses.{MergePlace, merge_place, merged_address, offset_place, output_of, past_end, place_address, placed_in, plus_addend, symbol_place}
+use Rattle.lk_merge.specs.declared.output_address.OffsetPastEnd.{OffsetPastEnd}
 use Rattle.lk_merge.proofs.AddressLemmas.{starts_at}
-use Rattle.lk_merge.proofs.SymbolPlaces.{is_input, output_at, symbol_numbered}
+use Rattle.lk_merge.proofs.MergedReferences.{merged_references_show, output_there, symbol_place_is}
+use Rattle.lk_merge.proofs.SymbolPlaces.{output_at, symbol_numbered}
 use Rattle.lk_tables.specs.SymbolEntries.{is_resolved}
 use Rattle.lk_sizes.specs.Images.{image_addresses}
 use Rattle.lk_sizes.specs.PartOwners.{live_address}
@@ -43,10 +44,8 @@ use Rattle.lk_layout.specs.Defined.{starts_of}
 use Rattle.lk_layout.specs.OutputContent.{output_content}
 use Rattle.lk_layout.specs.Outside.{merge_offsets, relocations_outside, symbol_outside, symbols_outside}
 use Rattle.lk_layout.specs.Entries.{EntrySetting}
-use Rattle.lk_layout.specs.Resolutions.{Places, entries_of, images_at, places_of, resolution_at, resolution_of, value_at}
+use Rattle.lk_layout.specs.Resolutions.{Places, entries_of, found_or_0, images_at, places_of, resolution_at, resolution_of}
 use Rattle.lk_layout.specs.Sound.{NamedSymbolsShow}
-use Rattle.lk_layout.proofs.Imaging.{output_there, symbol_place_is}
-use Rattle.lk_layout.proofs.ImagesShow.{all_terminated, shows}
 use Rattle.lk_layout.proofs.LaidOut.{IsLaidOut}
 use Rattle.lk_layout.proofs.Placing.{unmerged}
 use Rattle.lk_layout.proofs.Resolved.{in_file}
@@ -135,40 +134,35 @@ named_symbols_show machine link layout laid id file i offset section there r pla
     let x : InputSymbol = r.symbol in
     let s : Stands link id file i offset r.index x section = record { there = there; at_k = r.there; placed = placed; at_i = at_i; merged = merged; named = named } in
     let place : MergePlace = place_of link id i offset section in
-    let is = names link id file i offset r.index x section s in
-    let stands = symbol_place_is link number place is in
-    let output = output_there link place laid.good stands in
+    let is : symbol_place groups number ≡ Some place = names link id file i offset r.index x section s in
     let t : ℕ = output_of link section in
-    let inputs : List MergeInput = merge_inputs link t in
-    let y : MergeInput = merge_input place.number section in
+    let at_t = output_at link t (output_there link place laid.good (symbol_place_is link number place is)).1 in
     let inside : offset < length section.bytes = stands_inside link live id file i offset r.index x section s r.resolved laid.inside in
     let input : Input = record { file = id; index = i; section = section } in
     let at_input : slice_get (all_inputs groups) place.number ≡ Some input = inputs_follow.at groups id file i section there at_i in
-    let among = is_input link place.number t input at_input merged output.0 in
-    let at_t = output_at link t output.1 in
-    let n : ℕ = offset_place fnv64 inputs y offset in
+    let told : ℕ → ℕ = image_start layout.merged_string_start_addresses in
     let images : ℕ → ℕ = images_at machine.sizes link live starts in
-    let address : ℕ = images t + n in
-    let found : address_in link images place offset ≡ Some address = ap (λ b. cond b (Some address) None) (lt-ltb offset (length section.bytes) inside) in
+    let image_is : told t ≡ images t
+    = ap (λ (l : Layout). image_start l.merged_string_start_addresses t) laid.same
+    ∙ starts_at (link_inputs link).outputs (image_addresses link (output_content machine.sizes link live) starts) t (merge_inputs link t) at_t in
+    let n : ℕ = offset_place fnv64 (merge_inputs link t) (merge_input place.number section) offset in
+    let address : ℕ = plus_addend (images t + n) (pos 0) in
+    let answer : (ℕ → ℕ) → Bool → Result (Option ℕ) OffsetPastEnd = λ from zero_unnamed. place_address link from (pos 0) zero_unnamed (Some place) in
+    let found : (from : ℕ → ℕ) (zero_unnamed : Bool) → answer from zero_unnamed ≡ Ok (Some (plus_addend (from t + n) (pos 0)))
+    = λ from zero_unnamed. ap (λ b. option_map_or (λ a. Ok (Some (plus_addend a (pos 0)))) (cond b (Some (from t + n)) None) (Err past_end)) (lt-ltb offset (length section.bytes) inside) in
     let places : Places = places_of machine.sizes link live starts in
     let by : EntrySetting = entries_of machine.sizes link live starts in
     let none : places.live (first + i) offset ≡ None
     = ap (λ b. if b then option_map (λ z. live_address link (output_content machine.sizes link live) starts z + offset) (slice_get (all_inputs groups) (first + i)) else None) (not_live link live (first + i) input laid.are_live at_input merged) in
     let value : unwrap_or (places.live (first + i) offset) (places.merged number) ≡ address
     = ap (λ (o : Option ℕ). unwrap_or o (places.merged number)) none
-    ∙ ap (λ (o : Option MergePlace). option_map_or (value_at link images) o 0) is
-    ∙ ap (λ (o : Option ℕ). unwrap_or o 0) found in
+    ∙ ap (λ (o : Option MergePlace). found_or_0 (place_address link images (pos 0) true o)) is
+    ∙ ap found_or_0 (found images true) in
     let read : resolution_at layout.symbol_resolutions number ≡ resolution_of places by file.kind first (number, x)
     = ap (λ (l : Layout). resolution_at l.symbol_resolutions number) laid.same ∙ resolution_is machine.sizes link live starts id file r.index x there r.there in
-    let image_is : image_start layout.merged_string_start_addresses t ≡ images t
-    = ap (λ (l : Layout). image_start l.merged_string_start_addresses t) laid.same
-    ∙ starts_at (link_inputs link).outputs (image_addresses link (output_content machine.sizes link live) starts) t inputs at_t in
-    let terminated : list_all is_terminated inputs ≡ true = all_terminated link.options.bucket_limit 0 (link_inputs link).outputs t inputs laid.merged at_t in (
+    let referred : merged_address link told number (pos 0) false ≡ Ok (Some address)
+    = ap (place_address link told (pos 0) false) is ∙ found told false ∙ ap (λ m. Ok (Some (plus_addend (m + n) (pos 0)))) image_is in (
       address,
       ap (option_map (λ (z : Resolution). z.raw_value)) read ∙ value_of places by file.kind first number i offset address x r.object r.resolved placed value,
-      record {
-        place = n;
-        at = ap (λ m. m + n) (sym image_is);
-        shows = shows link t among.0 offset y laid.good terminated among.1 inside;
-      },
+      merged_references_show.shown link told number place (pos 0) address laid.good laid.merged is referred,
     )

@@ -27,7 +27,7 @@ use Rattle.lk_merge.proofs.SymbolPlaces.{is_input, output_at}
 use Rattle.lk_tables.specs.SymbolEntries.{is_resolved}
 use Rattle.lk_layout.specs.declared.outside.MergeOffsetPlace.TheVariants.{OfRelocation, OfSymbol}
 use Rattle.lk_layout.specs.Outside.{merge_offsets, relocation_outside, relocations_outside, section_outside, symbol_outside, symbols_outside}
-use Rattle.lk_layout.proofs.Imaging.{output_there, symbol_place_is}
+use Rattle.lk_merge.proofs.MergedReferences.{output_there, symbol_place_is}
 
 -- where nothing comes of any, nothing comes of all
 nothing : {X Y : Type 0} (f : X → List Y) (xs : List X) → ((x : X) → f x ≡ []) → flat_map f xs ≡ []

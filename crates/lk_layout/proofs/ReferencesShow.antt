@@ -1,7 +1,7 @@
 -- A reference into merged data has an address at which the image shows what stands at the offset that it chooses.
-use Rattle.std.proofs.Common.{◌≡◌, ℕ, ◌+◌, ◌<◌, Bool, true, false, cond, if◌then◌else◌, List, [], ◌∷◌, length, not, Option, Some, None, Result, Ok, Err, refl, ap, ◌∙◌, inl, inr, arith}
+use Rattle.std.proofs.Common.{◌≡◌, ℕ, ◌+◌, ◌<◌, Bool, true, false, cond, if◌then◌else◌, List, [], ◌∷◌, length, not, Option, Some, None, Result, Ok, Err, ap, ◌∙◌, inl, inr, arith}
 use Rattle.std.specs.Prelude.{ℤ, ◌&&◌}
-use Rattle.std.specs.List.{enumerate_from, flat_map, list_all, slice_get}
+use Rattle.std.specs.List.{enumerate_from, flat_map, slice_get}
 use Rattle.std.specs.Option.{option_map_or}
 use Rattle.std.proofs.lemmas.Bool.{cases_lt, lt-ltb}
 use Rattle.lk_link.specs.declared.file.InputFile.{InputFile}
@@ -9,7 +9,7 @@ use Rattle.lk_link.specs.declared.ids.FileId.{FileId}
 use Rattle.lk_link.specs.declared.link.LinkInput.{LinkInput}
 use Rattle.lk_link.specs.declared.relocation.Relocation.{Relocation}
 use Rattle.lk_link.specs.declared.section.InputSection.{InputSection}
-use Rattle.lk_link.specs.InputSlots.{is_merge, is_regular}
+use Rattle.lk_link.specs.InputSlots.{is_regular}
 use Rattle.lk_link.specs.Inputs.{NumberedFile, numbered_files}
 use Rattle.lk_link.specs.Symbols.{file_number, first_symbol}
 use Rattle.lk_link.specs.TableSizes.{Machine}
@@ -17,22 +17,19 @@ use Rattle.lk_link.proofs.Elements.{append_right, flat_map_in}
 use Rattle.lk_link.proofs.InputLemmas.{file_stands, numbered_get}
 use Rattle.lk_gc.specs.declared.live.Live.{Live}
 use Rattle.lk_reach.specs.Units.{local_definition}
-use Rattle.lk_link.specs.Parts.{part_sections}
 use Rattle.lk_merge.specs.declared.output_address.OffsetPastEnd.{OffsetPastEnd}
 use Rattle.lk_merge.specs.Addresses.{image_start}
 use Rattle.lk_merge.specs.Hash.{fnv64}
-use Rattle.lk_merge.specs.LinkInputs.{link_inputs, merge_input, merge_inputs}
+use Rattle.lk_merge.specs.LinkInputs.{merge_input}
+use Rattle.lk_merge.specs.MergedReferences.{inputs_with, moved}
 use Rattle.lk_merge.specs.OffsetsOutside.{is_reference_outside, refers_outside}
-use Rattle.lk_merge.specs.OutputAddresses.{MergePlace, address_in, chosen_offset, offset_place, output_of, past_end, plus_addend, reference_address, symbol_place}
-use Rattle.lk_merge.specs.Pieces.{MergeInput, is_terminated}
-use Rattle.lk_merge.proofs.SymbolPlaces.{is_input, output_at}
+use Rattle.lk_merge.specs.OutputAddresses.{MergePlace, address_in, chosen_offset, merged_address, offset_place, output_of, past_end, place_address, plus_addend, symbol_place}
+use Rattle.lk_merge.proofs.MergedReferences.{merged_references_show}
 use Rattle.lk_layout.specs.declared.layout.Layout.{Layout}
 use Rattle.lk_layout.specs.declared.outside.MergeOffsetPlace.{MergeOffsetPlace}
 use Rattle.lk_layout.specs.declared.outside.MergeOffsetPlace.TheVariants.{OfRelocation}
 use Rattle.lk_layout.specs.Outside.{merge_offsets, relocation_outside, relocations_outside, section_outside, symbols_outside}
 use Rattle.lk_layout.specs.Sound.{IsReference, ReferencesShow}
-use Rattle.lk_layout.proofs.Imaging.{output_there, symbol_place_is}
-use Rattle.lk_layout.proofs.ImagesShow.{all_terminated, shows}
 use Rattle.lk_layout.proofs.LaidOut.{IsLaidOut}
 use Rattle.lk_layout.proofs.NamedSymbols.{has_none, past_tells}
 
@@ -96,23 +93,11 @@ pub references_show : (machine : Machine) (link : LinkInput) (layout : Layout) (
 references_show machine link layout laid id file i k r place is names =
     let s : ℕ = local_definition (first_symbol link.groups id) file.symbols r.symbol in
     let starts : ℕ → ℕ = image_start layout.merged_string_start_addresses in
-    let stands = symbol_place_is link s place names in
-    let output = output_there link place laid.good stands in
-    let t : ℕ = output_of link place.section in
-    let inputs : List MergeInput = merge_inputs link t in
-    let y : MergeInput = merge_input place.number place.section in
     let chosen : ℕ = chosen_offset place r.addend in
     let inside : chosen < length place.section.bytes = chosen_inside link laid.live id file i k r place is names laid.inside in
-    let n : ℕ = offset_place fnv64 inputs y chosen in
-    let address : ℕ = starts t + n in
-    let found : address_in link starts place chosen ≡ Some address = ap (λ b. cond b (Some address) None) (lt-ltb chosen (length place.section.bytes) inside) in
-    let at_section : is_merge stands.input.section.slot ≡ true = ap (λ (x : InputSection). is_merge x.slot) stands.section ∙ stands.merged in
-    let goes = ap (λ (x : InputSection). slice_get (part_sections link.plan.sections) x.part) stands.section ∙ output.0 in
-    let among = is_input link place.number t stands.input stands.there at_section goes in
-    let at_among : slice_get inputs among.0 ≡ Some y = among.1 ∙ ap (λ (x : InputSection). Some (merge_input place.number x)) stands.section in
-    let at_t = output_at link t output.1 in
-    let terminated : list_all is_terminated inputs ≡ true = all_terminated link.options.bucket_limit 0 (link_inputs link).outputs t inputs laid.merged at_t in (
-      address,
-      ap (λ (o : Option MergePlace). option_map_or (reference_address link starts r.addend false) o (Ok None)) names ∙ answered link starts place r.addend address place.named found,
-      record { place = n; at = refl; shows = shows link t among.0 chosen y laid.good terminated at_among inside },
-    )
+    let n : ℕ = starts (output_of link place.section) + offset_place fnv64 (inputs_with link place) (merge_input place.number place.section) chosen in
+    let found : address_in link starts place chosen ≡ Some n = ap (λ b. cond b (Some n) None) (lt-ltb chosen (length place.section.bytes) inside) in
+    let address : ℕ = moved place r.addend n in
+    let told : merged_address link starts s r.addend false ≡ Ok (Some address)
+    = ap (place_address link starts r.addend false) names ∙ answered link starts place r.addend n place.named found in
+    (address, told, merged_references_show.shown link starts s place r.addend address laid.good laid.merged names told)

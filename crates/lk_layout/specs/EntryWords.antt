@@ -1,5 +1,5 @@
 -- Words of private contracts: the entries that come next, as a walk over all symbols moves on.
-use Rattle.std.specs.Prelude.{◌≡◌, ℕ, ◌+◌, ◌<◌, ◌^◌, Bool, if◌then◌else◌, List, Option, Some, None, is_some, slice_index, sum_by}
+use Rattle.std.specs.Prelude.{◌≡◌, ℕ, ◌+◌, ◌<◌, ◌^◌, if◌then◌else◌, List, Option, Some, None, is_some, slice_index, sum_by}
 use Rattle.std.specs.Option.{option_map_or}
 use Rattle.lk_link.specs.declared.flags.ValueFlags.{ValueFlags}
 use Rattle.lk_link.specs.declared.plan.NamedParts.{NamedParts}

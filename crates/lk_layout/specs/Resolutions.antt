@@ -1,8 +1,7 @@
 -- The values of symbols, and the entry.
 use Rattle.std.specs.Prelude.{ℕ, ◌+◌, ◌&&◌, ◌||◌, not, if◌then◌else◌, List, Option, Some}
-use Rattle.std.specs.Prelude.{None, Result, Ok, Err, map, option_and_then, option_map, slice_get, slice_index, unwrap_or, Bool}
+use Rattle.std.specs.Prelude.{None, Result, Ok, Err, map, option_and_then, option_map, pos, slice_get, slice_index, true, unwrap_or, Bool}
 use Rattle.std.specs.List.{flat_map, slice_index_or}
-use Rattle.std.specs.Option.{option_map_or}
 use Rattle.lk_link.specs.declared.file.FileKind.{FileKind}
 use Rattle.lk_link.specs.declared.flags.TheConstants.ValueFlags as flag
 use Rattle.lk_link.specs.declared.link.LinkInput.{LinkInput}
@@ -19,7 +18,8 @@ use Rattle.lk_link.specs.TableSizes.{TableSizes}
 use Rattle.lk_gc.specs.declared.live.Live.{Live}
 use Rattle.lk_tables.specs.Copied.{is_wanted}
 use Rattle.lk_tables.specs.SymbolTable.{symbols_by_number}
-use Rattle.lk_merge.specs.OutputAddresses.{MergePlace, address_in, symbol_place}
+use Rattle.lk_merge.specs.declared.output_address.OffsetPastEnd.{OffsetPastEnd}
+use Rattle.lk_merge.specs.OutputAddresses.{merged_address}
 use Rattle.lk_sizes.specs.Header.{header_info}
 use Rattle.lk_sizes.specs.Images.{image_addresses}
 use Rattle.lk_sizes.specs.PartOwners.{common_address, live_address}
@@ -43,14 +43,15 @@ address_at sizes link live starts k offset =
 abbrev pub images_at : TableSizes → LinkInput → Live → List ℕ → ℕ → ℕ
 images_at sizes link live starts s = slice_index (image_addresses link (output_content sizes link live) starts) s
 
--- the value of a symbol that names a place in a merged section, by where the images start: a named one has the address there, an
--- unnamed one 0
-abbrev pub value_at : LinkInput → (ℕ → ℕ) → MergePlace → ℕ
-value_at link images place = if place.named then unwrap_or (address_in link images place place.offset) 0 else 0
+-- an address that is found, else 0
+abbrev pub found_or_0 : Result (Option ℕ) OffsetPastEnd → ℕ
+found_or_0 (Ok address) = unwrap_or address 0
+found_or_0 (Err e) = 0
 
--- that of the symbol with a number; 0 where it is placed elsewhere
+-- the value of the symbol with a number, if it names a place in a merged section, by where the images start: a named one has the address
+-- there, an unnamed one 0; 0 where it is placed elsewhere
 abbrev pub merged_value : LinkInput → (ℕ → ℕ) → ℕ → ℕ
-merged_value link images s = option_map_or (value_at link images) (symbol_place link.groups s) 0
+merged_value link images s = found_or_0 (merged_address link images s (pos 0) true)
 
 -- ---- values
 

@@ -1,5 +1,5 @@
 -- What a layout keeps apart, and what it keeps in step.
-use Rattle.std.specs.Prelude.{◌≡◌, ◌≢◌, ◌⊎◌, [], List, ℕ, ◌+◌, ◌%◌, ◌<◌, ◌≤◌, ◌==◌, true, false, if◌then◌else◌, Some, None, Ok, length, map, option_map, slice_get, slice_index}
+use Rattle.std.specs.Prelude.{◌≡◌, ◌≢◌, ◌⊎◌, [], List, ℕ, ◌+◌, ◌%◌, ◌<◌, ◌≤◌, ◌==◌, true, false, Some, None, Ok, length, map, option_map, pos, slice_get, slice_index}
 use Rattle.std.specs.Int.{◌∣◌}
 use Rattle.std.specs.Option.{ForSome}
 use Rattle.lk_link.specs.declared.file.InputFile.{InputFile}
@@ -27,8 +27,9 @@ use Rattle.lk_reach.specs.Units.{local_definition, section_of}
 use Rattle.lk_merge.specs.Addresses.{AreStartsOf, image_start}
 use Rattle.lk_merge.specs.Hash.{fnv64}
 use Rattle.lk_merge.specs.Image.{all_pieces, image, image_place, is_among}
-use Rattle.lk_merge.specs.LinkInputs.{link_inputs, merge_input, merge_inputs}
-use Rattle.lk_merge.specs.OutputAddresses.{MergePlace, Shows, chosen_offset, merged_address, offset_place, output_of, plus_addend, symbol_place}
+use Rattle.lk_merge.specs.LinkInputs.{link_inputs}
+use Rattle.lk_merge.specs.MergedReferences.{IsShownAt}
+use Rattle.lk_merge.specs.OutputAddresses.{MergePlace, Shows, merged_address, offset_place, symbol_place}
 use Rattle.lk_merge.specs.Pieces.{Piece, MergeInput}
 use Rattle.lk_place.specs.Plain.{IsPlain, PlacesInLoad}
 use Rattle.lk_place.specs.Ranges.{FileIsDisjoint, HasPart, MemoryIsDisjoint, TakesMemory}
@@ -191,12 +192,6 @@ abbrev pub ImagesStand : TableSizes → LinkInput → Live → Layout → Type 0
 ImagesStand sizes link live layout = (s : ℕ) (inputs : List MergeInput) → slice_get layout.merged_strings s ≡ Some inputs → 0 < length inputs
     → IsImageAt sizes link live layout s inputs
 
--- from an address on, the image of an output section shows what a merged input has from an offset to its piece's end
-pub record ShowsAt (link : LinkInput) (layout : Layout) (s : ℕ) (x : MergeInput) (offset address : ℕ) : Type 0 where
-  pub place : ℕ
-  pub at : address ≡ image_start layout.merged_string_start_addresses s + place
-  pub shows : Shows (merge_inputs link s) x offset place
-
 -- a named symbol that has a resolution and stands in a merged section has an address at which the image of the output section shows
 -- what stands there
 abbrev pub NamedSymbolsShow : LinkInput → Live → Layout → Type 0
@@ -204,7 +199,8 @@ NamedSymbolsShow link live layout = (id : FileId) (file : InputFile) (i offset :
     → file_in link.groups id ≡ Some file → (s : IsResolvedIn link live id file i) → s.symbol.at ≡ at.Section i offset
     → slice_get file.sections i ≡ Some section → is_merge section.slot ≡ true → (length s.symbol.name == 0) ≡ false → (address : ℕ)
     × (option_map (λ r. r.raw_value) (resolution_at layout.symbol_resolutions (first_symbol link.groups id + s.index)) ≡ Some address)
-    × ShowsAt link layout (output_of link section) (merge_input (input_number link.groups id i) section) offset address
+    × IsShownAt link (image_start layout.merged_string_start_addresses)
+    (record { number = input_number link.groups id i; section = section; offset = offset; named = true }) (pos 0) address
 
 -- a relocation of a live regular section that asks for flags, by its file, its section's index and its own
 pub record IsReference (link : LinkInput) (live : Live) (id : FileId) (file : InputFile) (i k : ℕ) (r : Relocation) : Type 0 where
@@ -216,14 +212,12 @@ pub record IsReference (link : LinkInput) (live : Live) (id : FileId) (file : In
   pub relocation : slice_get section.relocs k ≡ Some r
   pub asks : (resolution_flags r.kind == 0) ≡ false
 
--- where such a one's definition is placed in merged data, the image shows at an address what stands at the chosen offset; that is the
--- address of the reference, if the definition is unnamed, and behind it by the addend, if it is named
+-- where such a one's definition is placed in merged data, the reference has an address: there the image shows what it refers to
 abbrev pub ReferencesShow : LinkInput → Live → Layout → Type 0
 ReferencesShow link live layout = (id : FileId) (file : InputFile) (i k : ℕ) (r : Relocation) (place : MergePlace) → IsReference link live id file i k r
     → symbol_place link.groups (local_definition (first_symbol link.groups id) file.symbols r.symbol) ≡ Some place → (address : ℕ)
-    × (merged_address link (image_start layout.merged_string_start_addresses) (local_definition (first_symbol link.groups id) file.symbols r.symbol) r.addend false
-    ≡ Ok (Some (if place.named then plus_addend address r.addend else address)))
-    × ShowsAt link layout (output_of link place.section) (merge_input place.number place.section) (chosen_offset place r.addend) address
+    × (merged_address link (image_start layout.merged_string_start_addresses) (local_definition (first_symbol link.groups id) file.symbols r.symbol) r.addend false ≡ Ok (Some address))
+    × IsShownAt link (image_start layout.merged_string_start_addresses) place r.addend address
 
 -- no two owners share an address, if they go to parts of sections that take addresses: neither live sections nor images
 abbrev pub OwnersAreApart : TableSizes → LinkInput → Live → Layout → Type 0

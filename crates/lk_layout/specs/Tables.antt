@@ -1,6 +1,6 @@
 -- What the code goes by: places by marks and a table of addresses, and the room behind them. Contracts of private functions speak
 -- of this.
-use Rattle.std.specs.Prelude.{◌≡◌, ℕ, ◌+◌, ◌<◌, ◌^◌, ◌&&◌, not, Bool, true, if◌then◌else◌, List, All, Option, Some, None, Result, Ok, Err, ◌==◌, find, option_and_then, slice_get, unwrap_or}
+use Rattle.std.specs.Prelude.{◌≡◌, ℕ, ◌+◌, ◌<◌, ◌^◌, ◌&&◌, not, Bool, true, if◌then◌else◌, List, All, Option, Some, None, ◌==◌, find, option_and_then, slice_get}
 use Rattle.std.specs.List.{slice_index_or}
 use Rattle.std.specs.Option.{option_map_or}
 use Rattle.lk_sizes.specs.declared.addresses.CommonAddress.{CommonAddress}
@@ -18,7 +18,6 @@ use Rattle.lk_link.specs.WellFormed.{IsWellFormed}
 use Rattle.lk_merge.specs.Addresses.{AreStartsOf, image_start}
 use Rattle.lk_merge.specs.LinkInputs.{link_inputs}
 use Rattle.lk_merge.specs.Pieces.{MergeInput}
-use Rattle.lk_merge.specs.declared.output_address.OffsetPastEnd.{OffsetPastEnd}
 use Rattle.lk_expressions.specs.declared.positions.SymbolPosition.{SymbolPosition}
 use Rattle.lk_layout.specs.Resolutions.{Places, merged_value}
 
@@ -53,11 +52,6 @@ pub record AreMergedOf (link : LinkInput) (merged : List (List MergeInput)) (add
   pub good : IsWellFormed link
   pub sections : merged ≡ (link_inputs link).outputs
   pub starts : AreStartsOf merged addresses
-
--- an address that is found, else 0
-abbrev pub found_or_0 : Result (Option ℕ) OffsetPastEnd → ℕ
-found_or_0 (Ok address) = unwrap_or address 0
-found_or_0 (Err e) = 0
 
 -- the address that a table has for the common with this symbol; 0 where it has none
 abbrev pub common_in : List CommonAddress → ℕ → ℕ

@@ -1,14 +1,17 @@
 //! References to merged sections.
 
-ghost use Rattle.std.specs.Prelude.{◌≡◌};
+ghost use Rattle.std.specs.Prelude.{◌≡◌, Some, pos, true};
+ghost use Rattle.lk_link.specs.Files.{file_in};
+ghost use Rattle.lk_link.specs.Walks.{file_of};
 ghost use Rattle.lk_merge.specs.Addresses.{image_start};
-ghost use Rattle.lk_layout.specs.Resolutions.{merged_value};
-ghost use Rattle.lk_layout.specs.Tables.{AreMergedOf, found_or_0};
+ghost use Rattle.lk_merge.specs.OutputAddresses.{merge_place, place_address};
+ghost use Rattle.lk_layout.specs.Resolutions.{found_or_0};
+ghost use Rattle.lk_layout.specs.Tables.{AreMergedOf};
 
-use lk_link::{LinkInput, SymbolId};
+use lk_link::{FileRef, InputSymbol, LinkInput};
 use lk_merge::{
     MergedStringStartAddresses, MergedStringsSection, OffsetPastEnd,
-    get_merged_string_output_address,
+    get_merged_string_output_address_in,
 };
 
 /// What is merged of a link, lent, with the addresses of buckets.
@@ -20,13 +23,20 @@ pub(crate) struct Merged<'a> {
     pub(crate) starts: &'a MergedStringStartAddresses,
 }
 
-/// The value of a symbol that is placed in a merged section; 0 where it has none.
-pub(crate) fn merged_value(merged: Merged<'_>, symbol: SymbolId) -> u64
-    requires { AreMergedOf merged.link.now merged.sections.now merged.starts.now }
-    ensures { result ≡ merged_value merged.entry.link.now (image_start merged.entry.starts.now) symbol }
+/// The value of a symbol of a file that is placed in a merged section; 0 where it has none.
+pub(crate) fn merged_value(merged: Merged<'_>, file: FileRef<'_>, symbol: &InputSymbol) -> u64
+    requires belong { AreMergedOf merged.link.now merged.sections.now merged.starts.now }
+    requires there { file_in merged.link.now.groups file.id ≡ Some file.file.now }
+    ensures { result ≡ found_or_0 (place_address merged.entry.link.now (image_start merged.entry.starts.now) (pos 0) true
+        (merge_place merged.entry.link.now.groups (file_of file.entry, symbol.now))) }
 {
-    let (link, sections, starts) = (merged.link, merged.sections, merged.starts);
-    found_or_0(get_merged_string_output_address(link, symbol, 0, sections, starts, true))
+    let Merged {
+        link,
+        sections,
+        starts,
+    } = merged;
+    let found = get_merged_string_output_address_in(link, file, symbol, 0, sections, starts, true);
+    found_or_0(found)
 }
 
 /// An address that is found, else 0.

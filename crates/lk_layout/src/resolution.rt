@@ -273,6 +273,7 @@ fn resolve<P: Platform>(
 ) -> Option<Resolution>
     requires belong { AreMergedOf merged.link.now merged.sections.now merged.starts.now }
     requires rising { AreRising tables.commons.now }
+    requires of_file { file_in merged.link.now.groups file.id ≡ Some file.file.now }
     requires few { first < 2 ^ 32 }
     requires room { HasRoom tables.marks.now tables.addresses.now first symbol.now.at }
     requires there { slice_get (numbered_symbols merged.link.now.groups) number ≡ Some (file_of file, symbol.now) }
@@ -290,7 +291,7 @@ fn resolve<P: Platform>(
     if !is_wanted(kind, id, symbol, flags) {
         return None;
     }
-    let raw_value = symbol_value(tables, merged, first, number, symbol);
+    let raw_value = symbol_value(tables, merged, file, first, number, symbol);
     let named = &link.plan.named;
     let made = take_entries(
         platform,
@@ -307,15 +308,18 @@ fn resolve<P: Platform>(
     }
 }
 
-/// The value of the symbol with this number.
+/// The value of a symbol of a file, with this number.
 fn symbol_value(
     tables: Tables<'_>,
     merged: Merged<'_>,
+    file: FileRef<'_>,
     first: usize,
     number: u32,
     symbol: &InputSymbol,
 ) -> u64
     requires belong { AreMergedOf merged.link.now merged.sections.now merged.starts.now }
+    requires of_file { file_in merged.link.now.groups file.id ≡ Some file.file.now }
+    requires there { slice_get (numbered_symbols merged.link.now.groups) number ≡ Some (file_of file, symbol.now) }
     requires rising { AreRising tables.commons.now }
     requires few { first < 2 ^ 32 }
     requires room { HasRoom tables.marks.now tables.addresses.now first symbol.now.at }
@@ -325,7 +329,7 @@ fn symbol_value(
         SymbolPlacement::Section { index, offset } => {
             match address_at(tables, first + *index as usize, *offset) {
                 Some(address) => address,
-                None => merged_value(merged, SymbolId::from_u32(number)),
+                None => merged_value(merged, file, symbol),
             }
         }
         SymbolPlacement::Common { .. } => common_address(tables.commons, number),

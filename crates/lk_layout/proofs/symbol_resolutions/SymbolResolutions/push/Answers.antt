@@ -1,6 +1,5 @@
-use Rattle.std.proofs.Common.{◌≡◌, ◌++◌, ◌∷◌, [], List, Option, map, ap, ◌∙◌}
+use Rattle.std.proofs.Common.{◌++◌, ◌∷◌, [], List, Option, map, ap, ◌∙◌}
 use Rattle.lk_link.specs.declared.resolution.Resolution.{Resolution}
-use Rattle.lk_layout.specs.declared.kept.Kept.{Kept}
 use Rattle.lk_layout.specs.Kept.{told_of}
 use Rattle.lk_layout.proofs.Keeping.{one_more_told}
 use Rattle.lk_layout.proofs.symbol_resolutions.SymbolResolutions.push.Goals as goal
