@@ -1,4 +1,4 @@
-use Rattle.std.proofs.Common.{◌∙◌, Option, ap, sym}
+use Rattle.std.proofs.Common.{◌∙◌, ap, sym}
 use Rattle.lk_expressions.specs.Evaluation.{alone}
 use Rattle.lk_expressions.proofs.Evaluations.{operand_alone}
 use Rattle.lk_expressions.proofs.evaluation.evaluate.Goals as goal
