@@ -25,6 +25,7 @@ mod PlainScanLaws
 mod Ranges
 mod RefusalLaws
 mod RegionLaws
+mod RegionNames
 mod SecondaryLaws
 mod SectionEnds
 mod SectionRegions

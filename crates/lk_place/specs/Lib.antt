@@ -14,6 +14,7 @@ pub mod Plain
 pub mod PlainScan
 pub mod Plans
 pub mod Ranges
+pub mod RegionNames
 pub mod Regions
 pub mod Secondaries
 pub mod SecondariesSoFar

@@ -7,6 +7,7 @@ use Rattle.lk_place.specs.Setting.{IsReady, Setting, setting_of}
 use Rattle.lk_place.specs.Walk.{counters_after}
 use Rattle.lk_place.proofs.Beginnings.{few_regions}
 use Rattle.lk_place.proofs.Computing.{based_at, begins, begins_at, refused_answer, unbegun_answer, walked_placed, written_back}
+use Rattle.lk_place.proofs.RegionNames.{own_names}
 use Rattle.lk_place.proofs.SectionRegions.{origins_are, origins_count}
 use Rattle.lk_place.proofs.ShallowLinks.{shallow_link}
 use Rattle.lk_place.proofs.AtHand.{evaluable_events, evaluable_loads}
@@ -27,7 +28,10 @@ walk-requires-clause-starts g c =
     begins_at setting c.in_ok-beginning.beginning c.in_ok-beginning.ensures
 
 pub regions_of_sections-requires : goal.regions_of_sections-requires
-regions_of_sections-requires g c = record { few = few_regions c.args.link.now c.requires.well_formed }
+regions_of_sections-requires g c = record {
+  few = few_regions c.args.link.now c.requires.well_formed;
+  own = own_names c.args.link.now.plan.regions c.in_ok-beginning.beginning.regions c.in_ok-beginning.ensures.regions;
+}
 
 pub walk-requires-clause-regions : goal.walk-requires-clause-regions
 walk-requires-clause-regions g c =
