@@ -1,13 +1,14 @@
 -- The entries that a resolution tells are the symbol's own.
-use Rattle.std.proofs.Common.{◌≡◌, ℕ, ◌+◌, ◌<◌, ◌≤◌, ◌==◌, Bool, true, false, if◌then◌else◌, List, [], ◌∷◌, ◌++◌, get_or, length, map, sum_by, take, Option, Some, None, refl, sym, ap, subst, ◌∙◌, inl, inr, arith}
+use Rattle.std.proofs.Common.{◌≡◌, ℕ, zero, suc, ◌+◌, ◌<◌, ◌≤◌, ◌==◌, Bool, true, false, if◌then◌else◌, List, [], ◌∷◌, ◌++◌, cond, get_or, length, map, sum_by, take, Option, Some, None, refl, sym, ap, subst, ◌∙◌, inl, inr, arith}
 use Rattle.std.specs.Prelude.{is_some, slice_get, slice_index}
-use Rattle.std.specs.List.{enumerate_from, flat_map, slice_index_or}
+use Rattle.std.specs.List.{count_by, enumerate_from, flat_map, slice_index_or}
 use Rattle.std.specs.Option.{ForSome}
 use Rattle.std.proofs.Math.ListN as lists
-use Rattle.std.proofs.lemmas.Bool.{cases_lt}
+use Rattle.std.proofs.lemmas.Bool.{cases_lt, eq-eqb}
 use Rattle.std.proofs.lemmas.Bool.Decides.{eqb_tells}
 use Rattle.std.proofs.lemmas.List.{get_or_past, take-map}
 use Rattle.std.proofs.lemmas.List.Concat.{length-flat_map}
+use Rattle.std.proofs.lemmas.List.Sums.{sum_by-cons}
 use Rattle.std.proofs.lemmas.Option.{slice_get-get_or}
 use Rattle.lk_link.specs.declared.link.LinkInput.{LinkInput}
 use Rattle.lk_link.specs.declared.plan.PlanPart.{PlanPart}
@@ -27,13 +28,16 @@ use Rattle.lk_reach.proofs.Numbered.{file_at}
 use Rattle.lk_reach.specs.Units.{numbered_symbols}
 use Rattle.lk_gc.specs.declared.live.Live.{Live}
 use Rattle.lk_expressions.specs.Records.{Record, nowhere, record_at}
+use Rattle.lk_tables.specs.Dynamic.{dynamic_index, dynamic_table}
 use Rattle.lk_tables.specs.Late.{flags_at}
-use Rattle.lk_tables.specs.OwnEntries.{own_address, own_place}
+use Rattle.lk_tables.specs.OwnEntries.{is_of, own_address, own_place}
+use Rattle.lk_tables.specs.OwnTables.{one_if}
 use Rattle.lk_tables.specs.SymbolEntries.{is_resolved}
 use Rattle.lk_tables.specs.SymbolTable.{SymbolEntry, TableEntry, entry_bytes, symbols_by_number}
-use Rattle.lk_tables.specs.TableLaws.{HasLastEntry}
+use Rattle.lk_tables.specs.TableLaws.{HasLastEntry, HasNoEntry}
 use Rattle.lk_tables.specs.TableLists.{all_lists, table_of}
 use Rattle.lk_tables.proofs.IndexLemmas.{indexes_name_entries}
+use Rattle.lk_tables.proofs.OwnCounts.{symbols_have_own_entries}
 use Rattle.lk_tables.proofs.OwnLemmas.{cursors_reach_entries}
 use Rattle.lk_tables.proofs.PartLists.{named_parts}
 use Rattle.lk_tables.proofs.ShareSums.{sum_alike}
@@ -156,6 +160,81 @@ entry_stands sizes link live layout starts k p s bytes address table good alone 
       at = omega (arith, at, start, whole);
     }
 
+-- ---- the other way round
+
+-- one that passes counts
+counted : {X : Type 0} (p : X → Bool) (xs : List X) (k : ℕ) (x : X) → slice_get xs k ≡ Some x → p x ≡ true → 1 ≤ count_by p xs
+counted p [] k x h passes = absurd (cc)
+counted p (y ∷ ys) zero x h passes =
+    let same : y ≡ x = cc in
+    omega (arith, sum_by-cons (λ z. cond (p z) 1 0) y ys, ap {B = ℕ} (λ b. cond b 1 0) (ap p same ∙ passes))
+counted p (y ∷ ys) (suc k) x h passes = omega (arith, sum_by-cons (λ z. cond (p z) 1 0) y ys, counted p ys k x h passes)
+
+-- where one passes, it is the only one
+only_one : {X : Type 0} (p : X → Bool) (xs : List X) (i j : ℕ) (x y : X) → count_by p xs ≡ 1 → slice_get xs i ≡ Some x → p x ≡ true → slice_get xs j ≡ Some y → p y ≡ true
+    → i ≡ j
+only_one p [] i j x y one at_i passes at_j passes_too = absurd (cc)
+only_one p (z ∷ zs) zero zero x y one at_i passes at_j passes_too = refl
+only_one p (z ∷ zs) zero (suc j) x y one at_i passes at_j passes_too =
+    let same : z ≡ x = cc in
+    absurd (omega (arith, one, sum_by-cons (λ w. cond (p w) 1 0) z zs, ap {B = ℕ} (λ b. cond b 1 0) (ap p same ∙ passes), counted p zs j y at_j passes_too))
+only_one p (z ∷ zs) (suc i) zero x y one at_i passes at_j passes_too =
+    let same : z ≡ y = cc in
+    absurd (omega (arith, one, sum_by-cons (λ w. cond (p w) 1 0) z zs, ap {B = ℕ} (λ b. cond b 1 0) (ap p same ∙ passes_too), counted p zs i x at_i passes))
+only_one p (z ∷ zs) (suc i) (suc j) x y one at_i passes at_j passes_too =
+    let least = counted p zs i x at_i passes in
+    let rest : count_by p zs ≡ 1 = omega (arith, one, sum_by-cons (λ w. cond (p w) 1 0) z zs, least) in
+    let same = only_one p zs i j x y rest at_i passes at_j passes_too in
+    omega (arith, same)
+
+same_entry : (s bytes more : ℕ) → ◌≡◌ {A = TableEntry} (record { owner = SymbolEntry s; bytes = bytes }) (record { owner = SymbolEntry s; bytes = more }) → bytes ≡ more
+same_entry s bytes more h = ap (λ (e : TableEntry). e.bytes) h
+
+-- an entry with bytes that stands in the part of a table is told
+entry_told : (sizes : TableSizes) (link : LinkInput) (live : Live) (layout : Layout) (starts : List ℕ) (k p s bytes address : ℕ) (table : List TableEntry) → IsWellFormed link
+    → TablesStandAlone sizes link live → slice_get (table_parts link.plan.named) k ≡ Some (Some p) → slice_get (all_lists (tables_of link (output_content sizes link live))) k ≡ Some table
+    → slice_index starts p ≡ (part_record layout p).mem_offset → count_by (is_of s) table ≡ 1
+    → slice_get table (own_place s table) ≡ Some (record { owner = SymbolEntry s; bytes = bytes }) → IsEntryAt sizes link live layout p s address
+    → entry_in (Some p) starts table s bytes ≡ Some address
+entry_told sizes link live layout starts k p s bytes address table good alone named there start one own is =
+    let content : Content = output_content sizes link live in
+    let part : PlanPart = part_at link.plan.sections p in
+    let place : ℕ = own_place s table in
+    let mine : TableEntry = record { owner = SymbolEntry s; bytes = bytes } in
+    let tells : table_of link.plan.named (tables_of link content) p ≡ table = named_parts link (tables_of link content) k p table good named there in
+    let owners : owners_of link content p ≡ map EntryOwner table = alone k p named ∙ ap (λ (es : List TableEntry). map EntryOwner es) tells in
+    let theirs : TableEntry = record { owner = SymbolEntry s; bytes = is.bytes } in
+    let from = map_at EntryOwner table is.number (EntryOwner theirs) (ap (λ (os : List Owner). slice_get os is.number) (sym owners) ∙ is.owner) in
+    let entry : from.0 ≡ theirs = let both : EntryOwner from.0 ≡ EntryOwner theirs = from.2 in cc in
+    let stands : slice_get table is.number ≡ Some theirs = from.1 ∙ ap (λ (e : TableEntry). Some e) entry in
+    let itself : (s == s) ≡ true = eq-eqb s s refl in
+    let number : is.number ≡ place = only_one (is_of s) table is.number place theirs mine one stands itself own itself in
+    let twice : Some theirs ≡ Some mine = sym stands ∙ ap (slice_get table) number ∙ own in
+    let same : theirs ≡ mine = cc in
+    let taken : is.bytes ≡ bytes = same_entry s is.bytes bytes same in
+    let before : bytes_of part (take place (map EntryOwner table)) ≡ entry_bytes (take place table)
+    = ap (bytes_of part) (take-map EntryOwner place table) ∙ own_entries part (take place table) in
+    let whole : bytes_of part (take is.number (owners_of link content p)) ≡ entry_bytes (take place table)
+    = ap (λ (n : ℕ). bytes_of part (take n (owners_of link content p))) number ∙ ap (λ (os : List Owner). bytes_of part (take place os)) owners ∙ before in
+    let at : own_address (slice_index starts p) table s ≡ address = omega (arith, is.at, start, whole) in
+    let cursor : ℕ = own_address (slice_index starts p) table s in
+    elim (eqb_tells bytes 0) [
+      | inl hit ↦ absurd (omega (arith, hit.1, taken, is.some))
+      | inr miss ↦ ap (λ b. if b then None else Some cursor) miss.0 ∙ ap (λ (n : ℕ). Some n) at
+    ]
+
+-- two last places are one
+one_last : (s j k bytes : ℕ) (entries : List TableEntry) → HasLastEntry s j bytes entries → HasLastEntry s k bytes entries → j ≡ k
+one_last s j k bytes entries h g = elim (cases_lt j k) [
+  | inl less ↦ absurd (h.last k less g.there)
+  | inr more ↦ elim (cases_lt k j) [ | inl less ↦ absurd (g.last j less h.there) | inr same ↦ omega (arith, more, same) ]
+]
+
+told_index : (s k bytes : ℕ) (entries : List TableEntry) (o : Option ℕ) → ((j : ℕ) → o ≡ Some j → HasLastEntry s j bytes entries)
+    → (o ≡ None → HasNoEntry s bytes entries) → HasLastEntry s k bytes entries → o ≡ Some k
+told_index s k bytes entries (Some j) some none h = ap (λ (n : ℕ). Some n) (one_last s j k bytes entries (some j refl) h)
+told_index s k bytes entries None some none h = absurd (none refl k h.there)
+
 for_named : (named : Option ℕ) (P : ℕ → Type 0) (p : ℕ) → named ≡ Some p → P p → ForSome named P
 for_named named P p is h = λ x e.
     let both : Some p ≡ Some x = sym is ∙ e in
@@ -177,6 +256,8 @@ entries_stand machine link layout laid alone resolved s r told =
     let has = symbol_of sizes link live starts s r (ap (λ (rs : List (Option Resolution)). resolution_at rs s) (sym resolved) ∙ told) in
     let bytes : Allocation = sizes.allocation (flags_at live.flags s).0 in
     let start : (p : ℕ) → slice_index starts p ≡ (part_record layout p).mem_offset = λ p. lists.get_or-map (λ (x : Record). x.mem_offset) records p nowhere in
+    let indexes = indexes_name_entries sizes link live by.told by.told (active_segments link content) s in
+    let own = symbols_have_own_entries sizes link live by.told by.told (active_segments link content) s has.file has.symbol has.there in
     let reach = cursors_reach_entries sizes.allocation link live (record { got = 0; plt = 0 }) s has.file has.symbol has.there has.wanted in
     record {
       got = λ address h.
@@ -187,5 +268,13 @@ entries_stand machine link layout laid alone resolved s r told =
           let entry = told_entry link.plan.named.plt starts (plt_table by) s bytes.plt address (ap (λ (x : Resolution). x.plt) (sym has.is) ∙ h) in
           for_named link.plan.named.plt (λ p. IsEntryAt sizes link live layout p s address) entry.0 entry.1
           (entry_stands sizes link live layout starts 1 entry.0 s bytes.plt address (plt_table by) laid.good alone (ap (λ (o : Option ℕ). Some o) entry.1) refl (start entry.0) entry.2 reach.1.there entry.3);
-      dynamic = λ k h. (indexes_name_entries sizes link live by.told by.told (active_segments link content) s).0 k (ap (λ (x : Resolution). x.dynamic) (sym has.is) ∙ h);
+      dynamic = λ k h. indexes.0 k (ap (λ (x : Resolution). x.dynamic) (sym has.is) ∙ h);
+      got_told = λ p address named is. ap (λ (x : Resolution). x.got) has.is ∙ ap (λ (o : Option ℕ). entry_in o starts (got_table by) s bytes.got) named
+          ∙ entry_told sizes link live layout starts 0 p s bytes.got address (got_table by) laid.good alone (ap (λ (o : Option ℕ). Some o) named) refl (start p)
+          (own.got ∙ ap one_if has.wanted) reach.0.there is;
+      plt_told = λ p address named is. ap (λ (x : Resolution). x.plt) has.is ∙ ap (λ (o : Option ℕ). entry_in o starts (plt_table by) s bytes.plt) named
+          ∙ entry_told sizes link live layout starts 1 p s bytes.plt address (plt_table by) laid.good alone (ap (λ (o : Option ℕ). Some o) named) refl (start p)
+          (own.plt ∙ ap one_if has.wanted) reach.1.there is;
+      dynamic_told = λ k is. ap (λ (x : Resolution). x.dynamic) has.is ∙ told_index s k sizes.symbol_entry (tables_of link content).dynsym
+          (dynamic_index (dynamic_table link live by.told) s) indexes.0 indexes.1 is;
     }

@@ -151,12 +151,16 @@ pub record IsEntryAt (sizes : TableSizes) (link : LinkInput) (live : Live) (layo
   pub owner : slice_get (owners_of link (output_content sizes link live) p) number ≡ Some (EntryOwner (record { owner = SymbolEntry s; bytes = bytes }))
   pub at : address ≡ owner_address (part_record layout p).mem_offset (part_at link.plan.sections p) (owners_of link (output_content sizes link live) p) number
 
--- what a resolution tells of entries is its symbol's own: its address in got, and in plt, is that of the symbol's entry in the part that
--- the plan names, and its number is the place of the symbol's last entry in the dynamic symbol table
+-- what a resolution tells of entries is its symbol's own, and all of it: its address in got, and in plt, is that of the symbol's entry in
+-- the part that the plan names, and its number is the place of the symbol's last entry in the dynamic symbol table; and where the symbol
+-- has such an entry, the resolution tells it
 pub record AreOwnEntries (sizes : TableSizes) (link : LinkInput) (live : Live) (layout : Layout) (s : ℕ) (r : Resolution) : Type 0 where
   pub got : (address : ℕ) → r.got ≡ Some address → ForSome link.plan.named.got (λ p. IsEntryAt sizes link live layout p s address)
   pub plt : (address : ℕ) → r.plt ≡ Some address → ForSome link.plan.named.plt (λ p. IsEntryAt sizes link live layout p s address)
   pub dynamic : (k : ℕ) → r.dynamic ≡ Some k → HasLastEntry s k sizes.symbol_entry (tables_of link (output_content sizes link live)).dynsym
+  pub got_told : (p address : ℕ) → link.plan.named.got ≡ Some p → IsEntryAt sizes link live layout p s address → r.got ≡ Some address
+  pub plt_told : (p address : ℕ) → link.plan.named.plt ≡ Some p → IsEntryAt sizes link live layout p s address → r.plt ≡ Some address
+  pub dynamic_told : (k : ℕ) → HasLastEntry s k sizes.symbol_entry (tables_of link (output_content sizes link live)).dynsym → r.dynamic ≡ Some k
 
 -- so it is of each resolution
 abbrev pub EntriesStand : TableSizes → LinkInput → Live → Layout → Type 0
