@@ -29,8 +29,11 @@ const RECORD_LINE: usize = 112;
 /// Bytes that a live section's line mostly has room in.
 const LIVE_LINE: usize = 32;
 
-/// Bytes that a symbol's line mostly has room in.
+/// Bytes that the line of a symbol without entries mostly has room in.
 const SYMBOL_LINE: usize = 48;
+
+/// Bytes that an entry's address or number in that line mostly has room in.
+const ENTRY_ROOM: usize = 10;
 
 /// A record as it is printed.
 #[derive(Clone, Copy)]
@@ -116,7 +119,7 @@ fn room_of(layout: &Layout<'_>) -> usize {
         .saturating_mul(RECORD_LINE)
         .saturating_add(count_live(layout).saturating_mul(LIVE_LINE))
         .saturating_add(merged_room(layout.merged_strings.as_slice()))
-        .saturating_add(count_resolved(layout).saturating_mul(SYMBOL_LINE))
+        .saturating_add(symbols_room(&layout.symbol_resolutions))
 }
 
 /// How many input sections are live.
@@ -125,12 +128,33 @@ fn count_live(layout: &Layout<'_>) -> usize {
     marks.iter().filter(|mark| **mark).count()
 }
 
-/// How many symbols have a resolution.
-fn count_resolved(layout: &Layout<'_>) -> usize {
-    let resolutions = &layout.symbol_resolutions;
-    (0..resolutions.len())
-        .filter(|number| resolutions.nth(*number).is_some())
-        .count()
+/// How many bytes the lines of symbols mostly have.
+fn symbols_room(resolutions: &SymbolResolutions) -> usize {
+    let mut room: usize = 0;
+    for number in 0..resolutions.len() {
+        room = room.saturating_add(symbol_room(resolutions.nth(number)));
+    }
+    room
+}
+
+/// How many bytes the line of a symbol mostly has.
+fn symbol_room(resolution: Option<Resolution>) -> usize {
+    match resolution {
+        Some(resolution) => {
+            SYMBOL_LINE
+                + entry_room(resolution.got.is_some())
+                + entry_room(resolution.plt.is_some())
+                + entry_room(resolution.dynamic.is_some())
+        }
+        None => 0,
+    }
+}
+
+/// How many bytes an entry adds to that.
+fn entry_room(has_entry: bool) -> usize
+    ensures { result ≤ 10 }
+{
+    if has_entry { ENTRY_ROOM } else { 0 }
 }
 
 /// The lines of sections, parts and segments.
