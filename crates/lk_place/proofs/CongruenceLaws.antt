@@ -14,9 +14,9 @@ use Rattle.lk_link.proofs.PartNumbers.{first_part-suc}
 use Rattle.lk_place.specs.declared.cursors.Cursors.{Cursors}
 use Rattle.lk_place.specs.Alignments.{place_alignment}
 use Rattle.lk_place.specs.Laws.{IsSoundlySet, PlainMemoryIsCongruent}
-use Rattle.lk_place.specs.PlacedBefore.{Known, Standing}
-use Rattle.lk_place.specs.Placement.{IsPlaced, known_before, Places, PlacesSection, Steps, moved, state_at}
-use Rattle.lk_place.specs.Plain.{IsLoadSegment, IsPlain, OpensLoad, PlacesInLoad, last_before}
+use Rattle.lk_place.specs.PlacedBefore.{Known, Standing, last_before}
+use Rattle.lk_place.specs.Placement.{IsPlaced, known_before, Places, PlacesSection, CarriesOut, moved, state_at}
+use Rattle.lk_place.specs.Plain.{IsLoadSegment, IsPlain, OpensLoad, PlacesInLoad}
 use Rattle.lk_place.specs.Ranges.{HasPart}
 use Rattle.lk_expressions.specs.Records.{Record, nowhere, record_at}
 use Rattle.lk_place.specs.Setting.{Setting, part_count, part_number}
@@ -84,15 +84,15 @@ nothing_saved setting states records is unmoved (suc n) less filled =
     let known : Known = known_before setting states records n in
     let about : IsAboutPlace e = unmoved.events n e event.1 in
     let quiet : (state_at states n).pending ≡ None = never_waits setting states records is unmoved n (omega arith) in
-    let step : Steps setting known e (state_at states n) records (state_at states (n + 1)) = step_at setting states records n e is (omega arith) event.1 in
+    let step : CarriesOut setting known e (state_at states n) records (state_at states (n + 1)) = step_at setting states records n e is (omega arith) event.1 in
     ap (λ (m : ℕ). (state_at states m).saved) (sym (add-one n))
     ∙ elim (placed_section e) as (λ (o : Option ℕ). placed_section e ≡ o → Places setting known.standing o step.entered records (state_at states (n + 1)) → (state_at states (n + 1)).saved ≡ None) [
       | None ↦ λ none places.
           unplaced_saves setting known known.standing e None (state_at states n) step.entered (state_at states (n + 1)) records unmoved.free about quiet none refl step.moves places
-          ∙ nothing_saved setting states records is unmoved n (omega arith) (λ s last. filled s (last_stays None events n e event.1 none ∙ last))
+          ∙ nothing_saved setting states records is unmoved n (omega arith) (λ s last. filled s (last_stays events n e event.1 none ∙ last))
       | (Some s) ↦ λ named places.
           let at : e ≡ Section s = section_event e s named in
-          let last : last_before events (suc n) ≡ Some s = last_is None events n s (event.1 ∙ ap (λ (x : OrderEvent). Some x) at) in
+          let last : last_before events (suc n) ≡ Some s = last_is events n s (event.1 ∙ ap (λ (x : OrderEvent). Some x) at) in
           let begun = enters setting known s (state_at states n) step.entered unmoved.free quiet (ap (λ (x : OrderEvent). moved setting known x (state_at states n)) (sym at) ∙ step.moves) in
           ap (λ (c : Cursors). c.saved) places.placed.leaves ∙ (begun.taken (filled s last)).1
     ] refl step.places
@@ -101,7 +101,7 @@ nothing_saved setting states records is unmoved (suc n) less filled =
 
 -- where the segment opens, both agree
 opens_agree : (setting : Setting) (states : List Cursors) (records : List Record) (known : Known) (i : ℕ) (from to : Cursors) → IsSoundlySet setting states records → from.pending ≡ None
-    → IsLoadSegment setting.plan i → from.saved ≡ None → Steps setting known (SegmentStart i) from records to → FreeAgrees (place_alignment setting i) to
+    → IsLoadSegment setting.plan i → from.saved ≡ None → CarriesOut setting known (SegmentStart i) from records to → FreeAgrees (place_alignment setting i) to
 opens_agree setting states records known i from to set quiet load unsaved step =
     let place : ℕ = place_alignment setting i in
     let there = opens_load setting known i from step.entered quiet load step.moves in
@@ -161,7 +161,7 @@ stays_agree setting standing place e None entered to records named none h places
 -- one event that does not open the segment
 step_agrees : (setting : Setting) (states : List Cursors) (records : List Record) (i s k : ℕ) → IsThrough setting states records i s k
     → (n : ℕ) (known : Known) (e : OrderEvent) (from to : Cursors) → n < k → slice_get setting.plan.events n ≡ Some e → is_open i (take n setting.plan.events) ≡ true
-    → from.pending ≡ None → FreeAgrees (place_alignment setting i) from → Steps setting known e from records to → FreeAgrees (place_alignment setting i) to
+    → from.pending ≡ None → FreeAgrees (place_alignment setting i) from → CarriesOut setting known e from records to → FreeAgrees (place_alignment setting i) to
 step_agrees setting states records i s k t n known e from to less here opened quiet h step =
     let about : IsAboutPlace e = t.plain.unmoved n e here in
     let free : IsFree setting.plan = (plain_plan setting.plan setting.output t.plain).free in
@@ -194,14 +194,14 @@ open_agrees setting states records i s k t (suc n) le opened =
     let e : OrderEvent = event.0 in
     let known : Known = known_before setting states records n in
     let quiet : (state_at states n).pending ≡ None = never_waits setting states records t.set.placed (plain_plan setting.plan setting.output t.plain) n (omega arith) in
-    let step : Steps setting known e (state_at states n) records (state_at states (n + 1)) = step_at setting states records n e t.set.placed early event.1 in
+    let step : CarriesOut setting known e (state_at states n) records (state_at states (n + 1)) = step_at setting states records n e t.set.placed early event.1 in
     let agrees : FreeAgrees place (state_at states (n + 1))
     = elim (is_start i e) as (λ b. is_start i e ≡ b → FreeAgrees place (state_at states (n + 1))) [
       | true ↦ λ is.
           let opens : OpensLoad setting.plan i n = record { load = t.places.load; here = event.1 ∙ ap (λ (x : OrderEvent). Some x) (is_that_start i e is) } in
           let unsaved = nothing_saved setting states records t.set.placed (plain_plan setting.plan setting.output t.plain) n (omega arith) (λ s last. t.plain.settled i n s opens last) in
           opens_agree setting states records known i (state_at states n) (state_at states (n + 1)) t.set quiet t.places.load unsaved
-          (subst (λ x. Steps setting known x (state_at states n) records (state_at states (n + 1))) (is_that_start i e is) step)
+          (subst (λ x. CarriesOut setting known x (state_at states n) records (state_at states (n + 1))) (is_that_start i e is) step)
       | false ↦ λ unopened.
           let before : is_open i (take n setting.plan.events) ≡ true = open_before i n setting.plan.events e event.1 unopened opened in
           step_agrees setting states records i s k t n known e (state_at states n) (state_at states (n + 1)) (omega arith) event.1 before quiet
@@ -220,7 +220,7 @@ placed_agree setting states records i s k j t below =
     let agrees : FreeAgrees place from = open_agrees setting states records i s k t k (omega arith) t.places.places.inside in
     let known : Known = known_before setting states records k in
     let quiet : from.pending ≡ None = never_waits setting states records t.set.placed (plain_plan setting.plan setting.output t.plain) k (omega (arith, t.early)) in
-    let step : Steps setting known (Section s) from records (state_at states (k + 1)) = step_at setting states records k (Section s) t.set.placed t.early t.places.places.here in
+    let step : CarriesOut setting known (Section s) from records (state_at states (k + 1)) = step_at setting states records k (Section s) t.set.placed t.early t.places.places.here in
     let begun = enters setting known s from step.entered (plain_plan setting.plan setting.output t.plain).free quiet step.moves in
     let filled : is_zero_fill_thread_local setting.plan s ≡ false = elim (cases_Bool (is_zero_fill_thread_local setting.plan s)) [
       | inl fills ↦ let unbacked = t.plain.zero_fill i s k t.places fills in absurd (cc)

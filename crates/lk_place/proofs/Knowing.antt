@@ -1,7 +1,8 @@
 -- What expressions read of what earlier events place goes by the records of just that.
 use Rattle.std.proofs.Common.{◌≡◌, ℕ, zero, suc, ◌+◌, ◌-◌, ◌≤◌, ◌<◌, Bool, true, false, List, length, take, drop, Option, Some, None, refl, sym, ap, subst, ◌∙◌, arith}
 use Rattle.std.specs.Prelude.{if◌then◌else◌, slice_get, OnOk, Result}
-use Rattle.std.specs.List.{list_any, slice_index, slice_index_or}
+use Rattle.std.specs.List.{enumerate_from, filter_map, last_or, list_any, slice_index, slice_index_or}
+use Rattle.std.specs.Option.{option_map_or, option_or}
 use Rattle.std.proofs.Math.Path.{fun_ext}
 use Rattle.std.proofs.lemmas.Bool.{eqb-true}
 use Rattle.std.proofs.lemmas.List.{ext_get_or, get_or-drop, get_or-take, length-drop, length-take}
@@ -9,18 +10,20 @@ use Rattle.lk_link.specs.declared.plan.OrderEvent.{OrderEvent}
 use Rattle.lk_link.specs.declared.plan.OrderEvent.TheVariants.{SegmentStart, SegmentEnd, Section, SetLocation, SetLocationRelative, SetSectionAddress}
 use Rattle.lk_link.specs.declared.plan.PlanSection.{PlanSection}
 use Rattle.lk_link.specs.Parts.{all_parts, first_part}
+use Rattle.lk_link.proofs.InputLemmas.{numbered_get}
 use Rattle.lk_link.proofs.Numbers.{length-made, made_of_or}
 use Rattle.lk_link.proofs.PartNumbers.{first_part-le, first_part-suc}
 use Rattle.lk_link.proofs.Places.{found}
 use Rattle.lk_place.specs.declared.cursors.Cursors.{Cursors}
 use Rattle.lk_place.specs.declared.error.Refusal.{Refusal}
 use Rattle.lk_place.specs.Placement.{IsPlacedBefore, event_refusal, known_before, state_at}
-use Rattle.lk_place.specs.InRegions.{goes_on_by, places_in}
-use Rattle.lk_place.specs.PlacedBefore.{Known, Standing, is_placing, is_placing_part, lies_in, standing_before}
+use Rattle.lk_place.specs.InRegions.{goes_on_by, places_in, placing_in, span_of}
+use Rattle.lk_place.specs.PlacedBefore.{Known, Standing, is_placing, is_placing_part, last_before, lies_in, standing_before}
 use Rattle.lk_expressions.specs.Records.{Record, nowhere, record_at}
 use Rattle.lk_place.specs.Segments.{hull, part_records}
 use Rattle.lk_place.specs.Setting.{IsReady, Setting, part_count, part_number}
-use Rattle.lk_place.specs.Walk.{GoesOn, cursors_after, goes_on_after, known_after, known_in, listed, walk_after, record_after, recorded, records_after, stepped, unless}
+use Rattle.lk_place.specs.Walk.{GoesOn, cursors_after, goes_on_after, known_after, known_in, listed, walk_after, record_after, recorded, records_after, left_by, unless}
+use Rattle.lk_place.proofs.LastOnes.{last_next, numbered_none, take_past}
 use Rattle.lk_place.proofs.WalkRecords.{among_is, section_there}
 
 -- ---- what is placed before
@@ -118,17 +121,36 @@ standing_alike setting k r r' ready each each' alike =
 listed_count : (setting : Setting) (f : ℕ → Record) → length (listed setting f) ≡ length (all_parts setting.plan.sections)
 listed_count setting f = length-made f (all_parts setting.plan.sections) 0
 
+-- behind one event more a region goes on behind it, if it places a section there, else where it did
+goes_next : (setting : Setting) (memory : ℕ → ℕ) (k r : ℕ)
+    → goes_on_by setting memory (suc k) r ≡ (if places_in setting.plan r (slice_get setting.plan.events k) then memory (suc k) else goes_on_by setting memory k r)
+goes_next setting memory k r =
+    let events : List (ℕ × OrderEvent) = enumerate_from 0 setting.plan.events in
+    let last : List (ℕ × OrderEvent) → Option ℕ = λ qs. last_or None (filter_map (placing_in setting.plan r) qs) in
+    let end : Option ℕ → ℕ = λ o. option_map_or (λ j. memory (j + 1)) o (span_of setting r).0 in
+    let before : Option ℕ = last (take k events) in
+    elim (slice_get setting.plan.events k) as (λ o. slice_get setting.plan.events k ≡ o → end (last (take (suc k) events)) ≡ (if places_in setting.plan r o then memory (suc k) else end before)) [
+      | None ↦ λ none. ap (λ qs. end (last qs)) (take_past events k (numbered_none 0 setting.plan.events k none))
+      | Some e ↦ λ here.
+          ap end (last_next (placing_in setting.plan r) None events k (0 + k, e) (numbered_get 0 setting.plan.events k e here))
+          ∙ elim (places_in setting.plan r (Some e)) as (λ b. end (option_or (if b then Some (0 + k) else None) before) ≡ (if b then memory (suc k) else end before)) [
+            | true ↦ ap memory (omega arith)
+            | false ↦ refl
+          ]
+    ] refl
+
 -- where memory is the walk's behind each event, so is where a region goes on
 went_alike : (setting : Setting) (memory : ℕ → ℕ) (k r : ℕ) → ((j : ℕ) → j ≤ k → memory j ≡ (cursors_after setting j).memory) → goes_on_by setting memory k r ≡ goes_on_after setting k r
 unfolding walk_after
 went_alike setting memory zero r same = refl
 went_alike setting memory (suc k) r same =
     let hit : Bool = places_in setting.plan r (slice_get setting.plan.events k) in
-    ap (λ (m : ℕ). if hit then m else goes_on_by setting memory k r) (same (suc k) (omega arith))
+    goes_next setting memory k r
+    ∙ ap (λ (m : ℕ). if hit then m else goes_on_by setting memory k r) (same (suc k) (omega arith))
     ∙ ap (λ (m : ℕ). if hit then (cursors_after setting (suc k)).memory else m) (went_alike setting memory k r (λ j le. same j (omega arith)))
 
-abbrev known_of : Standing → (ℕ → ℕ) → Known
-known_of standing goes_on = record { standing = standing; goes_on = goes_on }
+abbrev known_of : Setting → ℕ → Standing → (ℕ → ℕ) → Known
+known_of setting k standing goes_on = record { standing = standing; last = last_before setting.plan.events k; goes_on = goes_on }
 
 -- states and records that agree with those of the walk up to event k tell what the walk knows
 pub known_is : (setting : Setting) (k : ℕ) (states : List Cursors) (r : List Record) → IsReady setting → length r ≡ length (all_parts setting.plan.sections)
@@ -138,7 +160,7 @@ known_is setting k states r ready each alike same =
     let memory : ℕ → ℕ = λ j. (state_at states j).memory in
     let standing = standing_alike setting k r (records_after setting k) ready each (listed_count setting (record_after setting k)) alike in
     let goes_on : goes_on_by setting memory k ≡ goes_on_after setting k = fun_ext (λ q. went_alike setting memory k q (λ j le. ap (λ (c : Cursors). c.memory) (same j le))) in
-    ap (λ x. known_of x (goes_on_by setting memory k)) standing ∙ ap (known_of (standing_before setting.plan (records_after setting k) k)) goes_on
+    ap (λ x. known_of setting k x (goes_on_by setting memory k)) standing ∙ ap (known_of setting k (standing_before setting.plan (records_after setting k) k)) goes_on
 
 -- a table of the records behind the first k events is their list
 pub table_is : (setting : Setting) (k : ℕ) (r : List Record) → length r ≡ length (all_parts setting.plan.sections) → ((p : ℕ) → record_at r p ≡ record_after setting k p)
@@ -150,17 +172,17 @@ pub known_table : (setting : Setting) (k : ℕ) (r : List Record) (g : List ℕ)
     → ((q : ℕ) → slice_index g q ≡ goes_on_after setting k q) → known_in setting.plan r g k ≡ known_after setting k
 known_table setting k r g each at goes_on =
     let regions : slice_index g ≡ goes_on_after setting k = fun_ext (λ q. goes_on q) in
-    ap (λ rs. known_of (standing_before setting.plan rs k) (slice_index g)) (table_is setting k r each at) ∙ ap (known_of (standing_before setting.plan (records_after setting k) k)) regions
+    ap (λ rs. known_of setting k (standing_before setting.plan rs k) (slice_index g)) (table_is setting k r each at) ∙ ap (known_of setting k (standing_before setting.plan (records_after setting k) k)) regions
 
 -- what carrying out an event gave, by what the walk knows
 pub tried_as : (setting : Setting) (k : ℕ) (e : OrderEvent) (from : Cursors) (end : Result Cursors Refusal) {known : Known} → known ≡ known_after setting k
-    → end ≡ unless (event_refusal setting known e from) (stepped setting known (Some e) from) → end ≡ unless (event_refusal setting (known_after setting k) e from) (stepped setting (known_after setting k) (Some e) from)
-tried_as setting k e from end same gave = gave ∙ ap (λ (x : Known). unless (event_refusal setting x e from) (stepped setting x (Some e) from)) same
+    → end ≡ unless (event_refusal setting known e from) (left_by setting known (Some e) from) → end ≡ unless (event_refusal setting (known_after setting k) e from) (left_by setting (known_after setting k) (Some e) from)
+tried_as setting k e from end same gave = gave ∙ ap (λ (x : Known). unless (event_refusal setting x e from) (left_by setting x (Some e) from)) same
 
 pub recorded_as : (setting : Setting) (k : ℕ) (e : OrderEvent) (from : Cursors) (end : Result Cursors Refusal) (old new : ℕ → Record) {known : Known} → known ≡ known_after setting k
     → OnOk end ((p : ℕ) → new p ≡ recorded setting known (Some e) from p (old p)) → OnOk end ((p : ℕ) → new p ≡ recorded setting (known_after setting k) (Some e) from p (old p))
 recorded_as setting k e from end old new same writes = subst (λ (x : Known). OnOk end ((p : ℕ) → new p ≡ recorded setting x (Some e) from p (old p))) same writes
 
 pub went_as : (setting : Setting) (k : ℕ) (e : OrderEvent) (from : Cursors) (end : Result Cursors Refusal) (old new : List ℕ) {known : Known} → known ≡ known_after setting k
-    → OnOk end (GoesOn setting.plan (Some e) (stepped setting known (Some e) from) old new) → OnOk end (GoesOn setting.plan (Some e) (stepped setting (known_after setting k) (Some e) from) old new)
-went_as setting k e from end old new same writes = subst (λ (x : Known). OnOk end (GoesOn setting.plan (Some e) (stepped setting x (Some e) from) old new)) same writes
+    → OnOk end (GoesOn setting.plan (Some e) (left_by setting known (Some e) from) old new) → OnOk end (GoesOn setting.plan (Some e) (left_by setting (known_after setting k) (Some e) from) old new)
+went_as setting k e from end old new same writes = subst (λ (x : Known). OnOk end (GoesOn setting.plan (Some e) (left_by setting x (Some e) from) old new)) same writes

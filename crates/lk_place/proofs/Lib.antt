@@ -8,10 +8,13 @@ mod Computing
 mod CongruenceLaws
 mod Congruent
 mod GivenLists
+mod HullLaws
 mod InsideLaws
 mod Insides
 mod KeptAlignments
 mod Knowing
+mod LastOnes
+mod LoadLaws
 mod Loading
 mod MassLaws
 mod Moves

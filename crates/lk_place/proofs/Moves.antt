@@ -22,7 +22,7 @@ use Rattle.lk_place.specs.PlacedBefore.{Known, value_at}
 use Rattle.lk_place.specs.Placement.{begun_section, memory_moved, moved, opened}
 use Rattle.lk_place.specs.Plain.{IsLoadSegment}
 use Rattle.lk_place.specs.Setting.{Setting}
-use Rattle.lk_place.specs.ThreadLocal.{begins_run, free_memory, padded, restoring, run_begun, saved_or_restored, saving}
+use Rattle.lk_place.specs.ThreadLocal.{begins_run, free_memory, is_in_run, padded, restoring, run_begun, saved_or_restored, saving}
 use Rattle.lk_place.proofs.AlignmentLaws.{greatest_of-least}
 use Rattle.lk_link.proofs.Starts.{next_multiple_is_least}
 
@@ -112,12 +112,12 @@ unpadded setting s from = record {
   pending = refl;
 }
 
-run_pads : (setting : Setting) (s : ℕ) (took : Bool) (from entered : Cursors) → run_begun setting s took from ≡ Ok entered → Pads setting s from entered
-run_pads setting s took from entered =
+run_pads : (setting : Setting) (in_run : Bool) (s : ℕ) (took : Bool) (from entered : Cursors) → run_begun setting in_run s took from ≡ Ok entered → Pads setting s from entered
+run_pads setting in_run s took from entered =
     let a : ℕ = thread_local_alignment setting.plan setting.sizes in
     let to : Cursors = padded (is_file_backed setting.plan s) a from in
     let positive : 0 < a = omega (arith, greatest_of-least 1 (thread_local_ones setting.plan (section_alignments setting.plan setting.sizes))) in
-    elim (begins_run setting s from && not took) as (λ b. (if b then within_64 to else Ok from) ≡ Ok entered → Pads setting s from entered) [
+    elim (begins_run setting in_run s && not took) as (λ b. (if b then within_64 to else Ok from) ≡ Ok entered → Pads setting s from entered) [
       | true ↦ λ h. subst (Pads setting s from) (given_within to entered h) (rounds setting s a from positive)
       | false ↦ λ h. let same : from ≡ entered = cc in subst (Pads setting s from) same (unpadded setting s from)
     ]
@@ -146,14 +146,14 @@ abbrev pub IsFree : Plan → Type 0
 IsFree plan = (s r : ℕ) → stands_in plan s ≡ Within r → ⊥
 
 -- a section that stands in none begins where memory goes on
-begins_freely : (setting : Setting) (goes_on : ℕ → ℕ) (s : ℕ) (from entered : Cursors) → IsFree setting.plan → begun_section setting goes_on s from ≡ Ok entered
-    → (taken setting.plan s (saved_or_restored setting.plan s from) from.pending >>= run_begun setting s (is_some from.pending)) ≡ Ok entered
-begins_freely setting goes_on s from entered free h =
+begins_freely : (setting : Setting) (goes_on : ℕ → ℕ) (in_run : Bool) (s : ℕ) (from entered : Cursors) → IsFree setting.plan → begun_section setting goes_on in_run s from ≡ Ok entered
+    → (taken setting.plan s (saved_or_restored setting.plan s from) from.pending >>= run_begun setting in_run s (is_some from.pending)) ≡ Ok entered
+begins_freely setting goes_on in_run s from entered free h =
     let saved : Cursors = saved_or_restored setting.plan s from in
     let begun : SectionRegion → Result Cursors Refusal
-    = λ room. in_region goes_on s room saved >>= λ there. inside_region setting room there from.pending >>= λ inside. taken setting.plan s inside from.pending >>= run_begun setting s (is_some from.pending) in
+    = λ room. in_region goes_on s room saved >>= λ there. inside_region setting room there from.pending >>= λ inside. taken setting.plan s inside from.pending >>= run_begun setting in_run s (is_some from.pending) in
     elim (stands_in setting.plan s) as (λ room. stands_in setting.plan s ≡ room → begun room ≡ Ok entered
-    → (taken setting.plan s saved from.pending >>= run_begun setting s (is_some from.pending)) ≡ Ok entered) [
+    → (taken setting.plan s saved from.pending >>= run_begun setting in_run s (is_some from.pending)) ≡ Ok entered) [
       | Free ↦ λ is g. g
       | Undeclared ↦ λ is g. absurd (cc)
       | (Within r) ↦ λ is g. absurd (free s r is)
@@ -162,9 +162,9 @@ begins_freely setting goes_on s from entered free h =
 pub enters : (setting : Setting) (known : Known) (s : ℕ) (from entered : Cursors) → IsFree setting.plan → from.pending ≡ None → moved setting known (Section s) from ≡ Ok entered → Enters setting s from entered
 enters setting known s from entered free quiet h =
     let saved : Cursors = saved_or_restored setting.plan s from in
-    let plainly : run_begun setting s false saved ≡ Ok entered =
-    sym (ap (λ (o : Option ℕ). taken setting.plan s saved o >>= run_begun setting s (is_some o)) quiet) ∙ begins_freely setting known.goes_on s from entered free h in
-    let pads : Pads setting s saved entered = run_pads setting s false saved entered plainly in
+    let plainly : run_begun setting (is_in_run setting.plan known.last) s false saved ≡ Ok entered =
+    sym (ap (λ (o : Option ℕ). taken setting.plan s saved o >>= run_begun setting (is_in_run setting.plan known.last) s (is_some o)) quiet) ∙ begins_freely setting known.goes_on (is_in_run setting.plan known.last) s from entered free h in
+    let pads : Pads setting s saved entered = run_pads setting (is_in_run setting.plan known.last) s false saved entered plainly in
     elim (is_zero_fill_thread_local setting.plan s) as (λ b. is_zero_fill_thread_local setting.plan s ≡ b → Pads setting s (if b then saving from else restoring from) entered → Enters setting s from entered) [
       | true ↦ λ fills padded_too. saves setting s from entered fills padded_too
       | false ↦ λ filled padded_too. restores setting s from entered filled padded_too
@@ -248,8 +248,8 @@ inside_stays setting (Within r) from to None h = cc
 inside_stays setting (Within r) from to (Some l) h =
     elim (lies_outside from.memory (span_of setting r).1 l) as (λ b. (if b then Err (Outside l) else Ok from) ≡ Ok to → from ≡ to) [ true ↦ λ g. absurd (cc) | false ↦ λ g. cc ] h
 
-run_file : (setting : Setting) (s : ℕ) (took : Bool) (from entered : Cursors) → run_begun setting s took from ≡ Ok entered → from.file ≤ entered.file
-run_file setting s took from entered h = let pads : Pads setting s from entered = run_pads setting s took from entered h in omega (arith, pads.file)
+run_file : (setting : Setting) (in_run : Bool) (s : ℕ) (took : Bool) (from entered : Cursors) → run_begun setting in_run s took from ≡ Ok entered → from.file ≤ entered.file
+run_file setting in_run s took from entered h = let pads : Pads setting s from entered = run_pads setting in_run s took from entered h in omega (arith, pads.file)
 
 -- two steps of which neither lets the file go back
 both_grow : (from entered : Cursors) (r : Result Cursors Refusal) (f : Cursors → Result Cursors Refusal) → ((to : Cursors) → r ≡ Ok to → from.file ≤ to.file)
@@ -257,17 +257,17 @@ both_grow : (from entered : Cursors) (r : Result Cursors Refusal) (f : Cursors �
 both_grow from entered (Ok to) f rises more h = omega (arith, rises to refl, more to entered h)
 both_grow from entered (Err refusal) f rises more h = absurd (cc)
 
-begun_file : (setting : Setting) (goes_on : ℕ → ℕ) (s : ℕ) (from entered : Cursors) → begun_section setting goes_on s from ≡ Ok entered → from.file ≤ entered.file
-begun_file setting goes_on s from entered h =
+begun_file : (setting : Setting) (goes_on : ℕ → ℕ) (in_run : Bool) (s : ℕ) (from entered : Cursors) → begun_section setting goes_on in_run s from ≡ Ok entered → from.file ≤ entered.file
+begun_file setting goes_on in_run s from entered h =
     let room : SectionRegion = stands_in setting.plan s in
     let waiting : Option ℕ = from.pending in
-    let run : Cursors → Result Cursors Refusal = run_begun setting s (is_some waiting) in
+    let run : Cursors → Result Cursors Refusal = run_begun setting in_run s (is_some waiting) in
     let take : Cursors → Result Cursors Refusal = λ inside. taken setting.plan s inside waiting >>= run in
     let stay : Cursors → Result Cursors Refusal = λ there. inside_region setting room there waiting >>= take in
     let saved : Cursors = saved_or_restored setting.plan s from in
     both_grow from entered (in_region goes_on s room saved) stay (λ to is. omega (arith, saved_file setting.plan s from, region_file goes_on s room saved to is))
     (λ there to. both_grow there to (inside_region setting room there waiting) take (λ inside is. omega (arith, ap (λ (c : Cursors). c.file) (inside_stays setting room there inside waiting is)))
-    (λ inside end. both_grow inside end (taken setting.plan s inside waiting) run (λ c is. taken_file setting.plan s inside c waiting is) (λ c last is. run_file setting s (is_some waiting) c last is)))
+    (λ inside end. both_grow inside end (taken setting.plan s inside waiting) run (λ c is. taken_file setting.plan s inside c waiting is) (λ c to is. run_file setting in_run s (is_some waiting) c to is)))
     h
 
 pub file_grows : (setting : Setting) (known : Known) (e : OrderEvent) (from entered : Cursors) → moved setting known e from ≡ Ok entered → from.file ≤ entered.file
@@ -277,7 +277,7 @@ file_grows setting known (SegmentStart i) from entered h =
       | false ↦ λ g. omega (arith, ap (λ (c : Cursors). c.file) (same_of from entered (Ok from) refl g))
     ] h
 file_grows setting known (SegmentEnd i) from entered h = omega (arith, ap (λ (c : Cursors). c.file) (same_of from entered (Ok from) refl h))
-file_grows setting known (Section s) from entered h = begun_file setting known.goes_on s from entered h
+file_grows setting known (Section s) from entered h = begun_file setting known.goes_on (is_in_run setting.plan known.last) s from entered h
 file_grows setting known (SetLocation x) from entered h = awaits from entered (value_at setting known.standing from x) h
 file_grows setting known (SetLocationRelative x s) from entered h =
     awaits from entered (behind_start (known.standing.section (primary_of setting.plan.sections s)) (value_at setting known.standing from x)) h

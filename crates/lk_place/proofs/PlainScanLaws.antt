@@ -1,8 +1,8 @@
 -- Exactly plain plans are found plain.
 use Rattle.std.proofs.Common.{◌≡◌, ◌≢◌, ◌↔◌, ℕ, zero, suc, ◌<◌, ◌≤◌, Bool, true, false, List, [], ◌∷◌, length, take, Option, Some, None, refl, sym, ap, subst, ◌∙◌, inl, inr, arith, eq-eqb}
 use Rattle.std.specs.Prelude.{◌==◌, ◌&&◌, ◌||◌, fold, if◌then◌else◌, is_none, not, slice_get}
-use Rattle.std.specs.List.{cons_option, filter_map, last_or, slice_index_or}
-use Rattle.std.specs.Option.{option_map_or}
+use Rattle.std.specs.List.{slice_index_or}
+use Rattle.std.specs.Option.{option_map_or, option_or}
 use Rattle.std.proofs.Math.Bool.{or-true}
 use Rattle.std.proofs.lemmas.Bool.{and_from, and_parts, cases_lt, eqb-true, not-true, or_cases}
 use Rattle.std.proofs.lemmas.Bool.Decides.{eqb_tells}
@@ -20,8 +20,10 @@ use Rattle.lk_link.specs.PlanSections.{is_allocated, is_file_backed, is_zero_fil
 use Rattle.lk_link.specs.SegmentKinds.{is_load, segment_at}
 use Rattle.lk_link.specs.WellFormed.{IsAboutPlace, IsEventOrder}
 use Rattle.lk_place.specs.declared.plain.Scan.{Scan}
-use Rattle.lk_place.specs.Plain.{IsLoadSegment, IsPlain, OpensLoad, PlacesInLoad, last_before}
+use Rattle.lk_place.specs.PlacedBefore.{last_before}
+use Rattle.lk_place.specs.Plain.{IsLoadSegment, IsPlain, OpensLoad, PlacesInLoad}
 use Rattle.lk_place.specs.PlainScan.{accepts, is_found_plain, leaves_gap, passes, scanned, unscanned}
+use Rattle.lk_place.proofs.LastOnes.{last_next}
 use Rattle.lk_place.proofs.OpenSegments.{closed_now, open_same, opened_now, unopened}
 
 -- ---- what passes
@@ -55,27 +57,13 @@ all_pass plan scan (x ∷ xs) h =
 
 -- ---- the section placed last
 
-last_alike : (a o : Option ℕ) (xs ys : List ℕ) → ((b : Option ℕ) → last_or b xs ≡ last_or b ys) → last_or a (cons_option o xs) ≡ last_or a (cons_option o ys)
-last_alike a None xs ys h = h a
-last_alike a (Some s) xs ys h = h (Some s)
-
-last_given : (a o : Option ℕ) (s : ℕ) (xs : List ℕ) → ((b : Option ℕ) → last_or b xs ≡ Some s) → last_or a (cons_option o xs) ≡ Some s
-last_given a None s xs h = h a
-last_given a (Some t) s xs h = h (Some t)
-
 -- an event that places none leaves it
-pub last_stays : (a : Option ℕ) (es : List OrderEvent) (k : ℕ) (e : OrderEvent) → slice_get es k ≡ Some e → placed_section e ≡ None
-    → last_or a (filter_map placed_section (take (suc k) es)) ≡ last_or a (filter_map placed_section (take k es))
-last_stays a [] k e here none = absurd (cc)
-last_stays a (x ∷ xs) zero e here none = let same : x ≡ e = cc in ap (λ o. last_or a (cons_option o [])) (ap placed_section same ∙ none)
-last_stays a (x ∷ xs) (suc k) e here none =
-    last_alike a (placed_section x) (filter_map placed_section (take (suc k) xs)) (filter_map placed_section (take k xs)) (λ b. last_stays b xs k e here none)
+pub last_stays : (es : List OrderEvent) (k : ℕ) (e : OrderEvent) → slice_get es k ≡ Some e → placed_section e ≡ None → last_before es (suc k) ≡ last_before es k
+last_stays es k e here none = last_next placed_section None es k e here ∙ ap (λ (o : Option ℕ). option_or o (last_before es k)) none
 
 -- one that places a section makes it this one
-pub last_is : (a : Option ℕ) (es : List OrderEvent) (k s : ℕ) → slice_get es k ≡ Some (Section s) → last_or a (filter_map placed_section (take (suc k) es)) ≡ Some s
-last_is a [] k s here = absurd (cc)
-last_is a (x ∷ xs) zero s here = let same : x ≡ Section s = cc in ap (λ (e : OrderEvent). last_or a (cons_option (placed_section e) [])) same
-last_is a (x ∷ xs) (suc k) s here = last_given a (placed_section x) s (filter_map placed_section (take (suc k) xs)) (λ b. last_is b xs k s here)
+pub last_is : (es : List OrderEvent) (k s : ℕ) → slice_get es k ≡ Some (Section s) → last_before es (suc k) ≡ Some s
+last_is es k s here = last_next placed_section None es k (Section s) here
 
 -- ---- what the scan knows
 
@@ -109,8 +97,8 @@ quiet plan k e scan here none same h =
       is_opened = λ i is. let there = h.is_opened i is in (there.0, same i there.0 ∙ there.1);
       gap = λ i s m is less places gap. h.gap i s m is (earlier plan.events i s m k e here none less places) places gap;
       gapped = λ i is gap. let there = h.gapped i is gap in (there.0, there.1, omega (arith, there.2), there.3, there.4);
-      last = λ s is. h.last s (sym (last_stays None plan.events k e here none) ∙ is);
-      lasted = λ zero. let there = h.lasted zero in (there.0, last_stays None plan.events k e here none ∙ there.1);
+      last = λ s is. h.last s (sym (last_stays plan.events k e here none) ∙ is);
+      lasted = λ zero. let there = h.lasted zero in (there.0, last_stays plan.events k e here none ∙ there.1);
     }
 
 -- a load segment opens, where none was open
@@ -135,8 +123,8 @@ starts plan j k scan order here load none h =
           let inside = places.inside in
           absurd (cc);
       gapped = λ i is gap. absurd (cc);
-      last = λ s is. h.last s (sym (last_stays None plan.events k (SegmentStart j) here refl) ∙ is);
-      lasted = λ zero. let there = h.lasted zero in (there.0, last_stays None plan.events k (SegmentStart j) here refl ∙ there.1);
+      last = λ s is. h.last s (sym (last_stays plan.events k (SegmentStart j) here refl) ∙ is);
+      lasted = λ zero. let there = h.lasted zero in (there.0, last_stays plan.events k (SegmentStart j) here refl ∙ there.1);
     }
 
 -- the open one closes
@@ -154,8 +142,8 @@ closes plan j k scan here is h =
       is_opened = λ i none. absurd (cc);
       gap = λ i s m none less places gap. absurd (cc);
       gapped = λ i none gap. absurd (cc);
-      last = λ s l. h.last s (sym (last_stays None plan.events k (SegmentEnd j) here refl) ∙ l);
-      lasted = λ zero. let there = h.lasted zero in (there.0, last_stays None plan.events k (SegmentEnd j) here refl ∙ there.1);
+      last = λ s l. h.last s (sym (last_stays plan.events k (SegmentEnd j) here refl) ∙ l);
+      lasted = λ zero. let there = h.lasted zero in (there.0, last_stays plan.events k (SegmentEnd j) here refl ∙ there.1);
     }
 
 -- a section is placed
@@ -178,10 +166,10 @@ placed plan s k scan here h =
         | inr now ↦ (s, k, omega arith, record { here = here; inside = (h.is_opened i is).1 }, now)
       ];
       last = λ t is.
-          let there : Some s ≡ Some t = sym (last_is None plan.events k s here) ∙ is in
+          let there : Some s ≡ Some t = sym (last_is plan.events k s here) ∙ is in
           let section : t ≡ s = cc in
           ap (is_zero_fill_thread_local plan) section;
-      lasted = λ zero. (s, last_is None plan.events k s here);
+      lasted = λ zero. (s, last_is plan.events k s here);
     }
 
 option_is : (o : Option ℕ) (j : ℕ) → option_map_or (λ i. i == j) o false ≡ true → o ≡ Some j

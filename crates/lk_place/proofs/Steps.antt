@@ -24,7 +24,7 @@ use Rattle.lk_place.specs.Alignments.{place_alignment}
 use Rattle.lk_place.specs.InRegions.{named_region, numbered_region, stands_in}
 use Rattle.lk_place.specs.Laws.{IsSoundlySet}
 use Rattle.lk_place.specs.PlacedBefore.{Known, Standing}
-use Rattle.lk_place.specs.Placement.{IsPlaced, known_before, Places, PlacesSection, Steps, moved, reached, section_start, state_at}
+use Rattle.lk_place.specs.Placement.{IsPlaced, known_before, Places, PlacesSection, CarriesOut, moved, reached, section_start, state_at}
 use Rattle.lk_place.specs.Plain.{IsPlain}
 use Rattle.lk_place.specs.Plans.{IsUnmoved}
 use Rattle.lk_expressions.specs.Records.{Record, file_end, mem_end}
@@ -53,7 +53,7 @@ event_at setting states records k is less =
     (slice_index_or setting.plan.events k (SegmentEnd 0), slice_get-get_or setting.plan.events k (SegmentEnd 0) (omega (arith, is.within)))
 
 pub step_at : (setting : Setting) (states : List Cursors) (records : List Record) (k : ℕ) (e : OrderEvent) → IsPlaced setting states records → k < length states - 1
-    → slice_get setting.plan.events k ≡ Some e → Steps setting (known_before setting states records k) e (state_at states k) records (state_at states (k + 1))
+    → slice_get setting.plan.events k ≡ Some e → CarriesOut setting (known_before setting states records k) e (state_at states k) records (state_at states (k + 1))
 step_at setting states records k e is less here = (is.steps k e (omega arith) here).steps
 
 -- ---- no location waits

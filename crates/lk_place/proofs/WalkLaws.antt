@@ -14,14 +14,14 @@ use Rattle.lk_link.proofs.PartNumbers.{parts_end-le}
 use Rattle.lk_place.specs.declared.cursors.Cursors.{Cursors}
 use Rattle.lk_place.specs.declared.error.PlaceError.{PlaceError}
 use Rattle.lk_place.specs.declared.error.Refusal.{Refusal}
-use Rattle.lk_place.specs.Placement.{IsPlaced, known_before, IsPlacedBefore, Passes, Places, PlacesLoaded, Steps, either_refusal, event_refusal, first_refusal, load_given, load_refusal, moved, numbered, placement_refusal, placing_refusal, record_by, refusal_behind, refusal_behind_move, refusal_of, section_left, section_overflow, section_refusal, section_start, state_at, step_refusal}
+use Rattle.lk_place.specs.Placement.{IsPlaced, known_before, IsPlacedBefore, Passes, Places, PlacesLoaded, CarriesOut, either_refusal, event_refusal, first_refusal, load_given, load_refusal, moved, numbered, placement_refusal, placing_refusal, record_by, refusal_behind, refusal_behind_move, refusal_of, section_left, section_overflow, section_refusal, section_start, state_at, step_refusal}
 use Rattle.lk_place.specs.InRegions.{past_region, stands_in}
 use Rattle.lk_place.specs.PlacementLaws.{PlacementExists, PlacementIsOne}
 use Rattle.lk_place.specs.PlacedBefore.{Known, Standing}
 use Rattle.lk_expressions.specs.Records.{Record, nowhere, record_at}
 use Rattle.lk_place.specs.Setting.{IsReady, Setting, part_count, part_number}
 use Rattle.lk_place.specs.Start.{BeginsAt, no_cursors, start}
-use Rattle.lk_place.specs.Walk.{AllPass, after_move, cursors_after, entered, first_state, known_after, left_behind, load_of, load_or_none, loaded_by, records_after, refused_at, record_after, stepped}
+use Rattle.lk_place.specs.Walk.{AllPass, after_move, cursors_after, entered, first_state, known_after, left_behind, load_of, load_or_none, loaded_by, records_after, refused_at, record_after, left_by}
 use Rattle.lk_place.proofs.PlacedSections.{MakesSection, loaded_is, loaded_there, loads_at, made_places, places_makes, unloaded, unloaded_is}
 use Rattle.lk_place.proofs.Knowing.{known_is}
 use Rattle.lk_place.proofs.WalkRecords.{PlacesAt, loaded_record, placed_below, placed_or_not, record_absent, record_kept, record_placed, section_there}
@@ -145,7 +145,7 @@ walk_passes setting n records walk k e less here =
     let same : known ≡ known_before setting (states_to setting n) records k = sym (walk_known setting n k records walk (omega arith)) in
     let at : state_at (states_to setting n) k ≡ from = state_is setting n k (omega arith) in
     let next : state_at (states_to setting n) (k + 1) ≡ left_behind setting (placed_section e) (entered setting known e from) =
-    state_is setting n (k + 1) (omega arith) ∙ cursors_next setting k ∙ ap (λ (o : Option OrderEvent). stepped setting known o from) here in
+    state_is setting n (k + 1) (omega arith) ∙ cursors_next setting k ∙ ap (λ (o : Option OrderEvent). left_by setting known o from) here in
     let unrefused : step_refusal setting known k e from ≡ None = ap (λ (o : Option OrderEvent). refusal_of setting known k o from) (sym here) ∙ walk.pass k less in
     let passes : event_refusal setting known e from ≡ None = unnumbered k (event_refusal setting known e from) unrefused in
     let gives : moved setting known e from ≡ Ok (entered setting known e from) = move_given setting known.standing (placed_section e) from (moved setting known e from) passes in
@@ -292,7 +292,7 @@ section_as_walked : (setting : Setting) (states : List Cursors) (records : List 
 section_as_walked setting states records k s j n ready is more here within early state same =
     let e : OrderEvent = Section s in
     let there : s < length setting.plan.sections = section_there setting k s ready here in
-    let steps : Steps setting (known_before setting states records k) e (state_at states k) records (state_at states (k + 1)) = (is.steps k e more here).steps in
+    let steps : CarriesOut setting (known_before setting states records k) e (state_at states k) records (state_at states (k + 1)) = (is.steps k e more here).steps in
     let enters : steps.entered ≡ entered setting (known_after setting k) e (cursors_after setting k) =
     sym (entered_is (state_at states k) steps.entered (moved setting (known_before setting states records k) e (state_at states k)) steps.moves)
     ∙ ap (λ (x : Known). entered setting x e (state_at states k)) same ∙ ap (entered setting (known_after setting k) e) state in
@@ -327,14 +327,14 @@ next_state setting states records k ready is more before =
     let e : OrderEvent = slice_index_or setting.plan.events k (SegmentEnd 0) in
     let here : slice_get setting.plan.events k ≡ Some e = slice_get-get_or setting.plan.events k (SegmentEnd 0) (omega (arith, is.within)) in
     let same = known_so_far setting k states records before.walked ready is.each before.so_far in
-    let steps : Steps setting (known_before setting states records k) e (state_at states k) records (state_at states (k + 1)) = (is.steps k e more here).steps in
+    let steps : CarriesOut setting (known_before setting states records k) e (state_at states k) records (state_at states (k + 1)) = (is.steps k e more here).steps in
     let enters : entered setting (known_after setting k) e (cursors_after setting k) ≡ steps.entered =
     ap (entered setting (known_after setting k) e) (sym (before.walked k (omega arith)))
     ∙ ap (λ (x : Known). entered setting x e (state_at states k)) (sym same)
     ∙ entered_is (state_at states k) steps.entered (moved setting (known_before setting states records k) e (state_at states k)) steps.moves in
     event_makes setting (known_before setting states records k).standing e steps.entered records (state_at states (k + 1)) ready (λ s at. section_there setting k s ready (here ∙ ap (λ (x : OrderEvent). Some x) at)) steps.places
     ∙ ap (left_behind setting (placed_section e)) (sym enters)
-    ∙ ap (λ (o : Option OrderEvent). stepped setting (known_after setting k) o (cursors_after setting k)) (sym here)
+    ∙ ap (λ (o : Option OrderEvent). left_by setting (known_after setting k) o (cursors_after setting k)) (sym here)
     ∙ sym (cursors_next setting k)
 
 next_records : (setting : Setting) (states : List Cursors) (records : List Record) (k p : ℕ) → IsReady setting → IsPlaced setting states records → k + 1 < length states

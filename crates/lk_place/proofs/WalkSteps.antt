@@ -1,11 +1,15 @@
 -- One event more of the walk.
 use Rattle.std.proofs.Common.{◌≡◌, ℕ, suc, ◌+◌, ◌<◌, List, [], ◌∷◌, ◌++◌, drop, length, Option, arith, Some, None, refl, sym, ap, subst, ◌∙◌, add-one, below_more}
 use Rattle.std.specs.Prelude.{slice_get, option_map, Result, Ok, Err, OnOk, IsErrAnd}
+use Rattle.std.specs.Option.{option_map_or, option_or}
 use Rattle.std.specs.List.{enumerate_from, flat_map, slice_index, slice_index_or}
 use Rattle.std.proofs.Math.Seq.{drop-cons, drop-length}
 use Rattle.std.proofs.lemmas.List.{append_assoc, append-nil}
 use Rattle.std.proofs.lemmas.Option.{get_or_from_slice_get, slice_get-get_or, slice_get_within}
 use Rattle.lk_link.specs.declared.plan.OrderEvent.{OrderEvent}
+use Rattle.lk_link.specs.declared.plan.Plan.{Plan}
+use Rattle.lk_link.specs.Inside.{placed_section}
+use Rattle.lk_link.specs.PlanSections.{is_thread_local}
 use Rattle.lk_place.specs.declared.cursors.Cursors.{Cursors}
 use Rattle.lk_place.specs.declared.error.PlaceError.{PlaceError}
 use Rattle.lk_place.specs.declared.error.PlaceError.TheVariants.{AddressOverflow, BaseTooLow, Expression, LocationBackwards, NoMemory, OutsideRegion, RegionDuplicate, RegionOverflow, RegionUnknown, SectionOutsideSegments}
@@ -13,11 +17,13 @@ use Rattle.lk_place.specs.declared.error.Refusal.{Refusal}
 use Rattle.lk_place.specs.Placement.{event_refusal, numbered, refusal_of}
 use Rattle.lk_place.specs.Counters.{told_counter}
 use Rattle.lk_place.specs.InRegions.{span_of}
-use Rattle.lk_place.specs.PlacedBefore.{Known}
+use Rattle.lk_place.specs.PlacedBefore.{Known, last_before}
 use Rattle.lk_expressions.specs.Records.{Record, nowhere}
 use Rattle.lk_place.specs.Setting.{Setting}
 use Rattle.lk_place.specs.Start.{BeginsAt, start}
-use Rattle.lk_place.specs.Walk.{AllPass, GivesWalked, GoesOn, goes_on_after, told_after, went_on, StopsBy, at_event, begun, cursors_after, first_state, known_after, refused_at, walk_after, record_after, recorded, stepped, unless}
+use Rattle.lk_place.specs.ThreadLocal.{is_in_run}
+use Rattle.lk_place.specs.Walk.{AllPass, GivesWalked, GoesOn, goes_on_after, told_after, went_on, StopsBy, at_event, begun, cursors_after, first_state, known_after, refused_at, walk_after, record_after, recorded, left_by, unless}
+use Rattle.lk_place.proofs.LastOnes.{last_next}
 
 -- the walk begins where the placement does
 pub starts_at : (setting : Setting) (c : Cursors) → start setting ≡ Ok c → c ≡ first_state setting
@@ -53,7 +59,7 @@ unfolding walk_after
 record_first setting p = refl
 
 -- behind one event more they are where it leaves them
-pub cursors_next : (setting : Setting) (k : ℕ) → cursors_after setting (k + 1) ≡ stepped setting (known_after setting k) (slice_get setting.plan.events k) (cursors_after setting k)
+pub cursors_next : (setting : Setting) (k : ℕ) → cursors_after setting (k + 1) ≡ left_by setting (known_after setting k) (slice_get setting.plan.events k) (cursors_after setting k)
 unfolding walk_after
 cursors_next setting k = ap (cursors_after setting) (add-one k)
 
@@ -64,7 +70,7 @@ record_next setting k p = ap (λ (n : ℕ). record_after setting n p) (add-one k
 
 -- and each region goes on where it makes it
 pub goes_on_next : (setting : Setting) (k r : ℕ)
-    → goes_on_after setting (k + 1) r ≡ went_on setting.plan (slice_get setting.plan.events k) (stepped setting (known_after setting k) (slice_get setting.plan.events k) (cursors_after setting k)) r (goes_on_after setting k r)
+    → goes_on_after setting (k + 1) r ≡ went_on setting.plan (slice_get setting.plan.events k) (left_by setting (known_after setting k) (slice_get setting.plan.events k) (cursors_after setting k)) r (goes_on_after setting k r)
 unfolding walk_after
 goes_on_next setting k r = ap (λ (n : ℕ). goes_on_after setting n r) (add-one k)
 
@@ -79,7 +85,7 @@ goes_on_first setting r = refl
 pub record IsTried (setting : Setting) (k : ℕ) (e : OrderEvent) (from : Cursors) (end : Result Cursors Refusal) : Type 0 where
   pub here : slice_get setting.plan.events k ≡ Some e
   pub so_far : from ≡ cursors_after setting k
-  pub gave : end ≡ unless (event_refusal setting (known_after setting k) e from) (stepped setting (known_after setting k) (Some e) from)
+  pub gave : end ≡ unless (event_refusal setting (known_after setting k) e from) (left_by setting (known_after setting k) (Some e) from)
   pub before : AllPass setting k
 
 told_refused : (setting : Setting) (k : ℕ) (x : Cursors) (o : Option Refusal) (err : PlaceError) → Err err ≡ at_event (unless o x) k → option_map (numbered k) o ≡ Some err
@@ -94,8 +100,8 @@ told_passed k x to (Some r) h = absurd (cc)
 pub stops : (setting : Setting) (k : ℕ) (e : OrderEvent) (from : Cursors) (end : Result Cursors Refusal) (err : PlaceError) → IsTried setting k e from end → Err err ≡ at_event end k → StopsBy setting err
 stops setting k e from end err tried h =
     let known : Known = known_after setting k in
-    let there : Err err ≡ at_event (unless (event_refusal setting known e from) (stepped setting known (Some e) from)) k = h ∙ ap (λ (r : Result Cursors Refusal). at_event r k) tried.gave in
-    let refused : refusal_of setting known k (Some e) from ≡ Some err = told_refused setting k (stepped setting known (Some e) from) (event_refusal setting known e from) err there in
+    let there : Err err ≡ at_event (unless (event_refusal setting known e from) (left_by setting known (Some e) from)) k = h ∙ ap (λ (r : Result Cursors Refusal). at_event r k) tried.gave in
+    let refused : refusal_of setting known k (Some e) from ≡ Some err = told_refused setting k (left_by setting known (Some e) from) (event_refusal setting known e from) err there in
     record {
       k = k;
       before = tried.before;
@@ -103,16 +109,16 @@ stops setting k e from end err tried h =
     }
 
 passed : (setting : Setting) (k : ℕ) (e : OrderEvent) (from to : Cursors) (end : Result Cursors Refusal) → IsTried setting k e from end → Ok to ≡ at_event end k
-    → (event_refusal setting (known_after setting k) e from ≡ None) × (to ≡ stepped setting (known_after setting k) (Some e) from)
+    → (event_refusal setting (known_after setting k) e from ≡ None) × (to ≡ left_by setting (known_after setting k) (Some e) from)
 passed setting k e from to end tried h =
-    told_passed k (stepped setting (known_after setting k) (Some e) from) to (event_refusal setting (known_after setting k) e from) (h ∙ ap (λ (r : Result Cursors Refusal). at_event r k) tried.gave)
+    told_passed k (left_by setting (known_after setting k) (Some e) from) to (event_refusal setting (known_after setting k) e from) (h ∙ ap (λ (r : Result Cursors Refusal). at_event r k) tried.gave)
 
 -- the cursors behind it
 pub goes_on : (setting : Setting) (k : ℕ) (e : OrderEvent) (from to : Cursors) (end : Result Cursors Refusal) → IsTried setting k e from end → Ok to ≡ at_event end k → to ≡ cursors_after setting (k + 1)
 goes_on setting k e from to end tried h =
     (passed setting k e from to end tried h).1
-    ∙ ap (stepped setting (known_after setting k) (Some e)) tried.so_far
-    ∙ ap (λ (o : Option OrderEvent). stepped setting (known_after setting k) o (cursors_after setting k)) (sym tried.here)
+    ∙ ap (left_by setting (known_after setting k) (Some e)) tried.so_far
+    ∙ ap (λ (o : Option OrderEvent). left_by setting (known_after setting k) o (cursors_after setting k)) (sym tried.here)
     ∙ sym (cursors_next setting k)
 
 -- none up to it is refused
@@ -138,17 +144,25 @@ records_on setting k e from to (Ok x) old new tried h writes so_far p =
 
 -- where regions go on behind it
 pub regions_on : (setting : Setting) (k : ℕ) (e : OrderEvent) (from to : Cursors) (end : Result Cursors Refusal) (old new : List ℕ) → IsTried setting k e from end → Ok to ≡ at_event end k
-    → OnOk end (GoesOn setting.plan (Some e) (stepped setting (known_after setting k) (Some e) from) old new) → ((r : ℕ) → slice_index old r ≡ goes_on_after setting k r)
+    → OnOk end (GoesOn setting.plan (Some e) (left_by setting (known_after setting k) (Some e) from) old new) → ((r : ℕ) → slice_index old r ≡ goes_on_after setting k r)
     → (r : ℕ) → slice_index new r ≡ goes_on_after setting (k + 1) r
 regions_on setting k e from to (Err x) old new tried h writes so_far r = absurd (cc)
 regions_on setting k e from to (Ok x) old new tried h writes so_far r =
     let known : Known = known_after setting k in
-    let wanted : Option OrderEvent → Cursors → ℕ → ℕ = λ o c before. went_on setting.plan o (stepped setting known o c) r before in
+    let wanted : Option OrderEvent → Cursors → ℕ → ℕ = λ o c before. went_on setting.plan o (left_by setting known o c) r before in
     writes r
     ∙ ap (wanted (Some e) from) (so_far r)
     ∙ ap (λ (c : Cursors). wanted (Some e) c (goes_on_after setting k r)) tried.so_far
     ∙ ap (λ (o : Option OrderEvent). wanted o (cursors_after setting k) (goes_on_after setting k r)) (sym tried.here)
     ∙ sym (goes_on_next setting k r)
+
+-- whether a run of thread-local sections goes on behind it
+pub run_next : (plan : Plan) (k : ℕ) (e : OrderEvent) → slice_get plan.events k ≡ Some e
+    → option_map_or (is_thread_local plan) (placed_section e) (is_in_run plan (last_before plan.events k)) ≡ is_in_run plan (last_before plan.events (k + 1))
+run_next plan k e here =
+    let before : Option ℕ = last_before plan.events k in
+    elim (placed_section e) as (λ o. option_map_or (is_thread_local plan) o (is_in_run plan before) ≡ is_in_run plan (option_or o before)) [ None ↦ refl | Some s ↦ refl ]
+    ∙ ap (is_in_run plan) (sym (last_next placed_section None plan.events k e here) ∙ ap (last_before plan.events) (sym (add-one k)))
 
 -- a refusal that is handed on
 stopped : (setting : Setting) (e : PlaceError) (records : List Record) (before counters : List ℕ) → StopsBy setting e → GivesWalked setting (Err e) records before counters

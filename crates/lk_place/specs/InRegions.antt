@@ -1,5 +1,6 @@
 -- Sections in memory regions: in which a section stands, where each region goes on, and what lies outside it.
-use Rattle.std.specs.Prelude.{ℕ, zero, suc, ◌+◌, ◌-◌, ◌==◌, ◌||◌, Bool, false, if◌then◌else◌, List, nat_lt, Option, None, Some, Result, Ok, Err, position, slice_get, unwrap_or, ◌<◌}
+use Rattle.std.specs.Prelude.{ℕ, ◌+◌, ◌-◌, ◌==◌, ◌||◌, Bool, false, if◌then◌else◌, List, nat_lt, Option, None, Some, Result, Ok, Err, position, slice_get, take, unwrap_or, ◌<◌}
+use Rattle.std.specs.List.{enumerate_from, filter_map, last_or}
 use Rattle.std.specs.Option.{option_map_or}
 use Rattle.std.specs.Str.{bytes_eq}
 use Rattle.lk_link.specs.declared.plan.OrderEvent.{OrderEvent}
@@ -54,11 +55,18 @@ abbrev pub places_in : Plan → ℕ → Option OrderEvent → Bool
 places_in plan r None = false
 places_in plan r (Some e) = option_map_or (λ s. is_within (stands_in plan s) r) (placed_section e) false
 
--- where region r goes on before event n, by the memory cursor before each event: behind the section that was placed in it last, else
--- at its origin
+-- the number of an event, if it places a section in region r
+abbrev pub placing_in : Plan → ℕ → ℕ × OrderEvent → Option ℕ
+placing_in plan r q = if places_in plan r (Some q.1) then Some q.0 else None
+
+-- that of the event before event n that places a section in region r last, if one does
+abbrev pub last_in : Plan → ℕ → ℕ → Option ℕ
+last_in plan r n = last_or None (filter_map (placing_in plan r) (take n (enumerate_from 0 plan.events)))
+
+-- where region r goes on before event n, by the memory cursor before each event: behind the section that was placed in it last, at its
+-- origin where none was
 abbrev pub goes_on_by : Setting → (ℕ → ℕ) → ℕ → ℕ → ℕ
-goes_on_by setting memory zero r = (span_of setting r).0
-goes_on_by setting memory (suc n) r = if places_in setting.plan r (slice_get setting.plan.events n) then memory (suc n) else goes_on_by setting memory n r
+goes_on_by setting memory n r = option_map_or (λ k. memory (k + 1)) (last_in setting.plan r n) (span_of setting r).0
 
 -- ---- the steps of a section
 

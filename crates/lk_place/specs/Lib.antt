@@ -4,6 +4,7 @@ pub mod AtHand
 pub mod Base
 pub mod Counters
 pub mod FileRange
+pub mod Hulls
 pub mod InRegions
 pub mod Laws
 pub mod Locations

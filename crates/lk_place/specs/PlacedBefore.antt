@@ -1,6 +1,6 @@
 -- What is placed before an event, and what expressions read of it there.
 use Rattle.std.specs.Prelude.{ℕ, ◌+◌, ◌==◌, ◌&&◌, Bool, false, if◌then◌else◌, List, nat_le, nat_lt, Option, Some, None, Result, Ok, Err, take, unwrap_or}
-use Rattle.std.specs.List.{list_any}
+use Rattle.std.specs.List.{filter_map, last_or, list_any}
 use Rattle.std.specs.Option.{option_map_or}
 use Rattle.lk_link.specs.declared.plan.OrderEvent.{OrderEvent}
 use Rattle.lk_link.specs.declared.plan.Plan.{Plan}
@@ -45,9 +45,14 @@ standing_before plan records n = record {
   part = λ p. if list_any (is_placing_part plan.sections p) (take n plan.events) then Some (record_at records p) else None;
 }
 
--- what is known at an event: what stands, and where each region goes on
+-- the section that is placed last before event n, if any is
+abbrev pub last_before : List OrderEvent → ℕ → Option ℕ
+last_before events n = last_or None (filter_map placed_section (take n events))
+
+-- what is known at an event: what stands, the section that was placed last, and where each region goes on
 pub record Known : Type 0 where
   pub standing : Standing
+  pub last : Option ℕ
   pub goes_on : ℕ → ℕ
 
 -- ---- expressions

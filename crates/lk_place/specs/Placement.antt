@@ -11,7 +11,7 @@ use Rattle.lk_link.specs.Alignments.{IsLeastMultiple}
 use Rattle.lk_link.specs.Expressions.{Term}
 use Rattle.lk_link.specs.Inside.{placed_section}
 use Rattle.lk_link.specs.Parts.{all_parts, first_part, part_at}
-use Rattle.lk_link.specs.PlanSections.{is_file_backed, is_thread_local, primary_of, section_at}
+use Rattle.lk_link.specs.PlanSections.{is_file_backed, primary_of, section_at}
 use Rattle.lk_link.specs.SegmentKinds.{is_load, segment_at}
 use Rattle.lk_place.specs.declared.cursors.Cursors.{Cursors}
 use Rattle.lk_place.specs.declared.cursors.Offsets.{Offsets}
@@ -23,12 +23,12 @@ use Rattle.lk_place.specs.Alignments.{numbered_parts, place_alignment, section_a
 use Rattle.lk_expressions.specs.Expressions.{Valued, ◌>>=◌}
 use Rattle.lk_place.specs.InRegions.{goes_on_by, in_region, inside_region, past_region, stands_in}
 use Rattle.lk_place.specs.Locations.{awaiting, behind_start, opened_at, taken}
-use Rattle.lk_place.specs.PlacedBefore.{Known, Standing, early_value, lies_in, standing_before, value_at}
+use Rattle.lk_place.specs.PlacedBefore.{Known, Standing, early_value, last_before, lies_in, standing_before, value_at}
 use Rattle.lk_expressions.specs.Records.{Record, file_end, mem_end, nowhere, record_at}
 use Rattle.lk_place.specs.Segments.{hull}
 use Rattle.lk_place.specs.Setting.{Setting, has_bytes, of_parts, part_count, part_number, size_at, takes_addresses}
 use Rattle.lk_place.specs.Start.{BeginsAt, no_cursors, start}
-use Rattle.lk_place.specs.ThreadLocal.{run_begun, saved_or_restored}
+use Rattle.lk_place.specs.ThreadLocal.{is_in_run, run_begun, saved_or_restored}
 
 -- ---- the parts of a section
 
@@ -87,7 +87,6 @@ abbrev pub left_at : Setting → ℕ → Cursors → Offsets → Cursors
 left_at setting s from end = record from {
   file = end.file;
   memory = if takes_addresses setting s then end.memory else from.memory;
-  in_run = is_thread_local setting.plan s;
 }
 
 -- part p of a section is placed from the offsets on
@@ -237,26 +236,26 @@ opened setting i from (Some l) = opened_at (place_alignment setting i) from l
 
 -- a section begins: it saves memory or goes on where it was saved, goes on where its region does, takes a location that waits, inside
 -- its region, and may begin a run
-abbrev pub begun_section : Setting → (ℕ → ℕ) → ℕ → Cursors → Result Cursors Refusal
-begun_section setting goes_on s from =
+abbrev pub begun_section : Setting → (ℕ → ℕ) → Bool → ℕ → Cursors → Result Cursors Refusal
+begun_section setting goes_on in_run s from =
     let region = stands_in setting.plan s in
     in_region goes_on s region (saved_or_restored setting.plan s from) >>= λ there.
     inside_region setting region there from.pending >>= λ inside.
-    taken setting.plan s inside from.pending >>= run_begun setting s (is_some from.pending)
+    taken setting.plan s inside from.pending >>= run_begun setting in_run s (is_some from.pending)
 
 -- what an event does to the cursors before it places a section, or why it is refused: a load segment opens; a section begins; and what
 -- moves the location leaves it waiting, relative to a section not before its primary's start, if that is placed; nothing else moves
 -- anything
 abbrev pub moved : Setting → Known → OrderEvent → Cursors → Result Cursors Refusal
 moved setting known (SegmentStart i) from = if is_load (segment_at setting.plan.segments i).kind then opened setting i from from.pending else Ok from
-moved setting known (Section s) from = begun_section setting known.goes_on s from
+moved setting known (Section s) from = begun_section setting known.goes_on (is_in_run setting.plan known.last) s from
 moved setting known (SetLocation e) from = awaiting from (value_at setting known.standing from e)
 moved setting known (SetLocationRelative e s) from = awaiting from (behind_start (known.standing.section (primary_of setting.plan.sections s)) (value_at setting known.standing from e))
 moved setting known (SetSectionAddress e) from = awaiting from (value_at setting known.standing from e)
 moved setting known (SegmentEnd i) from = Ok from
 
--- an event moves the cursors, and then places its section, if it has one
-pub record Steps (setting : Setting) (known : Known) (e : OrderEvent) (from : Cursors) (records : List Record) (to : Cursors) : Type 0 where
+-- an event is carried out: it moves the cursors, and then places its section, if it has one
+pub record CarriesOut (setting : Setting) (known : Known) (e : OrderEvent) (from : Cursors) (records : List Record) (to : Cursors) : Type 0 where
   pub entered : Cursors
   pub moves : moved setting known e from ≡ Ok entered
   pub places : Places setting known.standing (placed_section e) entered records to
@@ -327,6 +326,7 @@ state_at states k = slice_index_or states k no_cursors
 abbrev pub known_before : Setting → List Cursors → List Record → ℕ → Known
 known_before setting states records n = record {
   standing = standing_before setting.plan records n;
+  last = last_before setting.plan.events n;
   goes_on = goes_on_by setting (λ k. (state_at states k).memory) n;
 }
 
@@ -353,7 +353,7 @@ placement_refusal setting states records = first_refusal (start setting) (refusa
 -- event k takes the state before it to the next, and isn't refused
 pub record Passes (setting : Setting) (states : List Cursors) (records : List Record) (k : ℕ) (e : OrderEvent) : Type 0 where
   pub unrefused : step_refusal setting (known_before setting states records k) k e (state_at states k) ≡ None
-  pub steps : Steps setting (known_before setting states records k) e (state_at states k) records (state_at states (k + 1))
+  pub steps : CarriesOut setting (known_before setting states records k) e (state_at states k) records (state_at states (k + 1))
 
 -- a section that one of the first n events places has this part
 pub record IsPlacedBefore (setting : Setting) (n p : ℕ) : Type 0 where

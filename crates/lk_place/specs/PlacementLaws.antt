@@ -1,7 +1,11 @@
--- Laws of the definition of placement: there is one, it is one, and parts take their bytes.
-use Rattle.std.specs.Prelude.{◌≡◌, ◌<◌, ◌↔◌, ℕ, List, None, length, map}
+-- Laws of the definition of placement: there is one, it is one, parts take their bytes, and load addresses go by what stands.
+use Rattle.std.specs.Prelude.{◌≡◌, ◌<◌, ◌↔◌, ℕ, ◌+◌, List, None, Some, length, map, slice_get}
+use Rattle.lk_link.specs.declared.plan.OrderEvent.TheVariants.{Section}
+use Rattle.lk_link.specs.Parts.{all_parts}
+use Rattle.lk_link.specs.PlanSections.{section_at}
 use Rattle.lk_place.specs.declared.cursors.Cursors.{Cursors}
-use Rattle.lk_place.specs.Placement.{IsPlaced, PlacesSection, placement_refusal, section_overflow}
+use Rattle.lk_place.specs.PlacedBefore.{standing_before}
+use Rattle.lk_place.specs.Placement.{IsPlaced, PlacesSection, load_by, load_given, placement_refusal, section_overflow}
 use Rattle.lk_expressions.specs.Records.{Fits, Record, record_at}
 use Rattle.lk_place.specs.Setting.{IsReady, Setting, part_count, part_number}
 
@@ -26,3 +30,11 @@ RefusedExactlyPast = (setting : Setting) (s : ℕ) (from : Cursors) (records : L
     → IsReady setting → s < length setting.plan.sections → PlacesSection setting s from records to
     → (section_overflow setting s from ≡ None) ↔ ((j : ℕ) → j < part_count setting.plan.sections s
     → Fits (record_at records (part_number setting.plan.sections s j)))
+
+-- a section that event k places is loaded from the value of its expression by all that stands behind that event, the section itself with
+-- it, and by the cursors there
+abbrev pub LoadsGoByWhatStands : Type 0
+LoadsGoByWhatStands = (setting : Setting) (k s : ℕ) (from to : Cursors) (records : List Record) → IsReady setting
+    → length records ≡ length (all_parts setting.plan.sections) → slice_get setting.plan.events k ≡ Some (Section s) → PlacesSection setting s from records to
+    → load_given setting (standing_before setting.plan records k) s from
+    ≡ load_by setting s (standing_before setting.plan records (k + 1)) to (section_at setting.plan.sections s).at

@@ -1,15 +1,15 @@
 -- Plans under which memory goes along the file.
-use Rattle.std.specs.Prelude.{◌≡◌, ◌≢◌, ℕ, ◌<◌, ◌||◌, true, false, List, [], Option, None, Some, slice_get, take}
-use Rattle.std.specs.List.{filter_map, last_or}
+use Rattle.std.specs.Prelude.{◌≡◌, ◌≢◌, ℕ, ◌<◌, ◌||◌, true, false, [], Some, slice_get, take}
 use Rattle.lk_link.specs.declared.options.OutputKind.{OutputKind}
 use Rattle.lk_link.specs.declared.options.OutputKind.TheVariants.{Partial}
 use Rattle.lk_link.specs.declared.plan.OrderEvent.{OrderEvent}
 use Rattle.lk_link.specs.declared.plan.OrderEvent.TheVariants.{SegmentStart}
 use Rattle.lk_link.specs.declared.plan.Plan.{Plan}
-use Rattle.lk_link.specs.Inside.{PlacesInside, is_open, placed_section}
+use Rattle.lk_link.specs.Inside.{PlacesInside, is_open}
 use Rattle.lk_link.specs.PlanSections.{is_allocated, is_file_backed, is_zero_fill_thread_local}
 use Rattle.lk_link.specs.SegmentKinds.{is_load, segment_at}
 use Rattle.lk_link.specs.WellFormed.{IsAboutPlace}
+use Rattle.lk_place.specs.PlacedBefore.{last_before}
 
 -- segment i is loaded into memory
 abbrev pub IsLoadSegment : Plan → ℕ → Type 0
@@ -24,10 +24,6 @@ pub record OpensLoad (plan : Plan) (i k : ℕ) : Type 0 where
 pub record PlacesInLoad (plan : Plan) (i s k : ℕ) : Type 0 where
   pub load : IsLoadSegment plan i
   pub places : PlacesInside plan.events i s k
-
--- the section that is placed last before event k, if any is
-abbrev pub last_before : List OrderEvent → ℕ → Option ℕ
-last_before events k = last_or None (filter_map placed_section (take k events))
 
 -- a plan whose memory goes along the file: for whole output, with no region, and with no event that moves the location or gives
 -- an address; a load segment opens while no other is open, and not behind zero-fill thread-local data; and all inside one is

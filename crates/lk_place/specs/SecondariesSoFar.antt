@@ -6,8 +6,8 @@ use Rattle.lk_expressions.specs.Records.{Record, nowhere, record_at}
 use Rattle.lk_place.specs.Secondaries.{is_fitting, joined, joined_among}
 
 -- what fits in 64 bits
-abbrev pub fitting : Record → Option Record
-fitting r = if is_fitting r then Some r else None
+abbrev pub if_fitting : Record → Option Record
+if_fitting r = if is_fitting r then Some r else None
 
 -- the record of section s after section n, which is this one and has this record, is joined to its primary
 abbrev pub joined_to : Option ℕ → PlanSection → ℕ → Record → List Record → ℕ → Record

@@ -1,12 +1,11 @@
 -- What output sections and segments span.
 use Rattle.std.specs.Prelude.{◌≡◌, ℕ, ◌-◌, ◌^◌, ◌==◌, ◌&&◌, ◌||◌, not, Bool, if◌then◌else◌, List, [], Option, Some, None, find, filter}
-use Rattle.std.specs.Prelude.{fold, map, max, min, nat_lt, unwrap_or}
+use Rattle.std.specs.Prelude.{◌∷◌, fold, map, max, min, nat_lt}
 use Rattle.std.specs.Int.{next_multiple_of}
-use Rattle.std.specs.List.{before_first, enumerate_from, filter_map, list_any}
-use Rattle.std.specs.Option.{option_and_then, option_or}
+use Rattle.std.specs.List.{before_first, enumerate_from, filter_map, last_or, list_any}
+use Rattle.std.specs.Option.{option_and_then, option_map_or, option_or}
 use Rattle.lk_link.specs.declared.fault.Place.TheVariants as place
 use Rattle.lk_link.specs.declared.link.LinkInput.{LinkInput}
-use Rattle.lk_link.specs.declared.plan.OrderEvent.{OrderEvent}
 use Rattle.lk_link.specs.declared.plan.Plan.{Plan}
 use Rattle.lk_link.specs.declared.plan.PlanSection.{PlanSection}
 use Rattle.lk_link.specs.Inside.{placed_section, sections_inside, segment_insides}
@@ -25,25 +24,30 @@ use Rattle.lk_place.specs.Setting.{of_parts}
 
 -- ---- hulls
 
--- what reaches from the lesser start to the greater end
-abbrev pub spanned : Record → Record → Record
-spanned a b = record {
-  file_size = max (file_end a) (file_end b) - min a.file_offset b.file_offset;
-  mem_size = max (mem_end a) (mem_end b) - min a.mem_offset b.mem_offset;
-  alignment = max a.alignment b.alignment;
-  file_offset = min a.file_offset b.file_offset;
-  mem_offset = min a.mem_offset b.mem_offset;
-  lma_offset = min a.lma_offset b.lma_offset;
-}
+-- the least of several numbers, this one where there is none
+abbrev pub least : ℕ → List ℕ → ℕ
+least none [] = none
+least none (n ∷ ns) = fold min n ns
 
--- what reaches over one more
-abbrev pub with_record : Option Record → Record → Option Record
-with_record None r = Some r
-with_record (Some h) r = Some (spanned h r)
+-- the greatest of several numbers, this one where there is none
+abbrev pub greatest : ℕ → List ℕ → ℕ
+greatest none [] = none
+greatest none (n ∷ ns) = fold max n ns
 
--- the hull of several: from the least start to the greatest end, in the file and in memory; of none, nowhere
+-- what several span: from the least start to the greatest end, in the file and in memory, at the greatest alignment, loaded from the
+-- least load address; of none, nowhere
 abbrev pub hull : List Record → Record
-hull rs = unwrap_or (fold with_record None rs) nowhere
+hull rs =
+    let first_byte = least 0 (map (λ r. r.file_offset) rs) in
+    let first_address = least 0 (map (λ r. r.mem_offset) rs) in
+    record {
+      file_size = greatest 0 (map file_end rs) - first_byte;
+      mem_size = greatest 0 (map mem_end rs) - first_address;
+      alignment = greatest 1 (map (λ r. r.alignment) rs);
+      file_offset = first_byte;
+      mem_offset = first_address;
+      lma_offset = least 0 (map (λ r. r.lma_offset) rs);
+    }
 
 -- ---- sections
 
@@ -84,18 +88,18 @@ segment_record plan stack records emitted i =
 
 -- ---- compacted files
 
--- the end in the file of the last section that these events place, of those that aren't skipped; this end where there is none
-abbrev pub end_behind : Plan → List Record → (ℕ → Bool) → ℕ → List OrderEvent → ℕ
-end_behind plan records emitted end events =
-    fold (λ _ s. file_end (record_at records s)) end (filter (λ s. not (is_skipped plan records emitted s)) (filter_map placed_section events))
+-- the section that is placed last before the opening of a segment, of those that aren't skipped, if there is one
+abbrev pub last_before_opening : Plan → List Record → (ℕ → Bool) → ℕ → Option ℕ
+last_before_opening plan records emitted i =
+    last_or None (filter (λ s. not (is_skipped plan records emitted s)) (filter_map placed_section (before_first (is_start i) plan.events)))
 
--- that of the events before the opening of a segment, 0 where there is none
+-- its end in the file, 0 where there is none
 abbrev pub compact_start : Plan → List Record → (ℕ → Bool) → ℕ → ℕ
-compact_start plan records emitted i = end_behind plan records emitted 0 (before_first (is_start i) plan.events)
+compact_start plan records emitted i = option_map_or (λ s. file_end (record_at records s)) (last_before_opening plan records emitted i) 0
 
 -- the greatest end in the file of these sections, of those with bytes of the file, and at least this
 abbrev pub compact_end : List Record → ℕ → List ℕ → ℕ
-compact_end records least inside = fold max least (map file_end (filter has_file_bytes (map (record_at records) inside)))
+compact_end records least inside = greatest_of least (map file_end (filter has_file_bytes (map (record_at records) inside)))
 
 -- the sections inside a segment; the stack has none in the file
 abbrev pub in_file_inside : Plan → ℕ → List ℕ

@@ -36,10 +36,9 @@ memory_by plan groups headers positions (Err e) = Err e
 abbrev pub begun_memory : Plan → List (List InputFile) → ℕ → List (Option SymbolPosition) → Result ℕ PlaceError
 begun_memory plan groups headers positions = memory_by plan groups headers positions (regions_of plan.regions)
 
--- the cursors before the first event, where memory begins here: the file begins at 0, nothing is saved, no run is begun, and no
--- location waits
+-- the cursors before the first event, where memory begins here: the file begins at 0, nothing is saved, and no location waits
 abbrev pub first_cursors : ℕ → Cursors
-first_cursors memory = record { file = 0; memory = memory; saved = None; in_run = false; pending = None }
+first_cursors memory = record { file = 0; memory = memory; saved = None; pending = None }
 
 -- stand for cursors where there are none
 abbrev pub no_cursors : Cursors

@@ -23,7 +23,7 @@ use Rattle.lk_place.specs.InRegions.{named_region, places_in, span_of}
 use Rattle.lk_place.specs.AtHand.{AreAtHand}
 use Rattle.lk_place.specs.Placement.{first_record, first_walked, is_below, load_given, moved, next_record, numbered, overflow_at}
 use Rattle.lk_place.specs.Placement.{record_by, refusal_of, section_left, section_start}
-use Rattle.lk_place.specs.PlacedBefore.{Known, Standing, lies_in, standing_before}
+use Rattle.lk_place.specs.PlacedBefore.{Known, Standing, last_before, lies_in, standing_before}
 use Rattle.lk_expressions.specs.Records.{Record, nowhere, record_at}
 use Rattle.lk_place.specs.Setting.{IsReady, Setting, part_count, setting_of}
 use Rattle.lk_place.specs.Regions.{given_regions, regions_of}
@@ -83,7 +83,7 @@ GoesOn plan event to old new = (r : ℕ) → slice_index new r ≡ went_on plan 
 
 -- what is known at an event, by the tables of records and of regions
 abbrev pub known_in : Plan → List Record → List ℕ → ℕ → Known
-known_in plan records goes_on n = record { standing = standing_before plan records n; goes_on = slice_index goes_on }
+known_in plan records goes_on n = record { standing = standing_before plan records n; last = last_before plan.events n; goes_on = slice_index goes_on }
 
 -- ---- one section
 
@@ -144,9 +144,9 @@ abbrev pub entered : Setting → Known → OrderEvent → Cursors → Cursors
 entered setting known e from = after_move from (moved setting known e from)
 
 -- the cursors behind an event
-abbrev pub stepped : Setting → Known → Option OrderEvent → Cursors → Cursors
-stepped setting known None from = from
-stepped setting known (Some e) from = left_behind setting (placed_section e) (entered setting known e from)
+abbrev pub left_by : Setting → Known → Option OrderEvent → Cursors → Cursors
+left_by setting known None from = from
+left_by setting known (Some e) from = left_behind setting (placed_section e) (entered setting known e from)
 
 -- what an event makes of the record of part p
 abbrev pub recorded : Setting → Known → Option OrderEvent → Cursors → ℕ → Record → Record
@@ -161,7 +161,11 @@ listed setting f = map (λ q. f q.0) (enumerate_from 0 (all_parts setting.plan.s
 
 -- what is known before event k, by the records so far and where regions go on
 abbrev pub known_by : Setting → (ℕ → Record) → (ℕ → ℕ) → ℕ → Known
-known_by setting records goes_on k = record { standing = standing_before setting.plan (listed setting records) k; goes_on = goes_on }
+known_by setting records goes_on k = record {
+  standing = standing_before setting.plan (listed setting records) k;
+  last = last_before setting.plan.events k;
+  goes_on = goes_on;
+}
 
 -- the cursors, the record of each part and where each region goes on, behind the first k events
 unfoldable pub walk_after : Setting → ℕ → Cursors × (ℕ → Record) × (ℕ → ℕ)
@@ -170,9 +174,9 @@ walk_after setting (suc k) =
     let before = walk_after setting k in
     let known = known_by setting before.1 before.2 k in
     let event = slice_get setting.plan.events k in (
-      stepped setting known event before.0,
+      left_by setting known event before.0,
       λ p. recorded setting known event before.0 p (before.1 p),
-      λ r. went_on setting.plan event (stepped setting known event before.0) r (before.2 r),
+      λ r. went_on setting.plan event (left_by setting known event before.0) r (before.2 r),
     )
 
 -- the cursors alone

@@ -16,11 +16,9 @@ pub struct Cursors {
     pub file: u64,
     /// The address.
     pub memory: u64,
-    /// The address at which memory goes on behind zero-fill thread-local sections, which take none; none where the section that
-    /// was placed last isn't one.
+    /// The address at which memory goes on behind zero-fill thread-local sections; none where the section that was placed last
+    /// isn't one.
     pub saved: Option<u64>,
-    /// Whether the section that was placed last is thread-local.
-    pub in_run: bool,
     /// A location that no section has taken yet.
     pub pending: Option<u64>,
 }

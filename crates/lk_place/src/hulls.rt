@@ -9,8 +9,9 @@ ghost use Rattle.lk_link.specs.Alignments.{is_alignment};
 ghost use Rattle.lk_link.specs.Parts.{all_parts};
 ghost use Rattle.lk_link.specs.Rules.{is_good_section};
 ghost use Rattle.lk_place.specs.Alignments.{greatest_of};
+ghost use Rattle.lk_place.specs.Hulls.{spanned, with_record};
 ghost use Rattle.lk_expressions.specs.Records.{is_filled, nowhere};
-ghost use Rattle.lk_place.specs.Segments.{hull, section_record, section_records, spanned, with_record};
+ghost use Rattle.lk_place.specs.Segments.{hull, section_record, section_records};
 
 use lk_expressions::OutputRecordLayout;
 use lk_link::alignment::Alignment;

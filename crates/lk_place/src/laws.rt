@@ -3,7 +3,7 @@
 ghost use Rattle.lk_place.specs.Base.{MemoryLeavesRoom};
 ghost use Rattle.lk_place.specs.Laws.{FileRangesAreDisjoint, InsideIsPlaced, MemoryRangesAreDisjoint, OneLoadSegmentIsPlain};
 ghost use Rattle.lk_place.specs.Laws.{PlainMemoryIsCongruent, PlainMemoryIsDisjoint, RecordsKeepAlignments};
-ghost use Rattle.lk_place.specs.PlacementLaws.{PartsTakeTheirBytes, PlacementExists, PlacementIsOne, RefusedExactlyPast};
+ghost use Rattle.lk_place.specs.PlacementLaws.{LoadsGoByWhatStands, PartsTakeTheirBytes, PlacementExists, PlacementIsOne, RefusedExactlyPast};
 ghost use Rattle.lk_place.specs.Shallow.{ExpressionsAreShallow};
 
 pub use lk_expressions::laws::{constants_go_by_those_before, unnamed_read_no_symbols};
@@ -26,6 +26,12 @@ pub fn refused_exactly_past()
 /// A law: where no event is refused, the record of each part takes exactly the part's bytes in memory.
 pub fn parts_take_their_bytes()
     ensures { PartsTakeTheirBytes }
+{}
+
+/// A law: the load address of a section is the value of its expression by all that stands behind it, the section itself with it, and
+/// by the cursors there; so is its refusal.
+pub fn loads_go_by_what_stands()
+    ensures { LoadsGoByWhatStands }
 {}
 
 /// A law: whatever the plan, no two parts share a byte of the file, also where an event is refused.

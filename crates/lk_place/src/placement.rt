@@ -290,7 +290,6 @@ impl<P: Platform> Walk<'_, P> {
         Ok(Cursors {
             file: end.file,
             memory: if addressed { end.memory } else { from.memory },
-            in_run: self.link.plan.is_thread_local(section),
             ..from
         })
     }

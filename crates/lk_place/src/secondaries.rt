@@ -9,7 +9,7 @@ ghost use Rattle.lk_link.specs.WellFormed.{IsWellFormed};
 ghost use Rattle.lk_place.specs.declared.error.PlaceError.TheVariants.{AddressOverflow};
 ghost use Rattle.lk_expressions.specs.Records.{record_at};
 ghost use Rattle.lk_place.specs.Secondaries.{is_fitting, joined, joined_size, merge_refusal, merged_records};
-ghost use Rattle.lk_place.specs.SecondariesSoFar.{fitting, joined_to};
+ghost use Rattle.lk_place.specs.SecondariesSoFar.{if_fitting, joined_to};
 ghost use Rattle.lk_place.specs.Segments.{Refuses};
 
 use crate::error::PlaceError;
@@ -48,7 +48,7 @@ fn join(
     secondary: &PlanSection,
     one: &OutputRecordLayout,
 ) -> Option<OutputRecordLayout>
-    ensures { result ≡ fitting (joined secondary.now all.now one.now) }
+    ensures { result ≡ if_fitting (joined secondary.now all.now one.now) }
 {
     let stretches = secondary.counters;
     let file_size = join_sizes(

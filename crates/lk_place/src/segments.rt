@@ -12,10 +12,10 @@ ghost use Rattle.lk_link.specs.Marks.{is_marked};
 ghost use Rattle.lk_link.specs.Rules.{is_start};
 ghost use Rattle.lk_link.specs.SegmentKinds.{is_tls, segment_at};
 ghost use Rattle.lk_expressions.specs.Records.{file_end, has_file_bytes, record_at};
-ghost use Rattle.lk_place.specs.Segments.{Refuses, compact_end, compact_start, compacted, counts, end_behind, end_refusal, first_outside, found_outside, hull, in_file_inside};
+ghost use Rattle.lk_place.specs.Segments.{Refuses, compact_end, compact_start, compacted, counts, end_refusal, first_outside, found_outside, hull, in_file_inside};
 ghost use Rattle.lk_place.specs.Segments.{is_skipped, may_stand_outside, segment_layout, segment_layouts, segment_record, segments_refusal};
 ghost use Rattle.lk_place.specs.Segments.{stack_record, is_in_segments, thread_local_one};
-ghost use Rattle.lk_place.specs.Spans.{CanSpan};
+ghost use Rattle.lk_place.specs.Spans.{CanSpan, file_end_behind};
 
 use crate::error::PlaceError;
 use crate::hulls::{nothing, with_record};
@@ -259,10 +259,10 @@ impl Spans<'_> {
     }
 
     /// The end in the file behind an event: that of the section that it places, unless that is skipped.
-    fn end_behind(&self, event: &OrderEvent, end: u64) -> u64
+    fn file_end_behind(&self, event: &OrderEvent, end: u64) -> u64
         requires ready { CanSpan self.now }
         requires in_range { IsInRange self.now.link.now.plan event.now }
-        ensures { result ≡ end_behind self.now.link.now.plan self.now.records.now (is_marked self.now.emitted.now) end (event.now ∷ []) }
+        ensures { result ≡ file_end_behind self.now.link.now.plan self.now.records.now (is_marked self.now.emitted.now) end (event.now ∷ []) }
     {
         match *event {
             OrderEvent::Section(section) if !self.is_skipped(section) => {
@@ -282,7 +282,7 @@ impl Spans<'_> {
             if opens(event, segment) {
                 return end;
             }
-            end = self.end_behind(event, end);
+            end = self.file_end_behind(event, end);
         }
         end
     }

@@ -18,17 +18,18 @@ ghost use Rattle.lk_place.specs.Answers.{GivesPlaced};
 ghost use Rattle.lk_place.specs.Counters.{told_counter};
 ghost use Rattle.lk_place.specs.AtHand.{AreEvaluableEvents, AreEvaluableLoads, IsEvaluable, IsEvaluableEvent};
 ghost use Rattle.std.specs.List.{slice_index};
+ghost use Rattle.std.specs.Option.{option_map_or};
 ghost use Rattle.lk_place.specs.InRegions.{span_of};
 ghost use Rattle.lk_place.specs.Locations.{behind_start, within_64};
-ghost use Rattle.lk_place.specs.PlacedBefore.{early_value, standing_before, value_at};
+ghost use Rattle.lk_place.specs.PlacedBefore.{early_value, last_before, standing_before, value_at};
 ghost use Rattle.lk_place.specs.Placement.{begun_section, event_refusal, memory_moved, moved, numbered, opened, section_refusal};
 ghost use Rattle.lk_expressions.specs.Records.{nowhere, record_at};
 ghost use Rattle.lk_place.specs.Setting.{setting_of};
 ghost use Rattle.lk_place.specs.Start.{first_cursors, start};
-ghost use Rattle.lk_place.specs.ThreadLocal.{begins_run, padded, run_begun, saved_or_restored};
-ghost use Rattle.lk_link.specs.PlanSections.{primary_of};
+ghost use Rattle.lk_place.specs.ThreadLocal.{begins_run, is_in_run, padded, run_begun, saved_or_restored};
+ghost use Rattle.lk_link.specs.PlanSections.{is_thread_local, primary_of};
 ghost use Rattle.lk_link.specs.SegmentKinds.{is_load, segment_at};
-ghost use Rattle.lk_place.specs.Walk.{GivesWalked, GoesOn, IsWalkable, Rewrites, known_in, left_behind, recorded, setting_in, stepped};
+ghost use Rattle.lk_place.specs.Walk.{GivesWalked, GoesOn, IsWalkable, Rewrites, known_in, left_behind, recorded, setting_in, left_by};
 ghost use Rattle.lk_place.specs.Walk.{at_event, rewritten, unless};
 
 use crate::alignments::{Alignments, compute_alignments};
@@ -145,8 +146,8 @@ impl<P: Platform> Walk<'_, P> {
         }
     }
 
-    /// Where memory is saved before a zero-fill thread-local section, which takes no addresses from what comes behind it, or goes on
-    /// where it was saved before any other.
+    /// Where memory is saved before a zero-fill thread-local section, behind which it goes on where it stood before, or goes on where
+    /// it was saved before any other.
     fn saved_or_restored(&self, section: OutputSectionId, from: Cursors) -> Cursors
         ensures { result ≡ saved_or_restored self.now.link.now.plan section from }
     {
@@ -165,12 +166,22 @@ impl<P: Platform> Walk<'_, P> {
         }
     }
 
-    /// Whether a section begins a run of thread-local ones, which counts but in partial output.
-    fn begins_run(&self, section: OutputSectionId, from: Cursors) -> bool
-        ensures { result ≡ begins_run (setting_in P.segment_start self.now) section from }
+    /// Whether a run of thread-local sections goes on behind an event: where that places a section, whether it is thread-local.
+    fn in_run_behind(&self, event: &OrderEvent, in_run: bool) -> bool
+        ensures { result ≡ option_map_or (is_thread_local self.now.link.now.plan) (placed_section event.now) in_run }
+    {
+        match *event {
+            OrderEvent::Section(section) => self.link.plan.is_thread_local(section),
+            _ => in_run,
+        }
+    }
+
+    /// Whether a section begins a run of thread-local ones, where none goes on; in partial output none does.
+    fn begins_run(&self, section: OutputSectionId, in_run: bool) -> bool
+        ensures { result ≡ begins_run (setting_in P.segment_start self.now) in_run section }
     {
         self.link.plan.is_thread_local(section)
-            && !from.in_run
+            && !in_run
             && !self.link.options.output.is_partial()
     }
 
@@ -178,13 +189,14 @@ impl<P: Platform> Walk<'_, P> {
     fn begin_run(
         &self,
         section: OutputSectionId,
+        in_run: bool,
         took: bool,
         from: Cursors,
     ) -> Result<Cursors, Refusal>
         requires walkable { IsWalkable P.segment_start self.now }
-        ensures { result ≡ run_begun (setting_in P.segment_start self.now) section took from }
+        ensures { result ≡ run_begun (setting_in P.segment_start self.now) in_run section took from }
     {
-        if self.begins_run(section, from) && !took {
+        if self.begins_run(section, in_run) && !took {
             let backed = self.link.plan.is_file_backed(section);
             pad(backed, self.alignments.thread_local, from)
         } else {
@@ -197,18 +209,19 @@ impl<P: Platform> Walk<'_, P> {
     fn begin_section(
         &self,
         section: OutputSectionId,
+        in_run: bool,
         from: Cursors,
         goes_on: &[u64],
     ) -> Result<Cursors, Refusal>
         requires walkable { IsWalkable P.segment_start self.now }
         requires regions { length goes_on.now ≡ length self.now.link.now.plan.regions }
-        ensures { result ≡ begun_section (setting_in P.segment_start self.now) (slice_index goes_on.now) section from }
+        ensures { result ≡ begun_section (setting_in P.segment_start self.now) (slice_index goes_on.now) in_run section from }
     {
         let saved = self.saved_or_restored(section, from);
         let there = self.enter_region(section, saved, goes_on)?;
         let inside = self.stay_inside(section, there, from.pending)?;
         let taken = take_location(&self.link.plan, section, inside, from.pending)?;
-        self.begin_run(section, from.pending.is_some(), taken)
+        self.begin_run(section, in_run, from.pending.is_some(), taken)
     }
 
     /// The value of an expression at some cursors, by the records of what is placed before an event.
@@ -275,11 +288,13 @@ impl<P: Platform> Walk<'_, P> {
         not_before(before.section(primary), location)
     }
 
-    /// The cursors after what an event does before it places a section.
+    /// The cursors after what an event does before it places a section. `in_run` tells whether a run of thread-local sections goes
+    /// on.
     fn moved(
         &self,
         number: usize,
         event: &OrderEvent,
+        in_run: bool,
         from: Cursors,
         records: &[OutputRecordLayout],
         goes_on: &[u64],
@@ -289,13 +304,14 @@ impl<P: Platform> Walk<'_, P> {
         requires each { length records.now ≡ length (all_parts self.now.link.now.plan.sections) }
         requires walked { IsEvaluableEvent self.now.link.now.plan event.now }
         requires regions { length goes_on.now ≡ length self.now.link.now.plan.regions }
+        requires run { in_run ≡ is_in_run self.now.link.now.plan (last_before self.now.link.now.plan.events number) }
         ensures { result ≡ moved (setting_in P.segment_start self.now)
             (known_in self.now.link.now.plan records.now goes_on.now number) event.now from }
     {
         match event {
             OrderEvent::SegmentStart(segment) => self.open_segment(*segment, from),
             OrderEvent::SegmentEnd(_) => Ok(from),
-            OrderEvent::Section(section) => self.begin_section(*section, from, goes_on),
+            OrderEvent::Section(section) => self.begin_section(*section, in_run, from, goes_on),
             OrderEvent::SetLocation(location) => {
                 wait_at(from, self.value(number, location, from, records))
             }
@@ -342,11 +358,12 @@ impl<P: Platform> Walk<'_, P> {
     }
 
     /// Carries out an event: it moves the cursors, and then places its section, if it has one. Answers the cursors behind
-    /// it.
+    /// it. `in_run` tells whether a run of thread-local sections goes on.
     fn carry_out(
         &self,
         number: usize,
         event: &OrderEvent,
+        in_run: bool,
         from: Cursors,
         records: &mut [OutputRecordLayout],
         goes_on: &mut [u64],
@@ -356,16 +373,17 @@ impl<P: Platform> Walk<'_, P> {
         requires each { length records.old ≡ length (all_parts self.now.link.now.plan.sections) }
         requires regions { length goes_on.old ≡ length self.now.link.now.plan.regions }
         requires here { slice_get self.now.link.now.plan.events number ≡ Some event.now }
+        requires run { in_run ≡ is_in_run self.now.link.now.plan (last_before self.now.link.now.plan.events number) }
         requires walked { IsEvaluableEvent self.now.link.now.plan event.now }
         requires loads { AreEvaluableLoads self.now.link.now.plan }
         ensures ends { let setting = setting_in P.segment_start self.now in let known = known_in setting.plan records.old goes_on.old number
-            in result ≡ unless (event_refusal setting known event.now from) (stepped setting known (Some event.now) from) }
+            in result ≡ unless (event_refusal setting known event.now from) (left_by setting known (Some event.now) from) }
         ensures records { let setting = setting_in P.segment_start self.now in let known = known_in setting.plan records.old goes_on.old number
             in OnOk result (Rewrites (recorded setting known (Some event.now) from) records.old records.new) }
         ensures goes_on { let setting = setting_in P.segment_start self.now in let known = known_in setting.plan records.old goes_on.old number
-            in OnOk result (GoesOn setting.plan (Some event.now) (stepped setting known (Some event.now) from) goes_on.old goes_on.new) }
+            in OnOk result (GoesOn setting.plan (Some event.now) (left_by setting known (Some event.now) from) goes_on.old goes_on.new) }
     {
-        let entered = self.moved(number, event, from, &*records, &*goes_on)?;
+        let entered = self.moved(number, event, in_run, from, &*records, &*goes_on)?;
         self.place(number, event, entered, records, goes_on)
     }
 
@@ -392,12 +410,13 @@ impl<P: Platform> Walk<'_, P> {
             file: 0,
             memory: base,
             saved: None,
-            in_run: false,
             pending: None,
         };
+        let mut in_run = false;
         for (number, event) in self.link.plan.events.as_slice().iter().enumerate() {
-            let end = self.carry_out(number, event, cursors, records, goes_on);
+            let end = self.carry_out(number, event, in_run, cursors, records, goes_on);
             cursors = at_event(end, number)?;
+            in_run = self.in_run_behind(event, in_run);
             tell_counter(event, cursors.pending, counters)?;
         }
         Ok(())

@@ -1,5 +1,5 @@
 use Rattle.std.proofs.Common.{◌≡◌, drop, None, fold}
-use Rattle.lk_place.specs.Segments.{with_record}
+use Rattle.lk_place.specs.Hulls.{with_record}
 use Rattle.lk_place.proofs.hulls.hull_of.Given as goal
 
 -- what reaches over those so far, joined with what is left, reaches over all

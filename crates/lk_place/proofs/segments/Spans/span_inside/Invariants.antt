@@ -1,8 +1,9 @@
 use Rattle.std.proofs.Common.{◌≡◌, drop, None, fold, map}
 use Rattle.std.specs.Prelude.{filter}
 use Rattle.lk_link.specs.Marks.{is_marked}
+use Rattle.lk_place.specs.Hulls.{with_record}
 use Rattle.lk_expressions.specs.Records.{record_at}
-use Rattle.lk_place.specs.Segments.{counts, with_record}
+use Rattle.lk_place.specs.Segments.{counts}
 use Rattle.lk_place.proofs.segments.Spans.span_inside.Given as goal
 
 -- what reaches over those so far, joined with what is left, reaches over all

@@ -1,11 +1,14 @@
 use Rattle.std.proofs.Common.{◌≡◌, ◌++◌, ℕ, ◌∙◌, Some, ap, arith, length, refl, subst}
 use Rattle.std.specs.Prelude.{slice_get}
+use Rattle.std.specs.Option.{option_map_or}
+use Rattle.lk_link.specs.Inside.{placed_section}
+use Rattle.lk_link.specs.PlanSections.{is_thread_local}
 use Rattle.lk_place.specs.declared.cursors.Cursors.{Cursors}
 use Rattle.lk_expressions.specs.Records.{record_at}
 use Rattle.lk_place.specs.Start.{first_cursors}
 use Rattle.lk_place.specs.Walk.{AllPass, counters_after, record_after, setting_in}
 use Rattle.lk_place.proofs.Knowing.{known_table, recorded_as, tried_as, went_as}
-use Rattle.lk_place.proofs.WalkSteps.{IsTried, counters_all, counters_on, cursors_first, goes_on, goes_on_first, passes_on, read_there, record_first, records_on, regions_on, starts_at, stops, walk_refused}
+use Rattle.lk_place.proofs.WalkSteps.{IsTried, counters_all, counters_on, cursors_first, goes_on, goes_on_first, passes_on, read_there, record_first, records_on, regions_on, run_next, starts_at, stops, walk_refused}
 use Rattle.lk_place.proofs.walk.Walk.walk.Goals as goal
 
 pub loop-number-init : goal.loop-number-init
@@ -15,6 +18,7 @@ loop-number-init g c =
       ends = starts_at setting (first_cursors c.args.base) c.requires.starts ∙ cursors_first setting;
       records = λ p. c.requires.nothing p ∙ record_first setting p;
       pass = λ k below. absurd (omega arith);
+      run = refl;
       each = c.requires.each;
       goes_on = λ r. c.requires.origins r ∙ goes_on_first setting r;
       regions = c.requires.regions;
@@ -36,6 +40,9 @@ carry_out-end-requires-clause-walked g c =
     let here : slice_get c.args.self.now.link.now.plan.events c.loop-number.number ≡ Some c.event-item.result =
     read_there c.args.self.now.link.now.plan.events c.as_slice-event-items.result.now c.loop-number.number c.event-item.result c.as_slice-event-items.ensures c.loop-number-test.true c.event-item.is in
     c.requires.walked c.loop-number.number c.event-item.result here
+
+pub carry_out-end-requires-clause-run : goal.carry_out-end-requires-clause-run
+carry_out-end-requires-clause-run g c = c.loop-number.invariant.run
 
 pub carry_out-end-requires-clause-each : goal.carry_out-end-requires-clause-each
 carry_out-end-requires-clause-each g c = c.loop-number.invariant.each
@@ -76,6 +83,10 @@ loop-number-preserved g c =
           (recorded_as setting k c.event-item.result c.loop-number.cursors c.carry_out-end.result (record_at c.loop-number.records) (record_at c.carry_out-end.new.records)
           (known_table setting k c.loop-number.records c.loop-number.goes_on c.loop-number.invariant.each c.loop-number.invariant.records c.loop-number.invariant.goes_on) c.carry_out-end.ensures.records) c.loop-number.invariant.records;
       pass = passes_on setting k c.event-item.result c.loop-number.cursors to c.carry_out-end.result tried c.in_ok-cursors.ensures;
+      run =
+          c.in_run_behind-in_run.ensures
+          ∙ ap (option_map_or (is_thread_local setting.plan) (placed_section c.event-item.result)) c.loop-number.invariant.run
+          ∙ run_next setting.plan k c.event-item.result here;
       each = c.carry_out-end.auto.records ∙ c.loop-number.invariant.each;
       goes_on = regions_on setting k c.event-item.result c.loop-number.cursors to c.carry_out-end.result c.loop-number.goes_on c.carry_out-end.new.goes_on tried c.in_ok-cursors.ensures
           (went_as setting k c.event-item.result c.loop-number.cursors c.carry_out-end.result c.loop-number.goes_on c.carry_out-end.new.goes_on
