@@ -280,8 +280,7 @@ fn add_memory(
     add(line, "regions", &regions)?;
     let constants = constant_redirects(alloc, link, 512, regions)?;
     add(line, "constants", &constants)?;
-    let positions = SymbolPositions::new(List::new(alloc));
-    match first_memory(link, 512, regions, &constants, &positions) {
+    match first_memory(alloc, link, 512, regions, &constants) {
         Ok(memory) => add(line, "memory", &memory),
         Err(error) => add(line, "refused", &error),
     }

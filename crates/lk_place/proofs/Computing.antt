@@ -96,7 +96,7 @@ unbegun_refused setting e refused =
     }
 
 -- the refusal that a beginning tells, where it isn't want of memory
-told_begun : (setting : Setting) (x e : PlaceError) → x ≡ e → (x ≡ NoMemory → ⊥) → GivesBeginning setting.plan setting.groups setting.headers setting.positions (Err e) → start setting ≡ Err x
+told_begun : (setting : Setting) (x e : PlaceError) → x ≡ e → (x ≡ NoMemory → ⊥) → GivesBeginning setting.plan setting.groups setting.headers (Err e) → start setting ≡ Err x
 told_begun setting x NoMemory same other gives = absurd (other same)
 told_begun setting x (AddressOverflow place) same other gives = ap cursors_at gives ∙ ap (λ (y : PlaceError). Err y) (sym same)
 told_begun setting x (RegionDuplicate region) same other gives = ap cursors_at gives ∙ ap (λ (y : PlaceError). Err y) (sym same)
@@ -129,19 +129,19 @@ refused_answer setting (Err x) e ready starts h records before counters stop =
     stopped_gives setting x ready starts records before counters (subst (λ (y : PlaceError). GivesWalked setting (Err y) records before counters) (sym h) stop)
 
 -- the base has the value that the beginning says
-pub based_at : (setting : Setting) (b : Beginning) → IsBegun setting.plan setting.groups setting.headers setting.positions b → base_value setting ≡ Ok b.base
-based_at setting b h = ap (λ (r : Result (List (ℕ × ℕ)) PlaceError). base_by setting.plan setting.groups setting.headers setting.positions (given_regions r)) h.regions ∙ h.base
+pub based_at : (setting : Setting) (b : Beginning) → IsBegun setting.plan setting.groups setting.headers b → base_value setting ≡ Ok b.base
+based_at setting b h = ap (λ (r : Result (List (ℕ × ℕ)) PlaceError). base_by setting.plan setting.groups setting.headers (given_regions r)) h.regions ∙ h.base
 
 -- the walk begins where the beginning says
-pub begins_at : (setting : Setting) (b : Beginning) → IsBegun setting.plan setting.groups setting.headers setting.positions b → start setting ≡ Ok (first_cursors b.memory)
+pub begins_at : (setting : Setting) (b : Beginning) → IsBegun setting.plan setting.groups setting.headers b → start setting ≡ Ok (first_cursors b.memory)
 begins_at setting b h = ap cursors_at h.memory
 
-pub begins : (setting : Setting) (b : Beginning) → IsBegun setting.plan setting.groups setting.headers setting.positions b → start setting ≡ Ok (first_state setting)
+pub begins : (setting : Setting) (b : Beginning) → IsBegun setting.plan setting.groups setting.headers b → start setting ≡ Ok (first_state setting)
 begins setting b h = starts setting (first_cursors b.memory) (begins_at setting b h)
 
 -- a beginning that is refused tells the first refusal
 pub unbegun_answer : (setting : Setting) (r : Result Placed PlaceError) (e : PlaceError) → IsErrAnd r (λ x. x ≡ e)
-    → GivesBeginning setting.plan setting.groups setting.headers setting.positions (Err e) → GivesPlaced setting r
+    → GivesBeginning setting.plan setting.groups setting.headers (Err e) → GivesPlaced setting r
 unbegun_answer setting (Ok placed) e h gives = absurd h
 unbegun_answer setting (Err NoMemory) e h gives = tt
 unbegun_answer setting (Err (AddressOverflow place)) e h gives = unbegun_refused setting (AddressOverflow place) (told_begun setting (AddressOverflow place) e h (λ same. absurd (cc)) gives)

@@ -85,7 +85,7 @@ pub nothing_first : (setting : Setting) (states : List Cursors) → BeginsAt (st
 nothing_first setting states begins some =
     let given : start setting ≡ Ok (first_state setting) = start_given (start setting) states begins some in
     let first : state_at states 0 ≡ first_state setting = get_or_from_slice_get states 0 (first_state setting) no_cursors (has_first (start setting) (first_state setting) states given begins) in
-    let none = waits_first (begun_memory setting.plan setting.groups setting.headers setting.positions) (first_state setting) given in
+    let none = waits_first (begun_memory setting.plan setting.groups setting.headers) (first_state setting) given in
     (ap (λ (c : Cursors). c.saved) first ∙ none.0, ap (λ (c : Cursors). c.pending) first ∙ none.1)
 
 places_quietly : (setting : Setting) (standing : Standing) (o : Option ℕ) (entered to : Cursors) (records : List Record) → Places setting standing o entered records to → to.pending ≡ entered.pending

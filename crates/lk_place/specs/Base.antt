@@ -1,18 +1,17 @@
 -- Where memory begins: at the base, or below it where headers are to stand there.
-use Rattle.std.specs.Prelude.{◌≡◌, ℕ, ◌-◌, ◌%◌, ◌<◌, ◌≤◌, ◌&&◌, ◌||◌, not, Bool, true, if◌then◌else◌, nat_le, nat_lt, List, None, Option, Result, Ok, Err}
+use Rattle.std.specs.Prelude.{◌≡◌, ℕ, ◌-◌, ◌%◌, ◌<◌, ◌≤◌, ◌&&◌, ◌||◌, not, Bool, true, if◌then◌else◌, nat_le, nat_lt, List, [], None, Option, Result, Ok, Err}
 use Rattle.lk_link.specs.declared.fault.Place.TheVariants as place
 use Rattle.lk_link.specs.declared.file.InputFile.{InputFile}
 use Rattle.lk_link.specs.declared.plan.Plan.{Plan}
 use Rattle.lk_link.specs.Alignments.{IsGreatestMultiple}
 use Rattle.lk_place.specs.declared.error.PlaceError.{PlaceError}
 use Rattle.lk_place.specs.declared.error.PlaceError.TheVariants.{BaseTooLow, Expression}
-use Rattle.lk_expressions.specs.declared.positions.SymbolPosition.{SymbolPosition}
 use Rattle.lk_expressions.specs.Expressions.{Valued}
 use Rattle.lk_expressions.specs.Surroundings.{Early}
 
--- what is known before anything is placed: memory hasn't begun, so the location counter is 0
-abbrev pub known_first : List (List InputFile) → ℕ → List (ℕ × ℕ) → List (Option Valued) → List (Option SymbolPosition) → Early
-known_first groups headers regions constants positions = record {
+-- what is known before anything is placed: memory hasn't begun, so the location counter is 0, and no symbol has a place
+abbrev pub known_first : List (List InputFile) → ℕ → List (ℕ × ℕ) → List (Option Valued) → Early
+known_first groups headers regions constants = record {
   groups = groups;
   dot = 0;
   headers = headers;
@@ -20,7 +19,7 @@ known_first groups headers regions constants positions = record {
   constants = constants;
   section = λ s. None;
   part = λ p. None;
-  positions = positions;
+  positions = [];
 }
 
 -- whether a base that is asked for has no room for the headers below it, where they are to stand there

@@ -5,7 +5,6 @@ use Rattle.lk_link.specs.declared.plan.Plan.{Plan}
 use Rattle.lk_place.specs.declared.cursors.Cursors.{Cursors}
 use Rattle.lk_place.specs.declared.error.PlaceError.{PlaceError}
 use Rattle.lk_place.specs.declared.error.PlaceError.TheVariants.{NoMemory}
-use Rattle.lk_expressions.specs.declared.positions.SymbolPosition.{SymbolPosition}
 use Rattle.lk_place.specs.declared.start.Beginning.{Beginning}
 use Rattle.lk_place.specs.Base.{first_memory, known_first}
 use Rattle.lk_expressions.specs.Constants.{constants_of}
@@ -20,21 +19,21 @@ abbrev pub constants_by : List (List InputFile) → ℕ → List (ℕ × ℕ) �
 constants_by groups headers regions = constants_of (record { groups = groups; headers = headers; regions = regions })
 
 -- the base by the regions: it may speak of them and of constants, and of nothing that is placed
-abbrev pub base_by : Plan → List (List InputFile) → ℕ → List (Option SymbolPosition) → List (ℕ × ℕ) → Valued
-base_by plan groups headers positions regions = expression_value (early_operand (known_first groups headers regions (constants_by groups headers regions) positions)) plan.base
+abbrev pub base_by : Plan → List (List InputFile) → ℕ → List (ℕ × ℕ) → Valued
+base_by plan groups headers regions = expression_value (early_operand (known_first groups headers regions (constants_by groups headers regions))) plan.base
 
 -- the same, where no region is refused
 abbrev pub base_value : Setting → Valued
-base_value setting = base_by setting.plan setting.groups setting.headers setting.positions (given_regions (regions_of setting.plan.regions))
+base_value setting = base_by setting.plan setting.groups setting.headers (given_regions (regions_of setting.plan.regions))
 
 -- the first memory by the regions, unless one of them is refused
-abbrev pub memory_by : Plan → List (List InputFile) → ℕ → List (Option SymbolPosition) → Result (List (ℕ × ℕ)) PlaceError → Result ℕ PlaceError
-memory_by plan groups headers positions (Ok regions) = first_memory plan headers (base_by plan groups headers positions regions)
-memory_by plan groups headers positions (Err e) = Err e
+abbrev pub memory_by : Plan → List (List InputFile) → ℕ → Result (List (ℕ × ℕ)) PlaceError → Result ℕ PlaceError
+memory_by plan groups headers (Ok regions) = first_memory plan headers (base_by plan groups headers regions)
+memory_by plan groups headers (Err e) = Err e
 
 -- where memory begins: the first refusal of the regions, else what the base gives
-abbrev pub begun_memory : Plan → List (List InputFile) → ℕ → List (Option SymbolPosition) → Result ℕ PlaceError
-begun_memory plan groups headers positions = memory_by plan groups headers positions (regions_of plan.regions)
+abbrev pub begun_memory : Plan → List (List InputFile) → ℕ → Result ℕ PlaceError
+begun_memory plan groups headers = memory_by plan groups headers (regions_of plan.regions)
 
 -- the cursors before the first event, where memory begins here: the file begins at 0, nothing is saved, and no location waits
 abbrev pub first_cursors : ℕ → Cursors
@@ -51,7 +50,7 @@ cursors_at (Err e) = Err e
 
 -- where the walk begins
 abbrev pub start : Setting → Result Cursors PlaceError
-start setting = cursors_at (begun_memory setting.plan setting.groups setting.headers setting.positions)
+start setting = cursors_at (begun_memory setting.plan setting.groups setting.headers)
 
 -- states begin there; where that is refused, there are none
 abbrev pub BeginsAt : Result Cursors PlaceError → List Cursors → Type 0
@@ -61,14 +60,14 @@ BeginsAt (Err e) states = states ≡ []
 -- ---- what the code makes of it
 
 -- what is known before the first event is so
-pub record IsBegun (plan : Plan) (groups : List (List InputFile)) (headers : ℕ) (positions : List (Option SymbolPosition)) (b : Beginning) : Type 0 where
+pub record IsBegun (plan : Plan) (groups : List (List InputFile)) (headers : ℕ) (b : Beginning) : Type 0 where
   pub regions : regions_of plan.regions ≡ Ok b.regions
   pub constants : AreAtHand plan (constants_by groups headers b.regions) b.constants.items
-  pub base : base_by plan groups headers positions b.regions ≡ Ok b.base
-  pub memory : begun_memory plan groups headers positions ≡ Ok b.memory
+  pub base : base_by plan groups headers b.regions ≡ Ok b.base
+  pub memory : begun_memory plan groups headers ≡ Ok b.memory
 
 -- that, or the refusal, or want of memory
-abbrev pub GivesBeginning : Plan → List (List InputFile) → ℕ → List (Option SymbolPosition) → Result Beginning PlaceError → Type 0
-GivesBeginning plan groups headers positions (Ok b) = IsBegun plan groups headers positions b
-GivesBeginning plan groups headers positions (Err NoMemory) = Unit {0}
-GivesBeginning plan groups headers positions (Err e) = begun_memory plan groups headers positions ≡ Err e
+abbrev pub GivesBeginning : Plan → List (List InputFile) → ℕ → Result Beginning PlaceError → Type 0
+GivesBeginning plan groups headers (Ok b) = IsBegun plan groups headers b
+GivesBeginning plan groups headers (Err NoMemory) = Unit {0}
+GivesBeginning plan groups headers (Err e) = begun_memory plan groups headers ≡ Err e

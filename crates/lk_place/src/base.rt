@@ -12,7 +12,9 @@ use crate::error::PlaceError;
 use lk_expressions::{NoValue, SymbolPositions, evaluate_early_expression};
 use lk_link::fault::Place;
 use lk_link::link::LinkInput;
+use lk_link::list::List;
 use lk_link::plan::Plan;
+use std::alloc::Global;
 
 /// The last start of a page from which the headers reach at most to the base; the base where there is none.
 fn page_for_headers(page: u64, headers: u64, base: u64) -> u64
@@ -42,18 +44,19 @@ pub(crate) fn begin_memory(plan: &Plan, headers: u64, base: u64) -> Result<u64, 
     }
 }
 
-/// The value of the plan's base, by the bytes of the headers, origin and length of each region, and constants; nothing is placed yet.
+/// The value of the plan's base, by the bytes of the headers, origin and length of each region, and constants; nothing is placed yet,
+/// so it goes by no places of symbols.
 pub(crate) fn base_value(
+    alloc: Global,
     link: &LinkInput,
     headers: u64,
     regions: &[(u64, u64)],
     constants: &[Option<Result<u64, NoValue>>],
-    positions: &SymbolPositions,
 ) -> Result<u64, NoValue>
     requires shallow { IsShallow link.now.plan.base }
-    ensures { let known = known_first link.now.groups headers regions.now constants.now positions.now
-        in result ≡ expression_value (early_operand known) link.now.plan.base }
+    ensures { result ≡ expression_value (early_operand (known_first link.now.groups headers regions.now constants.now)) link.now.plan.base }
 {
+    let nowhere = SymbolPositions::new(List::new(alloc));
     evaluate_early_expression(
         link,
         &link.plan.base,
@@ -63,7 +66,7 @@ pub(crate) fn base_value(
         constants,
         &[],
         &[],
-        positions,
+        &nowhere,
     )
 }
 
@@ -71,18 +74,18 @@ pub(crate) fn base_value(
 /// each region, `constants` what each symbol is worth that is a constant redirect; nothing is placed yet. Refused where the base has
 /// no value, or is asked for and has no room for the headers below it (libwild: `compute_layout_sections`).
 pub fn first_memory(
+    alloc: Global,
     link: &LinkInput,
     headers: u64,
     regions: &[(u64, u64)],
     constants: &[Option<Result<u64, NoValue>>],
-    positions: &SymbolPositions,
 ) -> Result<u64, PlaceError>
     requires shallow { IsShallow link.now.plan.base }
     requires page { 0 < link.now.plan.page }
-    ensures { let known = known_first link.now.groups headers regions.now constants.now positions.now
+    ensures { let known = known_first link.now.groups headers regions.now constants.now
         in result ≡ first_memory link.now.plan headers (expression_value (early_operand known) link.now.plan.base) }
 {
-    match base_value(link, headers, regions, constants, positions) {
+    match base_value(alloc, link, headers, regions, constants) {
         Ok(base) => begin_memory(&link.plan, headers, base),
         Err(cause) => Err(PlaceError::Expression {
             place: Place::Base,

@@ -14,7 +14,7 @@ ghost use Rattle.lk_place.specs.Start.{GivesBeginning, constants_by};
 use crate::base::{base_value, begin_memory};
 use crate::error::PlaceError;
 use crate::regions::evaluate_regions;
-use lk_expressions::{Constant, SymbolPositions, constant_redirects, names_no_symbol};
+use lk_expressions::{Constant, constant_redirects, names_no_symbol};
 use lk_link::fault::Place;
 use lk_link::link::LinkInput;
 use lk_link::list::List;
@@ -50,21 +50,20 @@ fn asked_constants(
     }
 }
 
-/// Evaluates the regions, the constants and the base, by the bytes of the headers and the places of symbols; or tells the first
-/// refusal: of a region, in their order, else of the base.
+/// Evaluates the regions, the constants and the base, by the bytes of the headers; or tells the first refusal: of a region, in their
+/// order, else of the base.
 pub(crate) fn begin(
     alloc: Global,
     link: &LinkInput,
     headers: u64,
-    positions: &SymbolPositions,
 ) -> Result<Beginning, PlaceError>
     requires well_formed { IsWellFormed link.now }
     requires shallow { AreShallow link.now }
-    ensures { GivesBeginning link.now.plan link.now.groups headers positions.now result }
+    ensures { GivesBeginning link.now.plan link.now.groups headers result }
 {
     let regions = evaluate_regions(alloc, link)?;
     let constants = asked_constants(alloc, link, headers, regions.as_slice())?;
-    let base = match base_value(link, headers, regions.as_slice(), &constants, positions) {
+    let base = match base_value(alloc, link, headers, regions.as_slice(), &constants) {
         Ok(base) => base,
         Err(cause) => {
             return Err(PlaceError::Expression {

@@ -501,7 +501,7 @@ pub fn compute_layout_sections<P: Platform>(
     requires each { length sizes.now ≡ length (all_parts link.now.plan.sections) }
     ensures { GivesPlaced (setting_of link.now (platform_target (P.segment_start platform.now)) sizes.now headers positions.now) result }
 {
-    let beginning = begin(alloc, link, headers, positions)?;
+    let beginning = begin(alloc, link, headers)?;
     let alignments = compute_alignments(alloc, link, sizes)?;
     let mut parts = unplaced(alloc, sizes.len())?;
     let placed_at = events_of_parts(alloc, &link.plan)?;

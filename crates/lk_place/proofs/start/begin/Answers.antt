@@ -16,7 +16,7 @@ begin_memory-requires c = alignment-pos c.args.link.now.plan.page c.requires.wel
 pub returns-in-Err : goal.returns-in-Err
 returns-in-Err c =
     let link = c.args.link.now in
-    memory_given link.plan link.groups c.args.headers c.args.positions.now c.in_ok-regions.regions c.as_slice.result.now c.as_slice-2.result.now
+    memory_given link.plan link.groups c.args.headers c.in_ok-regions.regions c.as_slice.result.now c.as_slice-2.result.now
     c.in_ok-constants.constants.items c.deref.result.now (Err (Expression Base c.in-Err.cause))
     c.in_ok-regions.ensures c.as_slice.ensures c.in_ok-constants.ensures c.as_slice-2.ensures c.deref.ensures.value
     (ap (first_memory link.plan c.args.headers) (sym c.in-Err.is ∙ c.base_value.ensures))
@@ -24,12 +24,12 @@ returns-in-Err c =
 pub returns-in_err-memory : goal.returns-in_err-memory
 returns-in_err-memory c =
     let link = c.args.link.now in
-    let given : begun_memory link.plan link.groups c.args.headers c.args.positions.now ≡ Err c.in_err-memory.field-0.0 =
-    memory_given link.plan link.groups c.args.headers c.args.positions.now c.in_ok-regions.regions c.as_slice.result.now c.as_slice-2.result.now
+    let given : begun_memory link.plan link.groups c.args.headers ≡ Err c.in_err-memory.field-0.0 =
+    memory_given link.plan link.groups c.args.headers c.in_ok-regions.regions c.as_slice.result.now c.as_slice-2.result.now
     c.in_ok-constants.constants.items c.deref.result.now (Err c.in_err-memory.field-0.0)
     c.in_ok-regions.ensures c.as_slice.ensures c.in_ok-constants.ensures c.as_slice-2.ensures c.deref.ensures.value
     (c.in_err-memory.ensures ∙ ap (first_memory link.plan c.args.headers) (sym c.in-Ok.is ∙ c.base_value.ensures)) in
-    begun_refused link.plan link.groups c.args.headers c.args.positions.now c.from_residual-in_err-memory.result c.in_err-memory.field-0.0 c.from_residual-in_err-memory.ensures.1 given
+    begun_refused link.plan link.groups c.args.headers c.from_residual-in_err-memory.result c.in_err-memory.field-0.0 c.from_residual-in_err-memory.ensures.1 given
 
 pub returns : goal.returns
 returns c =
@@ -37,10 +37,10 @@ returns c =
     record {
       regions = sym c.in_ok-regions.ensures;
       constants = λ some. c.in_ok-constants.ensures some ∙ ap (constants_by link.groups c.args.headers) c.as_slice.ensures;
-      base = based link.plan link.groups c.args.headers c.args.positions.now c.in_ok-regions.regions c.as_slice.result.now c.as_slice-2.result.now
+      base = based link.plan link.groups c.args.headers c.in_ok-regions.regions c.as_slice.result.now c.as_slice-2.result.now
           c.in_ok-constants.constants.items c.deref.result.now (Ok c.in-Ok.base)
           c.as_slice.ensures c.in_ok-constants.ensures c.as_slice-2.ensures c.deref.ensures.value (sym c.in-Ok.is ∙ c.base_value.ensures);
-      memory = memory_given link.plan link.groups c.args.headers c.args.positions.now c.in_ok-regions.regions c.as_slice.result.now c.as_slice-2.result.now
+      memory = memory_given link.plan link.groups c.args.headers c.in_ok-regions.regions c.as_slice.result.now c.as_slice-2.result.now
           c.in_ok-constants.constants.items c.deref.result.now (Ok c.in_ok-memory.memory)
           c.in_ok-regions.ensures c.as_slice.ensures c.in_ok-constants.ensures c.as_slice-2.ensures c.deref.ensures.value
           (c.in_ok-memory.ensures ∙ ap (first_memory link.plan c.args.headers) (sym c.in-Ok.is ∙ c.base_value.ensures));
