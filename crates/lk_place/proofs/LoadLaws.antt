@@ -1,6 +1,6 @@
 -- The load address of a section goes by what stands behind it.
-use Rattle.std.proofs.Common.{◌≡◌, ℕ, ◌+◌, ◌-◌, ◌<◌, Bool, true, false, cond, List, [], ◌∷◌, drop, length, map, take, Option, Some, None, refl, sym, ap, ◌∙◌, arith, inl, inr}
-use Rattle.std.specs.Prelude.{◌==◌, if◌then◌else◌, option_map, slice_get, Ok, Err, Result}
+use Rattle.std.proofs.Common.{◌≡◌, ℕ, ◌+◌, ◌-◌, ◌<◌, Bool, true, false, cond, List, [], ◌∷◌, drop, length, map, take, Option, Some, None, refl, sym, ap, ◌∙◌, inl, inr}
+use Rattle.std.specs.Prelude.{◌==◌, option_map, slice_get, Result}
 use Rattle.std.specs.List.{list_any}
 use Rattle.std.proofs.Math.ListN.{get_or-map}
 use Rattle.std.proofs.Math.Path.{fun_ext}
@@ -8,8 +8,6 @@ use Rattle.std.proofs.lemmas.Bool.{cases_Bool}
 use Rattle.std.proofs.lemmas.List.{drop-map, length-map, take-map}
 use Rattle.lk_link.specs.declared.expression.Operand.{Operand}
 use Rattle.lk_link.specs.declared.expression.Operand.TheVariants as operand
-use Rattle.lk_link.specs.declared.plan.OrderEvent.{OrderEvent}
-use Rattle.lk_link.specs.declared.plan.OrderEvent.TheVariants.{Section}
 use Rattle.lk_link.specs.declared.plan.PlanSection.{PlanSection}
 use Rattle.lk_link.specs.declared.symbol.SymbolPlacement.{SymbolPlacement}
 use Rattle.lk_link.specs.declared.symbol.SymbolPlacement.TheVariants as at
@@ -22,11 +20,11 @@ use Rattle.lk_place.specs.declared.error.Refusal.{Refusal}
 use Rattle.lk_expressions.specs.declared.positions.SymbolPosition.{SymbolPosition}
 use Rattle.lk_expressions.specs.Expressions.{Valued, expression_value}
 use Rattle.lk_place.specs.PlacedBefore.{Standing, dot_of, early_known, early_value, is_placing, is_placing_part, lies_in, standing_before}
-use Rattle.lk_place.specs.Placement.{PlacesSection, load_by, load_given, loading, record_by, records_by, section_left, section_start, standing_with}
+use Rattle.lk_place.specs.Placement.{PlacesSection, load_by, loading, record_by, records_by, section_left, section_start, standing_with}
 use Rattle.lk_place.specs.PlacementLaws.{LoadsGoByWhatStands}
 use Rattle.lk_expressions.specs.Records.{Record, file_end, mem_end, nowhere, record_at}
 use Rattle.lk_place.specs.Segments.{greatest, hull, least, part_records}
-use Rattle.lk_place.specs.Setting.{IsReady, Setting, part_count, part_number}
+use Rattle.lk_place.specs.Setting.{IsReady, Setting, part_count}
 use Rattle.lk_expressions.specs.Surroundings.{Early, address_of, early_operand, early_symbol, flat, offset_behind, symbol_value, told}
 use Rattle.lk_place.specs.Walk.{Rewrites, all_written}
 use Rattle.lk_place.proofs.Loading.{standing_behind}

@@ -19,7 +19,7 @@ use Rattle.lk_place.specs.declared.segments.SegmentFileLayout.{SegmentFileLayout
 use Rattle.lk_place.specs.declared.segments.SegmentFileLayout.TheVariants as kind
 use Rattle.lk_place.specs.declared.segments.SegmentLayout.{SegmentLayout}
 use Rattle.lk_place.specs.Alignments.{greatest_of}
-use Rattle.lk_expressions.specs.Records.{Record, file_end, has_file_bytes, is_filled, mem_end, nowhere, record_at}
+use Rattle.lk_expressions.specs.Records.{Record, file_end, has_file_bytes, is_filled, mem_end, record_at}
 use Rattle.lk_place.specs.Setting.{of_parts}
 
 -- ---- hulls

@@ -1,5 +1,5 @@
 -- Where the walk begins, if it does: regions are evaluated first, then constants by them, and then the base.
-use Rattle.std.specs.Prelude.{◌≡◌, ℕ, List, [], None, Some, Option, Result, Ok, Err, slice_get, false}
+use Rattle.std.specs.Prelude.{◌≡◌, ℕ, List, [], None, Some, Option, Result, Ok, Err, slice_get}
 use Rattle.lk_link.specs.declared.file.InputFile.{InputFile}
 use Rattle.lk_link.specs.declared.plan.Plan.{Plan}
 use Rattle.lk_place.specs.declared.cursors.Cursors.{Cursors}

@@ -1,6 +1,6 @@
 -- The placement, computed from front to back. Contracts of private functions speak of it; that it is the placement that
 -- `Placement` defines is proved by lemmas.
-use Rattle.std.specs.Prelude.{◌≡◌, ℕ, zero, suc, ◌+◌, ◌-◌, ◌==◌, Bool, true, ◌<◌, if◌then◌else◌, List, ◌++◌, length, map}
+use Rattle.std.specs.Prelude.{◌≡◌, ℕ, zero, suc, ◌+◌, ◌==◌, true, ◌<◌, if◌then◌else◌, List, ◌++◌, length, map}
 use Rattle.std.specs.Prelude.{slice_get, Option, Some, None, Result, Ok, Err}
 use Rattle.std.specs.List.{enumerate_from, flat_map, slice_index}
 use Rattle.lk_link.specs.declared.plan.OrderEvent.{OrderEvent}

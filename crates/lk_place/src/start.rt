@@ -52,11 +52,7 @@ fn asked_constants(
 
 /// Evaluates the regions, the constants and the base, by the bytes of the headers; or tells the first refusal: of a region, in their
 /// order, else of the base.
-pub(crate) fn begin(
-    alloc: Global,
-    link: &LinkInput,
-    headers: u64,
-) -> Result<Beginning, PlaceError>
+pub(crate) fn begin(alloc: Global, link: &LinkInput, headers: u64) -> Result<Beginning, PlaceError>
     requires well_formed { IsWellFormed link.now }
     requires shallow { AreShallow link.now }
     ensures { GivesBeginning link.now.plan link.now.groups headers result }

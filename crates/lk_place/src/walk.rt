@@ -180,9 +180,7 @@ impl<P: Platform> Walk<'_, P> {
     fn begins_run(&self, section: OutputSectionId, in_run: bool) -> bool
         ensures { result ≡ begins_run (setting_in P.segment_start self.now) in_run section }
     {
-        self.link.plan.is_thread_local(section)
-            && !in_run
-            && !self.link.options.output.is_partial()
+        self.link.plan.is_thread_local(section) && !in_run && !self.link.options.output.is_partial()
     }
 
     /// The first of a run of thread-local sections begins at the greatest alignment of all, but where it took a location.

@@ -1,4 +1,4 @@
-use Rattle.std.proofs.Common.{◌≡◌, ◌∙◌, ℕ, Bool, List, [], ap, arith, drop, length, map}
+use Rattle.std.proofs.Common.{◌≡◌, ◌∙◌, ℕ, List, [], ap, arith, drop, length, map}
 use Rattle.std.specs.Prelude.{filter}
 use Rattle.std.proofs.Math.Seq.{drop-length}
 use Rattle.lk_link.specs.Marks.{is_marked}
