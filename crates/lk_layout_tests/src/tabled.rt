@@ -119,6 +119,71 @@ live 1 0 2 0x1090 9
 entry -
 end
 
+# Headers in front of three sections: 64 bytes and 56, which emit nothing.
+{"plan":{"page":4096,"base":["num",4096],"sections":[{"name":"H","attrs":1,"parts":[[8,false],[4,false]]},{"name":"A","attrs":1,"parts":[[8,false]]},{"name":"B","attrs":1,"parts":[[1,false]]},{"name":"C","attrs":17,"parts":[[16,false]]}],"segments":[{"kind":"load"}],"events":[["seg",0],["sec",0],["sec",1],["sec",2],["sec",3],["endseg",0]],"file_header":0,"program_headers":1},"groups":[[{"kind":"prelude"}],[{"kind":"object","name":"a.o","sections":[{"slot":"must","part":2,"size":8},{"slot":"must","part":3,"size":7},{"slot":"must","part":4,"size":16}]}]]}
+0 layout
+section 0 index - mem 0x1000 120 file 0x0 120 align 8 lma 0x1000 attrs 1
+section 1 index 0 mem 0x1078 8 file 0x78 8 align 8 lma 0x1078 attrs 1
+section 2 index 1 mem 0x1080 7 file 0x80 7 align 1 lma 0x1080 attrs 1
+section 3 index 2 mem 0x1090 16 file 0x87 0 align 16 lma 0x1090 attrs 17
+part 0 mem 0x1000 64 file 0x0 64 align 8
+part 1 mem 0x1040 56 file 0x40 56 align 4
+part 2 mem 0x1078 8 file 0x78 8 align 8
+part 3 mem 0x1080 7 file 0x80 7 align 1
+part 4 mem 0x1090 16 file 0x87 0 align 16
+segment 0 mem 0x1000 160 file 0x0 135 align 16
+live 1 0 0 0x1078 8
+live 1 0 1 0x1080 7
+live 1 0 2 0x1090 16
+entry -
+end
+
+# A section that is never emitted emits the one that it is secondary to.
+{"plan":{"page":16,"sections":[{"attrs":1,"parts":[[1,false]]},{"attrs":1,"parts":[[1,false]],"primary":0,"emit":"never"}],"segments":[{"kind":"load"}],"events":[["seg",0],["sec",0],["sec",1],["endseg",0]]},"groups":[[{"kind":"prelude"}],[{"kind":"object","sections":[{"slot":"must","part":1,"size":4}]}]]}
+0 layout
+section 0 index 0 mem 0x0 0 file 0x0 0 align 1 lma 0x0 attrs 1
+section 1 index - mem 0x0 4 file 0x0 4 align 1 lma 0x0 attrs 1
+part 0 mem 0x0 0 file 0x0 0 align 1
+part 1 mem 0x0 4 file 0x0 4 align 1
+segment 0 mem 0x0 4 file 0x0 4 align 1
+live 1 0 0 0x0 4
+entry -
+end
+
+# A symbol that is downgraded to local stands among the others.
+{"plan":{"page":16,"sections":[{"attrs":0,"parts":[[8,false],[4,false]]},{"attrs":1,"parts":[[1,false]]}],"segments":[{"kind":"load"}],"events":[["seg",0],["sec",0],["sec",1],["endseg",0]],"symtab_local":0,"symtab_global":1},"groups":[[{"kind":"prelude"}],[{"kind":"object","sections":[{"slot":"must","part":2,"size":1}],"symbols":[{"at":["sec",0,0],"name":"x","flags":8}]}]]}
+0 layout
+section 0 index 0 mem 0x0 48 file 0x0 48 align 8 lma 0x0 attrs 0
+section 1 index 1 mem 0x0 1 file 0x30 1 align 1 lma 0x0 attrs 1
+part 0 mem 0x0 24 file 0x0 24 align 8
+part 1 mem 0x18 24 file 0x18 24 align 4
+part 2 mem 0x0 1 file 0x30 1 align 1
+segment 0 mem 0x0 48 file 0x0 49 align 8
+live 1 0 0 0x0 1
+entry -
+end
+
+# The identity alone emits its section.
+{"plan":{"page":16,"sections":[{"attrs":0,"parts":[[1,false]]}],"segments":[],"events":[["sec",0]],"comment":0},"groups":[[{"kind":"prelude"}]],"options":{"identity":"x"}}
+0 layout
+section 0 index 0 mem 0x0 10 file 0x0 10 align 1 lma 0x0 attrs 0
+part 0 mem 0x0 10 file 0x0 10 align 1
+entry -
+end
+
+# A symbol with every flag that is handed in, and every entry that is asked for.
+{"options":{"output":"dynamic"},"plan":{"page":16,"sections":[{"attrs":1,"parts":[[16,false],[8,false],[1,false]]}],"segments":[{"kind":"load"}],"events":[["seg",0],["sec",0],["endseg",0]],"plt":0,"got":1},"groups":[[{"kind":"prelude"}],[{"kind":"object","symbols":[{"at":["sec",0,0],"name":"f","flags":63}],"sections":[{"slot":"must","part":2,"size":4,"relocs":[[0,"PltRelative",0,0,false],[0,"GotTpOff",0,0,false],[0,"TlsGd",0,0,false],[0,"TlsDesc",0,0,false],[0,"Absolute",0,0,false],[0,"SymbolSize",0,0,false]]}]}]]}
+0 layout
+section 0 index 0 mem 0x0 68 file 0x0 68 align 16 lma 0x0 attrs 1
+part 0 mem 0x0 16 file 0x0 16 align 16
+part 1 mem 0x10 48 file 0x10 48 align 8
+part 2 mem 0x40 4 file 0x40 4 align 1
+segment 0 mem 0x0 68 file 0x0 68 align 16
+live 1 0 0 0x40 4
+symbol 0 0x40 8191 got 0x10 plt 0x0 dyn 1
+entry -
+end
+
 # The identity stands behind the image of its part, and emits the section.
 {"options":{"identity":"x"},"plan":{"page":1,"sections":[{"parts":[[1,false]]}],"events":[["sec",0]],"comment":0},"groups":[[{"kind":"prelude"}],[{"kind":"object","sections":[{"slot":"merge","strings":true,"data":"616200"},{"slot":"must","size":2}]}]]}
 0 layout
@@ -150,12 +215,25 @@ fn tables_are_laid_out(rt: HostRuntime) -> Result<(), Fail> {
     expect_reports(&rt, rt.alloc(), TABLED)
 }
 
-/// An empty name that takes the one byte that is too many.
-const OVERFLOWING: &str = r#"
+/// What tables are refused for: an empty name that takes the one byte that is too many; bytes of sections that aren't emitted, and so
+/// stand in no segment; parts that have two names, and entries without a part.
+const REFUSED: &str = r#"
 {"plan":{"page":1,"sections":[{"parts":[[1,false]]},{"parts":[[1,false]]},{"parts":[[1,false]]}],"events":[["sec",0],["sec",1],["sec",2]],"strtab":0},"groups":[[{"kind":"prelude"}],[{"kind":"object","sections":[{"slot":"must","part":1,"size":18446744073709551615},{"slot":"must","part":2,"size":1}]}]]} => 1 address overflow: part 1
+{"plan":{"page":1,"sections":[{"attrs":1,"parts":[[1,false]]}],"strtab":0,"events":[["sec",0]]},"groups":[[{"kind":"prelude"}]]} | {"plan":{"page":1,"sections":[{"attrs":1,"parts":[[1,false]],"emit":"never"}],"events":[["sec",0]],"strtab":0},"groups":[[{"kind":"prelude"}]]} => 1 section 0 is in no segment
+@ {"plan":{"page":1,"sections":[{"attrs":1,"parts":[[8,false],[1,false]]}],"events":[["sec",0]],...},"groups":[[{"kind":"prelude"}]]}
+"strtab":1 | "symtab_local":0 | "file_header":0 => 1 section 0 is in no segment
+"got":1,"plt":1 => 1 bad link: rule 4, part field 1
+"symtab_local":2 => 1 bad link: rule 4, part field 2
+"strtab":1,"comment":1 => 1 bad link: rule 4, part field 11
+# A discarded section may name a part of a table; its relocations want their tables all the same.
+@ {"plan":{"page":1,"sections":[{"parts":[[8,false],[1,false]]}],"events":[["sec",0]],"got":0},"groups":[[{"kind":"prelude"}],[{"kind":"object","symbols":[{"at":["undef"]}],"sections":[{"slot":"discard","part":0,"size":1...]}]]}
+,"relocs":[[9,"PltRelative",77,0,false]]} => 1 bad link: rule 12, input 1 0 0
+},{"slot":"discard","part":0,"relocs":[[9,"PltRelGotBase",77,0,false]]} => 1 bad link: rule 12, input 1 0 1
+},{"slot":"must","part":0} => 1 bad link: rule 11, input 1 0 1
+},{"slot":"must","part":1,"size":18446744073709551615},{"slot":"must","part":1,"size":1} => 1 address overflow: part 1
 "#;
 
 #[test]
-fn tables_count_in_sums(rt: HostRuntime) -> Result<(), Fail> {
-    expect_rows(&rt, rt.alloc(), Asked::Run, OVERFLOWING)
+fn tables_are_refused(rt: HostRuntime) -> Result<(), Fail> {
+    expect_rows(&rt, rt.alloc(), Asked::Run, REFUSED)
 }

@@ -12,6 +12,8 @@ mod made;
 #[cfg(test)]
 mod merging;
 #[cfg(test)]
+mod owned;
+#[cfg(test)]
 mod placed;
 #[cfg(test)]
 mod rows;

@@ -3,6 +3,7 @@
 use crate::expressions::{add_beginning, add_plain, add_values};
 use crate::kept::{add_exports, add_states};
 use crate::merging::{Merging, add_merging};
+use crate::owned::add_owned;
 use crate::sizes::{add_live, add_sizes, add_sums};
 use crate::tables::add_tables;
 use crate::traversal::{add_asks, add_reached};
@@ -21,6 +22,8 @@ pub enum Shown {
     /// What is live, and what that brings to parts and sections.
     Live,
     Sizes,
+    /// Whose the bytes of parts are.
+    Owned,
     /// The bytes of parts, up to the greatest number.
     Sums,
     /// What symbols and headers take in tables.
@@ -48,6 +51,7 @@ pub fn add_shown(
         Shown::Exports => add_exports(line, link),
         Shown::Live => add_live(alloc, line, link),
         Shown::Sizes => add_sizes(alloc, line, link),
+        Shown::Owned => add_owned(alloc, line, link),
         Shown::Sums => add_sums(alloc, line, link),
         Shown::Tables => add_tables(alloc, line, link),
         Shown::Values => add_values(alloc, line, link),

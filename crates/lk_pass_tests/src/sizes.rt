@@ -37,6 +37,21 @@ const SIZES: &str = r#"
 {"plan":{"page":4096,"base":["num",4096],"sections":[{"name":"H","attrs":1,"parts":[[8,false],[4,false]]},{"name":"A","attrs":1,"parts":[[8,false]]},{"name":"B","attrs":1,"parts":[[1,false]]},{"name":"C","attrs":17,"parts":[[16,false]]}],"segments":[{"kind":"load"}],"events":[["seg",0],["sec",0],["sec",1],["sec",2],["sec",3],["endseg",0]],"file_header":0,"program_headers":1},"groups":[[{"kind":"prelude"}],[{"kind":"object","name":"a.o","sections":[{"slot":"must","part":2,"size":8},{"slot":"must","part":3,"size":7},{"slot":"must","part":4,"size":16}]}]]} => parts [PartContents { bytes: 64, has_image: false, attrs: 0 }, PartContents { bytes: 56, has_image: false, attrs: 0 }, PartContents { bytes: 8, has_image: false, attrs: 0 }, PartContents { bytes: 7, has_image: false, attrs: 0 }, PartContents { bytes: 16, has_image: false, attrs: 0 }] attributes [1, 1, 1, 17] sizes [64, 56, 8, 7, 16] images [0, 0, 0, 0] headers ([false, true, true, true], [None, Some(0), Some(1), Some(2)], [SegmentId { number: 0 }])
 {"plan":{"page":16,"sections":[{"attrs":1,"parts":[[8,false]]}],"segments":[{"kind":"load"}],"events":[["seg",0],["sec",0],["endseg",0]],"dynsym":0},"options":{"output":"shared"},"groups":[[{"kind":"prelude","symbols":[{"at":["redirect",["num",1],["none"],false]}]}]]} => parts [PartContents { bytes: 48, has_image: false, attrs: 0 }] attributes [1] sizes [48] images [0] headers ([true], [Some(0)], [SegmentId { number: 0 }])
 {"plan":{"page":16,"sections":[{"attrs":0,"parts":[[1,false]]}],"segments":[],"events":[["sec",0]],"comment":0},"groups":[[{"kind":"prelude"}]],"options":{"identity":"x"}} => parts [PartContents { bytes: 10, has_image: false, attrs: 0 }] attributes [0] sizes [10] images [0] headers ([true], [Some(0)], [])
+# An identity without a text, and one of a megabyte.
+@ {"plan":{"page":1,"sections":[{"parts":[[1,false]]}],"events":[["sec",0]],"comment":0},"groups":[[{"kind":"prelude"}]],"options":{"identity":"..."}}
+ => parts [PartContents { bytes: 9, has_image: false, attrs: 0 }] attributes [0] sizes [9] images [0] headers ([true], [Some(0)], [])
+«1048576 times x» => parts [PartContents { bytes: 1048585, has_image: false, attrs: 0 }] attributes [0] sizes [1048585] images [0] headers ([true], [Some(0)], [])
+# A symbol of the prelude at the start of the second section keeps it where something asks for it and it has a name; then two sections
+# have headers, and names of no bytes.
+@ {"plan":{"page":16,"sections":[{"attrs":1,"parts":[[1,false]]},{"attrs":1,"parts":[[1,false]]},{"parts":[[8,false],[1,false]]}],"segments":[{"kind":"load"}],"events":[["seg",0],["sec",0],["sec",1],["endseg",0],["sec",2]],"section_headers":2,"shstrtab":3},"groups":[[{"kind":"prelude","symbols":[{"at":["start",1]...]}]]}
+,"name":"s"}]}],[{"kind":"object","symbols":[{"at":["undef"],"def":0}],"sections":[{"slot":"must","size":4,"relocs":[[0,"Relative",0,0,false]]} => parts [PartContents { bytes: 4, has_image: false, attrs: 0 }, PartContents { bytes: 0, has_image: false, attrs: 0 }, PartContents { bytes: 128, has_image: false, attrs: 0 }, PartContents { bytes: 2, has_image: false, attrs: 0 }] attributes [1, 1, 0] sizes [4, 0, 128, 2] images [0, 0, 0] headers ([true, true, false], [Some(0), Some(1), None], [SegmentId { number: 0 }])
+}]}],[{"kind":"object","symbols":[{"at":["undef"],"def":0}],"sections":[{"slot":"must","size":4,"relocs":[[0,"Relative",0,0,false]]} | ,"name":"s"}]}],[{"kind":"object","symbols":[{"at":["undef"],"def":0}],"sections":[{"slot":"must","size":4} => parts [PartContents { bytes: 4, has_image: false, attrs: 0 }, PartContents { bytes: 0, has_image: false, attrs: 0 }, PartContents { bytes: 64, has_image: false, attrs: 0 }, PartContents { bytes: 1, has_image: false, attrs: 0 }] attributes [1, 1, 0] sizes [4, 0, 64, 1] images [0, 0, 0] headers ([true, false, false], [Some(0), None, None], [SegmentId { number: 0 }])
+# Tables in sections that aren't emitted: the byte before all names keeps none, and entries none that is never emitted. A discarded
+# section that names a table's part takes nothing of it.
+@ ...
+{"plan":{"page":1,"sections":[{"attrs":1,"parts":[[1,false]]}],"events":[["sec",0]],"strtab":0},"groups":[[{"kind":"prelude"}]]} => parts [PartContents { bytes: 1, has_image: false, attrs: 0 }] attributes [1] sizes [1] images [0] headers ([false], [None], [])
+{"plan":{"page":1,"sections":[{"parts":[[8,false]],"emit":"never"},{"parts":[[1,false]]}],"events":[["sec",0],["sec",1]],"got":0},"groups":[[{"kind":"prelude"}],[{"kind":"object","symbols":[{"at":["abs",1]}],"sections":[{"slot":"must","part":1,"size":1,"relocs":[[0,"Got",0,0,false]]}]}]]} => parts [PartContents { bytes: 8, has_image: false, attrs: 0 }, PartContents { bytes: 1, has_image: false, attrs: 0 }] attributes [0, 0] sizes [8, 1] images [0, 0] headers ([false, true], [None, Some(0)], [])
+{"plan":{"page":1,"sections":[{"parts":[[8,false],[1,false]]}],"events":[["sec",0]],"got":0},"groups":[[{"kind":"prelude"}],[{"kind":"object","symbols":[{"at":["abs",1]}],"sections":[{"slot":"discard","part":0,"size":4,"relocs":[[9,"Got",77,0,false]]},{"slot":"must","part":1,"size":2}]}]]} => parts [PartContents { bytes: 0, has_image: false, attrs: 0 }, PartContents { bytes: 2, has_image: false, attrs: 0 }] attributes [0] sizes [0, 2] images [0] headers ([true], [Some(0)], [])
 "#;
 
 /// The bytes of three parts, which together are at most 2^64 - 1; or the first part at which they pass it.
@@ -69,6 +84,54 @@ const SUMS: &str = r#"
 "shstrtab":0},"groups":[[{"kind":"prelude"}],[{"kind":"object","sections":[{"slot":"must","part":1,"size":18446744073709551614},{"slot":"must","part":2,"size":9223372036854775808},{"slot":"must","part":2,"size":9223372036854775808 => refused AddressOverflow { place: Part(1) }
 "comment":0},"groups":[[{"kind":"prelude"}],[{"kind":"object","sections":[{"slot":"must","part":1,"size":18446744073709551605 => sizes [10, 18446744073709551605, 0]
 "comment":0},"groups":[[{"kind":"prelude"}],[{"kind":"object","sections":[{"slot":"must","part":1,"size":18446744073709551606 => refused AddressOverflow { place: Part(1) }
+# All that one part can hold: the image, the identity, a section and a common.
+"comment":0},"groups":[[{"kind":"prelude"}],[{"kind":"object","symbols":[{"at":["common",0,3]}],"sections":[{"slot":"merge","data":"616263646566"},{"slot":"must","size":18446744073709551596,"relocs":[[0,"Absolute",0,0,false]] => sizes [18446744073709551615, 0, 0]
+"comment":0},"groups":[[{"kind":"prelude"}],[{"kind":"object","symbols":[{"at":["common",0,3]}],"sections":[{"slot":"merge","data":"616263646566"},{"slot":"must","size":18446744073709551597,"relocs":[[0,"Absolute",0,0,false]] => refused AddressOverflow { place: Part(0) }
+# Tables before and behind a section of part 1, with one byte too many. By itself none comes near the end: 16,777,216 symbols take
+# 48 bytes each at most, their names and those of sections 2^31, and 65,279 sections and 64 segments have headers.
+@ {"groups":[[{"kind":"prelude"}],[{"kind":"object","symbols":[{"at":["abs",1],"name":"a"}],"sections":[{"slot":"must","part":1,"size":...,"page":1,"sections":[{"parts":[[1,false]]},{"parts":[[1,false]]},{"parts":[[1,false]]}],"events":[["sec",0],["sec",1],["sec",2]]}}
+18446744073709551607,"relocs":[[0,"Got",0,0,false]]}]}]],"plan":{"got":0 => sizes [8, 18446744073709551607, 0]
+18446744073709551608,"relocs":[[0,"Got",0,0,false]]}]}]],"plan":{"got":0 => refused AddressOverflow { place: Part(1) }
+18446744073709551607,"relocs":[[0,"Got",0,0,false]]}]}]],"plan":{"got":2 => sizes [0, 18446744073709551607, 8]
+18446744073709551608,"relocs":[[0,"Got",0,0,false]]}]}]],"plan":{"got":2 => refused AddressOverflow { place: Part(2) }
+18446744073709551567,"relocs":[[0,"Got",0,0,false],[0,"GotTpOff",0,0,false],[0,"TlsGd",0,0,false],[0,"TlsDesc",0,0,false]]}]}]],"plan":{"got":0 => sizes [48, 18446744073709551567, 0]
+18446744073709551568,"relocs":[[0,"Got",0,0,false],[0,"GotTpOff",0,0,false],[0,"TlsGd",0,0,false],[0,"TlsDesc",0,0,false]]}]}]],"plan":{"got":0 => refused AddressOverflow { place: Part(1) }
+18446744073709551591,"relocs":[[0,"PltRelative",0,0,false]]}]}]],"plan":{"plt":0,"got":2 => sizes [16, 18446744073709551591, 8]
+18446744073709551592,"relocs":[[0,"PltRelative",0,0,false]]}]}]],"plan":{"plt":0,"got":2 => refused AddressOverflow { place: Part(2) }
+18446744073709551591,"relocs":[[0,"PltRelative",0,0,false]]}]}]],"plan":{"got":0,"plt":2 => sizes [8, 18446744073709551591, 16]
+18446744073709551592,"relocs":[[0,"PltRelative",0,0,false]]}]}]],"plan":{"got":0,"plt":2 => refused AddressOverflow { place: Part(2) }
+18446744073709551591}]}]],"plan":{"symtab_local":0 => sizes [24, 18446744073709551591, 0]
+18446744073709551592}]}]],"plan":{"symtab_local":0 => refused AddressOverflow { place: Part(1) }
+18446744073709551591}]}]],"plan":{"symtab_local":2 => sizes [0, 18446744073709551591, 24]
+18446744073709551592}]}]],"plan":{"symtab_local":2 => refused AddressOverflow { place: Part(2) }
+18446744073709551591}]}]],"plan":{"symtab_global":0 => sizes [24, 18446744073709551591, 0]
+18446744073709551592}]}]],"plan":{"symtab_global":0 => refused AddressOverflow { place: Part(1) }
+18446744073709551567}]}]],"plan":{"symtab_local":0,"symtab_global":2 => sizes [24, 18446744073709551567, 24]
+18446744073709551568}]}]],"plan":{"symtab_local":0,"symtab_global":2 => refused AddressOverflow { place: Part(2) }
+18446744073709551612}]}]],"plan":{"strtab":2 => sizes [0, 18446744073709551612, 3]
+18446744073709551613}]}]],"plan":{"strtab":2 => refused AddressOverflow { place: Part(2) }
+18446744073709551551}]}]],"plan":{"file_header":0 => sizes [64, 18446744073709551551, 0]
+18446744073709551552}]}]],"plan":{"file_header":0 => refused AddressOverflow { place: Part(1) }
+18446744073709551551}]}]],"plan":{"file_header":2 => sizes [0, 18446744073709551551, 64]
+18446744073709551552}]}]],"plan":{"file_header":2 => refused AddressOverflow { place: Part(2) }
+18446744073709551551}]}]],"plan":{"section_headers":0 => sizes [64, 18446744073709551551, 0]
+18446744073709551552}]}]],"plan":{"section_headers":0 => refused AddressOverflow { place: Part(1) }
+18446744073709551550}]}]],"plan":{"section_headers":2,"shstrtab":0 => sizes [1, 18446744073709551550, 64]
+18446744073709551551}]}]],"plan":{"section_headers":2,"shstrtab":0 => refused AddressOverflow { place: Part(2) }
+@ {"options":{"output":"shared"},"groups":[[{"kind":"prelude"}],[{"kind":"object","symbols":[{"at":["abs",1],"name":"a"}],"sections":[{"slot":"must","part":1,"size":...,"page":1,"sections":[{"parts":[[1,false]]},{"parts":[[1,false]]},{"parts":[[1,false]]}],"events":[["sec",0],["sec",1],["sec",2]]}}
+18446744073709551567}]}]],"plan":{"dynsym":0 => sizes [48, 18446744073709551567, 0]
+18446744073709551568}]}]],"plan":{"dynsym":0 => refused AddressOverflow { place: Part(1) }
+18446744073709551567}]}]],"plan":{"dynsym":2 => sizes [0, 18446744073709551567, 48]
+18446744073709551568}]}]],"plan":{"dynsym":2 => refused AddressOverflow { place: Part(2) }
+18446744073709551612}]}]],"plan":{"dynstr":2 => sizes [0, 18446744073709551612, 3]
+18446744073709551613}]}]],"plan":{"dynstr":2 => refused AddressOverflow { place: Part(2) }
+18446744073709551564}]}]],"plan":{"dynsym":0,"dynstr":2 => sizes [48, 18446744073709551564, 3]
+18446744073709551565}]}]],"plan":{"dynsym":0,"dynstr":2 => refused AddressOverflow { place: Part(2) }
+@ {"plan":{"page":1,"sections":[{"parts":[[1,false]]},{"parts":[[1,false]]}],"segments":[{"kind":"stack"},{"kind":"load","always":true}],"events":[["seg",0],["sec",0],["endseg",0],["seg",1],["sec",1],["endseg",1]],"program_headers":...}]}]]}
+0},"groups":[[{"kind":"prelude"}],[{"kind":"object","sections":[{"slot":"must","part":1,"size":18446744073709551503 => sizes [112, 18446744073709551503]
+0},"groups":[[{"kind":"prelude"}],[{"kind":"object","sections":[{"slot":"must","part":1,"size":18446744073709551504 => refused AddressOverflow { place: Part(1) }
+1},"groups":[[{"kind":"prelude"}],[{"kind":"object","sections":[{"slot":"must","part":0,"size":18446744073709551503 => sizes [18446744073709551503, 112]
+1},"groups":[[{"kind":"prelude"}],[{"kind":"object","sections":[{"slot":"must","part":0,"size":18446744073709551504 => refused AddressOverflow { place: Part(1) }
 "#;
 
 /// The lengths of the images of the first two output sections, where something is merged there.
