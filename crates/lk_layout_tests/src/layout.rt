@@ -265,8 +265,11 @@ const REFUSED: &str = r#"
 {"plan":{"page":1},"groups":[[],[{"kind":"prelude"}]]} => 1 bad link: rule 9, file 0 0
 {"options":{"stack":7},"plan":{"page":16,"sections":[{"attrs":1,"parts":[[1,false]],"emit":"never"},{"attrs":1,"parts":[[1,false]]}],"segments":[{"kind":"load"}],"events":[["sec",0],["seg",0],["sec",1],["endseg",0]]},"groups":[[{"kind":"prelude"}],[{"kind":"object","sections":[{"slot":"must","size":3},{"slot":"must","part":1,"size":2}]}]]} => 1 section 0 is in no segment
 {"options":{"stack":7},"plan":{"page":16,"sections":[{"attrs":1,"parts":[[8,false]],"emit":"always"}],"segments":[],"events":[["sec",0]]},"groups":[[{"kind":"prelude"}],[{"kind":"object","sections":[]}]]} => 1 section 0 is in no segment
-# One output section too many, the third section of an object out of its part, and the fourth part past the greatest.
+# One output section, region or segment too many, the third section of an object out of its part, and the fourth part past the greatest.
 {"plan":{"page":1,"sections":[«65537 of {}»]}} => 1 too many output sections: 65537, limit 65279
+{"plan":{"page":1,"regions":[«65 of {"origin":["dot"],"length":["dot"]}»]},"groups":[[{"kind":"prelude"}]]} => 1 too many regions: 65, limit 64
+{"plan":{"page":1,"segments":[«65 of {"kind":"load"}»],"regions":[«65 of {"origin":["dot"],"length":["dot"]}»]},"groups":[[{"kind":"prelude"}]]} => 1 too many segments: 65, limit 64
+{"plan":{"page":1,"regions":[«64 of {"origin":["dot"],"length":["dot"]}»]},"groups":[[{"kind":"prelude"}]]} => 1 expression at region 0: no address
 {"plan":{"page":1,"sections":[{"parts":[[1,false]]}],"events":[["sec",0]]},"groups":[[{"kind":"prelude"}],[{"kind":"object","sections":[{"slot":"must"},{"slot":"must"},{"slot":"must","part":1}]}]]} => 1 bad link: rule 11, input 1 0 2
 {"plan":{"page":1,"sections":[{"attrs":1,"parts":[[8,false],[4,false],[2,false],[1,false]]}],"segments":[{"kind":"load"}],"events":[["seg",0],["sec",0],["endseg",0]]},"groups":[[{"kind":"prelude"}],[{"kind":"object","sections":[{"slot":"must","part":3,"size":18446744073709551615},{"slot":"must","part":3,"size":1}]}]]} => 1 address overflow: part 3
 # What is not carried: from the options to the symbols of the prelude,

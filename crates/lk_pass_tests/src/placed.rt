@@ -56,6 +56,11 @@ const SEGMENTS: &str = r#"
 # A segment of secondaries alone has their bytes, and a section without memory inside one counts from 0 on.
 @ ... {"plan":{"page":16,"sections":[{"attrs":1,"parts":[[1,false]]},{"attrs":1,"primary":0,"parts":[[1,false]]},{"parts":[[1,false]]}],"segments":[{"kind":"load"},{"kind":"load"}],"events":[["seg",0],["sec",0],["sec",2],["endseg",0],["seg",1],["sec",1],["endseg",1]]},"groups":[[{"kind":"prelude"}]]}
 4096,4,0,4,1! 4116,4,8,4,1 0,4,4,4,1! => segments 0:0,4100,0,8,1 1:4116,4,8,4,1 tls - segments 0:0,4100,0,8,1 1:4116,4,8,4,1 tls -
+# Load segments nested, and across one another: each spans what is inside it, and in a compacted file begins where the section before
+# its opening ends.
+@ ...},"groups":[[{"kind":"prelude"}]]}
+64,8,0,8,1! 88,4,8,4,4! 128,2,64,2,64! {"plan":{"page":16,"sections":[{"attrs":1,"parts":[[1,false]]},{"attrs":1,"parts":[[4,false]]},{"attrs":1,"parts":[[64,false]]}],"segments":[{"kind":"load"},{"kind":"load"}],"events":[["seg",0],["sec",0],["seg",1],["sec",1],["endseg",1],["sec",2],["endseg",0]] => segments 0:64,66,0,66,64 1:88,4,8,4,4 tls - segments 0:64,66,0,66,64 1:88,4,8,4,4 tls -
+16,8,0,8,1! 72,4,8,4,4! 128,2,64,2,64! {"plan":{"page":16,"sections":[{"attrs":1,"parts":[[1,false]]},{"attrs":1,"parts":[[4,false]]},{"attrs":1,"parts":[[64,false]]}],"segments":[{"kind":"load"},{"kind":"load"}],"events":[["seg",0],["sec",0],["seg",1],["sec",1],["endseg",0],["sec",2],["endseg",1]] => segments 0:16,60,0,12,4 1:72,58,8,58,64 tls - segments 0:16,60,0,12,4 1:72,58,8,58,64 tls -
 # Sections outside all segments, in the order of events: the first that isn't skipped and has memory.
 @ 0,4,0,4,1 4,4,4,4,1 8,0,8,0,1... {"plan":{"page":16,"sections":[{"attrs":1,"parts":[[1,false]]},{"attrs":1,"primary":0,"parts":[[1,false]]},{"attrs":17,"parts":[[1,false]]}],"segments":[{"kind":"other"}],"events":[["sec",2],["seg",0],["sec",0],["endseg",0],["sec",1]]},"groups":[[{"kind":"prelude"}]]}
  => refused SectionOutsideSegments { section: OutputSectionId { number: 1 } } refused SectionOutsideSegments { section: OutputSectionId { number: 1 } }

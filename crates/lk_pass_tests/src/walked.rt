@@ -201,6 +201,129 @@ const LOADS: &str = r#"
 9,0 => refused Expression { place: Section(0), cause: NoAddress }
 "#;
 
+/// Segments that open nested, across one another or around nothing, and where a location waits; and what that does to the file.
+const OPENINGS: &str = r#"
+# Nested; across; the second around nothing or inside no other; both behind all sections. The third section, aligned at 64, counts
+# for the segment that it is inside, and for no other.
+@ 0 8,4,2 {"plan":{"page":16,"base":["num",3],"sections":[{"attrs":1,"parts":[[1,false]]},{"attrs":1,"parts":[[4,false]]},{"attrs":1,"parts":[[64,false]]}],"segments":[{"kind":"load"},{"kind":"load"}],"events":[...]},"groups":[[{"kind":"prelude"}]]}
+["seg",0],["sec",0],["seg",1],["sec",1],["endseg",1],["sec",2],["endseg",0] => parts 64,8,0,8,1 88,4,8,4,4 128,2,64,2,64 sections 64,8,0,8,1 88,4,8,4,4 128,2,64,2,64 counters [3]
+["seg",0],["sec",0],["seg",1],["sec",1],["endseg",0],["sec",2],["endseg",1] | ["seg",1],["endseg",1],["sec",0],["seg",0],["sec",1],["sec",2],["endseg",0] => parts 16,8,0,8,1 72,4,8,4,4 128,2,64,2,64 sections 16,8,0,8,1 72,4,8,4,4 128,2,64,2,64 counters [3]
+["seg",0],["seg",1],["sec",0],["endseg",0],["sec",1],["endseg",1],["sec",2] | ["seg",1],["seg",0],["endseg",0],["sec",0],["sec",1],["endseg",1],["sec",2] => parts 16,8,0,8,1 24,4,8,4,4 64,2,64,2,64 sections 16,8,0,8,1 24,4,8,4,4 64,2,64,2,64 counters [3]
+["sec",2],["sec",1],["sec",0],["seg",1],["seg",0],["endseg",0],["endseg",1] => parts 72,8,8,8,1 68,4,4,4,4 64,2,0,2,64 sections 72,8,8,8,1 68,4,4,4,4 64,2,0,2,64 counters [3]
+# Where a location waits the file goes on to where it is the same modulo 16, as far as there are numbers.
+@ 0 18446744073709551615,0 {"plan":{"page":16,"sections":[{"parts":[[1,false]]},{"attrs":1,"parts":[[1,false]]}],"segments":[{"kind":"load"}],"events":[["sec",0],["addr",["num",...]],["seg",0],["sec",1],["endseg",0]]},"groups":[[{"kind":"prelude"}]]}
+15 => parts 0,18446744073709551615,0,18446744073709551615,1 15,0,18446744073709551615,0,1 sections 0,18446744073709551615,0,18446744073709551615,1 15,0,18446744073709551615,0,1 counters [0]
+18446744073709551615 => parts 0,18446744073709551615,0,18446744073709551615,1 18446744073709551615,0,18446744073709551615,0,1 sections 0,18446744073709551615,0,18446744073709551615,1 18446744073709551615,0,18446744073709551615,0,1 counters [0]
+0 | 14 | 18446744073709551614 => refused AddressOverflow { place: Event(2) }
+# Where none waits memory is rounded up, and goes on by the file modulo 16, which never passes the end.
+@ 0 15,0 {"plan":{"page":16,"base":["num",...],"sections":[{"parts":[[1,false]]},{"attrs":1,"parts":[[1,false]]}],"segments":[{"kind":"load"}],"events":[["sec",0],["seg",0],["sec",1],["endseg",0]]},"groups":[[{"kind":"prelude"}]]}
+18446744073709551600 => parts 0,15,0,15,1 18446744073709551615,0,15,0,1 sections 0,15,0,15,1 18446744073709551615,0,15,0,1 counters [18446744073709551600]
+18446744073709551601 => refused AddressOverflow { place: Event(1) }
+"#;
+
+/// Rows of thread-local sections that others break, and what is saved for them.
+const RUNS: &str = r#"
+# A section with bytes between: of the file and memory, of memory alone, of the file alone; the next row is rounded up anew, and the
+# file with it. A thread-local one breaks nothing.
+@ 0 1,2,3,2,8 {"plan":{"page":16,"sections":[{"attrs":1,"parts":[[1,false]]},{"attrs":9,"parts":[[2,false]]},{"attrs":...,"parts":[[1,false]]},{"attrs":9,"parts":[[2,false]]},{"attrs":25,"parts":[[8,false]]}],"segments":[{"kind":"load"}],"events":[["seg",0],["sec",0],["sec",1],["sec",2],["sec",3],["sec",4],["endseg",0]]},"groups":[[{"kind":"prelude"}]]}
+1 => parts 0,1,0,1,1 8,2,8,2,2 10,3,10,3,1 16,2,16,2,2 24,8,18,0,8 sections 0,1,0,1,1 8,2,8,2,2 10,3,10,3,1 16,2,16,2,2 24,8,18,0,8 counters [0]
+17 => parts 0,1,0,1,1 8,2,8,2,2 10,3,10,0,1 16,2,14,2,2 24,8,16,0,8 sections 0,1,0,1,1 8,2,8,2,2 10,3,10,0,1 16,2,14,2,2 24,8,16,0,8 counters [0]
+0 => parts 0,1,0,1,1 8,2,8,2,2 0,3,10,3,1 16,2,20,2,2 24,8,22,0,8 sections 0,1,0,1,1 8,2,8,2,2 0,3,10,3,1 16,2,20,2,2 24,8,22,0,8 counters [0]
+9 => parts 0,1,0,1,1 8,2,8,2,2 10,3,10,3,1 14,2,14,2,2 16,8,16,0,8 sections 0,1,0,1,1 8,2,8,2,2 10,3,10,3,1 14,2,14,2,2 16,8,16,0,8 counters [0]
+25 => parts 0,1,0,1,1 8,2,8,2,2 10,3,10,0,1 10,2,10,2,2 16,8,12,0,8 sections 0,1,0,1,1 8,2,8,2,2 10,3,10,0,1 10,2,10,2,2 16,8,12,0,8 counters [0]
+# A segment that opens or closes between breaks none.
+@ 0 1,2,8 {"plan":{"page":16,"sections":[{"attrs":1,"parts":[[1,false]]},{"attrs":9,"parts":[[2,false]]},{"attrs":9,"parts":[[8,false]]}],"segments":[{"kind":"load"},{"kind":"other"}],"events":[["seg",0],["sec",0],["sec",1],...,["sec",2]]},"groups":[[{"kind":"prelude"}]]}
+["seg",1],["endseg",1],["endseg",0] | ["endseg",0],["seg",1],["endseg",1] => parts 0,1,0,1,1 8,2,8,2,2 16,8,16,8,8 sections 0,1,0,1,1 8,2,8,2,2 16,8,16,8,8 counters [0]
+# What is rounded up takes the file past its end; not where the row begins with zero-fill data.
+@ 0 ...,0,0 {"plan":{"page":1,"base":["num",1],"sections":[{"parts":[[1,false]]},{"attrs":9,"parts":[[1,false]]},{"attrs":25,"align":64,"parts":[[1,false]]}],"events":[["sec",0],["sec",1],["sec",2]]},"groups":[[{"kind":"prelude"}]]}
+18446744073709551552 => parts 0,18446744073709551552,0,18446744073709551552,1 64,0,18446744073709551615,0,1 64,0,18446744073709551615,0,64 sections 0,18446744073709551552,0,18446744073709551552,1 64,0,18446744073709551615,0,1 64,0,18446744073709551615,0,64 counters [1]
+18446744073709551553 => refused AddressOverflow { place: Event(1) }
+@ 0 18446744073709551615,0,0 {"plan":{"page":1,"base":["num",1],"sections":[{"parts":[[1,false]]},{"attrs":9,"parts":[[1,false]]},{"attrs":25,"align":64,"parts":[[1,false]]}],"events":[["sec",0],["sec",2],["sec",1]]},"groups":[[{"kind":"prelude"}]]}
+ => parts 0,18446744073709551615,0,18446744073709551615,1 1,0,18446744073709551615,0,1 64,0,18446744073709551615,0,64 sections 0,18446744073709551615,0,18446744073709551615,1 1,0,18446744073709551615,0,1 64,0,18446744073709551615,0,64 counters [1]
+# The greatest number is saved and given back; so is one before it, beside the last byte.
+@ 0 ... {"plan":{"page":1,"base":["num",18446744073709551615],"sections":[{"attrs":25,"parts":[[1,false]]},{"attrs":1,"parts":[[1,false]]}],"events":[["sec",0],["sec",1]]},"groups":[[{"kind":"prelude"}]]}
+0,0 => parts 18446744073709551615,0,0,0,1 18446744073709551615,0,0,0,1 sections 18446744073709551615,0,0,0,1 18446744073709551615,0,0,0,1 counters [18446744073709551615]
+1,0 => refused AddressOverflow { place: Event(0) }
+0,1 => refused AddressOverflow { place: Event(1) }
+@ 0 1,1 {"plan":{"page":1,"base":["num",18446744073709551614],"sections":[{"attrs":25,"parts":[[1,false]]},{"attrs":1,"parts":[[1,false]]}],"events":[["sec",0],["sec",1]]},"groups":[[{"kind":"prelude"}]]}
+ => parts 18446744073709551614,1,0,0,1 18446744073709551614,1,0,1,1 sections 18446744073709551614,1,0,0,1 18446744073709551614,1,0,1,1 counters [18446744073709551614]
+"#;
+
+/// Secondary sections, which have memory and bytes of the file where their primaries do, and are thread-local where they are
+/// themselves.
+const SECONDARIES: &str = r#"
+# Of primaries with memory alone, of zero-fill thread-local ones, and of ones without memory.
+@ 0 4,4,4 {"plan":{"page":16,"sections":[{"attrs":...,"parts":[[1,false]],"primary":0},{"attrs":1,"parts":[[1,false]]}],"segments":[{"kind":"load"}],"events":[["seg",0],["sec",0],["sec",1],["sec",2],["endseg",0]]},"groups":[[{"kind":"prelude"}]]}
+17,"parts":[[1,false]]},{"attrs":1 | 17,"parts":[[1,false]]},{"attrs":0 => parts 0,4,0,0,1 4,4,0,0,1 8,4,0,4,1 sections 0,4,0,0,1 4,4,0,0,1 8,4,0,4,1 counters [0]
+25,"parts":[[1,false]]},{"attrs":1 | 25,"parts":[[1,false]]},{"attrs":16 => parts 0,4,0,0,1 0,4,0,0,1 4,4,0,4,1 sections 0,4,0,0,1 0,4,0,0,1 4,4,0,4,1 counters [0]
+25,"parts":[[1,false]]},{"attrs":25 | 25,"parts":[[1,false]]},{"attrs":24 => parts 0,4,0,0,1 4,4,0,0,1 0,4,0,4,1 sections 0,4,0,0,1 4,4,0,0,1 0,4,0,4,1 counters [0]
+24,"parts":[[1,false]]},{"attrs":1 | 16,"parts":[[1,false]]},{"attrs":25 | 16,"parts":[[1,false]]},{"attrs":1 => parts 0,4,0,0,1 0,4,0,0,1 0,4,0,4,1 sections 0,4,0,0,1 0,4,0,0,1 0,4,0,4,1 counters [0]
+0,"parts":[[1,false]]},{"attrs":25 | 0,"parts":[[1,false]]},{"attrs":17 => parts 0,4,0,4,1 0,4,4,4,1 0,4,8,4,1 sections 0,4,0,4,1 0,4,4,4,1 0,4,8,4,1 counters [0]
+# Of primaries with bytes of the file: memory alone takes them too, and zero-fill thread-local data, behind which memory goes back.
+1,"parts":[[1,false]]},{"attrs":0 | 1,"parts":[[1,false]]},{"attrs":16 | 1,"parts":[[1,false]]},{"attrs":17 => parts 0,4,0,4,1 4,4,4,4,1 8,4,8,4,1 sections 0,4,0,4,1 4,4,4,4,1 8,4,8,4,1 counters [0]
+1,"parts":[[1,false]]},{"attrs":25 | 9,"parts":[[1,false]]},{"attrs":25 => parts 0,4,0,4,1 4,4,4,4,1 4,4,8,4,1 sections 0,4,0,4,1 4,4,4,4,1 4,4,8,4,1 counters [0]
+# A location moves one with `top` alone, to and fro; else the file goes along, and not back.
+@ 0 8,4,0 {"plan":{"page":16,"sections":[{"attrs":1,"parts":[[1,false]],"top":true},{"attrs":1,"parts":[[1,false]],"primary":0...},{"attrs":1,"parts":[[1,false]]}],"segments":[{"kind":"load"}],"events":[["seg",0],["sec",0],["addr",["num",2]],["sec",1],["sec",2],["endseg",0]]},"groups":[[{"kind":"prelude"}]]}
+,"top":true => parts 0,8,0,8,1 2,4,8,4,1 6,0,12,0,1 sections 0,8,0,8,1 2,4,8,4,1 6,0,12,0,1 counters [0]
+ | ,"counters":true => refused LocationBackwards { from: 8, to: 2 }
+@ 0 8,4,0 {"plan":{"page":16,"sections":[{"attrs":1,"parts":[[1,false]]},{"attrs":1,"parts":[[1,false]],"primary":0,"top":true},{"attrs":1,"parts":[[1,false]]}],"segments":[{"kind":"load"}],"events":[["seg",0],["sec",0],["addr",["num",...]],["sec",1],["sec",2],["endseg",0]]},"groups":[[{"kind":"prelude"}]]}
+32 => parts 0,8,0,8,1 32,4,8,4,1 36,0,12,0,1 sections 0,8,0,8,1 32,4,8,4,1 36,0,12,0,1 counters [0]
+18446744073709551611 => parts 0,8,0,8,1 18446744073709551611,4,8,4,1 18446744073709551615,0,12,0,1 sections 0,8,0,8,1 18446744073709551611,4,8,4,1 18446744073709551615,0,12,0,1 counters [0]
+18446744073709551612 => refused AddressOverflow { place: Event(3) }
+# On a primary `top` says nothing.
+@ 0 8,4 {"plan":{"page":16,"sections":[{"attrs":1,"parts":[[1,false]]},{"attrs":1,"parts":[[1,false]],"top":true}],"segments":[{"kind":"load"}],"events":[["seg",0],["sec",0],["addr",["num",...]],["sec",1],["endseg",0]]},"groups":[[{"kind":"prelude"}]]}
+2 => refused LocationBackwards { from: 8, to: 2 }
+32 => parts 0,8,0,8,1 32,4,32,4,1 sections 0,8,0,8,1 32,4,32,4,1 counters [0]
+# The start of a section, and so a location of it, is that of its primary.
+@ 0 8,4 {"plan":{"page":16,"base":["num",16],"sections":[{"attrs":17,"parts":[[1,false]]},{"attrs":1,"parts":[[1,false]],"primary":0}],"segments":[{"kind":"load"}],"events":[["seg",0],["sec",0],["locrel",["num",...],1],["sec",1],["endseg",0]]},"groups":[[{"kind":"prelude"}],[{"kind":"script"}]]}
+16 => parts 16,8,0,0,1 16,4,0,0,1 sections 16,8,0,0,1 16,4,0,0,1 counters [16, 16]
+15 => refused LocationBackwards { from: 16, to: 15 }
+"#;
+
+/// Numbers at the end of all: cursors, bounds, headers; and refusals at a first and at a later place.
+const ENDS: &str = r#"
+# The file alone goes up to its end, by sections without memory, and past it; and where it is rounded up.
+@ 0 9223372036854775808,... {"plan":{"page":1,"sections":[{"parts":[[1,false]]},{"parts":[[1,false]]}],"events":[["sec",0],["sec",1]]},"groups":[[{"kind":"prelude"}]]}
+9223372036854775807 => parts 0,9223372036854775808,0,9223372036854775808,1 0,9223372036854775807,9223372036854775808,9223372036854775807,1 sections 0,9223372036854775808,0,9223372036854775808,1 0,9223372036854775807,9223372036854775808,9223372036854775807,1 counters [0]
+9223372036854775808 => refused AddressOverflow { place: Event(1) }
+@ 0 18446744073709551615,0 {"plan":{"page":1,"sections":[{"parts":[[1,false]]},{"attrs":...,"align":2,"parts":[[1,false]]}],"events":[["sec",0],["sec",1]]},"groups":[[{"kind":"prelude"}]]}
+16 | 17 => parts 0,18446744073709551615,0,18446744073709551615,1 0,0,18446744073709551615,0,2 sections 0,18446744073709551615,0,18446744073709551615,1 0,0,18446744073709551615,0,2 counters [0]
+0 | 1 => refused AddressOverflow { place: Event(1) }
+# A location that waits, and the start that it is held against.
+@ 0 0,0 {"plan":{"page":1,"base":["num",18446744073709551615],"sections":[{"attrs":1,"parts":[[1,false]]},{"attrs":1,"parts":[[1,false]]}],"events":[["sec",0],["locrel",["num",...],0],["sec",1]]},"groups":[[{"kind":"prelude"}],[{"kind":"script"}]]}
+18446744073709551615 => parts 18446744073709551615,0,0,0,1 18446744073709551615,0,0,0,1 sections 18446744073709551615,0,0,0,1 18446744073709551615,0,0,0,1 counters [18446744073709551615, 18446744073709551615]
+18446744073709551614 => refused LocationBackwards { from: 18446744073709551615, to: 18446744073709551614 }
+# A location in a region that begins at the last number, whose end is only compared.
+@ 0 0 {"plan":{"page":16,"sections":[{"attrs":1,"region":"r","parts":[[1,false]]}],"segments":[{"kind":"load"}],"regions":[{"name":"r","origin":["num",18446744073709551615],"length":["num",18446744073709551615]}],"events":[["seg",0],["addr",["num",...]],["sec",0],["endseg",0]]},"groups":[[{"kind":"prelude"}]]}
+18446744073709551615 => parts 18446744073709551615,0,0,0,1 sections 18446744073709551615,0,0,0,1 counters [0]
+18446744073709551614 => refused OutsideRegion { event: 2, address: 18446744073709551614 }
+0 => refused OutsideRegion { event: 2, address: 0 }
+# As many bytes of headers as there are numbers.
+@ 18446744073709551615 8 {"plan":{"page":4096,"sections":[{"attrs":1,"parts":[[1,false]]}],"segments":[{"kind":"load"}],"events":[["seg",0],["sec",0],["endseg",0]],"base":...},"groups":[[{"kind":"prelude"}]]}
+["num",18446744073709551615],"custom_base":true | ["headers"],"custom_base":true => parts 0,8,0,8,1 sections 0,8,0,8,1 counters [18446744073709551615]
+["num",18446744073709551614],"custom_base":true => refused BaseTooLow { base: 18446744073709551614, headers: 18446744073709551615 }
+["num",18446744073709551614],"phdrs_headers":true => refused AddressOverflow { place: Event(0) }
+["num",4094],"phdrs_headers":true => parts 4096,8,0,8,1 sections 4096,8,0,8,1 counters [4094]
+["add",["headers"],["num",1]] => refused Expression { place: Base, cause: Overflow }
+["div",["headers"],["sub",["headers"],["headers"]]] => refused Expression { place: Base, cause: DivideByZero }
+# Locations that go back, at the first section and at a later one, and behind all; expressions of the first event and of the last.
+@ 0 8,4 {"plan":{"page":16,"base":["num",64],"sections":[{"attrs":1,"parts":[[1,false]]},{"attrs":1,"parts":[[1,false]]}],"events":[...]},"groups":[[{"kind":"prelude"}],[{"kind":"script"}]]}
+["addr",["num",63]],["sec",0],["sec",1] => refused LocationBackwards { from: 64, to: 63 }
+["sec",0],["addr",["num",80]],["sec",1],["locrel",["num",79],1] => refused LocationBackwards { from: 80, to: 79 }
+["sec",0],["locrel",["num",63],0],["addr",["div",["num",1],["num",0]]],["sec",1] => refused LocationBackwards { from: 64, to: 63 }
+["loc",["div",["num",1],["num",0]]],["sec",0],["sec",1] => refused Expression { place: Event(0), cause: DivideByZero }
+["sec",0],["sec",1],["locrel",["sub",["addr",0],["addr",1]],0] => refused Expression { place: Event(2), cause: Overflow }
+["sec",1],["addr",["add",["addr",1],["sizeof",1]]],["sec",0],["addr",["addr",0]] => parts 68,8,4,8,1 64,4,0,4,1 sections 68,8,4,8,1 64,4,0,4,1 counters [64]
+"#;
+
+/// As many regions as there may be: a section in the first, two in the last, which has room for 2 bytes.
+const MOST_REGIONS: &str = r#"
+@ 0 ... {"plan":{"page":16,"sections":[{"attrs":1,"region":"00","parts":[[1,false]]},{"attrs":1,"region":"63","parts":[[1,false]]},{"attrs":1,"region":"63","parts":[[1,false]]}],"segments":[{"kind":"load"}],"events":[["seg",0],["sec",0],["sec",1],["sec",2],["endseg",0]],"regions":[{"name":"00","origin":["num",16],"length":["num",2]},{"name":"01","origin":["num",32],"length":["num",2]},{"name":"02","origin":["num",48],"length":["num",2]},{"name":"03","origin":["num",64],"length":["num",2]},{"name":"04","origin":["num",80],"length":["num",2]},{"name":"05","origin":["num",96],"length":["num",2]},{"name":"06","origin":["num",112],"length":["num",2]},{"name":"07","origin":["num",128],"length":["num",2]},{"name":"08","origin":["num",144],"length":["num",2]},{"name":"09","origin":["num",160],"length":["num",2]},{"name":"10","origin":["num",176],"length":["num",2]},{"name":"11","origin":["num",192],"length":["num",2]},{"name":"12","origin":["num",208],"length":["num",2]},{"name":"13","origin":["num",224],"length":["num",2]},{"name":"14","origin":["num",240],"length":["num",2]},{"name":"15","origin":["num",256],"length":["num",2]},{"name":"16","origin":["num",272],"length":["num",2]},{"name":"17","origin":["num",288],"length":["num",2]},{"name":"18","origin":["num",304],"length":["num",2]},{"name":"19","origin":["num",320],"length":["num",2]},{"name":"20","origin":["num",336],"length":["num",2]},{"name":"21","origin":["num",352],"length":["num",2]},{"name":"22","origin":["num",368],"length":["num",2]},{"name":"23","origin":["num",384],"length":["num",2]},{"name":"24","origin":["num",400],"length":["num",2]},{"name":"25","origin":["num",416],"length":["num",2]},{"name":"26","origin":["num",432],"length":["num",2]},{"name":"27","origin":["num",448],"length":["num",2]},{"name":"28","origin":["num",464],"length":["num",2]},{"name":"29","origin":["num",480],"length":["num",2]},{"name":"30","origin":["num",496],"length":["num",2]},{"name":"31","origin":["num",512],"length":["num",2]},{"name":"32","origin":["num",528],"length":["num",2]},{"name":"33","origin":["num",544],"length":["num",2]},{"name":"34","origin":["num",560],"length":["num",2]},{"name":"35","origin":["num",576],"length":["num",2]},{"name":"36","origin":["num",592],"length":["num",2]},{"name":"37","origin":["num",608],"length":["num",2]},{"name":"38","origin":["num",624],"length":["num",2]},{"name":"39","origin":["num",640],"length":["num",2]},{"name":"40","origin":["num",656],"length":["num",2]},{"name":"41","origin":["num",672],"length":["num",2]},{"name":"42","origin":["num",688],"length":["num",2]},{"name":"43","origin":["num",704],"length":["num",2]},{"name":"44","origin":["num",720],"length":["num",2]},{"name":"45","origin":["num",736],"length":["num",2]},{"name":"46","origin":["num",752],"length":["num",2]},{"name":"47","origin":["num",768],"length":["num",2]},{"name":"48","origin":["num",784],"length":["num",2]},{"name":"49","origin":["num",800],"length":["num",2]},{"name":"50","origin":["num",816],"length":["num",2]},{"name":"51","origin":["num",832],"length":["num",2]},{"name":"52","origin":["num",848],"length":["num",2]},{"name":"53","origin":["num",864],"length":["num",2]},{"name":"54","origin":["num",880],"length":["num",2]},{"name":"55","origin":["num",896],"length":["num",2]},{"name":"56","origin":["num",912],"length":["num",2]},{"name":"57","origin":["num",928],"length":["num",2]},{"name":"58","origin":["num",944],"length":["num",2]},{"name":"59","origin":["num",960],"length":["num",2]},{"name":"60","origin":["num",976],"length":["num",2]},{"name":"61","origin":["num",992],"length":["num",2]},{"name":"62","origin":["num",1008],"length":["num",2]},{"name":"63","origin":["num",1024],"length":["num",2]}]},"groups":[[{"kind":"prelude"}]]}
+2,1,1 => parts 16,2,0,2,1 1024,1,2,1,1 1025,1,3,1,1 sections 16,2,0,2,1 1024,1,2,1,1 1025,1,3,1,1 counters [0]
+2,1,2 => refused RegionOverflow { region: RegionId { number: 63 }, by: 1 }
+3,1,1 => refused RegionOverflow { region: RegionId { number: 0 }, by: 1 }
+"#;
+
 /// The place of a symbol that a word tells.
 fn position_of(word: &str) -> Option<SymbolPosition> {
     let (part, offset) = word.split_once(':')?;
@@ -323,4 +446,29 @@ fn regions_hold_their_sections(rt: HostRuntime) -> Result<(), Fail> {
 #[test]
 fn sections_stand_behind_one_another(rt: HostRuntime) -> Result<(), Fail> {
     expect_rows(&rt, rt.alloc(), Asked::Walked, WALKS)
+}
+
+#[test]
+fn load_segments_open_nested_and_across(rt: HostRuntime) -> Result<(), Fail> {
+    expect_rows(&rt, rt.alloc(), Asked::Walked, OPENINGS)
+}
+
+#[test]
+fn thread_local_rows_are_rounded_up_anew(rt: HostRuntime) -> Result<(), Fail> {
+    expect_rows(&rt, rt.alloc(), Asked::Walked, RUNS)
+}
+
+#[test]
+fn secondaries_go_by_their_primaries(rt: HostRuntime) -> Result<(), Fail> {
+    expect_rows(&rt, rt.alloc(), Asked::Walked, SECONDARIES)
+}
+
+#[test]
+fn numbers_go_to_their_end_and_not_past_it(rt: HostRuntime) -> Result<(), Fail> {
+    expect_rows(&rt, rt.alloc(), Asked::Walked, ENDS)
+}
+
+#[test]
+fn the_last_region_holds_its_sections(rt: HostRuntime) -> Result<(), Fail> {
+    expect_rows(&rt, rt.alloc(), Asked::Walked, MOST_REGIONS)
 }
