@@ -13,6 +13,7 @@ ghost use Rattle.lk_sizes.specs.Addresses.{section_addresses};
 ghost use Rattle.lk_sizes.specs.Contents.{part_contents};
 ghost use Rattle.lk_sizes.specs.PartOwners.{part_size};
 ghost use Rattle.lk_sizes.specs.Header.{header_info};
+ghost use Rattle.lk_tables.specs.Commons.{all_commons};
 ghost use Rattle.lk_tables.specs.DynamicCounters.{AreNumbersAt};
 ghost use Rattle.lk_layout.specs.OutputContent.{output_content};
 ghost use Rattle.lk_layout.specs.Defined.{starts_of};
@@ -29,7 +30,7 @@ use lk_link::{LinkInput, Platform};
 use lk_merge::MergedStringStartAddresses;
 use lk_place::OutputRecordLayout;
 use lk_sizes::{OwnerAddresses, PartContents, image_addresses, owner_addresses};
-use lk_tables::DynamicNumbers;
+use lk_tables::{Common, DynamicNumbers};
 use std::alloc::{AllocError, Global};
 
 /// The addresses of a layout.
@@ -59,6 +60,7 @@ pub(crate) fn addresses_of<P: Platform>(
     link: &LinkInput,
     live: &Live,
     images: &Images<'_>,
+    listed: &[Common],
     contents: &[PartContents],
     parts: &[OutputRecordLayout],
     entries: Entries<'_>,
@@ -67,6 +69,7 @@ pub(crate) fn addresses_of<P: Platform>(
     requires good { IsWellFormed link.now }
     requires live { AreLive link.now live.now }
     requires images { AreImages link.now images.now }
+    requires commons { listed.now ≡ all_commons link.now live.now }
     requires contents { contents.now ≡ part_contents link.now (output_content (P.table_sizes platform.now) link.now live.now) }
     requires told { entries.told.now ≡ (header_info link.now (output_content (P.table_sizes platform.now) link.now live.now)).emitted }
     requires numbers { AreNumbersAt link.now live.now entries.told.now 0 entries.numbers }
@@ -81,7 +84,8 @@ pub(crate) fn addresses_of<P: Platform>(
     ensures resolutions { IfOk result (λ told. told.resolutions ≡ symbol_resolutions (P.table_sizes platform.now) link.now live.now (starts_of parts.now)) }
 {
     let starts = starts_of(alloc, parts)?;
-    let owners = owner_addresses(alloc, link, live, &images.lens, contents, &starts)?;
+    let lens = &images.lens;
+    let owners = owner_addresses(alloc, link, live, lens, listed, contents, &starts)?;
     let OwnerAddresses { sections, commons } = owners;
     let places = image_addresses(alloc, link, contents, &starts)?;
     let merged = images.sections.as_slice();

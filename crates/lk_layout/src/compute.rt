@@ -17,6 +17,7 @@ ghost use Rattle.lk_sizes.specs.Emitted.{is_emitted};
 ghost use Rattle.lk_sizes.specs.Header.{header_info};
 ghost use Rattle.lk_sizes.specs.Sizing.{GivesOwners};
 ghost use Rattle.lk_sizes.specs.PartOwners.{part_size};
+ghost use Rattle.lk_tables.specs.Commons.{all_commons};
 ghost use Rattle.lk_tables.specs.DynamicCounters.{AreNumbersAt};
 ghost use Rattle.lk_layout.specs.OutputContent.{output_content};
 ghost use Rattle.lk_layout.specs.Carried.{IsCarried};
@@ -47,7 +48,7 @@ use lk_place::{
 };
 use lk_sizes::part_owners::owners;
 use lk_sizes::{HeaderInfo, PartContents, PartOwners, part_sizes, propagate_section_attributes};
-use lk_tables::DynamicNumbers;
+use lk_tables::{Common, DynamicNumbers};
 use std::alloc::Global;
 use std::sync::Wait;
 use std::thread::Threads;
@@ -140,14 +141,18 @@ fn lay_out_sized<'data, P: Platform>(
     let headers = header_bytes(link, platform, &header);
     let shares = sized.shares;
     let first = shares.as_slice();
-    let numbers = DynamicNumbers::new(first, sized.prelude);
+    let numbers = DynamicNumbers::new(link, first, sized.prelude);
     let parts = contents.as_slice();
-    let positions = asked_positions(alloc, link, &live, &images, parts, &sizes, platform)?;
+    let listed = sized.commons;
+    let commons = listed.as_slice();
+    let positions = asked_positions(
+        alloc, link, &live, &images, commons, parts, &sizes, platform,
+    )?;
     let placed = compute_layout_sections(alloc, link, &sizes, &positions, headers, platform)?;
     // A law, which does nothing: the parts end where their owners do.
     parts_take_their_bytes();
     lay_out_placed(
-        alloc, link, images, live, parts, header, placed, numbers, platform,
+        alloc, link, images, live, commons, parts, header, placed, numbers, platform,
     )
 }
 
@@ -159,6 +164,7 @@ fn lay_out_placed<'data, P: Platform>(
     link: &'data LinkInput,
     images: Images<'data>,
     live: Live,
+    commons: &[Common],
     contents: &[PartContents],
     header: HeaderInfo,
     placed: Placed,
@@ -168,6 +174,7 @@ fn lay_out_placed<'data, P: Platform>(
     requires good { IsWellFormed link.now }
     requires images { AreImages link.now images }
     requires live { AreLive link.now live }
+    requires commons { commons.now ≡ all_commons link.now live }
     requires contents { contents.now ≡ part_contents link.now (output_content (P.table_sizes platform.now) link.now live) }
     requires header { header ≡ header_info link.now (output_content (P.table_sizes platform.now) link.now live) }
     requires marks { is_marked header.emitted ≡ is_emitted link.now (output_content (P.table_sizes platform.now) link.now live) }
@@ -192,7 +199,7 @@ fn lay_out_placed<'data, P: Platform>(
     let told = header.emitted.as_slice();
     let entries = Entries { told, numbers };
     let addresses = addresses_of(
-        alloc, link, &live, &images, contents, parts, entries, platform,
+        alloc, link, &live, &images, commons, contents, parts, entries, platform,
     )?;
     check_offsets(link, &live, images.sections.as_slice())?;
     Ok(Layout {

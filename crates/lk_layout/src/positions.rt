@@ -15,6 +15,7 @@ ghost use Rattle.lk_link.specs.WellFormed.{IsWellFormed};
 ghost use Rattle.lk_sizes.specs.Addresses.{section_addresses};
 ghost use Rattle.lk_sizes.specs.Contents.{part_contents};
 ghost use Rattle.lk_sizes.specs.PartOwners.{part_sizes};
+ghost use Rattle.lk_tables.specs.Commons.{all_commons};
 ghost use Rattle.lk_layout.specs.Merging.{AreImages};
 ghost use Rattle.lk_layout.specs.OutputContent.{output_content};
 ghost use Rattle.lk_layout.specs.Positions.{asked_positions, asks_for_symbols, file_positions, is_symbol_token, loads_by_symbol, moves_by_symbol};
@@ -30,6 +31,7 @@ use lk_link::plan::{OrderEvent, Plan, PlanSection};
 use lk_link::{FileRef, InputSection, InputSymbol, LinkInput, Platform, SymbolPlacement};
 use lk_place::{SymbolPosition, SymbolPositions};
 use lk_sizes::{PartContents, owner_addresses};
+use lk_tables::Common;
 use std::alloc::{AllocError, Global};
 
 /// The places of symbols in parts, if an expression of the plan asks for one; else none is told, which takes no memory.
@@ -38,6 +40,7 @@ pub(crate) fn asked_positions<P: Platform>(
     link: &LinkInput,
     live: &Live,
     images: &Images<'_>,
+    commons: &[Common],
     contents: &[PartContents],
     sizes: &[u64],
     platform: &P,
@@ -45,12 +48,15 @@ pub(crate) fn asked_positions<P: Platform>(
     requires good { IsWellFormed link.now }
     requires live { AreLive link.now live.now }
     requires images { AreImages link.now images.now }
+    requires commons { commons.now ≡ all_commons link.now live.now }
     requires contents { contents.now ≡ part_contents link.now (output_content (P.table_sizes platform.now) link.now live.now) }
     requires sizes { sizes.now ≡ part_sizes link.now (output_content (P.table_sizes platform.now) link.now live.now) }
     ensures { IfOk result (λ positions. positions ≡ asked_positions link.now (output_content (P.table_sizes platform.now) link.now live.now)) }
 {
     if asks_for_symbols(&link.plan) {
-        symbol_positions(alloc, link, live, images, contents, sizes, platform)
+        symbol_positions(
+            alloc, link, live, images, commons, contents, sizes, platform,
+        )
     } else {
         Ok(SymbolPositions::new(List::new(alloc)))
     }
@@ -63,6 +69,7 @@ fn symbol_positions<P: Platform>(
     link: &LinkInput,
     live: &Live,
     images: &Images<'_>,
+    commons: &[Common],
     contents: &[PartContents],
     sizes: &[u64],
     platform: &P,
@@ -70,12 +77,14 @@ fn symbol_positions<P: Platform>(
     requires good { IsWellFormed link.now }
     requires live { AreLive link.now live.now }
     requires images { AreImages link.now images.now }
+    requires commons { commons.now ≡ all_commons link.now live.now }
     requires contents { contents.now ≡ part_contents link.now (output_content (P.table_sizes platform.now) link.now live.now) }
     requires sizes { sizes.now ≡ part_sizes link.now (output_content (P.table_sizes platform.now) link.now live.now) }
     ensures { IfOk result (λ positions. positions ≡ symbol_positions link.now (output_content (P.table_sizes platform.now) link.now live.now)) }
 {
     let starts = no_starts(alloc, sizes)?;
-    let owners = owner_addresses(alloc, link, live, &images.lens, contents, &starts)?;
+    let lens = &images.lens;
+    let owners = owner_addresses(alloc, link, live, lens, commons, contents, &starts)?;
     let offsets = owners.sections.as_slice();
     let count = link.groups.symbol_count() as usize;
     let mut positions = Vec::with_capacity(alloc, count)?;

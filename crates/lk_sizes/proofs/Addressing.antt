@@ -20,7 +20,7 @@ use Rattle.lk_gc.specs.declared.live.Live.{Live}
 use Rattle.lk_gc.specs.Reach.{live_inputs, marked}
 use Rattle.lk_reach.proofs.LiveWalk.{split_at}
 use Rattle.lk_reach.proofs.Numbered.{file_of_input, one_place, sections_of}
-use Rattle.lk_sizes.specs.declared.commons.Common.{Common}
+use Rattle.lk_tables.specs.declared.commons.Common.{Common}
 use Rattle.lk_sizes.specs.Owners.{CommonOwner, Content, EntryOwner, IdentityOwner, ImageOwner, Owner, SectionOwner, Taker, bytes_of, common_taker, commons_of, file_takers, has_image, identity_of, identity_size, images_of, leading_of, live_of, owner_address, owner_bytes, owners_in, section_taker, takers}
 use Rattle.lk_sizes.specs.PartOwners.{LiveSectionsAreOwners, live_address, owners_of, owns, tables_of}
 use Rattle.lk_tables.specs.TableLists.{table_of}

@@ -8,7 +8,7 @@ use Rattle.lk_link.specs.declared.link.LinkInput.{LinkInput}
 use Rattle.lk_link.proofs.Elements.{at_index}
 use Rattle.lk_link.specs.Parts.{part_at}
 use Rattle.lk_link.specs.Sizes.{capacity}
-use Rattle.lk_sizes.specs.declared.commons.Common.{Common}
+use Rattle.lk_tables.specs.declared.commons.Common.{Common}
 use Rattle.lk_sizes.specs.declared.owners.PartTotal.{PartTotal}
 use Rattle.lk_sizes.specs.Owners.{common_taker}
 use Rattle.lk_sizes.specs.Tables.{AreAdded, bytes_in, commons_size}

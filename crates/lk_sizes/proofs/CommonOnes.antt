@@ -1,11 +1,13 @@
 -- The commons of a link: each stands once, in the order of symbols, among the owners of its part.
-use Rattle.std.proofs.Common.{◌≡◌, ℕ, zero, suc, ◌+◌, ◌<◌, ◌≤◌, ◌==◌, true, false, List, [], ◌∷◌, ◌++◌, length, map, take, Option, Some, None, refl, sym, ap, ◌∙◌, subst, arith}
-use Rattle.std.specs.Prelude.{if◌then◌else◌}
-use Rattle.std.specs.List.{AllByRecursion, cons_option, enumerate_from, filter_map, flat_map, slice_get}
-use Rattle.std.proofs.lemmas.Bool.{eqb-true, false_from_ne_true}
+use Rattle.std.proofs.Common.{◌≡◌, ℕ, zero, suc, ◌+◌, ◌<◌, ◌≤◌, ◌==◌, true, false, List, [], ◌∷◌, ◌++◌, length, map, take, Option, Some, None, get_or, length-append, refl, sym, ap, ◌∙◌, subst, arith, append_assoc}
+use Rattle.std.specs.Prelude.{Bool, cond, if◌then◌else◌, nat_le, nat_lt, position, unwrap_or}
+use Rattle.std.specs.List.{AllByRecursion, cons_option, enumerate_from, filter_map, flat_map, position_or_len, slice_get}
+use Rattle.std.proofs.Math.Seq.{get_or-append_seam}
+use Rattle.std.proofs.lemmas.Bool.{eqb-true, false_from_ne_true, le-leb, lt-leb, ltb-false}
+use Rattle.std.proofs.lemmas.List.Quantifiers.{position-Some}
 use Rattle.std.proofs.lemmas.Grind.{flat_map-append}
-use Rattle.std.proofs.lemmas.List.{append-nil, map-append, take_more}
-use Rattle.std.proofs.lemmas.List.Sums.{sum_by_more}
+use Rattle.std.proofs.lemmas.List.{append-nil, append_cancel_left, get_or_append_left, map-append, take_more}
+use Rattle.std.proofs.lemmas.List.Sums.{position_or_len_is, sum_by_more}
 use Rattle.std.proofs.lemmas.Option.{get_or_from_slice_get, slice_get_within}
 use Rattle.lk_link.specs.declared.file.FileKind.{FileKind}
 use Rattle.lk_link.specs.declared.file.InputFile.{InputFile}
@@ -13,25 +15,28 @@ use Rattle.lk_link.specs.declared.link.LinkInput.{LinkInput}
 use Rattle.lk_link.specs.declared.symbol.InputSymbol.{InputSymbol}
 use Rattle.lk_link.specs.declared.symbol.SymbolPlacement.{SymbolPlacement}
 use Rattle.lk_link.specs.declared.symbol.SymbolPlacement.TheVariants as at
+use Rattle.lk_link.specs.declared.walks.FileRef.{FileRef}
 use Rattle.lk_link.specs.Files.{file_in}
 use Rattle.lk_link.specs.Inputs.{Input, NumberedFile, numbered_files}
 use Rattle.lk_link.specs.Symbols.{all_files, file_number, first_symbol, symbols_before, symbols_in}
-use Rattle.lk_link.proofs.Elements.{append_right, at_index, flat_map_in, map_in, numbered_at}
+use Rattle.lk_link.proofs.Elements.{append_right, at_index, flat_map_at, flat_map_in, map_in, numbered_at}
 use Rattle.lk_link.specs.PartRules.{is_table_part}
 use Rattle.lk_link.specs.Parts.{all_parts}
 use Rattle.lk_link.specs.SymbolRules.{IsPlacementThere}
+use Rattle.lk_link.specs.Walks.{file_of}
 use Rattle.lk_link.specs.WellFormed.{IsWellFormed}
 use Rattle.lk_link.proofs.GoodSymbols.{symbol_of as symbols_are_good}
 use Rattle.lk_link.proofs.InputLemmas.{file_stands, files_from_are, numbered_get}
 use Rattle.lk_gc.specs.declared.live.Live.{Live}
 use Rattle.lk_reach.proofs.Numbered.{file_at}
-use Rattle.lk_sizes.specs.declared.commons.Common.{Common}
+use Rattle.lk_reach.proofs.WalkLemmas.{one_file_more}
+use Rattle.lk_tables.specs.declared.commons.Common.{Common}
 use Rattle.lk_sizes.specs.Addresses.{CommonsRise}
 use Rattle.lk_tables.specs.Copied.{is_wanted}
 use Rattle.lk_tables.specs.Late.{flags_at}
 use Rattle.lk_sizes.specs.Owners.{CommonOwner, Content, EntryOwner, IdentityOwner, ImageOwner, IsCommonIn, Owner, SectionOwner, Taker, all_commons, common_at, common_of, common_taker, commons_of, file_takers, live_of, section_taker, takers}
 use Rattle.lk_sizes.specs.PartOwners.{CommonsAreOwners, common_address, is_common_of}
-use Rattle.lk_sizes.specs.Tables.{behind_leading, bytes_in}
+use Rattle.lk_sizes.specs.Tables.{AreLeft, CommonsGo, behind_leading, bytes_in, reach_from}
 use Rattle.lk_sizes.proofs.Addressing.{IsAmong, NonePass, StandsBehind, address_behind, all_parted, among, same_number, stands_behind, stands_there}
 
 -- ---- numbers that rise
@@ -49,6 +54,10 @@ rising_joined : (low middle high : ℕ) (xs ys : List ℕ) → IsRising low xs m
 rising_joined low middle high [] ys h i = rising_lower middle low ys high h i
 rising_joined low middle high (x ∷ xs) ys h i = (h.0, rising_joined (x + 1) middle high xs ys h.1 i)
 
+rising_ends : (low high : ℕ) (xs : List ℕ) → IsRising low xs high → low ≤ high
+rising_ends low high [] h = h
+rising_ends low high (x ∷ xs) h = omega (arith, h.0, rising_ends (x + 1) high xs h.1)
+
 rising_above : (low high : ℕ) (xs : List ℕ) (y : ℕ) (ys : List ℕ) → IsRising low (xs ++ y ∷ ys) high → low ≤ y
 rising_above low high [] y ys h = h.0
 rising_above low high (x ∷ xs) y ys h = omega (arith, h.0, rising_above (x + 1) high xs y ys h.1)
@@ -57,6 +66,11 @@ rising_above low high (x ∷ xs) y ys h = omega (arith, h.0, rising_above (x + 1
 rising_front : (low high : ℕ) (xs : List ℕ) (y : ℕ) (ys : List ℕ) → IsRising low (xs ++ y ∷ ys) high → AllByRecursion (λ x. x < y) xs
 rising_front low high [] y ys h = tt
 rising_front low high (x ∷ xs) y ys h = (omega (arith, rising_above (x + 1) high xs y ys h.1), rising_front (x + 1) high xs y ys h.1)
+
+rising_below : (low high : ℕ) (xs : List ℕ) (k y : ℕ) → IsRising low xs high → slice_get xs k ≡ Some y → y < high
+rising_below low high [] k y h there = absurd (cc)
+rising_below low high (x ∷ xs) zero y h there = let same : x ≡ y = cc in omega (arith, same, rising_ends (x + 1) high xs h.1)
+rising_below low high (x ∷ xs) (suc k) y h there = rising_below (x + 1) high xs k y h.1 there
 
 rising_at : (low high : ℕ) (xs : List ℕ) (k y : ℕ) → IsRising low xs high → slice_get xs k ≡ Some y → low ≤ y
 rising_at low high [] k y h there = absurd (cc)
@@ -126,6 +140,14 @@ place_is_number link k f h =
     let there = file_at link.groups (file_number link.groups f.id) (record { id = f.id; file = f.file }) (file_stands link.groups f.id f.file here.there) in
     here.place ∙ sym there.place
 
+-- the symbols before the next file
+file_more : (link : LinkInput) (k : ℕ) (f : NumberedFile) → slice_get (numbered_files link.groups) k ≡ Some f
+    → symbols_before (k + 1) (all_files link.groups) ≡ symbols_before k (all_files link.groups) + length f.file.symbols
+file_more link k f at =
+    let all : List InputFile = all_files link.groups in
+    let in_all : slice_get all k ≡ Some f.file = ap (λ (fs : List InputFile). slice_get fs k) (sym (files_from_are 0 link.groups)) ∙ map_in (λ (g : NumberedFile). g.file) (numbered_files link.groups) k f at in
+    sum_by_more symbols_in all k f.file (slice_get_within all k f.file in_all) ∙ ap (λ (g : InputFile). symbols_before k all + symbols_in g) (get_or_from_slice_get all k f.file f.file in_all)
+
 -- so do those of the first files
 rising_files : (link : LinkInput) (live : Live) (k : ℕ) → k ≤ length (numbered_files link.groups)
     → IsRising 0 (symbols_told (flat_map (commons_of link live) (take k (numbered_files link.groups)))) (symbols_before k (all_files link.groups))
@@ -144,9 +166,7 @@ rising_files link live (suc k) h =
     ∙ ap symbols_told (flat_map-append (commons_of link live) (take k files) (f ∷ []) ∙ ap (λ (cs : List Common). before ++ cs) (append-nil (commons_of link live f)))
     ∙ map-append (λ (c : Common). c.symbol) before (commons_of link live f) in
     let first : first_symbol link.groups f.id ≡ symbols_before k all = ap (λ (n : ℕ). symbols_before n all) (sym (place_is_number link k f at.1)) in
-    let in_all : slice_get all k ≡ Some f.file = ap (λ (fs : List InputFile). slice_get fs k) (sym (files_from_are 0 link.groups)) ∙ map_in (λ (g : NumberedFile). g.file) files k f at.1 in
-    let more : symbols_before (k + 1) all ≡ symbols_before k all + length f.file.symbols
-    = sum_by_more symbols_in all k f.file (slice_get_within all k f.file in_all) ∙ ap (λ (g : InputFile). symbols_before k all + symbols_in g) (get_or_from_slice_get all k f.file f.file in_all) in
+    let more = file_more link k f at.1 in
     let end : first_symbol link.groups f.id + length f.file.symbols ≡ symbols_before (suc k) all = omega (arith, first, more, ap (λ (n : ℕ). symbols_before n all) number) in
     subst (λ (xs : List ℕ). IsRising 0 xs (symbols_before (suc k) all)) (sym split)
     (rising_joined 0 (symbols_before k all) (symbols_before (suc k) all) (symbols_told before) (symbols_told (commons_of link live f)) (rising_files link live k (omega (arith, h)))
@@ -352,3 +372,134 @@ common_goes link live f front c rest good there splits =
     seam : (xs : List Common) → slice_get (xs ++ c ∷ rest) (length xs) ≡ Some c
     seam [] = refl
     seam (x ∷ xs) = seam xs
+
+-- so does each of a file, and each of all files
+pub file_goes : (link : LinkInput) (live : Live) (f : NumberedFile) → IsWellFormed link → file_in link.groups f.id ≡ Some f.file → CommonsGo link (commons_of link live f)
+file_goes link live f good there k c at =
+    (common_is_placed link live c.part c.symbol c.size good (is_common_in link live f k c there at)).0
+
+pub all_go : (link : LinkInput) (live : Live) → IsWellFormed link → CommonsGo link (all_commons link live)
+all_go link live good k c at =
+    let from = flat_map_at (commons_of link live) (numbered_files link.groups) k c at in
+    file_goes link live from.from good (file_at link.groups from.outer from.from from.there).there from.inner c from.gives
+
+-- ---- the commons of a file, and those behind it
+
+-- a file's rise from its first symbol's number to the one behind its last
+one_rising : (link : LinkInput) (live : Live) (k : ℕ) (f : NumberedFile) → slice_get (numbered_files link.groups) k ≡ Some f
+    → IsRising (symbols_before k (all_files link.groups)) (symbols_told (commons_of link live f)) (symbols_before (k + 1) (all_files link.groups))
+one_rising link live k f at =
+    let all : List InputFile = all_files link.groups in
+    let first : first_symbol link.groups f.id ≡ symbols_before k all = ap (λ (n : ℕ). symbols_before n all) (sym (place_is_number link k f at)) in
+    let end : first_symbol link.groups f.id + length f.file.symbols ≡ symbols_before (k + 1) all = omega (arith, first, file_more link k f at) in
+    subst (λ (n : ℕ). IsRising n (symbols_told (commons_of link live f)) (symbols_before (k + 1) all)) first
+    (subst (λ (n : ℕ). IsRising (first_symbol link.groups f.id) (symbols_told (commons_of link live f)) n) end (rising_file live f.file.kind (first_symbol link.groups f.id) f.file.symbols))
+
+-- those of the files from a place on
+rising_behind : (link : LinkInput) (live : Live) (k : ℕ) (files : List NumberedFile) → ((j : ℕ) (g : NumberedFile) → slice_get files j ≡ Some g → slice_get (numbered_files link.groups) (k + j) ≡ Some g)
+    → IsRising (symbols_before k (all_files link.groups)) (symbols_told (flat_map (commons_of link live) files)) (symbols_before (k + length files) (all_files link.groups))
+rising_behind link live k [] at =
+    let none : k + 0 ≡ k = omega arith in
+    omega (arith, ap (λ (n : ℕ). symbols_before n (all_files link.groups)) none)
+rising_behind link live k (f ∷ files) at =
+    let all : List InputFile = all_files link.groups in
+    let none : k + 0 ≡ k = omega arith in
+    let more : k + 1 + length files ≡ k + length (f ∷ files) = omega arith in
+    let here : slice_get (numbered_files link.groups) k ≡ Some f = ap (λ (n : ℕ). slice_get (numbered_files link.groups) n) (sym none) ∙ at 0 f refl in
+    let rest = rising_behind link live (k + 1) files (λ j g there.
+    let next : k + 1 + j ≡ k + suc j = omega arith in
+    ap (λ (n : ℕ). slice_get (numbered_files link.groups) n) next ∙ at (suc j) g there) in
+    subst (λ (xs : List ℕ). IsRising (symbols_before k all) xs (symbols_before (k + length (f ∷ files)) all))
+    (sym (map-append (λ (c : Common). c.symbol) (commons_of link live f) (flat_map (commons_of link live) files)))
+    (subst (λ (n : ℕ). IsRising (symbols_before k all) (symbols_told (commons_of link live f) ++ symbols_told (flat_map (commons_of link live) files)) (symbols_before n all)) more
+    (rising_joined (symbols_before k all) (symbols_before (k + 1) all) (symbols_before (k + 1 + length files) all) (symbols_told (commons_of link live f))
+    (symbols_told (flat_map (commons_of link live) files)) (one_rising link live k f here) rest))
+
+-- where commons reach a number
+no_common : Common
+no_common = record { symbol = 0; part = 0; size = 0 }
+
+below_at : (low high : ℕ) (cs : List Common) (k : ℕ) → IsRising low (symbols_told cs) high → k < length cs → nat_le high (get_or cs k no_common).symbol ≡ false
+below_at low high cs k h lt =
+    let at = at_index cs k lt in
+    let symbol : Common → ℕ = λ c. c.symbol in
+    let read : get_or cs k no_common ≡ at.0 = get_or_from_slice_get cs k at.0 no_common at.1 in
+    ap (λ (c : Common). nat_le high c.symbol) read
+    ∙ lt-leb high at.0.symbol (rising_below low high (symbols_told cs) k at.0.symbol h (map_in symbol cs k at.0 at.1))
+
+pub reach_within : (end : ℕ) (cs : List Common) → reach_from end cs ≤ length cs
+reach_within end cs = by (position (λ (c : Common). nat_le end c.symbol) cs) refl
+  where
+    by : (o : Option ℕ) → position (λ (c : Common). nat_le end c.symbol) cs ≡ o → unwrap_or o (length cs) ≤ length cs
+    by None h = omega arith
+    by (Some i) h = omega (arith, (position-Some (λ (c : Common). nat_le end c.symbol) cs i no_common h).0)
+
+reach_split : (low high : ℕ) (cs ds : List Common) → IsRising low (symbols_told cs) high → ((d : Common) → slice_get ds 0 ≡ Some d → nat_le high d.symbol ≡ true)
+    → reach_from high (cs ++ ds) ≡ length cs
+reach_split low high cs ds h first =
+    let p : Common → Bool = λ c. nat_le high c.symbol in
+    let xs : List Common = cs ++ ds in
+    let n : ℕ = length cs in
+    let long : length xs ≡ n + length ds = length-append cs ds in
+    let front : (k : ℕ) → k < n → p (get_or xs k no_common) ≡ false
+    = λ k lt. ap p (get_or_append_left cs ds no_common k lt) ∙ below_at low high cs k h lt in
+    let seam : n < length xs → p (get_or xs n no_common) ≡ true = λ lt. seam_of ds first (omega (arith, lt, long)) in
+    let at : position_or_len p xs ≡ n = position_or_len_is p xs n no_common (omega (arith, long)) front seam in
+    ap (λ (m : ℕ). unwrap_or (cond (nat_lt m (length xs)) (Some m) None) (length xs)) at ∙ told n (length xs) (nat_lt n (length xs)) refl (omega (arith, long))
+  where
+    told : (m len : ℕ) (b : Bool) → nat_lt m len ≡ b → m ≤ len → unwrap_or (cond (nat_lt m len) (Some m) None) len ≡ m
+    told m len true h within = ap (λ c. unwrap_or (cond c (Some m) None) len) h
+    told m len false h within =
+        let end : len ≡ m = omega (arith, within, ltb-false m len h) in
+        ap (λ c. unwrap_or (cond c (Some m) None) len) h ∙ end
+
+    seam_of : (es : List Common) → ((d : Common) → slice_get es 0 ≡ Some d → nat_le high d.symbol ≡ true) → 0 < length es
+        → nat_le high (get_or (cs ++ es) (length cs) no_common).symbol ≡ true
+    seam_of [] one lt = absurd (omega (arith, lt))
+    seam_of (x ∷ es) one lt = ap (λ (c : Common). nat_le high c.symbol) (get_or-append_seam cs x es no_common) ∙ one x refl
+
+pub left_split : (link : LinkInput) (live : Live) (f : NumberedFile) (left : List Common) (h : AreLeft link live f left)
+    → reach_from (first_symbol link.groups f.id + length f.file.symbols) left ≡ length (commons_of link live f)
+left_split link live f left h =
+    let all : List InputFile = all_files link.groups in
+    let k : ℕ = length h.done in
+    let own : List Common = commons_of link live f in
+    let behind : List Common = flat_map (commons_of link live) h.rest in
+    let at : slice_get (numbered_files link.groups) k ≡ Some f = ap (λ (fs : List NumberedFile). slice_get fs k) h.files ∙ append_seam h.done in
+    let first : first_symbol link.groups f.id ≡ symbols_before k all = ap (λ (n : ℕ). symbols_before n all) (sym (place_is_number link k f at)) in
+    let end : symbols_before (k + 1) all ≡ first_symbol link.groups f.id + length f.file.symbols = omega (arith, first, file_more link k f at) in
+    let rest = rising_behind link live (k + 1) h.rest (λ j g there. ap (λ (fs : List NumberedFile). slice_get fs (k + 1 + j)) h.files ∙ append_right h.done (f ∷ h.rest) (suc j) (k + 1 + j) g (omega arith) there) in
+    ap (λ (n : ℕ). reach_from n left) (sym end)
+    ∙ ap (reach_from (symbols_before (k + 1) all)) h.commons
+    ∙ reach_split (symbols_before k all) (symbols_before (k + 1) all) own behind (one_rising link live k f at)
+    (λ d there. le-leb (symbols_before (k + 1) all) d.symbol (rising_at (symbols_before (k + 1) all) (symbols_before (k + 1 + length h.rest) all) (symbols_told behind) 0 d.symbol rest
+    (map_in (λ (c : Common). c.symbol) behind 0 d there)))
+  where
+    append_seam : (gs : List NumberedFile) → slice_get (gs ++ f ∷ h.rest) (length gs) ≡ Some f
+    append_seam [] = refl
+    append_seam (g ∷ gs) = append_seam gs
+
+-- those that are left when files are done
+pub next_left : (link : LinkInput) (live : Live) (done : List NumberedFile) (f : NumberedFile) (rest : List NumberedFile) (left : List Common)
+    → numbered_files link.groups ≡ done ++ f ∷ rest → flat_map (commons_of link live) done ++ left ≡ all_commons link live → AreLeft link live f left
+next_left link live done f rest left files all =
+    let split : all_commons link live ≡ flat_map (commons_of link live) done ++ (commons_of link live f ++ flat_map (commons_of link live) rest)
+    = ap (flat_map (commons_of link live)) files ∙ flat_map-append (commons_of link live) done (f ∷ rest) in
+    record {
+      done = done;
+      rest = rest;
+      files = files;
+      commons = append_cancel_left (flat_map (commons_of link live) done) left (commons_of link live f ++ flat_map (commons_of link live) rest) (all ∙ split);
+    }
+
+-- and when the next one is
+pub still_left : (link : LinkInput) (live : Live) (yielded : List FileRef) (file : FileRef) (own behind left : List Common) → own ≡ commons_of link live (file_of file)
+    → own ++ behind ≡ left → flat_map (commons_of link live) (map file_of yielded) ++ left ≡ all_commons link live
+    → flat_map (commons_of link live) (map file_of (yielded ++ file ∷ [])) ++ behind ≡ all_commons link live
+still_left link live yielded file own behind left is joined all =
+    let done : List Common = flat_map (commons_of link live) (map file_of yielded) in
+    ap (λ (cs : List Common). cs ++ behind) (one_file_more (commons_of link live) yielded file)
+    ∙ append_assoc done (commons_of link live (file_of file)) behind
+    ∙ ap (λ (cs : List Common). done ++ (cs ++ behind)) (sym is)
+    ∙ ap (λ (cs : List Common). done ++ cs) joined
+    ∙ all

@@ -15,6 +15,7 @@ pub mod Made
 pub mod Marks
 pub mod Numbering
 pub mod Overflowing
+pub mod OwnerPlaces
 pub mod OwnersLive
 pub mod OwnersOnce
 pub mod Placed
@@ -22,4 +23,5 @@ pub mod SymbolsKeep
 pub mod TableParts
 pub mod Takers
 pub mod Tiling
+pub mod Turns
 pub mod Wholes

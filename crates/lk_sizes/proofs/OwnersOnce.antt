@@ -18,6 +18,7 @@ use Rattle.lk_sizes.specs.PartOwners.{HasItsNumber, OwnersStandOnce, is_common_o
 use Rattle.lk_sizes.proofs.Addressing.{all_joined, all_parted, is_itself, one_section_other, same_number, section_in, sections_are}
 use Rattle.lk_sizes.proofs.CommonOnes.{all_rising, common_in, commons_are, one_common_other, rising_order, symbols_told}
 use Rattle.lk_sizes.proofs.LiveOnes.{Differ, Pairwise, in_front, live_differ, pairwise_from_places}
+use Rattle.lk_sizes.proofs.OwnerPlaces.{place_of}
 use Rattle.lk_sizes.proofs.OwnersLive.{owners_are_live}
 
 -- ---- what is picked of owners
@@ -165,9 +166,9 @@ its_number link content p k (SectionOwner x size) there =
     let goes : x.section.part ≡ p = (owners_are_live link content p k (SectionOwner x size) there).1 in
     sym (ap (λ (q : ℕ). position_or_len (owns x) (owners_of link content q)) goes ∙ section_number link content p k size x there)
 its_number link content p k (CommonOwner s size) there = sym (common_number_is link content p k s size there)
-its_number link content p k (ImageOwner section len) there = tt
-its_number link content p k (IdentityOwner size) there = tt
-its_number link content p k (EntryOwner e) there = tt
+its_number link content p k (ImageOwner section len) there = place_of link content p k (ImageOwner section len) there
+its_number link content p k (IdentityOwner size) there = place_of link content p k (IdentityOwner size) there
+its_number link content p k (EntryOwner e) there = place_of link content p k (EntryOwner e) there
 
 pub owners_stand_once : OwnersStandOnce
 owners_stand_once link content p k o there = its_number link content p k o there

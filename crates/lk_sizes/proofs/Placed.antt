@@ -23,7 +23,7 @@ use Rattle.lk_gc.specs.Reach.{AreLive, live_inputs}
 use Rattle.lk_reach.proofs.LiveWalk.{split_at}
 use Rattle.lk_reach.proofs.SymbolNumbers.{inputs_few}
 use Rattle.lk_sizes.specs.declared.addresses.CommonAddress.{CommonAddress}
-use Rattle.lk_sizes.specs.declared.commons.Common.{Common}
+use Rattle.lk_tables.specs.declared.commons.Common.{Common}
 use Rattle.lk_sizes.specs.Addresses.{section_address, told_common}
 use Rattle.lk_sizes.specs.Owners.{Content, EntryOwner, IsCommonIn, Taker, common_taker, commons_of, content_of, content_owners, file_takers, leading_of, live_of, owner_bytes, owners_in, section_taker, takers}
 use Rattle.lk_sizes.specs.PartOwners.{EndsFit, common_address, live_address, tables_of}

@@ -15,7 +15,7 @@ use Rattle.lk_link.proofs.Elements.{append_at, filter_at, flat_map_at, flat_map_
 use Rattle.lk_gc.specs.declared.live.Live.{Live}
 use Rattle.lk_gc.specs.Reach.{AreLive, live_inputs}
 use Rattle.lk_reach.proofs.Numbered.{file_at}
-use Rattle.lk_sizes.specs.declared.commons.Common.{Common}
+use Rattle.lk_tables.specs.declared.commons.Common.{Common}
 use Rattle.lk_sizes.specs.Owners.{EntryOwner, IdentityOwner, ImageOwner, Owner, Taker, common_taker, commons_of, file_takers, has_image, identity_of, images_of, into, is_merged, live_of, owners_in, section_taker, takers}
 use Rattle.lk_sizes.specs.PartOwners.{TablePartsHaveEntriesAlone, tables_of}
 use Rattle.lk_tables.specs.TableLists.{table_of}

@@ -19,7 +19,7 @@ use Rattle.lk_link.proofs.Starts.{next_multiple_is_least}
 use Rattle.lk_link.specs.WellFormed.{IsWellFormed}
 use Rattle.lk_sizes.specs.Owners.{EntryOwner, Owner, Taker, bytes_of, common_taker, commons_of, content_owners, file_takers, leading_of, live_of, owner_address, owner_bytes, owners_in, section_taker, takers}
 use Rattle.lk_sizes.specs.PartOwners.{owners_of, tables_of}
-use Rattle.lk_sizes.specs.declared.commons.Common.{Common}
+use Rattle.lk_tables.specs.declared.commons.Common.{Common}
 use Rattle.lk_gc.specs.declared.live.Live.{Live}
 use Rattle.lk_tables.specs.SymbolTable.{TableEntry}
 use Rattle.lk_tables.proofs.PartLists.{other_parts}

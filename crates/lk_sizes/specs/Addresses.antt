@@ -8,7 +8,7 @@ use Rattle.lk_link.specs.Marks.{is_marked}
 use Rattle.lk_gc.specs.Reach.{live_inputs, marked}
 use Rattle.lk_sizes.specs.declared.addresses.CommonAddress.{CommonAddress}
 use Rattle.lk_sizes.specs.declared.addresses.LiveSection.{LiveSection}
-use Rattle.lk_sizes.specs.declared.commons.Common.{Common}
+use Rattle.lk_tables.specs.declared.commons.Common.{Common}
 use Rattle.lk_sizes.specs.Owners.{Content, all_commons}
 use Rattle.lk_sizes.specs.PartOwners.{common_address, live_address}
 

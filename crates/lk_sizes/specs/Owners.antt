@@ -1,13 +1,11 @@
 -- What goes into the output, and who takes the bytes of a part, but for entries of tables that wait for the emitted sections.
 use Rattle.std.specs.Prelude.{◌≡◌, ℕ, ◌+◌, ◌<◌, ◌==◌, Bool, if◌then◌else◌, List, length, take, map, filter}
 use Rattle.std.specs.Prelude.{[], ◌∷◌, ◌++◌, true, sum_by, slice_index, Option, Some, None, nat_lt, option_map}
-use Rattle.std.specs.List.{enumerate_from, filter_map, flat_map, list_any, slice_get}
+use Rattle.std.specs.List.{enumerate_from, flat_map, list_any, slice_get}
 use Rattle.std.specs.Option.{option_to_list}
-use Rattle.lk_link.specs.declared.file.FileKind.{FileKind}
 use Rattle.lk_link.specs.declared.link.LinkInput.{LinkInput}
 use Rattle.lk_link.specs.declared.plan.PlanPart.{PlanPart}
 use Rattle.lk_link.specs.declared.symbol.InputSymbol.{InputSymbol}
-use Rattle.lk_link.specs.declared.symbol.SymbolPlacement.{SymbolPlacement}
 use Rattle.lk_link.specs.declared.symbol.SymbolPlacement.TheVariants as at
 use Rattle.lk_link.specs.Files.{file_in}
 use Rattle.lk_link.specs.InputSlots.{is_merge}
@@ -20,7 +18,8 @@ use Rattle.lk_link.specs.Symbols.{first_symbol}
 use Rattle.lk_link.specs.TableSizes.{TableSizes}
 use Rattle.lk_gc.specs.declared.live.Live.{Live}
 use Rattle.lk_gc.specs.Reach.{live_inputs}
-use Rattle.lk_sizes.specs.declared.commons.Common.{Common}
+use Rattle.lk_tables.specs.declared.commons.Common.{Common}
+pub use Rattle.lk_tables.specs.Commons.{all_commons, common_at, common_of, commons_of}
 use Rattle.lk_tables.specs.Copied.{is_wanted}
 use Rattle.lk_tables.specs.Late.{flags_at}
 use Rattle.lk_tables.specs.SymbolTable.{TableEntry}
@@ -107,23 +106,6 @@ section_taker x = record { part = x.section.part; owner = SectionOwner x x.secti
 -- the live sections of a file, by index
 abbrev pub live_of : LinkInput → Live → NumberedFile → List Input
 live_of link live f = filter (λ x. is_marked live.marks (input_number link.groups x.file x.index)) (inputs_from f.id 0 f.file.sections)
-
--- a symbol with its number and this placement as a common, if it is one
-abbrev pub common_at : ℕ → SymbolPlacement → Option Common
-common_at s (at.Common p size) = Some (record { symbol = s; part = p; size = size })
-common_at s _ = None
-
--- a symbol of a file of a kind, with its number, as a common that takes bytes: one that gets a resolution
-abbrev pub common_of : Live → FileKind → ℕ × InputSymbol → Option Common
-common_of live kind q = if is_wanted kind q.0 q.1 (flags_at live.flags q.0) then common_at q.0 q.1.at else None
-
--- the commons of a file that take bytes, by index
-abbrev pub commons_of : LinkInput → Live → NumberedFile → List Common
-commons_of link live f = filter_map (common_of live f.file.kind) (enumerate_from (first_symbol link.groups f.id) f.file.symbols)
-
--- those of all files
-abbrev pub all_commons : LinkInput → Live → List Common
-all_commons link live = flat_map (commons_of link live) (numbered_files link.groups)
 
 -- a common with its size, in its part
 abbrev pub common_taker : Common → Taker

@@ -9,9 +9,10 @@ use Rattle.lk_link.specs.PartRules.{is_table_part}
 use Rattle.lk_link.specs.Parts.{part_at, part_sections}
 use Rattle.lk_link.specs.WellFormed.{IsWellFormed}
 use Rattle.lk_gc.specs.Reach.{AreLive, live_inputs}
+use Rattle.lk_tables.specs.SymbolTable.{TableEntry}
 use Rattle.lk_tables.specs.TableLists.{TableLists, table_of, whole_tables}
 use Rattle.lk_sizes.specs.Emitted.{active_segments, emitted_marks}
-use Rattle.lk_sizes.specs.Owners.{CommonOwner, Content, EntryOwner, IdentityOwner, ImageOwner, IsCommonIn, Owner, SectionOwner, by_part, bytes_of, content_owners, has_image, identity_size, owner_address}
+use Rattle.lk_sizes.specs.Owners.{CommonOwner, Content, EntryOwner, IdentityOwner, ImageOwner, IsCommonIn, Owner, SectionOwner, by_part, bytes_of, content_owners, has_image, identity_size, images_of, owner_address}
 
 -- the tables of the output, by which sections are emitted and which segments are active
 abbrev pub tables_of : LinkInput → Content → TableLists
@@ -114,12 +115,28 @@ abbrev pub TablePartsHaveEntriesAlone : Type 0
 TablePartsHaveEntriesAlone = (link : LinkInput) (content : Content) (p : ℕ) → IsWellFormed link → AreLive link content.live
     → is_table_part link.plan.named p ≡ true → owners_of link content p ≡ map EntryOwner (table_of link.plan.named (tables_of link content) p)
 
--- a live section or a common among the owners of a part stands there under its number, so once
+-- the number that an owner has in its part: the image is the first; the identity stands behind the image, if there is one; a live section
+-- and a common have theirs; and an entry stands behind all that is none, where it stands in the table
 abbrev pub HasItsNumber : LinkInput → Content → ℕ → ℕ → Owner → Type 0
+HasItsNumber link content p k (ImageOwner section len) = k ≡ 0
+HasItsNumber link content p k (IdentityOwner size) = k ≡ length (images_of link content.merged_lens p)
 HasItsNumber link content p k (SectionOwner x size) = k ≡ owner_number link content x
 HasItsNumber link content p k (CommonOwner s size) = k ≡ common_number link content p s
-HasItsNumber link content p k _ = Unit {0}
+HasItsNumber link content p k (EntryOwner e) = (j : ℕ) × (k ≡ length (content_owners link content.live content.merged_lens p) + j)
+    × (slice_get (table_of link.plan.named (tables_of link content) p) j ≡ Some e)
 
+-- each owner of a part stands there under its number, so once
 abbrev pub OwnersStandOnce : Type 0
 OwnersStandOnce = (link : LinkInput) (content : Content) (p k : ℕ) (o : Owner) → slice_get (owners_of link content p) k ≡ Some o
     → HasItsNumber link content p k o
+
+-- the identity stands among the owners of the part for comments under that number, if there is such a part
+abbrev pub IdentityIsOwner : Type 0
+IdentityIsOwner = (link : LinkInput) (content : Content) (p size : ℕ) → identity_size link p ≡ Some size
+    → slice_get (owners_of link content p) (length (images_of link content.merged_lens p)) ≡ Some (IdentityOwner size)
+
+-- so does each entry of the tables for which the plan names a part
+abbrev pub EntriesAreOwners : Type 0
+EntriesAreOwners = (link : LinkInput) (content : Content) (p j : ℕ) (e : TableEntry)
+    → slice_get (table_of link.plan.named (tables_of link content) p) j ≡ Some e
+    → slice_get (owners_of link content p) (length (content_owners link content.live content.merged_lens p) + j) ≡ Some (EntryOwner e)

@@ -1,21 +1,21 @@
 -- What the code goes by: lists by part, and marks of sections. Contracts of private functions speak of these.
-use Rattle.std.specs.Prelude.{◌≡◌, ℕ, ◌+◌, ◌-◌, ◌^◌, ◌<◌, Bool, if◌then◌else◌, List, filter, length, map, min, slice_index, slice_range, take}
-use Rattle.std.specs.List.{enumerate_from, slice_index_or}
+use Rattle.std.specs.Prelude.{◌≡◌, ℕ, ◌+◌, ◌-◌, ◌^◌, ◌<◌, Bool, if◌then◌else◌, List, ◌∷◌, ◌++◌, Some, filter, length, map, min, nat_le, position, slice_get, slice_index, slice_range, take, unwrap_or}
+use Rattle.std.specs.List.{enumerate_from, flat_map, slice_index_or}
 use Rattle.lk_link.specs.declared.link.LinkInput.{LinkInput}
 use Rattle.lk_link.specs.declared.plan.NamedParts.{NamedParts}
 use Rattle.lk_link.specs.declared.plan.PlanSection.{PlanSection}
-use Rattle.lk_link.specs.Inputs.{Input, NumberedFile, input_number, inputs_from}
+use Rattle.lk_link.specs.Inputs.{Input, NumberedFile, input_number, inputs_from, numbered_files}
 use Rattle.lk_link.specs.Marks.{is_marked}
-use Rattle.lk_link.specs.Parts.{first_part, part_at}
+use Rattle.lk_link.specs.Parts.{all_parts, first_part, part_at}
 use Rattle.lk_gc.specs.declared.live.Live.{Live}
 use Rattle.lk_gc.specs.Reach.{live_inputs}
 use Rattle.lk_tables.specs.HeaderParts.{told_sum}
 use Rattle.lk_tables.specs.TableLists.{TableLists, table_bytes}
 use Rattle.lk_sizes.specs.declared.addresses.CommonAddress.{CommonAddress}
-use Rattle.lk_sizes.specs.declared.commons.Common.{Common}
+use Rattle.lk_tables.specs.declared.commons.Common.{Common}
 use Rattle.lk_sizes.specs.declared.owners.PartTotal.{PartTotal}
 use Rattle.lk_sizes.specs.Emitted.{is_told}
-use Rattle.lk_sizes.specs.Owners.{Taker, bytes_of, common_taker, leading_of, owners_in, section_taker}
+use Rattle.lk_sizes.specs.Owners.{Taker, bytes_of, common_taker, commons_of, leading_of, owners_in, section_taker}
 
 -- of what is listed by part, that of a section's parts
 abbrev pub in_section : {X : Type 0} → List PlanSection → ℕ → List X → List X
@@ -91,6 +91,21 @@ common_place link next cs q = record { symbol = q.1.symbol; address = next_behin
 
 abbrev pub common_places : LinkInput → List ℕ → List Common → List CommonAddress
 common_places link next cs = map (common_place link next cs) (enumerate_from 0 cs)
+
+-- the place of the first of some commons whose symbol has this number or a greater one; where none has, their length
+abbrev pub reach_from : ℕ → List Common → ℕ
+reach_from end cs = unwrap_or (position (λ (c : Common). nat_le end c.symbol) cs) (length cs)
+
+-- each of these goes to a part
+abbrev pub CommonsGo : LinkInput → List Common → Type 0
+CommonsGo link cs = (k : ℕ) (c : Common) → slice_get cs k ≡ Some c → c.part < length (all_parts link.plan.sections)
+
+-- those of a file, and of the files behind it
+pub record AreLeft (link : LinkInput) (live : Live) (f : NumberedFile) (left : List Common) : Type 0 where
+  pub done : List NumberedFile
+  pub rest : List NumberedFile
+  pub files : numbered_files link.groups ≡ done ++ f ∷ rest
+  pub commons : left ≡ commons_of link live f ++ flat_map (commons_of link live) rest
 
 -- ---- what leads
 

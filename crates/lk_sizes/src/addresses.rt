@@ -18,15 +18,16 @@ ghost use Rattle.lk_link.specs.WellFormed.{IsWellFormed};
 ghost use Rattle.lk_gc.specs.Reach.{AreLive};
 ghost use Rattle.lk_sizes.specs.Addresses.{common_addresses, section_addresses};
 ghost use Rattle.lk_sizes.specs.Contents.{part_contents};
-ghost use Rattle.lk_sizes.specs.Owners.{by_part, common_of, common_taker, commons_of, content_of, has_image, live_of, section_taker};
+ghost use Rattle.lk_sizes.specs.Owners.{all_commons, by_part, common_taker, content_of, has_image, live_of, section_taker};
 ghost use Rattle.lk_sizes.specs.PartOwners.{EndsFit};
-ghost use Rattle.lk_sizes.specs.Tables.{ArePassed, HaveSpace, behind_leading, common_places, section_places};
+ghost use Rattle.lk_sizes.specs.Tables.{ArePassed, CommonsGo, HaveSpace, behind_leading, common_places, section_places};
 
-use crate::commons::file_commons;
+use crate::commons::split_commons;
 use crate::owners::{PartContents, identity_bytes, identity_size, image_bytes, image_lens};
 use lk_gc::Live;
 use lk_link::marks::is_marked;
 use lk_link::{FileId, FileRef, LinkInput, PlanPart, Section, SymbolId};
+use lk_tables::Common;
 use std::alloc::{AllocError, Global};
 
 /// A live section, with the address that it gets.
@@ -58,19 +59,21 @@ pub struct OwnerAddresses {
     pub commons: Vec<CommonAddress>,
 }
 
-/// The addresses of live sections and commons, by the lengths of merged images, what comes into the parts, and where the parts
-/// start in memory. Looks at each input section and each symbol once, and takes 8 bytes for each section and 16 for each
+/// The addresses of live sections and of these commons, by the lengths of merged images, what comes into the parts, and where the
+/// parts start in memory. Looks at each input section and each common once, and takes 8 bytes for each section and 16 for each
 /// common (libwild: `ObjectLayoutState::finalise_layout`).
 pub fn owner_addresses(
     alloc: Global,
     link: &LinkInput,
     live: &Live,
     merged_lens: &[u64],
+    listed: &[Common],
     contents: &[PartContents],
     starts: &[u64],
 ) -> Result<OwnerAddresses, AllocError>
     requires good { IsWellFormed link.now }
     requires live { AreLive link.now live.now }
+    requires commons { listed.now ≡ all_commons link.now live.now }
     requires starts { length starts.now ≡ length (all_parts link.now.plan.sections) }
     requires room { (sizes : TableSizes) × (contents.now ≡ part_contents link.now (content_of sizes live.now merged_lens.now))
         × EndsFit link.now (content_of sizes live.now merged_lens.now) starts.now }
@@ -81,10 +84,13 @@ pub fn owner_addresses(
 {
     let mut next = behind_leading(alloc, link, merged_lens, contents, starts)?;
     let mut sections = Vec::with_capacity(alloc, live.marks.len())?;
-    let mut commons = Vec::new(alloc);
+    let mut commons = Vec::with_capacity(alloc, listed.len())?;
+    let mut left = listed;
     for file in link.groups.files() {
+        let (own, behind) = split_commons(link, file, left);
         place_sections(link, live, file, &mut next, &mut sections)?;
-        place_commons(link, live, file, &mut next, &mut commons)?;
+        place_commons(link, own, &mut next, &mut commons)?;
+        left = behind;
     }
     Ok(OwnerAddresses { sections, commons })
 }
@@ -133,28 +139,26 @@ fn first_number(link: &LinkInput, file: FileRef<'_>) -> usize
     }
 }
 
-/// Adds the addresses of a file's commons, the next ones of their parts.
+/// Adds the addresses of commons, the next ones of their parts.
 fn place_commons(
     link: &LinkInput,
-    live: &Live,
-    file: FileRef<'_>,
+    commons: &[Common],
     next: &mut [u64],
-    commons: &mut Vec<CommonAddress>,
+    addresses: &mut Vec<CommonAddress>,
 ) -> Result<(), AllocError>
     requires good { IsWellFormed link.now }
-    requires there { file_in link.now.groups file.id ≡ Some file.file.now }
+    requires goes { CommonsGo link.now commons.now }
     requires count { length next.old ≡ length (all_parts link.now.plan.sections) }
-    requires space { HaveSpace link.now next.old (map common_taker (commons_of link.now live.now (file_of file))) }
-    ensures moved { OnOk result (ArePassed link.now next.old (map common_taker (commons_of link.now live.now (file_of file.entry))) next.new) }
-    ensures told { OnOk result (commons.new.items
-        ≡ commons.old.items ++ common_places link.now next.old (commons_of link.now live.now (file_of file.entry))) }
+    requires space { HaveSpace link.now next.old (map common_taker commons.now) }
+    ensures moved { OnOk result (ArePassed link.now next.old (map common_taker commons.now) next.new) }
+    ensures told { OnOk result (addresses.new.items ≡ addresses.old.items ++ common_places link.now next.old commons.now) }
 {
     let parts = link.plan.sections.parts();
-    for common in file_commons(link, live, file) {
+    for common in commons {
         let part = common.part.as_usize();
         let address = take_next(&mut next[part], &parts[part], common.size);
         let symbol = common.symbol;
-        commons.push(CommonAddress { symbol, address })?;
+        addresses.push(CommonAddress { symbol, address })?;
     }
     Ok(())
 }

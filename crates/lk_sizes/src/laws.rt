@@ -2,7 +2,7 @@
 
 ghost use Rattle.lk_sizes.specs.Addresses.{CommonsRise, TableTellsLiveSections};
 ghost use Rattle.lk_sizes.specs.Images.{ImagesAreOwners, ImagesStandWhereInputsGo};
-ghost use Rattle.lk_sizes.specs.PartOwners.{CommonsAreOwners, LiveSectionsAreOwners, OwnersAreLive, OwnersStandOnce, TablePartsHaveEntriesAlone};
+ghost use Rattle.lk_sizes.specs.PartOwners.{CommonsAreOwners, EntriesAreOwners, IdentityIsOwner, LiveSectionsAreOwners, OwnersAreLive, OwnersStandOnce, TablePartsHaveEntriesAlone};
 ghost use Rattle.lk_sizes.specs.Tiles.{OwnersTileTheirPart, OwnersAreAligned};
 
 /// A law: the owners of a part tile it. Each byte of the part has one owner, and no owner reaches out of the part.
@@ -56,7 +56,17 @@ pub fn table_parts_have_entries_alone()
     ensures { TablePartsHaveEntriesAlone }
 {}
 
-/// A law: each live section and each common among the owners of a part stands there once, under its number.
+/// A law: each owner of a part stands there once, under its number.
 pub fn owners_stand_once()
     ensures { OwnersStandOnce }
+{}
+
+/// A law: the linker's identity stands among the owners of the part for comments, behind the image.
+pub fn identity_is_owner()
+    ensures { IdentityIsOwner }
+{}
+
+/// A law: each entry of the tables for which the plan names a part stands among its owners, behind all that is no entry.
+pub fn entries_are_owners()
+    ensures { EntriesAreOwners }
 {}

@@ -19,8 +19,7 @@ pub use error::SizeError;
 pub use header::determine_header_sizes;
 pub use images::image_addresses;
 pub use lk_tables::{
-    DynamicSizes, HeaderInfo, HeaderSizes, SymbolCopyInfo, dynamic_indexes, dynamic_sizes,
-    dynamic_table, entry_sizes, header_sizes, symbol_sizes,
+    HeaderInfo, HeaderSizes, SymbolCopyInfo, dynamic_table, header_sizes, symbol_sizes,
 };
 pub use owners::{PartContents, PartTotal, content_totals, first_sizes, part_contents, part_sizes};
 pub use part_owners::PartOwners;

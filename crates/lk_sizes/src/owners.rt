@@ -1,7 +1,7 @@
 //! What comes into the parts of a link: bytes, attributes, and whether merged images stand there.
 //!
-//! One pass over the live and merged sections adds each to the row of its part, in a flat table by part number; another over the
-//! symbols adds the commons. Sums have 128 bits there, so that one that passes 2^64 - 1 is told from one that fits. A part to
+//! One pass over the live and merged sections adds each to the row of its part, in a flat table by part number; another adds the
+//! commons, of which there is a list. Sums have 128 bits there, so that one that passes 2^64 - 1 is told from one that fits. A part to
 //! which merged sections go has the image of its output section, which comes on top, and the part for comments the identity. When it
 //! is known which sections are emitted, the entries of tables come on top of that, and a last pass over the rows adds the sums
 //! up, part by part, and refuses the first part at which they pass 2^64 - 1 together.
@@ -9,12 +9,10 @@
 ghost use Rattle.std.specs.Prelude.{◌≡◌, ◌+◌, ◌-◌, ◌<◌, ◌^◌, ◌||◌, ℕ, IsTrue, IfOk, IfSome, List, OnOk, Some, ◌++◌, if◌then◌else◌, bit_or, length, map, min, slice_get, slice_index};
 ghost use Rattle.std.specs.Option.{option_map_or};
 ghost use Rattle.lk_link.specs.Alignments.{is_alignment};
-ghost use Rattle.lk_link.specs.Files.{file_in};
 ghost use Rattle.lk_link.specs.InputSlots.{is_merge};
 ghost use Rattle.lk_link.specs.Parts.{all_parts, part_sections};
 ghost use Rattle.lk_link.specs.Sizes.{capacity};
 ghost use Rattle.lk_link.specs.TableSizes.{TableSizes};
-ghost use Rattle.lk_link.specs.Walks.{file_of};
 ghost use Rattle.lk_link.specs.WellFormed.{IsWellFormed};
 ghost use Rattle.lk_link.specs.declared.link.LinkInput.{LinkInput};
 ghost use Rattle.lk_gc.specs.Reach.{AreLive};
@@ -24,19 +22,16 @@ ghost use Rattle.lk_tables.specs.TableLists.{TableLists};
 ghost use Rattle.lk_tables.specs.Totals.{totals_of};
 ghost use Rattle.lk_sizes.specs.Attributes.{part_attributes};
 ghost use Rattle.lk_sizes.specs.Contents.{AreContentTotals, GivesContents, part_contents};
-ghost use Rattle.lk_sizes.specs.Owners.{AreFirstSizes, Content, all_commons, commons_of, content_of, has_image, identity_size};
+ghost use Rattle.lk_sizes.specs.Owners.{AreFirstSizes, Content, all_commons, content_of, has_image, identity_size};
 ghost use Rattle.lk_sizes.specs.PartOwners.{part_sizes, tables_of};
-ghost use Rattle.lk_sizes.specs.Tables.{AreAdded, commons_size, live_size, with_entries, with_tables};
+ghost use Rattle.lk_sizes.specs.Tables.{AreAdded, CommonsGo, commons_size, live_size, with_entries, with_tables};
 ghost use Rattle.lk_sizes.specs.declared.owners.PartTotal.{PartTotal};
 
-use crate::commons::file_commons;
 use crate::error::SizeError;
 use crate::kept::KeptInputs;
 use lk_gc::Live;
-use lk_link::{
-    FileRef, InputSection, LinkInput, List, PartId, Place, PlanPart, PlanSection, Section,
-};
-use lk_tables::{FileShare, TableTotals, bytes_in_part, first_totals};
+use lk_link::{InputSection, LinkInput, List, PartId, Place, PlanPart, PlanSection, Section};
+use lk_tables::{Common, FileShare, TableTotals, bytes_in_part, first_totals};
 use std::alloc::{AllocError, Global};
 
 /// What comes into a part.
@@ -295,20 +290,22 @@ fn capped(alloc: Global, totals: &[PartTotal]) -> Result<Vec<u64>, AllocError>
 
 /// What the images, the identity, the live sections and the commons bring to each part, by the number of the part, where the merged
 /// images of output sections are so many bytes long; none is where nothing is merged. Looks at each input section and each
-/// symbol once, and takes memory for the parts alone.
+/// common once, and takes memory for the parts alone.
 pub fn content_totals(
     alloc: Global,
     link: &LinkInput,
     live: &Live,
     merged_lens: &[u64],
+    commons: &[Common],
 ) -> Result<Vec<PartTotal>, AllocError>
     requires good { IsWellFormed link.now }
     requires live { AreLive link.now live.now }
+    requires commons { commons.now ≡ all_commons link.now live.now }
     ensures { IfOk result (λ totals. AreContentTotals link.now live.now merged_lens.now totals.items) }
 {
     let parts = link.plan.sections.parts();
     let lens = image_lens(alloc, link.plan.sections.as_slice(), merged_lens)?;
-    let inputs = add_takers(alloc, link, live)?;
+    let inputs = add_takers(alloc, link, live, commons)?;
     let mut totals = Vec::with_capacity(alloc, inputs.len())?;
     for number in 0..inputs.len() {
         let part = &parts[number];
@@ -319,9 +316,15 @@ pub fn content_totals(
 }
 
 /// What sections and commons bring to each part, without the images.
-fn add_takers(alloc: Global, link: &LinkInput, live: &Live) -> Result<Vec<PartTotal>, AllocError>
+fn add_takers(
+    alloc: Global,
+    link: &LinkInput,
+    live: &Live,
+    commons: &[Common],
+) -> Result<Vec<PartTotal>, AllocError>
     requires good { IsWellFormed link.now }
     requires live { AreLive link.now live.now }
+    requires commons { commons.now ≡ all_commons link.now live.now }
     ensures count { IfOk result (λ totals. length totals.items ≡ length (all_parts link.now.plan.sections)) }
     ensures bytes { IfOk result (λ totals. (p : ℕ) (total : PartTotal) → slice_get totals.items p ≡ Some total → min total.bytes (2 ^ 64)
         ≡ min (live_size link.now live.now p + commons_size link.now p (all_commons link.now live.now)) (2 ^ 64)) }
@@ -331,30 +334,19 @@ fn add_takers(alloc: Global, link: &LinkInput, live: &Live) -> Result<Vec<PartTo
         → total.attrs ≡ part_attributes link.now live.now p) }
 {
     let mut totals = add_inputs(alloc, link, live)?;
-    add_commons(link, live, &mut totals);
+    add_commons(link, commons, &mut totals);
     Ok(totals)
 }
 
-/// Adds what the commons bring to each part.
-fn add_commons(link: &LinkInput, live: &Live, totals: &mut [PartTotal])
+/// Adds what commons bring to each part.
+fn add_commons(link: &LinkInput, commons: &[Common], totals: &mut [PartTotal])
     requires good { IsWellFormed link.now }
+    requires goes { CommonsGo link.now commons.now }
     requires count { length totals.old ≡ length (all_parts link.now.plan.sections) }
-    ensures { AreAdded link.now (all_commons link.now live.now) totals.old totals.new }
-{
-    for file in link.groups.files() {
-        add_file_commons(link, live, file, totals);
-    }
-}
-
-/// Adds what the commons of a file bring to each part.
-fn add_file_commons(link: &LinkInput, live: &Live, file: FileRef<'_>, totals: &mut [PartTotal])
-    requires good { IsWellFormed link.now }
-    requires there { file_in link.now.groups file.id ≡ Some file.file.now }
-    requires count { length totals.old ≡ length (all_parts link.now.plan.sections) }
-    ensures { AreAdded link.now (commons_of link.now live.now (file_of file.entry)) totals.old totals.new }
+    ensures { AreAdded link.now commons.now totals.old totals.new }
 {
     let parts = link.plan.sections.parts();
-    for common in file_commons(link, live, file) {
+    for common in commons {
         let part = common.part.as_usize();
         totals[part] = totals[part].with_common(&parts[part], common.size);
     }

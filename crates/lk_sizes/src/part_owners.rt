@@ -1,6 +1,7 @@
 //! Who takes the bytes of all parts, and which sections and segments are told by that.
 //!
-//! What input sections bring is added up first, and what symbols take in tables, as far as no late mark changes it. That tells
+//! What symbols bring is found first, as far as no late mark changes it: what they take in tables, and the commons that take bytes. What
+//! input sections and commons bring is added up behind that. That tells
 //! which sections are emitted, and so which symbols of the prelude are marked late and how many headers there are. Then the
 //! tables are whole, and the sums of all parts are looked at.
 
@@ -18,7 +19,7 @@ use crate::header::determine_header_sizes;
 use crate::owners::{PartContents, content_totals, first_sizes, part_contents};
 use lk_gc::Live;
 use lk_link::{LinkInput, List, Platform};
-use lk_tables::{FileShare, HeaderInfo, file_shares, mark_prelude, whole_totals};
+use lk_tables::{Common, FileShare, HeaderInfo, mark_prelude, symbol_shares, whole_totals};
 use std::alloc::Global;
 
 /// What comes into the parts, and what is told by that (libwild keeps these in its states of groups).
@@ -32,11 +33,14 @@ pub struct PartOwners {
     pub shares: List<FileShare>,
     /// What the prelude takes behind that.
     pub prelude: FileShare,
+    /// The commons that take bytes, in the order of their symbols.
+    pub commons: List<Common>,
 }
 
 /// What comes into the parts where the merged images of output sections are so many bytes long, and what is told by that.
-/// Looks at each input section and at each symbol a few times. Refuses the first part at which the sizes so far pass 2^64 - 1
-/// together. Not yet for output that is linked again, in whose symbol table sections have entries too.
+/// Looks at each input section a few times, at each symbol once, and at each of the prelude once more. Refuses the first part at
+/// which the sizes so far pass 2^64 - 1 together. In output that is linked again sections have entries, headers and names too,
+/// which come with it.
 pub fn owners<P: Platform>(
     alloc: Global,
     link: &LinkInput,
@@ -46,22 +50,22 @@ pub fn owners<P: Platform>(
 ) -> Result<PartOwners, SizeError>
     requires good { IsWellFormed link.now }
     requires live { AreLive link.now live.now }
-    requires whole { is_partial link.now.options.output ≡ false }
-    ensures owners { GivesOwners link.now (content_of (P.table_sizes platform.now) live.now merged_lens.now) result }
+    ensures owners { is_partial link.now.options.output ≡ false → GivesOwners link.now (content_of (P.table_sizes platform.now) live.now merged_lens.now) result }
     ensures marks { IfOk result (λ owners. is_marked owners.header.emitted
         ≡ is_emitted link.now (content_of (P.table_sizes platform.now) live.now merged_lens.now)) }
 {
-    let totals = content_totals(alloc, link, live, merged_lens)?;
-    let shares = file_shares(alloc, link, platform, live)?;
-    let first = first_sizes(alloc, link, &totals, &shares)?;
+    let brought = symbol_shares(alloc, link, platform, live)?;
+    let totals = content_totals(alloc, link, live, merged_lens, &brought.commons)?;
+    let first = first_sizes(alloc, link, &totals, &brought.files)?;
     let header = determine_header_sizes(alloc, link, live, &first)?;
     let prelude = mark_prelude(link, platform, live, header.emitted.as_slice());
-    let tables = whole_totals(link, platform, &shares, prelude, &header);
+    let tables = whole_totals(link, platform, &brought.files, prelude, &header);
     let contents = part_contents(alloc, link, &totals, &tables)?;
     Ok(PartOwners {
         contents,
         header,
-        shares: List::from_vec(shares),
+        shares: List::from_vec(brought.files),
         prelude,
+        commons: List::from_vec(brought.commons),
     })
 }

@@ -17,7 +17,8 @@ use Rattle.lk_tables.specs.Copied.{is_canonical, is_copied, is_copied_undefined,
 use Rattle.lk_tables.specs.Dynamic.{is_dynamic_symbol}
 use Rattle.lk_tables.specs.HeaderParts.{told_sum}
 use Rattle.lk_tables.specs.Late.{flags_at, is_late_place, late_flags}
-use Rattle.lk_tables.specs.ShareWords.{early_part, file_share, first_share, first_shares, has_entry_there, late_part, late_share, no_share, plus, table_share}
+use Rattle.lk_tables.specs.ShareSteps.{all_brought_first, brought_first, brought_late, early_part, file_share, late_part, no_share, plus, table_share}
+use Rattle.lk_tables.specs.ShareWords.{has_entry_there}
 use Rattle.lk_tables.specs.SymbolTable.{TableEntry, entry_bytes}
 use Rattle.lk_tables.specs.TableLists.{other_files}
 use Rattle.lk_tables.proofs.ShareSums.{entries_of_some, sum_both, sum_made, told_again, told_entries, told_twice}
@@ -61,11 +62,11 @@ own_of own f = if is_prelude f.file.kind then own else 0
 -- first the other files
 late_first : (sizes : TableSizes) (link : LinkInput) (live : Live) (col : FileShare → ℕ) (own : ℕ) (each : List Bool → NumberedFile → ℕ)
     → IsLate sizes link live col own each → (f : NumberedFile)
-    → told_sum (col (first_share sizes link live f)) ≡ told_sum (if not (is_prelude f.file.kind) then each [] f + own_of own f else 0)
+    → told_sum (col (brought_first sizes link live f)) ≡ told_sum (if not (is_prelude f.file.kind) then each [] f + own_of own f else 0)
 late_first sizes link live col own each is f = by_kind (is_prelude f.file.kind) refl
   where
     by_kind : (b : Bool) → is_prelude f.file.kind ≡ b
-        → told_sum (col (first_share sizes link live f)) ≡ told_sum (if not (is_prelude f.file.kind) then each [] f + own_of own f else 0)
+        → told_sum (col (brought_first sizes link live f)) ≡ told_sum (if not (is_prelude f.file.kind) then each [] f + own_of own f else 0)
     by_kind true h =
         let s = file_share sizes link live [] f in
         ap (λ b. told_sum (col (if b then early_part s else s))) h
@@ -83,16 +84,16 @@ late_first sizes link live col own each is f = by_kind (is_prelude f.file.kind) 
 -- and behind that the prelude
 late_whole : (sizes : TableSizes) (link : LinkInput) (live : Live) (col : FileShare → ℕ) (own : ℕ) (each : List Bool → NumberedFile → ℕ)
     → IsLate sizes link live col own each → (told : List Bool) (f : NumberedFile)
-    → told_sum (col (first_share sizes link live f) + col (late_share sizes link live told f)) ≡ told_sum (each told f + own_of own f)
+    → told_sum (col (brought_first sizes link live f) + col (brought_late sizes link live told f)) ≡ told_sum (each told f + own_of own f)
 late_whole sizes link live col own each is told f = by_kind (is_prelude f.file.kind) refl
   where
     by_kind : (b : Bool) → is_prelude f.file.kind ≡ b
-        → told_sum (col (first_share sizes link live f) + col (late_share sizes link live told f)) ≡ told_sum (each told f + own_of own f)
+        → told_sum (col (brought_first sizes link live f) + col (brought_late sizes link live told f)) ≡ told_sum (each told f + own_of own f)
     by_kind true h =
         let s = file_share sizes link live [] f in
         let t = file_share sizes link live told f in
-        let first : col (first_share sizes link live f) ≡ 0 = ap (λ b. col (if b then early_part s else s)) h ∙ is.early s in
-        let behind : col (late_share sizes link live told f) ≡ told_sum (own + col t)
+        let first : col (brought_first sizes link live f) ≡ 0 = ap (λ b. col (if b then early_part s else s)) h ∙ is.early s in
+        let behind : col (brought_late sizes link live told f) ≡ told_sum (own + col t)
         = ap (λ b. col (if b then plus (table_share link sizes.symbol_entry) (late_part t) else no_share)) h
         ∙ is.both (table_share link sizes.symbol_entry) (late_part t)
         ∙ ap (λ n. told_sum (n + col (late_part t))) is.table
@@ -102,8 +103,8 @@ late_whole sizes link live col own each is told f = by_kind (is_prelude f.file.k
     by_kind false h =
         let s = file_share sizes link live [] f in
         let t = file_share sizes link live told f in
-        let first : col (first_share sizes link live f) ≡ col s = ap (λ b. col (if b then early_part s else s)) h in
-        let behind : col (late_share sizes link live told f) ≡ 0
+        let first : col (brought_first sizes link live f) ≡ col s = ap (λ b. col (if b then early_part s else s)) h in
+        let behind : col (brought_late sizes link live told f) ≡ 0
         = ap (λ b. col (if b then plus (table_share link sizes.symbol_entry) (late_part t) else no_share)) h ∙ is.none in
         let mine : own_of own f ≡ 0 = ap (λ b. if b then own else 0) h in
         omega (arith, first, behind, is.share [] f, is.alike told f h, mine)
@@ -112,11 +113,11 @@ late_whole sizes link live col own each is told f = by_kind (is_prelude f.file.k
 
 -- the sum over what files bring first
 abbrev pub first_sum : TableSizes → LinkInput → Live → (FileShare → ℕ) → ℕ
-first_sum sizes link live col = told_sum (sum_by col (first_shares sizes link live))
+first_sum sizes link live col = told_sum (sum_by col (all_brought_first sizes link live))
 
 -- and over what the prelude brings behind
 abbrev pub late_sum : TableSizes → LinkInput → Live → List Bool → (FileShare → ℕ) → ℕ
-late_sum sizes link live told col = told_sum (sum_by col (map (late_share sizes link live told) (numbered_files link.groups)))
+late_sum sizes link live told col = told_sum (sum_by col (map (brought_late sizes link live told) (numbered_files link.groups)))
 
 pub late_first_total : (sizes : TableSizes) (link : LinkInput) (live : Live) (col : FileShare → ℕ) (own : ℕ) (each : List Bool → NumberedFile → ℕ)
     (g : List Bool → NumberedFile → List TableEntry) → IsLate sizes link live col own each
@@ -125,12 +126,12 @@ pub late_first_total : (sizes : TableSizes) (link : LinkInput) (live : Live) (co
 late_first_total sizes link live col own each g is bytes =
     let files = numbered_files link.groups in
     let others : NumberedFile → List TableEntry = λ f. if not (is_prelude f.file.kind) then g [] f else [] in
-    let here : (f : NumberedFile) → told_sum (col (first_share sizes link live f)) ≡ told_sum (entry_bytes (others f))
+    let here : (f : NumberedFile) → told_sum (col (brought_first sizes link live f)) ≡ told_sum (entry_bytes (others f))
     = λ f. late_first sizes link live col own each is f
     ∙ ap (λ n. told_sum (if not (is_prelude f.file.kind) then n else 0)) (sym (bytes [] f))
     ∙ ap told_sum (sym (bytes_if (not (is_prelude f.file.kind)) (g [] f))) in
-    ap told_sum (sum_made col (first_share sizes link live) files)
-    ∙ told_entries (λ f. col (first_share sizes link live f)) others files here
+    ap told_sum (sum_made col (brought_first sizes link live) files)
+    ∙ told_entries (λ f. col (brought_first sizes link live f)) others files here
     ∙ ap (λ es. told_sum (entry_bytes es)) (sym (entries_of_some (λ f. not (is_prelude f.file.kind)) (g []) files))
   where
     bytes_if : (b : Bool) (es : List TableEntry) → entry_bytes (if b then es else []) ≡ (if b then entry_bytes es else 0)
@@ -144,12 +145,12 @@ pub late_whole_total : (sizes : TableSizes) (link : LinkInput) (live : Live) (co
     → told_sum (first_sum sizes link live col + late_sum sizes link live told col) ≡ told_sum (entry_bytes (flat_map (g told) (numbered_files link.groups)))
 late_whole_total sizes link live col own each g is bytes told =
     let files = numbered_files link.groups in
-    let first : NumberedFile → ℕ = λ f. col (first_share sizes link live f) in
-    let behind : NumberedFile → ℕ = λ f. col (late_share sizes link live told f) in
+    let first : NumberedFile → ℕ = λ f. col (brought_first sizes link live f) in
+    let behind : NumberedFile → ℕ = λ f. col (brought_late sizes link live told f) in
     let here : (f : NumberedFile) → told_sum (first f + behind f) ≡ told_sum (entry_bytes (g told f))
     = λ f. late_whole sizes link live col own each is told f ∙ ap told_sum (sym (bytes told f)) in
-    ap (λ n. told_sum (told_sum n + late_sum sizes link live told col)) (sum_made col (first_share sizes link live) files)
-    ∙ ap (λ n. told_sum (told_sum (sum_by first files) + told_sum n)) (sum_made col (late_share sizes link live told) files)
+    ap (λ n. told_sum (told_sum n + late_sum sizes link live told col)) (sum_made col (brought_first sizes link live) files)
+    ∙ ap (λ n. told_sum (told_sum (sum_by first files) + told_sum n)) (sum_made col (brought_late sizes link live told) files)
     ∙ told_twice (sum_by first files) (sum_by behind files)
     ∙ ap told_sum (sum_both first behind files)
     ∙ told_entries (λ f. first f + behind f) (g told) files here
@@ -165,7 +166,7 @@ pub record IsEarly (sizes : TableSizes) (link : LinkInput) (live : Live) (col : 
   pub share : (f : NumberedFile) → col (file_share sizes link live [] f) ≡ told_sum (entry_bytes (g f))
 
 early_first : (sizes : TableSizes) (link : LinkInput) (live : Live) (col : FileShare → ℕ) (g : NumberedFile → List TableEntry)
-    → IsEarly sizes link live col g → (f : NumberedFile) → told_sum (col (first_share sizes link live f)) ≡ told_sum (entry_bytes (g f))
+    → IsEarly sizes link live col g → (f : NumberedFile) → told_sum (col (brought_first sizes link live f)) ≡ told_sum (entry_bytes (g f))
 early_first sizes link live col g is f =
     let s = file_share sizes link live [] f in
     ap told_sum (by_kind (is_prelude f.file.kind) s ∙ is.share f) ∙ told_again (entry_bytes (g f))
@@ -178,12 +179,12 @@ pub early_total : (sizes : TableSizes) (link : LinkInput) (live : Live) (col : F
     → IsEarly sizes link live col g → first_sum sizes link live col ≡ told_sum (entry_bytes (flat_map g (numbered_files link.groups)))
 early_total sizes link live col g is =
     let files = numbered_files link.groups in
-    ap told_sum (sum_made col (first_share sizes link live) files)
-    ∙ told_entries (λ f. col (first_share sizes link live f)) g files (early_first sizes link live col g is)
+    ap told_sum (sum_made col (brought_first sizes link live) files)
+    ∙ told_entries (λ f. col (brought_first sizes link live f)) g files (early_first sizes link live col g is)
 
 -- the prelude brings none of it behind
-none_behind : (sizes : TableSizes) (link : LinkInput) (live : Live) (col : FileShare → ℕ) (g : NumberedFile → List TableEntry)
-    → IsEarly sizes link live col g → (told : List Bool) (f : NumberedFile) → col (late_share sizes link live told f) ≡ 0
+pub none_behind : (sizes : TableSizes) (link : LinkInput) (live : Live) (col : FileShare → ℕ) (g : NumberedFile → List TableEntry)
+    → IsEarly sizes link live col g → (told : List Bool) (f : NumberedFile) → col (brought_late sizes link live told f) ≡ 0
 none_behind sizes link live col g is told f = by_kind (is_prelude f.file.kind)
   where
     by_kind : (b : Bool) → col (if b then plus (table_share link sizes.symbol_entry) (late_part (file_share sizes link live told f)) else no_share) ≡ 0
@@ -192,7 +193,7 @@ none_behind sizes link live col g is told f = by_kind (is_prelude f.file.kind)
         omega (arith, is.both (table_share link sizes.symbol_entry) (late_part t), is.table, is.late t)
     by_kind false = is.none
 
-no_sum : {X : Type 0} (f : X → ℕ) (xs : List X) → ((x : X) → f x ≡ 0) → sum_by f xs ≡ 0
+pub no_sum : {X : Type 0} (f : X → ℕ) (xs : List X) → ((x : X) → f x ≡ 0) → sum_by f xs ≡ 0
 no_sum f [] none = refl
 no_sum f (x ∷ xs) none = omega (arith, sum_by-cons f x xs, none x, no_sum f xs none)
 
@@ -201,6 +202,6 @@ pub early_whole_total : (sizes : TableSizes) (link : LinkInput) (live : Live) (c
     → told_sum (first_sum sizes link live col + late_sum sizes link live told col) ≡ told_sum (entry_bytes (flat_map g (numbered_files link.groups)))
 early_whole_total sizes link live col g is told =
     let files = numbered_files link.groups in
-    let none : sum_by col (map (late_share sizes link live told) files) ≡ 0
-    = sum_made col (late_share sizes link live told) files ∙ no_sum (λ f. col (late_share sizes link live told f)) files (none_behind sizes link live col g is told) in
+    let none : sum_by col (map (brought_late sizes link live told) files) ≡ 0
+    = sum_made col (brought_late sizes link live told) files ∙ no_sum (λ f. col (brought_late sizes link live told f)) files (none_behind sizes link live col g is told) in
     omega (arith, none, early_total sizes link live col g is)

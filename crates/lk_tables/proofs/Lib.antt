@@ -1,8 +1,11 @@
 pub mod BySymbol
 pub mod Columns
+pub mod CommonLists
 pub mod DynamicLemmas
+pub mod EntryOwning
 pub mod HeaderLemmas
 pub mod IndexLemmas
+pub mod Loaded
 pub mod NotCanonical
 pub mod NumberLemmas
 pub mod OwnCounts
@@ -10,7 +13,9 @@ pub mod OwnLemmas
 pub mod PartBytes
 pub mod PartLists
 pub mod ShareSums
+pub mod ShareTies
 pub mod SymtabTotals
+pub mod TableLength
 pub mod TableSums
 pub mod TableTiling
 pub mod TotalLemmas

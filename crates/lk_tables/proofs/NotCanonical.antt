@@ -13,10 +13,11 @@ use Rattle.lk_link.specs.OutputKinds.{is_partial}
 use Rattle.lk_link.specs.SymbolPlacements.{is_common, is_undefined}
 use Rattle.lk_link.specs.TableSizes.{TableSizes}
 use Rattle.lk_gc.specs.declared.live.Live.{Live}
-use Rattle.lk_tables.specs.Copied.{can_resolve, is_canonical, is_copied, is_copied_undefined, is_in_loaded, is_named, is_there, is_wanted, may_stay}
+use Rattle.lk_tables.specs.Copied.{can_resolve, is_canonical, is_copied, is_copied_undefined, is_in_loaded, is_named, is_wanted, may_stay, stands_for_something}
 use Rattle.lk_tables.specs.Dynamic.{exports, is_dynamic_symbol, is_redirect}
 use Rattle.lk_tables.specs.Late.{flags_at, late_flags}
-use Rattle.lk_tables.specs.ShareWords.{dynamic_share, entry_share, has_entry_there, no_share, symbol_share, symtab_share}
+use Rattle.lk_tables.specs.ShareSteps.{dynamic_share, entry_share, no_share, symbol_share, symtab_share}
+use Rattle.lk_tables.specs.ShareWords.{has_entry_there}
 use Rattle.lk_tables.specs.SymbolEntries.{allocated}
 use Rattle.lk_tables.specs.SymbolTable.{is_local_entry}
 use Rattle.lk_tables.proofs.ShareSums.{made_share}
@@ -27,11 +28,11 @@ not_wanted k s x flags h = ap (λ b. b && has_resolution flags.0 && can_resolve 
 
 -- ---- copies
 
-by_kind : (b t m i n w : Bool) → t ≡ false → w ≡ false → (if b then t && m else i && n && w) ≡ false
-by_kind true t m i n w h g = ap (λ b. b && m) h
-by_kind false t m true true w h g = g
-by_kind false t m true false w h g = refl
-by_kind false t m false n w h g = refl
+by_kind : (b t m l i n w : Bool) → t ≡ false → w ≡ false → (if b then t && m && l else i && n && w) ≡ false
+by_kind true t m l i n w h g = ap (λ b. b && m && l) h
+by_kind false t m l true true w h g = g
+by_kind false t m l true false w h g = refl
+by_kind false t m l false n w h g = refl
 
 without_place : (p n w r : Bool) → w ≡ false → (p && n && w && r) ≡ false
 without_place true true w r h = ap (λ b. b && r) h
@@ -46,10 +47,10 @@ not_there : (link : LinkInput) (live : Live) (told : List Bool) (f : NumberedFil
     → has_entry_there link live told f (s, x) ≡ false
 not_there link live told f s x h =
     let flags = late_flags link told f.file.kind s x (flags_at live.flags s) in
-    let here : is_there link live f s x flags ≡ false
-    = ap (λ b. b && not (is_undefined x.at) && is_named x && is_in_loaded link live f x.at && (is_wanted f.file.kind s x flags || not (is_common x.at))) h in
+    let here : stands_for_something f.file.kind s x flags ≡ false
+    = ap (λ b. b && not (is_undefined x.at) && is_named x && (is_wanted f.file.kind s x flags || not (is_common x.at))) h in
     in_no_table link.options.strip_all (is_copied link live f s x flags) (is_copied_undefined link f s x flags)
-    (by_kind (is_object f.file.kind) (is_there link live f s x flags) (may_stay link f.file.kind s x flags) (is_internal f.file.kind) (is_named x) (is_wanted f.file.kind s x flags)
+    (by_kind (is_object f.file.kind) (stands_for_something f.file.kind s x flags) (may_stay link f.file.kind s x flags) (is_in_loaded link live f x.at) (is_internal f.file.kind) (is_named x) (is_wanted f.file.kind s x flags)
     here (not_wanted f.file.kind s x flags h))
     (without_place (is_partial link.options.output) (is_named x) (is_wanted f.file.kind s x flags) _ (not_wanted f.file.kind s x flags h))
 

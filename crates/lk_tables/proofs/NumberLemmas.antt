@@ -1,7 +1,7 @@
 -- The counters give the numbers of symbols in the dynamic symbol table.
 use Rattle.std.proofs.Common.{◌≡◌, ℕ, zero, suc, ◌+◌, ◌≤◌, ◌<◌, ◌==◌, cond, Bool, true, false, if◌then◌else◌, List, [], ◌∷◌, ◌++◌, Option, Some, None, filter, map, take, length, refl, sym, ap, ◌∙◌, arith}
 use Rattle.std.specs.List.{count_by, enumerate_from, flat_map, slice_get}
-use Rattle.std.proofs.lemmas.Bool.{eq-eqb, eqb-true}
+use Rattle.std.proofs.lemmas.Bool.{eq-eqb, eqb-true, true≢false}
 use Rattle.std.proofs.lemmas.List.{length-map, length-take}
 use Rattle.std.proofs.lemmas.List.FromFn.{length-enumerate_from}
 use Rattle.std.proofs.lemmas.List.Sums.{count_by-le-length, length-filter, sum_by-cons}
@@ -25,7 +25,7 @@ use Rattle.lk_tables.specs.Dynamic.{dynamic_index, dynamic_table, index_from, is
 use Rattle.lk_tables.specs.DynamicCounters.{AreNumbersAt, is_dynamic_one, is_exported_one}
 use Rattle.lk_tables.specs.HeaderParts.{told_sum}
 use Rattle.lk_tables.specs.OwnEntries.{symbols_before_it}
-use Rattle.lk_tables.specs.ShareWords.{first_shares, plus, prelude_share, sum_of}
+use Rattle.lk_tables.specs.ShareSteps.{all_brought_first, all_brought_late, plus, sum_of}
 use Rattle.lk_tables.specs.SymbolTable.{TableEntry, entry_bytes, entry_of, symbols_by_number}
 use Rattle.lk_tables.proofs.BySymbol.{by_number, value_of}
 use Rattle.lk_tables.proofs.Columns.{late_whole_total}
@@ -164,10 +164,10 @@ many p link = length-map (filter p (rows link)) (λ r. r.0) ∙ length-filter p 
 
 -- a symbol's number, where there is a table
 in_table : (link : LinkInput) (live : Live) (told : List Bool) (s : ℕ) (f : NumberedFile) (x : InputSymbol) (numbers : DynamicNumbers)
-    → slice_get (numbered_symbols link.groups) s ≡ Some (f, x) → AreNumbersAt link live told s numbers
+    → is_loaded_dynamically link.options.output ≡ true → slice_get (numbered_symbols link.groups) s ≡ Some (f, x) → AreNumbersAt link live told s numbers
     → index_from s 1 (numbers_where (is_dynamic_symbol link live told) link ++ numbers_where (is_export live) link)
-    ≡ first_some (if is_export live f (s, x) then Some numbers.exported else None) (if is_dynamic_symbol link live told f (s, x) then Some numbers.dynamic else None)
-in_table link live told s f x numbers at stand =
+    ≡ first_some (if is_export live f (s, x) then Some numbers.export else None) (if is_dynamic_symbol link live told f (s, x) then Some numbers.dynamic else None)
+in_table link live told s f x numbers loaded at stand =
     let N = numbered_symbols link.groups in
     let p = is_dynamic_one link live told in
     let q = is_exported_one live in
@@ -176,31 +176,37 @@ in_table link live told s f x numbers at stand =
     let dynamics : numbers_where (is_dynamic_symbol link live told) link ≡ ds = by_number (is_dynamic_symbol link live told) (λ y. y.0) link in
     let exports : numbers_where (is_export live) link ≡ es = by_number (is_export live) (λ y. y.0) link in
     let number : s ≡ 0 + s = omega arith in
-    let here : 1 + length ds + count_by q (symbols_before_it link s) ≡ numbers.exported = omega (arith, many p link, stand.exported) in
+    let here : 1 + length ds + count_by q (symbols_before_it link s) ≡ numbers.export = omega (arith, many p link, stand.export loaded) in
     ap (λ ts. index_from s 1 (ts ++ numbers_where (is_export live) link)) dynamics
     ∙ ap (λ ts. index_from s 1 (ds ++ ts)) exports
     ∙ last_of_both s 1 ds es
     ∙ ap (λ o. first_some o (index_from s 1 ds)) (index_at q 0 N s s (1 + length ds) (f, x) number at)
     ∙ ap (first_some (if q (s, (f, x)) then Some (1 + length ds + count_by q (symbols_before_it link s)) else None)) (index_at p 0 N s s 1 (f, x) number at)
     ∙ ap (λ n. first_some (if q (s, (f, x)) then Some n else None) (if p (s, (f, x)) then Some (1 + count_by p (symbols_before_it link s)) else None)) here
-    ∙ ap (λ n. first_some (if q (s, (f, x)) then Some numbers.exported else None) (if p (s, (f, x)) then Some n else None)) (sym stand.dynamic)
+    ∙ ap (λ n. first_some (if q (s, (f, x)) then Some numbers.export else None) (if p (s, (f, x)) then Some n else None)) (sym (stand.dynamic loaded))
 
 pub number_is : (link : LinkInput) (live : Live) (told : List Bool) (s : ℕ) (f : NumberedFile) (x : InputSymbol) (numbers : DynamicNumbers)
-    → slice_get (numbered_symbols link.groups) s ≡ Some (f, x) → AreNumbersAt link live told s numbers
-    → (if is_loaded_dynamically link.options.output
-    then first_some (if is_export live f (s, x) then Some numbers.exported else None) (if is_dynamic_symbol link live told f (s, x) then Some numbers.dynamic else None)
-    else None) ≡ dynamic_index (dynamic_table link live told) s
-number_is link live told s f x numbers at stand = by_output (is_loaded_dynamically link.options.output) (sym (in_table link live told s f x numbers at stand))
-  where
-    by_output : (b : Bool)
-        → first_some (if is_export live f (s, x) then Some numbers.exported else None) (if is_dynamic_symbol link live told f (s, x) then Some numbers.dynamic else None)
-        ≡ index_from s 1 (numbers_where (is_dynamic_symbol link live told) link ++ numbers_where (is_export live) link)
-        → (if b
-        then first_some (if is_export live f (s, x) then Some numbers.exported else None) (if is_dynamic_symbol link live told f (s, x) then Some numbers.dynamic else None)
-        else None)
-        ≡ index_from s 1 (if b then numbers_where (is_dynamic_symbol link live told) link ++ numbers_where (is_export live) link else [])
-    by_output true h = h
-    by_output false h = sym (no_last s 1)
+    → is_loaded_dynamically link.options.output ≡ true → slice_get (numbered_symbols link.groups) s ≡ Some (f, x) → AreNumbersAt link live told s numbers
+    → first_some (if is_export live f (s, x) then Some numbers.export else None) (if is_dynamic_symbol link live told f (s, x) then Some numbers.dynamic else None)
+    ≡ dynamic_index (dynamic_table link live told) s
+number_is link live told s f x numbers loaded at stand =
+    sym (in_table link live told s f x numbers loaded at stand)
+    ∙ ap (λ b. index_from s 1 (if b then numbers_where (is_dynamic_symbol link live told) link ++ numbers_where (is_export live) link else [])) (sym loaded)
+
+-- without a table there is none
+pub no_number : (link : LinkInput) (live : Live) (told : List Bool) (s : ℕ) → is_loaded_dynamically link.options.output ≡ false
+    → None ≡ dynamic_index (dynamic_table link live told) s
+no_number link live told s not_loaded =
+    sym (no_last s 1)
+    ∙ ap (λ b. index_from s 1 (if b then numbers_where (is_dynamic_symbol link live told) link ++ numbers_where (is_export live) link else [])) (sym not_loaded)
+
+-- and nothing is said of the counters
+pub no_numbers : (link : LinkInput) (live : Live) (told : List Bool) (s : ℕ) (numbers : DynamicNumbers) → is_loaded_dynamically link.options.output ≡ false
+    → AreNumbersAt link live told s numbers
+no_numbers link live told s numbers not_loaded = record {
+  dynamic = λ loaded. absurd (true≢false (sym loaded ∙ not_loaded));
+  export = λ loaded. absurd (true≢false (sym loaded ∙ not_loaded));
+}
 
 -- ---- one symbol more
 
@@ -213,18 +219,18 @@ more_of p link s f x at =
     ∙ ap (λ k. count_by p (symbols_before_it link s) + cond (p (k, (f, x))) 1 0) none
 
 pub numbers_move : (link : LinkInput) (live : Live) (told : List Bool) (s : ℕ) (f : NumberedFile) (x : InputSymbol) (old new : DynamicNumbers)
-    → slice_get (numbered_symbols link.groups) s ≡ Some (f, x) → AreNumbersAt link live told s old
+    → is_loaded_dynamically link.options.output ≡ true → slice_get (numbered_symbols link.groups) s ≡ Some (f, x) → AreNumbersAt link live told s old
     → new.dynamic ≡ old.dynamic + (if is_dynamic_symbol link live told f (s, x) then 1 else 0)
-    → new.exported ≡ old.exported + (if is_export live f (s, x) then 1 else 0)
+    → new.export ≡ old.export + (if is_export live f (s, x) then 1 else 0)
     → AreNumbersAt link live told (s + 1) new
-numbers_move link live told s f x old new at stand d e = record {
-  dynamic = omega (arith, d, stand.dynamic, more_of (is_dynamic_one link live told) link s f x at);
-  exported = omega (arith, e, stand.exported, more_of (is_exported_one live) link s f x at);
+numbers_move link live told s f x old new loaded at stand d e = record {
+  dynamic = λ _. omega (arith, d, stand.dynamic loaded, more_of (is_dynamic_one link live told) link s f x at);
+  export = λ _. omega (arith, e, stand.export loaded, more_of (is_exported_one live) link s f x at);
 }
 
 -- ---- how many
 
-few_rows : (link : LinkInput) → IsWellFormed link → length (numbered_symbols link.groups) ≤ 16777216
+pub few_rows : (link : LinkInput) → IsWellFormed link → length (numbered_symbols link.groups) ≤ 16777216
 unfolding counted limit_of
 few_rows link good =
     let few : symbol_count (all_files link.groups) ≤ 16777216 = good.within limited.Symbols in
@@ -238,18 +244,18 @@ few_before p link s good =
     let N = numbered_symbols link.groups in
     omega (arith, count_by-le-length p (symbols_before_it link s), length-enumerate_from 0 (take s N), length-take s N, few_rows link good)
 
-pub numbers_few : (link : LinkInput) (live : Live) (told : List Bool) (s : ℕ) (numbers : DynamicNumbers) → IsWellFormed link → AreNumbersAt link live told s numbers
-    → (numbers.dynamic < 4294967295) × (numbers.exported < 4294967295)
-numbers_few link live told s numbers good stand =
+pub numbers_few : (link : LinkInput) (live : Live) (told : List Bool) (s : ℕ) (numbers : DynamicNumbers) → is_loaded_dynamically link.options.output ≡ true → IsWellFormed link
+    → AreNumbersAt link live told s numbers → (numbers.dynamic < 4294967295) × (numbers.export < 4294967295)
+numbers_few link live told s numbers loaded good stand =
     let d = few_before (is_dynamic_one link live told) link s good in
     let e = few_before (is_exported_one live) link s good in
     let all = few_counted (is_dynamic_one link live told) link good in
-    (omega (arith, d, stand.dynamic), omega (arith, e, all, stand.exported))
+    (omega (arith, d, stand.dynamic loaded), omega (arith, e, all, stand.export loaded))
 
 -- ---- at first
 
 pub count_is : (sizes : TableSizes) (link : LinkInput) (live : Live) (told : List Bool) (shares : List FileShare) (prelude : FileShare)
-    → shares ≡ first_shares sizes link live → prelude ≡ prelude_share sizes link live told
+    → shares ≡ all_brought_first sizes link live → prelude ≡ all_brought_late sizes link live told
     → (plus (sum_of shares) prelude).dynamic.count ≡ told_sum (count_by (is_dynamic_one link live told) (rows link))
 count_is sizes link live told shares prelude h i =
     let one : ℕ × InputSymbol → TableEntry = entry_of 1 in
@@ -258,18 +264,18 @@ count_is sizes link live told shares prelude h i =
     let list : flat_map (each told) (numbered_files link.groups) ≡ map (value_of one) (filter (is_dynamic_one link live told) (rows link))
     = by_number (is_dynamic_symbol link live told) one link in
     ap (λ (xs : List FileShare). (plus (sum_of xs) prelude).dynamic.count) h
-    ∙ ap (λ (y : FileShare). (plus (sum_of (first_shares sizes link live)) y).dynamic.count) i
+    ∙ ap (λ (y : FileShare). (plus (sum_of (all_brought_first sizes link live)) y).dynamic.count) i
     ∙ sum
     ∙ ap (λ es. told_sum (entry_bytes es)) list
     ∙ ap told_sum (sum_passing (is_dynamic_one link live told) (value_of one) (rows link))
 
 pub numbers_begin : (link : LinkInput) (live : Live) (told : List Bool) (count : ℕ) (numbers : DynamicNumbers) → IsWellFormed link
-    → count ≡ told_sum (count_by (is_dynamic_one link live told) (rows link)) → numbers.dynamic ≡ 1 → (count ≤ 16777216 → numbers.exported ≡ count + 1)
+    → count ≡ told_sum (count_by (is_dynamic_one link live told) (rows link)) → numbers.dynamic ≡ 1 → (count ≤ 16777216 → numbers.export ≡ count + 1)
     → AreNumbersAt link live told 0 numbers
 numbers_begin link live told count numbers good h d e =
     let all = few_counted (is_dynamic_one link live told) link good in
     let same : count ≡ count_by (is_dynamic_one link live told) (rows link) = omega (arith, h, all) in
     record {
-      dynamic = omega (arith, d);
-      exported = omega (arith, e (omega (arith, same, all)), same);
+      dynamic = λ _. omega (arith, d);
+      export = λ _. omega (arith, e (omega (arith, same, all)), same);
     }

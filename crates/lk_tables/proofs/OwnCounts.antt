@@ -102,7 +102,7 @@ start_counts : (s n : ℕ) (b : Bool) → count_by (is_of s) (if b then first_en
 start_counts s n true = refl
 start_counts s n false = refl
 
-same_flat : {X Y : Type 0} (g h : X → List Y) (xs : List X) → ((x : X) → g x ≡ h x) → flat_map g xs ≡ flat_map h xs
+pub same_flat : {X Y : Type 0} (g h : X → List Y) (xs : List X) → ((x : X) → g x ≡ h x) → flat_map g xs ≡ flat_map h xs
 same_flat g h [] same = refl
 same_flat g h (x ∷ xs) same =
     flat_map-cons g x xs ∙ ap (λ ys. ys ++ flat_map g xs) (same x) ∙ ap (λ ys. h x ++ ys) (same_flat g h xs same) ∙ sym (flat_map-cons h x xs)

@@ -11,7 +11,8 @@ use Rattle.lk_tables.specs.declared.totals.TableTotals.{TableTotals}
 use Rattle.lk_tables.specs.HeaderParts.{told_sum}
 use Rattle.lk_tables.specs.SymbolTable.{TableEntry, entry_bytes}
 use Rattle.lk_tables.specs.TableLists.{TableLists, all_lists, entries_if, table_bytes}
-use Rattle.lk_tables.specs.Totals.{all_totals, bytes_if, totals_of}
+use Rattle.lk_tables.specs.Totals.{totals_of}
+use Rattle.lk_tables.specs.TotalSteps.{all_totals, bytes_if}
 use Rattle.lk_tables.proofs.ShareSums.{told_again, told_twice}
 
 told_if : (b : Bool) (l : List TableEntry) → told_sum (if b then told_sum (entry_bytes l) else 0) ≡ told_sum (entry_bytes (if b then l else []))

@@ -1,15 +1,18 @@
 -- Sums as they are told: over symbols, over files, and over all their entries.
-use Rattle.std.proofs.Common.{◌≡◌, ℕ, ◌+◌, Bool, true, false, if◌then◌else◌, List, [], ◌∷◌, ◌++◌, filter, map, sum_by, refl, sym, ap, ◌∙◌, arith}
-use Rattle.std.specs.List.{flat_map}
+use Rattle.std.proofs.Common.{◌≡◌, ℕ, ◌+◌, ◌<◌, Bool, true, false, if◌then◌else◌, List, [], ◌∷◌, ◌++◌, filter, get_or, length, map, sum_by, take, refl, sym, ap, ◌∙◌, arith}
+use Rattle.std.specs.List.{enumerate_from, flat_map}
+use Rattle.std.proofs.lemmas.List.{map-append}
 use Rattle.std.proofs.lemmas.List.Concat.{flat_map-cons}
 use Rattle.std.proofs.lemmas.List.Sums.{sum_by-append, sum_by-cons, sum_by_push}
+use Rattle.lk_link.specs.declared.symbol.InputSymbol.{InputSymbol}
 use Rattle.lk_tables.specs.declared.shares.DynamicShare.{DynamicShare}
 use Rattle.lk_tables.specs.declared.shares.EntryShare.{EntryShare}
 use Rattle.lk_tables.specs.declared.shares.FileShare.{FileShare}
 use Rattle.lk_tables.specs.declared.shares.SymtabShare.{SymtabShare}
 use Rattle.lk_tables.specs.HeaderParts.{told_sum}
-use Rattle.lk_tables.specs.ShareWords.{plus, sum_of}
+use Rattle.lk_tables.specs.ShareSteps.{no_share, plus, sum_of}
 use Rattle.lk_tables.specs.SymbolTable.{TableEntry, entry_bytes}
+use Rattle.lk_tables.proofs.TableSums.{numbered_next}
 
 -- ---- told once or twice
 
@@ -83,20 +86,34 @@ entries_of_some p g (x ∷ xs) = some_head p g x xs (p x) refl (entries_of_some 
 push_told : {X : Type 0} (f : X → ℕ) (xs : List X) (x : X) → told_sum (sum_by f (xs ++ x ∷ [])) ≡ told_sum (told_sum (sum_by f xs) + f x)
 push_told f xs x = ap told_sum (sum_by_push f xs x) ∙ sym (told_left (sum_by f xs) (f x))
 
-made_entries : (a b c d : ℕ) → a ≡ c → b ≡ d → ◌≡◌ {A = EntryShare} (record { got = a; plt = b }) (record { got = c; plt = d })
+pub made_entries : (a b c d : ℕ) → a ≡ c → b ≡ d → ◌≡◌ {A = EntryShare} (record { got = a; plt = b }) (record { got = c; plt = d })
 made_entries a b c d e f = cc
 
-made_symtab : (a b c d e f : ℕ) → a ≡ d → b ≡ e → c ≡ f
+pub made_symtab : (a b c d e f : ℕ) → a ≡ d → b ≡ e → c ≡ f
     → ◌≡◌ {A = SymtabShare} (record { local = a; global = b; names = c }) (record { local = d; global = e; names = f })
 made_symtab a b c d e f g h i = cc
 
-made_dynamic : (a b c d e f : ℕ) → a ≡ d → b ≡ e → c ≡ f
+pub made_dynamic : (a b c d e f : ℕ) → a ≡ d → b ≡ e → c ≡ f
     → ◌≡◌ {A = DynamicShare} (record { count = a; entries = b; names = c }) (record { count = d; entries = e; names = f })
 made_dynamic a b c d e f g h i = cc
 
 pub made_share : (a b : EntryShare) (c d : SymtabShare) (e f g h : DynamicShare) → a ≡ b → c ≡ d → e ≡ f → g ≡ h
     → ◌≡◌ {A = FileShare} (record { entries = a; symtab = c; dynamic = e; exports = g }) (record { entries = b; symtab = d; dynamic = f; exports = h })
 made_share a b c d e f g h i j k l = cc
+
+told_more : (a : ℕ) → told_sum (told_sum a + 0) ≡ told_sum a
+told_more a = omega arith
+
+-- nothing more
+pub plus_nothing : (xs : List FileShare) → plus (sum_of xs) no_share ≡ sum_of xs
+plus_nothing xs =
+    let all = plus (sum_of xs) no_share in
+    let same = sum_of xs in
+    made_share all.entries same.entries all.symtab same.symtab all.dynamic same.dynamic all.exports same.exports
+    (made_entries _ _ _ _ (told_more (sum_by (λ s. s.entries.got) xs)) (told_more (sum_by (λ s. s.entries.plt) xs)))
+    (made_symtab _ _ _ _ _ _ (told_more (sum_by (λ s. s.symtab.local) xs)) (told_more (sum_by (λ s. s.symtab.global) xs)) (told_more (sum_by (λ s. s.symtab.names) xs)))
+    (made_dynamic _ _ _ _ _ _ (told_more (sum_by (λ s. s.dynamic.count) xs)) (told_more (sum_by (λ s. s.dynamic.entries) xs)) (told_more (sum_by (λ s. s.dynamic.names) xs)))
+    (made_dynamic _ _ _ _ _ _ (told_more (sum_by (λ s. s.exports.count) xs)) (told_more (sum_by (λ s. s.exports.entries) xs)) (told_more (sum_by (λ s. s.exports.names) xs)))
 
 -- the sum over one more
 pub sum_pushed : (xs : List FileShare) (x : FileShare) → sum_of (xs ++ x ∷ []) ≡ plus (sum_of xs) x
@@ -108,3 +125,14 @@ sum_pushed xs x =
     (made_symtab _ _ _ _ _ _ (push_told (λ s. s.symtab.local) xs x) (push_told (λ s. s.symtab.global) xs x) (push_told (λ s. s.symtab.names) xs x))
     (made_dynamic _ _ _ _ _ _ (push_told (λ s. s.dynamic.count) xs x) (push_told (λ s. s.dynamic.entries) xs x) (push_told (λ s. s.dynamic.names) xs x))
     (made_dynamic _ _ _ _ _ _ (push_told (λ s. s.exports.count) xs x) (push_told (λ s. s.exports.entries) xs x) (push_told (λ s. s.exports.names) xs x))
+
+-- which brings nothing
+pub nothing_pushed : (xs : List FileShare) (x : FileShare) → no_share ≡ x → sum_of (xs ++ x ∷ []) ≡ sum_of xs
+nothing_pushed xs x none = sum_pushed xs x ∙ ap (plus (sum_of xs)) (sym none) ∙ plus_nothing xs
+
+-- over the symbols of a file and the next one
+pub sum_next : (each : ℕ × InputSymbol → FileShare) (o i : ℕ) (xs : List InputSymbol) (x : InputSymbol) → i < length xs → x ≡ get_or xs i x
+    → sum_of (map each (enumerate_from o (take i xs)) ++ each (o + i, x) ∷ []) ≡ sum_of (map each (enumerate_from o (take (i + 1) xs)))
+sum_next each o i xs x lt read =
+    let far = enumerate_from o (take i xs) in
+    ap sum_of (sym (map-append each far ((o + i, x) ∷ []))) ∙ ap (λ ys. sum_of (map each ys)) (sym (numbered_next o i xs x x lt read))

@@ -1,102 +1,107 @@
 -- What a file takes in the symbol table, by what its symbols bring.
-use Rattle.std.proofs.Common.{◌≡◌, ℕ, ◌+◌, ◌-◌, ◌^◌, ◌<◌, ◌≤◌, ◌&&◌, not, Bool, true, false, if◌then◌else◌, List, [], ◌∷◌, filter, length, map, sum_by, Some, refl, ap, ◌∙◌, arith}
+use Rattle.std.proofs.Common.{◌≡◌, ℕ, ◌+◌, ◌^◌, ◌<◌, ◌≤◌, ◌&&◌, not, Bool, true, false, if◌then◌else◌, List, length, Some, refl, ap, ◌∙◌, arith}
 use Rattle.std.proofs.lemmas.List.FromFn.{length-enumerate_from}
-use Rattle.std.proofs.lemmas.List.Sums.{sum_by-append, sum_by-cons}
+use Rattle.lk_link.specs.declared.ids.FileId.{FileId}
 use Rattle.lk_link.specs.declared.link.LinkInput.{LinkInput}
 use Rattle.lk_link.specs.declared.symbol.InputSymbol.{InputSymbol}
 use Rattle.lk_link.specs.FileKinds.{is_prelude}
 use Rattle.lk_link.specs.Files.{file_in}
 use Rattle.lk_link.specs.Inputs.{NumberedFile}
 use Rattle.lk_link.specs.Symbols.{first_symbol}
+use Rattle.lk_link.specs.TableSizes.{TableSizes}
 use Rattle.lk_link.specs.WellFormed.{IsWellFormed}
 use Rattle.lk_link.proofs.SymbolLemmas.{symbols_within}
 use Rattle.lk_gc.specs.declared.live.Live.{Live}
 use Rattle.lk_reach.proofs.SymbolNumbers.{symbols_few}
-use Rattle.lk_tables.specs.SymbolTable.{entry_bytes, entry_of, first_entry, global_entries, is_in_table, is_local_entry, local_entries, name_entries, name_of, symbols_by_number, table_start, table_symbols}
-use Rattle.lk_tables.specs.TableWords.{symbol_bytes}
-use Rattle.lk_tables.proofs.TableSums.{if_at_most, names_few, passing_twice, sum_at_most, sum_numbered, sum_of_part, sum_passing}
+use Rattle.lk_tables.specs.declared.shares.SymtabShare.{SymtabShare}
+use Rattle.lk_tables.specs.HeaderParts.{told_sum}
+use Rattle.lk_tables.specs.ShareSteps.{file_share, table_share, whole_symtab}
+use Rattle.lk_tables.specs.ShareWords.{has_entry_there}
+use Rattle.lk_tables.specs.SymbolTable.{entry_bytes, file_symbol_sizes, global_entries, is_local_entry, local_entries, name_entries, symbols_by_number}
+use Rattle.lk_tables.proofs.Columns.{own_of}
+use Rattle.lk_tables.proofs.TableSums.{if_at_most, names_few, sum_at_most, sum_numbered, sum_of_part}
+use Rattle.lk_tables.proofs.TotalLemmas.{are_names, each_of, global_bytes, is_global, is_local, local_bytes, name_bytes, names_of, start_of}
 
--- ---- where there is a symbol table
+-- its bytes are those of its entries, and fit
+pub record IsSymtab (sizes : TableSizes) (link : LinkInput) (live : Live) (told : List Bool) (f : NumberedFile) (bytes : SymtabShare) : Type 0 where
+  pub local : bytes.local ≡ entry_bytes (local_entries sizes.symbol_entry link live told f)
+  pub global : bytes.global ≡ entry_bytes (global_entries sizes.symbol_entry link live told f)
+  pub names : bytes.names ≡ entry_bytes (name_entries link live told f)
+  pub few_local : bytes.local < 2 ^ 64
+  pub few_global : bytes.global < 2 ^ 64
+  pub few_names : bytes.names < 2 ^ 64
 
-start_by : (b : Bool) (n : ℕ) → entry_bytes (if b && true then first_entry n ∷ [] else []) ≡ (if b then n else 0)
-start_by true n = let none : n + 0 ≡ n = omega arith in sum_by-cons (λ e. e.bytes) (first_entry n) [] ∙ none
-start_by false n = refl
+-- a number of both, the table's own in the prelude alone
+of_either : (part : SymtabShare → ℕ) (b : Bool) (x y : SymtabShare) → part (if b then x else y) ≡ (if b then part x else part y)
+of_either part true x y = refl
+of_either part false x y = refl
 
-start_total : (link : LinkInput) (f : NumberedFile) (n : ℕ) → link.options.strip_all ≡ false
-    → entry_bytes (table_start link f n) ≡ (if is_prelude f.file.kind then n else 0)
-start_total link f n told =
-    ap (λ b. entry_bytes (if is_prelude f.file.kind && not b then first_entry n ∷ [] else [])) told ∙ start_by (is_prelude f.file.kind) n
+summed : (b : Bool) (x own start share n : ℕ) → x ≡ (if b then told_sum (own + share) else share) → own ≡ start → share ≡ told_sum n → n + start < 2 ^ 64
+    → x ≡ n + (if b then start else 0)
+summed true x own start share n h i j few = omega (arith, h, i, j, few)
+summed false x own start share n h i j few = omega (arith, h, i, j, few)
 
-told_symbols : (link : LinkInput) (live : Live) (emitted : List Bool) (f : NumberedFile) → link.options.strip_all ≡ false
-    → table_symbols link live emitted f ≡ filter (is_in_table link live emitted f) (symbols_by_number link f)
-told_symbols link live emitted f told =
-    ap (λ b. if b then [] else filter (is_in_table link live emitted f) (symbols_by_number link f)) told
-
--- those of one kind
-kind_total : (entry : ℕ) (link : LinkInput) (live : Live) (emitted : List Bool) (f : NumberedFile) (own : ℕ × InputSymbol → Bool) → link.options.strip_all ≡ false
-    → entry_bytes (map (entry_of entry) (filter own (table_symbols link live emitted f)))
-    ≡ sum_by (λ q. if is_in_table link live emitted f q && own q then entry else 0) (symbols_by_number link f)
-kind_total entry link live emitted f own told =
-    ap (λ xs. entry_bytes (map (entry_of entry) (filter own xs))) (told_symbols link live emitted f told)
-    ∙ ap (λ xs. entry_bytes (map (entry_of entry) xs)) (passing_twice (is_in_table link live emitted f) own (symbols_by_number link f))
-    ∙ sum_passing (λ q. is_in_table link live emitted f q && own q) (entry_of entry) (symbols_by_number link f)
-
-pub local_total : (entry : ℕ) (link : LinkInput) (live : Live) (emitted : List Bool) (f : NumberedFile) → link.options.strip_all ≡ false
-    → entry_bytes (local_entries entry link live emitted f)
-    ≡ (if is_prelude f.file.kind then entry else 0) + sum_by (λ q. (symbol_bytes entry link live emitted f q).local) (symbols_by_number link f)
-local_total entry link live emitted f told =
-    let symbols = map (entry_of entry) (filter (is_local_entry f.file.kind) (table_symbols link live emitted f)) in
-    sum_by-append (λ e. e.bytes) (table_start link f entry) symbols
-    ∙ ap (λ n. n + entry_bytes symbols) (start_total link f entry told)
-    ∙ ap (λ n. (if is_prelude f.file.kind then entry else 0) + n) (kind_total entry link live emitted f (is_local_entry f.file.kind) told)
-
-pub global_total : (entry : ℕ) (link : LinkInput) (live : Live) (emitted : List Bool) (f : NumberedFile) → link.options.strip_all ≡ false
-    → entry_bytes (global_entries entry link live emitted f) ≡ sum_by (λ q. (symbol_bytes entry link live emitted f q).global) (symbols_by_number link f)
-global_total entry link live emitted f told = kind_total entry link live emitted f (λ q. not (is_local_entry f.file.kind q)) told
-
-pub names_total : (entry : ℕ) (link : LinkInput) (live : Live) (emitted : List Bool) (f : NumberedFile) → link.options.strip_all ≡ false
-    → entry_bytes (name_entries link live emitted f)
-    ≡ (if is_prelude f.file.kind then 1 else 0) + sum_by (λ q. (symbol_bytes entry link live emitted f q).names) (symbols_by_number link f)
-names_total entry link live emitted f told =
-    let symbols = map name_of (table_symbols link live emitted f) in
-    sum_by-append (λ e. e.bytes) (table_start link f 1) symbols
-    ∙ ap (λ n. n + entry_bytes symbols) (start_total link f 1 told)
-    ∙ ap (λ n. (if is_prelude f.file.kind then 1 else 0) + n)
-    (ap (λ xs. entry_bytes (map name_of xs)) (told_symbols link live emitted f told) ∙ sum_passing (is_in_table link live emitted f) name_of (symbols_by_number link f))
-
--- ---- how much that is
+below : (b : Bool) (n start : ℕ) → n + start < 2 ^ 64 → n + (if b then start else 0) < 2 ^ 64
+below true n start few = few
+below false n start few = omega (arith, few)
 
 -- there are fewer than 2^32 symbols
 few_symbols : (link : LinkInput) (f : NumberedFile) → IsWellFormed link → file_in link.groups f.id ≡ Some f.file → length (symbols_by_number link f) < 2 ^ 32
-few_symbols link f wf there =
-    omega (arith, length-enumerate_from (first_symbol link.groups f.id) f.file.symbols, symbols_within link.groups f.id f.file there, symbols_few link wf)
+few_symbols link f good there =
+    omega (arith, length-enumerate_from (first_symbol link.groups f.id) f.file.symbols, symbols_within link.groups f.id f.file there, symbols_few link good)
 
-pub local_few : (entry : ℕ) (link : LinkInput) (live : Live) (emitted : List Bool) (f : NumberedFile) → IsWellFormed link → file_in link.groups f.id ≡ Some f.file → entry ≤ 65536
-    → (if is_prelude f.file.kind then entry else 0) + sum_by (λ q. (symbol_bytes entry link live emitted f q).local) (symbols_by_number link f) < 2 ^ 64 - 1
-local_few entry link live emitted f wf there small =
-    omega (
+pub symtab_is : (sizes : TableSizes) (link : LinkInput) (live : Live) (told : List Bool) (f : NumberedFile) → sizes.symbol_entry ≤ 65536 → IsWellFormed link
+    → file_in link.groups f.id ≡ Some f.file → IsSymtab sizes link live told f (whole_symtab sizes link live told f)
+symtab_is sizes link live told f small good there =
+    let entry = sizes.symbol_entry in
+    let b = is_prelude f.file.kind in
+    let symbols = symbols_by_number link f in
+    let share = (file_share sizes link live told f).symtab in
+    let table = (table_share link entry).symtab in
+    let whole = whole_symtab sizes link live told f in
+    let locals = each_of entry link live (λ g. is_local_entry g.file.kind) told f in
+    let globals = each_of entry link live (λ g q. not (is_local_entry g.file.kind q)) told f in
+    let names = names_of link live told f in
+    let few = few_symbols link f good there in
+    let start : start_of link entry ≤ 65536 = if_at_most (not link.options.strip_all) entry 65536 small in
+    let one : start_of link 1 ≤ 1 = if_at_most (not link.options.strip_all) 1 1 (omega arith) in
+    let few_locals : locals + start_of link entry < 2 ^ 64
+    = omega (arith, few, start, sum_at_most (λ q. has_entry_there link live told f q && is_local_entry f.file.kind q) entry 65536 symbols small) in
+    let few_globals : globals + 0 < 2 ^ 64
+    = omega (arith, few, sum_at_most (λ q. has_entry_there link live told f q && not (is_local_entry f.file.kind q)) entry 65536 symbols small) in
+    let few_names : names + start_of link 1 < 2 ^ 64
+    = omega (
       arith,
-      few_symbols link f wf there,
-      if_at_most (is_prelude f.file.kind) entry 65536 small,
-      sum_at_most (λ q. is_in_table link live emitted f q && is_local_entry f.file.kind q) entry 65536 (symbols_by_number link f) small,
-    )
-
-pub global_few : (entry : ℕ) (link : LinkInput) (live : Live) (emitted : List Bool) (f : NumberedFile) → IsWellFormed link → file_in link.groups f.id ≡ Some f.file → entry ≤ 65536
-    → sum_by (λ q. (symbol_bytes entry link live emitted f q).global) (symbols_by_number link f) < 2 ^ 64 - 1
-global_few entry link live emitted f wf there small =
-    omega (
-      arith,
-      few_symbols link f wf there,
-      sum_at_most (λ q. is_in_table link live emitted f q && not (is_local_entry f.file.kind q)) entry 65536 (symbols_by_number link f) small,
-    )
-
-pub names_fit : (entry : ℕ) (link : LinkInput) (live : Live) (emitted : List Bool) (f : NumberedFile) → IsWellFormed link → file_in link.groups f.id ≡ Some f.file
-    → (if is_prelude f.file.kind then 1 else 0) + sum_by (λ q. (symbol_bytes entry link live emitted f q).names) (symbols_by_number link f) < 2 ^ 64 - 1
-names_fit entry link live emitted f wf there =
-    omega (
-      arith,
-      if_at_most (is_prelude f.file.kind) 1 1 (omega arith),
-      sum_of_part (is_in_table link live emitted f) (λ q. length q.1.name + 1) (symbols_by_number link f),
+      one,
+      sum_of_part (has_entry_there link live told f) (λ q. length q.1.name + 1) symbols,
       sum_numbered (λ (x : InputSymbol). length x.name + 1) (first_symbol link.groups f.id) f.file.symbols,
-      names_few link f.id f.file wf there,
-    )
+      names_few link f.id f.file good there,
+    ) in
+    let local : whole.local ≡ locals + own_of (start_of link entry) f
+    = summed b whole.local table.local (start_of link entry) share.local locals (of_either (λ s. s.local) b _ share) (is_local sizes link live).table
+    ((is_local sizes link live).share told f) few_locals in
+    let global : whole.global ≡ globals + own_of 0 f
+    = summed b whole.global table.global 0 share.global globals (of_either (λ s. s.global) b _ share) (is_global sizes link live).table
+    ((is_global sizes link live).share told f) few_globals in
+    let named : whole.names ≡ names + own_of (start_of link 1) f
+    = summed b whole.names table.names (start_of link 1) share.names names (of_either (λ s. s.names) b _ share) (are_names sizes link live).table
+    ((are_names sizes link live).share told f) few_names in
+    record {
+      local = omega (arith, local, local_bytes entry link live told f);
+      global = omega (arith, global, global_bytes entry link live told f);
+      names = omega (arith, named, name_bytes link live told f);
+      few_local = omega (arith, local, below b locals (start_of link entry) few_locals);
+      few_global = omega (arith, global, below b globals 0 few_globals);
+      few_names = omega (arith, named, below b names (start_of link 1) few_names);
+    }
+
+-- told with its number
+pub same_sizes : (sizes : TableSizes) (link : LinkInput) (live : Live) (told : List Bool) (f : NumberedFile) → IsSymtab sizes link live told f (whole_symtab sizes link live told f)
+    → (let s = whole_symtab sizes link live told f in (f.id, s.local, s.global, s.names)) ≡ file_symbol_sizes sizes.symbol_entry link live told f
+same_sizes sizes link live told f is =
+    let s = whole_symtab sizes link live told f in
+    let entry = sizes.symbol_entry in
+    let row : ℕ → ℕ → ℕ → FileId × ℕ × ℕ × ℕ = λ a b c. (f.id, a, b, c) in
+    ap (λ (a : ℕ). row a s.global s.names) is.local
+    ∙ ap (λ (b : ℕ). row (entry_bytes (local_entries entry link live told f)) b s.names) is.global
+    ∙ ap (λ (c : ℕ). row (entry_bytes (local_entries entry link live told f)) (entry_bytes (global_entries entry link live told f)) c) is.names

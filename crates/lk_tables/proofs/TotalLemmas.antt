@@ -13,12 +13,15 @@ use Rattle.lk_tables.specs.declared.shares.DynamicShare.{DynamicShare}
 use Rattle.lk_tables.specs.declared.shares.FileShare.{FileShare}
 use Rattle.lk_tables.specs.declared.totals.TableTotals.{TableTotals}
 use Rattle.lk_tables.specs.Dynamic.{is_dynamic_symbol, is_export}
-use Rattle.lk_tables.specs.HeaderParts.{file_header_entries, header_sizes, no_headers, told_sum}
-use Rattle.lk_tables.specs.ShareWords.{dynamic_share, first_shares, has_entry_there, no_dynamic, plus, plus_dynamic, prelude_share, sum_of, symbol_share}
+use Rattle.lk_tables.specs.HeaderParts.{file_header_entries, header_sizes, told_sum}
+use Rattle.lk_tables.specs.HeaderSteps.{no_headers}
+use Rattle.lk_tables.specs.ShareSteps.{all_brought_first, all_brought_late, dynamic_share, plus, plus_dynamic, sum_of, symbol_share}
+use Rattle.lk_tables.specs.ShareWords.{has_entry_there, no_dynamic}
 use Rattle.lk_tables.specs.SymbolEntries.{allocated, got_entries, is_resolved, plt_entries}
 use Rattle.lk_tables.specs.SymbolTable.{TableEntry, entry_bytes, entry_of, first_entry, global_entries, is_in_table, is_local_entry, local_entries, name_entries, name_of, symbols_by_number, table_start, table_symbols}
 use Rattle.lk_tables.specs.TableLists.{file_dynamic_entries, file_dynamic_names, file_export_entries, file_export_names, first_tables, other_files, whole_tables}
-use Rattle.lk_tables.specs.Totals.{dynamic_total, totals_by, totals_of}
+use Rattle.lk_tables.specs.Totals.{totals_of}
+use Rattle.lk_tables.specs.TotalSteps.{dynamic_total, totals_by}
 use Rattle.lk_tables.proofs.Columns.{IsEarly, IsLate, dynamic_alike, early_total, early_whole_total, late_first_total, late_whole_total, own_of, there_alike}
 use Rattle.lk_tables.proofs.ShareSums.{sum_alike, sum_made}
 use Rattle.lk_tables.proofs.TableSums.{passing_twice, sum_passing}
@@ -196,7 +199,7 @@ are_dynamic_names sizes link live = record {
 
 -- ---- what doesn't wait
 
-is_got : (sizes : TableSizes) (link : LinkInput) (live : Live) → IsEarly sizes link live (λ s. s.entries.got) (got_entries sizes.allocation link live)
+pub is_got : (sizes : TableSizes) (link : LinkInput) (live : Live) → IsEarly sizes link live (λ s. s.entries.got) (got_entries sizes.allocation link live)
 is_got sizes link live = record {
   early = λ s. refl;
   late = λ s. refl;
@@ -207,7 +210,7 @@ is_got sizes link live = record {
       ∙ sym (sum_passing (is_resolved live f.file.kind) (λ q. entry_of (allocated sizes.allocation live q).got q) (symbols_by_number link f)));
 }
 
-is_plt : (sizes : TableSizes) (link : LinkInput) (live : Live) → IsEarly sizes link live (λ s. s.entries.plt) (plt_entries sizes.allocation link live)
+pub is_plt : (sizes : TableSizes) (link : LinkInput) (live : Live) → IsEarly sizes link live (λ s. s.entries.plt) (plt_entries sizes.allocation link live)
 is_plt sizes link live = record {
   early = λ s. refl;
   late = λ s. refl;
@@ -218,7 +221,7 @@ is_plt sizes link live = record {
       ∙ sym (sum_passing (is_resolved live f.file.kind) (λ q. entry_of (allocated sizes.allocation live q).plt q) (symbols_by_number link f)));
 }
 
-are_exports : (sizes : TableSizes) (link : LinkInput) (live : Live)
+pub are_exports : (sizes : TableSizes) (link : LinkInput) (live : Live)
     → IsEarly sizes link live (λ s. s.exports.entries) (file_export_entries sizes.symbol_entry link live)
 are_exports sizes link live = record {
   early = λ s. refl;
@@ -230,7 +233,7 @@ are_exports sizes link live = record {
       ∙ sym (sum_passing (is_export live f) (entry_of sizes.symbol_entry) (symbols_by_number link f)));
 }
 
-are_export_names : (sizes : TableSizes) (link : LinkInput) (live : Live) → IsEarly sizes link live (λ s. s.exports.names) (file_export_names link live)
+pub are_export_names : (sizes : TableSizes) (link : LinkInput) (live : Live) → IsEarly sizes link live (λ s. s.exports.names) (file_export_names link live)
 are_export_names sizes link live = record {
   early = λ s. refl;
   late = λ s. refl;
@@ -266,7 +269,7 @@ dynamic_if true own sum col start xs ys both none h i j =
     ∙ dynamic_both (col own) (col sum.dynamic) (col sum.exports) start xs ys h i j
 dynamic_if false own sum col start xs ys both none h i j = omega (arith, none)
 
-pub first_totals_are : (sizes : TableSizes) (link : LinkInput) (live : Live) (shares : List FileShare) → shares ≡ first_shares sizes link live
+pub first_totals_are : (sizes : TableSizes) (link : LinkInput) (live : Live) (shares : List FileShare) → shares ≡ all_brought_first sizes link live
     → totals_by (sum_of shares) (dynamic_total link no_dynamic (sum_of shares)) no_headers
     ≡ totals_of (first_tables sizes link live)
 first_totals_are sizes link live shares h =
@@ -274,7 +277,7 @@ first_totals_are sizes link live shares h =
     ≡ totals_of (first_tables sizes link live)) (sym h) these
   where
     all : FileShare
-    all = sum_of (first_shares sizes link live)
+    all = sum_of (all_brought_first sizes link live)
 
     entry : ℕ
     entry = sizes.symbol_entry
@@ -300,7 +303,7 @@ first_totals_are sizes link live shares h =
         (omega arith) (omega arith) (omega arith) (omega arith)
 
 pub whole_totals_are : (sizes : TableSizes) (link : LinkInput) (live : Live) (told emitted : List Bool) (active : List ℕ) → sizes.file_header ≤ 65536
-    → (shares : List FileShare) (prelude : FileShare) → shares ≡ first_shares sizes link live → prelude ≡ prelude_share sizes link live told
+    → (shares : List FileShare) (prelude : FileShare) → shares ≡ all_brought_first sizes link live → prelude ≡ all_brought_late sizes link live told
     → totals_by (plus (sum_of shares) prelude) (dynamic_total link (dynamic_share true sizes.symbol_entry 0) (plus (sum_of shares) prelude)) (header_sizes sizes link emitted active)
     ≡ totals_of (whole_tables sizes link live told emitted active)
 whole_totals_are sizes link live told emitted active lawful shares prelude h i =
@@ -310,7 +313,7 @@ whole_totals_are sizes link live told emitted active lawful shares prelude h i =
     ≡ totals_of (whole_tables sizes link live told emitted active)) (sym i) these)
   where
     first : FileShare
-    first = sum_of (first_shares sizes link live)
+    first = sum_of (all_brought_first sizes link live)
 
     entry : ℕ
     entry = sizes.symbol_entry
@@ -319,7 +322,7 @@ whole_totals_are sizes link live told emitted active lawful shares prelude h i =
     own = dynamic_share true entry 0
 
     all : FileShare
-    all = plus first (prelude_share sizes link live told)
+    all = plus first (all_brought_late sizes link live told)
 
     one : (n : ℕ) → n ≡ entry_bytes (first_entry n ∷ [])
     one n = omega (arith, sum_by-cons (λ (t : TableEntry). t.bytes) (first_entry n) [])

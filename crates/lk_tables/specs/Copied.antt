@@ -63,12 +63,11 @@ stays_by discard.None x = true
 abbrev pub is_in_loaded : LinkInput → Live → NumberedFile → SymbolPlacement → Bool
 is_in_loaded link live f p = option_map_or (λ i. option_map_or is_loaded (live_slot link live f.id i) false) (section_of p) true
 
--- whether a symbol of an object stands for something in the output under a name: it stands for itself, is defined and named, its section
--- is loaded, and it is wanted if it is a common
-abbrev pub is_there : LinkInput → Live → NumberedFile → ℕ → InputSymbol → ValueFlags → Bool
-is_there link live f s x flags =
-    is_canonical s x && not (is_undefined x.at) && is_named x && is_in_loaded link live f x.at
-    && (is_wanted f.file.kind s x flags || not (is_common x.at))
+-- whether a symbol of files of a kind stands for something under a name: it stands for itself, is defined and named, and is wanted if it is
+-- a common
+abbrev pub stands_for_something : FileKind → ℕ → InputSymbol → ValueFlags → Bool
+stands_for_something kind s x flags =
+    is_canonical s x && not (is_undefined x.at) && is_named x && (is_wanted kind s x flags || not (is_common x.at))
 
 -- whether the options let a symbol stay: it is a must, or isn't left out as a local one; and it names a section group, or its name isn't
 -- one of those to be left out
@@ -79,11 +78,12 @@ may_stay link kind s x flags =
 
 -- ---- copies
 
--- whether a symbol of a file, with its number and these flags, is copied: of an object where it is there and may stay; one that the linker
--- places where it is named and wanted; of other files none
+-- whether a symbol of a file, with its number and these flags, is copied: of an object where it stands for something, may stay, and is in no
+-- section that isn't loaded; one that the linker places where it is named and wanted; of other files none
 abbrev pub is_copied : LinkInput → Live → NumberedFile → ℕ → InputSymbol → ValueFlags → Bool
 is_copied link live f s x flags =
-    if is_object f.file.kind then is_there link live f s x flags && may_stay link f.file.kind s x flags
+    if is_object f.file.kind
+    then stands_for_something f.file.kind s x flags && may_stay link f.file.kind s x flags && is_in_loaded link live f x.at
     else is_internal f.file.kind && is_named x && is_wanted f.file.kind s x flags
 
 -- whether it is copied though it has no place: in output that is linked again, where it is named and wanted, and is undefined, or isn't

@@ -1,7 +1,6 @@
 -- The dynamic symbol table: which symbols have entries, in which order, and with which numbers.
-use Rattle.std.specs.Prelude.{ℕ, ◌+◌, ◌==◌, ◌&&◌, Bool, true, false, if◌then◌else◌, List, [], ◌∷◌, ◌++◌, Option, Some, None, filter, length, map}
+use Rattle.std.specs.Prelude.{ℕ, ◌+◌, ◌==◌, ◌&&◌, Bool, true, false, if◌then◌else◌, List, [], ◌∷◌, ◌++◌, Option, Some, None, filter, map}
 use Rattle.std.specs.List.{flat_map}
-use Rattle.std.specs.Option.{option_map_or}
 use Rattle.lk_link.specs.declared.file.FileKind.{FileKind}
 use Rattle.lk_link.specs.declared.file.FileKind.TheVariants as kind
 use Rattle.lk_link.specs.declared.flags.TheConstants.ValueFlags as flag
@@ -13,13 +12,10 @@ use Rattle.lk_link.specs.Files.{first_some}
 use Rattle.lk_link.specs.Flags.{has_flag}
 use Rattle.lk_link.specs.Inputs.{NumberedFile, numbered_files}
 use Rattle.lk_link.specs.OutputKinds.{is_loaded_dynamically}
-use Rattle.lk_link.specs.Symbols.{symbol_at}
 use Rattle.lk_gc.specs.declared.live.Live.{Live}
-use Rattle.lk_tables.specs.declared.dynamic.DynamicSizes.{DynamicSizes}
 use Rattle.lk_tables.specs.Copied.{is_canonical, is_wanted}
-use Rattle.lk_tables.specs.HeaderParts.{told_sum}
 use Rattle.lk_tables.specs.Late.{flags_at, late_flags}
-use Rattle.lk_tables.specs.SymbolTable.{SymbolEntry, TableEntry, entry_bytes, first_entry, symbols_by_number}
+use Rattle.lk_tables.specs.SymbolTable.{symbols_by_number}
 
 -- ---- which symbols
 
@@ -70,30 +66,3 @@ index_from s k (t ∷ table) = first_some (index_from s (k + 1) table) (if t == 
 -- a symbol's number in the dynamic symbol table, by whose its entries are; the table's own has number 0
 abbrev pub dynamic_index : List ℕ → ℕ → Option ℕ
 dynamic_index table s = index_from s 1 table
-
--- ---- sizes
-
--- the bytes of a symbol's name, by its number, with a zero byte behind it
-abbrev pub symbol_name_bytes : LinkInput → ℕ → ℕ
-symbol_name_bytes link s = option_map_or (λ x. length x.name) (symbol_at link.groups s) 0 + 1
-
--- the entries of the dynamic symbol table, each so many bytes long, by whose they are: the table's own first
-abbrev pub dynamic_entries : ℕ → List ℕ → List TableEntry
-dynamic_entries entry table = first_entry entry ∷ map (λ s. record { owner = SymbolEntry s; bytes = entry }) table
-
--- their names: an empty one first
-abbrev pub dynamic_name_entries : LinkInput → List ℕ → List TableEntry
-dynamic_name_entries link table =
-    first_entry 1 ∷ map (λ s. record { owner = SymbolEntry s; bytes = symbol_name_bytes link s }) table
-
--- the bytes of both; a sum past 2^128 - 1 is told as that
-abbrev pub loaded_sizes : ℕ → LinkInput → List ℕ → DynamicSizes
-loaded_sizes entry link table = record {
-  dynsym = told_sum (entry_bytes (dynamic_entries entry table));
-  dynstr = told_sum (entry_bytes (dynamic_name_entries link table));
-}
-
--- the same where a dynamic linker loads the output, and nothing else
-abbrev pub dynamic_sizes : ℕ → LinkInput → List ℕ → DynamicSizes
-dynamic_sizes entry link table =
-    if is_loaded_dynamically link.options.output then loaded_sizes entry link table else record { dynsym = 0; dynstr = 0 }

@@ -1,7 +1,6 @@
 -- What headers and the names of sections take.
-use Rattle.std.specs.Prelude.{ℕ, ◌+◌, ◌-◌, ◌^◌, Bool, if◌then◌else◌, List, [], ◌∷◌, filter, length, map, min}
+use Rattle.std.specs.Prelude.{ℕ, ◌+◌, ◌-◌, ◌^◌, Bool, List, [], ◌∷◌, filter, length, map, min}
 use Rattle.std.specs.List.{filter_map}
-use Rattle.std.specs.Option.{option_map_or}
 use Rattle.lk_link.specs.declared.link.LinkInput.{LinkInput}
 use Rattle.lk_link.specs.declared.plan.OrderEvent.{OrderEvent}
 use Rattle.lk_link.specs.Inside.{placed_section}
@@ -52,16 +51,3 @@ header_sizes sizes link emitted active = record {
   section_headers = told_sum (entry_bytes (section_header_entries sizes.section_header link emitted));
   shstrtab = told_sum (entry_bytes (section_name_entries link emitted));
 }
-
--- ---- what the code goes by
-
--- nothing
-abbrev pub no_headers : HeaderSizes
-no_headers = record { file_header = 0; program_headers = 0; section_headers = 0; shstrtab = 0 }
-
--- the header and the name of the section that an event places, if it is emitted
-abbrev pub event_header : ℕ → List Bool → OrderEvent → ℕ
-event_header bytes emitted e = option_map_or (λ s. if is_marked emitted s then bytes else 0) (placed_section e) 0
-
-abbrev pub event_name : LinkInput → List Bool → OrderEvent → ℕ
-event_name link emitted e = option_map_or (λ s. if is_marked emitted s then section_name_bytes link s else 0) (placed_section e) 0

@@ -1,11 +1,15 @@
+pub mod Commons
 pub mod Copied
 pub mod Dynamic
 pub mod DynamicCounters
 pub mod DynamicWords
+pub mod EntryOwners
 pub mod HeaderParts
+pub mod HeaderSteps
 pub mod Late
 pub mod OwnEntries
 pub mod OwnTables
+pub mod ShareSteps
 pub mod ShareWords
 pub mod SymbolEntries
 pub mod SymbolTable
@@ -13,4 +17,5 @@ pub mod TableLaws
 pub mod TableLists
 pub mod TableTiles
 pub mod TableWords
+pub mod TotalSteps
 pub mod Totals

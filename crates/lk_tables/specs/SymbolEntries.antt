@@ -1,15 +1,14 @@
 -- What the symbols of files take in the parts got and plt.
-use Rattle.std.specs.Prelude.{ℕ, ◌-◌, ◌^◌, Bool, if◌then◌else◌, List, filter, map, min}
+use Rattle.std.specs.Prelude.{ℕ, Bool, if◌then◌else◌, List, filter, map}
 use Rattle.lk_link.specs.declared.file.FileKind.{FileKind}
-use Rattle.lk_link.specs.declared.ids.FileId.{FileId}
 use Rattle.lk_link.specs.declared.link.LinkInput.{LinkInput}
 use Rattle.lk_link.specs.declared.symbol.InputSymbol.{InputSymbol}
 use Rattle.lk_link.specs.declared.tables.Allocation.{Allocation}
-use Rattle.lk_link.specs.Inputs.{NumberedFile, numbered_files}
+use Rattle.lk_link.specs.Inputs.{NumberedFile}
 use Rattle.lk_gc.specs.declared.live.Live.{Live}
 use Rattle.lk_tables.specs.Copied.{is_wanted}
 use Rattle.lk_tables.specs.Late.{flags_at}
-use Rattle.lk_tables.specs.SymbolTable.{TableEntry, entry_bytes, entry_of, symbols_by_number}
+use Rattle.lk_tables.specs.SymbolTable.{TableEntry, entry_of, symbols_by_number}
 
 -- whether a symbol of a file of a kind, with its number, has a resolution; a late mark asks for no bytes here
 abbrev pub is_resolved : Live → FileKind → ℕ × InputSymbol → Bool
@@ -29,16 +28,7 @@ abbrev pub plt_entries : (ℕ → Allocation) → LinkInput → Live → Numbere
 plt_entries allocation link live f =
     map (λ q. entry_of (allocated allocation live q).plt q) (filter (is_resolved live f.file.kind) (symbols_by_number link f))
 
--- the bytes of a file there, with its number; a sum past 2^128 - 1 is told as that
-abbrev pub file_entry_sizes : (ℕ → Allocation) → LinkInput → Live → NumberedFile → FileId × ℕ × ℕ
-file_entry_sizes allocation link live f =
-    (f.id, min (entry_bytes (got_entries allocation link live f)) (2 ^ 128 - 1), min (entry_bytes (plt_entries allocation link live f)) (2 ^ 128 - 1))
-
--- those of all files, by group and index
-abbrev pub entry_sizes : (ℕ → Allocation) → LinkInput → Live → List (FileId × ℕ × ℕ)
-entry_sizes allocation link live = map (file_entry_sizes allocation link live) (numbered_files link.groups)
-
--- ---- what the code goes by
+-- ---- a symbol
 
 -- bytes, if they are taken
 abbrev pub allocation_if : Bool → Allocation → Allocation

@@ -1,17 +1,25 @@
 //! Which symbols are copied to the symbol table of the output, and under which names.
 
-ghost use Rattle.std.specs.Prelude.{◌≡◌, if◌then◌else◌, Some, None};
+ghost use Rattle.std.specs.Prelude.{◌≡◌, ◌&&◌, ◌||◌, ◌<◌, ◌^◌, false, not, if◌then◌else◌, Some, None};
+ghost use Rattle.std.specs.Option.{option_map_or};
+ghost use Rattle.lk_link.specs.declared.link.LinkInput.{LinkInput};
 ghost use Rattle.lk_link.specs.declared.flags.TheConstants.ValueFlags as flag;
+ghost use Rattle.lk_link.specs.Files.{file_in};
 ghost use Rattle.lk_link.specs.Flags.{has_flag};
+ghost use Rattle.lk_link.specs.InputSlots.{is_discarded, is_merge};
+ghost use Rattle.lk_link.specs.SectionSlots.{is_loaded};
 ghost use Rattle.lk_link.specs.WellFormed.{IsWellFormed};
 ghost use Rattle.lk_link.specs.Walks.{file_of};
+ghost use Rattle.lk_gc.specs.Slots.{live_slot};
 ghost use Rattle.lk_link.specs.SymbolPlacements.{is_undefined};
 ghost use Rattle.lk_reach.specs.Placements.{is_in_discarded};
-ghost use Rattle.lk_tables.specs.Copied.{can_resolve, copied_name, is_assembler_name, is_canonical, is_copied, is_copied_undefined, is_in_loaded, is_must, is_named, is_there, is_wanted, may_stay, stays_by, undefined_name};
+ghost use Rattle.lk_tables.specs.Copied.{can_resolve, copied_name, is_assembler_name, is_canonical, is_copied, is_copied_undefined, is_in_loaded, is_must, is_named, is_wanted, may_stay, stands_for_something, stays_by, undefined_name};
+ghost use Rattle.lk_tables.specs.TableWords.{IsLookedAt};
 
 use lk_gc::Live;
+use lk_link::marks::is_marked;
 use lk_link::{
-    DiscardLocals, FileKind, FileRef, InputSection, InputSymbol, LinkInput, SymbolId,
+    DiscardLocals, FileKind, FileRef, InputSection, InputSlot, InputSymbol, LinkInput, SymbolId,
     SymbolPlacement, ValueFlags,
 };
 use std::marker::Model;
@@ -46,10 +54,9 @@ impl<'a> SymbolCopyInfo<'a> {
         let id = link.groups.file_of_symbol(symbol)?;
         let file = link.groups.file(id)?;
         let own = link.groups.symbol(symbol)?;
-        info_if(
-            is_copied(link, live, FileRef { id, file }, symbol, own, flags),
-            own,
-        )
+        let file = FileRef { id, file };
+        let first = first_input_of(link, file);
+        info_if(is_copied(link, live, file, first, symbol, own, flags), own)
     }
 
     /// The same where it is copied though it has no place: in partial output one with a name and a resolution that is
@@ -182,39 +189,68 @@ fn is_in_discarded(sections: &[InputSection], at: &SymbolPlacement) -> bool
     }
 }
 
-/// Whether the section of a placement in a file, if it is in one, is loaded.
-fn is_in_loaded(link: &LinkInput, live: &Live, file: FileRef<'_>, at: &SymbolPlacement) -> bool
-    requires { IsWellFormed link.now }
-    ensures { result ≡ is_in_loaded link.now live.now (file_of file.entry) at.now }
+/// The number of a file's first input section.
+pub fn first_input_of(link: &LinkInput, file: FileRef<'_>) -> usize
+    requires good { IsWellFormed link.now }
+    requires there { file_in link.now.groups file.id ≡ Some file.file.now }
+    ensures { IsLookedAt link.now (file_of file.entry) result }
+{
+    match link.groups.input_start(file.id) {
+        Some(first) => first,
+        None => 0,
+    }
+}
+
+/// Whether a section of which the description says this is loaded, if it is live or isn't.
+fn is_loaded_by(slot: InputSlot, is_live: bool) -> bool
+    ensures { result ≡ (not (is_discarded slot) && (is_merge slot || is_live)) }
+{
+    !slot.is_discarded() && (slot.is_merge() || is_live)
+}
+
+/// Whether the section of a file with an index, if there is one, is loaded. The file's first one has this number.
+fn is_section_loaded(live: &Live, file: FileRef<'_>, first_input: usize, index: usize) -> bool
+    requires few { first_input < 2 ^ 32 }
+    requires small { index < 2 ^ 32 }
+    ensures { (link : LinkInput) → IsLookedAt link (file_of file.entry) first_input
+        → result ≡ option_map_or is_loaded (live_slot link live.now file.entry.id index) false }
+{
+    match file.file.sections.get(index) {
+        Some(section) => {
+            let is_live = is_marked(live.marks.as_slice(), first_input + index);
+            is_loaded_by(section.slot, is_live)
+        }
+        None => false,
+    }
+}
+
+/// Whether the section of a placement in a file, if it is in one, is loaded. The file's first one has this number.
+fn is_in_loaded(live: &Live, file: FileRef<'_>, first_input: usize, at: &SymbolPlacement) -> bool
+    requires few { first_input < 2 ^ 32 }
+    ensures { (link : LinkInput) → IsLookedAt link (file_of file.entry) first_input
+        → result ≡ is_in_loaded link live.now (file_of file.entry) at.now }
 {
     match at {
         SymbolPlacement::Section { index, .. } => {
-            match live.slot(link, file.id, *index as usize) {
-                Some(slot) => slot.is_loaded(),
-                None => false,
-            }
+            is_section_loaded(live, file, first_input, *index as usize)
         }
         _ => true,
     }
 }
 
-/// Whether a symbol of an object stands for something in the output under a name.
-fn is_there(
-    link: &LinkInput,
-    live: &Live,
-    file: FileRef<'_>,
+/// Whether a symbol of files of a kind stands for something under a name.
+fn stands_for_something(
+    kind: FileKind,
     number: SymbolId,
     symbol: &InputSymbol,
     flags: ValueFlags,
 ) -> bool
-    requires { IsWellFormed link.now }
-    ensures { result ≡ is_there link.now live.now (file_of file.entry) number symbol.now flags }
+    ensures { result ≡ stands_for_something kind number symbol.now flags }
 {
     is_canonical(number, symbol)
         && !is_undefined(&symbol.at)
         && is_named(symbol)
-        && is_in_loaded(link, live, file, &symbol.at)
-        && (is_wanted(file.file.kind, number, symbol, flags) || !symbol.at.is_common())
+        && (is_wanted(kind, number, symbol, flags) || !symbol.at.is_common())
 }
 
 /// Whether the options let a symbol of an object stay.
@@ -232,22 +268,25 @@ fn may_stay(
         && (names_group(flags) || !options.strip_names.contains(symbol.name.as_str()))
 }
 
-/// Whether a symbol of a file, with its number and these flags, is copied.
+/// Whether a symbol of a file, with its number and these flags, is copied. Its section is looked at last, since that lies far
+/// from it.
 pub(crate) fn is_copied(
     link: &LinkInput,
     live: &Live,
     file: FileRef<'_>,
+    first_input: usize,
     number: SymbolId,
     symbol: &InputSymbol,
     flags: ValueFlags,
 ) -> bool
-    requires { IsWellFormed link.now }
+    requires { IsLookedAt link.now (file_of file) first_input }
     ensures { result ≡ is_copied link.now live.now (file_of file.entry) number symbol.now flags }
 {
     let kind = file.file.kind;
     if kind.is_object() {
-        is_there(link, live, file, number, symbol, flags)
+        stands_for_something(kind, number, symbol, flags)
             && may_stay(link, kind, number, symbol, flags)
+            && is_in_loaded(live, file, first_input, &symbol.at)
     } else {
         kind.is_internal() && is_named(symbol) && is_wanted(kind, number, symbol, flags)
     }

@@ -1,8 +1,10 @@
 //! What headers and the names of sections take: one pass over the events.
 
-ghost use Rattle.std.specs.Prelude.{◌≡◌, ◌+◌, ◌-◌, ◌^◌, if◌then◌else◌, length, min, sum_by};
+ghost use Rattle.std.specs.Prelude.{◌≡◌, ◌+◌, ◌-◌, ◌^◌, false, if◌then◌else◌, length, min, sum_by};
+ghost use Rattle.lk_link.specs.OutputKinds.{is_partial};
 ghost use Rattle.lk_link.specs.PlanSections.{section_at};
-ghost use Rattle.lk_tables.specs.HeaderParts.{event_header, event_name, header_sizes, no_headers, program_header_entries, section_header_entries, section_name_entries, told_sum};
+ghost use Rattle.lk_tables.specs.HeaderSteps.{event_header, event_name, no_headers};
+ghost use Rattle.lk_tables.specs.HeaderParts.{header_sizes, program_header_entries, section_header_entries, section_name_entries, told_sum};
 ghost use Rattle.lk_tables.specs.SymbolTable.{entry_bytes};
 
 use crate::header_info::HeaderInfo;
@@ -111,9 +113,15 @@ fn segments_bytes(bytes: u64, segments: &[SegmentId]) -> u128
 }
 
 /// What headers and the names of sections take, by which sections are emitted and which segments are active. Looks at each event
-/// once; takes no memory (libwild: `PreludeLayoutState::determine_header_sizes`).
+/// once; takes no memory. In output that is linked again some input sections have headers and names of their own, which come with
+/// it (libwild: `PreludeLayoutState::determine_header_sizes`).
 pub fn header_sizes<P: Platform>(link: &LinkInput, platform: &P, header: &HeaderInfo) -> HeaderSizes
-    ensures { result ≡ header_sizes (P.table_sizes platform.now) link.now header.now.emitted header.now.active_segment_ids }
+    ensures all { is_partial link.now.options.output ≡ false
+        → result ≡ header_sizes (P.table_sizes platform.now) link.now header.now.emitted header.now.active_segment_ids }
+    ensures file { result.file_header
+        ≡ (header_sizes (P.table_sizes platform.now) link.now header.now.emitted header.now.active_segment_ids).file_header }
+    ensures segments { result.program_headers
+        ≡ (header_sizes (P.table_sizes platform.now) link.now header.now.emitted header.now.active_segment_ids).program_headers }
 {
     let sections = sections_bytes(
         platform.section_header(),

@@ -1,5 +1,6 @@
 //! Laws on tables.
 
+ghost use Rattle.lk_tables.specs.EntryOwners.{EntriesAreOwned, TablesBeginWithOwn};
 ghost use Rattle.lk_tables.specs.OwnEntries.{CursorsMoveOn, CursorsReachEntries};
 ghost use Rattle.lk_tables.specs.OwnTables.{SymbolsHaveOwnEntries};
 ghost use Rattle.lk_tables.specs.TableLaws.{FirstTablesAreWithin, IndexesNameEntries, NamedPartsHaveTheirTable, OtherPartsHaveNoEntries};
@@ -41,6 +42,17 @@ pub fn indexes_name_entries()
 /// in one of the two symbol tables where it is copied, and in the dynamic one as many as it is dynamic and exported.
 pub fn symbols_have_own_entries()
     ensures { SymbolsHaveOwnEntries }
+{}
+
+/// A law: each entry of `got`, `plt`, the symbol tables, the dynamic one and their names is the table's own, or that of a symbol of the
+/// link that has one there, and has its bytes.
+pub fn entries_are_owned()
+    ensures { EntriesAreOwned }
+{}
+
+/// A law: in a well-formed link, a table that has an entry of its own has it first, and no other one.
+pub fn tables_begin_with_own()
+    ensures { TablesBeginWithOwn }
 {}
 
 /// A law: what tables take first of a part is no more than what they take there in all.

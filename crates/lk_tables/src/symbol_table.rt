@@ -1,23 +1,21 @@
-//! What the symbols of files take in the symbol table and its names.
+//! Which symbols of files stand in the symbol table, and what files take there and in its names.
 //!
-//! One pass over the symbols of all files, file by file: each that is copied takes an entry among the local symbols or the
-//! others, and the bytes of its name with a zero byte. Names are measured, and not copied. The sums stand file by file, so
-//! that those of groups can be added up side by side.
+//! Each symbol that is copied takes an entry among the local symbols or the others, and the bytes of its name with a zero byte.
+//! Symbols of the prelude may be marked late, by the output sections that are emitted.
 
-ghost use Rattle.std.specs.Prelude.{◌≡◌, ℕ, ◌+◌, ◌-◌, ◌<◌, ◌≤◌, ◌^◌, All, IfOk, Some, false, if◌then◌else◌, length, min, sum_by};
-ghost use Rattle.std.specs.List.{enumerate_from};
+ghost use Rattle.std.specs.Prelude.{◌≡◌, ℕ, ◌&&◌, ◌||◌, ◌<◌, ◌^◌, IfOk, Some, false, not};
 ghost use Rattle.lk_link.specs.Files.{file_in};
 ghost use Rattle.lk_link.specs.OutputKinds.{is_partial};
-ghost use Rattle.lk_link.specs.declared.symbol.InputSymbol.{InputSymbol};
 ghost use Rattle.lk_link.specs.WellFormed.{IsWellFormed};
 ghost use Rattle.lk_link.specs.Walks.{file_of};
+ghost use Rattle.lk_tables.specs.Copied.{is_copied, is_copied_undefined};
 ghost use Rattle.lk_tables.specs.Late.{flags_at, is_late, is_late_place, late_flags};
-ghost use Rattle.lk_tables.specs.SymbolTable.{entry_bytes, global_entries, is_in_table, is_local_entry, local_entries, name_entries, symbol_sizes, symbols_by_number};
-ghost use Rattle.lk_tables.specs.TableWords.{symbol_bytes, taken_bytes};
-ghost use Rattle.lk_link.specs.FileKinds.{is_prelude};
+ghost use Rattle.lk_tables.specs.SymbolTable.{file_symbol_sizes, is_local_entry, symbol_sizes};
+ghost use Rattle.lk_tables.specs.TableWords.{IsLookedAt};
 
 use crate::copied::{is_canonical, is_copied, is_copied_undefined, is_named};
 use crate::header_info::HeaderInfo;
+use crate::shares::{SymtabShare, whole_symtab};
 use lk_gc::Live;
 use lk_link::marks::is_marked;
 use lk_link::{
@@ -33,32 +31,6 @@ pub(crate) struct Given<'a> {
     pub(crate) live: &'a Live,
     /// For each output section whether its edges are told.
     pub(crate) told: &'a [bool],
-}
-
-/// Bytes in the symbol table and its names.
-#[derive(Clone, Copy)]
-pub(crate) struct SymbolBytes {
-    /// Among the local symbols.
-    pub(crate) local: u64,
-    /// Among the others.
-    pub(crate) global: u64,
-    /// In the names.
-    pub(crate) names: u64,
-}
-
-impl SymbolBytes {
-    /// Those of both; a sum past 2^64 - 1 is given as that.
-    fn plus(self, more: SymbolBytes) -> SymbolBytes
-        ensures local { result.local ≡ min (self.local + more.local) (2 ^ 64 - 1) }
-        ensures global { result.global ≡ min (self.global + more.global) (2 ^ 64 - 1) }
-        ensures names { result.names ≡ min (self.names + more.names) (2 ^ 64 - 1) }
-    {
-        SymbolBytes {
-            local: self.local.saturating_add(more.local),
-            global: self.global.saturating_add(more.global),
-            names: self.names.saturating_add(more.names),
-        }
-    }
 }
 
 /// The flags of a symbol by its number; none past the end.
@@ -123,28 +95,24 @@ pub(crate) fn late_flags(
     }
 }
 
-/// Whether a symbol of a file, with its number, is in the symbol table.
-pub(crate) fn is_in_table(
-    given: Given<'_>,
+/// Whether a symbol of a file, with its number and these flags, late ones included, has an entry in the symbol table, and there is
+/// one. The file's first input section has this number.
+pub(crate) fn has_entry_there(
+    link: &LinkInput,
+    live: &Live,
     file: FileRef<'_>,
+    first_input: usize,
     number: SymbolId,
     symbol: &InputSymbol,
+    flags: ValueFlags,
 ) -> bool
-    requires { IsWellFormed given.link.now }
-    ensures { result ≡ is_in_table given.entry.link.now given.entry.live.now given.entry.told.now (file_of file.entry)
-        (number, symbol.now) }
+    requires { IsLookedAt link.now (file_of file) first_input }
+    ensures { result ≡ (not link.now.options.strip_all && (is_copied link.now live.now (file_of file.entry) number symbol.now flags
+        || is_copied_undefined link.now (file_of file.entry) number symbol.now flags)) }
 {
-    let flags = flags_at(given.live.flags.as_slice(), number.as_usize());
-    let flags = late_flags(
-        given.link,
-        given.told,
-        file.file.kind,
-        number,
-        symbol,
-        flags,
-    );
-    is_copied(given.link, given.live, file, number, symbol, flags)
-        || is_copied_undefined(given.link, file, number, symbol, flags)
+    !link.options.strip_all
+        && (is_copied(link, live, file, first_input, number, symbol, flags)
+            || is_copied_undefined(link, file, number, symbol, flags))
 }
 
 /// Whether it is among the local ones there.
@@ -154,167 +122,38 @@ pub(crate) fn is_local_entry(kind: FileKind, symbol: &InputSymbol) -> bool
     symbol.local || (symbol.hidden && kind.is_internal())
 }
 
-/// What one takes that is in the symbol table or isn't, among the local symbols or the others, with entries of so many bytes
-/// and a name of so many.
-fn taken_bytes(is_there: bool, is_local: bool, entry: u64, name_len: usize) -> SymbolBytes
-    requires { name_len < 2 ^ 32 }
-    ensures { result ≡ taken_bytes is_there is_local entry name_len }
+/// These bytes of a file, with its number.
+fn sizes_of(id: FileId, bytes: SymtabShare) -> (FileId, u64, u64, u64)
+    requires local { bytes.local < 2 ^ 64 }
+    requires global { bytes.global < 2 ^ 64 }
+    requires names { bytes.names < 2 ^ 64 }
+    ensures { result ≡ (id, bytes.local, bytes.global, bytes.names) }
 {
-    let mut bytes = SymbolBytes {
-        local: 0,
-        global: 0,
-        names: 0,
-    };
-    if is_there {
-        bytes.names = name_len as u64 + 1;
-        if is_local {
-            bytes.local = entry;
-        } else {
-            bytes.global = entry;
-        }
-    }
-    bytes
+    (
+        id,
+        bytes.local as u64,
+        bytes.global as u64,
+        bytes.names as u64,
+    )
 }
 
-/// What a symbol of a file, with its number, takes in the symbol table and its names, with entries of so many bytes.
-fn symbol_bytes(
-    entry: u64,
+/// What a file takes there, with its number.
+fn file_sizes<P: Platform>(
+    platform: &P,
     given: Given<'_>,
     file: FileRef<'_>,
-    number: SymbolId,
-    symbol: &InputSymbol,
-) -> SymbolBytes
-    requires good { IsWellFormed given.link.now }
-    requires few { length symbol.now.name < 2 ^ 32 }
-    ensures { result ≡ symbol_bytes entry given.entry.link.now given.entry.live.now given.entry.told.now (file_of file.entry)
-        (number, symbol.now) }
-{
-    let is_there = is_in_table(given, file, number, symbol);
-    let is_local = is_local_entry(file.file.kind, symbol);
-    taken_bytes(is_there, is_local, entry, symbol.name.len())
-}
-
-/// What the symbols of a file take there, the first of them with this number, with entries of so many bytes; a sum past 2^64 - 1
-/// is given as that.
-fn symbols_bytes(
-    entry: u64,
-    given: Given<'_>,
-    file: FileRef<'_>,
-    first: u32,
-    symbols: &[InputSymbol],
-) -> SymbolBytes
-    requires good { IsWellFormed given.link.now }
-    requires numbers { first + length symbols.now < 2 ^ 32 }
-    requires few { All (λ (x : InputSymbol). length x.name < 2 ^ 32) symbols.now }
-    ensures local { result.local ≡ min (sum_by (λ q. (symbol_bytes entry given.entry.link.now given.entry.live.now
-        given.entry.told.now (file_of file.entry) q).local) (enumerate_from first symbols.now)) (2 ^ 64 - 1) }
-    ensures global { result.global ≡ min (sum_by (λ q. (symbol_bytes entry given.entry.link.now given.entry.live.now
-        given.entry.told.now (file_of file.entry) q).global) (enumerate_from first symbols.now)) (2 ^ 64 - 1) }
-    ensures names { result.names ≡ min (sum_by (λ q. (symbol_bytes entry given.entry.link.now given.entry.live.now
-        given.entry.told.now (file_of file.entry) q).names) (enumerate_from first symbols.now)) (2 ^ 64 - 1) }
-{
-    let mut sum = SymbolBytes {
-        local: 0,
-        global: 0,
-        names: 0,
-    };
-    for (index, symbol) in symbols.iter().enumerate() {
-        let number = SymbolId::from_u32(first + index as u32);
-        sum = sum.plus(symbol_bytes(entry, given, file, number, symbol));
-    }
-    sum
-}
-
-/// What the prelude takes for the tables themselves, with entries of so many bytes; other files take nothing.
-fn table_start(entry: u64, kind: FileKind) -> SymbolBytes
-    ensures local { result.local ≡ (if is_prelude kind then entry else 0) }
-    ensures global { result.global ≡ 0 }
-    ensures names { result.names ≡ (if is_prelude kind then 1 else 0) }
-{
-    if kind.is_prelude() {
-        SymbolBytes {
-            local: entry,
-            global: 0,
-            names: 1,
-        }
-    } else {
-        SymbolBytes {
-            local: 0,
-            global: 0,
-            names: 0,
-        }
-    }
-}
-
-/// What a file takes there, where there is a symbol table; a sum past 2^64 - 1 is given as that.
-fn told_bytes(entry: u64, given: Given<'_>, file: FileRef<'_>) -> SymbolBytes
+) -> (FileId, u64, u64, u64)
     requires good { IsWellFormed given.link.now }
     requires there { file_in given.link.now.groups file.id ≡ Some file.file.now }
-    ensures local { result.local ≡ min ((if is_prelude (file_of file.entry).file.kind then entry else 0)
-        + sum_by (λ q. (symbol_bytes entry given.entry.link.now given.entry.live.now given.entry.told.now (file_of file.entry) q).local)
-        (symbols_by_number given.entry.link.now (file_of file.entry))) (2 ^ 64 - 1) }
-    ensures global { result.global ≡ min
-        (sum_by (λ q. (symbol_bytes entry given.entry.link.now given.entry.live.now given.entry.told.now (file_of file.entry) q).global)
-        (symbols_by_number given.entry.link.now (file_of file.entry))) (2 ^ 64 - 1) }
-    ensures names { result.names ≡ min ((if is_prelude (file_of file.entry).file.kind then 1 else 0)
-        + sum_by (λ q. (symbol_bytes entry given.entry.link.now given.entry.live.now given.entry.told.now (file_of file.entry) q).names)
-        (symbols_by_number given.entry.link.now (file_of file.entry))) (2 ^ 64 - 1) }
+    ensures { result ≡ file_symbol_sizes (P.table_sizes platform.now).symbol_entry given.entry.link.now given.entry.live.now
+        given.entry.told.now (file_of file.entry) }
 {
-    let start = table_start(entry, file.file.kind);
-    match given.link.groups.symbol_id_range(file.id) {
-        Some(numbers) => {
-            let first = numbers.start().as_u32();
-            start.plus(symbols_bytes(entry, given, file, first, file.file.symbols.as_slice()))
-        }
-        None => start,
-    }
-}
-
-/// What a file takes there, with entries of so many bytes.
-fn file_bytes(entry: u64, given: Given<'_>, file: FileRef<'_>) -> SymbolBytes
-    requires good { IsWellFormed given.link.now }
-    requires there { file_in given.link.now.groups file.id ≡ Some file.file.now }
-    requires small { entry ≤ 65536 }
-    ensures local { result.local
-        ≡ entry_bytes (local_entries entry given.entry.link.now given.entry.live.now given.entry.told.now (file_of file.entry)) }
-    ensures global { result.global
-        ≡ entry_bytes (global_entries entry given.entry.link.now given.entry.live.now given.entry.told.now (file_of file.entry)) }
-    ensures names { result.names
-        ≡ entry_bytes (name_entries given.entry.link.now given.entry.live.now given.entry.told.now (file_of file.entry)) }
-{
-    if given.link.options.strip_all {
-        SymbolBytes {
-            local: 0,
-            global: 0,
-            names: 0,
-        }
-    } else {
-        told_bytes(entry, given, file)
-    }
-}
-
-/// For each file its number and the bytes that it takes among the local symbols, among the others, and in the names.
-fn file_sizes(
-    alloc: Global,
-    entry: u64,
-    given: Given<'_>,
-) -> Result<Vec<(FileId, u64, u64, u64)>, AllocError>
-    requires good { IsWellFormed given.link.now }
-    requires small { entry ≤ 65536 }
-    ensures { IfOk result (λ sizes. sizes.items
-        ≡ symbol_sizes entry given.entry.link.now given.entry.live.now given.entry.told.now) }
-{
-    let mut sizes = Vec::new(alloc);
-    for file in given.link.groups.files() {
-        let bytes = file_bytes(entry, given, file);
-        sizes.push((file.id, bytes.local, bytes.global, bytes.names))?;
-    }
-    Ok(sizes)
+    sizes_of(file.id, whole_symtab(platform, given, file))
 }
 
 /// For each file, by group and index, its number and the bytes that its symbols take among the local ones of the symbol table,
 /// among the others, and in their names, by which output sections are emitted. Looks at each symbol once, and takes 40 bytes
-/// for each file. Not yet for output that is linked again, in which sections have entries too
+/// for each file. In output that is linked again sections have entries too, which come with it
 /// (libwild: `finalise_symbol_sizes`).
 pub fn symbol_sizes<P: Platform>(
     alloc: Global,
@@ -323,15 +162,15 @@ pub fn symbol_sizes<P: Platform>(
     live: &Live,
     header: &HeaderInfo,
 ) -> Result<Vec<(FileId, u64, u64, u64)>, AllocError>
-    requires good { IsWellFormed link.now }
-    requires whole { is_partial link.now.options.output ≡ false }
-    ensures { IfOk result (λ sizes. sizes.items
+    requires { IsWellFormed link.now }
+    ensures { is_partial link.now.options.output ≡ false → IfOk result (λ sizes. sizes.items
         ≡ symbol_sizes (P.table_sizes platform.now).symbol_entry link.now live.now header.now.emitted) }
 {
-    let given = Given {
-        link,
-        live,
-        told: header.emitted.as_slice(),
-    };
-    file_sizes(alloc, platform.symbol_entry(), given)
+    let told = header.emitted.as_slice();
+    let given = Given { link, live, told };
+    let mut sizes = Vec::new(alloc);
+    for file in link.groups.files() {
+        sizes.push(file_sizes(platform, given, file))?;
+    }
+    Ok(sizes)
 }

@@ -7,9 +7,11 @@ ghost use Rattle.lk_link.specs.PartRules.{is_part, table_parts};
 ghost use Rattle.lk_link.specs.TableSizes.{TableSizes};
 ghost use Rattle.lk_gc.specs.declared.live.Live.{Live};
 ghost use Rattle.lk_tables.specs.HeaderParts.{told_sum};
-ghost use Rattle.lk_tables.specs.ShareWords.{dynamic_share, first_shares, prelude_share, sum_of};
+ghost use Rattle.lk_tables.specs.ShareSteps.{dynamic_share, sum_of};
+ghost use Rattle.lk_tables.specs.ShareWords.{first_shares, prelude_share};
 ghost use Rattle.lk_tables.specs.TableLists.{TableLists, first_tables, table_bytes, whole_tables};
-ghost use Rattle.lk_tables.specs.Totals.{all_totals, bytes_if, dynamic_total, totals_by, totals_of};
+ghost use Rattle.lk_tables.specs.Totals.{totals_of};
+ghost use Rattle.lk_tables.specs.TotalSteps.{all_totals, bytes_if, dynamic_total, totals_by};
 
 use crate::header_info::HeaderInfo;
 use crate::headers::{HeaderSizes, header_sizes};
@@ -74,8 +76,8 @@ pub fn first_totals(link: &LinkInput, shares: &[FileShare]) -> TableTotals
 }
 
 /// The bytes that the tables take, by what files take first, what the prelude takes behind that, and which sections and segments
-/// have headers. Looks at each event once; takes no memory. Not yet for output that is linked again, in which sections have
-/// entries too (libwild: `EpilogueLayoutState::apply_late_size_adjustments`, with `PreludeLayoutState::finalise_sizes`).
+/// have headers. Looks at each event once; takes no memory. In output that is linked again sections have entries too, which come
+/// with it (libwild: `EpilogueLayoutState::apply_late_size_adjustments`, with `PreludeLayoutState::finalise_sizes`).
 pub fn whole_totals<P: Platform>(
     link: &LinkInput,
     platform: &P,
@@ -83,8 +85,7 @@ pub fn whole_totals<P: Platform>(
     prelude: FileShare,
     header: &HeaderInfo,
 ) -> TableTotals
-    requires whole { is_partial link.now.options.output ≡ false }
-    ensures { (live : Live) (told : List Bool) → shares.now ≡ first_shares (P.table_sizes platform.now) link.now live
+    ensures { is_partial link.now.options.output ≡ false → (live : Live) (told : List Bool) → shares.now ≡ first_shares (P.table_sizes platform.now) link.now live
         → prelude ≡ prelude_share (P.table_sizes platform.now) link.now live told
         → result ≡ totals_of (whole_tables (P.table_sizes platform.now) link.now live told header.now.emitted header.now.active_segment_ids) }
 {

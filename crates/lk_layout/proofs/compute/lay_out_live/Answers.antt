@@ -15,16 +15,13 @@ use Rattle.lk_layout.proofs.Answering.{passed_on, unless_none}
 use Rattle.lk_layout.proofs.CarriedPlans.{whole_output}
 use Rattle.lk_layout.proofs.compute.lay_out_live.Goals as goal
 
-pub owners-requires-clause-whole : goal.owners-requires-clause-whole
-owners-requires-clause-whole g c = whole_output c.args.link.now c.requires.carried
-
 pub lay_out_sized-requires-clause-sized : goal.lay_out_sized-requires-clause-sized
 lay_out_sized-requires-clause-sized g c =
     let tables : TableSizes = g.P.Platform.table_sizes c.args.platform.now in
     let link = c.args.link.now in
     let live : Live = c.args.live in
     let lens : c.deref.result.now ≡ image_lens link = c.deref.ensures.value ∙ c.requires.images.lens in
-    let gives = c.in_ok-sized.ensures.owners in (
+    let gives = c.in_ok-sized.ensures.owners (whole_output link c.requires.carried) in (
       sym (ap (λ (ls : List ℕ). size_refusal link (content_of tables live ls)) lens) ∙ gives.0,
       gives.1 ∙ ap (λ (ls : List ℕ). part_contents link (content_of tables live ls)) lens,
       gives.2 ∙ ap (λ (ls : List ℕ). header_info link (content_of tables live ls)) lens,
@@ -48,6 +45,6 @@ returns g c =
     let live : Live = c.args.live in
     let lens : c.deref.result.now ≡ image_lens link = c.deref.ensures.value ∙ c.requires.images.lens in
     let fits : size_refusal link (output_content tables link live) ≡ None
-    = sym (ap (λ (ls : List ℕ). size_refusal link (content_of tables live ls)) lens) ∙ c.in_ok-sized.ensures.owners.0 in
+    = sym (ap (λ (ls : List ℕ). size_refusal link (content_of tables live ls)) lens) ∙ (c.in_ok-sized.ensures.owners (whole_output link c.requires.carried)).0 in
     passed_on (IsSizedAnswer machine link live) (IsLiveAnswer machine link live) c.lay_out_sized.result (λ a h.
     unless_none (sizes_refusal tables link live) a (IsSizedAnswer machine link live a) (ap (option_map size_error) fits) h) c.lay_out_sized.ensures

@@ -31,6 +31,12 @@ header_bytes-headers-requires g c =
     let few = few_active tables link live c.requires.good in
     omega (arith, count, few)
 
+pub asked_positions-requires-clause-commons : goal.asked_positions-requires-clause-commons
+asked_positions-requires-clause-commons g c = c.as_slice-commons.ensures ∙ c.requires.sized.5
+
+pub lay_out_placed-requires-clause-commons : goal.lay_out_placed-requires-clause-commons
+lay_out_placed-requires-clause-commons g c = c.as_slice-commons.ensures ∙ c.requires.sized.5
+
 pub asked_positions-requires-clause-contents : goal.asked_positions-requires-clause-contents
 asked_positions-requires-clause-contents g c = c.as_slice-parts.ensures ∙ c.requires.sized.1
 
@@ -58,7 +64,7 @@ lay_out_placed-requires-clause-numbers g c =
     let live : Live = c.args.live in
     let told : List Bool = emitted_marks link (output_content tables link live) in
     let shares : c.as_slice-first.result.now ≡ first_shares tables link live = c.as_slice-first.ensures ∙ c.requires.sized.3 in
-    let at : AreNumbersAt link live told 0 c.new-numbers.result = c.new-numbers.ensures tables link live told c.requires.good shares c.requires.sized.4 in
+    let at : AreNumbersAt link live told 0 c.new-numbers.result = c.new-numbers.ensures tables live told c.requires.good shares c.requires.sized.4 in
     subst (λ (ms : List Bool). AreNumbersAt link live ms 0 c.new-numbers.result) (sym (ap (λ (h : HeaderInfo). h.emitted) c.requires.sized.2)) at
 
 pub lay_out_placed-requires-clause-takes : goal.lay_out_placed-requires-clause-takes

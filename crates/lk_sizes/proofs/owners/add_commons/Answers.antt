@@ -1,27 +1,51 @@
-use Rattle.std.proofs.Common.{List, map, subst, sym}
-use Rattle.std.specs.List.{flat_map}
-use Rattle.lk_link.specs.Inputs.{numbered_files}
-use Rattle.lk_link.specs.Walks.{file_of}
-use Rattle.lk_reach.proofs.Numbered.{are_numbered, file_at}
-use Rattle.lk_reach.proofs.WalkLemmas.{file_turn, one_file_more}
-use Rattle.lk_sizes.specs.declared.commons.Common.{Common}
-use Rattle.lk_sizes.specs.Owners.{commons_of}
+use Rattle.std.proofs.Common.{◌≡◌, ◌<◌, ℕ, List, false, length, set, Some, sym, subst, take, arith}
+use Rattle.std.specs.List.{slice_get, slice_index_or}
+use Rattle.std.proofs.lemmas.List.{get_or_default}
+use Rattle.lk_link.specs.Parts.{all_parts}
+use Rattle.lk_tables.specs.declared.commons.Common.{Common}
 use Rattle.lk_sizes.specs.Tables.{AreAdded}
-use Rattle.lk_sizes.proofs.CommonAdding.{both_added}
+use Rattle.lk_sizes.proofs.CommonAdding.{one_added}
+use Rattle.lk_sizes.proofs.LiveParts.{read_alignment, read_part}
+use Rattle.lk_sizes.proofs.Turns.{all_so_far, so_far, there}
 use Rattle.lk_sizes.proofs.owners.add_commons.Goals as goal
 
-pub files-file-items-requires : goal.files-file-items-requires
-files-file-items-requires c = are_numbered c.args.link.now c.requires.good
-
-pub add_file_commons-requires-clause-there : goal.add_file_commons-requires-clause-there
-add_file_commons-requires-clause-there c =
-    let groups = c.args.link.now.groups in
-    let at = file_turn (numbered_files groups) c.into_iter-file-iterator.result c.loop-file.file-iterator c.next.new.self c.loop-file.yielded c.in-Some.file (cc) c.loop-file.yielded_by c.in-Some.ensures.steps in
-    (file_at groups _ (file_of c.in-Some.file) at).there
-
-pub loop-file-preserved : goal.loop-file-preserved
-loop-file-preserved c =
+pub bounds-parts-part : goal.bounds-parts-part
+bounds-parts-part c =
     let link = c.args.link.now in
-    let of_file = commons_of link c.args.live.now in
-    subst (λ (cs : List Common). AreAdded link cs c.args.totals.now c.add_file_commons.new.totals) (sym (one_file_more of_file c.loop-file.yielded c.in-Some.file))
-    (both_added link (flat_map of_file (map file_of c.loop-file.yielded)) (of_file (file_of c.in-Some.file)) c.args.totals.now c.loop-file.totals c.add_file_commons.new.totals c.loop-file.invariant c.add_file_commons.ensures)
+    let at = there c.args.commons.now c.loop-common.common-index c.common-item.result c.loop-common-test.true c.common-item.is in
+    let below : c.as_usize-part.result < length (all_parts link.plan.sections) = omega (arith, c.requires.goes c.loop-common.common-index c.common-item.result at, c.as_usize-part.ensures) in
+    rw c.parts-parts.ensures below
+
+pub with_common-requires : goal.with_common-requires
+with_common-requires c =
+    let link = c.args.link.now in
+    let at = there c.args.commons.now c.loop-common.common-index c.common-item.result c.loop-common-test.true c.common-item.is in
+    let below : c.as_usize-part.result < length (all_parts link.plan.sections) = omega (arith, c.requires.goes c.loop-common.common-index c.common-item.result at, c.as_usize-part.ensures) in
+    read_alignment link c.parts-parts.result.now c.as_usize-part.result _ c.requires.good c.parts-parts.ensures (rw c.parts-parts.ensures below)
+
+pub bounds-totals-part : goal.bounds-totals-part
+bounds-totals-part c =
+    let at = there c.args.commons.now c.loop-common.common-index c.common-item.result c.loop-common-test.true c.common-item.is in
+    omega (arith, c.requires.goes c.loop-common.common-index c.common-item.result at, c.as_usize-part.ensures, c.requires.count, c.loop-common.invariant.count)
+
+pub slice_copy_out-with_common : goal.slice_copy_out-with_common
+slice_copy_out-with_common c =
+    let at = there c.args.commons.now c.loop-common.common-index c.common-item.result c.loop-common-test.true c.common-item.is in
+    omega (arith, c.requires.goes c.loop-common.common-index c.common-item.result at, c.as_usize-part.ensures, c.requires.count, c.loop-common.invariant.count)
+
+pub loop-common-preserved : goal.loop-common-preserved
+loop-common-preserved c =
+    let link = c.args.link.now in
+    let i : ℕ = c.loop-common.common-index in
+    let commons : List Common = c.args.commons.now in
+    let common : Common = c.common-item.result in
+    let p : ℕ = c.as_usize-part.result in
+    let at = there commons i common c.loop-common-test.true c.common-item.is in
+    let below : p < length (all_parts link.plan.sections) = omega (arith, c.requires.goes i common at, c.as_usize-part.ensures) in
+    let part = read_part link c.parts-parts.result.now p (record { alignment = 0; packed = false }) c.parts-parts.ensures (rw c.parts-parts.ensures below) in
+    let read = slice_index_or c.loop-common.totals p (record { bytes = 0; has_image = false; attrs = 0 }) in
+    let inside : p < length c.loop-common.totals = omega (arith, below, c.requires.count, c.loop-common.invariant.count) in
+    subst (λ (cs : List Common). AreAdded link cs c.args.totals.now (set c.loop-common.totals p c.with_common.result)) (sym (so_far commons i common at))
+    (one_added link (take i commons) common c.args.totals.now c.loop-common.totals p read c.with_common.result c.loop-common.invariant c.as_usize-part.ensures
+    (omega (arith, below, c.requires.count)) (get_or_default c.loop-common.totals p _ read inside)
+    (rw part at c.with_common.ensures.bytes) c.with_common.ensures.image c.with_common.ensures.attrs)

@@ -3,7 +3,8 @@ use Rattle.std.proofs.lemmas.List.Sums.{sum_by-cons}
 use Rattle.lk_link.specs.Inside.{placed_section}
 use Rattle.lk_link.specs.Marks.{is_marked}
 use Rattle.lk_tables.specs.declared.headers.HeaderSizes.{HeaderSizes}
-use Rattle.lk_tables.specs.HeaderParts.{event_header, event_name, file_header_entries, program_header_entries, section_header_entries, section_name_bytes, section_name_entries, told_sum}
+use Rattle.lk_tables.specs.HeaderParts.{file_header_entries, program_header_entries, section_header_entries, section_name_bytes, section_name_entries, told_sum}
+use Rattle.lk_tables.specs.HeaderSteps.{event_header, event_name}
 use Rattle.lk_tables.specs.SymbolTable.{FileEntry, SectionEntry, TableEntry, entry_bytes}
 use Rattle.lk_tables.proofs.HeaderLemmas.{entries_told}
 use Rattle.lk_tables.proofs.headers.header_sizes.Goals as goal
@@ -34,8 +35,13 @@ returns g c =
     ∙ ap (λ ms. told_sum (sum_by (event_name link ms) c.as_slice-2.result.now)) c.as_slice.ensures
     ∙ ap (λ es. told_sum (sum_by (event_name link emitted) es)) c.as_slice-2.ensures
     ∙ ap told_sum (sym (entries_told (is_marked emitted) (λ s. record { owner = SectionEntry s; bytes = section_name_bytes link s }) placed_section link.plan.events)) in
-    ap (λ (n : ℕ). made n c.segments_bytes.result c.sections_bytes-sections.result.headers c.sections_bytes-sections.result.names) file
+    let all = ap (λ (n : ℕ). made n c.segments_bytes.result c.sections_bytes-sections.result.headers c.sections_bytes-sections.result.names) file
     ∙ ap (λ (n : ℕ). made (entry_bytes (file_header_entries sizes.file_header)) n c.sections_bytes-sections.result.headers c.sections_bytes-sections.result.names) segments
     ∙ ap (λ (n : ℕ). made (entry_bytes (file_header_entries sizes.file_header)) (told_sum (entry_bytes (program_header_entries sizes.program_header active))) n c.sections_bytes-sections.result.names) headers
     ∙ ap (made (entry_bytes (file_header_entries sizes.file_header)) (told_sum (entry_bytes (program_header_entries sizes.program_header active)))
-    (told_sum (entry_bytes (section_header_entries sizes.section_header link emitted)))) names
+    (told_sum (entry_bytes (section_header_entries sizes.section_header link emitted)))) names in
+    record {
+      all = λ whole. all;
+      file = ap (λ (x : HeaderSizes). x.file_header) all;
+      segments = ap (λ (x : HeaderSizes). x.program_headers) all;
+    }

@@ -1,5 +1,5 @@
 use Rattle.std.proofs.Common.{◌≡◌, ◌-◌, ◌^◌, min, sum_by, take}
-use Rattle.lk_tables.specs.HeaderParts.{event_header, event_name}
+use Rattle.lk_tables.specs.HeaderSteps.{event_header, event_name}
 use Rattle.lk_tables.proofs.headers.sections_bytes.Given as goal
 
 -- the sums over the events so far

@@ -1,14 +1,7 @@
-use Rattle.lk_link.specs.Inputs.{numbered_files}
-use Rattle.lk_link.specs.Walks.{file_of}
-use Rattle.lk_reach.proofs.Numbered.{are_numbered, file_at}
-use Rattle.lk_reach.proofs.WalkLemmas.{file_turn}
+use Rattle.std.proofs.Common.{sym, ◌∙◌}
+use Rattle.lk_tables.proofs.ShareTies.{prelude_share_is}
 use Rattle.lk_tables.proofs.shares.mark_prelude.Goals as goal
 
-pub files-file-items-requires : goal.files-file-items-requires
-files-file-items-requires g c = are_numbered c.args.link.now c.requires
-
-pub late_share-requires-clause-there : goal.late_share-requires-clause-there
-late_share-requires-clause-there g c =
-    let groups = c.args.link.now.groups in
-    let at = file_turn (numbered_files groups) c.into_iter-file-iterator.result c.loop-file.file-iterator c.next.new.self c.loop-file.yielded c.in-Some.file (cc) c.loop-file.yielded_by c.in-Some.ensures.steps in
-    (file_at groups _ (file_of c.in-Some.file) at).there
+pub returns : goal.returns
+returns g c = λ whole.
+    c.late_shares.ensures ∙ sym (prelude_share_is (g.P.Platform.table_sizes c.args.platform.now) c.args.link.now c.args.live.now c.args.told.now)

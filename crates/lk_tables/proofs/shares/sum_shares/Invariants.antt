@@ -1,5 +1,5 @@
 use Rattle.std.proofs.Common.{◌≡◌, take}
-use Rattle.lk_tables.specs.ShareWords.{sum_of}
+use Rattle.lk_tables.specs.ShareSteps.{sum_of}
 use Rattle.lk_tables.proofs.shares.sum_shares.Given as goal
 
 -- those so far

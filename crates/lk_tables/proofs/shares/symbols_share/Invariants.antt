@@ -1,7 +1,7 @@
 use Rattle.std.proofs.Common.{◌≡◌, map, take}
 use Rattle.std.specs.List.{enumerate_from}
 use Rattle.lk_link.specs.Walks.{file_of}
-use Rattle.lk_tables.specs.ShareWords.{sum_of, symbol_share}
+use Rattle.lk_tables.specs.ShareSteps.{sum_of, symbol_share}
 use Rattle.lk_tables.proofs.shares.symbols_share.Given as goal
 
 -- those of the symbols so far

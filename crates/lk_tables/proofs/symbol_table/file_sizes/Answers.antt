@@ -1,14 +1,30 @@
-use Rattle.lk_link.specs.Inputs.{numbered_files}
+use Rattle.std.proofs.Common.{◌≡◌, ℕ, ap, ◌∙◌, arith, subst, sym}
+use Rattle.lk_link.specs.declared.ids.FileId.{FileId}
 use Rattle.lk_link.specs.Walks.{file_of}
-use Rattle.lk_reach.proofs.Numbered.{are_numbered, file_at}
-use Rattle.lk_reach.proofs.WalkLemmas.{file_turn}
+use Rattle.lk_tables.specs.declared.shares.SymtabShare.{SymtabShare}
+use Rattle.lk_tables.specs.ShareSteps.{whole_symtab}
+use Rattle.lk_tables.proofs.SymtabTotals.{IsSymtab, same_sizes, symtab_is}
 use Rattle.lk_tables.proofs.symbol_table.file_sizes.Goals as goal
 
-pub files-file-items-requires : goal.files-file-items-requires
-files-file-items-requires c = are_numbered c.args.given.link.now c.requires.good
+pub sizes_of-requires : goal.sizes_of-requires
+sizes_of-requires g c =
+    let sizes = g.P.Platform.table_sizes c.args.platform.now in
+    let given = c.args.given in
+    let small = (g.met.P.Platform.sizes_are_lawful c.args.platform.now).symbol_entry in
+    let is = symtab_is sizes given.link.now given.live.now given.told.now (file_of c.args.file) small c.requires.good c.requires.there in
+    let same = c.whole_symtab.ensures in
+    record {
+      local = omega (arith, is.few_local, ap (λ (s : SymtabShare). s.local) same);
+      global = omega (arith, is.few_global, ap (λ (s : SymtabShare). s.global) same);
+      names = omega (arith, is.few_names, ap (λ (s : SymtabShare). s.names) same);
+    }
 
-pub file_bytes-bytes-requires-clause-there : goal.file_bytes-bytes-requires-clause-there
-file_bytes-bytes-requires-clause-there c =
-    let groups = c.args.given.link.now.groups in
-    let at = file_turn (numbered_files groups) c.into_iter-file-iterator.result c.loop-file.file-iterator c.next.new.self c.loop-file.yielded c.in-Some.file (cc) c.loop-file.yielded_by c.in-Some.ensures.steps in
-    (file_at groups _ (file_of c.in-Some.file) at).there
+pub returns : goal.returns
+returns g c =
+    let sizes = g.P.Platform.table_sizes c.args.platform.now in
+    let given = c.args.given in
+    let small = (g.met.P.Platform.sizes_are_lawful c.args.platform.now).symbol_entry in
+    let is = symtab_is sizes given.link.now given.live.now given.told.now (file_of c.args.file) small c.requires.good c.requires.there in
+    c.sizes_of.ensures
+    ∙ ap (λ (s : SymtabShare). (c.args.file.id, s.local, s.global, s.names)) c.whole_symtab.ensures
+    ∙ same_sizes sizes given.link.now given.live.now given.told.now (file_of c.args.file) is

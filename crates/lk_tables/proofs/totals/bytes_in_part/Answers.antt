@@ -2,7 +2,7 @@ use Rattle.std.proofs.Common.{◌≡◌, ℕ, Option, get_or, sum_by, take, refl
 use Rattle.std.specs.List.{zip}
 use Rattle.lk_link.specs.PartRules.{table_parts}
 use Rattle.lk_tables.specs.HeaderParts.{told_sum}
-use Rattle.lk_tables.specs.Totals.{all_totals, bytes_if}
+use Rattle.lk_tables.specs.TotalSteps.{all_totals, bytes_if}
 use Rattle.lk_tables.proofs.PartBytes.{part_more, told_parts}
 use Rattle.lk_tables.proofs.totals.bytes_in_part.Goals as goal
 

@@ -1,6 +1,8 @@
 use Rattle.std.proofs.Common.{◌≡◌, ap, ◌∙◌}
-use Rattle.lk_tables.specs.ShareWords.{no_dynamic, sum_of}
-use Rattle.lk_tables.specs.Totals.{dynamic_total, totals_by}
+use Rattle.lk_tables.specs.ShareSteps.{sum_of}
+use Rattle.lk_tables.specs.ShareWords.{no_dynamic}
+use Rattle.lk_tables.specs.TotalSteps.{dynamic_total, totals_by}
+use Rattle.lk_tables.proofs.ShareTies.{first_shares_are}
 use Rattle.lk_tables.proofs.TotalLemmas.{first_totals_are}
 use Rattle.lk_tables.proofs.totals.first_totals.Goals as goal
 
@@ -14,4 +16,4 @@ returns c = λ sizes live h.
     ∙ ap (λ s. totals_by s c.dynamic_total-dynamic.result c.nothing-2.result) c.sum_shares-sum.ensures
     ∙ ap (λ d. totals_by sum d c.nothing-2.result) dynamic
     ∙ ap (totals_by sum (dynamic_total link no_dynamic sum)) c.nothing-2.ensures
-    ∙ first_totals_are sizes link live c.args.shares.now h
+    ∙ first_totals_are sizes link live c.args.shares.now (h ∙ first_shares_are sizes link live)
