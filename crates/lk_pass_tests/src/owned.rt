@@ -1,7 +1,5 @@
 //! Whose the bytes of each part are: live sections, commons, images, and what files take in tables.
 
-ghost use Rattle.std.specs.Prelude.{◌≡◌, false};
-ghost use Rattle.lk_link.specs.OutputKinds.{is_partial};
 ghost use Rattle.lk_link.specs.WellFormed.{IsWellFormed};
 ghost use Rattle.lk_gc.specs.Reach.{AreLive};
 
@@ -9,12 +7,10 @@ use crate::rows::{Asked, expect_rows};
 use crate::shown::Shown;
 use lk_check::check_link;
 use lk_gc::{Live, traverse_alone};
-use lk_link::{
-    FileKind, InputFile, InputSymbol, LinkInput, PartId, Small64, SymbolId, SymbolPlacement,
-};
+use lk_link::{LinkInput, PartId, Small64};
 use lk_sizes::part_owners::owners;
 use lk_sizes::{PartOwners, SizeError, part_sizes};
-use lk_tables::{FileShare, TableTotals, bytes_in_part, is_wanted};
+use lk_tables::{FileShare, TableTotals, bytes_in_part};
 use std::alloc::{AllocError, Global};
 use std::test::Fail;
 
@@ -27,7 +23,7 @@ use std::test::Fail;
 /// local `l`, part 10 the others that are copied, of the prelude `etext`, and part 11 a byte and their names. Seven sections are
 /// emitted, with names of 33 bytes and seven zero bytes: headers keep none.
 const OWNED: &str = r#"
-{"options":{"output":"shared","identity":"id"},"plan":{"page":16,"sections":[{"name":".head","attrs":1,"parts":[[8,false],[4,false]]},{"name":".dyn","attrs":1,"parts":[[8,false],[1,false]]},{"name":".plt","attrs":5,"parts":[[16,false]]},{"name":".text","attrs":5,"parts":[[4,false]]},{"name":".got","attrs":3,"parts":[[8,false]]},{"name":".bss","attrs":19,"parts":[[4,false]]},{"name":".comment","parts":[[1,false]]},{"name":".sym","parts":[[8,false],[4,false],[1,false]]},{"name":".names","parts":[[8,false],[1,false]]}],"segments":[{"kind":"load"},{"kind":"stack"}],"events":[["seg",0],["sec",0],["sec",1],["sec",2],["sec",3],["sec",4],["sec",5],["endseg",0],["sec",6],["sec",7],["sec",8],["seg",1],["endseg",1]],"file_header":0,"program_headers":1,"dynsym":2,"dynstr":3,"plt":4,"got":6,"comment":8,"symtab_local":9,"symtab_global":10,"strtab":11,"section_headers":12,"shstrtab":13},"groups":[[{"kind":"prelude","symbols":[{"at":["end",3],"name":"etext"}]}],[{"kind":"object","symbols":[{"at":["sec",0,0],"name":"f"},{"at":["sec",0,4],"name":"l","local":true},{"at":["sec",0,4],"name":".Lx","local":true},{"at":["common",7,5],"name":"c"},{"at":["undef"],"def":8}],"sections":[{"slot":"must","part":5,"size":6,"attrs":4,"relocs":[[0,"PltRelative",4,0,false],[1,"Got",0,0,false],[2,"Absolute",3,0,false]]},{"slot":"must","part":8,"size":3},{"slot":"merge","part":8,"strings":true,"data":"616200"}]}],[{"kind":"object","symbols":[{"at":["sec",0,0],"name":"g"},{"at":["common",7,2],"name":"d"}],"sections":[{"slot":"must","part":5,"size":1,"attrs":4,"relocs":[[0,"Absolute",1,0,false]]}]}],[{"kind":"dynamic","symbols":[{"at":["dyn"],"name":"puts","flags":2}]}],[{"kind":"script","symbols":[{"at":["redirect",["num",3],["none"],false],"name":"z"}]}]]} => 0: = 64; 1: = 112; 2: file 1 48 file 2 48 file 3 24 file 4 24 = 168; 3: file 1 4 file 2 4 file 3 5 file 4 2 = 16; 4: file 3 16 = 16; 5: section 1.0.0 6 section 2.0.0 1 = 12; 6: file 1 8 file 3 8 = 16; 7: common 4 5 common 7 2 = 12; 8: image section 1.0.1 3 = 17; 9: file 1 24 late 24 = 48; 10: file 1 48 file 2 48 file 4 24 late 24 = 144; 11: file 1 6 file 2 4 file 4 2 late 7 = 19; 12: = 448; 13: = 40;
+{"options":{"output":"shared","identity":"id"},"plan":{"page":16,"sections":[{"name":".head","attrs":1,"parts":[[8,false],[4,false]]},{"name":".dyn","attrs":1,"parts":[[8,false],[1,false]]},{"name":".plt","attrs":5,"parts":[[16,false]]},{"name":".text","attrs":5,"parts":[[4,false]]},{"name":".got","attrs":3,"parts":[[8,false]]},{"name":".bss","attrs":19,"parts":[[4,false]]},{"name":".comment","parts":[[1,false]]},{"name":".sym","parts":[[8,false],[4,false],[1,false]]},{"name":".names","parts":[[8,false],[1,false]]}],"segments":[{"kind":"load"},{"kind":"stack"}],"events":[["seg",0],["sec",0],["sec",1],["sec",2],["sec",3],["sec",4],["sec",5],["endseg",0],["sec",6],["sec",7],["sec",8],["seg",1],["endseg",1]],"file_header":0,"program_headers":1,"dynsym":2,"dynstr":3,"plt":4,"got":6,"comment":8,"symtab_local":9,"symtab_global":10,"strtab":11,"section_headers":12,"shstrtab":13},"groups":[[{"kind":"prelude","symbols":[{"at":["end",3],"name":"etext"}]}],[{"kind":"object","symbols":[{"at":["sec",0,0],"name":"f"},{"at":["sec",0,4],"name":"l","local":true},{"at":["sec",0,4],"name":".Lx","local":true},{"at":["common",7,5],"name":"c"},{"at":["undef"],"def":8}],"sections":[{"slot":"must","part":5,"size":6,"attrs":4,"relocs":[[0,"PltRelative",4,0,false],[1,"Got",0,0,false],[2,"Absolute",3,0,false]]},{"slot":"must","part":8,"size":3},{"slot":"merge","part":8,"strings":true,"data":"616200"}]}],[{"kind":"object","symbols":[{"at":["sec",0,0],"name":"g"},{"at":["common",7,2],"name":"d"}],"sections":[{"slot":"must","part":5,"size":1,"attrs":4,"relocs":[[0,"Absolute",1,0,false]]}]}],[{"kind":"dynamic","symbols":[{"at":["dyn"],"name":"puts","flags":2}]}],[{"kind":"script","symbols":[{"at":["redirect",["num",3],["none"],false],"name":"z"}]}]]} => 0: = 64; 1: = 112; 2: file 1 48 file 2 48 file 3 24 file 4 24 = 168; 3: file 1 4 file 2 4 file 3 5 file 4 2 = 16; 4: file 3 16 = 16; 5: live 1.0.0 6 live 2.0.0 1 = 12; 6: file 1 8 file 3 8 = 16; 7: common 4 5 common 7 2 = 12; 8: image live 1.0.1 3 = 17; 9: file 1 24 late 24 = 48; 10: file 1 48 file 2 48 file 4 24 late 24 = 144; 11: file 1 6 file 2 4 file 4 2 late 7 = 19; 12: = 448; 13: = 40;
 "#;
 
 /// The lengths of the images of its output sections.
@@ -52,58 +48,19 @@ fn add_sections(
         for input in live.inputs(link) {
             if input.section.part.as_u32() == part {
                 let (file, index, size) = (input.file, input.index, input.section.size);
-                write!(line, " section {file}.{index} {size}")?;
+                write!(line, " live {file}.{index} {size}")?;
             }
         }
     }
     Ok(())
 }
 
-/// Adds a symbol of a file of a kind, if it is a common of a part that has an address.
-fn add_common(
-    line: &mut String,
-    live: &Live,
-    kind: FileKind,
-    number: u32,
-    symbol: &InputSymbol,
-    part: u32,
-) -> Result<(), AllocError> {
-    let id = SymbolId::from_u32(number);
-    match (&symbol.at, live.flags.as_slice().get(id.as_usize())) {
-        (SymbolPlacement::Common { part: found, size }, Some(flags))
-            if found.as_u32() == part && is_wanted(kind, id, symbol, *flags) => {
-            write!(line, " common {number} {size}")
-        }
-        _ => Ok(()),
-    }
-}
-
-/// Adds the commons of a part among the symbols of a file of a kind, and counts these.
-fn add_file_commons(
-    line: &mut String,
-    live: &Live,
-    file: &InputFile,
-    number: &mut u32,
-    part: u32,
-) -> Result<(), AllocError> {
-    for symbol in file.symbols.as_slice() {
-        add_common(line, live, file.kind, *number, symbol, part)?;
-        *number = number.saturating_add(1);
-    }
-    Ok(())
-}
-
 /// Adds the commons of a part.
-fn add_commons(
-    line: &mut String,
-    link: &LinkInput,
-    live: &Live,
-    part: u32,
-) -> Result<(), AllocError> {
-    let mut number = 0u32;
-    if link.groups.len() <= 65535 && link.groups.file_count() <= 16777216 {
-        for file in link.groups.files() {
-            add_file_commons(line, live, file.file, &mut number, part)?;
+fn add_commons(line: &mut String, owners: &PartOwners, part: u32) -> Result<(), AllocError> {
+    for common in owners.commons.as_slice() {
+        if common.part.as_u32() == part {
+            let (symbol, size) = (common.symbol.as_u32(), common.size);
+            write!(line, " common {symbol} {size}")?;
         }
     }
     Ok(())
@@ -170,7 +127,7 @@ fn add_part(
         _ => {}
     }
     add_sections(line, owned.link, owned.live, part)?;
-    add_commons(line, owned.link, owned.live, part)?;
+    add_commons(line, owned.owners, part)?;
     add_shares(alloc, line, owned, part)?;
     write!(line, " = {bytes};")
 }
@@ -194,7 +151,6 @@ fn add_live_owned(
 ) -> Result<(), AllocError>
     requires good { IsWellFormed link.now }
     requires live { AreLive link.now live.now }
-    requires whole { is_partial link.now.options.output ≡ false }
 {
     match &owners(alloc, link, &Small64, live, IMAGE_LENS) {
         Ok(owners) => add_parts(alloc, line, Owned { link, live, owners }),
