@@ -47,7 +47,7 @@ use lk_place::{
     merge_secondary_parts,
 };
 use lk_sizes::part_owners::owners;
-use lk_sizes::{HeaderInfo, PartContents, PartOwners, part_sizes, propagate_section_attributes};
+use lk_sizes::{HeaderInfo, PartContents, PartOwners, attributes_of_contents, part_sizes};
 use lk_tables::{Common, DynamicNumbers};
 use std::alloc::Global;
 use std::sync::Wait;
@@ -135,9 +135,9 @@ fn lay_out_sized<'data, P: Platform>(
     requires marks { is_marked sized.header.emitted ≡ is_emitted link.now (output_content (P.table_sizes platform.now) link.now live) }
     ensures { WithMemory (IsSizedAnswer (platform_machine (P.segment_start platform.now) (P.table_sizes platform.now)) link.now live) result }
 {
+    let sizes = part_sizes(alloc, &sized)?;
     let contents = sized.contents;
     let header = sized.header;
-    let sizes = part_sizes(alloc, contents.as_slice())?;
     let headers = header_bytes(link, platform, &header);
     let shares = sized.shares;
     let first = shares.as_slice();
@@ -194,7 +194,7 @@ fn lay_out_placed<'data, P: Platform>(
         header.active_segment_ids.as_slice(),
         SegmentFileLayout::FromSections,
     )?;
-    let attributes = propagate_section_attributes(alloc, link, contents)?;
+    let attributes = attributes_of_contents(alloc, link, contents)?;
     let parts = placed.parts.as_slice();
     let told = header.emitted.as_slice();
     let entries = Entries { told, numbers };

@@ -135,7 +135,7 @@ fn add_part(
 /// Adds the owners of each part.
 fn add_parts(alloc: Global, line: &mut String, owned: Owned<'_>) -> Result<(), AllocError> {
     let mut part = 0u32;
-    for bytes in &part_sizes(alloc, owned.owners.contents.as_slice())? {
+    for bytes in &part_sizes(alloc, owned.owners)? {
         add_part(alloc, line, owned, part, *bytes)?;
         part = part.saturating_add(1);
     }

@@ -208,15 +208,18 @@ fn add_counted(
     alloc: Global,
     line: &mut String,
     link: &LinkInput,
-    contents: &[PartContents],
+    live: &Live,
+    owners: &PartOwners,
 ) -> Result<(), AllocError>
     requires good { IsWellFormed link.now }
-    requires count { length contents.now ≡ length (all_parts link.now.plan.sections) }
+    requires live { AreLive link.now live.now }
+    requires count { length owners.now.contents ≡ length (all_parts link.now.plan.sections) }
 {
+    let contents = owners.contents.as_slice();
     add(line, "parts", &contents)?;
-    let attributes = propagate_section_attributes(alloc, link, contents)?;
+    let attributes = propagate_section_attributes(alloc, link, live)?;
     add(line, "attributes", &attributes)?;
-    let sizes = part_sizes(alloc, contents)?;
+    let sizes = part_sizes(alloc, owners)?;
     add(line, "sizes", &sizes)?;
     let starts = starts_behind(alloc, &sizes)?;
     add_images(alloc, line, link, contents, &starts)
@@ -227,13 +230,14 @@ fn add_owners(
     alloc: Global,
     line: &mut String,
     link: &LinkInput,
+    live: &Live,
     owners: &PartOwners,
 ) -> Result<(), AllocError>
-    requires { IsWellFormed link.now }
+    requires good { IsWellFormed link.now }
+    requires live { AreLive link.now live.now }
 {
-    let contents = owners.contents.as_slice();
-    if contents.len() == link.plan.sections.parts().len() {
-        add_counted(alloc, line, link, contents)?;
+    if owners.contents.len() == link.plan.sections.parts().len() {
+        add_counted(alloc, line, link, live, owners)?;
     }
     add_headers(line, &owners.header)
 }
@@ -252,7 +256,7 @@ fn add_brought(
         return Ok(());
     }
     match owners(alloc, link, &Small64, live, MERGED_LENS) {
-        Ok(owners) => add_owners(alloc, line, link, &owners),
+        Ok(owners) => add_owners(alloc, line, link, live, &owners),
         Err(_) => Ok(()),
     }
 }
@@ -283,11 +287,7 @@ fn add_sums_of(
         return Ok(());
     }
     match owners(alloc, link, &Small64, live, MERGED_LENS) {
-        Ok(owners) => add(
-            line,
-            "sizes",
-            &part_sizes(alloc, owners.contents.as_slice())?,
-        ),
+        Ok(owners) => add(line, "sizes", &part_sizes(alloc, &owners)?),
         Err(SizeError::NoMemory) => Err(AllocError),
         Err(error) => add(line, "refused", &error),
     }

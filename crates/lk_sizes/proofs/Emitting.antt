@@ -1,13 +1,13 @@
 -- Which sections are emitted, from what is live and the first sizes of parts; and attributes, from what comes into the parts.
-use Rattle.std.proofs.Common.{◌≡◌, ℕ, zero, suc, ◌+◌, ◌-◌, ◌<◌, ◌≤◌, ◌==◌, ◌&&◌, ◌||◌, Bool, false, cond, List, [], ◌∷◌, ◌++◌, get_or, length, map, take, Some, None, Option, unwrap_or, refl, sym, ap, ◌∙◌, arith, inl, inr}
+use Rattle.std.proofs.Common.{◌≡◌, ℕ, zero, suc, ◌+◌, ◌-◌, ◌<◌, ◌≤◌, ◌==◌, ◌&&◌, ◌||◌, Bool, false, cond, List, [], ◌∷◌, ◌++◌, drop, get_or, length, map, take, Some, None, Option, unwrap_or, refl, sym, ap, ◌∙◌, arith, inl, inr}
 use Rattle.std.specs.Prelude.{bit_or, fold, if◌then◌else◌, nat_lt, not, slice_range}
 use Rattle.std.specs.List.{enumerate_from, filter, list_any, position_from, range_with_len, slice_get, slice_index, slice_index_or}
 use Rattle.std.proofs.lemmas.Bool.{cases_lt, eqb-true, false_from_ne_true}
 use Rattle.std.proofs.lemmas.Iterator.Adapters.{position_from-zero}
-use Rattle.std.proofs.lemmas.List.{get_or_past, take_more, take_all}
+use Rattle.std.proofs.lemmas.List.{drop-map, get_or_past, length-map, take_more, take_all, take-map}
 use Rattle.std.proofs.lemmas.List.Folds.{list_any-append}
 use Rattle.std.proofs.lemmas.List.FromFn.{filter_of_map_range_with_len_more, get_or-enumerate_from, length-enumerate_from}
-use Rattle.std.proofs.lemmas.Option.{slice_get-get_or, slice_get_within}
+use Rattle.std.proofs.lemmas.Option.{get_or_from_slice_get, slice_get-get_or, slice_get_within}
 use Rattle.std.proofs.Math.Bool.{or-false}
 use Rattle.lk_link.specs.declared.link.LinkInput.{LinkInput}
 use Rattle.lk_link.specs.declared.plan.Plan.{Plan}
@@ -18,15 +18,17 @@ use Rattle.lk_link.specs.Parts.{all_parts, first_part}
 use Rattle.lk_link.specs.PlanSections.{is_singletons, own_attributes, primary_of, section_at}
 use Rattle.lk_link.specs.SegmentKinds.{is_stack, segment_at}
 use Rattle.lk_link.specs.WellFormed.{IsWellFormed}
+use Rattle.lk_link.proofs.Elements.{at_index, map_in}
 use Rattle.lk_link.proofs.Numbers.{length-made, made_at, made_of_or}
 use Rattle.lk_gc.specs.declared.live.Live.{Live}
 use Rattle.lk_tables.specs.declared.header_info.HeaderInfo.{HeaderInfo}
 use Rattle.lk_sizes.specs.declared.owners.PartContents.{PartContents}
+use Rattle.lk_sizes.specs.declared.owners.PartTotal.{PartTotal}
 use Rattle.lk_sizes.specs.Attributes.{all_section_attributes, by_section, part_attributes, parts_of, section_attributes}
 use Rattle.lk_sizes.specs.Contents.{contents_of, part_contents}
 use Rattle.lk_tables.specs.HeaderParts.{event_sections}
 use Rattle.lk_sizes.specs.Emitted.{active_segments, can_be_emitted, is_active, is_emitted, is_kept, is_kept_by_symbol, output_index}
-use Rattle.lk_sizes.specs.Owners.{AreFirstSizes, Content, first_size}
+use Rattle.lk_sizes.specs.Owners.{AreFirstSizes, Content, by_part, first_size}
 use Rattle.lk_sizes.proofs.Made.{any_map, any_same, filter_alike, made_range, made_same_below, made_whole, map_id, map_map}
 use Rattle.lk_link.proofs.PartNumbers.{first_part-le, first_part-rises}
 use Rattle.lk_link.specs.Marks.{is_marked}
@@ -102,6 +104,40 @@ pub all_attributes : (link : LinkInput) (content : Content) (n : ℕ) → n ≡ 
 all_attributes link content n h =
     whole (attributes_by link.plan (part_contents link content)) link.plan.sections n h
     ∙ made_same_below (attributes_by link.plan (part_contents link content)) (section_attributes link content.live) link.plan.sections 0 (λ p below. attributes_are link content p (omega (arith, below)))
+
+-- the same by what the parts have joined
+range_mapped : {X Y : Type 0} (f : X → Y) (xs : List X) (a b : ℕ) → map f (slice_range xs a b) ≡ slice_range (map f xs) a b
+range_mapped f xs a b = sym (ap (take (b - a)) (drop-map f a xs) ∙ take-map f (b - a) (drop a xs))
+
+joined_are : (link : LinkInput) (live : Live) (contents : List PartContents) (s : ℕ) → map (λ c. c.attrs) contents ≡ by_part (part_attributes link live) link
+    → attributes_by link.plan contents s ≡ section_attributes link live s
+joined_are link live contents s is =
+    let sections : List PlanSection = link.plan.sections in
+    let from : ℕ = first_part sections s in
+    let behind : ℕ = first_part sections (s + 1) in
+    let all : map (λ (c : PartContents). c.attrs) (in_section sections s contents) ≡ map (part_attributes link live) (parts_of sections s)
+    = range_mapped (λ (c : PartContents). c.attrs) contents from behind
+    ∙ ap (λ (attrs : List ℕ). slice_range attrs from behind) is
+    ∙ made_range (part_attributes link live) (all_parts sections) from behind (first_part-rises sections s) (first_part-le sections (s + 1)) in
+    ap (λ (attrs : List ℕ). cond (is_singletons link.plan s) 0 (fold bit_or (own_attributes link.plan s) attrs)) all
+
+pub all_joined : (link : LinkInput) (live : Live) (contents : List PartContents) (n : ℕ) → map (λ c. c.attrs) contents ≡ by_part (part_attributes link live) link
+    → n ≡ length link.plan.sections → map (attributes_by link.plan contents) (range_with_len 0 n) ≡ all_section_attributes link live
+all_joined link live contents n is h =
+    whole (attributes_by link.plan contents) link.plan.sections n h
+    ∙ made_same_below (attributes_by link.plan contents) (section_attributes link live) link.plan.sections 0 (λ p below. joined_are link live contents p is)
+
+-- the attributes that were added up, part by part
+pub joined_of : (link : LinkInput) (live : Live) (totals : List PartTotal) → length totals ≡ length (all_parts link.plan.sections)
+    → ((p : ℕ) (total : PartTotal) → slice_get totals p ≡ Some total → total.attrs ≡ part_attributes link live p)
+    → map (λ t. t.attrs) totals ≡ by_part (part_attributes link live) link
+joined_of link live totals count each =
+    let attrs : PartTotal → ℕ = λ t. t.attrs in
+    let none : PartTotal = record { bytes = 0; has_image = false; attrs = 0 } in
+    made_of_or (part_attributes link live) 0 (map attrs totals) (all_parts link.plan.sections) (length-map totals attrs ∙ count) (λ p below.
+    let at = at_index totals p (omega (arith, below, count)) in
+    let there : slice_get (map attrs totals) p ≡ Some (attrs at.0) = map_in attrs totals p at.0 at.1 in
+    get_or_from_slice_get (map attrs totals) p (attrs at.0) 0 there ∙ each p at.0 at.1)
 
 pub all_kept : (link : LinkInput) (content : Content) (marks : List Bool) (sizes : List ℕ) (n : ℕ) → AreBySymbols link content.live marks → AreFirstSizes link content sizes → n ≡ length link.plan.sections
     → map (kept_by link.plan content.live.kept marks sizes) (range_with_len 0 n) ≡ by_section (is_kept link content) link

@@ -5,12 +5,15 @@ ghost use Rattle.std.specs.Prelude.{◌≡◌, ◌<◌, fold, if◌then◌else�
 ghost use Rattle.lk_link.specs.Parts.{all_parts};
 ghost use Rattle.lk_link.specs.PlanSections.{is_singletons, own_attributes};
 ghost use Rattle.lk_link.specs.WellFormed.{IsWellFormed};
-ghost use Rattle.lk_sizes.specs.Attributes.{all_section_attributes};
+ghost use Rattle.lk_gc.specs.Reach.{AreLive};
+ghost use Rattle.lk_gc.specs.declared.live.Live.{Live};
+ghost use Rattle.lk_sizes.specs.Attributes.{all_section_attributes, part_attributes};
 ghost use Rattle.lk_sizes.specs.Contents.{part_contents};
-ghost use Rattle.lk_sizes.specs.Owners.{Content};
+ghost use Rattle.lk_sizes.specs.Owners.{Content, by_part};
 ghost use Rattle.lk_sizes.specs.Tables.{in_section};
 
-use crate::owners::PartContents;
+use crate::owners::{PartContents, PartTotal, add_inputs};
+use lk_gc::Live;
 use lk_link::{LinkInput, OutputSectionId, Plan};
 use std::alloc::{AllocError, Global};
 
@@ -40,16 +43,18 @@ fn section_attributes(plan: &Plan, section: OutputSectionId, contents: &[PartCon
     join(plan.own_attributes(section), &contents[first..behind])
 }
 
-/// The attributes of each output section, by what comes into the parts (libwild: `propagate_section_attributes`).
-pub fn propagate_section_attributes(
+/// The attributes of each output section, by what comes into the parts. Looks at no input section.
+pub fn attributes_of_contents(
     alloc: Global,
     link: &LinkInput,
     contents: &[PartContents],
 ) -> Result<Vec<u32>, AllocError>
     requires good { IsWellFormed link.now }
     requires count { length contents.now ≡ length (all_parts link.now.plan.sections) }
-    ensures { (content : Content) → contents.now ≡ part_contents link.now content
+    ensures contents { (content : Content) → contents.now ≡ part_contents link.now content
         → IfOk result (λ all. all.items ≡ all_section_attributes link.now content.live) }
+    ensures joined { (live : Live) → map (λ c. c.attrs) contents.now ≡ by_part (part_attributes link.now live) link.now
+        → IfOk result (λ all. all.items ≡ all_section_attributes link.now live) }
 {
     let plan = &link.plan;
     let mut all = Vec::with_capacity(alloc, plan.sections.len())?;
@@ -57,5 +62,37 @@ pub fn propagate_section_attributes(
         let section = OutputSectionId::from_u32(number as u32);
         all.push(section_attributes(plan, section, contents))?;
     }
+    Ok(all)
+}
+
+/// Parts with what was added up for them, but for the bytes.
+fn without_bytes(alloc: Global, totals: &[PartTotal]) -> Result<Vec<PartContents>, AllocError>
+    ensures { IfOk result (λ contents. map (λ c. c.attrs) contents.items ≡ map (λ t. t.attrs) totals.now) }
+{
+    let mut contents = Vec::with_capacity(alloc, totals.len())?;
+    for total in totals {
+        contents.push(PartContents {
+            bytes: 0,
+            has_image: total.has_image,
+            attrs: total.attrs,
+        })?;
+    }
+    Ok(contents)
+}
+
+/// The attributes of each output section, by what is live (libwild: `propagate_section_attributes`). Looks at each input section
+/// once; a layout, which knows what comes into the parts, takes `attributes_of_contents`.
+pub fn propagate_section_attributes(
+    alloc: Global,
+    link: &LinkInput,
+    live: &Live,
+) -> Result<Vec<u32>, AllocError>
+    requires good { IsWellFormed link.now }
+    requires live { AreLive link.now live.now }
+    ensures { IfOk result (λ all. all.items ≡ all_section_attributes link.now live.now) }
+{
+    let totals = add_inputs(alloc, link, live)?;
+    let contents = without_bytes(alloc, &totals)?;
+    let all = attributes_of_contents(alloc, link, &contents)?;
     Ok(all)
 }

@@ -14,12 +14,12 @@ pub mod owners;
 pub mod part_owners;
 
 pub use addresses::{CommonAddress, LiveSection, OwnerAddresses, owner_addresses};
-pub use attributes::propagate_section_attributes;
+pub use attributes::{attributes_of_contents, propagate_section_attributes};
 pub use error::SizeError;
 pub use header::determine_header_sizes;
 pub use images::image_addresses;
 pub use lk_tables::{
     HeaderInfo, HeaderSizes, SymbolCopyInfo, dynamic_table, header_sizes, symbol_sizes,
 };
-pub use owners::{PartContents, PartTotal, content_totals, first_sizes, part_contents, part_sizes};
-pub use part_owners::PartOwners;
+pub use owners::{PartContents, PartTotal, content_totals, first_sizes, part_contents};
+pub use part_owners::{PartOwners, part_sizes};

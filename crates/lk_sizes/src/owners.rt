@@ -353,7 +353,11 @@ fn add_commons(link: &LinkInput, commons: &[Common], totals: &mut [PartTotal])
 }
 
 /// What the live and merged sections bring to each part, without the images.
-fn add_inputs(alloc: Global, link: &LinkInput, live: &Live) -> Result<Vec<PartTotal>, AllocError>
+pub(crate) fn add_inputs(
+    alloc: Global,
+    link: &LinkInput,
+    live: &Live,
+) -> Result<Vec<PartTotal>, AllocError>
     requires good { IsWellFormed link.now }
     requires live { AreLive link.now live.now }
     ensures count { IfOk result (λ totals. length totals.items ≡ length (all_parts link.now.plan.sections)) }
@@ -417,8 +421,11 @@ fn push_lens(lens: &mut Vec<u64>, len: u64, parts: &[PlanPart]) -> Result<(), Al
     Ok(())
 }
 
-/// The bytes of each part.
-pub fn part_sizes(alloc: Global, contents: &[PartContents]) -> Result<Vec<u64>, AllocError>
+/// The bytes of each part, by what comes into it.
+pub(crate) fn sizes_of_contents(
+    alloc: Global,
+    contents: &[PartContents],
+) -> Result<Vec<u64>, AllocError>
     ensures bytes { IfOk result (λ sizes. sizes.items ≡ map (λ c. c.bytes) contents.now) }
     ensures sizes { (link : LinkInput) (content : Content) → contents.now ≡ part_contents link content
         → IfOk result (λ sizes. sizes.items ≡ part_sizes link content) }

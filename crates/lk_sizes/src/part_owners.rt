@@ -5,22 +5,25 @@
 //! which sections are emitted, and so which symbols of the prelude are marked late and how many headers there are. Then the
 //! tables are whole, and the sums of all parts are looked at.
 
-ghost use Rattle.std.specs.Prelude.{◌≡◌, false, IfOk};
+ghost use Rattle.std.specs.Prelude.{◌≡◌, false, IfOk, map};
 ghost use Rattle.lk_link.specs.Marks.{is_marked};
 ghost use Rattle.lk_link.specs.OutputKinds.{is_partial};
 ghost use Rattle.lk_link.specs.WellFormed.{IsWellFormed};
 ghost use Rattle.lk_gc.specs.Reach.{AreLive};
 ghost use Rattle.lk_sizes.specs.Emitted.{is_emitted};
-ghost use Rattle.lk_sizes.specs.Owners.{content_of};
+ghost use Rattle.lk_link.specs.declared.link.LinkInput.{LinkInput};
+ghost use Rattle.lk_sizes.specs.Contents.{part_contents};
+ghost use Rattle.lk_sizes.specs.Owners.{Content, content_of};
+ghost use Rattle.lk_sizes.specs.PartOwners.{part_sizes};
 ghost use Rattle.lk_sizes.specs.Sizing.{GivesOwners};
 
 use crate::error::SizeError;
 use crate::header::determine_header_sizes;
-use crate::owners::{PartContents, content_totals, first_sizes, part_contents};
+use crate::owners::{PartContents, content_totals, first_sizes, part_contents, sizes_of_contents};
 use lk_gc::Live;
 use lk_link::{LinkInput, List, Platform};
 use lk_tables::{Common, FileShare, HeaderInfo, mark_prelude, symbol_shares, whole_totals};
-use std::alloc::Global;
+use std::alloc::{AllocError, Global};
 
 /// What comes into the parts, and what is told by that (libwild keeps these in its states of groups).
 #[derive(Drop)]
@@ -68,4 +71,13 @@ pub fn owners<P: Platform>(
         prelude,
         commons: List::from_vec(brought.commons),
     })
+}
+
+/// The bytes of each part, by who takes them.
+pub fn part_sizes(alloc: Global, owners: &PartOwners) -> Result<Vec<u64>, AllocError>
+    ensures bytes { IfOk result (λ sizes. sizes.items ≡ map (λ c. c.bytes) owners.now.contents) }
+    ensures sizes { (link : LinkInput) (content : Content) → owners.now.contents ≡ part_contents link content
+        → IfOk result (λ sizes. sizes.items ≡ part_sizes link content) }
+{
+    sizes_of_contents(alloc, owners.contents.as_slice())
 }

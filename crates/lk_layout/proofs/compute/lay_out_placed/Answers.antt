@@ -24,8 +24,8 @@ use Rattle.lk_link.specs.Marks.{is_marked}
 use Rattle.lk_layout.specs.OutputContent.{output_content}
 use Rattle.lk_link.specs.TableSizes.{TableSizes}
 
-pub propagate_section_attributes-requires-clause-count : goal.propagate_section_attributes-requires-clause-count
-propagate_section_attributes-requires-clause-count g c =
+pub attributes_of_contents-requires-clause-count : goal.attributes_of_contents-requires-clause-count
+attributes_of_contents-requires-clause-count g c =
     let tables : TableSizes = g.P.Platform.table_sizes c.args.platform.now in
     ap length c.requires.contents ∙ length-by_part (contents_of c.args.link.now (output_content tables c.args.link.now c.args.live)) c.args.link.now
 
@@ -88,7 +88,7 @@ returns g c =
     told tables link live records _ fit (rw (sections, marks, active) at c.in_ok-segments.ensures.refuses_none) c.in_ok-check_offsets.ensures
     (same_layout _ _ _ _ records _ _ _ _ _ _ _ _ _ _ _ _ _ _ _ _ _ _ _ _ c.requires.sections
     (c.from_vec.ensures ∙ c.in_ok-joined.ensures.merged ∙ ap (merged_records link.plan.sections) spans)
-    (c.from_vec-2.ensures ∙ c.in_ok-attributes.ensures (output_content tables link live) c.requires.contents)
+    (c.from_vec-2.ensures ∙ c.in_ok-attributes.ensures.contents (output_content tables link live) c.requires.contents)
     (ap (λ (h : HeaderInfo). h.output_section_indexes) c.requires.header)
     layouts
     (c.in_ok-segments.ensures.thread_local ∙ ap (λ (ls : List SegmentLayout). option_map (λ l. l.sizes) (thread_local_one link.plan ls)) layouts)

@@ -44,14 +44,14 @@ pub asked_positions-requires-clause-sizes : goal.asked_positions-requires-clause
 asked_positions-requires-clause-sizes g c =
     let tables : TableSizes = g.P.Platform.table_sizes c.args.platform.now in
     let content = output_content tables c.args.link.now c.args.live in
-    c.deref.ensures.value ∙ c.in_ok-sizes.ensures.sizes c.args.link.now content (c.as_slice.ensures ∙ c.requires.sized.1)
+    c.deref.ensures.value ∙ c.in_ok-sizes.ensures.sizes c.args.link.now content c.requires.sized.1
 
 pub compute_layout_sections-requires-clause-each : goal.compute_layout_sections-requires-clause-each
 compute_layout_sections-requires-clause-each g c =
     let tables : TableSizes = g.P.Platform.table_sizes c.args.platform.now in
     let link = c.args.link.now in
     let live : Live = c.args.live in
-    ap length (c.deref-2.ensures.value ∙ c.in_ok-sizes.ensures.sizes link (output_content tables link live) (c.as_slice.ensures ∙ c.requires.sized.1))
+    ap length (c.deref-2.ensures.value ∙ c.in_ok-sizes.ensures.sizes link (output_content tables link live) c.requires.sized.1)
     ∙ length-by_part (part_size link (output_content tables link live)) link
 
 pub lay_out_placed-requires-clause-contents : goal.lay_out_placed-requires-clause-contents
@@ -76,7 +76,7 @@ lay_out_placed-requires-clause-takes g c =
     let headers : c.header_bytes-headers.result ≡ header_bytes machine link live
     = c.header_bytes-headers.ensures ∙ ap (λ (h : HeaderInfo). leading_bytes (header_sizes machine.sizes link h.emitted h.active_segment_ids)) c.requires.sized.2 in
     let sizes : c.deref-2.result.now ≡ part_sizes link (output_content tables link live)
-    = c.deref-2.ensures.value ∙ c.in_ok-sizes.ensures.sizes link (output_content tables link live) (c.as_slice.ensures ∙ c.requires.sized.1) in
+    = c.deref-2.ensures.value ∙ c.in_ok-sizes.ensures.sizes link (output_content tables link live) c.requires.sized.1 in
     let all : List ℕ = part_sizes link (output_content tables link live) in
     let at : ArePlaced (setting_of link machine.target all (header_bytes machine link live) c.in_ok-positions.positions) c.in_ok-placed.placed = rw (sizes, headers) at c.in_ok-placed.ensures in
     let are : ArePlaced (setting machine link live) c.in_ok-placed.placed
@@ -92,7 +92,7 @@ returns-in_err-placed g c =
     let headers : c.header_bytes-headers.result ≡ header_bytes machine link live
     = c.header_bytes-headers.ensures ∙ ap (λ (h : HeaderInfo). leading_bytes (header_sizes machine.sizes link h.emitted h.active_segment_ids)) c.requires.sized.2 in
     let sizes : c.deref-2.result.now ≡ part_sizes link (output_content tables link live)
-    = c.deref-2.ensures.value ∙ c.in_ok-sizes.ensures.sizes link (output_content tables link live) (c.as_slice.ensures ∙ c.requires.sized.1) in
+    = c.deref-2.ensures.value ∙ c.in_ok-sizes.ensures.sizes link (output_content tables link live) c.requires.sized.1 in
     placing_refused machine link live c.deref-2.result.now c.header_bytes-headers.result c.in_ok-positions.positions c.in_err-placed.field-0.0 c.from_residual-in_err-placed.result sizes headers
     c.in_ok-positions.ensures c.in_err-placed.ensures c.from_residual-in_err-placed.ensures.1
 
@@ -105,7 +105,7 @@ returns g c =
     let headers : c.header_bytes-headers.result ≡ header_bytes machine link live
     = c.header_bytes-headers.ensures ∙ ap (λ (h : HeaderInfo). leading_bytes (header_sizes machine.sizes link h.emitted h.active_segment_ids)) c.requires.sized.2 in
     let sizes : c.deref-2.result.now ≡ part_sizes link (output_content tables link live)
-    = c.deref-2.ensures.value ∙ c.in_ok-sizes.ensures.sizes link (output_content tables link live) (c.as_slice.ensures ∙ c.requires.sized.1) in
+    = c.deref-2.ensures.value ∙ c.in_ok-sizes.ensures.sizes link (output_content tables link live) c.requires.sized.1 in
     let all : List ℕ = part_sizes link (output_content tables link live) in
     let at : ArePlaced (setting_of link machine.target all (header_bytes machine link live) c.in_ok-positions.positions) c.in_ok-placed.placed = rw (sizes, headers) at c.in_ok-placed.ensures in
     let are : ArePlaced (setting machine link live) c.in_ok-placed.placed

@@ -1,22 +1,31 @@
-use Rattle.std.proofs.Common.{map, List, ap, ◌∙◌, arith}
-use Rattle.std.specs.List.{range_with_len}
+use Rattle.std.proofs.Common.{◌≡◌, ℕ, List, length, map, sym, ap, ◌∙◌}
+use Rattle.std.proofs.lemmas.List.{length-map}
+use Rattle.lk_link.specs.Parts.{all_parts}
 use Rattle.lk_sizes.specs.declared.owners.PartContents.{PartContents}
-use Rattle.lk_sizes.proofs.Emitting.{all_attributes, attributes_by}
-use Rattle.lk_sizes.proofs.Limited.{sections_fit}
-use Rattle.lk_sizes.proofs.Made.{one_pushed}
+use Rattle.lk_sizes.specs.declared.owners.PartTotal.{PartTotal}
+use Rattle.lk_sizes.specs.Attributes.{part_attributes}
+use Rattle.lk_sizes.specs.Owners.{by_part}
+use Rattle.lk_sizes.proofs.Emitting.{joined_of}
 use Rattle.lk_sizes.proofs.attributes.propagate_section_attributes.Goals as goal
 
-pub overflow_cast-number : goal.overflow_cast-number
-overflow_cast-number c = omega (arith, sections_fit c.args.link.now c.requires.good)
-
-pub loop-number-preserved : goal.loop-number-preserved
-loop-number-preserved c =
-    let made = attributes_by c.args.link.now.plan c.args.contents.now in
-    one_pushed made c.loop-number.number c.loop-number.all.items c.push.new.self.items c.section_attributes.result c.in_ok-push.ensures.items c.loop-number.invariant
-    (c.section_attributes.ensures ∙ ap made c.from_u32-section.ensures)
+pub attributes_of_contents-requires-clause-count : goal.attributes_of_contents-requires-clause-count
+attributes_of_contents-requires-clause-count c =
+    let of_part : PartContents → ℕ = λ p. p.attrs in
+    let of_total : PartTotal → ℕ = λ t. t.attrs in
+    sym (length-map c.deref-2.result.now of_part)
+    ∙ ap (λ (cs : List PartContents). length (map of_part cs)) c.deref-2.ensures.value
+    ∙ ap length c.in_ok-contents.ensures
+    ∙ length-map c.deref.result.now of_total
+    ∙ ap length c.deref.ensures.value
+    ∙ c.in_ok-totals.ensures.count
 
 pub returns : goal.returns
-returns c = λ content is.
-    c.loop-number.invariant
-    ∙ ap (λ (contents : List PartContents). map (attributes_by c.args.link.now.plan contents) (range_with_len 0 c.loop-number.number)) is
-    ∙ all_attributes c.args.link.now content c.loop-number.number (omega arith)
+returns c =
+    let link = c.args.link.now in
+    let live = c.args.live.now in
+    let of_part : PartContents → ℕ = λ p. p.attrs in
+    let of_total : PartTotal → ℕ = λ t. t.attrs in
+    let joined : map of_part c.deref-2.result.now ≡ by_part (part_attributes link live) link
+    = ap (map of_part) c.deref-2.ensures.value ∙ c.in_ok-contents.ensures ∙ ap (map of_total) c.deref.ensures.value
+    ∙ joined_of link live c.in_ok-totals.totals.items c.in_ok-totals.ensures.count c.in_ok-totals.ensures.attrs in
+    c.in_ok-all.ensures.joined live joined

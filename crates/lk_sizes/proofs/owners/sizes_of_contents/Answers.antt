@@ -2,7 +2,7 @@ use Rattle.std.proofs.Common.{◌≡◌, map, ap, ◌∙◌, arith}
 use Rattle.std.proofs.lemmas.Grind.{common_steps}
 use Rattle.lk_sizes.specs.declared.owners.PartContents.{PartContents}
 use Rattle.lk_sizes.proofs.Fitting.{contents_sizes}
-use Rattle.lk_sizes.proofs.owners.part_sizes.Goals as goal
+use Rattle.lk_sizes.proofs.owners.sizes_of_contents.Goals as goal
 
 pub returns-clause-sizes : goal.returns-clause-sizes
 returns-clause-sizes c = λ link content is.

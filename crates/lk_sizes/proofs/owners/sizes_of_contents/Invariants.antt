@@ -1,5 +1,5 @@
 use Rattle.std.proofs.Common.{◌≡◌, ◌++◌, drop, map}
-use Rattle.lk_sizes.proofs.owners.part_sizes.Given as goal
+use Rattle.lk_sizes.proofs.owners.sizes_of_contents.Given as goal
 
 -- the sizes so far, followed by those of the parts that are left, are all
 abbrev pub invariant-loop-part : goal.invariant-loop-part
