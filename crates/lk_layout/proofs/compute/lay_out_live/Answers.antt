@@ -52,6 +52,7 @@ lay_out_sized-requires-clause-sized g c =
       gives.2 ∙ ap (λ (ls : List ℕ). header_info link (content_of tables live ls)) lens,
       gives.3,
       gives.4 ∙ ap (λ (ls : List ℕ). prelude_share tables link live (emitted_marks link (content_of tables live ls))) lens,
+      gives.5,
     )
 
 pub lay_out_sized-requires-clause-marks : goal.lay_out_sized-requires-clause-marks
