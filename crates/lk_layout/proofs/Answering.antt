@@ -11,11 +11,13 @@ use Rattle.lk_layout.specs.declared.error.LayoutError.TheVariants.{NoMemory, Too
 use Rattle.lk_layout.specs.declared.error.Uncarried.{Uncarried}
 use Rattle.lk_layout.specs.declared.layout.Layout.{Layout}
 use Rattle.lk_link.specs.declared.resolution.Resolution.{Resolution}
-use Rattle.lk_layout.specs.Carried.{IsCarried, first_uncarried}
+use Rattle.lk_layout.specs.Carried.{first_uncarried}
+use Rattle.lk_layout.specs.CarriedWords.{IsCarried}
 use Rattle.lk_layout.specs.Defined.{Gives, IsCarriedAnswer, IsDefined, IsMergedAnswer, Unless, WithMemory, fault_refusal, not_carried, uncarried_refusal, IsPlacedAnswer, joining_refusal, layout_of, offsets_refusal, references_error, references_refusal, segment_refusal}
 use Rattle.lk_layout.specs.Errors.{fault_error, gc_error, offset_error, place_error}
 use Rattle.lk_layout.specs.declared.outside.MergeOffsetPlace.{MergeOffsetPlace}
-use Rattle.lk_layout.specs.Merging.{GivesImages, merging_refusal}
+use Rattle.lk_layout.specs.Merging.{merging_refusal}
+use Rattle.lk_layout.specs.MergingWords.{GivesImages}
 use Rattle.lk_layout.specs.Outside.{merge_offsets}
 use Rattle.lk_gc.specs.declared.error.GcError.{GcError}
 use Rattle.lk_gc.specs.declared.error.GcError.TheVariants as gc

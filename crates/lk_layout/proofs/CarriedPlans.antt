@@ -6,7 +6,8 @@ use Rattle.lk_link.specs.declared.link.LinkInput.{LinkInput}
 use Rattle.lk_link.specs.OutputKinds.{is_partial}
 use Rattle.lk_link.proofs.Places.{none_found}
 use Rattle.lk_layout.specs.declared.error.Uncarried.TheVariants as uncarried
-use Rattle.lk_layout.specs.Carried.{IsCarried, all_uncarried, first_uncarried, has}
+use Rattle.lk_layout.specs.Carried.{all_uncarried, first_uncarried, has}
+use Rattle.lk_layout.specs.CarriedWords.{IsCarried}
 
 -- its output isn't an object file again
 pub whole_output : (link : LinkInput) → IsCarried link → is_partial link.options.output ≡ false

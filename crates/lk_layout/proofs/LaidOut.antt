@@ -21,7 +21,8 @@ use Rattle.lk_place.specs.Segments.{first_outside, outside_refusal, section_reco
 use Rattle.lk_sizes.specs.Emitted.{active_segments, is_emitted}
 use Rattle.lk_layout.specs.declared.error.LayoutError.{LayoutError}
 use Rattle.lk_layout.specs.declared.layout.Layout.{Layout}
-use Rattle.lk_layout.specs.Carried.{IsCarried, first_uncarried}
+use Rattle.lk_layout.specs.Carried.{first_uncarried}
+use Rattle.lk_layout.specs.CarriedWords.{IsCarried}
 use Rattle.lk_layout.specs.Defined.{IsDefined, Unless, references_error, references_refusal, fault_refusal, joining_refusal, layout_of, not_carried, offsets_refusal, segment_refusal, setting, sizes_refusal, uncarried_refusal, walk_refusal}
 use Rattle.lk_layout.specs.Errors.{merge_error, offset_error, place_error}
 use Rattle.lk_layout.specs.declared.outside.MergeOffsetPlace.{MergeOffsetPlace}

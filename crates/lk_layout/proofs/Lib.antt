@@ -9,7 +9,6 @@ mod ImagesShow
 mod Imaging
 mod Keeping
 mod LaidOut
-mod NamedOperands
 mod NamedSymbols
 mod NothingAsked
 mod NothingMerged
@@ -26,5 +25,6 @@ mod Soundness
 mod Stopping
 mod TablesAlone
 mod Valued
+mod WithoutPositions
 pub mod CarriedLooks
 pub mod CommonsFound

@@ -13,8 +13,7 @@ use Rattle.lk_place.specs.PlacementLaws.{PlacementExists, PlacementIsOne}
 use Rattle.lk_expressions.specs.Records.{Record}
 use Rattle.lk_layout.specs.declared.error.LayoutError.{LayoutError}
 use Rattle.lk_layout.specs.declared.layout.Layout.{Layout}
-use Rattle.lk_layout.specs.Carried.{IsCarried, first_uncarried}
-use Rattle.lk_layout.specs.Defined.{IsCarriedAnswer, IsLiveAnswer, IsMergedAnswer, offsets_refusal, references_refusal, IsPlacedAnswer, IsSizedAnswer, Unless, fault_refusal, joining_refusal, layout_of, not_carried, segment_refusal, setting, sizes_refusal, uncarried_refusal, walk_refusal}
+use Rattle.lk_layout.specs.Defined.{IsCarriedAnswer, IsLiveAnswer, IsMergedAnswer, offsets_refusal, references_refusal, IsPlacedAnswer, IsSizedAnswer, Unless, fault_refusal, joining_refusal, layout_of, segment_refusal, setting, sizes_refusal, uncarried_refusal, walk_refusal}
 use Rattle.lk_layout.specs.Errors.{fault_error}
 use Rattle.lk_layout.specs.Merging.{merging_refusal}
 use Rattle.lk_layout.specs.Laws.{DefinedAnswerExists, DefinedAnswerIsOne}
@@ -43,28 +42,28 @@ placed_exists sizes link live records =
     unless_exists (segment_refusal sizes link live records) (λ a. Unless (offsets_refusal link live) a (a ≡ Ok (layout_of sizes link live records))) (λ none.
     unless_exists (offsets_refusal link live) (λ a. a ≡ Ok (layout_of sizes link live records)) (λ inside. (Ok (layout_of sizes link live records), refl))))
 
-sized_exists : PlacementExists → (machine : Machine) (link : LinkInput) (live : Live) → IsWellFormed link → IsCarried link → (answer : Result Layout LayoutError) × IsSizedAnswer machine link live answer
-sized_exists placement machine link live good carried =
+sized_exists : PlacementExists → (machine : Machine) (link : LinkInput) (live : Live) → IsWellFormed link → (answer : Result Layout LayoutError) × IsSizedAnswer machine link live answer
+sized_exists placement machine link live good =
     let p = placement (setting machine link live) (ready machine link live good) in
     let rest = unless_exists (walk_refusal machine link live p.0 p.1) (IsPlacedAnswer machine.sizes link live p.1) (λ none. placed_exists machine.sizes link live p.1) in
     (rest.0, (p.0, p.1, p.2, rest.1))
 
-merged_exists : LiveExists → PlacementExists → (machine : Machine) (link : LinkInput) → IsWellFormed link → IsCarried link → (answer : Result Layout LayoutError) × IsMergedAnswer machine link answer
-merged_exists live placement machine link good carried =
+merged_exists : LiveExists → PlacementExists → (machine : Machine) (link : LinkInput) → IsWellFormed link → (answer : Result Layout LayoutError) × IsMergedAnswer machine link answer
+merged_exists live placement machine link good =
     unless_exists (references_refusal link) (λ a. (l : Live) × AreLive link l × IsLiveAnswer machine link l a) (λ none.
     let l = live link good in
-    let rest = unless_exists (sizes_refusal machine.sizes link l.0) (IsSizedAnswer machine link l.0) (λ none. sized_exists placement machine link l.0 good carried) in
+    let rest = unless_exists (sizes_refusal machine.sizes link l.0) (IsSizedAnswer machine link l.0) (λ none. sized_exists placement machine link l.0 good) in
     (rest.0, (l.0, l.1, rest.1)))
 
-carried_exists : LiveExists → PlacementExists → (machine : Machine) (link : LinkInput) → IsWellFormed link → IsCarried link → (answer : Result Layout LayoutError) × IsCarriedAnswer machine link answer
-carried_exists live placement machine link good carried =
-    unless_exists (merging_refusal link) (IsMergedAnswer machine link) (λ none. merged_exists live placement machine link good carried)
+carried_exists : LiveExists → PlacementExists → (machine : Machine) (link : LinkInput) → IsWellFormed link → (answer : Result Layout LayoutError) × IsCarriedAnswer machine link answer
+carried_exists live placement machine link good =
+    unless_exists (merging_refusal link) (IsMergedAnswer machine link) (λ none. merged_exists live placement machine link good)
 
 pub answer_exists : WellFormedExactlyUnfaulted → LiveExists → PlacementExists → DefinedAnswerExists
 answer_exists exactly live placement machine link =
     unless_exists (fault_refusal link) (λ a. Unless (uncarried_refusal link) a (IsCarriedAnswer machine link a)) (λ none.
     unless_exists (uncarried_refusal link) (IsCarriedAnswer machine link) (λ all.
-    carried_exists live placement machine link (unrefused exactly link none) (none_of not_carried (first_uncarried link) all)))
+    carried_exists live placement machine link (unrefused exactly link none)))
 
 -- ---- and no other
 

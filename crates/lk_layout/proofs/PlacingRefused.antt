@@ -17,8 +17,9 @@ use Rattle.lk_layout.specs.Defined.{IsPlacedAnswer, IsSizedAnswer, WithMemory, s
 use Rattle.lk_layout.specs.Errors.{place_error}
 use Rattle.lk_layout.specs.Headers.{header_bytes}
 use Rattle.lk_layout.specs.OutputContent.{output_content}
-use Rattle.lk_layout.specs.Positions.{asked_positions}
+use Rattle.lk_layout.specs.Tables.{asked_positions}
 use Rattle.lk_layout.proofs.Answering.{unless_some}
+use Rattle.lk_layout.proofs.WithoutPositions.{by_asked}
 
 -- a refusal of the placement
 refused : (machine : Machine) (link : LinkInput) (live : Live) (e : PlaceError) → IsRefused (setting machine link live) e → IsSizedAnswer machine link live (Err (place_error e))
@@ -47,5 +48,6 @@ placing_refused machine link live sizes headers positions e (Err x) same leading
     let all : List ℕ = part_sizes link (output_content machine.sizes link live) in
     let sized : GivesPlaced (setting_of link machine.target all headers positions) (Err e) = subst (λ ns. GivesPlaced (setting_of link machine.target ns headers positions) (Err e)) same gives in
     let led : GivesPlaced (setting_of link machine.target all (header_bytes machine link live) positions) (Err e) = subst (λ n. GivesPlaced (setting_of link machine.target all n positions) (Err e)) leading sized in
-    let there : GivesPlaced (setting machine link live) (Err e) = subst (λ ps. GivesPlaced (setting_of link machine.target all (header_bytes machine link live) ps) (Err e)) asked led in
+    let there : GivesPlaced (setting machine link live) (Err e)
+    = by_asked machine link live (Err e) (subst (λ ps. GivesPlaced (setting_of link machine.target all (header_bytes machine link live) ps) (Err e)) asked led) in
     subst (λ y. WithMemory (IsSizedAnswer machine link live) (Err y)) (sym h) (told machine link live e there)

@@ -2,7 +2,7 @@
 use Rattle.std.proofs.Common.{◌≡◌, ℕ, ◌+◌, ◌<◌, ◌^◌, Bool, true, false, List, [], ◌∷◌, length, map, Option, Some, None, refl, ap, ◌∙◌, arith}
 use Rattle.std.specs.Prelude.{◌&&◌, if◌then◌else◌, not, option_and_then, slice_get, slice_index}
 use Rattle.std.specs.List.{slice_index_or}
-use Rattle.std.proofs.lemmas.List.{length-map}
+use Rattle.std.proofs.lemmas.List.{get_or-map, length-map}
 use Rattle.lk_link.specs.declared.link.LinkInput.{LinkInput}
 use Rattle.lk_link.specs.declared.plan.PlanPart.{PlanPart}
 use Rattle.lk_link.specs.declared.section.InputSection.{InputSection}
@@ -41,15 +41,14 @@ no_starts_by_sizes tables link live sizes are = zeros_alike sizes (all_parts lin
 pub length-no_starts : (link : LinkInput) → length (no_starts link) ≡ length (all_parts link.plan.sections)
 length-no_starts link = length-map (all_parts link.plan.sections) (λ (p : PlanPart). 0)
 
--- parts that end below 2^64 where they start at 0 have owners that do
-pub no_starts_fit : (tables : TableSizes) (link : LinkInput) (live : Live) (starts sizes : List ℕ) → starts ≡ no_starts link → sizes ≡ part_sizes link (output_content tables link live)
-    → ((p : ℕ) → p < length sizes → slice_index starts p + slice_index sizes p < 2 ^ 64) → EndsFit link (output_content tables link live) (no_starts link)
-no_starts_fit tables link live starts sizes are_starts are_sizes fit p below =
-    let count : length sizes ≡ length (all_parts link.plan.sections) = ap length are_sizes ∙ length-by_part (part_size link (output_content tables link live)) link in
+-- parts with sizes below 2^64 have owners that end below it where they start at 0
+pub no_starts_fit : (tables : TableSizes) (link : LinkInput) (live : Live) (sizes : List ℕ) → sizes ≡ part_sizes link (output_content tables link live)
+    → ((p : ℕ) → slice_index sizes p < 2 ^ 64) → EndsFit link (output_content tables link live) (no_starts link)
+no_starts_fit tables link live sizes are fit p below =
     let within : p < length (all_parts link.plan.sections) = omega (arith, below, length-no_starts link) in
-    let size : slice_index sizes p ≡ part_size link (output_content tables link live) p = ap (λ (ns : List ℕ). slice_index ns p) are_sizes ∙ size_of tables link live p within in
-    let start : slice_index starts p ≡ slice_index (no_starts link) p = ap (λ (ns : List ℕ). slice_index ns p) are_starts in
-    omega (arith, size, start, fit p (omega (arith, within, count)))
+    let size : slice_index sizes p ≡ part_size link (output_content tables link live) p = ap (λ (ns : List ℕ). slice_index ns p) are ∙ size_of tables link live p within in
+    let start : slice_index (no_starts link) p ≡ 0 = get_or-map (λ (q : PlanPart). 0) (all_parts link.plan.sections) p (record { alignment = 1; packed = false }) 0 within in
+    omega (arith, size, start, fit p)
 
 -- ---- places
 

@@ -243,7 +243,7 @@ is_sound tile aligned owners mass refused file memory in_step keep machine link 
       inside = laid.inside;
       resolved = resolved machine link layout laid;
       placed = resolved_sections_are_live link laid.live laid.good laid.are_live laid.met;
-      valued = values_are_in_live_sections machine.sizes link laid.live layout (starts_of records) (shown machine link layout laid) (resolved machine link layout laid)
+      valued = λ unrelaxed. values_are_in_live_sections machine.sizes link laid.live layout (starts_of records) (shown machine link layout laid) (resolved machine link layout laid)
           (resolved_sections_are_live link laid.live laid.good laid.are_live laid.met);
       commons = commons_stand tile aligned machine link layout laid (resolved machine link layout laid);
       alone = tables_alone machine.sizes link laid.live laid.good laid.are_live;

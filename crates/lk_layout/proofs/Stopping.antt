@@ -12,7 +12,7 @@ use Rattle.lk_link.specs.Inputs.{NumberedFile}
 use Rattle.lk_link.specs.Walks.{file_of}
 use Rattle.lk_link.proofs.Elements.{append_left}
 use Rattle.lk_link.proofs.InputLemmas.{numbered_get}
-use Rattle.lk_layout.specs.Outside.{StopsAtFirst}
+use Rattle.lk_layout.specs.OutsideWords.{StopsAtFirst}
 
 -- nothing in two lists is nothing in each
 nothing_first : {X : Type 0} (xs ys : List X) → xs ++ ys ≡ [] → xs ≡ []

@@ -1,5 +1,5 @@
 -- What a description may have that isn't laid out yet.
-use Rattle.std.specs.Prelude.{◌≡◌, ◌==◌, ◌&&◌, ◌||◌, not, Bool, false, List, [], ◌∷◌, Option, None, is_some, find, length}
+use Rattle.std.specs.Prelude.{◌==◌, ◌&&◌, ◌||◌, not, Bool, false, List, [], ◌∷◌, Option, is_some, find, length}
 use Rattle.std.specs.List.{list_any}
 use Rattle.lk_link.specs.declared.file.InputFile.{InputFile}
 use Rattle.lk_link.specs.declared.link.LinkInput.{LinkInput}
@@ -40,7 +40,3 @@ all_uncarried =
 -- what is found first
 unfoldable pub first_uncarried : LinkInput → Option Uncarried
 first_uncarried link = find (has link) all_uncarried
-
--- a link of which all is laid out
-abbrev pub IsCarried : LinkInput → Type 0
-IsCarried link = first_uncarried link ≡ None

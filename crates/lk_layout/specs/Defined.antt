@@ -34,7 +34,7 @@ use Rattle.lk_layout.specs.Merging.{merging_refusal}
 use Rattle.lk_layout.specs.Outside.{merge_offsets}
 use Rattle.lk_layout.specs.Resolutions.{entry_symbol, symbol_resolutions}
 use Rattle.lk_layout.specs.OutputContent.{output_content}
-use Rattle.lk_layout.specs.Positions.{asked_positions}
+use Rattle.lk_layout.specs.Positions.{symbol_positions}
 
 -- the answer is this refusal, if there is one, else P holds of it
 abbrev pub Unless : Option LayoutError → Result Layout LayoutError → Type 0 → Type 0
@@ -70,11 +70,11 @@ offsets_refusal link live = option_map offset_error (slice_get (merge_offsets li
 abbrev pub sizes_refusal : TableSizes → LinkInput → Live → Option LayoutError
 sizes_refusal sizes link live = option_map size_error (size_refusal link (output_content sizes link live))
 
--- what is placed, for which machine, with the bytes of the parts and of the headers, and the places of symbols that expressions ask for
+-- what is placed, for which machine, with the bytes of the parts and of the headers, and the places of symbols
 abbrev pub setting : Machine → LinkInput → Live → Setting
 setting machine link live =
     let content = output_content machine.sizes link live in
-    setting_of link machine.target (part_sizes link content) (header_bytes machine link live) (asked_positions link content)
+    setting_of link machine.target (part_sizes link content) (header_bytes machine link live) (symbol_positions link content)
 
 -- an event that can't be carried out
 abbrev pub walk_refusal : Machine → LinkInput → Live → List Cursors → List Record → Option LayoutError

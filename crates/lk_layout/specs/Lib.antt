@@ -10,8 +10,11 @@ pub mod Laws
 pub mod Layouts
 pub mod Machines
 pub mod Merging
+pub mod MergingWords
 pub mod OutputContent
 pub mod Outside
+pub mod OutsideWords
+pub mod PositionLaws
 pub mod Positions
 pub mod Resolutions
 pub mod Sound

@@ -1,25 +1,11 @@
--- What is merged of a link, and when that is refused.
-use Rattle.std.specs.Prelude.{◌≡◌, Option, Some, None, Result, Ok, Err, option_map}
+-- When what is merged of a link is refused.
+use Rattle.std.specs.Prelude.{Option, option_map}
 use Rattle.lk_link.specs.declared.link.LinkInput.{LinkInput}
 use Rattle.lk_merge.specs.Hash.{fnv64}
 use Rattle.lk_merge.specs.LinkInputs.{first_refusal, link_inputs}
 use Rattle.lk_layout.specs.declared.error.LayoutError.{LayoutError}
-use Rattle.lk_layout.specs.declared.error.LayoutError.TheVariants.{NoMemory}
-use Rattle.lk_layout.specs.declared.images.Images.{Images}
 use Rattle.lk_layout.specs.Errors.{merge_error}
-use Rattle.lk_layout.specs.OutputContent.{image_lens}
 
 -- an input that isn't terminated, or a piece that is too long for its bucket
 abbrev pub merging_refusal : LinkInput → Option LayoutError
 merging_refusal link = option_map merge_error (first_refusal fnv64 link.options.bucket_limit 0 (link_inputs link).outputs)
-
--- the merged sections of a link, and the bytes of their images
-pub record AreImages (link : LinkInput) (images : Images) : Type 0 where
-  pub sections : images.sections ≡ (link_inputs link).outputs
-  pub lens : images.lens.items ≡ image_lens link
-
--- what merging answers: these, or the refusal; nothing is said for want of memory
-abbrev pub GivesImages : LinkInput → Result Images LayoutError → Type 0
-GivesImages link (Ok images) = (merging_refusal link ≡ None) × AreImages link images
-GivesImages link (Err NoMemory) = Unit {0}
-GivesImages link (Err error) = merging_refusal link ≡ Some error

@@ -1,6 +1,6 @@
 -- Offsets that are chosen outside the data of merged sections: at its end, or past it.
-use Rattle.std.specs.Prelude.{◌≡◌, ℕ, ◌==◌, ◌&&◌, not, Bool, if◌then◌else◌, List, [], ◌∷◌, ◌++◌, Some, Result, Ok, Err}
-use Rattle.std.specs.List.{enumerate_from, flat_map, slice_get}
+use Rattle.std.specs.Prelude.{ℕ, ◌==◌, ◌&&◌, not, Bool, if◌then◌else◌, List, [], ◌∷◌, ◌++◌}
+use Rattle.std.specs.List.{enumerate_from, flat_map}
 use Rattle.lk_link.specs.declared.file.FileKind.{FileKind}
 use Rattle.lk_link.specs.declared.link.LinkInput.{LinkInput}
 use Rattle.lk_link.specs.declared.relocation.Relocation.{Relocation}
@@ -56,8 +56,3 @@ relocations_outside link live f = flat_map (section_outside link live f) (enumer
 abbrev pub merge_offsets : LinkInput → Live → List MergeOffsetPlace
 merge_offsets link live =
     flat_map (symbols_outside link live) (numbered_files link.groups) ++ flat_map (relocations_outside link live) (numbered_files link.groups)
-
--- what a walk answers that stops at the first of some things: that one, or that there is none
-abbrev pub StopsAtFirst : {X : Type 0} → List X → Result Unit X → Type 0
-StopsAtFirst xs (Ok _) = xs ≡ []
-StopsAtFirst xs (Err x) = slice_get xs 0 ≡ Some x

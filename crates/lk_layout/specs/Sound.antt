@@ -259,7 +259,7 @@ pub record IsSoundInMemory (sizes : TableSizes) (link : LinkInput) (live : Live)
 
 -- a sound layout: all references are met; the live sections are those that are reached, each where its part's owners let it
 -- stand, aligned; what is merged is all that the link has to merge, with the starts of its buckets, each image stands in a part, with its
--- pieces apart, and shows its inputs, nothing refers outside their data, and references into it have addresses that show what they choose; each symbol that is asked for stands for a place in a live section, at its address, or
+-- pieces apart, and shows its inputs, nothing refers outside their data, and references into it have addresses that show what they choose; each symbol that is asked for stands for a place in a live section, at its address where nothing is relaxed, or
 -- in merged data, or for a number, or is a common, at the address of its bytes in a part; tables stand alone in their parts, and what a resolution tells of entries is its symbol's own; output sections, their indexes and attributes, and segments are told as they are; each byte of a part
 -- has one owner; no two parts share a byte of the file; and under a plain plan the same holds of memory
 pub record IsSound (sizes : TableSizes) (link : LinkInput) (live : Live) (layout : Layout) : Type 0 where
@@ -274,7 +274,7 @@ pub record IsSound (sizes : TableSizes) (link : LinkInput) (live : Live) (layout
   pub inside : merge_offsets link live ≡ []
   pub resolved : layout.symbol_resolutions ≡ symbol_resolutions sizes link live (starts_of layout.section_part_layouts)
   pub placed : SymbolsStandInLiveSections link live
-  pub valued : ValuesAreInLiveSections link live layout
+  pub valued : link.options.relax ≡ false → ValuesAreInLiveSections link live layout
   pub commons : CommonsStand sizes link live layout
   pub alone : TablesStandAlone sizes link live
   pub entries : EntriesStand sizes link live layout

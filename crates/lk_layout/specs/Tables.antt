@@ -1,6 +1,6 @@
 -- What the code goes by: places by marks and a table of addresses, and the room behind them. Contracts of private functions speak
 -- of this.
-use Rattle.std.specs.Prelude.{◌≡◌, ℕ, ◌+◌, ◌<◌, ◌^◌, ◌&&◌, not, Bool, true, if◌then◌else◌, List, All, Option, Some, None, ◌==◌, find, option_and_then, slice_get}
+use Rattle.std.specs.Prelude.{◌≡◌, ℕ, ◌+◌, ◌<◌, ◌^◌, ◌&&◌, not, Bool, true, if◌then◌else◌, List, [], All, Option, Some, None, ◌==◌, find, option_and_then, slice_get}
 use Rattle.std.specs.List.{slice_index_or}
 use Rattle.std.specs.Option.{option_map_or}
 use Rattle.lk_sizes.specs.declared.addresses.CommonAddress.{CommonAddress}
@@ -19,6 +19,9 @@ use Rattle.lk_merge.specs.Addresses.{AreStartsOf, image_start}
 use Rattle.lk_merge.specs.LinkInputs.{link_inputs}
 use Rattle.lk_merge.specs.Pieces.{MergeInput}
 use Rattle.lk_expressions.specs.declared.positions.SymbolPosition.{SymbolPosition}
+use Rattle.lk_expressions.specs.Named.{names_no_symbol}
+use Rattle.lk_sizes.specs.Owners.{Content}
+use Rattle.lk_layout.specs.Positions.{symbol_positions}
 use Rattle.lk_layout.specs.Resolutions.{Places, merged_value}
 
 -- the address at an offset of an input section, by marks of sections and a table of their addresses
@@ -46,6 +49,10 @@ section_position_in marks offsets k offset section =
 abbrev pub position_in : List Bool → List ℕ → ℕ → List InputSection → SymbolPlacement → Option SymbolPosition
 position_in marks offsets first sections (at.Section i offset) = option_and_then (section_position_in marks offsets (first + i) offset) (slice_get sections i)
 position_in marks offsets first sections _ = None
+
+-- the places of all symbols; none where no expression of a walk names a symbol, since then no place is read
+abbrev pub asked_positions : LinkInput → Content → List (Option SymbolPosition)
+asked_positions link content = if names_no_symbol link.plan then [] else symbol_positions link content
 
 -- the merged sections of a well-formed link, with addresses of their buckets
 pub record AreMergedOf (link : LinkInput) (merged : List (List MergeInput)) (addresses : List ℕ) : Type 0 where

@@ -17,7 +17,7 @@ ghost use Rattle.lk_tables.specs.Commons.{all_commons};
 ghost use Rattle.lk_tables.specs.DynamicCounters.{AreNumbersAt};
 ghost use Rattle.lk_layout.specs.OutputContent.{output_content};
 ghost use Rattle.lk_layout.specs.Defined.{starts_of};
-ghost use Rattle.lk_layout.specs.Merging.{AreImages};
+ghost use Rattle.lk_layout.specs.MergingWords.{AreImages};
 ghost use Rattle.lk_layout.specs.Resolutions.{symbol_resolutions};
 ghost use Rattle.lk_layout.specs.Tables.{AreMergedOf};
 

@@ -20,10 +20,10 @@ ghost use Rattle.lk_sizes.specs.PartOwners.{part_size};
 ghost use Rattle.lk_tables.specs.Commons.{all_commons};
 ghost use Rattle.lk_tables.specs.DynamicCounters.{AreNumbersAt};
 ghost use Rattle.lk_layout.specs.OutputContent.{output_content};
-ghost use Rattle.lk_layout.specs.Carried.{IsCarried};
+ghost use Rattle.lk_layout.specs.CarriedWords.{IsCarried};
 ghost use Rattle.lk_layout.specs.Defined.{Gives, IsCarriedAnswer, IsLiveAnswer, IsMergedAnswer, IsPlacedAnswer, IsSizedAnswer, WithMemory};
 ghost use Rattle.lk_layout.specs.Machines.{platform_machine};
-ghost use Rattle.lk_layout.specs.Merging.{AreImages};
+ghost use Rattle.lk_layout.specs.MergingWords.{AreImages};
 
 use crate::addresses::{Entries, addresses_of};
 use crate::arch::Arch;

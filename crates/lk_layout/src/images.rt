@@ -2,7 +2,7 @@
 
 ghost use Rattle.std.specs.Prelude.{◌≡◌, IfOk};
 ghost use Rattle.lk_link.specs.WellFormed.{IsWellFormed};
-ghost use Rattle.lk_layout.specs.Merging.{GivesImages};
+ghost use Rattle.lk_layout.specs.MergingWords.{GivesImages};
 ghost use Rattle.lk_layout.specs.OutputContent.{lens_of};
 
 use crate::error::LayoutError;

@@ -2,6 +2,7 @@
 
 ghost use Rattle.lk_layout.specs.Laws.{DefinedAnswerExists, DefinedAnswerIsOne, LaidOutLinksAreWellFormed};
 ghost use Rattle.lk_layout.specs.Laws.{DefinedLayoutsAreSound, LaidOutMemoryIsDisjoint, LaidOutSectionsAreApart, ResolvedSectionsAreLive};
+ghost use Rattle.lk_layout.specs.PositionLaws.{PlacementsGoWithoutPositions};
 
 use lk_check::well_formed_exactly_unfaulted;
 use lk_gc::{live_exists, live_is_one};
@@ -76,4 +77,10 @@ pub fn laid_out_sections_are_apart()
 /// live one, unless the section is merged.
 pub fn resolved_sections_are_live()
     ensures { ResolvedSectionsAreLive }
+{}
+
+/// A law: where neither the base nor an event or a load address names a symbol, a placement is one wherever symbols stand, and is refused
+/// alike.
+pub fn placements_go_without_positions()
+    ensures { PlacementsGoWithoutPositions }
 {}

@@ -12,8 +12,9 @@ ghost use Rattle.lk_link.specs.Walks.{file_of};
 ghost use Rattle.lk_link.specs.WellFormed.{IsWellFormed};
 ghost use Rattle.lk_merge.specs.LinkInputs.{link_inputs};
 ghost use Rattle.lk_merge.specs.OffsetsOutside.{refers_outside, stands_outside};
-ghost use Rattle.lk_layout.specs.Outside.{StopsAtFirst, merge_offsets, outside_in, relocation_outside, relocations_outside};
+ghost use Rattle.lk_layout.specs.Outside.{merge_offsets, outside_in, relocation_outside, relocations_outside};
 ghost use Rattle.lk_layout.specs.Outside.{symbol_outside, symbols_outside};
+ghost use Rattle.lk_layout.specs.OutsideWords.{StopsAtFirst};
 
 use crate::resolution::flags_at;
 use lk_gc::Live;

@@ -3,10 +3,10 @@
 //! An expression of the plan may name a symbol. If that stands in a live section, its value is where the section's part starts, once
 //! the part is placed, and the bytes from there to the symbol. Those bytes are the address that the symbol would have if all
 //! parts started at 0: so a table has the addresses of live sections for such starts, and one pass over the symbols adds each
-//! one's own offset. All this is left out where no expression asks for a symbol.
+//! one's own offset. All this is left out where no expression names a symbol.
 
-ghost use Rattle.std.specs.Prelude.{◌≡◌, ◌+◌, ◌<◌, ◌^◌, ◌++◌, ℕ, All, IfOk, None, OnOk, Some, length, map, slice_index, true};
-ghost use Rattle.std.specs.List.{list_any, slice_index_or};
+ghost use Rattle.std.specs.Prelude.{◌≡◌, ◌+◌, ◌<◌, ◌^◌, ◌++◌, All, IfOk, None, OnOk, Some, map, true};
+ghost use Rattle.std.specs.List.{slice_index_or};
 ghost use Rattle.lk_gc.specs.Reach.{AreLive};
 ghost use Rattle.lk_link.specs.Files.{file_in};
 ghost use Rattle.lk_link.specs.Marks.{is_marked};
@@ -16,25 +16,22 @@ ghost use Rattle.lk_sizes.specs.Addresses.{section_addresses};
 ghost use Rattle.lk_sizes.specs.Contents.{part_contents};
 ghost use Rattle.lk_sizes.specs.PartOwners.{part_sizes};
 ghost use Rattle.lk_tables.specs.Commons.{all_commons};
-ghost use Rattle.lk_layout.specs.Merging.{AreImages};
+ghost use Rattle.lk_layout.specs.MergingWords.{AreImages};
 ghost use Rattle.lk_layout.specs.OutputContent.{output_content};
-ghost use Rattle.lk_layout.specs.Positions.{asked_positions, asks_for_symbols, file_positions, is_symbol_token, loads_by_symbol, moves_by_symbol};
-ghost use Rattle.lk_layout.specs.Positions.{names_symbol, no_starts, symbol_positions};
-ghost use Rattle.lk_layout.specs.Tables.{HasRoom, HaveRoom, position_in, section_position_in};
+ghost use Rattle.lk_layout.specs.Positions.{file_positions, no_starts, symbol_positions};
+ghost use Rattle.lk_layout.specs.Tables.{HasRoom, HaveRoom, asked_positions, position_in, section_position_in};
 
 use crate::images::Images;
 use lk_gc::Live;
-use lk_link::expression::{Expression, Operand, Token};
 use lk_link::list::List;
 use lk_link::marks::is_marked;
-use lk_link::plan::{OrderEvent, Plan, PlanSection};
 use lk_link::{FileRef, InputSection, InputSymbol, LinkInput, Platform, SymbolPlacement};
-use lk_place::{SymbolPosition, SymbolPositions};
+use lk_place::{SymbolPosition, SymbolPositions, names_no_symbol};
 use lk_sizes::{PartContents, owner_addresses};
 use lk_tables::Common;
 use std::alloc::{AllocError, Global};
 
-/// The places of symbols in parts, if an expression of the plan asks for one; else none is told, which takes no memory.
+/// The places of symbols in parts, if an expression of the walk names one; else none is told, which takes no memory.
 pub(crate) fn asked_positions<P: Platform>(
     alloc: Global,
     link: &LinkInput,
@@ -53,13 +50,12 @@ pub(crate) fn asked_positions<P: Platform>(
     requires sizes { sizes.now ≡ part_sizes link.now (output_content (P.table_sizes platform.now) link.now live.now) }
     ensures { IfOk result (λ positions. positions ≡ asked_positions link.now (output_content (P.table_sizes platform.now) link.now live.now)) }
 {
-    if asks_for_symbols(&link.plan) {
-        symbol_positions(
-            alloc, link, live, images, commons, contents, sizes, platform,
-        )
-    } else {
-        Ok(SymbolPositions::new(List::new(alloc)))
+    if names_no_symbol(&link.plan) {
+        return Ok(SymbolPositions::new(List::new(alloc)));
     }
+    symbol_positions(
+        alloc, link, live, images, commons, contents, sizes, platform,
+    )
 }
 
 /// The place of each symbol in its part, if it has one. Looks at each input section and each symbol once, and takes 8 bytes for
@@ -96,14 +92,10 @@ fn symbol_positions<P: Platform>(
 
 /// A start of 0 for each part, by their sizes.
 fn no_starts(alloc: Global, sizes: &[u64]) -> Result<Vec<u64>, AllocError>
-    ensures value { IfOk result (λ starts. starts.items ≡ map (λ _. 0) sizes.now) }
-    ensures fit { IfOk result (λ starts. (p : ℕ) → p < length sizes.now
-        → slice_index starts.items p + slice_index sizes.now p < 2 ^ 64) }
+    ensures { IfOk result (λ starts. starts.items ≡ map (λ _. 0) sizes.now) }
 {
     let mut starts = Vec::with_capacity(alloc, sizes.len())?;
-    for size in sizes {
-        // A part of this size ends below 2^64 if it starts at 0.
-        let _end = *size;
+    for _size in sizes {
         starts.push(0)?;
     }
     Ok(starts)
@@ -211,68 +203,4 @@ fn section_position(
         part: section.part,
         offset: start + offset,
     })
-}
-
-/// Whether an expression of the plan asks for a symbol, once sections are placed.
-fn asks_for_symbols(plan: &Plan) -> bool
-    ensures { result ≡ asks_for_symbols plan.now }
-{
-    has_move_by_symbol(plan.events.as_slice()) || has_load_by_symbol(plan.sections.as_slice())
-}
-
-/// Whether the location moves to where an expression with a symbol says.
-fn has_move_by_symbol(events: &[OrderEvent]) -> bool
-    ensures { result ≡ list_any moves_by_symbol events.now }
-{
-    events.iter().any(moves_by_symbol)
-}
-
-/// Whether an event has an expression with a symbol.
-fn moves_by_symbol(event: &OrderEvent) -> bool
-    ensures { result ≡ moves_by_symbol event.now }
-{
-    match event {
-        OrderEvent::SetLocation(expression)
-        | OrderEvent::SetLocationRelative(expression, _)
-        | OrderEvent::SetSectionAddress(expression) => names_symbol(expression),
-        _ => false,
-    }
-}
-
-/// Whether a section is loaded from where an expression with a symbol says.
-fn has_load_by_symbol(sections: &[PlanSection]) -> bool
-    ensures { result ≡ list_any loads_by_symbol sections.now }
-{
-    sections.iter().any(loads_by_symbol)
-}
-
-/// Whether this section is.
-fn loads_by_symbol(section: &PlanSection) -> bool
-    ensures { result ≡ loads_by_symbol section.now }
-{
-    match &section.at {
-        Some(expression) => names_symbol(expression),
-        None => false,
-    }
-}
-
-/// Whether an expression names a symbol.
-fn names_symbol(expression: &Expression) -> bool
-    ensures { result ≡ names_symbol expression.now }
-{
-    has_symbol_token(expression.tokens())
-}
-
-/// Whether one of some tokens is a symbol.
-fn has_symbol_token(tokens: &[Token]) -> bool
-    ensures { result ≡ list_any is_symbol_token tokens.now }
-{
-    tokens.iter().any(is_symbol_token)
-}
-
-/// Whether a token is a symbol.
-fn is_symbol_token(token: &Token) -> bool
-    ensures { result ≡ is_symbol_token token.now }
-{
-    matches!(token, Token::Operand(Operand::Symbol(_)))
 }

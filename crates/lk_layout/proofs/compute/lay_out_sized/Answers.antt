@@ -1,4 +1,4 @@
-use Rattle.std.proofs.Common.{◌≡◌, ℕ, Bool, List, length, sym, ap, subst, ◌∙◌, arith}
+use Rattle.std.proofs.Common.{◌≡◌, ℕ, Bool, List, Ok, length, sym, ap, subst, ◌∙◌, arith}
 use Rattle.std.specs.Prelude.{option_map}
 use Rattle.lk_gc.specs.declared.live.Live.{Live}
 use Rattle.lk_link.specs.TableSizes.{TableSizes}
@@ -20,6 +20,7 @@ use Rattle.lk_layout.proofs.Answering.{passed_on, unless_none}
 use Rattle.lk_layout.proofs.FewHeaders.{few_active}
 use Rattle.lk_layout.proofs.PlacingRefused.{placing_refused}
 use Rattle.lk_layout.proofs.Settings.{length-by_part, takes}
+use Rattle.lk_layout.proofs.WithoutPositions.{by_asked}
 use Rattle.lk_layout.proofs.compute.lay_out_sized.Goals as goal
 
 pub header_bytes-headers-requires : goal.header_bytes-headers-requires
@@ -80,7 +81,8 @@ lay_out_placed-requires-clause-takes g c =
     let all : List ℕ = part_sizes link (output_content tables link live) in
     let at : ArePlaced (setting_of link machine.target all (header_bytes machine link live) c.in_ok-positions.positions) c.in_ok-placed.placed = rw (sizes, headers) at c.in_ok-placed.ensures in
     let are : ArePlaced (setting machine link live) c.in_ok-placed.placed
-    = subst (λ positions. ArePlaced (setting_of link machine.target all (header_bytes machine link live) positions) c.in_ok-placed.placed) c.in_ok-positions.ensures at in
+    = by_asked machine link live (Ok c.in_ok-placed.placed)
+    (subst (λ positions. ArePlaced (setting_of link machine.target all (header_bytes machine link live) positions) c.in_ok-placed.placed) c.in_ok-positions.ensures at) in
     takes c.parts_take_their_bytes.ensures machine link live are.states c.in_ok-placed.placed.parts c.requires.good are.is are.unrefused
 
 pub returns-in_err-placed : goal.returns-in_err-placed
@@ -109,7 +111,8 @@ returns g c =
     let all : List ℕ = part_sizes link (output_content tables link live) in
     let at : ArePlaced (setting_of link machine.target all (header_bytes machine link live) c.in_ok-positions.positions) c.in_ok-placed.placed = rw (sizes, headers) at c.in_ok-placed.ensures in
     let are : ArePlaced (setting machine link live) c.in_ok-placed.placed
-    = subst (λ positions. ArePlaced (setting_of link machine.target all (header_bytes machine link live) positions) c.in_ok-placed.placed) c.in_ok-positions.ensures at in
+    = by_asked machine link live (Ok c.in_ok-placed.placed)
+    (subst (λ positions. ArePlaced (setting_of link machine.target all (header_bytes machine link live) positions) c.in_ok-placed.placed) c.in_ok-positions.ensures at) in
     let parts = c.in_ok-placed.placed.parts in
     passed_on (IsPlacedAnswer tables link live parts) (IsSizedAnswer machine link live) c.lay_out_placed.result (λ a h.
     (are.states, parts, are.is, unless_none (walk_refusal machine link live are.states parts) a (IsPlacedAnswer tables link live parts a) (ap (option_map place_error) are.unrefused) h))

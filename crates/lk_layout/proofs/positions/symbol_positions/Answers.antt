@@ -1,4 +1,5 @@
 use Rattle.std.proofs.Common.{◌≡◌, List, ℕ, length, refl, sym, ap, subst, ◌∙◌}
+use Rattle.std.proofs.Math.Facts.{Fits-lt-pow}
 use Rattle.lk_gc.specs.declared.live.Live.{Live}
 use Rattle.lk_link.specs.Inputs.{numbered_files}
 use Rattle.lk_link.specs.Walks.{file_of}
@@ -20,7 +21,7 @@ owner_addresses-requires-clause-starts g c =
     let tables : TableSizes = g.P.Platform.table_sizes c.args.platform.now in
     let link = c.args.link.now in
     let starts : c.deref-2.result.now ≡ no_starts link
-    = c.deref-2.ensures.value ∙ c.in_ok-starts.ensures.value ∙ no_starts_by_sizes tables link c.args.live.now c.args.sizes.now c.requires.sizes in
+    = c.deref-2.ensures.value ∙ c.in_ok-starts.ensures ∙ no_starts_by_sizes tables link c.args.live.now c.args.sizes.now c.requires.sizes in
     ap length starts ∙ length-no_starts link
 
 pub owner_addresses-requires-clause-room : goal.owner_addresses-requires-clause-room
@@ -29,8 +30,8 @@ owner_addresses-requires-clause-room g c =
     let link = c.args.link.now in
     let live : Live = c.args.live.now in
     let lens : c.deref.result.now ≡ image_lens link = c.deref.ensures.value ∙ c.requires.images.lens in
-    let zeros : c.in_ok-starts.starts.items ≡ no_starts link = c.in_ok-starts.ensures.value ∙ no_starts_by_sizes tables link live c.args.sizes.now c.requires.sizes in
-    let fit : EndsFit link (output_content tables link live) (no_starts link) = no_starts_fit tables link live c.in_ok-starts.starts.items c.args.sizes.now zeros c.requires.sizes c.in_ok-starts.ensures.fit in (
+    let zeros : c.in_ok-starts.starts.items ≡ no_starts link = c.in_ok-starts.ensures ∙ no_starts_by_sizes tables link live c.args.sizes.now c.requires.sizes in
+    let fit : EndsFit link (output_content tables link live) (no_starts link) = no_starts_fit tables link live c.args.sizes.now c.requires.sizes (λ p. Fits-lt-pow (c.type_inv.sizes p)) in (
       tables,
       c.requires.contents ∙ ap (λ (ls : List ℕ). part_contents link (content_of tables live ls)) (sym lens),
       subst (λ (ls : List ℕ). EndsFit link (content_of tables live ls) c.deref-2.result.now) (sym lens)
@@ -52,7 +53,7 @@ push_file_positions-requires-clause-offsets g c =
     let link = c.args.link.now in
     let live : Live = c.args.live.now in
     let lens : c.deref.result.now ≡ image_lens link = c.deref.ensures.value ∙ c.requires.images.lens in
-    let zeros : c.in_ok-starts.starts.items ≡ no_starts link = c.in_ok-starts.ensures.value ∙ no_starts_by_sizes tables link live c.args.sizes.now c.requires.sizes in
+    let zeros : c.in_ok-starts.starts.items ≡ no_starts link = c.in_ok-starts.ensures ∙ no_starts_by_sizes tables link live c.args.sizes.now c.requires.sizes in
     c.as_slice-offsets.ensures.value ∙ c.in_ok-owners.ensures.sections tables ∙ ap (λ (ls : List ℕ). section_addresses link (content_of tables live ls) c.deref-2.result.now) lens
     ∙ ap (section_addresses link (output_content tables link live)) (c.deref-2.ensures.value ∙ zeros)
 
@@ -62,8 +63,8 @@ push_file_positions-requires-clause-room g c =
     let link = c.args.link.now in
     let live : Live = c.args.live.now in
     let lens : c.deref.result.now ≡ image_lens link = c.deref.ensures.value ∙ c.requires.images.lens in
-    let zeros : c.in_ok-starts.starts.items ≡ no_starts link = c.in_ok-starts.ensures.value ∙ no_starts_by_sizes tables link live c.args.sizes.now c.requires.sizes in
-    let fit : EndsFit link (output_content tables link live) (no_starts link) = no_starts_fit tables link live c.in_ok-starts.starts.items c.args.sizes.now zeros c.requires.sizes c.in_ok-starts.ensures.fit in
+    let zeros : c.in_ok-starts.starts.items ≡ no_starts link = c.in_ok-starts.ensures ∙ no_starts_by_sizes tables link live c.args.sizes.now c.requires.sizes in
+    let fit : EndsFit link (output_content tables link live) (no_starts link) = no_starts_fit tables link live c.args.sizes.now c.requires.sizes (λ p. Fits-lt-pow (c.type_inv.sizes p)) in
     let read : c.as_slice-offsets.result.now ≡ table tables link live (no_starts link)
     = c.as_slice-offsets.ensures.value ∙ c.in_ok-owners.ensures.sections tables ∙ ap (λ (ls : List ℕ). section_addresses link (content_of tables live ls) c.deref-2.result.now) lens
     ∙ ap (section_addresses link (output_content tables link live)) (c.deref-2.ensures.value ∙ zeros) in

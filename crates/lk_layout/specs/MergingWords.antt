@@ -1,0 +1,20 @@
+-- Words of private contracts: what merging gives.
+use Rattle.std.specs.Prelude.{◌≡◌, Some, None, Result, Ok, Err}
+use Rattle.lk_link.specs.declared.link.LinkInput.{LinkInput}
+use Rattle.lk_merge.specs.LinkInputs.{link_inputs}
+use Rattle.lk_layout.specs.declared.error.LayoutError.{LayoutError}
+use Rattle.lk_layout.specs.declared.error.LayoutError.TheVariants.{NoMemory}
+use Rattle.lk_layout.specs.declared.images.Images.{Images}
+use Rattle.lk_layout.specs.Merging.{merging_refusal}
+use Rattle.lk_layout.specs.OutputContent.{image_lens}
+
+-- the merged sections of a link, and the bytes of their images
+pub record AreImages (link : LinkInput) (images : Images) : Type 0 where
+  pub sections : images.sections ≡ (link_inputs link).outputs
+  pub lens : images.lens.items ≡ image_lens link
+
+-- what merging answers: these, or the refusal; nothing is said for want of memory
+abbrev pub GivesImages : LinkInput → Result Images LayoutError → Type 0
+GivesImages link (Ok images) = (merging_refusal link ≡ None) × AreImages link images
+GivesImages link (Err NoMemory) = Unit {0}
+GivesImages link (Err error) = merging_refusal link ≡ Some error
