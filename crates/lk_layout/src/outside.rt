@@ -17,7 +17,7 @@ ghost use Rattle.lk_layout.specs.Outside.{symbol_outside, symbols_outside};
 ghost use Rattle.lk_layout.specs.OutsideWords.{StopsAtFirst};
 
 use crate::resolution::flags_at;
-use lk_gc::Live;
+use lk_gc::{InputAt, Live};
 use lk_link::marks::is_marked;
 use lk_link::relocation::resolution_flags;
 use lk_link::{FileId, FileRef, InputSection, InputSymbol, LinkInput, Relocation, SymbolId};
@@ -32,27 +32,6 @@ pub enum MergeOffsetPlace {
     OfSymbol(SymbolId),
     /// A relocation: its file, the section's index there, and its index in the section.
     OfRelocation(FileId, u32, u32),
-}
-
-/// An input section, by its file and its index there.
-#[derive(Clone, Copy)]
-struct InputAt {
-    file: FileId,
-    section: u32,
-}
-
-/// As `1 0 2`: group, file and section.
-impl fmt::Display for InputAt {
-    ghost use Rattle.std.specs.Prelude.{Some};
-    ghost use Rattle.lk_gc.specs.Texts.{input_text};
-
-    ghost output = { λ input. Some (input_text input.file input.section) };
-
-    fn fmt<W: fmt::Write>(&self, f: &mut fmt::Formatter<W>) -> fmt::Result {
-        let FileId { group, file } = self.file;
-        let section = self.section;
-        write!(f, "{group} {file} {section}")
-    }
 }
 
 /// As `merge offset: symbol 5`, or `merge offset: 1 0 2 relocation 0` with group, file and section.
