@@ -1,11 +1,12 @@
 -- Commons are found by their symbols in a table that is in the order of these.
-use Rattle.std.proofs.Common.{◌≡◌, ℕ, zero, suc, ◌+◌, ◌<◌, ◌≤◌, ◌==◌, ◌&&◌, Bool, true, false, cond, not, if◌then◌else◌, List, [], ◌∷◌, ◌++◌, length, map, Option, Some, None, refl, sym, ap, ◌∙◌, arith, inl, inr}
+use Rattle.std.proofs.Common.{◌≡◌, ℕ, zero, suc, ◌+◌, ◌<◌, ◌≤◌, ◌==◌, ◌&&◌, Bool, true, false, cond, not, if◌then◌else◌, List, [], ◌∷◌, ◌++◌, length, map, Option, Some, None, refl, sym, ap, ◌∙◌, arith, get_or, inl, inr, ltb}
 use Rattle.std.specs.Prelude.{find}
 use Rattle.std.specs.List.{enumerate_from, flat_map, position_or_len, slice_get}
+use Rattle.std.specs.List.Sorted.{IsNonDecreasingBy, IsPartitionPoint}
 use Rattle.std.specs.Option.{option_map_or}
-use Rattle.std.proofs.lemmas.Bool.{and_parts, cases_lt, eqb-true, false_from_ne_true}
+use Rattle.std.proofs.lemmas.Bool.{and_parts, cases_lt, eqb-true, false_from_ne_true, ltb-false, ltb-true}
 use Rattle.std.proofs.lemmas.List.Folds.{find_at}
-use Rattle.std.proofs.lemmas.Option.{slice_get_past, slice_get_within}
+use Rattle.std.proofs.lemmas.Option.{get_or_from_slice_get, slice_get-get_or, slice_get_past, slice_get_within}
 use Rattle.lk_link.specs.declared.flags.ValueFlags.{ValueFlags}
 use Rattle.lk_link.specs.declared.link.LinkInput.{LinkInput}
 use Rattle.lk_link.specs.declared.symbol.InputSymbol.{InputSymbol}
@@ -59,10 +60,41 @@ alike s t same = ap (λ (n : ℕ). n == t) same ∙ same_number t
 
 -- ---- what halving finds
 
+-- of commons that rise, an earlier one is below a later one
+rises_at : (commons : List CommonAddress) (j k : ℕ) (c d : CommonAddress) → AreRising commons → j < k → slice_get commons j ≡ Some c → slice_get commons k ≡ Some d → c.symbol < d.symbol
+rises_at commons j k c d rising below at_j at_k =
+    let symbol : CommonAddress → ℕ = λ x. x.symbol in
+    let first : get_or commons j c ≡ c = get_or_from_slice_get commons j c c at_j in
+    let second : get_or commons k c ≡ d = get_or_from_slice_get commons k d c at_k in
+    omega (arith, rising j k c below (slice_get_within commons k d at_k), ap symbol first, ap symbol second)
+
+-- so their symbols never fall
+pub never_fall : (commons : List CommonAddress) → AreRising commons → IsNonDecreasingBy (λ (c : CommonAddress). c.symbol) commons
+never_fall commons rising j k d order within = elim (cases_lt j k) [
+  | inl below ↦ omega (arith, rising j k d below within)
+  | inr here ↦
+      let same : j ≡ k = omega arith in
+      omega (arith, ap (λ (n : ℕ). (get_or commons n d).symbol) same)
+]
+
 -- the place up to which all are below the symbol, and from which on none is
 pub record IsSeam (commons : List CommonAddress) (symbol place : ℕ) : Type 0 where
   pub front : (k : ℕ) (c : CommonAddress) → k < place → slice_get commons k ≡ Some c → c.symbol < symbol
   pub behind : (k : ℕ) (c : CommonAddress) → place ≤ k → slice_get commons k ≡ Some c → symbol ≤ c.symbol
+
+-- where halving stops is one
+pub seam_at : (commons : List CommonAddress) (symbol place : ℕ)
+    → IsPartitionPoint (λ (c : CommonAddress). ltb c.symbol symbol ≡ true) (λ (c : CommonAddress). ltb c.symbol symbol ≡ false) commons place → IsSeam commons symbol place
+seam_at commons symbol place point =
+    let test : CommonAddress → Bool = λ c. ltb c.symbol symbol in
+    record {
+      front = λ k c below at.
+          let here : get_or commons k c ≡ c = get_or_from_slice_get commons k c c at in
+          ltb-true c.symbol symbol (ap test (sym here) ∙ point.0 k c (omega arith) below);
+      behind = λ k c from at.
+          let here : get_or commons k c ≡ c = get_or_from_slice_get commons k c c at in
+          ltb-false c.symbol symbol (ap test (sym here) ∙ point.1 k c from (slice_get_within commons k c at));
+    }
 
 pub seam_found : (commons : List CommonAddress) (symbol place : ℕ) (c : CommonAddress) → IsSeam commons symbol place → slice_get commons place ≡ Some c → c.symbol ≡ symbol
     → c.address ≡ common_in commons symbol
@@ -79,7 +111,7 @@ seam_other commons symbol place c rising h there other =
     differ d.symbol symbol (λ e. elim (cases_lt j place) [
       | inl before ↦ absurd (omega (arith, e, h.front j d before at))
       | inr past ↦ elim (cases_lt place j) [
-        | inl later ↦ absurd (omega (arith, e, rising place j c d later there at, h.behind place c (omega arith) there))
+        | inl later ↦ absurd (omega (arith, e, rises_at commons place j c d rising later there at, h.behind place c (omega arith) there))
         | inr here ↦
             let number : j ≡ place = omega arith in
             let both : Some d ≡ Some c = sym at ∙ ap (slice_get commons) number ∙ there in
@@ -97,9 +129,10 @@ seam_none commons symbol place h past =
 -- ---- the table of a link
 
 pub table_rises : (link : LinkInput) (content : Content) (starts : List ℕ) → AreRising (common_addresses link content starts)
-table_rises link content starts = λ j k c d below at_j at_k.
-    let from = map_at (told_common link content starts) (all_commons link content.live) j c at_j in
-    let to = map_at (told_common link content starts) (all_commons link content.live) k d at_k in
+table_rises link content starts j k d below within =
+    let table : List CommonAddress = common_addresses link content starts in
+    let from = map_at (told_common link content starts) (all_commons link content.live) j (get_or table j d) (slice_get-get_or table j d (omega (arith, below, within))) in
+    let to = map_at (told_common link content starts) (all_commons link content.live) k (get_or table k d) (slice_get-get_or table k d within) in
     let symbol : CommonAddress → ℕ = λ x. x.symbol in
     omega (arith, commons_rise link content.live j k from.0 to.0 below from.1 to.1, ap symbol from.2, ap symbol to.2)
 
@@ -113,7 +146,7 @@ common_found link content starts p s size h =
     let there : slice_get (common_addresses link content starts) whole.0 ≡ Some told = map_in (told_common link content starts) (all_commons link content.live) whole.0 _ whole.1 in
     ap (λ o. option_map_or (λ (d : CommonAddress). d.address) o 0)
     (first_found (λ (d : CommonAddress). d.symbol == s) (common_addresses link content starts) whole.0 told there (same_number s) (λ j d below at_j.
-    differ d.symbol s (λ e. absurd (omega (arith, e, table_rises link content starts j whole.0 d told below at_j there)))))
+    differ d.symbol s (λ e. absurd (omega (arith, e, rises_at (common_addresses link content starts) j whole.0 d told (table_rises link content starts) below at_j there)))))
 
 -- ---- the same resolutions by the table
 

@@ -1,6 +1,6 @@
 -- What the code goes by: places by marks and a table of addresses, and the room behind them. Contracts of private functions speak
 -- of this.
-use Rattle.std.specs.Prelude.{◌≡◌, ℕ, ◌+◌, ◌<◌, ◌^◌, ◌&&◌, not, Bool, true, if◌then◌else◌, List, [], All, Option, Some, None, ◌==◌, find, option_and_then, slice_get}
+use Rattle.std.specs.Prelude.{◌≡◌, ℕ, ◌+◌, ◌<◌, ◌^◌, ◌&&◌, not, Bool, true, if◌then◌else◌, List, [], All, AllPairs, Option, Some, None, ◌==◌, find, option_and_then, slice_get}
 use Rattle.std.specs.List.{slice_index_or}
 use Rattle.std.specs.Option.{option_map_or}
 use Rattle.lk_sizes.specs.declared.addresses.CommonAddress.{CommonAddress}
@@ -66,7 +66,7 @@ common_in commons s = option_map_or (λ c. c.address) (find (λ c. c.symbol == s
 
 -- the commons of a table stand in the order of their symbols
 abbrev pub AreRising : List CommonAddress → Type 0
-AreRising commons = (j k : ℕ) (c d : CommonAddress) → j < k → slice_get commons j ≡ Some c → slice_get commons k ≡ Some d → c.symbol < d.symbol
+AreRising commons = AllPairs (λ c d. c.symbol < d.symbol) commons
 
 -- what values go by, by marks and tables
 abbrev pub places_in : List Bool → List ℕ → List CommonAddress → LinkInput → List ℕ → Places

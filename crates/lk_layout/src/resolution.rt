@@ -343,17 +343,8 @@ fn common_address(commons: &[CommonAddress], symbol: u32) -> u64
     requires { AreRising commons.now }
     ensures { result ≡ common_in commons.now symbol }
 {
-    let mut low = 0;
-    let mut high = commons.len();
-    while low < high {
-        let middle = low + (high - low) / 2;
-        if commons[middle].symbol.as_u32() < symbol {
-            low = middle + 1;
-        } else {
-            high = middle;
-        }
-    }
-    match commons.get(low) {
+    let place = commons.partition_point(|common| common.symbol.as_u32() < symbol);
+    match commons.get(place) {
         Some(common) if common.symbol.as_u32() == symbol => common.address,
         _ => 0,
     }
