@@ -227,7 +227,7 @@ entry_told sizes link live layout starts k p s bytes address table good alone na
 one_last : (s j k bytes : ℕ) (entries : List TableEntry) → HasLastEntry s j bytes entries → HasLastEntry s k bytes entries → j ≡ k
 one_last s j k bytes entries h g = elim (cases_lt j k) [
   | inl less ↦ absurd (h.last k less g.there)
-  | inr more ↦ elim (cases_lt k j) [ | inl less ↦ absurd (g.last j less h.there) | inr same ↦ omega (arith, more, same) ]
+  | inr more ↦ elim (cases_lt k j) [ inl less ↦ absurd (g.last j less h.there) | inr same ↦ omega (arith, more, same) ]
 ]
 
 told_index : (s k bytes : ℕ) (entries : List TableEntry) (o : Option ℕ) → ((j : ℕ) → o ≡ Some j → HasLastEntry s j bytes entries)

@@ -149,6 +149,9 @@ fn lay_out_sized<'data, P: Platform>(
         alloc, link, &live, &images, commons, parts, &sizes, platform,
     )?;
     let placed = compute_layout_sections(alloc, link, &sizes, &positions, headers, platform)?;
+    // Nothing else reads these, which have items by symbol and by part.
+    drop(positions);
+    drop(sizes);
     // A law, which does nothing: the parts end where their owners do.
     parts_take_their_bytes();
     lay_out_placed(
@@ -157,8 +160,7 @@ fn lay_out_sized<'data, P: Platform>(
 }
 
 /// The layout of a link that is placed, of which it is known what its headers tell: primaries with their secondaries, segments,
-/// attributes, addresses, and what
-/// symbols stand for.
+/// attributes, addresses, and what symbols stand for.
 fn lay_out_placed<'data, P: Platform>(
     alloc: Global,
     link: &'data LinkInput,
