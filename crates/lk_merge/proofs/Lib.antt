@@ -19,6 +19,7 @@ pub mod InputWalk
 pub mod LaidOut
 pub mod LocatedLemmas
 pub mod Locating
+pub mod Matrix
 pub mod MergeBytes
 pub mod MergedLemmas
 pub mod MergedReferences

@@ -9,6 +9,7 @@ pub mod Inputs
 pub mod LinkInputTables
 pub mod LinkInputs
 pub mod MergedReferences
+pub mod Matrix
 pub mod MergedTables
 pub mod Merging
 pub mod MergingTables

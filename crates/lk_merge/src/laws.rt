@@ -1,6 +1,7 @@
 //! Laws on pieces and on images.
 
 ghost use Rattle.lk_merge.specs.Groups.{GroupsCover};
+ghost use Rattle.lk_merge.specs.Matrix.{MatrixMerges};
 ghost use Rattle.lk_merge.specs.Image.{BucketsGrow};
 ghost use Rattle.lk_merge.specs.Inputs.{PiecesAreLocated};
 ghost use Rattle.lk_merge.specs.MergedReferences.{MergedReferencesShow};
@@ -63,6 +64,12 @@ pub fn image_is_distinct()
 /// each piece is in the group in which it starts; and for each size above 0 there is one list of them.
 pub fn groups_cover()
     ensures { GroupsCover }
+{}
+
+/// A law: in whatever order workers fill the matrix of groups and buckets and take from it, each bucket holds what merging keeps of the
+/// groups that it has taken, and when all have taken all, the image is there.
+pub fn matrix_merges()
+    ensures { MatrixMerges }
 {}
 
 /// A law: at the address of a reference the image shows what the input has, from the chosen offset to its piece's end.

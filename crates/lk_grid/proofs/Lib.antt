@@ -1,0 +1,4 @@
+mod Filling
+mod Good
+mod Taking
+pub mod Steps

@@ -1,0 +1,9 @@
+mod Apart
+mod CandidateLemmas
+mod DeltaLemmas
+mod MapLemmas
+mod Offsets
+mod Rising
+mod Together
+mod SideBySide
+mod ShardLemmas

@@ -1,0 +1,6 @@
+pub mod Candidates
+pub mod Deletions
+pub mod DeltaMaps
+pub mod DeltaWords
+pub mod Laws
+pub mod Shards

@@ -1,0 +1,4 @@
+pub mod Machine
+pub mod Reach
+pub mod States
+pub mod Laws

@@ -1,0 +1,9 @@
+pub mod Lawful
+pub mod Noting
+pub mod Places
+pub mod Rising
+pub mod Stretches
+pub mod Sums
+pub mod UserLaws
+pub mod Users
+pub mod Windows

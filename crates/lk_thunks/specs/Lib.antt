@@ -1,0 +1,9 @@
+pub mod BlockLaws
+pub mod Blocks
+pub mod Building
+pub mod Configs
+pub mod Noting
+pub mod Ranges
+pub mod Reach
+pub mod SetLaws
+pub mod ThunkSets
