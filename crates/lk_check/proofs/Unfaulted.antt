@@ -25,7 +25,7 @@ use Rattle.lk_link.specs.InputRules.{is_good_input, has_good_inputs}
 use Rattle.lk_link.specs.Inputs.{NumberedFile, numbered_files}
 use Rattle.lk_link.specs.Limits.{counted, limit_of}
 use Rattle.lk_link.proofs.Places.{all_at, all_from, all_where_none, none_found}
-use Rattle.lk_link.specs.Rules.{is_good_options, is_good_section, has_script, begins_with_prelude}
+use Rattle.lk_link.specs.Rules.{is_good_options, is_good_section, has_good_singletons, has_script, begins_with_prelude}
 use Rattle.lk_link.specs.SegmentKinds.{is_tls}
 use Rattle.lk_link.specs.SymbolRules.{is_good_symbol, file_symbols}
 use Rattle.lk_link.specs.Symbols.{all_files, file_number, first_symbol}
@@ -37,7 +37,7 @@ use Rattle.lk_check.specs.FirstBadExpression.{expression_fault}
 use Rattle.lk_check.specs.FirstBadFile.{is_other_prelude, first_bad_prelude, bad_symbol, first_bad_symbol, bad_input, first_bad_input, first_bad_tables, first_bad_candidates}
 use Rattle.lk_check.specs.FirstBadPartField.{first_bad_part_field}
 use Rattle.lk_check.specs.FirstExcess.{all_limits, excess, first_excess, first_exceeded}
-use Rattle.lk_check.specs.FirstFault.{first_bad_section, second_tls, options_fault, page_fault, section_fault, part_field_fault, tls_fault, event_fault, prelude_fault, symbol_fault, input_fault, table_fault, candidate_fault, section_or_part_fault, content_fault, plan_fault, placing_fault, file_fault, first_broken, first_fault, WellFormedExactlyUnfaulted}
+use Rattle.lk_check.specs.FirstFault.{first_bad_section, second_tls, options_fault, page_fault, section_fault, part_field_fault, singletons_fault, tls_fault, event_fault, prelude_fault, symbol_fault, input_fault, table_fault, candidate_fault, section_or_part_fault, content_fault, plan_fault, placing_fault, file_fault, first_broken, first_fault, WellFormedExactlyUnfaulted}
 use Rattle.lk_check.proofs.NoAnswer.{no_map, passes_if, holds_if, none_unless, none_first, both_none, find_none, none_where_all, none_of, none_from}
 use Rattle.lk_check.proofs.NumberedFiles.{numbered_there, all_by_groups, all_of_files}
 use Rattle.lk_check.proofs.UnfaultedEvents.{event_order, scripted, none_bad}
@@ -204,14 +204,16 @@ no_bad_input link h =
 
 -- a link without a fault is well formed
 pub unfaulted : (link : LinkInput) → first_fault link ≡ None → IsWellFormed link
-unfolding first_fault first_broken plan_fault section_or_part_fault placing_fault file_fault content_fault options_fault page_fault section_fault part_field_fault tls_fault event_fault prelude_fault symbol_fault input_fault table_fault candidate_fault
+unfolding first_fault first_broken plan_fault section_or_part_fault placing_fault file_fault content_fault options_fault page_fault section_fault part_field_fault singletons_fault tls_fault event_fault prelude_fault symbol_fault input_fault table_fault candidate_fault
 unfaulted link h =
     let plan = link.plan in
     let limits = none_first (first_excess link) (first_broken link) h in
+    let named : Option LinkFault = first_some (part_field_fault link) (singletons_fault link) in
     let rules = none_first (plan_fault link) (first_some (placing_fault link) (file_fault link)) limits.1 in
-    let options = none_first (options_fault link) (first_some (page_fault plan) (first_some (section_fault plan) (part_field_fault link))) rules.0 in
-    let page = none_first (page_fault plan) (first_some (section_fault plan) (part_field_fault link)) options.1 in
-    let sections = none_first (section_fault plan) (part_field_fault link) page.1 in
+    let options = none_first (options_fault link) (first_some (page_fault plan) (first_some (section_fault plan) named)) rules.0 in
+    let page = none_first (page_fault plan) (first_some (section_fault plan) named) options.1 in
+    let sections = none_first (section_fault plan) named page.1 in
+    let parts = none_first (part_field_fault link) (singletons_fault link) sections.1 in
     let others = none_first (placing_fault link) (file_fault link) rules.1 in
     let tls = none_first (tls_fault plan) (first_some (event_fault link) (expression_fault link)) others.0 in
     let placed = none_first (event_fault link) (expression_fault link) tls.1 in
@@ -226,7 +228,8 @@ unfaulted link h =
       options = passes_if (is_good_options link.groups link.options) _ options.0;
       page = passes_if (is_alignment plan.page) _ page.0;
       sections = all_where_none (is_good_section plan.sections) plan.sections (no_map _ (first_bad_section plan.sections) sections.0);
-      parts = parts_good link (no_map _ (first_bad_part_field link) sections.1);
+      parts = parts_good link (no_map _ (first_bad_part_field link) parts.0);
+      singletons = passes_if (has_good_singletons link) _ parts.1;
       tls = tls_few plan.segments (no_map _ (second_tls plan.segments) tls.0);
       events = event_order (has_script link.groups) plan events;
       locations = scripted (has_script link.groups) plan events;
@@ -240,13 +243,14 @@ unfaulted link h =
 
 -- a well-formed link has no fault
 faultless : (link : LinkInput) → IsWellFormed link → first_fault link ≡ None
-unfolding first_fault first_broken plan_fault section_or_part_fault placing_fault file_fault content_fault options_fault page_fault section_fault part_field_fault tls_fault event_fault prelude_fault symbol_fault input_fault table_fault candidate_fault
+unfolding first_fault first_broken plan_fault section_or_part_fault placing_fault file_fault content_fault options_fault page_fault section_fault part_field_fault singletons_fault tls_fault event_fault prelude_fault symbol_fault input_fault table_fault candidate_fault
 faultless link h =
     let plan = link.plan in
     let options : options_fault link ≡ None = ap (λ b. cond b None (Some (BadLink rule.Options place.Options))) h.options in
     let page : page_fault plan ≡ None = ap (λ b. cond b None (Some (BadLink rule.Page place.Plan))) h.page in
     let sections : section_fault plan ≡ None = ap (option_map (λ i. BadLink rule.Sections (place.Section i))) (none_where_all (is_good_section plan.sections) plan.sections h.sections) in
     let parts : part_field_fault link ≡ None = ap (option_map (λ k. BadLink rule.PartFields (place.PartField k))) (no_bad_part link h.parts) in
+    let singletons : singletons_fault link ≡ None = ap (λ b. cond b None (Some (BadLink rule.Singletons place.Plan))) h.singletons in
     let tls : tls_fault plan ≡ None = ap (option_map (λ i. BadLink rule.TlsSegment (place.Segment i))) (no_second plan.segments h.tls) in
     let events : event_fault link ≡ None = ap (option_map (λ i. BadLink rule.Events (place.Event i))) (none_bad (has_script link.groups) plan h.events h.locations) in
     let prelude : prelude_fault link ≡ None = ap (option_map (λ id. BadLink rule.Prelude (place.File id))) (unled link.groups h.prelude) in
@@ -255,12 +259,13 @@ faultless link h =
     let tables : table_fault link ≡ None = ap (option_map (λ p. BadLink rule.Tables (place.Input p.0 p.1))) (no_bad_tables link h.tables) in
     let candidates : candidate_fault link ≡ None = ap (option_map (λ id. BadLink rule.Candidates (place.File id))) (no_bad_candidates link h.candidates) in
     let last : Option LinkFault = first_some (table_fault link) (candidate_fault link) in
+    let named : Option LinkFault = first_some (part_field_fault link) (singletons_fault link) in
     both_none (first_excess link) (first_broken link)
     (no_excess link h.within)
     (both_none (plan_fault link) (first_some (placing_fault link) (file_fault link))
-    (both_none (options_fault link) (first_some (page_fault plan) (first_some (section_fault plan) (part_field_fault link))) options
-    (both_none (page_fault plan) (first_some (section_fault plan) (part_field_fault link)) page
-    (both_none (section_fault plan) (part_field_fault link) sections parts)))
+    (both_none (options_fault link) (first_some (page_fault plan) (first_some (section_fault plan) named)) options
+    (both_none (page_fault plan) (first_some (section_fault plan) named) page
+    (both_none (section_fault plan) named sections (both_none (part_field_fault link) (singletons_fault link) parts singletons))))
     (both_none (placing_fault link) (file_fault link)
     (both_none (tls_fault plan) (first_some (event_fault link) (expression_fault link)) tls
     (both_none (event_fault link) (expression_fault link) events (no_bad_expression link h.expressions)))

@@ -9,7 +9,7 @@ use Rattle.lk_link.specs.declared.plan.Plan.{Plan}
 use Rattle.lk_link.specs.declared.plan.PlanSection.{PlanSection}
 use Rattle.lk_link.specs.declared.plan.PlanSegment.{PlanSegment}
 use Rattle.lk_link.specs.Alignments.{is_alignment}
-use Rattle.lk_link.specs.Rules.{is_good_options, is_good_section, has_script}
+use Rattle.lk_link.specs.Rules.{is_good_options, is_good_section, has_good_singletons, has_script}
 use Rattle.lk_link.specs.SegmentKinds.{is_tls}
 use Rattle.lk_link.specs.Symbols.{first_symbol}
 use Rattle.lk_link.specs.WellFormed.{IsWellFormed}
@@ -49,6 +49,9 @@ section_fault plan = option_map (λ i. BadLink rule.Sections (place.Section i)) 
 unfoldable pub part_field_fault : LinkInput → Option LinkFault
 part_field_fault link = option_map (λ k. BadLink rule.PartFields (place.PartField k)) (first_bad_part_field link)
 
+unfoldable pub singletons_fault : LinkInput → Option LinkFault
+singletons_fault link = if has_good_singletons link then None else Some (BadLink rule.Singletons place.Plan)
+
 unfoldable pub tls_fault : Plan → Option LinkFault
 tls_fault plan = option_map (λ i. BadLink rule.TlsSegment (place.Segment i)) (second_tls plan.segments)
 
@@ -74,9 +77,9 @@ candidate_fault link = option_map (λ id. BadLink rule.Candidates (place.File id
 
 -- ---- the first fault
 
--- the first rule on output sections and named parts that is broken
+-- the first rule on output sections, and on parts and sections that the plan names, that is broken
 unfoldable pub section_or_part_fault : LinkInput → Option LinkFault
-section_or_part_fault link = first_some (section_fault link.plan) (part_field_fault link)
+section_or_part_fault link = first_some (section_fault link.plan) (first_some (part_field_fault link) (singletons_fault link))
 
 -- the first rule on options and the plan's parts that is broken
 unfoldable pub plan_fault : LinkInput → Option LinkFault

@@ -6,7 +6,7 @@ ghost use Rattle.std.specs.Option.{option_map_or};
 ghost use Rattle.lk_link.specs.InputRules.{are_input_attrs, fits_part, has_good_content, has_good_part, is_good_input, is_good_relax, is_good_reloc, is_good_singleton, rise};
 ghost use Rattle.lk_link.specs.Parts.{all_parts};
 
-use crate::parts::{is_free_part, is_singleton_part};
+use crate::parts::is_free_part;
 use lk_link::plan::{Plan, PlanPart};
 use lk_link::relocation::{RelaxCandidate, Relocation};
 use lk_link::section::InputSection;
@@ -51,7 +51,7 @@ fn fits_part(section: &InputSection, part: &PlanPart) -> bool
 fn is_good_singleton(plan: &Plan, section: &InputSection) -> bool
     ensures { result ≡ is_good_singleton plan.now section.now }
 {
-    !is_singleton_part(plan, section.part) || section.slot.is_regular() && !section.sorted
+    !plan.is_singleton_part(section.part) || section.slot.is_regular() && !section.sorted
 }
 
 /// Whether attributes are among those for writing and code, and relocations and relaxations are good, in a file of so

@@ -32,6 +32,7 @@ mod prelude;
 mod rules;
 mod sections;
 mod segments;
+mod singletons;
 mod tables;
 mod waiting;
 

@@ -9,12 +9,12 @@ ghost use Rattle.lk_link.specs.Parts.{all_parts};
 ghost use Rattle.lk_check.specs.FirstBadPartField.{first_bad_part_field, first_bad_table};
 ghost use Rattle.lk_check.specs.FirstFault.{check_of, part_field_fault};
 
-use crate::parts::{is_free_part, is_part};
+use crate::parts::is_free_part;
 use lk_link::fault::{LinkFault, Place, Rule};
 use lk_link::ids::PartId;
 use lk_link::limits::MOST_PRIMARY_ALIGNMENT;
 use lk_link::link::LinkInput;
-use lk_link::plan::{NamedParts, Plan, PlanPart};
+use lk_link::plan::{Plan, PlanPart, is_part};
 
 /// Each named part is good; else the place is the first that isn't, by its place among them.
 #[tactic(auto, unfolding(crate::specs::FirstFault::check_of, crate::specs::FirstFault::part_field_fault))]
@@ -49,30 +49,11 @@ fn first_bad_part_field(link: &LinkInput) -> Option<usize>
     }
 }
 
-/// The table parts, in their order.
-fn table_parts(named: &NamedParts) -> [Option<PartId>; 11]
-    ensures { result ≡ table_parts named.now }
-{
-    [
-        named.got,
-        named.plt,
-        named.symtab_local,
-        named.symtab_global,
-        named.strtab,
-        named.dynsym,
-        named.dynstr,
-        named.file_header,
-        named.program_headers,
-        named.section_headers,
-        named.shstrtab,
-    ]
-}
-
 /// The first table part that isn't good, by its place among them.
 fn first_bad_table(plan: &Plan) -> Option<usize>
     ensures { result ≡ first_bad_table plan.now }
 {
-    bad_table(plan, &table_parts(&plan.named))
+    bad_table(plan, &plan.named.table_parts())
 }
 
 /// The same, of the table parts.

@@ -7,7 +7,7 @@ ghost use Rattle.lk_check.specs.FirstFault.{check_of, content_fault, first_broke
 
 use crate::{
     candidates, events, expressions, first_bad_input, first_bad_symbol, options, part_fields,
-    prelude, sections, segments, tables,
+    prelude, sections, segments, singletons, tables,
 };
 use lk_link::alignment::is_valid;
 use lk_link::fault::{LinkFault, Place, Rule};
@@ -39,13 +39,15 @@ fn check_plan(link: &LinkInput) -> Result<(), LinkFault>
     check_sections_and_parts(link)
 }
 
-/// Refuses a link whose output sections or named parts break a rule, by the first such rule at its first place.
+/// Refuses a link whose output sections, or parts and sections that its plan names, break a rule, by the first such rule at its
+/// first place.
 #[tactic(auto, using(crate::proofs::Faults::checks), unfolding(crate::specs::FirstFault::section_or_part_fault))]
 fn check_sections_and_parts(link: &LinkInput) -> Result<(), LinkFault>
     ensures { result ≡ check_of (section_or_part_fault link.now) }
 {
     sections::check_sections(&link.plan)?;
-    part_fields::check_part_fields(link)
+    part_fields::check_part_fields(link)?;
+    singletons::check_singletons(link)
 }
 
 /// Refuses a link whose segments, events or expressions break a rule, by the first such rule at its first place.

@@ -36,7 +36,7 @@ early_one k gs cs ps operand.SizeOfHeaders h = refl
 
 -- ---- when all is placed
 
-late_one : (k : Late) (gs : List (List InputFile)) (own : ℕ) (vs : List (Option ℕ)) (o : Operand) → is_no_symbol o ≡ true
+late_one : (k : Late) (gs : List (List InputFile)) (own : ℕ) (vs : ℕ → Option ℕ) (o : Operand) → is_no_symbol o ≡ true
     → late_operand (record k { groups = gs; own = own; values = vs }) o ≡ late_operand k o
 late_one k gs own vs (operand.Symbol s) h = absurd (cc)
 late_one k gs own vs (operand.Number n) h = refl

@@ -22,5 +22,5 @@ pub record ConstantsGoByThoseBefore : Type 0 where
 pub record UnnamedReadNoSymbols : Type 0 where
   pub early : (known : Early) (groups : List (List InputFile)) (constants : List (Option Valued)) (positions : List (Option SymbolPosition)) (t : Term) → names_none t ≡ true
       → expression_value (early_operand (record known { groups = groups; constants = constants; positions = positions })) t ≡ expression_value (early_operand known) t
-  pub late : (known : Late) (groups : List (List InputFile)) (own : ℕ) (values : List (Option ℕ)) (t : Term) → names_none t ≡ true
+  pub late : (known : Late) (groups : List (List InputFile)) (own : ℕ) (values : ℕ → Option ℕ) (t : Term) → names_none t ≡ true
       → expression_value (late_operand (record known { groups = groups; own = own; values = values })) t ≡ expression_value (late_operand known) t

@@ -25,13 +25,13 @@ early_of section part known = record {
 }
 
 -- when all is placed
-abbrev pub late_of : LateSurroundings → Late
-late_of known = record {
+abbrev pub late_of : {V : Type 0} → (V → ℕ → Option ℕ) → LateSurroundings V → Late
+late_of value known = record {
   groups = known.link.now.groups;
   own = known.own;
   dot = known.dot;
   headers = known.headers;
   regions = known.regions.now;
   sections = known.sections.now;
-  values = known.values.now;
+  values = value known.values.now;
 }

@@ -1,11 +1,12 @@
 -- What operands are worth: to constants, while sections are placed, and when all is placed.
-use Rattle.std.specs.Prelude.{ℕ, ◌+◌, ◌==◌, Bool, true, false, if◌then◌else◌, List, Option, Some, None, Ok, Err, slice_get}
+use Rattle.std.specs.Prelude.{ℕ, ◌+◌, ◌==◌, if◌then◌else◌, List, Option, Some, None, Ok, Err, slice_get}
 use Rattle.lk_link.specs.declared.expression.Operand.{Operand}
 use Rattle.lk_link.specs.declared.expression.Operand.TheVariants as operand
 use Rattle.lk_link.specs.declared.file.InputFile.{InputFile}
 use Rattle.lk_link.specs.declared.symbol.InputSymbol.{InputSymbol}
 use Rattle.lk_link.specs.declared.symbol.SymbolPlacement.{SymbolPlacement}
 use Rattle.lk_link.specs.declared.symbol.SymbolPlacement.TheVariants as at
+use Rattle.lk_link.specs.SymbolPlacements.{is_undefined}
 use Rattle.lk_link.specs.Symbols.{definition_of, symbol_at}
 use Rattle.lk_expressions.specs.declared.no_value.NoValue.TheVariants.{Missing, NoAddress, SelfReference}
 use Rattle.lk_expressions.specs.declared.positions.SymbolPosition.{SymbolPosition}
@@ -32,13 +33,6 @@ told f None = Err NoAddress
 told f (Some x) = Ok (f x)
 
 -- ---- symbols
-
--- whether a symbol isn't defined
-abbrev pub is_undefined : SymbolPlacement → Bool
-is_undefined at.Undef = true
-is_undefined at.Undefined = true
-is_undefined at.ForceUndefined = true
-is_undefined _ = false
 
 -- what f makes of a symbol that stands for itself, unless there is no such symbol, or it isn't defined
 abbrev pub defined : (SymbolPlacement → Valued) → Option InputSymbol → Valued
@@ -103,7 +97,8 @@ early_operand known operand.SizeOfHeaders = Ok known.headers
 
 -- ---- when all is placed
 
--- what is known then: the redirect whose expression it is; where the location counter is, if it is anywhere; values of symbols so far
+-- what is known then: the redirect whose expression it is; where the location counter is, if it is anywhere; and of symbols the values
+-- that they have so far
 pub record Late : Type 0 where
   pub groups : List (List InputFile)
   pub own : ℕ
@@ -111,11 +106,11 @@ pub record Late : Type 0 where
   pub headers : ℕ
   pub regions : List (ℕ × ℕ)
   pub sections : List Record
-  pub values : List (Option ℕ)
+  pub values : ℕ → Option ℕ
 
 -- symbol d, which stands for itself and is defined: not the redirect itself, but one that has a value
 abbrev pub late_symbol : Late → ℕ → Valued
-late_symbol known d = if d == known.own then Err SelfReference else told (λ v. v) (flat (slice_get known.values d))
+late_symbol known d = if d == known.own then Err SelfReference else told (λ v. v) (known.values d)
 
 -- an operand when all is placed
 abbrev pub late_operand : Late → Operand → Valued

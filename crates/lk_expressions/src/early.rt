@@ -6,7 +6,7 @@ ghost use Rattle.lk_expressions.specs.Expressions.{IsShallow, expression_value};
 ghost use Rattle.lk_expressions.specs.Surroundings.{by_definition, early_operand, early_symbol, symbol_value};
 
 use crate::evaluation::{Surroundings, evaluate};
-use crate::known::{is_undefined, item, length, origin, size_of, start_of};
+use crate::known::{item, length, origin, size_of, start_of};
 use crate::no_value::NoValue;
 use crate::placed::PlacedRecords;
 use crate::positions::SymbolPositions;
@@ -79,7 +79,7 @@ impl<R: PlacedRecords> EarlySurroundings<'_, R> {
     {
         match self.link.groups.symbol(definition) {
             None => Err(NoValue::Missing),
-            Some(symbol) if is_undefined(&symbol.at) => Err(NoValue::Missing),
+            Some(symbol) if symbol.at.is_undefined() => Err(NoValue::Missing),
             Some(symbol) => self.placed(definition, &symbol.at),
         }
     }

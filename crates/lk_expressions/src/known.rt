@@ -1,22 +1,11 @@
 //! What is told of items that may be missing, for operands of all kinds of expressions.
 
 ghost use Rattle.std.specs.Prelude.{◌≡◌, slice_get};
-ghost use Rattle.lk_expressions.specs.Surroundings.{flat, is_undefined, told};
+ghost use Rattle.lk_expressions.specs.Surroundings.{flat, told};
 
 use crate::no_value::NoValue;
 use crate::record::OutputRecordLayout;
 use lk_link::ids::RegionId;
-use lk_link::symbol::SymbolPlacement;
-
-/// Whether a symbol isn't defined.
-pub(crate) fn is_undefined(placement: &SymbolPlacement) -> bool
-    ensures { result ≡ is_undefined placement.now }
-{
-    matches!(
-        placement,
-        SymbolPlacement::Undef | SymbolPlacement::Undefined | SymbolPlacement::ForceUndefined
-    )
-}
 
 /// Where a region starts. Regions are given by origin and length.
 pub(crate) fn origin(regions: &[(u64, u64)], region: RegionId) -> Result<u64, NoValue>

@@ -1,20 +1,22 @@
 //! Expressions when all is placed.
 
 ghost use Rattle.std.specs.Prelude.{◌≡◌};
+ghost use Rattle.lk_expressions.specs.Expressions.{IsShallow, expression_value};
 ghost use Rattle.lk_expressions.specs.KnownThen.{late_of};
 ghost use Rattle.lk_expressions.specs.Surroundings.{by_definition, late_operand, late_symbol, symbol_value};
 
-use crate::evaluation::Surroundings;
-use crate::known::{is_undefined, item, length, origin, size_of, start_of};
+use crate::evaluation::{Surroundings, evaluate};
+use crate::known::{length, origin, size_of, start_of};
+use crate::known_values::KnownValues;
 use crate::no_value::NoValue;
 use crate::record::OutputRecordLayout;
-use lk_link::expression::Operand;
+use lk_link::expression::{Expression, Operand};
 use lk_link::ids::{OutputSectionId, SymbolId};
 use lk_link::link::LinkInput;
 
 /// What is known when all is placed.
 #[derive(Drop)]
-pub(crate) struct LateSurroundings<'a> {
+pub(crate) struct LateSurroundings<'a, V: KnownValues> {
     pub(crate) link: &'a LinkInput,
     /// The redirect whose expression it is.
     pub(crate) own: SymbolId,
@@ -25,10 +27,10 @@ pub(crate) struct LateSurroundings<'a> {
     pub(crate) regions: &'a [(u64, u64)],
     pub(crate) sections: &'a [OutputRecordLayout],
     /// The values of symbols so far.
-    pub(crate) values: &'a [Option<u64>],
+    pub(crate) values: &'a V,
 }
 
-impl LateSurroundings<'_> {
+impl<V: KnownValues> LateSurroundings<'_, V> {
     ghost use Rattle.std.specs.Prelude.{Some, slice_get};
 
     /// The record of a section, if there is one.
@@ -40,12 +42,12 @@ impl LateSurroundings<'_> {
 
     /// The value of a symbol that stands for itself and is defined.
     fn defined(&self, definition: SymbolId) -> Result<u64, NoValue>
-        ensures { result ≡ late_symbol (late_of self.now) definition }
+        ensures { result ≡ late_symbol (late_of V.value_of self.now) definition }
     {
         if definition.as_u32() == self.own.as_u32() {
             return Err(NoValue::SelfReference);
         }
-        match item(self.values, definition.as_usize()) {
+        match self.values.value(definition) {
             Some(value) => Ok(value),
             None => Err(NoValue::NoAddress),
         }
@@ -53,18 +55,18 @@ impl LateSurroundings<'_> {
 
     /// The value of a symbol that stands for itself.
     fn definition(&self, definition: SymbolId) -> Result<u64, NoValue>
-        ensures { result ≡ by_definition (λ d p. late_symbol (late_of self.now) d) self.now.link.now.groups (Some definition) }
+        ensures { result ≡ by_definition (λ d p. late_symbol (late_of V.value_of self.now) d) self.now.link.now.groups (Some definition) }
     {
         match self.link.groups.symbol(definition) {
             None => Err(NoValue::Missing),
-            Some(symbol) if is_undefined(&symbol.at) => Err(NoValue::Missing),
+            Some(symbol) if symbol.at.is_undefined() => Err(NoValue::Missing),
             Some(_) => self.defined(definition),
         }
     }
 
     /// The value of a symbol, by what stands for it.
     fn symbol(&self, symbol: SymbolId) -> Result<u64, NoValue>
-        ensures { result ≡ symbol_value (λ d p. late_symbol (late_of self.now) d) self.now.link.now.groups symbol }
+        ensures { result ≡ symbol_value (λ d p. late_symbol (late_of V.value_of self.now) d) self.now.link.now.groups symbol }
     {
         match self.link.groups.definition(symbol) {
             None => Err(NoValue::Missing),
@@ -73,11 +75,11 @@ impl LateSurroundings<'_> {
     }
 }
 
-impl Surroundings for LateSurroundings<'_> {
+impl<V: KnownValues> Surroundings for LateSurroundings<'_, V> {
     ghost use Rattle.lk_expressions.specs.KnownThen.{late_of};
     ghost use Rattle.lk_expressions.specs.Surroundings.{late_operand};
 
-    ghost worth = { λ known. late_operand (late_of known) };
+    ghost worth = { λ known. late_operand (late_of V.value_of known) };
 
     fn value(&self, operand: Operand) -> Result<u64, NoValue> {
         match operand {
@@ -91,4 +93,40 @@ impl Surroundings for LateSurroundings<'_> {
             Operand::SizeOfHeaders => Ok(self.headers),
         }
     }
+}
+
+/// The value of the expression of the redirect `own` when all is placed, by the values that are found of symbols. `dot` is where the
+/// location counter is, none where it is nowhere; `headers` the bytes of the headers; `regions` has the origin and the length of each
+/// region; `sections` the records of sections. Takes time for each token.
+pub fn evaluate_late<V: KnownValues>(
+    link: &LinkInput,
+    expression: &Expression,
+    own: SymbolId,
+    dot: Option<u64>,
+    headers: u64,
+    regions: &[(u64, u64)],
+    sections: &[OutputRecordLayout],
+    values: &V,
+) -> Result<u64, NoValue>
+    requires { IsShallow expression.now }
+    ensures { result ≡ expression_value (late_operand (record {
+      groups = link.now.groups;
+      own = own;
+      dot = dot;
+      headers = headers;
+      regions = regions.now;
+      sections = sections.now;
+      values = V.value_of values.now;
+    })) expression.now }
+{
+    let known = LateSurroundings {
+        link,
+        own,
+        dot,
+        headers,
+        regions,
+        sections,
+        values,
+    };
+    evaluate(&known, expression)
 }

@@ -5,6 +5,7 @@ mod constants;
 mod early;
 mod evaluation;
 mod known;
+mod known_values;
 mod late;
 pub mod laws;
 mod named;
@@ -19,6 +20,8 @@ mod values;
 
 pub use crate::constants::{Constant, constant_redirects};
 pub use crate::early::evaluate_early;
+pub use crate::known_values::KnownValues;
+pub use crate::late::evaluate_late;
 pub use crate::named::names_no_symbol;
 pub use crate::no_value::NoValue;
 pub use crate::placed::PlacedRecords;

@@ -10,7 +10,8 @@ ghost use Rattle.lk_expressions.specs.Surroundings.{early_operand, flat, late_op
 
 use crate::early::evaluate_early;
 use crate::evaluation::evaluate;
-use crate::late::LateSurroundings;
+use crate::known_values::GivenValues;
+use crate::late::evaluate_late;
 use crate::no_value::NoValue;
 use crate::numbers::NumbersAlone;
 use crate::placed::GivenRecords;
@@ -81,17 +82,11 @@ pub fn evaluate_expression(
       headers = headers;
       regions = regions.now;
       sections = sections.now;
-      values = values.now;
+      values = λ s. flat (slice_get values.now s);
     })) expression.now }
 {
-    let known = LateSurroundings {
-        link,
-        own,
-        dot,
-        headers,
-        regions,
-        sections,
-        values,
-    };
-    evaluate(&known, expression)
+    let values = GivenValues { values };
+    evaluate_late(
+        link, expression, own, dot, headers, regions, sections, &values,
+    )
 }

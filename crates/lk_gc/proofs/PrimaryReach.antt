@@ -17,7 +17,7 @@ use Rattle.lk_gc.specs.declared.live.Live.{Live}
 use Rattle.lk_gc.specs.Primary.{IsInPrimaryPart, IsNamedElsewhere}
 use Rattle.lk_gc.specs.PrimaryMarks.{is_primary_symbol, names_primary, names_symbol, primary_symbols}
 use Rattle.lk_gc.specs.Reach.{live_inputs}
-use Rattle.lk_reach.specs.Placements.{section_of}
+use Rattle.lk_link.specs.SymbolPlacements.{section_of}
 use Rattle.lk_reach.specs.Units.{is_primary_section, local_definition}
 use Rattle.lk_reach.proofs.Passing.{some_holds}
 use Rattle.lk_gc.proofs.FaultReach.{is_false}

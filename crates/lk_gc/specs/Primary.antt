@@ -13,7 +13,7 @@ use Rattle.lk_link.specs.NumberedSymbols.{numbered_symbols}
 use Rattle.lk_link.specs.Symbols.{all_symbols, first_symbol}
 use Rattle.lk_gc.specs.declared.live.Live.{Live}
 use Rattle.lk_gc.specs.Reach.{live_inputs}
-use Rattle.lk_reach.specs.Placements.{section_of}
+use Rattle.lk_link.specs.SymbolPlacements.{section_of}
 use Rattle.lk_reach.specs.Units.{is_primary_section, local_definition}
 
 -- a symbol, by its number, stands in a section of the primary part

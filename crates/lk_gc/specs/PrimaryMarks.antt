@@ -12,7 +12,7 @@ use Rattle.lk_link.specs.InputSlots.{is_regular}
 use Rattle.lk_link.specs.Marks.{is_marked}
 use Rattle.lk_link.specs.NumberedSymbols.{numbered_symbols}
 use Rattle.lk_link.specs.Symbols.{first_symbol}
-use Rattle.lk_reach.specs.Placements.{section_of}
+use Rattle.lk_link.specs.SymbolPlacements.{section_of}
 use Rattle.lk_reach.specs.Units.{is_primary_section, local_definition}
 
 -- whether a symbol of a file stands in a section of the primary part

@@ -14,7 +14,7 @@ pub mod work;
 
 pub use error::{GcError, InputAt, ReferenceFault};
 pub use laws::{live_exists, live_is_one};
-pub use live::{Live, LiveInputs};
+pub use live::{Live, LiveInputs, is_singleton};
 pub use lk_reach::{
     Ask, ExportSymbolsMode, Successors, Unit, asks, can_export_global_def, export_symbols_mode,
     exports, file_roots, reaching, successors, units,

@@ -6,12 +6,11 @@ ghost use Rattle.lk_link.specs.Files.{AreNumbered};
 ghost use Rattle.lk_link.specs.WellFormed.{IsWellFormed};
 ghost use Rattle.lk_gc.specs.Reach.{live_inputs};
 ghost use Rattle.lk_gc.specs.Slots.{is_singleton, live_slot, loaded_slot, slot_after};
-ghost use Rattle.lk_link.specs.PartRules.{is_part_of, is_singleton_part};
 
 use lk_link::marks::is_marked;
 use lk_link::{
-    FileId, InputRef, InputSection, InputSlot, Inputs, LinkInput, List, OutputSectionId, PartId,
-    Plan, PlanSections, Section, SectionSlot, UnloadedSection, ValueFlags,
+    FileId, InputRef, InputSection, InputSlot, Inputs, LinkInput, List, Section, SectionSlot,
+    UnloadedSection, ValueFlags,
 };
 use std::marker::Model;
 
@@ -83,33 +82,10 @@ fn loaded_slot(link: &LinkInput, section: &InputSection) -> SectionSlot
 }
 
 /// Whether a section stays an output section of its own: in partial output one in the section of the singletons.
-fn is_singleton(link: &LinkInput, section: &InputSection) -> bool
+pub fn is_singleton(link: &LinkInput, section: &InputSection) -> bool
     ensures { result ≡ is_singleton link.now section.now }
 {
-    link.options.output.is_partial() && is_singleton_part(&link.plan, section.part)
-}
-
-/// Whether a part belongs to the section whose input sections stay output sections of their own.
-fn is_singleton_part(plan: &Plan, part: PartId) -> bool
-    ensures { result ≡ is_singleton_part plan.now part }
-{
-    match plan.singletons {
-        Some(section) => is_part_of(&plan.sections, section, part),
-        None => false,
-    }
-}
-
-/// Whether a part belongs to this section.
-fn is_part_of(sections: &PlanSections, section: OutputSectionId, part: PartId) -> bool
-    ensures { result ≡ is_part_of sections.now section part }
-{
-    let section = section.as_usize();
-    if section < sections.len() {
-        let (first, behind) = sections.part_range(section);
-        first <= part.as_usize() && part.as_usize() < behind
-    } else {
-        false
-    }
+    link.options.output.is_partial() && link.plan.is_singleton_part(section.part)
 }
 
 /// The live input sections that are left of a walk over them. Contracts see the list of them.

@@ -18,15 +18,15 @@ use Rattle.lk_link.proofs.Elements.{flat_map_in, map_at, map_in}
 use Rattle.lk_link.proofs.InputLemmas.{file_stands}
 use Rattle.lk_reach.proofs.Numbered.{file_at}
 use Rattle.lk_gc.specs.declared.live.Live.{Live}
-use Rattle.lk_tables.specs.Copied.{is_wanted}
+use Rattle.lk_link.specs.Symbols.{is_wanted}
 use Rattle.lk_sizes.specs.declared.addresses.CommonAddress.{CommonAddress}
 use Rattle.lk_sizes.specs.Addresses.{common_addresses, told_common}
-use Rattle.lk_sizes.specs.Owners.{Content, IsCommonIn, all_commons, commons_of}
+use Rattle.lk_sizes.specs.Owners.{IsCommonIn, all_commons, commons_of, Filling}
 use Rattle.lk_sizes.specs.PartOwners.{common_address}
 use Rattle.lk_sizes.proofs.Addressing.{same_number}
 use Rattle.lk_sizes.proofs.CommonOnes.{common_at_index, commons_rise}
 use Rattle.lk_link.specs.declared.resolution.Resolution.{Resolution}
-use Rattle.lk_layout.specs.OutputContent.{output_content}
+use Rattle.lk_layout.specs.OutputContent.{output_filling}
 use Rattle.lk_layout.specs.Entries.{EntrySetting, told_flags, with_entries}
 use Rattle.lk_layout.specs.Resolutions.{Places, entries_of, file_resolutions, has_resolutions, placed_value, places_of, resolution_of}
 use Rattle.lk_layout.specs.Tables.{AreRising, common_in}
@@ -128,34 +128,34 @@ seam_none commons symbol place h past =
 
 -- ---- the table of a link
 
-pub table_rises : (link : LinkInput) (content : Content) (starts : List ℕ) → AreRising (common_addresses link content starts)
-table_rises link content starts j k d below within =
-    let table : List CommonAddress = common_addresses link content starts in
-    let from = map_at (told_common link content starts) (all_commons link content.live) j (get_or table j d) (slice_get-get_or table j d (omega (arith, below, within))) in
-    let to = map_at (told_common link content starts) (all_commons link content.live) k (get_or table k d) (slice_get-get_or table k d within) in
+pub table_rises : (filling : Filling) (starts : List ℕ) → AreRising (common_addresses filling starts)
+table_rises filling starts j k d below within =
+    let table : List CommonAddress = common_addresses filling starts in
+    let from = map_at (told_common filling starts) (all_commons filling.content.link filling.content.live) j (get_or table j d) (slice_get-get_or table j d (omega (arith, below, within))) in
+    let to = map_at (told_common filling starts) (all_commons filling.content.link filling.content.live) k (get_or table k d) (slice_get-get_or table k d within) in
     let symbol : CommonAddress → ℕ = λ x. x.symbol in
-    omega (arith, commons_rise link content.live j k from.0 to.0 below from.1 to.1, ap symbol from.2, ap symbol to.2)
+    omega (arith, commons_rise filling.content.link filling.content.live j k from.0 to.0 below from.1 to.1, ap symbol from.2, ap symbol to.2)
 
 -- each common that gets a resolution is found in it
-pub common_found : (link : LinkInput) (content : Content) (starts : List ℕ) (p s size : ℕ) → IsCommonIn link content.live p s size
-    → common_in (common_addresses link content starts) s ≡ common_address link content starts p s
-common_found link content starts p s size h =
-    let told : CommonAddress = record { symbol = s; address = common_address link content starts p s } in
-    let at = common_at_index link content.live p s size h in
-    let whole = flat_map_in (commons_of link content.live) (numbered_files link.groups) (file_number link.groups h.file.id) at.0 h.file _ (file_stands link.groups h.file.id h.file.file h.there) at.1 in
-    let there : slice_get (common_addresses link content starts) whole.0 ≡ Some told = map_in (told_common link content starts) (all_commons link content.live) whole.0 _ whole.1 in
+pub common_found : (filling : Filling) (starts : List ℕ) (p s size : ℕ) → IsCommonIn filling.content.link filling.content.live p s size
+    → common_in (common_addresses filling starts) s ≡ common_address filling starts p s
+common_found filling starts p s size h =
+    let told : CommonAddress = record { symbol = s; address = common_address filling starts p s } in
+    let at = common_at_index filling.content.link filling.content.live p s size h in
+    let whole = flat_map_in (commons_of filling.content.link filling.content.live) (numbered_files filling.content.link.groups) (file_number filling.content.link.groups h.file.id) at.0 h.file _ (file_stands filling.content.link.groups h.file.id h.file.file h.there) at.1 in
+    let there : slice_get (common_addresses filling starts) whole.0 ≡ Some told = map_in (told_common filling starts) (all_commons filling.content.link filling.content.live) whole.0 _ whole.1 in
     ap (λ o. option_map_or (λ (d : CommonAddress). d.address) o 0)
-    (first_found (λ (d : CommonAddress). d.symbol == s) (common_addresses link content starts) whole.0 told there (same_number s) (λ j d below at_j.
-    differ d.symbol s (λ e. absurd (omega (arith, e, rises_at (common_addresses link content starts) j whole.0 d told (table_rises link content starts) below at_j there)))))
+    (first_found (λ (d : CommonAddress). d.symbol == s) (common_addresses filling starts) whole.0 told there (same_number s) (λ j d below at_j.
+    differ d.symbol s (λ e. absurd (omega (arith, e, rises_at (common_addresses filling starts) j whole.0 d told (table_rises filling starts) below at_j there)))))
 
 -- ---- the same resolutions by the table
 
 -- what values go by, with commons by the table
 abbrev pub places_with : TableSizes → LinkInput → Live → List ℕ → Places
-places_with sizes link live starts = record (places_of sizes link live starts) { common = λ p s. common_in (common_addresses link (output_content sizes link live) starts) s }
+places_with sizes link live starts = record (places_of sizes link live starts) { common = λ p s. common_in (common_addresses (output_filling sizes link live) starts) s }
 
 same_value : (sizes : TableSizes) (link : LinkInput) (live : Live) (starts : List ℕ) (first s : ℕ) (p : SymbolPlacement)
-    → ((q size : ℕ) → p ≡ at.Common q size → common_in (common_addresses link (output_content sizes link live) starts) s ≡ common_address link (output_content sizes link live) starts q s)
+    → ((q size : ℕ) → p ≡ at.Common q size → common_in (common_addresses (output_filling sizes link live) starts) s ≡ common_address (output_filling sizes link live) starts q s)
     → placed_value (places_with sizes link live starts) first s p ≡ placed_value (places_of sizes link live starts) first s p
 same_value sizes link live starts first s (at.Common q size) h = h q size refl
 same_value sizes link live starts first s (at.Section i offset) h = refl
@@ -199,7 +199,7 @@ one_alike sizes link live starts f i k x at_f at_k =
     → (if b then told (placed_value (places_with sizes link live starts) first s x.at) else None) ≡ (if b then told (placed_value (places_of sizes link live starts) first s x.at) else None)) [
       | true ↦ λ given. ap told (same_value sizes link live starts first s x.at (λ q size placed.
           let both = and_parts (has_resolutions f.file.kind) (is_wanted f.file.kind s x flags) given in
-          common_found link (output_content sizes link live) starts q s size (record {
+          common_found (output_filling sizes link live) starts q s size (record {
             file = f;
             there = (file_at link.groups i f at_f).there;
             index = k;

@@ -1,6 +1,6 @@
 -- A common that has a resolution is an owner of bytes of its part, and has their address as its value.
-use Rattle.std.proofs.Common.{◌≡◌, ℕ, ◌+◌, ◌<◌, false, true, if◌then◌else◌, List, length, Option, Some, None, refl, sym, ap, subst, ◌∙◌, arith}
-use Rattle.std.specs.Prelude.{option_map, slice_get, slice_index}
+use Rattle.std.proofs.Common.{◌≡◌, ℕ, ◌<◌, false, true, List, Option, Some, refl, sym, ap, subst, ◌∙◌, arith}
+use Rattle.std.specs.Prelude.{option_map, slice_index}
 use Rattle.std.specs.Int.{◌∣◌}
 use Rattle.std.specs.List.{slice_index_or}
 use Rattle.std.proofs.Math.ListN as lists
@@ -14,25 +14,26 @@ use Rattle.lk_link.specs.declared.symbol.InputSymbol.{InputSymbol}
 use Rattle.lk_link.specs.declared.symbol.SymbolPlacement.TheVariants as at
 use Rattle.lk_link.specs.FileKinds.{is_object}
 use Rattle.lk_link.specs.Inputs.{first_input}
-use Rattle.lk_link.specs.Parts.{all_parts, part_at}
+use Rattle.lk_link.specs.Parts.{part_at}
 use Rattle.lk_link.specs.SymbolRules.{is_placement_in}
-use Rattle.lk_link.specs.TableSizes.{Machine, TableSizes}
+use Rattle.lk_link.specs.TableSizes.{TableSizes}
+use Rattle.lk_layout.specs.Machines.{Machine}
 use Rattle.lk_link.specs.WellFormed.{IsWellFormed}
 use Rattle.lk_link.proofs.GoodSymbols.{symbol_of}
 use Rattle.lk_gc.specs.declared.live.Live.{Live}
 use Rattle.lk_expressions.specs.Records.{Record, nowhere, record_at}
-use Rattle.lk_sizes.specs.Owners.{CommonOwner, Content, IsCommonIn, Owner, owner_address}
+use Rattle.lk_sizes.specs.Owners.{CommonOwner, IsCommonIn, Owner, owner_address, Filling}
 use Rattle.lk_sizes.specs.PartOwners.{common_address, common_number, owners_of, part_size}
 use Rattle.lk_sizes.specs.Tiles.{HasByte, OwnersAreAligned, OwnersTileTheirPart}
 use Rattle.lk_sizes.proofs.CommonOnes.{common_is_placed, commons_are_owners}
-use Rattle.lk_layout.specs.declared.layout.Layout.{Layout}
+use Rattle.lk_layout.specs.LayoutRecord.{LayoutRecord}
 use Rattle.lk_link.specs.declared.resolution.Resolution.{Resolution}
 use Rattle.lk_layout.specs.Defined.{setting, starts_of}
-use Rattle.lk_layout.specs.OutputContent.{output_content}
+use Rattle.lk_layout.specs.OutputContent.{output_filling}
 use Rattle.lk_layout.specs.Entries.{EntrySetting}
 use Rattle.lk_layout.specs.Resolutions.{Places, entries_of, placed_value, places_of, resolution_at, resolution_of, symbol_resolutions}
 use Rattle.lk_layout.specs.Sound.{CommonsStand, part_record}
-use Rattle.lk_layout.proofs.LaidOut.{IsLaidOut}
+use Rattle.lk_layout.proofs.LaidOut.{IsLaidOut, made_by}
 use Rattle.lk_layout.proofs.PartStarts.{part_starts}
 use Rattle.lk_layout.proofs.Placing.{size-le}
 use Rattle.lk_layout.proofs.Settings.{size_of}
@@ -59,7 +60,7 @@ of_object link live p s size good c =
 
 -- what is told of its symbol, by where the parts start: its address
 value_told : (sizes : TableSizes) (link : LinkInput) (live : Live) (starts : List ℕ) (p s size : ℕ) (c : IsCommonIn link live p s size) → is_object c.file.file.kind ≡ true
-    → option_map (λ (r : Resolution). r.raw_value) (resolution_at (symbol_resolutions sizes link live starts) s) ≡ Some (common_address link (output_content sizes link live) starts p s)
+    → option_map (λ (r : Resolution). r.raw_value) (resolution_at (symbol_resolutions sizes link live starts) s) ≡ Some (common_address (output_filling sizes link live) starts p s)
 value_told sizes link live starts p s size c object =
     let x : InputSymbol = c.symbol in
     let file : InputFile = c.file.file in
@@ -76,46 +77,46 @@ value_told sizes link live starts p s size c object =
 -- ---- where it stands
 
 -- an owner of bytes starts at a multiple of its part's alignment, where the part is no table part and isn't packed
-common_aligned : OwnersTileTheirPart → OwnersAreAligned → (machine : Machine) (link : LinkInput) (layout : Layout) (laid : IsLaidOut machine link layout) (p s size : ℕ)
+common_aligned : OwnersTileTheirPart → OwnersAreAligned → (machine : Machine) (link : LinkInput) (layout : LayoutRecord) (laid : IsLaidOut machine link layout) (p s size : ℕ)
     → IsCommonIn link laid.live p s size → 0 < size → (part_at link.plan.sections p).packed ≡ false
-    → (part_at link.plan.sections p).alignment ∣ owner_address (part_record layout p).mem_offset (part_at link.plan.sections p) (owners_of link (output_content machine.sizes link laid.live) p) (common_number link (output_content machine.sizes link laid.live) p s)
+    → (part_at link.plan.sections p).alignment ∣ owner_address (part_record layout p).mem_offset (part_at link.plan.sections p) (owners_of (output_filling machine.sizes link laid.live) p) (common_number (output_filling machine.sizes link laid.live) p s)
 common_aligned tile aligned machine link layout laid p s size c some unpacked =
     let live : Live = laid.live in
-    let content : Content = output_content machine.sizes link live in
+    let filling : Filling = output_filling machine.sizes link live in
     let part : PlanPart = part_at link.plan.sections p in
-    let owners : List Owner = owners_of link content p in
-    let k : ℕ = common_number link content p s in
+    let owners : List Owner = owners_of filling p in
+    let k : ℕ = common_number filling p s in
     let start : ℕ = (part_record layout p).mem_offset in
     let placed = common_is_placed link live p s size laid.good c in
     let byte : HasByte start part owners k (owner_address start part owners k) = record {
       owner = CommonOwner s size;
-      there = commons_are_owners link content p s size c;
+      there = commons_are_owners filling p s size c;
       from = omega arith;
       below = omega (arith, some, size-le part size);
     } in
-    let inside = (tile link content p start).inside k (owner_address start part owners k) byte in
-    let bytes : 0 < part_size link content p = omega (arith, inside.0, inside.1) in
-    let size_is : slice_index_or (setting machine link live).sizes p 0 ≡ part_size link content p = size_of machine.sizes link live p placed.0 in
+    let inside = (tile filling p start).inside k (owner_address start part owners k) byte in
+    let bytes : 0 < part_size filling p = omega (arith, inside.0, inside.1) in
+    let size_is : slice_index_or (setting machine link live).sizes p 0 ≡ part_size filling p = size_of machine.sizes link live p placed.0 in
     let begins : part.alignment ∣ (record_at laid.records p).mem_offset
     = part_starts machine link live laid.states laid.records p laid.good laid.is laid.unrefused placed.0 (omega (arith, bytes, size_is)) in
-    let record_is : (record_at laid.records p).mem_offset ≡ start = ap (λ (l : Layout). (record_at l.section_part_layouts p).mem_offset) (sym laid.same) in
-    dvd-add part.alignment (subst (λ n. part.alignment ∣ n) record_is begins) (aligned link content p k laid.good placed.1 unpacked)
+    let record_is : (record_at laid.records p).mem_offset ≡ start = ap (λ (l : LayoutRecord). (record_at l.section_part_layouts p).mem_offset) (sym laid.same) in
+    dvd-add part.alignment (subst (λ n. part.alignment ∣ n) record_is begins) (aligned filling p k laid.good placed.1 unpacked)
 
-pub commons_stand : OwnersTileTheirPart → OwnersAreAligned → (machine : Machine) (link : LinkInput) (layout : Layout) (laid : IsLaidOut machine link layout)
-    → layout.symbol_resolutions ≡ symbol_resolutions machine.sizes link laid.live (starts_of layout.section_part_layouts) → CommonsStand machine.sizes link laid.live layout
+pub commons_stand : OwnersTileTheirPart → OwnersAreAligned → (machine : Machine) (link : LinkInput) (layout : LayoutRecord) (laid : IsLaidOut machine link layout)
+    → layout.symbol_resolutions ≡ symbol_resolutions machine.sizes link laid.live (starts_of layout.section_part_layouts) → CommonsStand (made_by laid) layout
 commons_stand tile aligned machine link layout laid resolved p s size c =
     let live : Live = laid.live in
-    let content : Content = output_content machine.sizes link live in
+    let filling : Filling = output_filling machine.sizes link live in
     let records : List Record = layout.section_part_layouts in
     let part : PlanPart = part_at link.plan.sections p in
-    let k : ℕ = common_number link content p s in
-    let at_start : ℕ → ℕ = λ n. owner_address n part (owners_of link content p) k in
+    let k : ℕ = common_number filling p s in
+    let at_start : ℕ → ℕ = λ n. owner_address n part (owners_of filling p) k in
     let raw : Option Resolution → Option ℕ = option_map (λ (r : Resolution). r.raw_value) in
     let start : slice_index (starts_of records) p ≡ (record_at records p).mem_offset = lists.get_or-map (λ (r : Record). r.mem_offset) records p nowhere in
     record {
       part = (common_is_placed link live p s size laid.good c).0;
       number = k;
-      owner = commons_are_owners link content p s size c;
+      owner = commons_are_owners filling p s size c;
       address = at_start (part_record layout p).mem_offset;
       at = refl;
       valued = ap (λ (rs : List (Option Resolution)). raw (resolution_at rs s)) resolved

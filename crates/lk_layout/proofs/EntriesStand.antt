@@ -1,7 +1,7 @@
 -- The entries that a resolution tells are the symbol's own.
-use Rattle.std.proofs.Common.{◌≡◌, ℕ, zero, suc, ◌+◌, ◌<◌, ◌≤◌, ◌==◌, Bool, true, false, if◌then◌else◌, List, [], ◌∷◌, ◌++◌, cond, get_or, length, map, sum_by, take, Option, Some, None, refl, sym, ap, subst, ◌∙◌, inl, inr, arith}
-use Rattle.std.specs.Prelude.{is_some, slice_get, slice_index}
-use Rattle.std.specs.List.{count_by, enumerate_from, flat_map, slice_index_or}
+use Rattle.std.proofs.Common.{◌≡◌, ℕ, zero, suc, ◌<◌, ◌≤◌, ◌==◌, Bool, true, false, if◌then◌else◌, List, [], ◌∷◌, cond, length, map, take, Option, Some, None, refl, sym, ap, subst, ◌∙◌, inl, inr, arith}
+use Rattle.std.specs.Prelude.{slice_get, slice_index}
+use Rattle.std.specs.List.{count_by, flat_map, slice_index_or}
 use Rattle.std.specs.Option.{ForSome}
 use Rattle.std.proofs.Math.ListN as lists
 use Rattle.std.proofs.lemmas.Bool.{cases_lt, eq-eqb}
@@ -17,9 +17,10 @@ use Rattle.lk_link.specs.declared.symbol.InputSymbol.{InputSymbol}
 use Rattle.lk_link.specs.declared.tables.Allocation.{Allocation}
 use Rattle.lk_link.specs.Inputs.{NumberedFile, first_input, numbered_files}
 use Rattle.lk_link.specs.PartRules.{table_parts}
-use Rattle.lk_link.specs.Parts.{all_parts, part_at}
+use Rattle.lk_link.specs.Parts.{part_at}
 use Rattle.lk_link.specs.Symbols.{first_symbol, symbols_in}
-use Rattle.lk_link.specs.TableSizes.{Machine, TableSizes, first_taken}
+use Rattle.lk_link.specs.TableSizes.{TableSizes, first_taken}
+use Rattle.lk_layout.specs.Machines.{Machine}
 use Rattle.lk_link.specs.WellFormed.{IsWellFormed}
 use Rattle.lk_link.proofs.GoodPartFields.{good_part_fields}
 use Rattle.lk_link.proofs.Elements.{flat_map_at, map_at, map_in, numbered_at}
@@ -27,7 +28,7 @@ use Rattle.lk_link.proofs.NumberedSymbolLemmas.{stands}
 use Rattle.lk_reach.proofs.Numbered.{file_at}
 use Rattle.lk_reach.specs.Units.{numbered_symbols}
 use Rattle.lk_gc.specs.declared.live.Live.{Live}
-use Rattle.lk_expressions.specs.Records.{Record, nowhere, record_at}
+use Rattle.lk_expressions.specs.Records.{Record, nowhere}
 use Rattle.lk_tables.specs.Dynamic.{dynamic_index, dynamic_table}
 use Rattle.lk_tables.specs.Late.{flags_at}
 use Rattle.lk_tables.specs.OwnEntries.{is_of, own_address, own_place}
@@ -42,16 +43,17 @@ use Rattle.lk_tables.proofs.OwnLemmas.{cursors_reach_entries}
 use Rattle.lk_tables.proofs.PartLists.{named_parts}
 use Rattle.lk_tables.proofs.ShareSums.{sum_alike}
 use Rattle.lk_sizes.specs.Emitted.{active_segments}
-use Rattle.lk_sizes.specs.Owners.{Content, EntryOwner, Owner, bytes_of, content_owners, owner_address}
+use Rattle.lk_sizes.specs.Owners.{EntryOwner, Owner, bytes_of, Filling}
 use Rattle.lk_sizes.specs.PartOwners.{owners_of, tables_of}
-use Rattle.lk_layout.specs.declared.layout.Layout.{Layout}
+use Rattle.lk_layout.specs.LayoutRecord.{LayoutRecord}
 use Rattle.lk_layout.specs.Defined.{starts_of}
 use Rattle.lk_layout.specs.Entries.{EntrySetting, entry_in, got_table, plt_table, with_entries}
-use Rattle.lk_layout.specs.OutputContent.{output_content}
+use Rattle.lk_layout.specs.OutputContent.{output_filling}
 use Rattle.lk_layout.specs.Resolutions.{Places, entries_of, file_resolutions, has_resolutions, places_of, resolution_at, resolution_of, symbol_resolutions}
-use Rattle.lk_layout.specs.Sound.{AreOwnEntries, EntriesStand, IsEntryAt, TablesStandAlone, part_record}
+use Rattle.lk_layout.specs.Sound.{EntriesStand, IsEntryAt, TablesStandAlone, part_record}
+use Rattle.lk_layout.specs.Made.{Made, made_content, made_filling}
 use Rattle.lk_layout.proofs.EntriesTaken.{has_own, no_resolution, none_there, own_entries, with_own}
-use Rattle.lk_layout.proofs.LaidOut.{IsLaidOut}
+use Rattle.lk_layout.proofs.LaidOut.{IsLaidOut, made_by}
 use Rattle.lk_layout.proofs.Pushing.{first_is}
 use Rattle.lk_layout.proofs.Valued.{as_many}
 
@@ -137,22 +139,22 @@ told_entry (Some p) starts table s bytes address h =
     ]
 
 -- in the part of a table, where nothing else is, an entry has the address that it has in the table
-entry_stands : (sizes : TableSizes) (link : LinkInput) (live : Live) (layout : Layout) (starts : List ℕ) (k p s bytes address : ℕ) (table : List TableEntry) → IsWellFormed link
-    → TablesStandAlone sizes link live → slice_get (table_parts link.plan.named) k ≡ Some (Some p) → slice_get (all_lists (tables_of link (output_content sizes link live))) k ≡ Some table
+entry_stands : (made : Made) (layout : LayoutRecord) (starts : List ℕ) (k p s bytes address : ℕ) (table : List TableEntry) → IsWellFormed made.link
+    → TablesStandAlone made.machine.sizes made.link made.live → slice_get (table_parts made.link.plan.named) k ≡ Some (Some p) → slice_get (all_lists (tables_of (made_content made))) k ≡ Some table
     → slice_index starts p ≡ (part_record layout p).mem_offset → 0 < bytes → slice_get table (own_place s table) ≡ Some (record { owner = SymbolEntry s; bytes = bytes })
-    → address ≡ own_address (slice_index starts p) table s → IsEntryAt sizes link live layout p s address
-entry_stands sizes link live layout starts k p s bytes address table good alone named there start some own at =
-    let content : Content = output_content sizes link live in
-    let part : PlanPart = part_at link.plan.sections p in
+    → address ≡ own_address (slice_index starts p) table s → IsEntryAt made layout p s address
+entry_stands made layout starts k p s bytes address table good alone named there start some own at =
+    let filling : Filling = made_filling made in
+    let part : PlanPart = part_at made.link.plan.sections p in
     let entry : TableEntry = record { owner = SymbolEntry s; bytes = bytes } in
     let place : ℕ = own_place s table in
-    let is : table_of link.plan.named (tables_of link content) p ≡ table = named_parts link (tables_of link content) k p table good named there in
-    let owners : owners_of link content p ≡ map EntryOwner table = alone k p named ∙ ap (λ (es : List TableEntry). map EntryOwner es) is in
+    let is : table_of made.link.plan.named (tables_of filling.content) p ≡ table = named_parts made.link (tables_of filling.content) k p table good named there in
+    let owners : owners_of filling p ≡ map EntryOwner table = alone k p named ∙ ap (λ (es : List TableEntry). map EntryOwner es) is in
     let before : bytes_of part (take place (map EntryOwner table)) ≡ entry_bytes (take place table)
     = ap (bytes_of part) (take-map EntryOwner place table) ∙ own_entries part (take place table) in
-    let whole : bytes_of part (take place (owners_of link content p)) ≡ entry_bytes (take place table) = ap (λ (os : List Owner). bytes_of part (take place os)) owners ∙ before in
+    let whole : bytes_of part (take place (owners_of filling p)) ≡ entry_bytes (take place table) = ap (λ (os : List Owner). bytes_of part (take place os)) owners ∙ before in
     record {
-      part = (good_part_fields link good).in_range k p named;
+      part = (good_part_fields made.link good).in_range k p named;
       number = place;
       bytes = bytes;
       some = some;
@@ -191,18 +193,18 @@ same_entry : (s bytes more : ℕ) → ◌≡◌ {A = TableEntry} (record { owner
 same_entry s bytes more h = ap (λ (e : TableEntry). e.bytes) h
 
 -- an entry with bytes that stands in the part of a table is told
-entry_told : (sizes : TableSizes) (link : LinkInput) (live : Live) (layout : Layout) (starts : List ℕ) (k p s bytes address : ℕ) (table : List TableEntry) → IsWellFormed link
-    → TablesStandAlone sizes link live → slice_get (table_parts link.plan.named) k ≡ Some (Some p) → slice_get (all_lists (tables_of link (output_content sizes link live))) k ≡ Some table
+entry_told : (made : Made) (layout : LayoutRecord) (starts : List ℕ) (k p s bytes address : ℕ) (table : List TableEntry) → IsWellFormed made.link
+    → TablesStandAlone made.machine.sizes made.link made.live → slice_get (table_parts made.link.plan.named) k ≡ Some (Some p) → slice_get (all_lists (tables_of (made_content made))) k ≡ Some table
     → slice_index starts p ≡ (part_record layout p).mem_offset → count_by (is_of s) table ≡ 1
-    → slice_get table (own_place s table) ≡ Some (record { owner = SymbolEntry s; bytes = bytes }) → IsEntryAt sizes link live layout p s address
+    → slice_get table (own_place s table) ≡ Some (record { owner = SymbolEntry s; bytes = bytes }) → IsEntryAt made layout p s address
     → entry_in (Some p) starts table s bytes ≡ Some address
-entry_told sizes link live layout starts k p s bytes address table good alone named there start one own is =
-    let content : Content = output_content sizes link live in
-    let part : PlanPart = part_at link.plan.sections p in
+entry_told made layout starts k p s bytes address table good alone named there start one own is =
+    let filling : Filling = made_filling made in
+    let part : PlanPart = part_at made.link.plan.sections p in
     let place : ℕ = own_place s table in
     let mine : TableEntry = record { owner = SymbolEntry s; bytes = bytes } in
-    let tells : table_of link.plan.named (tables_of link content) p ≡ table = named_parts link (tables_of link content) k p table good named there in
-    let owners : owners_of link content p ≡ map EntryOwner table = alone k p named ∙ ap (λ (es : List TableEntry). map EntryOwner es) tells in
+    let tells : table_of made.link.plan.named (tables_of filling.content) p ≡ table = named_parts made.link (tables_of filling.content) k p table good named there in
+    let owners : owners_of filling p ≡ map EntryOwner table = alone k p named ∙ ap (λ (es : List TableEntry). map EntryOwner es) tells in
     let theirs : TableEntry = record { owner = SymbolEntry s; bytes = is.bytes } in
     let from = map_at EntryOwner table is.number (EntryOwner theirs) (ap (λ (os : List Owner). slice_get os is.number) (sym owners) ∙ is.owner) in
     let entry : from.0 ≡ theirs = let both : EntryOwner from.0 ≡ EntryOwner theirs = from.2 in cc in
@@ -214,8 +216,8 @@ entry_told sizes link live layout starts k p s bytes address table good alone na
     let taken : is.bytes ≡ bytes = same_entry s is.bytes bytes same in
     let before : bytes_of part (take place (map EntryOwner table)) ≡ entry_bytes (take place table)
     = ap (bytes_of part) (take-map EntryOwner place table) ∙ own_entries part (take place table) in
-    let whole : bytes_of part (take is.number (owners_of link content p)) ≡ entry_bytes (take place table)
-    = ap (λ (n : ℕ). bytes_of part (take n (owners_of link content p))) number ∙ ap (λ (os : List Owner). bytes_of part (take place os)) owners ∙ before in
+    let whole : bytes_of part (take is.number (owners_of filling p)) ≡ entry_bytes (take place table)
+    = ap (λ (n : ℕ). bytes_of part (take n (owners_of filling p))) number ∙ ap (λ (os : List Owner). bytes_of part (take place os)) owners ∙ before in
     let at : own_address (slice_index starts p) table s ≡ address = omega (arith, is.at, start, whole) in
     let cursor : ℕ = own_address (slice_index starts p) table s in
     elim (eqb_tells bytes 0) [
@@ -243,38 +245,38 @@ for_named named P p is h = λ x e.
 
 -- ---- all
 
-pub entries_stand : (machine : Machine) (link : LinkInput) (layout : Layout) (laid : IsLaidOut machine link layout) → TablesStandAlone machine.sizes link laid.live
-    → layout.symbol_resolutions ≡ symbol_resolutions machine.sizes link laid.live (starts_of layout.section_part_layouts) → EntriesStand machine.sizes link laid.live layout
+pub entries_stand : (machine : Machine) (link : LinkInput) (layout : LayoutRecord) (laid : IsLaidOut machine link layout) → TablesStandAlone machine.sizes link laid.live
+    → layout.symbol_resolutions ≡ symbol_resolutions machine.sizes link laid.live (starts_of layout.section_part_layouts) → EntriesStand (made_by laid) layout
 unfolding with_entries
 entries_stand machine link layout laid alone resolved s r told =
     let sizes : TableSizes = machine.sizes in
     let live : Live = laid.live in
-    let content : Content = output_content sizes link live in
+    let filling : Filling = output_filling sizes link live in
     let records : List Record = layout.section_part_layouts in
     let starts : List ℕ = starts_of records in
     let by : EntrySetting = entries_of sizes link live starts in
     let has = symbol_of sizes link live starts s r (ap (λ (rs : List (Option Resolution)). resolution_at rs s) (sym resolved) ∙ told) in
     let bytes : Allocation = sizes.allocation (flags_at live.flags s).0 in
     let start : (p : ℕ) → slice_index starts p ≡ (part_record layout p).mem_offset = λ p. lists.get_or-map (λ (x : Record). x.mem_offset) records p nowhere in
-    let indexes = indexes_name_entries sizes link live by.told by.told (active_segments link content) s in
-    let own = symbols_have_own_entries sizes link live by.told by.told (active_segments link content) s has.file has.symbol has.there in
+    let indexes = indexes_name_entries sizes link live by.told by.told (active_segments filling.content) s in
+    let own = symbols_have_own_entries sizes link live by.told by.told (active_segments filling.content) s has.file has.symbol has.there in
     let reach = cursors_reach_entries sizes.allocation link live (record { got = 0; plt = 0 }) s has.file has.symbol has.there has.wanted in
     record {
       got = λ address h.
           let entry = told_entry link.plan.named.got starts (got_table by) s bytes.got address (ap (λ (x : Resolution). x.got) (sym has.is) ∙ h) in
-          for_named link.plan.named.got (λ p. IsEntryAt sizes link live layout p s address) entry.0 entry.1
-          (entry_stands sizes link live layout starts 0 entry.0 s bytes.got address (got_table by) laid.good alone (ap (λ (o : Option ℕ). Some o) entry.1) refl (start entry.0) entry.2 reach.0.there entry.3);
+          for_named link.plan.named.got (λ p. IsEntryAt (made_by laid) layout p s address) entry.0 entry.1
+          (entry_stands (made_by laid) layout starts 0 entry.0 s bytes.got address (got_table by) laid.good alone (ap (λ (o : Option ℕ). Some o) entry.1) refl (start entry.0) entry.2 reach.0.there entry.3);
       plt = λ address h.
           let entry = told_entry link.plan.named.plt starts (plt_table by) s bytes.plt address (ap (λ (x : Resolution). x.plt) (sym has.is) ∙ h) in
-          for_named link.plan.named.plt (λ p. IsEntryAt sizes link live layout p s address) entry.0 entry.1
-          (entry_stands sizes link live layout starts 1 entry.0 s bytes.plt address (plt_table by) laid.good alone (ap (λ (o : Option ℕ). Some o) entry.1) refl (start entry.0) entry.2 reach.1.there entry.3);
+          for_named link.plan.named.plt (λ p. IsEntryAt (made_by laid) layout p s address) entry.0 entry.1
+          (entry_stands (made_by laid) layout starts 1 entry.0 s bytes.plt address (plt_table by) laid.good alone (ap (λ (o : Option ℕ). Some o) entry.1) refl (start entry.0) entry.2 reach.1.there entry.3);
       dynamic = λ k h. indexes.0 k (ap (λ (x : Resolution). x.dynamic) (sym has.is) ∙ h);
       got_told = λ p address named is. ap (λ (x : Resolution). x.got) has.is ∙ ap (λ (o : Option ℕ). entry_in o starts (got_table by) s bytes.got) named
-          ∙ entry_told sizes link live layout starts 0 p s bytes.got address (got_table by) laid.good alone (ap (λ (o : Option ℕ). Some o) named) refl (start p)
+          ∙ entry_told (made_by laid) layout starts 0 p s bytes.got address (got_table by) laid.good alone (ap (λ (o : Option ℕ). Some o) named) refl (start p)
           (own.got ∙ ap one_if has.wanted) reach.0.there is;
       plt_told = λ p address named is. ap (λ (x : Resolution). x.plt) has.is ∙ ap (λ (o : Option ℕ). entry_in o starts (plt_table by) s bytes.plt) named
-          ∙ entry_told sizes link live layout starts 1 p s bytes.plt address (plt_table by) laid.good alone (ap (λ (o : Option ℕ). Some o) named) refl (start p)
+          ∙ entry_told (made_by laid) layout starts 1 p s bytes.plt address (plt_table by) laid.good alone (ap (λ (o : Option ℕ). Some o) named) refl (start p)
           (own.plt ∙ ap one_if has.wanted) reach.1.there is;
-      dynamic_told = λ k is. ap (λ (x : Resolution). x.dynamic) has.is ∙ told_index s k sizes.symbol_entry (tables_of link content).dynsym
+      dynamic_told = λ k is. ap (λ (x : Resolution). x.dynamic) has.is ∙ told_index s k sizes.symbol_entry (tables_of filling.content).dynsym
           (dynamic_index (dynamic_table link live by.told) s) indexes.0 indexes.1 is;
     }

@@ -20,9 +20,9 @@ use Rattle.lk_link.proofs.GoodPartFields.{good_part_fields}
 use Rattle.lk_tables.specs.TableLists.{all_lists, table_of}
 use Rattle.lk_tables.proofs.PartLists.{named_parts}
 use Rattle.lk_tables.proofs.ShareSums.{sum_made}
-use Rattle.lk_sizes.specs.Owners.{Content, EntryOwner, Owner, bytes_of, content_owners, owner_bytes}
+use Rattle.lk_sizes.specs.Owners.{EntryOwner, Owner, bytes_of, content_owners, owner_bytes, Filling}
 use Rattle.lk_sizes.specs.PartOwners.{EndsFit, tables_of}
-use Rattle.lk_layout.specs.OutputContent.{output_content}
+use Rattle.lk_layout.specs.OutputContent.{output_filling}
 use Rattle.lk_link.specs.TableSizes.{TableSizes, first_taken}
 use Rattle.lk_gc.specs.declared.live.Live.{Live}
 use Rattle.lk_reach.specs.Units.{numbered_symbols}
@@ -241,24 +241,24 @@ pub own_entries : (part : PlanPart) (entries : List TableEntry) → bytes_of par
 own_entries part entries = sum_made (owner_bytes part) EntryOwner entries
 
 -- the table that stands in a part ends with the part, or before
-table_ends : (link : LinkInput) (content : Content) (starts : List ℕ) (k p : ℕ) (table : List TableEntry) → IsWellFormed link → length starts ≡ length (all_parts link.plan.sections)
-    → EndsFit link content starts → slice_get (table_parts link.plan.named) k ≡ Some (Some p) → slice_get (all_lists (tables_of link content)) k ≡ Some table
+table_ends : (filling : Filling) (starts : List ℕ) (k p : ℕ) (table : List TableEntry) → IsWellFormed filling.content.link → length starts ≡ length (all_parts filling.content.link.plan.sections)
+    → EndsFit filling starts → slice_get (table_parts filling.content.link.plan.named) k ≡ Some (Some p) → slice_get (all_lists (tables_of filling.content)) k ≡ Some table
     → slice_index starts p + entry_bytes table < 2 ^ 64
-table_ends link content starts k p table good count fit named there =
-    let part : PlanPart = part_at link.plan.sections p in
-    let owners : List Owner = content_owners link content.live content.merged_lens p in
-    let below : p < length starts = omega (arith, (good_part_fields link good).in_range k p named, count) in
-    let is : table_of link.plan.named (tables_of link content) p ≡ table = named_parts link (tables_of link content) k p table good named there in
-    let more : bytes_of part (owners ++ map EntryOwner (table_of link.plan.named (tables_of link content) p)) ≡ bytes_of part owners + bytes_of part (map EntryOwner (table_of link.plan.named (tables_of link content) p))
-    = sum_by-append (owner_bytes part) owners (map EntryOwner (table_of link.plan.named (tables_of link content) p)) in
-    let whole : bytes_of part (map EntryOwner (table_of link.plan.named (tables_of link content) p)) ≡ entry_bytes table
+table_ends filling starts k p table good count fit named there =
+    let part : PlanPart = part_at filling.content.link.plan.sections p in
+    let owners : List Owner = content_owners filling p in
+    let below : p < length starts = omega (arith, (good_part_fields filling.content.link good).in_range k p named, count) in
+    let is : table_of filling.content.link.plan.named (tables_of filling.content) p ≡ table = named_parts filling.content.link (tables_of filling.content) k p table good named there in
+    let more : bytes_of part (owners ++ map EntryOwner (table_of filling.content.link.plan.named (tables_of filling.content) p)) ≡ bytes_of part owners + bytes_of part (map EntryOwner (table_of filling.content.link.plan.named (tables_of filling.content) p))
+    = sum_by-append (owner_bytes part) owners (map EntryOwner (table_of filling.content.link.plan.named (tables_of filling.content) p)) in
+    let whole : bytes_of part (map EntryOwner (table_of filling.content.link.plan.named (tables_of filling.content) p)) ≡ entry_bytes table
     = ap (λ (es : List TableEntry). bytes_of part (map EntryOwner es)) is ∙ own_entries part table in
     omega (arith, fit p below, more, whole)
 
 -- where parts end below 2^64, so do got and plt
 pub tables_fit : (sizes : TableSizes) (link : LinkInput) (live : Live) (told : List Bool) (starts : List ℕ) → IsWellFormed link → length starts ≡ length (all_parts link.plan.sections)
-    → EndsFit link (output_content sizes link live) starts → TablesFit (entry_setting sizes link live told starts)
+    → EndsFit (output_filling sizes link live) starts → TablesFit (entry_setting sizes link live told starts)
 tables_fit sizes link live told starts good count fit = record {
-  got = λ p named. table_ends link (output_content sizes link live) starts 0 p (got_table (entry_setting sizes link live told starts)) good count fit (ap (λ (o : Option ℕ). Some o) named) refl;
-  plt = λ p named. table_ends link (output_content sizes link live) starts 1 p (plt_table (entry_setting sizes link live told starts)) good count fit (ap (λ (o : Option ℕ). Some o) named) refl;
+  got = λ p named. table_ends (output_filling sizes link live) starts 0 p (got_table (entry_setting sizes link live told starts)) good count fit (ap (λ (o : Option ℕ). Some o) named) refl;
+  plt = λ p named. table_ends (output_filling sizes link live) starts 1 p (plt_table (entry_setting sizes link live told starts)) good count fit (ap (λ (o : Option ℕ). Some o) named) refl;
 }

@@ -21,11 +21,11 @@ use Rattle.lk_layout.specs.OutputContent.{output_content}
 use Rattle.lk_link.specs.TableSizes.{TableSizes}
 
 -- no more segments are active than there are
-pub few_active : (sizes : TableSizes) (link : LinkInput) (live : Live) → IsWellFormed link → length (active_segments link (output_content sizes link live)) ≤ SEGMENTS
+pub few_active : (sizes : TableSizes) (link : LinkInput) (live : Live) → IsWellFormed link → length (active_segments (output_content sizes link live)) ≤ SEGMENTS
 unfolding counted limit_of
 few_active sizes link live good =
     let numbers : List ℕ = map (λ (q : ℕ × PlanSegment). q.0) (enumerate_from 0 link.plan.segments) in
-    let active : ℕ → Bool = is_active link (output_content sizes link live) in
+    let active : ℕ → Bool = is_active (output_content sizes link live) in
     let count : length numbers ≡ length link.plan.segments
     = length-map (enumerate_from 0 link.plan.segments) (λ (q : ℕ × PlanSegment). q.0) ∙ length-enumerate_from 0 link.plan.segments in
     let few : length link.plan.segments ≤ SEGMENTS = good.within limited.Segments in

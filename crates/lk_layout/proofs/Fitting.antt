@@ -7,7 +7,7 @@ use Rattle.std.proofs.lemmas.Option.{slice_get_within}
 use Rattle.lk_link.specs.declared.link.LinkInput.{LinkInput}
 use Rattle.lk_link.specs.declared.plan.OrderEvent.TheVariants.{Section}
 use Rattle.lk_link.specs.Parts.{all_parts}
-use Rattle.lk_link.specs.TableSizes.{Machine}
+use Rattle.lk_layout.specs.Machines.{Machine}
 use Rattle.lk_merge.specs.Addresses.{AreStartsOf}
 use Rattle.lk_merge.specs.LinkInputs.{link_inputs}
 use Rattle.lk_merge.proofs.AddressLemmas.{are_starts}
@@ -20,9 +20,9 @@ use Rattle.lk_expressions.specs.Records.{Record, mem_end, nowhere, record_at}
 use Rattle.lk_place.specs.Setting.{Setting}
 use Rattle.lk_sizes.specs.Images.{image_addresses}
 use Rattle.lk_sizes.specs.PartOwners.{EndsFit}
-use Rattle.lk_layout.specs.declared.layout.Layout.{Layout}
+use Rattle.lk_layout.specs.LayoutRecord.{LayoutRecord}
 use Rattle.lk_layout.specs.Defined.{setting, starts_of}
-use Rattle.lk_layout.specs.OutputContent.{output_content}
+use Rattle.lk_layout.specs.OutputContent.{output_filling}
 use Rattle.lk_layout.proofs.Imaging.{images_fit}
 use Rattle.lk_layout.proofs.LaidOut.{IsLaidOut}
 use Rattle.lk_layout.proofs.PartStarts.{section_in}
@@ -38,7 +38,7 @@ first_none None later h = refl
 first_none (Some r) later h = absurd (cc)
 
 -- the section of a part isn't refused, so the part ends below 2^64
-part_fits : RefusedExactlyPast → (machine : Machine) (link : LinkInput) (layout : Layout) (laid : IsLaidOut machine link layout) (p : ℕ) → p < length (all_parts link.plan.sections)
+part_fits : RefusedExactlyPast → (machine : Machine) (link : LinkInput) (layout : LayoutRecord) (laid : IsLaidOut machine link layout) (p : ℕ) → p < length (all_parts link.plan.sections)
     → mem_end (record_at laid.records p) < 2 ^ 64
 part_fits refused machine link layout laid p within =
     let s : Setting = setting machine link laid.live in
@@ -56,7 +56,7 @@ part_fits refused machine link layout laid p within =
     (first_none (section_overflow s t step.steps.entered) (load_refusal (load_given s standing t step.steps.entered)) placing) at.place at.within in
     subst (λ q. mem_end (record_at laid.records q) < 2 ^ 64) (sym at.is) fit.mem
 
-owners_fit : RefusedExactlyPast → PartsTakeTheirBytes → (machine : Machine) (link : LinkInput) (layout : Layout) (laid : IsLaidOut machine link layout) → EndsFit link (output_content machine.sizes link laid.live) (starts_of laid.records)
+owners_fit : RefusedExactlyPast → PartsTakeTheirBytes → (machine : Machine) (link : LinkInput) (layout : LayoutRecord) (laid : IsLaidOut machine link layout) → EndsFit (output_filling machine.sizes link laid.live) (starts_of laid.records)
 owners_fit refused mass machine link layout laid =
     ends_fit machine.sizes link laid.live laid.records (starts_of laid.records) refl
     (λ p below.
@@ -65,9 +65,9 @@ owners_fit refused mass machine link layout laid =
     (takes mass machine link laid.live laid.states laid.records laid.good laid.is laid.unrefused)
 
 -- the addresses of buckets are starts of what is merged
-pub buckets_start : RefusedExactlyPast → PartsTakeTheirBytes → (machine : Machine) (link : LinkInput) (layout : Layout) (laid : IsLaidOut machine link layout) → AreStartsOf layout.merged_strings layout.merged_string_start_addresses
+pub buckets_start : RefusedExactlyPast → PartsTakeTheirBytes → (machine : Machine) (link : LinkInput) (layout : LayoutRecord) (laid : IsLaidOut machine link layout) → AreStartsOf layout.merged_strings layout.merged_string_start_addresses
 buckets_start refused mass machine link layout laid =
     let starts : List ℕ = starts_of laid.records in
-    let addresses : List ℕ = image_addresses link (output_content machine.sizes link laid.live) starts in
+    let addresses : List ℕ = image_addresses (output_filling machine.sizes link laid.live) starts in
     let fit = images_fit machine.sizes link laid.live starts laid.good (starts_count link laid.records starts refl laid.is.each) (owners_fit refused mass machine link layout laid) in
-    subst (λ (l : Layout). AreStartsOf l.merged_strings l.merged_string_start_addresses) (sym laid.same) (are_starts (link_inputs link).outputs addresses fit)
+    subst (λ (l : LayoutRecord). AreStartsOf l.merged_strings l.merged_string_start_addresses) (sym laid.same) (are_starts (link_inputs link).outputs addresses fit)

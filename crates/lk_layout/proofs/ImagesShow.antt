@@ -6,7 +6,7 @@ use Rattle.std.proofs.lemmas.Bool.{lt-ltb}
 use Rattle.std.proofs.lemmas.Option.{get_or_from_slice_get}
 use Rattle.lk_link.specs.declared.link.LinkInput.{LinkInput}
 use Rattle.lk_link.specs.declared.section.InputSection.{InputSection}
-use Rattle.lk_link.specs.TableSizes.{Machine}
+use Rattle.lk_layout.specs.Machines.{Machine}
 use Rattle.lk_link.specs.WellFormed.{IsWellFormed}
 use Rattle.lk_gc.specs.declared.live.Live.{Live}
 use Rattle.lk_link.specs.Parts.{part_sections}
@@ -23,14 +23,14 @@ use Rattle.lk_merge.proofs.PlaceLemmas.{pieces_have_places}
 use Rattle.lk_merge.proofs.Showing.{merged_addresses_show}
 use Rattle.lk_expressions.specs.Records.{Record, nowhere, record_at}
 use Rattle.lk_sizes.specs.Images.{image_addresses}
-use Rattle.lk_sizes.specs.Owners.{ImageOwner}
+use Rattle.lk_sizes.specs.Owners.{ImageOwner, Filling}
 use Rattle.lk_sizes.proofs.ImageLemmas.{its_section}
-use Rattle.lk_layout.specs.declared.layout.Layout.{Layout}
+use Rattle.lk_layout.specs.LayoutRecord.{LayoutRecord}
 use Rattle.lk_layout.specs.Defined.{starts_of}
-use Rattle.lk_layout.specs.OutputContent.{output_content}
+use Rattle.lk_layout.specs.OutputContent.{output_filling}
 use Rattle.lk_layout.specs.Sound.{ImagesStand, IsImageAt, part_record}
 use Rattle.lk_layout.proofs.Imaging.{comes_from, has_part, inputs_at, len_at, stands_at}
-use Rattle.lk_layout.proofs.LaidOut.{IsLaidOut}
+use Rattle.lk_layout.proofs.LaidOut.{IsLaidOut, made_by}
 
 -- ---- what an image shows
 
@@ -57,22 +57,22 @@ shows link s k offset x good terminated there short =
 
 -- ---- where it stands
 
-image_at : (machine : Machine) (link : LinkInput) (layout : Layout) (laid : IsLaidOut machine link layout) (s : ℕ) (inputs : List MergeInput) → slice_get (link_inputs link).outputs s ≡ Some inputs
-    → 0 < length inputs → IsImageAt machine.sizes link laid.live layout s inputs
+image_at : (machine : Machine) (link : LinkInput) (layout : LayoutRecord) (laid : IsLaidOut machine link layout) (s : ℕ) (inputs : List MergeInput) → slice_get (link_inputs link).outputs s ≡ Some inputs
+    → 0 < length inputs → IsImageAt (made_by laid) layout s inputs
 image_at machine link layout laid s [] there some = absurd (omega (arith, some))
 image_at machine link layout laid s (y ∷ ys) there some =
     let live : Live = laid.live in
-    let content = output_content machine.sizes link live in
+    let filling : Filling = output_filling machine.sizes link live in
     let inputs : List MergeInput = y ∷ ys in
     let records : List Record = laid.records in
     let at = inputs_at link s inputs there in
     let has = has_part link s 0 y laid.good (ap (λ (xs : List MergeInput). slice_get xs 0) (sym at.1)) in
     let p : ℕ = has.part in
     let stands = stands_at machine.sizes link live (starts_of records) s p at.0 has.is in
-    let image_is : image_start layout.merged_string_start_addresses s ≡ slice_index (image_addresses link content (starts_of records)) s
-    = ap (λ (l : Layout). image_start l.merged_string_start_addresses s) laid.same ∙ starts_at (link_inputs link).outputs (image_addresses link content (starts_of records)) s inputs there in
+    let image_is : image_start layout.merged_string_start_addresses s ≡ slice_index (image_addresses filling (starts_of records)) s
+    = ap (λ (l : LayoutRecord). image_start l.merged_string_start_addresses s) laid.same ∙ starts_at (link_inputs link).outputs (image_addresses filling (starts_of records)) s inputs there in
     let record_is : slice_index (starts_of records) p ≡ (record_at records p).mem_offset = lists.get_or-map (λ (r : Record). r.mem_offset) records p nowhere in
-    let told : (record_at records p).mem_offset ≡ (part_record layout p).mem_offset = ap (λ (l : Layout). (record_at l.section_part_layouts p).mem_offset) (sym laid.same) in
+    let told : (record_at records p).mem_offset ≡ (part_record layout p).mem_offset = ap (λ (l : LayoutRecord). (record_at l.section_part_layouts p).mem_offset) (sym laid.same) in
     let terminated : list_all is_terminated inputs ≡ true = all_terminated link.options.bucket_limit 0 (link_inputs link).outputs s inputs laid.merged there in
     record {
       part = p;
@@ -88,6 +88,6 @@ image_at machine link layout laid s (y ∷ ys) there some =
           subst Shown (sym at.1) (shows link s k offset x laid.good (ap (list_all is_terminated) (sym at.1) ∙ terminated) (ap (λ (xs : List MergeInput). slice_get xs k) (sym at.1) ∙ at_k) short);
     }
 
-pub images_stand : (machine : Machine) (link : LinkInput) (layout : Layout) (laid : IsLaidOut machine link layout) → ImagesStand machine.sizes link laid.live layout
+pub images_stand : (machine : Machine) (link : LinkInput) (layout : LayoutRecord) (laid : IsLaidOut machine link layout) → ImagesStand (made_by laid) layout
 images_stand machine link layout laid s inputs there some =
-    image_at machine link layout laid s inputs (ap (λ (l : Layout). slice_get l.merged_strings s) (sym laid.same) ∙ there) some
+    image_at machine link layout laid s inputs (ap (λ (l : LayoutRecord). slice_get l.merged_strings s) (sym laid.same) ∙ there) some

@@ -29,11 +29,11 @@ use Rattle.lk_merge.specs.Pieces.{MergeInput}
 use Rattle.lk_merge.proofs.MergedReferences.{output_there, symbol_place_is}
 use Rattle.lk_merge.proofs.SymbolPlaces.{output_at, outputs_count}
 use Rattle.lk_sizes.specs.Images.{image_address, image_addresses, image_number, image_part}
-use Rattle.lk_sizes.specs.Owners.{ImageOwner, Owner, bytes_of, owner_address, owner_bytes}
+use Rattle.lk_sizes.specs.Owners.{ImageOwner, Owner, bytes_of, owner_address, owner_bytes, Filling}
 use Rattle.lk_sizes.specs.PartOwners.{EndsFit, owners_of}
 use Rattle.lk_sizes.proofs.ImagePlaces.{images_stand_where_inputs_go}
 use Rattle.lk_sizes.proofs.ImageStarts.{IsFirst, image_is_first}
-use Rattle.lk_layout.specs.OutputContent.{image_lens, lens_of, output_content}
+use Rattle.lk_layout.specs.OutputContent.{image_lens, lens_of, output_filling}
 use Rattle.lk_layout.specs.Resolutions.{found_or_0, merged_value}
 use Rattle.lk_layout.proofs.Placing.{size-le}
 use Rattle.lk_link.specs.TableSizes.{TableSizes}
@@ -108,26 +108,26 @@ has_part link s k y good there =
 
 -- the address of an image that has a part
 pub record StandsAt (sizes : TableSizes) (link : LinkInput) (live : Live) (starts : List ℕ) (s p : ℕ) : Type 0 where
-  pub first : IsFirst link (output_content sizes link live) s p
-  pub address : slice_index (image_addresses link (output_content sizes link live) starts) s ≡ slice_index starts p
+  pub first : IsFirst (output_filling sizes link live) s p
+  pub address : slice_index (image_addresses (output_filling sizes link live) starts) s ≡ slice_index starts p
 
-address_in_part : (sizes : TableSizes) (link : LinkInput) (live : Live) (starts : List ℕ) (s p n : ℕ) (o : Option ℕ) → o ≡ Some p → image_number link (output_content sizes link live) s p ≡ n
-    → option_map_or (λ q. owner_address (slice_index starts q) (part_at link.plan.sections q) (owners_of link (output_content sizes link live) q) (image_number link (output_content sizes link live) s q)) o 0
-    ≡ owner_address (slice_index starts p) (part_at link.plan.sections p) (owners_of link (output_content sizes link live) p) n
+address_in_part : (sizes : TableSizes) (link : LinkInput) (live : Live) (starts : List ℕ) (s p n : ℕ) (o : Option ℕ) → o ≡ Some p → image_number (output_filling sizes link live) s p ≡ n
+    → option_map_or (λ q. owner_address (slice_index starts q) (part_at link.plan.sections q) (owners_of (output_filling sizes link live) q) (image_number (output_filling sizes link live) s q)) o 0
+    ≡ owner_address (slice_index starts p) (part_at link.plan.sections p) (owners_of (output_filling sizes link live) p) n
 address_in_part sizes link live starts s p n o is number =
-    ap (λ (r : Option ℕ). option_map_or (λ q. owner_address (slice_index starts q) (part_at link.plan.sections q) (owners_of link (output_content sizes link live) q) (image_number link (output_content sizes link live) s q)) r 0) is
-    ∙ ap (owner_address (slice_index starts p) (part_at link.plan.sections p) (owners_of link (output_content sizes link live) p)) number
+    ap (λ (r : Option ℕ). option_map_or (λ q. owner_address (slice_index starts q) (part_at link.plan.sections q) (owners_of (output_filling sizes link live) q) (image_number (output_filling sizes link live) s q)) r 0) is
+    ∙ ap (owner_address (slice_index starts p) (part_at link.plan.sections p) (owners_of (output_filling sizes link live) p)) number
 
 address_at : (sizes : TableSizes) (link : LinkInput) (live : Live) (starts : List ℕ) (s : ℕ) → s < length link.plan.sections
-    → slice_index (image_addresses link (output_content sizes link live) starts) s ≡ image_address link (output_content sizes link live) starts s
+    → slice_index (image_addresses (output_filling sizes link live) starts) s ≡ image_address (output_filling sizes link live) starts s
 address_at sizes link live starts s below =
-    made_at (image_address link (output_content sizes link live) starts) 0 link.plan.sections 0 s below ∙ ap (image_address link (output_content sizes link live) starts) (zero-add s)
+    made_at (image_address (output_filling sizes link live) starts) 0 link.plan.sections 0 s below ∙ ap (image_address (output_filling sizes link live) starts) (zero-add s)
 
 pub stands_at : (sizes : TableSizes) (link : LinkInput) (live : Live) (starts : List ℕ) (s p : ℕ) → s < length link.plan.sections → image_part link s ≡ Some p → StandsAt sizes link live starts s p
 stands_at sizes link live starts s p below is =
-    let content = output_content sizes link live in
-    let first = image_is_first link content s p below is in
-    let none : owner_address (slice_index starts p) (part_at link.plan.sections p) (owners_of link content p) 0 ≡ slice_index starts p = omega arith in
+    let filling : Filling = output_filling sizes link live in
+    let first = image_is_first filling s p below is in
+    let none : owner_address (slice_index starts p) (part_at link.plan.sections p) (owners_of filling p) 0 ≡ slice_index starts p = omega arith in
     record {
       first = first;
       address = address_at sizes link live starts s below ∙ address_in_part sizes link live starts s p 0 (image_part link s) is first.number ∙ none;
@@ -145,22 +145,22 @@ unfolding all_buckets firsts_behind
 no_image = refl
 
 image_fits : (sizes : TableSizes) (link : LinkInput) (live : Live) (starts : List ℕ) (s : ℕ) (inputs : List MergeInput) → IsWellFormed link → length starts ≡ length (all_parts link.plan.sections)
-    → EndsFit link (output_content sizes link live) starts → slice_get (link_inputs link).outputs s ≡ Some inputs → (o : Option ℕ) → image_part link s ≡ o
-    → slice_index (image_addresses link (output_content sizes link live) starts) s + length (image fnv64 (all_pieces inputs)) < 2 ^ 64
+    → EndsFit (output_filling sizes link live) starts → slice_get (link_inputs link).outputs s ≡ Some inputs → (o : Option ℕ) → image_part link s ≡ o
+    → slice_index (image_addresses (output_filling sizes link live) starts) s + length (image fnv64 (all_pieces inputs)) < 2 ^ 64
 image_fits sizes link live starts s inputs good count fit there (Some p) is =
-    let content = output_content sizes link live in
+    let filling : Filling = output_filling sizes link live in
     let at = inputs_at link s inputs there in
     let stands = stands_at sizes link live starts s p at.0 is in
     let part : PlanPart = part_at link.plan.sections p in
     let len : ℕ = slice_index (image_lens link) s in
-    let bytes = first_fits part (owners_of link content p) (ImageOwner s len) stands.first.owner in
+    let bytes = first_fits part (owners_of filling p) (ImageOwner s len) stands.first.owner in
     let within : p < length starts = omega (arith, stands.first.below, first_part-le link.plan.sections (s + 1), count) in
     omega (arith, stands.address, len_at link s inputs there, bytes, size-le part len, fit p within)
 image_fits sizes link live starts s [] good count fit there None is =
     let at = inputs_at link s [] there in
-    let address : slice_index (image_addresses link (output_content sizes link live) starts) s ≡ 0
+    let address : slice_index (image_addresses (output_filling sizes link live) starts) s ≡ 0
     = address_at sizes link live starts s at.0
-    ∙ ap (λ (o : Option ℕ). option_map_or (λ q. owner_address (slice_index starts q) (part_at link.plan.sections q) (owners_of link (output_content sizes link live) q) (image_number link (output_content sizes link live) s q)) o 0) is in
+    ∙ ap (λ (o : Option ℕ). option_map_or (λ q. owner_address (slice_index starts q) (part_at link.plan.sections q) (owners_of (output_filling sizes link live) q) (image_number (output_filling sizes link live) s q)) o 0) is in
     omega (arith, address, no_image)
 image_fits sizes link live starts s (y ∷ ys) good count fit there None is =
     let at = inputs_at link s (y ∷ ys) there in
@@ -169,9 +169,9 @@ image_fits sizes link live starts s (y ∷ ys) good count fit there None is =
     absurd (cc)
 
 pub images_fit : (sizes : TableSizes) (link : LinkInput) (live : Live) (starts : List ℕ) → IsWellFormed link → length starts ≡ length (all_parts link.plan.sections)
-    → EndsFit link (output_content sizes link live) starts → ImagesFit (link_inputs link).outputs (image_addresses link (output_content sizes link live) starts)
+    → EndsFit (output_filling sizes link live) starts → ImagesFit (link_inputs link).outputs (image_addresses (output_filling sizes link live) starts)
 images_fit sizes link live starts good count fit = record {
-  count = length-map (enumerate_from 0 link.plan.sections) (λ (q : ℕ × PlanSection). image_address link (output_content sizes link live) starts q.0)
+  count = length-map (enumerate_from 0 link.plan.sections) (λ (q : ℕ × PlanSection). image_address (output_filling sizes link live) starts q.0)
       ∙ length-enumerate_from 0 link.plan.sections ∙ sym (outputs_count link);
   ends = λ s inputs there. image_fits sizes link live starts s inputs good count fit there (image_part link s) refl;
 }

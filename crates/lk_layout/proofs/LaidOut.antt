@@ -8,7 +8,7 @@ use Rattle.lk_gc.specs.declared.live.Live.{Live}
 use Rattle.lk_gc.specs.Faults.{reference_faults}
 use Rattle.lk_gc.specs.Reach.{AreLive}
 use Rattle.lk_link.specs.declared.link.LinkInput.{LinkInput}
-use Rattle.lk_link.specs.TableSizes.{Machine}
+use Rattle.lk_layout.specs.Machines.{Machine}
 use Rattle.lk_link.specs.WellFormed.{IsWellFormed}
 use Rattle.lk_merge.specs.Hash.{fnv64}
 use Rattle.lk_merge.specs.LinkInputs.{first_refusal, link_inputs}
@@ -20,7 +20,7 @@ use Rattle.lk_place.specs.declared.segments.SegmentFileLayout.TheVariants.{FromS
 use Rattle.lk_place.specs.Segments.{first_outside, outside_refusal, section_records, segments_refusal}
 use Rattle.lk_sizes.specs.Emitted.{active_segments, is_emitted}
 use Rattle.lk_layout.specs.declared.error.LayoutError.{LayoutError}
-use Rattle.lk_layout.specs.declared.layout.Layout.{Layout}
+use Rattle.lk_layout.specs.LayoutRecord.{LayoutRecord}
 use Rattle.lk_layout.specs.Carried.{first_uncarried}
 use Rattle.lk_layout.specs.CarriedWords.{IsCarried}
 use Rattle.lk_layout.specs.Defined.{IsDefined, Unless, references_error, references_refusal, fault_refusal, joining_refusal, layout_of, not_carried, offsets_refusal, segment_refusal, setting, sizes_refusal, uncarried_refusal, walk_refusal}
@@ -30,10 +30,11 @@ use Rattle.lk_layout.specs.Merging.{merging_refusal}
 use Rattle.lk_layout.specs.OutputContent.{output_content}
 use Rattle.lk_layout.specs.Outside.{merge_offsets}
 use Rattle.lk_layout.specs.Laws.{LaidOutLinksAreWellFormed}
+use Rattle.lk_layout.specs.Made.{Made, made_of}
 use Rattle.lk_layout.proofs.OneAnswer.{none_of, unrefused}
 
 -- a link that is well formed, of which all is laid out, with what is live, a whole placement and the layout of these
-pub record IsLaidOut (machine : Machine) (link : LinkInput) (layout : Layout) : Type 0 where
+pub record IsLaidOut (machine : Machine) (link : LinkInput) (layout : LayoutRecord) : Type 0 where
   pub good : IsWellFormed link
   pub carried : IsCarried link
   pub live : Live
@@ -44,12 +45,16 @@ pub record IsLaidOut (machine : Machine) (link : LinkInput) (layout : Layout) : 
   pub records : List Record
   pub is : IsPlaced (setting machine link live) states records
   pub unrefused : placement_refusal (setting machine link live) states records ≡ None
-  pub covered : first_outside link (section_records link.plan.sections records) (is_emitted link (output_content machine.sizes link live)) ≡ None
+  pub covered : first_outside link (section_records link.plan.sections records) (is_emitted (output_content machine.sizes link live)) ≡ None
   pub inside : merge_offsets link live ≡ []
-  pub same : layout ≡ layout_of machine.sizes link live records
+  pub same : layout ≡ layout_of (made_of machine link live states records)
+
+-- what it is made of
+abbrev pub made_by : {machine : Machine} {link : LinkInput} {layout : LayoutRecord} → IsLaidOut machine link layout → Made
+made_by {machine} {link} laid = made_of machine link laid.live laid.states laid.records
 
 -- a layout is no refusal
-passed : (refusal : Option LayoutError) (layout : Layout) (P : Type 0) → Unless refusal (Ok layout) P → (refusal ≡ None) × P
+passed : (refusal : Option LayoutError) (layout : LayoutRecord) (P : Type 0) → Unless refusal (Ok layout) P → (refusal ≡ None) × P
 passed None layout P h = (refl, h)
 passed (Some e) layout P h = absurd (cc)
 
@@ -68,7 +73,7 @@ none_first : (places : List MergeOffsetPlace) → slice_get places 0 ≡ None �
 none_first [] h = refl
 none_first (place ∷ places) h = absurd (cc)
 
-pub laid_out : WellFormedExactlyUnfaulted → (machine : Machine) (link : LinkInput) (layout : Layout) → IsDefined machine link (Ok layout) → IsLaidOut machine link layout
+pub laid_out : WellFormedExactlyUnfaulted → (machine : Machine) (link : LinkInput) (layout : LayoutRecord) → IsDefined machine link (Ok layout) → IsLaidOut machine link layout
 laid_out exactly machine link layout defined =
     let fault = passed (fault_refusal link) layout _ defined in
     let all = passed (uncarried_refusal link) layout _ fault.1 in
@@ -77,11 +82,12 @@ laid_out exactly machine link layout defined =
     let reached = met.1 in
     let sizes = passed (sizes_refusal machine.sizes link reached.0) layout _ reached.2 in
     let placed = sizes.1 in
-    let walk = passed (walk_refusal machine link reached.0 placed.0 placed.1) layout _ placed.3 in
-    let joined = passed (joining_refusal link placed.1) layout _ walk.1 in
-    let segments = passed (segment_refusal machine.sizes link reached.0 placed.1) layout _ joined.1 in
-    let offsets = passed (offsets_refusal link reached.0) layout _ segments.1 in
-    let is : layout ≡ layout_of machine.sizes link reached.0 placed.1 = let given : Ok layout ≡ Ok (layout_of machine.sizes link reached.0 placed.1) = offsets.1 in cc in
+    let made : Made = made_of machine link reached.0 placed.0 placed.1 in
+    let walk = passed (walk_refusal made) layout _ placed.3 in
+    let joined = passed (joining_refusal made) layout _ walk.1 in
+    let segments = passed (segment_refusal made) layout _ joined.1 in
+    let offsets = passed (offsets_refusal made) layout _ segments.1 in
+    let is : layout ≡ layout_of made = let given : Ok layout ≡ Ok (layout_of made) = offsets.1 in cc in
     record {
       good = unrefused exactly link fault.0;
       carried = none_of not_carried (first_uncarried link) all.0;
@@ -93,8 +99,8 @@ laid_out exactly machine link layout defined =
       records = placed.1;
       is = placed.2;
       unrefused = none_of place_error (placement_refusal (setting machine link reached.0) placed.0 placed.1) walk.0;
-      covered = none_outside (first_outside link (section_records link.plan.sections placed.1) (is_emitted link (output_content machine.sizes link reached.0))) _
-          (none_of place_error (segments_refusal FromSections link (section_records link.plan.sections placed.1) (is_emitted link (output_content machine.sizes link reached.0)) (active_segments link (output_content machine.sizes link reached.0))) segments.0);
+      covered = none_outside (first_outside link (section_records link.plan.sections placed.1) (is_emitted (output_content machine.sizes link reached.0))) _
+          (none_of place_error (segments_refusal FromSections link (section_records link.plan.sections placed.1) (is_emitted (output_content machine.sizes link reached.0)) (active_segments (output_content machine.sizes link reached.0))) segments.0);
       inside = none_first (merge_offsets link reached.0) (none_of offset_error (slice_get (merge_offsets link reached.0) 0) offsets.0);
       same = is;
     }

@@ -18,6 +18,7 @@ mod Placing
 mod PlacingRefused
 mod Positioned
 mod Pushing
+mod Reaching
 mod ReferencesShow
 mod Resolved
 mod Settings

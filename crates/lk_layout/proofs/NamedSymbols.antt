@@ -17,7 +17,7 @@ use Rattle.lk_link.specs.InputSlots.{is_merge}
 use Rattle.lk_link.specs.Inputs.{Input, NumberedFile, all_inputs, first_input, input_number, numbered_files}
 use Rattle.lk_link.specs.Marks.{is_marked}
 use Rattle.lk_link.specs.Symbols.{file_number, first_symbol, symbol_at}
-use Rattle.lk_link.specs.TableSizes.{Machine}
+use Rattle.lk_layout.specs.Machines.{Machine}
 use Rattle.lk_link.proofs.Elements.{append_left, flat_map_in}
 use Rattle.lk_link.proofs.InputLemmas.{file_stands, inputs_follow, numbered_get}
 use Rattle.lk_link.proofs.SymbolLemmas.{symbols_follow}
@@ -36,17 +36,17 @@ use Rattle.lk_merge.proofs.SymbolPlaces.{output_at, symbol_numbered}
 use Rattle.lk_tables.specs.SymbolEntries.{is_resolved}
 use Rattle.lk_sizes.specs.Images.{image_addresses}
 use Rattle.lk_sizes.specs.PartOwners.{live_address}
-use Rattle.lk_layout.specs.declared.layout.Layout.{Layout}
+use Rattle.lk_layout.specs.LayoutRecord.{LayoutRecord}
 use Rattle.lk_layout.specs.declared.outside.MergeOffsetPlace.{MergeOffsetPlace}
 use Rattle.lk_layout.specs.declared.outside.MergeOffsetPlace.TheVariants.{OfSymbol}
 use Rattle.lk_link.specs.declared.resolution.Resolution.{Resolution}
 use Rattle.lk_layout.specs.Defined.{starts_of}
-use Rattle.lk_layout.specs.OutputContent.{output_content}
+use Rattle.lk_layout.specs.OutputContent.{output_filling}
 use Rattle.lk_layout.specs.Outside.{merge_offsets, relocations_outside, symbol_outside, symbols_outside}
 use Rattle.lk_layout.specs.Entries.{EntrySetting}
 use Rattle.lk_layout.specs.Resolutions.{Places, entries_of, found_or_0, images_at, places_of, resolution_at, resolution_of}
 use Rattle.lk_layout.specs.Sound.{NamedSymbolsShow}
-use Rattle.lk_layout.proofs.LaidOut.{IsLaidOut}
+use Rattle.lk_layout.proofs.LaidOut.{IsLaidOut, made_by}
 use Rattle.lk_layout.proofs.Placing.{unmerged}
 use Rattle.lk_layout.proofs.Resolved.{in_file}
 use Rattle.lk_layout.proofs.Valued.{resolution_is, value_of}
@@ -124,7 +124,7 @@ not_live link live k x are there merged =
     let no : is_merge x.section.slot ≡ false = unmerged x.section.slot lives.slot in
     absurd (cc))
 
-pub named_symbols_show : (machine : Machine) (link : LinkInput) (layout : Layout) (laid : IsLaidOut machine link layout) → NamedSymbolsShow link laid.live layout
+pub named_symbols_show : (machine : Machine) (link : LinkInput) (layout : LayoutRecord) (laid : IsLaidOut machine link layout) → NamedSymbolsShow (made_by laid) layout
 named_symbols_show machine link layout laid id file i offset section there r placed at_i merged named =
     let groups = link.groups in
     let live : Live = laid.live in
@@ -143,8 +143,8 @@ named_symbols_show machine link layout laid id file i offset section there r pla
     let told : ℕ → ℕ = image_start layout.merged_string_start_addresses in
     let images : ℕ → ℕ = images_at machine.sizes link live starts in
     let image_is : told t ≡ images t
-    = ap (λ (l : Layout). image_start l.merged_string_start_addresses t) laid.same
-    ∙ starts_at (link_inputs link).outputs (image_addresses link (output_content machine.sizes link live) starts) t (merge_inputs link t) at_t in
+    = ap (λ (l : LayoutRecord). image_start l.merged_string_start_addresses t) laid.same
+    ∙ starts_at (link_inputs link).outputs (image_addresses (output_filling machine.sizes link live) starts) t (merge_inputs link t) at_t in
     let n : ℕ = offset_place fnv64 (merge_inputs link t) (merge_input place.number section) offset in
     let address : ℕ = plus_addend (images t + n) (pos 0) in
     let answer : (ℕ → ℕ) → Bool → Result (Option ℕ) OffsetPastEnd = λ from zero_unnamed. place_address link from (pos 0) zero_unnamed (Some place) in
@@ -153,13 +153,13 @@ named_symbols_show machine link layout laid id file i offset section there r pla
     let places : Places = places_of machine.sizes link live starts in
     let by : EntrySetting = entries_of machine.sizes link live starts in
     let none : places.live (first + i) offset ≡ None
-    = ap (λ b. if b then option_map (λ z. live_address link (output_content machine.sizes link live) starts z + offset) (slice_get (all_inputs groups) (first + i)) else None) (not_live link live (first + i) input laid.are_live at_input merged) in
+    = ap (λ b. if b then option_map (λ z. live_address (output_filling machine.sizes link live) starts z + offset) (slice_get (all_inputs groups) (first + i)) else None) (not_live link live (first + i) input laid.are_live at_input merged) in
     let value : unwrap_or (places.live (first + i) offset) (places.merged number) ≡ address
     = ap (λ (o : Option ℕ). unwrap_or o (places.merged number)) none
     ∙ ap (λ (o : Option MergePlace). found_or_0 (place_address link images (pos 0) true o)) is
     ∙ ap found_or_0 (found images true) in
     let read : resolution_at layout.symbol_resolutions number ≡ resolution_of places by file.kind first (number, x)
-    = ap (λ (l : Layout). resolution_at l.symbol_resolutions number) laid.same ∙ resolution_is machine.sizes link live starts id file r.index x there r.there in
+    = ap (λ (l : LayoutRecord). resolution_at l.symbol_resolutions number) laid.same ∙ resolution_is machine.sizes link live starts id file r.index x there r.there in
     let referred : merged_address link told number (pos 0) false ≡ Ok (Some address)
     = ap (place_address link told (pos 0) false) is ∙ found told false ∙ ap (λ m. Ok (Some (plus_addend (m + n) (pos 0)))) image_is in (
       address,

@@ -44,19 +44,19 @@ use Rattle.lk_layout.specs.Resolutions.{Places, address_at, file_resolutions, im
 use Rattle.lk_layout.specs.Tables.{HasRoom, HaveRoom, common_in, place_in, places_in}
 use Rattle.lk_layout.proofs.CommonsFound.{places_with, resolutions_alike}
 use Rattle.lk_sizes.specs.declared.addresses.CommonAddress.{CommonAddress}
-use Rattle.lk_layout.specs.OutputContent.{output_content}
+use Rattle.lk_layout.specs.OutputContent.{output_content, output_filling}
 use Rattle.lk_link.specs.TableSizes.{TableSizes}
 
 -- ---- the table
 
 -- the addresses of live sections, by number
 abbrev pub table : TableSizes → LinkInput → Live → List ℕ → List ℕ
-table sizes link live starts = section_addresses link (output_content sizes link live) starts
+table sizes link live starts = section_addresses (output_filling sizes link live) starts
 
 -- it has the address of each live one
 table_at : (sizes : TableSizes) (link : LinkInput) (live : Live) (starts : List ℕ) (k : ℕ) (x : Input) → slice_get (all_inputs link.groups) k ≡ Some x → is_marked live.marks k ≡ true
-    → slice_index_or (table sizes link live starts) k 0 ≡ live_address link (output_content sizes link live) starts x
-table_at sizes link live starts k x there set = address_by_number link (output_content sizes link live) starts k x there set
+    → slice_index_or (table sizes link live starts) k 0 ≡ live_address (output_filling sizes link live) starts x
+table_at sizes link live starts k x there set = address_by_number (output_filling sizes link live) starts k x there set
 
 -- what is marked is there
 marked_there : (link : LinkInput) (live : Live) (k : ℕ) → AreLive link live → is_marked live.marks k ≡ true → (x : Input) × (slice_get (all_inputs link.groups) k ≡ Some x)
@@ -68,7 +68,7 @@ marked_there link live k are set =
 
 place_at : (sizes : TableSizes) (link : LinkInput) (live : Live) (starts : List ℕ) (k offset : ℕ) → AreLive link live → place_in live.marks (table sizes link live starts) k offset ≡ address_at sizes link live starts k offset
 place_at sizes link live starts k offset are =
-    let place : Input → ℕ = λ x. live_address link (output_content sizes link live) starts x + offset in
+    let place : Input → ℕ = λ x. live_address (output_filling sizes link live) starts x + offset in
     elim (is_marked live.marks k) as (λ b. is_marked live.marks k ≡ b → (if b then Some (slice_index_or (table sizes link live starts) k 0 + offset) else None)
     ≡ (if b then option_map place (slice_get (all_inputs link.groups) k) else None)) [
       | true ↦ λ set.
@@ -100,12 +100,12 @@ size-le part size =
     ]
 
 -- a live section ends below 2^64
-ends : (sizes : TableSizes) (link : LinkInput) (live : Live) (starts : List ℕ) (k : ℕ) (x : Input) → slice_get (live_inputs link live) k ≡ Some x → EndsFit link (output_content sizes link live) starts
-    → x.section.part < length starts → live_address link (output_content sizes link live) starts x + x.section.size < 2 ^ 64
+ends : (sizes : TableSizes) (link : LinkInput) (live : Live) (starts : List ℕ) (k : ℕ) (x : Input) → slice_get (live_inputs link live) k ≡ Some x → EndsFit (output_filling sizes link live) starts
+    → x.section.part < length starts → live_address (output_filling sizes link live) starts x + x.section.size < 2 ^ 64
 ends sizes link live starts k x there fit within =
     omega (
       arith,
-      live_ends link (output_content sizes link live) starts k x there fit within,
+      live_ends (output_content sizes link live) starts k x there fit within,
       size-le (part_at link.plan.sections x.section.part) x.section.size,
     )
 
@@ -123,7 +123,7 @@ record IsSetting (sizes : TableSizes) (link : LinkInput) (live : Live) (starts :
   good : IsWellFormed link
   are_live : AreLive link live
   count : length starts ≡ length (all_parts link.plan.sections)
-  fit : EndsFit link (output_content sizes link live) starts
+  fit : EndsFit (output_filling sizes link live) starts
 
 section_room : (sizes : TableSizes) (link : LinkInput) (live : Live) (starts : List ℕ) (id : FileId) (file : InputFile) (i offset : ℕ) → IsSetting sizes link live starts → file_in link.groups id ≡ Some file
     → IsPlacementThere link.plan file.sections (at.Section i offset) → HasRoom live.marks (table sizes link live starts) (first_input link.groups id) (at.Section i offset)
@@ -156,7 +156,7 @@ placement_room sizes link live starts id file (at.Redirect e l provide) is there
 
 -- so do the places of all symbols
 pub have_room : (sizes : TableSizes) (link : LinkInput) (live : Live) (starts : List ℕ) → IsWellFormed link → AreLive link live → length starts ≡ length (all_parts link.plan.sections)
-    → EndsFit link (output_content sizes link live) starts → HaveRoom live.marks (table sizes link live starts) link.groups
+    → EndsFit (output_filling sizes link live) starts → HaveRoom live.marks (table sizes link live starts) link.groups
 have_room sizes link live starts good are count fit = λ id file there k d lt.
     let x : InputSymbol = get_or file.symbols k d in
     let is : IsSetting sizes link live starts = record { good = good; are_live = are; count = count; fit = fit } in
@@ -167,7 +167,7 @@ have_room sizes link live starts good are count fit = λ id file there k d lt.
 -- parts that take the bytes of their owners, and end below 2^64, have owners that do
 pub ends_fit : (sizes : TableSizes) (link : LinkInput) (live : Live) (records : List Record) (starts : List ℕ) → starts ≡ starts_of records
     → ((p : ℕ) → p < length records → slice_index starts p + (record_at records p).mem_size < 2 ^ 64)
-    → ((p : ℕ) → p < length records → (record_at records p).mem_size ≡ part_size link (output_content sizes link live) p) → EndsFit link (output_content sizes link live) starts
+    → ((p : ℕ) → p < length records → (record_at records p).mem_size ≡ part_size (output_filling sizes link live) p) → EndsFit (output_filling sizes link live) starts
 ends_fit sizes link live records starts is fit takes p below =
     let within : p < length records = omega (arith, below, ap length is, length-map records (λ (r : Record). r.mem_offset)) in
     omega (arith, fit p within, takes p within)
@@ -183,7 +183,7 @@ room_by marks read addresses table groups is_marks is_table h =
 
 -- and the same resolutions
 pub resolutions_by : (sizes : TableSizes) (link : LinkInput) (live : Live) (starts wanted own : List ℕ) (marks : List Bool) (addresses buckets : List ℕ) (commons : List CommonAddress) (told : List Bool) (items : List (Option Resolution)) → AreLive link live
-    → marks ≡ live.marks → addresses ≡ table sizes link live starts → commons ≡ common_addresses link (output_content sizes link live) starts → told ≡ (header_info link (output_content sizes link live)).emitted
+    → marks ≡ live.marks → addresses ≡ table sizes link live starts → commons ≡ common_addresses (output_filling sizes link live) starts → told ≡ (header_info (output_content sizes link live)).emitted
     → starts ≡ wanted → own ≡ wanted → merged_value link (image_start buckets) ≡ merged_value link (images_at sizes link live wanted)
     → items ≡ flat_map (file_resolutions (places_in marks addresses commons link buckets) (entry_setting sizes link live told own)) (numbered_files link.groups) → items ≡ symbol_resolutions sizes link live wanted
 resolutions_by sizes link live starts wanted own marks addresses buckets commons told items are is_marks is_table is_commons is_told is_starts is_own is_merged made =
@@ -191,10 +191,10 @@ resolutions_by sizes link live starts wanted own marks addresses buckets commons
     let both : (ℕ → ℕ → Option ℕ) → List CommonAddress → (ℕ → ℕ) → Places = λ place cs values. record { live = place; common = λ p s. common_in cs s; merged = values } in
     let place : place_in marks addresses ≡ address_at sizes link live wanted
     = ap (λ (ms : List Bool). place_in ms addresses) is_marks ∙ ap (place_in live.marks) is_table ∙ places_are sizes link live starts are ∙ ap (address_at sizes link live) is_starts in
-    let commons_are : commons ≡ common_addresses link (output_content sizes link live) wanted = is_commons ∙ ap (common_addresses link (output_content sizes link live)) is_starts in
+    let commons_are : commons ≡ common_addresses (output_filling sizes link live) wanted = is_commons ∙ ap (common_addresses (output_filling sizes link live)) is_starts in
     made ∙ ap (λ at. all (both at commons (merged_value link (image_start buckets))) told own) place
     ∙ ap (λ cs. all (both (address_at sizes link live wanted) cs (merged_value link (image_start buckets))) told own) commons_are
-    ∙ ap (λ values. all (both (address_at sizes link live wanted) (common_addresses link (output_content sizes link live) wanted) values) told own) is_merged
+    ∙ ap (λ values. all (both (address_at sizes link live wanted) (common_addresses (output_filling sizes link live) wanted) values) told own) is_merged
     ∙ ap (λ (ts : List Bool). all (places_with sizes link live wanted) ts own) is_told
-    ∙ ap (all (places_with sizes link live wanted) (header_info link (output_content sizes link live)).emitted) is_own
+    ∙ ap (all (places_with sizes link live wanted) (header_info (output_content sizes link live)).emitted) is_own
     ∙ resolutions_alike sizes link live wanted

@@ -12,7 +12,7 @@ use Rattle.lk_link.specs.declared.section.InputSection.{InputSection}
 use Rattle.lk_link.specs.InputSlots.{is_regular}
 use Rattle.lk_link.specs.Inputs.{NumberedFile, numbered_files}
 use Rattle.lk_link.specs.Symbols.{file_number, first_symbol}
-use Rattle.lk_link.specs.TableSizes.{Machine}
+use Rattle.lk_layout.specs.Machines.{Machine}
 use Rattle.lk_link.proofs.Elements.{append_right, flat_map_in}
 use Rattle.lk_link.proofs.InputLemmas.{file_stands, numbered_get}
 use Rattle.lk_gc.specs.declared.live.Live.{Live}
@@ -25,12 +25,12 @@ use Rattle.lk_merge.specs.MergedReferences.{inputs_with, moved}
 use Rattle.lk_merge.specs.OffsetsOutside.{is_reference_outside, refers_outside}
 use Rattle.lk_merge.specs.OutputAddresses.{MergePlace, address_in, chosen_offset, merged_address, offset_place, output_of, past_end, place_address, plus_addend, symbol_place}
 use Rattle.lk_merge.proofs.MergedReferences.{merged_references_show}
-use Rattle.lk_layout.specs.declared.layout.Layout.{Layout}
+use Rattle.lk_layout.specs.LayoutRecord.{LayoutRecord}
 use Rattle.lk_layout.specs.declared.outside.MergeOffsetPlace.{MergeOffsetPlace}
 use Rattle.lk_layout.specs.declared.outside.MergeOffsetPlace.TheVariants.{OfRelocation}
 use Rattle.lk_layout.specs.Outside.{merge_offsets, relocation_outside, relocations_outside, section_outside, symbols_outside}
 use Rattle.lk_layout.specs.Sound.{IsReference, ReferencesShow}
-use Rattle.lk_layout.proofs.LaidOut.{IsLaidOut}
+use Rattle.lk_layout.proofs.LaidOut.{IsLaidOut, made_by}
 use Rattle.lk_layout.proofs.NamedSymbols.{has_none, past_tells}
 
 -- ---- it chooses inside the data
@@ -89,7 +89,7 @@ answered link starts place addend address false found =
     let made : Option ℕ → Result (Option ℕ) OffsetPastEnd = λ o. option_map_or (λ a. Ok (Some a)) o (Err past_end) in
     ap made found
 
-pub references_show : (machine : Machine) (link : LinkInput) (layout : Layout) (laid : IsLaidOut machine link layout) → ReferencesShow link laid.live layout
+pub references_show : (machine : Machine) (link : LinkInput) (layout : LayoutRecord) (laid : IsLaidOut machine link layout) → ReferencesShow (made_by laid) layout
 references_show machine link layout laid id file i k r place is names =
     let s : ℕ = local_definition (first_symbol link.groups id) file.symbols r.symbol in
     let starts : ℕ → ℕ = image_start layout.merged_string_start_addresses in

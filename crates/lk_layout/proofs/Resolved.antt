@@ -41,7 +41,7 @@ use Rattle.lk_reach.proofs.PlainAsks.{resolved_is_reached}
 use Rattle.lk_reach.proofs.ReachLemmas.{marks_are_reached, reach_more}
 use Rattle.lk_reach.proofs.SymbolNumbers.{object_follows}
 use Rattle.lk_reach.proofs.UnitLemmas.{section_unit}
-use Rattle.lk_tables.specs.Copied.{can_resolve, is_canonical}
+use Rattle.lk_link.specs.Symbols.{can_resolve, is_canonical}
 use Rattle.lk_tables.specs.Late.{flags_at}
 use Rattle.lk_layout.specs.Laws.{ResolvedSectionsAreLive}
 

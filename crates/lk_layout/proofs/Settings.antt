@@ -11,7 +11,8 @@ use Rattle.lk_link.specs.declared.plan.PlanPart.{PlanPart}
 use Rattle.lk_link.specs.declared.plan.PlanSection.{PlanSection}
 use Rattle.lk_link.specs.declared.plan.PlanSegment.{PlanSegment}
 use Rattle.lk_link.specs.Parts.{all_parts}
-use Rattle.lk_link.specs.TableSizes.{Machine, TableSizes}
+use Rattle.lk_link.specs.TableSizes.{TableSizes}
+use Rattle.lk_layout.specs.Machines.{Machine}
 use Rattle.lk_link.specs.WellFormed.{IsWellFormed}
 use Rattle.lk_place.specs.declared.cursors.Cursors.{Cursors}
 use Rattle.lk_place.specs.Placement.{IsPlaced, placement_refusal}
@@ -25,7 +26,7 @@ use Rattle.lk_sizes.specs.Emitted.{active_segments, is_active}
 use Rattle.lk_sizes.specs.Owners.{by_part}
 use Rattle.lk_sizes.specs.PartOwners.{part_size, part_sizes}
 use Rattle.lk_layout.specs.Defined.{setting}
-use Rattle.lk_layout.specs.OutputContent.{output_content}
+use Rattle.lk_layout.specs.OutputContent.{output_content, output_filling}
 
 -- what is made by part, there is for each part
 pub length-by_part : {X : Type 0} (f : ℕ → X) (link : LinkInput) → length (by_part f link) ≡ length (all_parts link.plan.sections)
@@ -33,9 +34,9 @@ length-by_part f link =
     length-map (enumerate_from 0 (all_parts link.plan.sections)) (λ (q : ℕ × PlanPart). f q.0) ∙ length-enumerate_from 0 (all_parts link.plan.sections)
 
 -- there are contents for each part
-pub contents_count : (sizes : TableSizes) (link : LinkInput) (live : Live) (contents : List PartContents) → contents ≡ part_contents link (output_content sizes link live)
+pub contents_count : (sizes : TableSizes) (link : LinkInput) (live : Live) (contents : List PartContents) → contents ≡ part_contents (output_filling sizes link live)
     → length contents ≡ length (all_parts link.plan.sections)
-contents_count sizes link live contents are = ap length are ∙ length-by_part (contents_of link (output_content sizes link live)) link
+contents_count sizes link live contents are = ap length are ∙ length-by_part (contents_of (output_filling sizes link live)) link
 
 -- there is a record for each section
 pub length-section_records : (sections : List PlanSection) (parts : List Record) → length (section_records sections parts) ≡ length sections
@@ -44,24 +45,24 @@ length-section_records sections parts =
 
 -- its plan can be walked
 pub ready : (machine : Machine) (link : LinkInput) (live : Live) → IsWellFormed link → IsReady (setting machine link live)
-ready machine link live good = record { events = good.events; sections = good.sections; sizes = length-by_part (part_size link (output_content machine.sizes link live)) link }
+ready machine link live good = record { events = good.events; sections = good.sections; sizes = length-by_part (part_size (output_filling machine.sizes link live)) link }
 
 -- the size of a part, by its number
-pub size_of : (sizes : TableSizes) (link : LinkInput) (live : Live) (p : ℕ) → p < length (all_parts link.plan.sections) → slice_index_or (part_sizes link (output_content sizes link live)) p 0 ≡ part_size link (output_content sizes link live) p
+pub size_of : (sizes : TableSizes) (link : LinkInput) (live : Live) (p : ℕ) → p < length (all_parts link.plan.sections) → slice_index_or (part_sizes (output_filling sizes link live)) p 0 ≡ part_size (output_filling sizes link live) p
 size_of sizes link live p within =
     let parts : List PlanPart = all_parts link.plan.sections in
     let none : PlanPart = record { alignment = 1; packed = false } in
-    let size : ℕ × PlanPart → ℕ = λ q. part_size link (output_content sizes link live) q.0 in
+    let size : ℕ × PlanPart → ℕ = λ q. part_size (output_filling sizes link live) q.0 in
     get_or-map size (enumerate_from 0 parts) p (0, none) 0 (omega (arith, within, length-enumerate_from 0 parts))
     ∙ ap size (get_or-enumerate_from 0 parts p (0, none) within)
-    ∙ ap (part_size link (output_content sizes link live)) (zero-add p)
+    ∙ ap (part_size (output_filling sizes link live)) (zero-add p)
 
 -- each part that is placed takes the bytes of its owners
 pub takes : PartsTakeTheirBytes → (machine : Machine) (link : LinkInput) (live : Live) (states : List Cursors) (records : List Record) → IsWellFormed link
     → IsPlaced (setting machine link live) states records → placement_refusal (setting machine link live) states records ≡ None
-    → (p : ℕ) → p < length records → (record_at records p).mem_size ≡ part_size link (output_content machine.sizes link live) p
+    → (p : ℕ) → p < length records → (record_at records p).mem_size ≡ part_size (output_filling machine.sizes link live) p
 takes law machine link live states records good is unrefused p below =
-    let all : map (λ r. r.mem_size) records ≡ part_sizes link (output_content machine.sizes link live) = law (setting machine link live) states records (ready machine link live good) is unrefused in
+    let all : map (λ r. r.mem_size) records ≡ part_sizes (output_filling machine.sizes link live) = law (setting machine link live) states records (ready machine link live good) is unrefused in
     sym (get_or-map (λ (r : Record). r.mem_size) records p nowhere 0 below)
     ∙ ap (λ (sizes : List ℕ). slice_index_or sizes p 0) all
     ∙ size_of machine.sizes link live p (omega (arith, is.each))
@@ -76,7 +77,7 @@ below p o n (x ∷ xs) h =
     elim (p o) as (λ b. AllByRecursion (λ i. i < n) (cond b (o ∷ rest) rest)) [ true ↦ (omega arith, later) | false ↦ later ]
 
 -- they are there
-pub active_there : (sizes : TableSizes) (link : LinkInput) (live : Live) → All (λ i. i < length link.plan.segments) (active_segments link (output_content sizes link live))
+pub active_there : (sizes : TableSizes) (link : LinkInput) (live : Live) → All (λ i. i < length link.plan.segments) (active_segments (output_content sizes link live))
 active_there sizes link live =
-    All-from_recursion (λ i. i < length link.plan.segments) (active_segments link (output_content sizes link live))
-    (below (is_active link (output_content sizes link live)) 0 (length link.plan.segments) link.plan.segments (omega arith))
+    All-from_recursion (λ i. i < length link.plan.segments) (active_segments (output_content sizes link live))
+    (below (is_active (output_content sizes link live)) 0 (length link.plan.segments) link.plan.segments (omega arith))

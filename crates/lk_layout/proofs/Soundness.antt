@@ -14,7 +14,6 @@ use Rattle.lk_link.specs.declared.link.LinkInput.{LinkInput}
 use Rattle.lk_link.specs.declared.plan.PlanPart.{PlanPart}
 use Rattle.lk_link.specs.Inputs.{Input}
 use Rattle.lk_link.specs.Parts.{all_parts, part_at}
-use Rattle.lk_link.specs.TableSizes.{Machine, TableSizes}
 use Rattle.lk_link.specs.WellFormed.{IsWellFormed}
 use Rattle.lk_place.specs.Laws.{FileRangesAreDisjoint, IsSoundlySet, KeepAlignments, MemoryRangesAreDisjoint, PlainMemoryIsCongruent, PlainMemoryIsDisjoint, RecordsKeepAlignments}
 use Rattle.lk_place.specs.PlacementLaws.{PartsTakeTheirBytes, RefusedExactlyPast}
@@ -29,9 +28,9 @@ use Rattle.lk_sizes.specs.PartOwners.{LiveSectionsAreOwners, owner_number, owner
 use Rattle.lk_sizes.specs.Tiles.{HasByte, IsTiled, OwnersAreAligned, OwnersTileTheirPart}
 use Rattle.lk_sizes.proofs.Numbering.{table_tells_live_sections}
 use Rattle.lk_sizes.proofs.LiveOnes.{Differ, Pairwise, live_differ, live_goes, live_good}
-use Rattle.lk_layout.specs.declared.layout.Layout.{Layout}
+use Rattle.lk_layout.specs.LayoutRecord.{LayoutRecord}
 use Rattle.lk_layout.specs.Defined.{setting, starts_of}
-use Rattle.lk_layout.specs.Machines.{IsLawfulMachine}
+use Rattle.lk_layout.specs.Machines.{IsLawfulMachine, Machine}
 use Rattle.lk_layout.specs.Layouts.{told_live}
 use Rattle.lk_layout.specs.Laws.{DefinedLayoutsAreSound, LaidOutMemoryIsDisjoint, LaidOutSectionsAreApart}
 use Rattle.lk_layout.specs.Resolutions.{symbol_resolutions}
@@ -40,7 +39,7 @@ use Rattle.lk_layout.proofs.CommonsStand.{commons_stand}
 use Rattle.lk_layout.proofs.EntriesStand.{entries_stand}
 use Rattle.lk_layout.proofs.TablesAlone.{tables_alone}
 use Rattle.lk_layout.proofs.Fitting.{buckets_start}
-use Rattle.lk_layout.proofs.LaidOut.{IsLaidOut, laid_out}
+use Rattle.lk_layout.proofs.LaidOut.{IsLaidOut, made_by, laid_out}
 use Rattle.lk_layout.proofs.ImagesShow.{images_stand}
 use Rattle.lk_layout.proofs.NamedSymbols.{named_symbols_show}
 use Rattle.lk_layout.proofs.PartStarts.{part_starts}
@@ -50,70 +49,73 @@ use Rattle.lk_layout.proofs.Resolved.{resolved_sections_are_live}
 use Rattle.lk_layout.proofs.Settings.{ready, size_of, takes}
 use Rattle.lk_layout.proofs.Valued.{values_are_in_live_sections}
 use Rattle.lk_link.proofs.Elements.{contains_at, map_in}
-use Rattle.lk_layout.specs.OutputContent.{output_content}
+use Rattle.lk_layout.specs.OutputContent.{output_content, output_filling}
+use Rattle.lk_layout.specs.Made.{Made, made_content, made_filling, made_of}
+use Rattle.lk_sizes.proofs.OwnSizes.{live_own_size}
 
 -- ---- the layout and its records
 
-parts_are : (machine : Machine) (link : LinkInput) (layout : Layout) (laid : IsLaidOut machine link layout) → layout.section_part_layouts ≡ laid.records
-parts_are machine link layout laid = ap (λ (l : Layout). l.section_part_layouts) laid.same
+parts_are : (machine : Machine) (link : LinkInput) (layout : LayoutRecord) (laid : IsLaidOut machine link layout) → layout.section_part_layouts ≡ laid.records
+parts_are machine link layout laid = ap (λ (l : LayoutRecord). l.section_part_layouts) laid.same
 
-shown : (machine : Machine) (link : LinkInput) (layout : Layout) (laid : IsLaidOut machine link layout) → told_live link layout ≡ live_sections link (output_content machine.sizes link laid.live) (starts_of layout.section_part_layouts)
+shown : (machine : Machine) (link : LinkInput) (layout : LayoutRecord) (laid : IsLaidOut machine link layout) → told_live link layout ≡ live_sections (output_filling machine.sizes link laid.live) (starts_of layout.section_part_layouts)
 shown machine link layout laid =
-    ap (told_live link) laid.same ∙ table_tells_live_sections link (output_content machine.sizes link laid.live) (starts_of laid.records)
-    ∙ ap (λ (rs : List Record). live_sections link (output_content machine.sizes link laid.live) (starts_of rs)) (sym (parts_are machine link layout laid))
+    ap (told_live link) laid.same ∙ table_tells_live_sections (output_content machine.sizes link laid.live) (starts_of laid.records)
+    ∙ ap (λ (rs : List Record). live_sections (output_filling machine.sizes link laid.live) (starts_of rs)) (sym (parts_are machine link layout laid))
 
-resolved : (machine : Machine) (link : LinkInput) (layout : Layout) (laid : IsLaidOut machine link layout)
+resolved : (machine : Machine) (link : LinkInput) (layout : LayoutRecord) (laid : IsLaidOut machine link layout)
     → layout.symbol_resolutions ≡ symbol_resolutions machine.sizes link laid.live (starts_of layout.section_part_layouts)
 resolved machine link layout laid =
-    ap (λ (l : Layout). l.symbol_resolutions) laid.same
+    ap (λ (l : LayoutRecord). l.symbol_resolutions) laid.same
     ∙ ap (λ (rs : List Record). symbol_resolutions machine.sizes link laid.live (starts_of rs)) (sym (parts_are machine link layout laid))
 
 -- what is told of the outputs
-outputs_told : (machine : Machine) (link : LinkInput) (layout : Layout) (laid : IsLaidOut machine link layout) → AreOutputsTold machine.sizes link laid.live layout
+outputs_told : (machine : Machine) (link : LinkInput) (layout : LayoutRecord) (laid : IsLaidOut machine link layout) → AreOutputsTold (made_by laid) layout
 outputs_told machine link layout laid =
-    subst (AreOutputsTold machine.sizes link laid.live) (sym laid.same)
+    subst (AreOutputsTold (made_by laid)) (sym laid.same)
     (record { sections = refl; joined = refl; attributes = refl; indexes = refl; segments = refl; thread_local = refl; covered = laid.covered })
 
 -- the owners of each part share it out
-shared_out : OwnersTileTheirPart → PartsTakeTheirBytes → (machine : Machine) (link : LinkInput) (layout : Layout) (laid : IsLaidOut machine link layout) (p : ℕ) → p < length (all_parts link.plan.sections)
-    → IsSharedOut machine.sizes link laid.live layout p
+shared_out : OwnersTileTheirPart → PartsTakeTheirBytes → (machine : Machine) (link : LinkInput) (layout : LayoutRecord) (laid : IsLaidOut machine link layout) (p : ℕ) → p < length (all_parts link.plan.sections)
+    → IsSharedOut (made_by laid) layout p
 shared_out tile mass machine link layout laid p within = record {
   whole = ap (λ rs. (record_at rs p).mem_size) (parts_are machine link layout laid)
       ∙ takes mass machine link laid.live laid.states laid.records laid.good laid.is laid.unrefused p (omega (arith, within, laid.is.each));
-  tiled = tile link (output_content machine.sizes link laid.live) p (part_record layout p).mem_offset;
+  tiled = tile (output_filling machine.sizes link laid.live) p (part_record layout p).mem_offset;
 }
 
 -- ---- one live section
 
 -- a live section that is told stands among the owners of its part
-record Stands (sizes : TableSizes) (link : LinkInput) (live : Live) (layout : Layout) (x : Input) (l : LiveSection) : Type 0 where
-  address : l.address ≡ owner_address (part_record layout x.section.part).mem_offset (part_at link.plan.sections x.section.part) (owners_of link (output_content sizes link live) x.section.part) (owner_number link (output_content sizes link live) x)
+record Stands (made : Made) (layout : LayoutRecord) (x : Input) (l : LiveSection) : Type 0 where
+  address : l.address ≡ owner_address (part_record layout x.section.part).mem_offset (part_at made.link.plan.sections x.section.part) (owners_of (made_filling made) x.section.part) (owner_number (made_filling made) x)
   size : l.size ≡ x.section.size
-  owner : slice_get (owners_of link (output_content sizes link live) x.section.part) (owner_number link (output_content sizes link live) x) ≡ Some (SectionOwner x x.section.size)
+  owner : slice_get (owners_of (made_filling made) x.section.part) (owner_number (made_filling made) x) ≡ Some (SectionOwner x x.section.size)
 
-stands : LiveSectionsAreOwners → (sizes : TableSizes) (link : LinkInput) (live : Live) (layout : Layout) (a : ℕ) (x : Input) (l : LiveSection)
-    → told_live link layout ≡ live_sections link (output_content sizes link live) (starts_of layout.section_part_layouts) → IsTold link live layout a x l → Stands sizes link live layout x l
-stands owners sizes link live layout a x l is told =
+stands : LiveSectionsAreOwners → (made : Made) (layout : LayoutRecord) (a : ℕ) (x : Input) (l : LiveSection)
+    → told_live made.link layout ≡ live_sections (made_filling made) (starts_of layout.section_part_layouts) → IsTold made layout a x l → Stands made layout x l
+stands owners made layout a x l is told =
     let records : List Record = layout.section_part_layouts in
-    let made : slice_get (live_sections link (output_content sizes link live) (starts_of records)) a ≡ Some (live_section link (output_content sizes link live) (starts_of records) x) = map_in (live_section link (output_content sizes link live) (starts_of records)) (live_inputs link live) a x told.there in
-    let here : Some l ≡ Some (live_section link (output_content sizes link live) (starts_of records) x) = sym told.told ∙ ap (λ (ls : List LiveSection). slice_get ls a) is ∙ made in
-    let same : l ≡ live_section link (output_content sizes link live) (starts_of records) x = cc in
+    let given : slice_get (live_sections (made_filling made) (starts_of records)) a ≡ Some (live_section (made_filling made) (starts_of records) x) = map_in (live_section (made_filling made) (starts_of records)) (live_inputs made.link made.live) a x told.there in
+    let here : Some l ≡ Some (live_section (made_filling made) (starts_of records) x) = sym told.told ∙ ap (λ (ls : List LiveSection). slice_get ls a) is ∙ given in
+    let same : l ≡ live_section (made_filling made) (starts_of records) x = cc in
     let start : slice_index (starts_of records) x.section.part ≡ (record_at records x.section.part).mem_offset = lists.get_or-map (λ (r : Record). r.mem_offset) records x.section.part nowhere in
     record {
       address = ap (λ (m : LiveSection). m.address) same
-          ∙ ap (λ (n : ℕ). owner_address n (part_at link.plan.sections x.section.part) (owners_of link (output_content sizes link live) x.section.part) (owner_number link (output_content sizes link live) x)) start;
-      size = ap (λ (m : LiveSection). m.size) same;
-      owner = owners link (output_content sizes link live) x (contains_at (live_inputs link live) a x told.there);
+          ∙ ap (λ (n : ℕ). owner_address n (part_at made.link.plan.sections x.section.part) (owners_of (made_filling made) x.section.part) (owner_number (made_filling made) x)) start;
+      size = ap (λ (m : LiveSection). m.size) same ∙ live_own_size (made_content made) a x told.there;
+      owner = owners (made_filling made) x (contains_at (live_inputs made.link made.live) a x told.there)
+          ∙ ap (λ (n : ℕ). Some (SectionOwner x n)) (live_own_size (made_content made) a x told.there);
     }
 
 -- the bytes of a live section are its owner's
-has_byte : (sizes : TableSizes) (link : LinkInput) (live : Live) (layout : Layout) (x : Input) (l : LiveSection) (address : ℕ) → Stands sizes link live layout x l → IsInSection address l
-    → HasByte (part_record layout x.section.part).mem_offset (part_at link.plan.sections x.section.part) (owners_of link (output_content sizes link live) x.section.part) (owner_number link (output_content sizes link live) x) address
-has_byte sizes link live layout x l address s here = record {
+has_byte : (made : Made) (layout : LayoutRecord) (x : Input) (l : LiveSection) (address : ℕ) → Stands made layout x l → IsInSection address l
+    → HasByte (part_record layout x.section.part).mem_offset (part_at made.link.plan.sections x.section.part) (owners_of (made_filling made) x.section.part) (owner_number (made_filling made) x) address
+has_byte made layout x l address s here = record {
   owner = SectionOwner x x.section.size;
   there = s.owner;
   from = omega (arith, s.address, here.begins);
-  below = omega (arith, s.address, s.size, here.ends, size-le (part_at link.plan.sections x.section.part) x.section.size);
+  below = omega (arith, s.address, s.size, here.ends, size-le (part_at made.link.plan.sections x.section.part) x.section.size);
 }
 
 -- ---- live sections stand apart
@@ -138,38 +140,38 @@ one_owner link live a b x y other at_a at_b same =
       | inr more ↦ differ_at xs b a y x (live_differ link live) (omega (arith, other)) at_b at_a (ap (λ (z : Input). z.file) (sym same)) (ap (λ (z : Input). z.index) (sym same))
     ]
 
-sections_apart : LiveSectionsAreOwners → (sizes : TableSizes) (link : LinkInput) (live : Live) (layout : Layout) → IsWellFormed link → AreLive link live
-    → told_live link layout ≡ live_sections link (output_content sizes link live) (starts_of layout.section_part_layouts)
-    → ((p : ℕ) → p < length (all_parts link.plan.sections) → IsSharedOut sizes link live layout p)
-    → MemoryIsDisjoint link.plan layout.section_part_layouts → LiveSectionsAreApart link live layout
-sections_apart owners sizes link live layout good are_live is shared memory a b address x y l m other told_a told_b memory_a memory_b here there =
+sections_apart : LiveSectionsAreOwners → (made : Made) (layout : LayoutRecord) → IsWellFormed made.link → AreLive made.link made.live
+    → told_live made.link layout ≡ live_sections (made_filling made) (starts_of layout.section_part_layouts)
+    → ((p : ℕ) → p < length (all_parts made.link.plan.sections) → IsSharedOut made layout p)
+    → MemoryIsDisjoint made.link.plan layout.section_part_layouts → LiveSectionsAreApart made layout
+sections_apart owners made layout good are_live is shared memory a b address x y l m other told_a told_b memory_a memory_b here there =
     let p : ℕ = x.section.part in
     let q : ℕ = y.section.part in
-    let first = has_byte sizes link live layout x l address (stands owners sizes link live layout a x l is told_a) here in
-    let second = has_byte sizes link live layout y m address (stands owners sizes link live layout b y m is told_b) there in
-    let of_p = shared p (live_goes link live a x good are_live told_a.there) in
-    let of_q = shared q (live_goes link live b y good are_live told_b.there) in
-    let in_p = of_p.tiled.inside (owner_number link (output_content sizes link live) x) address first in
-    let in_q = of_q.tiled.inside (owner_number link (output_content sizes link live) y) address second in
+    let first = has_byte made layout x l address (stands owners made layout a x l is told_a) here in
+    let second = has_byte made layout y m address (stands owners made layout b y m is told_b) there in
+    let of_p = shared p (live_goes made.link made.live a x good are_live told_a.there) in
+    let of_q = shared q (live_goes made.link made.live b y good are_live told_b.there) in
+    let in_p = of_p.tiled.inside (owner_number (made_filling made) x) address first in
+    let in_q = of_q.tiled.inside (owner_number (made_filling made) y) address second in
     elim (eqb_tells p q) [
       | inr miss ↦ memory p q address miss.1 memory_a memory_b
           (record { begins = in_p.0; ends = omega (arith, in_p.1, of_p.whole) }) (record { begins = in_q.0; ends = omega (arith, in_q.1, of_q.whole) })
       | inl hit ↦
-          let owned : ℕ → ℕ → Type 0 = λ r k. HasByte (part_record layout r).mem_offset (part_at link.plan.sections r) (owners_of link (output_content sizes link live) r) k address in
-          let beside : owned p (owner_number link (output_content sizes link live) y) = subst (λ r. owned r (owner_number link (output_content sizes link live) y)) (sym hit.1) second in
-          let number : owner_number link (output_content sizes link live) x ≡ owner_number link (output_content sizes link live) y = of_p.tiled.apart (owner_number link (output_content sizes link live) x) (owner_number link (output_content sizes link live) y) address first beside in
-          let mine : slice_get (owners_of link (output_content sizes link live) p) (owner_number link (output_content sizes link live) x) ≡ Some (SectionOwner x x.section.size) = (stands owners sizes link live layout a x l is told_a).owner in
-          let yours : slice_get (owners_of link (output_content sizes link live) q) (owner_number link (output_content sizes link live) y) ≡ Some (SectionOwner y y.section.size) = (stands owners sizes link live layout b y m is told_b).owner in
+          let owned : ℕ → ℕ → Type 0 = λ r k. HasByte (part_record layout r).mem_offset (part_at made.link.plan.sections r) (owners_of (made_filling made) r) k address in
+          let beside : owned p (owner_number (made_filling made) y) = subst (λ r. owned r (owner_number (made_filling made) y)) (sym hit.1) second in
+          let number : owner_number (made_filling made) x ≡ owner_number (made_filling made) y = of_p.tiled.apart (owner_number (made_filling made) x) (owner_number (made_filling made) y) address first beside in
+          let mine : slice_get (owners_of (made_filling made) p) (owner_number (made_filling made) x) ≡ Some (SectionOwner x x.section.size) = (stands owners made layout a x l is told_a).owner in
+          let yours : slice_get (owners_of (made_filling made) q) (owner_number (made_filling made) y) ≡ Some (SectionOwner y y.section.size) = (stands owners made layout b y m is told_b).owner in
           let both : Some (SectionOwner x x.section.size) ≡ Some (SectionOwner y y.section.size)
-          = sym mine ∙ ap (λ (r : ℕ). slice_get (owners_of link (output_content sizes link live) r) (owner_number link (output_content sizes link live) x)) hit.1 ∙ ap (slice_get (owners_of link (output_content sizes link live) q)) number ∙ yours in
+          = sym mine ∙ ap (λ (r : ℕ). slice_get (owners_of (made_filling made) r) (owner_number (made_filling made) x)) hit.1 ∙ ap (slice_get (owners_of (made_filling made) q)) number ∙ yours in
           let same : x ≡ y = cc in
-          one_owner link live a b x y other told_a.there told_b.there same
+          one_owner made.link made.live a b x y other told_a.there told_b.there same
     ]
 
 -- no two owners have a byte together
-owners_apart : (sizes : TableSizes) (link : LinkInput) (live : Live) (layout : Layout) → ((p : ℕ) → p < length (all_parts link.plan.sections) → IsSharedOut sizes link live layout p)
-    → MemoryIsDisjoint link.plan layout.section_part_layouts → OwnersAreApart sizes link live layout
-owners_apart sizes link live layout shared memory p q j k address below_p below_q memory_p memory_q first second =
+owners_apart : (made : Made) (layout : LayoutRecord) → ((p : ℕ) → p < length (all_parts made.link.plan.sections) → IsSharedOut made layout p)
+    → MemoryIsDisjoint made.link.plan layout.section_part_layouts → OwnersAreApart made layout
+owners_apart made layout shared memory p q j k address below_p below_q memory_p memory_q first second =
     let of_p = shared p below_p in
     let of_q = shared q below_q in
     let in_p = of_p.tiled.inside j address first in
@@ -178,7 +180,7 @@ owners_apart sizes link live layout shared memory p q j k address below_p below_
       | inr miss ↦ absurd (memory p q address miss.1 memory_p memory_q
           (record { begins = in_p.0; ends = omega (arith, in_p.1, of_p.whole) }) (record { begins = in_q.0; ends = omega (arith, in_q.1, of_q.whole) }))
       | inl hit ↦
-          let owned : ℕ → ℕ → Type 0 = λ r i. HasByte (part_record layout r).mem_offset (part_at link.plan.sections r) (owners_of link (output_content sizes link live) r) i address in
+          let owned : ℕ → ℕ → Type 0 = λ r i. HasByte (part_record layout r).mem_offset (part_at made.link.plan.sections r) (owners_of (made_filling made) r) i address in
           (hit.1, of_p.tiled.apart j k address first (subst (λ r. owned r k) (sym hit.1) second))
     ]
 
@@ -190,33 +192,33 @@ owner_within part start owners k address tiled h =
     let inside = tiled.inside k address h in
     omega (arith, inside.0, inside.1)
 
-sections_aligned : OwnersTileTheirPart → OwnersAreAligned → LiveSectionsAreOwners → (machine : Machine) (link : LinkInput) (layout : Layout) (laid : IsLaidOut machine link layout)
-    → LiveSectionsAreAligned link laid.live layout
+sections_aligned : OwnersTileTheirPart → OwnersAreAligned → LiveSectionsAreOwners → (machine : Machine) (link : LinkInput) (layout : LayoutRecord) (laid : IsLaidOut machine link layout)
+    → LiveSectionsAreAligned (made_by laid) layout
 sections_aligned tile aligned owners machine link layout laid a x l told some unpacked =
     let live : Live = laid.live in
     let p : ℕ = x.section.part in
-    let s : Stands machine.sizes link live layout x l = stands owners machine.sizes link live layout a x l (shown machine link layout laid) told in
+    let s : Stands (made_by laid) layout x l = stands owners (made_by laid) layout a x l (shown machine link layout laid) told in
     let within : p < length (all_parts link.plan.sections) = live_goes link live a x laid.good laid.are_live told.there in
-    let byte = has_byte machine.sizes link live layout x l l.address s (record { begins = omega arith; ends = omega (arith, some) }) in
-    let bytes : 0 < part_size link (output_content machine.sizes link live) p = owner_within (part_at link.plan.sections p) (part_record layout p).mem_offset (owners_of link (output_content machine.sizes link live) p) (owner_number link (output_content machine.sizes link live) x) l.address (tile link (output_content machine.sizes link live) p (part_record layout p).mem_offset) byte in
-    let size : slice_index_or (setting machine link live).sizes p 0 ≡ part_size link (output_content machine.sizes link live) p = size_of machine.sizes link live p within in
+    let byte = has_byte (made_by laid) layout x l l.address s (record { begins = omega arith; ends = omega (arith, some) }) in
+    let bytes : 0 < part_size (output_filling machine.sizes link live) p = owner_within (part_at link.plan.sections p) (part_record layout p).mem_offset (owners_of (output_filling machine.sizes link live) p) (owner_number (output_filling machine.sizes link live) x) l.address (tile (output_filling machine.sizes link live) p (part_record layout p).mem_offset) byte in
+    let size : slice_index_or (setting machine link live).sizes p 0 ≡ part_size (output_filling machine.sizes link live) p = size_of machine.sizes link live p within in
     let begins : (part_at link.plan.sections p).alignment ∣ (record_at laid.records p).mem_offset
     = part_starts machine link live laid.states laid.records p laid.good laid.is laid.unrefused within (omega (arith, bytes, size)) in
     let record_is : (record_at laid.records p).mem_offset ≡ (part_record layout p).mem_offset = ap (λ rs. (record_at rs p).mem_offset) (sym (parts_are machine link layout laid)) in
     subst (λ n. (part_at link.plan.sections p).alignment ∣ n) (sym s.address)
-    (dvd-add (part_at link.plan.sections p).alignment (subst (λ n. (part_at link.plan.sections p).alignment ∣ n) record_is begins) (aligned link (output_content machine.sizes link live) p (owner_number link (output_content machine.sizes link live) x) laid.good (live_good link live a x laid.good laid.are_live told.there).1.to_no_table unpacked))
+    (dvd-add (part_at link.plan.sections p).alignment (subst (λ n. (part_at link.plan.sections p).alignment ∣ n) record_is begins) (aligned (output_filling machine.sizes link live) p (owner_number (output_filling machine.sizes link live) x) laid.good (live_good link live a x laid.good laid.are_live told.there).1.to_no_table unpacked))
 
 -- ---- the laws
 
-soundly_set : (machine : Machine) (link : LinkInput) (layout : Layout) (laid : IsLaidOut machine link layout) → IsLawfulMachine machine → IsSoundlySet (setting machine link laid.live) laid.states laid.records
+soundly_set : (machine : Machine) (link : LinkInput) (layout : LayoutRecord) (laid : IsLaidOut machine link layout) → IsLawfulMachine machine → IsSoundlySet (setting machine link laid.live) laid.states laid.records
 soundly_set machine link layout laid lawful = record { ready = ready machine link laid.live laid.good; page = laid.good.page; lawful = lawful.target; placed = laid.is }
 
 -- a part of a layout starts at the same place in memory and in the file
-abbrev IsCongruentAt : LinkInput → Layout → ℕ → ℕ → Type 0
+abbrev IsCongruentAt : LinkInput → LayoutRecord → ℕ → ℕ → Type 0
 IsCongruentAt link l i p =
     (part_record l p).mem_offset % alignment_inside link.plan l.section_layouts i ≡ (part_record l p).file_offset % alignment_inside link.plan l.section_layouts i
 
-congruent : PlainMemoryIsCongruent → RecordsKeepAlignments → (machine : Machine) (link : LinkInput) (layout : Layout) (laid : IsLaidOut machine link layout) → IsLawfulMachine machine
+congruent : PlainMemoryIsCongruent → RecordsKeepAlignments → (machine : Machine) (link : LinkInput) (layout : LayoutRecord) (laid : IsLaidOut machine link layout) → IsLawfulMachine machine
     → IsPlain link.plan link.options.output → MemoryIsCongruent link layout
 congruent in_step keep machine link layout laid lawful plain i s k p places backed part =
     let live : Live = laid.live in
@@ -224,18 +226,19 @@ congruent in_step keep machine link layout laid lawful plain i s k p places back
     = keep (setting machine link live) laid.states laid.records (ready machine link live laid.good) laid.is (laid.is.ends laid.unrefused) in
     let found = in_step (setting machine link live) laid.states laid.records (soundly_set machine link layout laid lawful) plain i s k p places backed part in
     let there = subst (λ (n : ℕ). (record_at laid.records p).mem_offset % n ≡ (record_at laid.records p).file_offset % n) (sym (kept.segment i)) found in
-    subst (λ (l : Layout). IsCongruentAt link l i p) (sym laid.same) there
+    subst (λ (l : LayoutRecord). IsCongruentAt link l i p) (sym laid.same) there
 
 -- what is laid out is sound
 is_sound : OwnersTileTheirPart → OwnersAreAligned → LiveSectionsAreOwners → PartsTakeTheirBytes → RefusedExactlyPast → FileRangesAreDisjoint → PlainMemoryIsDisjoint → PlainMemoryIsCongruent → RecordsKeepAlignments
-    → (machine : Machine) (link : LinkInput) (layout : Layout) (laid : IsLaidOut machine link layout) → IsLawfulMachine machine → IsSound machine.sizes link laid.live layout
+    → (machine : Machine) (link : LinkInput) (layout : LayoutRecord) (laid : IsLaidOut machine link layout) → IsLawfulMachine machine → IsSound (made_by laid) layout
 is_sound tile aligned owners mass refused file memory in_step keep machine link layout laid lawful =
     let records : List Record = layout.section_part_layouts in
     record {
+      lent = ap (λ (l : LayoutRecord). l.link) laid.same;
       met = laid.met;
       reached = laid.are_live;
       shown = shown machine link layout laid;
-      merged = ap (λ (l : Layout). l.merged_strings) laid.same;
+      merged = ap (λ (l : LayoutRecord). l.merged_strings) laid.same;
       starts = buckets_start refused mass machine link layout laid;
       images = images_stand machine link layout laid;
       named = named_symbols_show machine link layout laid;
@@ -243,12 +246,12 @@ is_sound tile aligned owners mass refused file memory in_step keep machine link 
       inside = laid.inside;
       resolved = resolved machine link layout laid;
       placed = resolved_sections_are_live link laid.live laid.good laid.are_live laid.met;
-      valued = λ unrelaxed. values_are_in_live_sections machine.sizes link laid.live layout (starts_of records) (shown machine link layout laid) (resolved machine link layout laid)
+      valued = λ unrelaxed. values_are_in_live_sections (made_by laid) layout (starts_of records) (shown machine link layout laid) (resolved machine link layout laid)
           (resolved_sections_are_live link laid.live laid.good laid.are_live laid.met);
       commons = commons_stand tile aligned machine link layout laid (resolved machine link layout laid);
       alone = tables_alone machine.sizes link laid.live laid.good laid.are_live;
       entries = entries_stand machine link layout laid (tables_alone machine.sizes link laid.live laid.good laid.are_live) (resolved machine link layout laid);
-      entered = ap (λ (l : Layout). l.entry_symbol_id) laid.same;
+      entered = ap (λ (l : LayoutRecord). l.entry_symbol_id) laid.same;
       outputs = outputs_told machine link layout laid;
       aligned = sections_aligned tile aligned owners machine link layout laid;
       shared = shared_out tile mass machine link layout laid;
@@ -259,8 +262,8 @@ is_sound tile aligned owners mass refused file memory in_step keep machine link 
           (memory (setting machine link laid.live) laid.states laid.records (soundly_set machine link layout laid lawful) plain) in
           record {
             disjoint = disjoint;
-            apart = sections_apart owners machine.sizes link laid.live layout laid.good laid.are_live (shown machine link layout laid) (shared_out tile mass machine link layout laid) disjoint;
-            owners = owners_apart machine.sizes link laid.live layout (shared_out tile mass machine link layout laid) disjoint;
+            apart = sections_apart owners (made_by laid) layout laid.good laid.are_live (shown machine link layout laid) (shared_out tile mass machine link layout laid) disjoint;
+            owners = owners_apart (made_by laid) layout (shared_out tile mass machine link layout laid) disjoint;
             congruent = congruent in_step keep machine link layout laid lawful plain;
           };
     }
@@ -269,7 +272,7 @@ pub sound : WellFormedExactlyUnfaulted → OwnersTileTheirPart → OwnersAreAlig
     → DefinedLayoutsAreSound
 sound exactly tile aligned owners mass refused file memory in_step keep machine link layout lawful defined =
     let laid = laid_out exactly machine link layout defined in
-    (laid.live, is_sound tile aligned owners mass refused file memory in_step keep machine link layout laid lawful)
+    (laid.live, laid.states, laid.records, is_sound tile aligned owners mass refused file memory in_step keep machine link layout laid lawful)
 
 -- under a plan in which nothing moves, the memory of a layout is disjoint
 pub memory_disjoint : WellFormedExactlyUnfaulted → MemoryRangesAreDisjoint → LaidOutMemoryIsDisjoint
@@ -283,6 +286,7 @@ pub laid_out_apart : WellFormedExactlyUnfaulted → LiveSectionsAreOwners → De
 laid_out_apart exactly owners sound disjoint machine link layout placeable lawful defined =
     let good : IsWellFormed link = (laid_out exactly machine link layout defined).good in
     let found = sound machine link layout lawful defined in
-    let is : IsSound machine.sizes link found.0 layout = found.1 in
+    let made : Made = made_of machine link found.0 found.1 found.2 in
+    let is : IsSound made layout = found.3 in
     let memory : MemoryIsDisjoint link.plan layout.section_part_layouts = disjoint machine link layout placeable lawful defined in
-    (found.0, is, sections_apart owners machine.sizes link found.0 layout good is.reached is.shown is.shared memory, owners_apart machine.sizes link found.0 layout is.shared memory)
+    (found.0, found.1, found.2, (is, sections_apart owners made layout good is.reached is.shown is.shared memory, owners_apart made layout is.shared memory))

@@ -11,7 +11,7 @@ use Rattle.lk_link.specs.WellFormed.{IsWellFormed}
 use Rattle.lk_gc.specs.declared.live.Live.{Live}
 use Rattle.lk_gc.specs.Reach.{AreLive}
 use Rattle.lk_sizes.proofs.TableParts.{table_parts_have_entries_alone}
-use Rattle.lk_layout.specs.OutputContent.{output_content}
+use Rattle.lk_layout.specs.OutputContent.{output_filling}
 use Rattle.lk_layout.specs.Sound.{TablesStandAlone}
 
 -- the part of a table is a table part
@@ -21,4 +21,4 @@ named_is_table link k p named =
     list_any_at (is_part p) parts k (Some p) (slice_get_within parts k (Some p) named) (ap (is_part p) (get_or_from_slice_get parts k (Some p) (Some p) named) ∙ eq-eqb p p refl)
 
 pub tables_alone : (sizes : TableSizes) (link : LinkInput) (live : Live) → IsWellFormed link → AreLive link live → TablesStandAlone sizes link live
-tables_alone sizes link live good are k p named = table_parts_have_entries_alone link (output_content sizes link live) p good are (named_is_table link k p named)
+tables_alone sizes link live good are k p named = table_parts_have_entries_alone (output_filling sizes link live) p good are (named_is_table link k p named)

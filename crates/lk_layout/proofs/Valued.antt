@@ -1,5 +1,5 @@
 -- The value of a symbol that stands for a place in a section is the section's address, as it is told, and the offset there.
-use Rattle.std.proofs.Common.{◌≡◌, ℕ, ◌+◌, ◌<◌, get_or, true, false, if◌then◌else◌, List, length, map, sum_by, take, Option, Some, None, refl, sym, ap, ◌∙◌, arith}
+use Rattle.std.proofs.Common.{◌≡◌, ℕ, ◌+◌, ◌<◌, get_or, true, if◌then◌else◌, List, length, sum_by, take, Option, Some, None, refl, sym, ap, ◌∙◌, arith}
 use Rattle.std.specs.Prelude.{◌||◌, option_map, slice_get, unwrap_or}
 use Rattle.std.specs.List.{enumerate_from, flat_map}
 use Rattle.std.proofs.lemmas.List.{length-map}
@@ -26,16 +26,17 @@ use Rattle.lk_tables.specs.SymbolTable.{symbols_by_number}
 use Rattle.lk_sizes.specs.declared.addresses.LiveSection.{LiveSection}
 use Rattle.lk_sizes.specs.Addresses.{live_section, live_sections}
 use Rattle.lk_sizes.specs.PartOwners.{live_address}
-use Rattle.lk_layout.specs.declared.layout.Layout.{Layout}
+use Rattle.lk_layout.specs.LayoutRecord.{LayoutRecord}
 use Rattle.lk_link.specs.declared.resolution.Resolution.{Resolution}
 use Rattle.lk_layout.specs.Layouts.{told_live}
-use Rattle.lk_layout.specs.OutputContent.{output_content}
 use Rattle.lk_layout.specs.Entries.{EntrySetting}
 use Rattle.lk_layout.specs.Resolutions.{Places, address_at, entries_of, places_of, file_resolutions, has_resolutions, placed_value, resolution_at, resolution_of, symbol_resolutions}
 use Rattle.lk_layout.specs.Sound.{SymbolsStandInLiveSections, ValuesAreInLiveSections}
+use Rattle.lk_layout.specs.Made.{Made, made_filling}
 use Rattle.lk_layout.proofs.EntriesTaken.{own_value}
 use Rattle.lk_layout.proofs.Placing.{marked_in}
 use Rattle.lk_link.specs.TableSizes.{TableSizes}
+use Rattle.lk_sizes.specs.Owners.{Filling}
 
 -- ---- the resolution of a file's symbol
 
@@ -86,30 +87,30 @@ pub value_of : (places : Places) (by : EntrySetting) (k : FileKind) (first s i o
 value_of places by k first s i offset address x object resolved stands is =
     own_value places by k first (s, x) (object_has k object) resolved ∙ ap (λ (n : ℕ). Some n) (ap (placed_value places first s) stands ∙ is)
 
-pub values_are_in_live_sections : (sizes : TableSizes) (link : LinkInput) (live : Live) (layout : Layout) (starts : List ℕ) → told_live link layout ≡ live_sections link (output_content sizes link live) starts
-    → layout.symbol_resolutions ≡ symbol_resolutions sizes link live starts → SymbolsStandInLiveSections link live → ValuesAreInLiveSections link live layout
-values_are_in_live_sections sizes link live layout starts shown resolved placed id file i offset section there s stands at_i unmerged =
-    let content = output_content sizes link live in
+pub values_are_in_live_sections : (made : Made) (layout : LayoutRecord) (starts : List ℕ) → told_live made.link layout ≡ live_sections (made_filling made) starts
+    → layout.symbol_resolutions ≡ symbol_resolutions made.machine.sizes made.link made.live starts → SymbolsStandInLiveSections made.link made.live → ValuesAreInLiveSections made layout
+values_are_in_live_sections made layout starts shown resolved placed id file i offset section there s stands at_i unmerged =
+    let filling : Filling = made_filling made in
     let x : Input = record { file = id; index = i; section = section } in
-    let k : ℕ = input_number link.groups id i in
-    let number : ℕ = first_symbol link.groups id + s.index in
-    let first : ℕ = first_input link.groups id in
-    let set : is_marked live.marks k ≡ true = placed id file i section there s at_i unmerged in
-    let at_k : slice_get (all_inputs link.groups) k ≡ Some x = inputs_follow.at link.groups id file i section there at_i in
-    let among = marked_in live.marks (all_inputs link.groups) k x at_k set in
-    let told : slice_get (told_live link layout) among.0 ≡ Some (live_section link content starts x)
-    = ap (λ (ls : List LiveSection). slice_get ls among.0) shown ∙ map_in (live_section link content starts) (live_inputs link live) among.0 x among.1 in
-    let shift : Input → ℕ = λ y. live_address link content starts y + offset in
-    let address : address_at sizes link live starts k offset ≡ Some (live_address link content starts x + offset)
-    = ap (λ b. if b then option_map shift (slice_get (all_inputs link.groups) k) else None) set ∙ ap (option_map shift) at_k in
-    let places : Places = places_of sizes link live starts in
-    let by : EntrySetting = entries_of sizes link live starts in
+    let k : ℕ = input_number made.link.groups id i in
+    let number : ℕ = first_symbol made.link.groups id + s.index in
+    let first : ℕ = first_input made.link.groups id in
+    let set : is_marked made.live.marks k ≡ true = placed id file i section there s at_i unmerged in
+    let at_k : slice_get (all_inputs made.link.groups) k ≡ Some x = inputs_follow.at made.link.groups id file i section there at_i in
+    let among = marked_in made.live.marks (all_inputs made.link.groups) k x at_k set in
+    let told : slice_get (told_live made.link layout) among.0 ≡ Some (live_section filling starts x)
+    = ap (λ (ls : List LiveSection). slice_get ls among.0) shown ∙ map_in (live_section filling starts) (live_inputs made.link made.live) among.0 x among.1 in
+    let shift : Input → ℕ = λ y. live_address filling starts y + offset in
+    let address : address_at made.machine.sizes made.link made.live starts k offset ≡ Some (live_address filling starts x + offset)
+    = ap (λ b. if b then option_map shift (slice_get (all_inputs made.link.groups) k) else None) set ∙ ap (option_map shift) at_k in
+    let places : Places = places_of made.machine.sizes made.link made.live starts in
+    let by : EntrySetting = entries_of made.machine.sizes made.link made.live starts in
     let one : Option Resolution = resolution_of places by file.kind first (number, s.symbol) in
     let read : resolution_at layout.symbol_resolutions number ≡ one
     = ap (λ (rs : List (Option Resolution)). resolution_at rs number) resolved
-    ∙ resolution_is sizes link live starts id file s.index s.symbol there s.there in (
-      live_section link content starts x,
+    ∙ resolution_is made.machine.sizes made.link made.live starts id file s.index s.symbol there s.there in (
+      live_section filling starts x,
       record { number = among.0; told = told; file = refl; index = refl },
       ap (option_map (λ (r : Resolution). r.raw_value)) read
-          ∙ value_of places by file.kind first number i offset (live_address link content starts x + offset) s.symbol s.object s.resolved stands (ap (λ (o : Option ℕ). unwrap_or o (places.merged number)) address),
+          ∙ value_of places by file.kind first number i offset (live_address filling starts x + offset) s.symbol s.object s.resolved stands (ap (λ (o : Option ℕ). unwrap_or o (places.merged number)) address),
     )

@@ -11,7 +11,7 @@ use Rattle.lk_link.specs.declared.plan.PlanSection.{PlanSection}
 use Rattle.lk_link.specs.Expressions.{Term}
 use Rattle.lk_link.specs.Inside.{placed_section}
 use Rattle.lk_link.specs.PlanSections.{no_section, primary_of, section_at}
-use Rattle.lk_link.specs.TableSizes.{Machine}
+use Rattle.lk_layout.specs.Machines.{Machine}
 use Rattle.lk_link.proofs.Places.{all_at}
 use Rattle.lk_expressions.proofs.Unnamed.{unnamed_read_no_symbols}
 use Rattle.lk_gc.specs.declared.live.Live.{Live}
@@ -21,22 +21,22 @@ use Rattle.lk_place.specs.declared.error.PlaceError.TheVariants as place
 use Rattle.lk_place.specs.declared.error.Refusal.{Refusal}
 use Rattle.lk_expressions.specs.declared.positions.SymbolPosition.{SymbolPosition}
 use Rattle.lk_place.specs.declared.walk.Placed.{Placed}
-use Rattle.lk_place.specs.Answers.{ArePlaced, GivesPlaced, IsRefused}
+use Rattle.lk_place.specs.Answers.{GivesPlaced, IsRefused}
 use Rattle.lk_expressions.specs.Expressions.{Valued, expression_value}
 use Rattle.lk_expressions.specs.Named.{loads_by_none, moves_by_none, names_no_symbol, names_none}
 use Rattle.lk_place.specs.Locations.{awaiting, behind_start}
 use Rattle.lk_place.specs.PlacedBefore.{Known, Standing, dot_of, early_known, early_value, refusing}
-use Rattle.lk_place.specs.Placement.{CarriesOut, IsPlaced, IsPlacedBefore, Passes, Places, PlacesLoaded, PlacesSection, either_refusal, event_refusal, first_refusal, known_before, load_by, load_given, load_refusal, loading, moved, numbered, placement_refusal, refusal_behind, refusal_behind_move, refusal_of, section_left, section_overflow, section_refusal, section_start, standing_with, state_at, step_refusal}
+use Rattle.lk_place.specs.Placement.{CarriesOut, IsPlaced, IsPlacedBefore, Passes, Places, PlacesSection, either_refusal, first_refusal, known_before, load_by, load_given, load_refusal, loading, moved, numbered, placement_refusal, refusal_behind_move, refusal_of, section_left, section_overflow, section_refusal, section_start, standing_with, state_at, step_refusal}
 use Rattle.lk_place.specs.InRegions.{past_region, stands_in}
 use Rattle.lk_expressions.specs.Records.{Record}
 use Rattle.lk_place.specs.Setting.{Setting, setting_of}
 use Rattle.lk_place.specs.Start.{start}
 use Rattle.lk_expressions.specs.Surroundings.{Early, early_operand}
-use Rattle.lk_sizes.specs.Owners.{Content}
+use Rattle.lk_sizes.specs.Owners.{Filling}
 use Rattle.lk_sizes.specs.PartOwners.{part_sizes}
 use Rattle.lk_layout.specs.Defined.{setting}
 use Rattle.lk_layout.specs.Headers.{header_bytes}
-use Rattle.lk_layout.specs.OutputContent.{output_content}
+use Rattle.lk_layout.specs.OutputContent.{output_filling}
 use Rattle.lk_layout.specs.PositionLaws.{PlacementsGoWithoutPositions, with_positions}
 use Rattle.lk_layout.specs.Positions.{symbol_positions}
 use Rattle.lk_layout.specs.Tables.{asked_positions}
@@ -215,12 +215,12 @@ gives_alike setting positions (Err (place.SectionOutsideSegments s)) none h = re
 
 -- what a placement answers by the places that expressions ask for is what it answers by all
 pub by_asked : (machine : Machine) (link : LinkInput) (live : Live) (answer : Result Placed PlaceError)
-    → GivesPlaced (setting_of link machine.target (part_sizes link (output_content machine.sizes link live)) (header_bytes machine link live) (asked_positions link (output_content machine.sizes link live))) answer
+    → GivesPlaced (setting_of link machine.target (part_sizes (output_filling machine.sizes link live)) (header_bytes machine link live) (asked_positions (output_filling machine.sizes link live))) answer
     → GivesPlaced (setting machine link live) answer
 by_asked machine link live answer h =
-    let content : Content = output_content machine.sizes link live in
-    let all : List (Option SymbolPosition) = symbol_positions link content in
-    let by : List (Option SymbolPosition) → Setting = λ ps. setting_of link machine.target (part_sizes link content) (header_bytes machine link live) ps in
+    let filling : Filling = output_filling machine.sizes link live in
+    let all : List (Option SymbolPosition) = symbol_positions filling in
+    let by : List (Option SymbolPosition) → Setting = λ ps. setting_of link machine.target (part_sizes filling) (header_bytes machine link live) ps in
     elim (names_no_symbol link.plan) as (λ b. names_no_symbol link.plan ≡ b → GivesPlaced (by (if b then [] else all)) answer → GivesPlaced (by all) answer) [
       | true ↦ λ none given. gives_alike (by []) all answer none given
       | false ↦ λ some given. given

@@ -1,7 +1,8 @@
 -- The one answer of a link: the first refusal, in the order in which they are looked for, else the layout.
-use Rattle.std.specs.Prelude.{◌≡◌, ℕ, List, [], ◌∷◌, Option, Some, None, map, option_map, slice_get, Result, Ok, Err}
+use Rattle.std.specs.Prelude.{◌≡◌, ℕ, Bool, true, false, List, [], ◌∷◌, Option, Some, None, map, option_map, slice_get, Result, Ok, Err}
 use Rattle.lk_link.specs.declared.link.LinkInput.{LinkInput}
-use Rattle.lk_link.specs.TableSizes.{Machine, TableSizes}
+use Rattle.lk_link.specs.TableSizes.{TableSizes}
+use Rattle.lk_layout.specs.Machines.{Machine}
 use Rattle.lk_check.specs.FirstFault.{first_fault}
 use Rattle.lk_gc.specs.declared.error.ReferenceFault.{ReferenceFault}
 use Rattle.lk_gc.specs.declared.live.Live.{Live}
@@ -26,18 +27,20 @@ use Rattle.lk_sizes.specs.PartOwners.{part_sizes}
 use Rattle.lk_layout.specs.declared.error.LayoutError.{LayoutError}
 use Rattle.lk_layout.specs.declared.error.LayoutError.TheVariants.{NoMemory, NotCarried, References}
 use Rattle.lk_layout.specs.declared.error.Uncarried.{Uncarried}
-use Rattle.lk_layout.specs.declared.layout.Layout.{Layout}
+use Rattle.lk_layout.specs.LayoutRecord.{LayoutRecord}
 use Rattle.lk_layout.specs.Carried.{first_uncarried}
 use Rattle.lk_layout.specs.Headers.{header_bytes}
 use Rattle.lk_layout.specs.Errors.{fault_error, offset_error, size_error, place_error}
 use Rattle.lk_layout.specs.Merging.{merging_refusal}
 use Rattle.lk_layout.specs.Outside.{merge_offsets}
 use Rattle.lk_layout.specs.Resolutions.{entry_symbol, symbol_resolutions}
-use Rattle.lk_layout.specs.OutputContent.{output_content}
+use Rattle.lk_layout.specs.Made.{Made, made_content, made_filling, made_of}
+use Rattle.lk_layout.specs.OutputContent.{output_filling}
 use Rattle.lk_layout.specs.Positions.{symbol_positions}
+use Rattle.lk_sizes.specs.Owners.{Filling}
 
 -- the answer is this refusal, if there is one, else P holds of it
-abbrev pub Unless : Option LayoutError → Result Layout LayoutError → Type 0 → Type 0
+abbrev pub Unless : Option LayoutError → Result LayoutRecord LayoutError → Type 0 → Type 0
 Unless None answer P = P
 Unless (Some e) answer P = answer ≡ Err e
 
@@ -63,32 +66,36 @@ abbrev pub references_refusal : LinkInput → Option LayoutError
 references_refusal link = references_error (reference_faults link)
 
 -- the first symbol or relocation that chooses an offset outside the data of a merged section
-abbrev pub offsets_refusal : LinkInput → Live → Option LayoutError
-offsets_refusal link live = option_map offset_error (slice_get (merge_offsets link live) 0)
+abbrev pub offsets_refusal : Made → Option LayoutError
+offsets_refusal made = option_map offset_error (slice_get (merge_offsets made.link made.live) 0)
 
 -- sizes past 64 bits
 abbrev pub sizes_refusal : TableSizes → LinkInput → Live → Option LayoutError
-sizes_refusal sizes link live = option_map size_error (size_refusal link (output_content sizes link live))
+sizes_refusal sizes link live = option_map size_error (size_refusal (output_filling sizes link live))
 
 -- what is placed, for which machine, with the bytes of the parts and of the headers, and the places of symbols
 abbrev pub setting : Machine → LinkInput → Live → Setting
 setting machine link live =
-    let content = output_content machine.sizes link live in
-    setting_of link machine.target (part_sizes link content) (header_bytes machine link live) (symbol_positions link content)
+    let filling : Filling = output_filling machine.sizes link live in
+    setting_of link machine.target (part_sizes filling) (header_bytes machine link live) (symbol_positions filling)
 
 -- an event that can't be carried out
-abbrev pub walk_refusal : Machine → LinkInput → Live → List Cursors → List Record → Option LayoutError
-walk_refusal machine link live states records = option_map place_error (placement_refusal (setting machine link live) states records)
+abbrev pub walk_refusal : Made → Option LayoutError
+walk_refusal made = option_map place_error (placement_refusal (setting made.machine made.link made.live) made.states made.records)
+
+-- the records of its output sections
+abbrev pub made_sections : Made → List Record
+made_sections made = section_records made.link.plan.sections made.records
 
 -- a primary that its secondaries take past 64 bits
-abbrev pub joining_refusal : LinkInput → List Record → Option LayoutError
-joining_refusal link records = option_map place_error (merge_refusal link.plan.sections (section_records link.plan.sections records))
+abbrev pub joining_refusal : Made → Option LayoutError
+joining_refusal made = option_map place_error (merge_refusal made.link.plan.sections (made_sections made))
 
 -- a section outside the segments, or thread-local data that end past 64 bits
-abbrev pub segment_refusal : TableSizes → LinkInput → Live → List Record → Option LayoutError
-segment_refusal sizes link live records =
-    let content = output_content sizes link live in
-    option_map place_error (segments_refusal FromSections link (section_records link.plan.sections records) (is_emitted link content) (active_segments link content))
+abbrev pub segment_refusal : Made → Option LayoutError
+segment_refusal made =
+    let content = made_content made in
+    option_map place_error (segments_refusal FromSections made.link (made_sections made) (is_emitted content) (active_segments content))
 
 -- ---- the layout
 
@@ -96,70 +103,81 @@ segment_refusal sizes link live records =
 abbrev pub starts_of : List Record → List ℕ
 starts_of records = map (λ r. r.mem_offset) records
 
--- what the live sections and the records of all parts make
-abbrev pub layout_of : TableSizes → LinkInput → Live → List Record → Layout
-layout_of sizes link live records =
-    let sections = section_records link.plan.sections records in
-    let content = output_content sizes link live in
-    let segments = segment_layouts FromSections link.plan link.options.stack sections (is_emitted link content) (active_segments link content) in
+-- what is made of these
+abbrev pub layout_of : Made → LayoutRecord
+layout_of made =
+    let link = made.link in
+    let filling : Filling = made_filling made in
+    let starts = starts_of made.records in
+    let segments = segment_layouts FromSections link.plan link.options.stack (made_sections made) (is_emitted filling.content) (active_segments filling.content) in
     record {
-      section_layouts = sections;
-      merged_section_layouts = merged_records link.plan.sections sections;
-      section_part_layouts = records;
-      section_attributes = all_section_attributes link live;
-      output_section_indexes = by_section (output_index link content) link;
+      link = link;
+      section_layouts = made_sections made;
+      merged_section_layouts = merged_records link.plan.sections (made_sections made);
+      section_part_layouts = made.records;
+      section_attributes = all_section_attributes link made.live;
+      output_section_indexes = by_section (output_index filling.content) link;
       segment_layouts = segments;
       tls_layout = option_map (λ l. l.sizes) (thread_local_one link.plan segments);
-      live_marks = live.marks;
-      section_addresses = section_addresses link content (starts_of records);
+      live_marks = made.live.marks;
+      section_addresses = section_addresses filling starts;
       merged_strings = (link_inputs link).outputs;
-      merged_string_start_addresses = start_addresses fnv64 (link_inputs link).outputs (image_addresses link content (starts_of records));
-      symbol_resolutions = symbol_resolutions sizes link live (starts_of records);
+      merged_string_start_addresses = start_addresses fnv64 (link_inputs link).outputs (image_addresses filling starts);
+      symbol_resolutions = symbol_resolutions made.machine.sizes link made.live starts;
       entry_symbol_id = entry_symbol link;
     }
 
 -- ---- the answer
 
 -- behind the placement: the refusal of secondaries, else that of the segments, else that of offsets into merged data, else the layout
-abbrev pub IsPlacedAnswer : TableSizes → LinkInput → Live → List Record → Result Layout LayoutError → Type 0
-IsPlacedAnswer sizes link live records answer =
-    Unless (joining_refusal link records) answer
-    (Unless (segment_refusal sizes link live records) answer
-    (Unless (offsets_refusal link live) answer
-    (answer ≡ Ok (layout_of sizes link live records))))
+abbrev pub IsPlacedAnswer : Made → Result LayoutRecord LayoutError → Type 0
+IsPlacedAnswer made answer =
+    Unless (joining_refusal made) answer
+    (Unless (segment_refusal made) answer
+    (Unless (offsets_refusal made) answer
+    (answer ≡ Ok (layout_of made))))
 
--- behind the sizes: the first refusal of the placement, and then
-abbrev pub IsSizedAnswer : Machine → LinkInput → Live → Result Layout LayoutError → Type 0
+-- of a placement: its first refusal, and then
+abbrev pub IsMadeAnswer : Made → Result LayoutRecord LayoutError → Type 0
+IsMadeAnswer made answer = Unless (walk_refusal made) answer (IsPlacedAnswer made answer)
+
+-- behind the sizes: a placement, and then
+abbrev pub IsSizedAnswer : Machine → LinkInput → Live → Result LayoutRecord LayoutError → Type 0
 IsSizedAnswer machine link live answer =
     (states : List Cursors) × (records : List Record) × IsPlaced (setting machine link live) states records
-    × Unless (walk_refusal machine link live states records) answer (IsPlacedAnswer machine.sizes link live records answer)
+    × IsMadeAnswer (made_of machine link live states records) answer
 
 -- of what is live: the part that overflows, and then
-abbrev pub IsLiveAnswer : Machine → LinkInput → Live → Result Layout LayoutError → Type 0
+abbrev pub IsLiveAnswer : Machine → LinkInput → Live → Result LayoutRecord LayoutError → Type 0
 IsLiveAnswer machine link live answer = Unless (sizes_refusal machine.sizes link live) answer (IsSizedAnswer machine link live answer)
 
 -- of a link that is merged: all references that can't be met, and then
-abbrev pub IsMergedAnswer : Machine → LinkInput → Result Layout LayoutError → Type 0
+abbrev pub IsMergedAnswer : Machine → LinkInput → Result LayoutRecord LayoutError → Type 0
 IsMergedAnswer machine link answer =
     Unless (references_refusal link) answer
     ((live : Live) × AreLive link live × IsLiveAnswer machine link live answer)
 
 -- of a link of which all is laid out: what can't be merged, and then
-abbrev pub IsCarriedAnswer : Machine → LinkInput → Result Layout LayoutError → Type 0
+abbrev pub IsCarriedAnswer : Machine → LinkInput → Result LayoutRecord LayoutError → Type 0
 IsCarriedAnswer machine link answer = Unless (merging_refusal link) answer (IsMergedAnswer machine link answer)
 
 -- the answer of a link: its first fault; else the first thing that isn't laid out yet; and then (libwild: `compute`)
-abbrev pub IsDefined : Machine → LinkInput → Result Layout LayoutError → Type 0
+abbrev pub IsDefined : Machine → LinkInput → Result LayoutRecord LayoutError → Type 0
 IsDefined machine link answer =
     Unless (fault_refusal link) answer
     (Unless (uncarried_refusal link) answer
     (IsCarriedAnswer machine link answer))
 
+-- memory ran out
+abbrev pub is_memory : LayoutError → Bool
+is_memory NoMemory = true
+is_memory _ = false
+
 -- P holds of what a call answers, unless memory ran out
-abbrev pub WithMemory : (Result Layout LayoutError → Type 0) → Result Layout LayoutError → Type 0
-WithMemory P (Err NoMemory) = Unit {0}
-WithMemory P answer = P answer
+abbrev pub WithMemory : (Result LayoutRecord LayoutError → Type 0) → Result LayoutRecord LayoutError → Type 0
+WithMemory P (Ok layout) = P (Ok layout)
+WithMemory P (Err e) = is_memory e ≡ false → P (Err e)
 
 -- what a call answers is the answer of the link, unless memory ran out
-abbrev pub Gives : Machine → LinkInput → Result Layout LayoutError → Type 0
+abbrev pub Gives : Machine → LinkInput → Result LayoutRecord LayoutError → Type 0
 Gives machine link answer = WithMemory (IsDefined machine link) answer

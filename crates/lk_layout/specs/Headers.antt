@@ -1,7 +1,7 @@
 -- The bytes of the headers that stand in front of what is loaded.
 use Rattle.std.specs.Prelude.{ℕ, ◌+◌}
 use Rattle.lk_link.specs.declared.link.LinkInput.{LinkInput}
-use Rattle.lk_link.specs.TableSizes.{Machine}
+use Rattle.lk_layout.specs.Machines.{Machine}
 use Rattle.lk_gc.specs.declared.live.Live.{Live}
 use Rattle.lk_tables.specs.declared.headers.HeaderSizes.{HeaderSizes}
 use Rattle.lk_sizes.specs.Header.{header_info}
@@ -15,5 +15,5 @@ leading_bytes sizes = sizes.file_header + sizes.program_headers
 -- those of a link on a machine, with a header for each active segment
 abbrev pub header_bytes : Machine → LinkInput → Live → ℕ
 header_bytes machine link live =
-    let info = header_info link (output_content machine.sizes link live) in
-    leading_bytes (header_sizes machine.sizes link info.emitted info.active_segment_ids)
+    let info = header_info (output_content machine.sizes link live) in
+    leading_bytes (header_sizes machine.sizes link live info.emitted info.active_segment_ids)

@@ -1,48 +1,52 @@
 -- Laws: every link has one defined answer, a defined layout is sound, and what symbols stand for is live.
-use Rattle.std.specs.Prelude.{◌≡◌, [], Result, Ok}
+use Rattle.std.specs.Prelude.{◌≡◌, List, [], Result, Ok}
 use Rattle.lk_link.specs.declared.link.LinkInput.{LinkInput}
-use Rattle.lk_link.specs.TableSizes.{Machine}
 use Rattle.lk_link.specs.WellFormed.{IsWellFormed}
 use Rattle.lk_gc.specs.declared.live.Live.{Live}
 use Rattle.lk_gc.specs.Faults.{reference_faults}
 use Rattle.lk_gc.specs.Reach.{AreLive}
+use Rattle.lk_expressions.specs.Records.{Record}
+use Rattle.lk_place.specs.declared.cursors.Cursors.{Cursors}
 use Rattle.lk_place.specs.Plans.{IsUnmoved}
 use Rattle.lk_place.specs.Ranges.{MemoryIsDisjoint}
 use Rattle.lk_layout.specs.declared.error.LayoutError.{LayoutError}
-use Rattle.lk_layout.specs.declared.layout.Layout.{Layout}
+use Rattle.lk_layout.specs.LayoutRecord.{LayoutRecord}
 use Rattle.lk_layout.specs.Defined.{IsDefined}
-use Rattle.lk_layout.specs.Machines.{IsLawfulMachine}
+use Rattle.lk_layout.specs.Machines.{IsLawfulMachine, Machine}
+use Rattle.lk_layout.specs.Made.{made_of}
 use Rattle.lk_layout.specs.Sound.{IsSound, LiveSectionsAreApart, OwnersAreApart, SymbolsStandInLiveSections}
 
 -- every link has a defined answer
 abbrev pub DefinedAnswerExists : Type 0
-DefinedAnswerExists = (machine : Machine) (link : LinkInput) → (answer : Result Layout LayoutError) × IsDefined machine link answer
+DefinedAnswerExists = (machine : Machine) (link : LinkInput) → (answer : Result LayoutRecord LayoutError) × IsDefined machine link answer
 
 -- it is one
 abbrev pub DefinedAnswerIsOne : Type 0
-DefinedAnswerIsOne = (machine : Machine) (link : LinkInput) (a b : Result Layout LayoutError)
+DefinedAnswerIsOne = (machine : Machine) (link : LinkInput) (a b : Result LayoutRecord LayoutError)
     → IsDefined machine link a → IsDefined machine link b → a ≡ b
 
 -- a link that has a layout is well formed
 abbrev pub LaidOutLinksAreWellFormed : Type 0
-LaidOutLinksAreWellFormed = (machine : Machine) (link : LinkInput) (layout : Layout) → IsDefined machine link (Ok layout) → IsWellFormed link
+LaidOutLinksAreWellFormed = (machine : Machine) (link : LinkInput) (layout : LayoutRecord) → IsDefined machine link (Ok layout) → IsWellFormed link
 
 -- a defined layout is sound
 abbrev pub DefinedLayoutsAreSound : Type 0
-DefinedLayoutsAreSound = (machine : Machine) (link : LinkInput) (layout : Layout)
-    → IsLawfulMachine machine → IsDefined machine link (Ok layout) → (live : Live) × IsSound machine.sizes link live layout
+DefinedLayoutsAreSound = (machine : Machine) (link : LinkInput) (layout : LayoutRecord)
+    → IsLawfulMachine machine → IsDefined machine link (Ok layout)
+    → (live : Live) × (states : List Cursors) × (records : List Record) × IsSound (made_of machine link live states records) layout
 
 -- under a plan in which nothing moves, the memory of a defined layout is disjoint, also if the plan isn't plain
 abbrev pub LaidOutMemoryIsDisjoint : Type 0
-LaidOutMemoryIsDisjoint = (machine : Machine) (link : LinkInput) (layout : Layout) → IsUnmoved link.plan link.options.output
+LaidOutMemoryIsDisjoint = (machine : Machine) (link : LinkInput) (layout : LayoutRecord) → IsUnmoved link.plan link.options.output
     → IsLawfulMachine machine → IsDefined machine link (Ok layout) → MemoryIsDisjoint link.plan layout.section_part_layouts
 
 -- and so are its live sections, and the owners of its parts: nor does an image share an address with a live section, or with another
 -- image
 abbrev pub LaidOutSectionsAreApart : Type 0
-LaidOutSectionsAreApart = (machine : Machine) (link : LinkInput) (layout : Layout) → IsUnmoved link.plan link.options.output
+LaidOutSectionsAreApart = (machine : Machine) (link : LinkInput) (layout : LayoutRecord) → IsUnmoved link.plan link.options.output
     → IsLawfulMachine machine → IsDefined machine link (Ok layout)
-    → (live : Live) × IsSound machine.sizes link live layout × LiveSectionsAreApart link live layout × OwnersAreApart machine.sizes link live layout
+    → (live : Live) × (states : List Cursors) × (records : List Record) × (let made = made_of machine link live states records in
+    IsSound made layout × LiveSectionsAreApart made layout × OwnersAreApart made layout)
 
 -- where references are met, a symbol that has a resolution stands in a live section
 abbrev pub ResolvedSectionsAreLive : Type 0

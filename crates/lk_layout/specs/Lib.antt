@@ -7,8 +7,10 @@ pub mod Errors
 pub mod Headers
 pub mod Kept
 pub mod Laws
+pub mod LayoutRecord
 pub mod Layouts
 pub mod Machines
+pub mod Made
 pub mod Merging
 pub mod MergingWords
 pub mod OutputContent
@@ -18,5 +20,6 @@ pub mod PositionLaws
 pub mod Positions
 pub mod Resolutions
 pub mod Sound
+pub mod Stages
 pub mod Tables
 pub mod Texts

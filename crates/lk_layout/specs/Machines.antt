@@ -1,7 +1,12 @@
--- The machine of a platform, when a machine is lawful, and the small one with the law that it is.
+-- The machine that a link is for, that of a platform, when a machine is lawful, and the small one with the law that it is.
 use Rattle.std.specs.Prelude.{ℕ}
-use Rattle.lk_link.specs.TableSizes.{AreLawful, Machine, TableSizes, small64_sizes, small64_sizes_are_lawful}
-use Rattle.lk_link.specs.Target.{IsLawful, platform_target, small64, small64_is_lawful}
+use Rattle.lk_link.specs.TableSizes.{AreLawful, TableSizes, small64_sizes, small64_sizes_are_lawful}
+use Rattle.lk_link.specs.Target.{IsLawful, Target, platform_target, small64, small64_is_lawful}
+
+-- all of the machine that a link is for: where its load segments start, and what its tables take
+pub record Machine : Type 0 where
+  pub target : Target
+  pub sizes : TableSizes
 
 -- the machine of a platform, by where it starts load segments and what its tables take
 abbrev pub platform_machine : (ℕ → ℕ → ℕ → ℕ) → TableSizes → Machine

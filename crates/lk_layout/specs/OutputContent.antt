@@ -7,7 +7,7 @@ use Rattle.lk_merge.specs.Hash.{fnv64}
 use Rattle.lk_merge.specs.Image.{all_pieces, image}
 use Rattle.lk_merge.specs.LinkInputs.{link_inputs}
 use Rattle.lk_merge.specs.Pieces.{MergeInput}
-use Rattle.lk_sizes.specs.Owners.{Content, content_of}
+use Rattle.lk_sizes.specs.Owners.{Content, Filling, content_of, plain_filling}
 
 -- how many bytes each of some merged sections has, by their inputs: those of its image
 unfoldable pub lens_of : List (List MergeInput) → List ℕ
@@ -19,4 +19,8 @@ image_lens link = lens_of (link_inputs link).outputs
 
 -- what is live, and what is merged, with what tables take on a machine
 abbrev pub output_content : TableSizes → LinkInput → Live → Content
-output_content sizes link live = content_of sizes live (image_lens link)
+output_content sizes link live = content_of link sizes live (image_lens link)
+
+-- with what fills the parts: no thunks, and input sections with the sizes that they have in the description
+abbrev pub output_filling : TableSizes → LinkInput → Live → Filling
+output_filling sizes link live = plain_filling (output_content sizes link live)

@@ -16,7 +16,7 @@ use Rattle.lk_link.specs.Marks.{is_marked}
 use Rattle.lk_link.specs.Symbols.{definition_of}
 use Rattle.lk_link.specs.TableSizes.{TableSizes}
 use Rattle.lk_gc.specs.declared.live.Live.{Live}
-use Rattle.lk_tables.specs.Copied.{is_wanted}
+use Rattle.lk_link.specs.Symbols.{is_wanted}
 use Rattle.lk_tables.specs.SymbolTable.{symbols_by_number}
 use Rattle.lk_merge.specs.declared.output_address.OffsetPastEnd.{OffsetPastEnd}
 use Rattle.lk_merge.specs.OutputAddresses.{merged_address}
@@ -26,7 +26,7 @@ use Rattle.lk_sizes.specs.PartOwners.{common_address, live_address}
 use Rattle.lk_layout.specs.declared.resolution.EntryFault.{EntryFault}
 use Rattle.lk_layout.specs.declared.resolution.EntryFault.TheVariants.{NotAnAddress, NotLoaded}
 use Rattle.lk_layout.specs.Entries.{EntrySetting, entry_setting, told_flags, with_entries}
-use Rattle.lk_layout.specs.OutputContent.{output_content}
+use Rattle.lk_layout.specs.OutputContent.{output_content, output_filling}
 
 -- ---- places in input sections
 
@@ -34,14 +34,14 @@ use Rattle.lk_layout.specs.OutputContent.{output_content}
 abbrev pub address_at : TableSizes → LinkInput → Live → List ℕ → ℕ → ℕ → Option ℕ
 address_at sizes link live starts k offset =
     if is_marked live.marks k
-    then option_map (λ x. live_address link (output_content sizes link live) starts x + offset) (slice_get (all_inputs link.groups) k)
+    then option_map (λ x. live_address (output_filling sizes link live) starts x + offset) (slice_get (all_inputs link.groups) k)
     else None
 
 -- ---- places in merged sections
 
 -- where the images of output sections start, by where the parts do: each where it stands among the owners of its part
 abbrev pub images_at : TableSizes → LinkInput → Live → List ℕ → ℕ → ℕ
-images_at sizes link live starts s = slice_index (image_addresses link (output_content sizes link live) starts) s
+images_at sizes link live starts s = slice_index (image_addresses (output_filling sizes link live) starts) s
 
 -- an address that is found, else 0
 abbrev pub found_or_0 : Result (Option ℕ) OffsetPastEnd → ℕ
@@ -66,7 +66,7 @@ pub record Places : Type 0 where
 abbrev pub places_of : TableSizes → LinkInput → Live → List ℕ → Places
 places_of sizes link live starts = record {
   live = address_at sizes link live starts;
-  common = common_address link (output_content sizes link live) starts;
+  common = common_address (output_filling sizes link live) starts;
   merged = merged_value link (images_at sizes link live starts);
 }
 
@@ -97,7 +97,7 @@ file_resolutions places by f = map (resolution_of places by f.file.kind (first_i
 
 -- what the entries of a link go by: edges are told of the sections that are emitted
 abbrev pub entries_of : TableSizes → LinkInput → Live → List ℕ → EntrySetting
-entries_of sizes link live starts = entry_setting sizes link live (header_info link (output_content sizes link live)).emitted starts
+entries_of sizes link live starts = entry_setting sizes link live (header_info (output_content sizes link live)).emitted starts
 
 -- for each symbol of a link its resolution, if it has one, by where the parts start (libwild: `SymbolResolutions`)
 abbrev pub symbol_resolutions : TableSizes → LinkInput → Live → List ℕ → List (Option Resolution)

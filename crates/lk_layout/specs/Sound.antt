@@ -48,34 +48,35 @@ use Rattle.lk_tables.specs.TableLaws.{HasLastEntry}
 use Rattle.lk_tables.specs.TableLists.{table_of}
 use Rattle.lk_sizes.specs.Tiles.{HasByte, IsTiled}
 use Rattle.lk_tables.specs.SymbolEntries.{is_resolved}
-use Rattle.lk_layout.specs.declared.layout.Layout.{Layout}
+use Rattle.lk_layout.specs.LayoutRecord.{LayoutRecord}
 use Rattle.lk_layout.specs.Defined.{starts_of}
 use Rattle.lk_layout.specs.Layouts.{told_live}
 use Rattle.lk_layout.specs.Outside.{merge_offsets}
 use Rattle.lk_layout.specs.Resolutions.{entry_symbol, resolution_at, symbol_resolutions}
-use Rattle.lk_layout.specs.OutputContent.{output_content}
+use Rattle.lk_layout.specs.Made.{Made, made_content, made_filling}
+use Rattle.lk_layout.specs.OutputContent.{output_content, output_filling}
 use Rattle.lk_link.specs.TableSizes.{TableSizes}
 
 -- the record of the part with this number over all sections
-abbrev pub part_record : Layout → ℕ → Record
+abbrev pub part_record : LayoutRecord → ℕ → Record
 part_record layout p = record_at layout.section_part_layouts p
 
 -- a part with bytes in the file, inside a load segment, starts at the same place in memory and in the file, modulo the
 -- greatest alignment of the sections inside, and at least the page
-abbrev pub MemoryIsCongruent : LinkInput → Layout → Type 0
+abbrev pub MemoryIsCongruent : LinkInput → LayoutRecord → Type 0
 MemoryIsCongruent link layout = (i s k p : ℕ) → PlacesInLoad link.plan i s k → is_file_backed link.plan s ≡ true → HasPart link.plan s p
     → (part_record layout p).mem_offset % alignment_inside link.plan layout.section_layouts i
     ≡ (part_record layout p).file_offset % alignment_inside link.plan layout.section_layouts i
 
 -- the owners of a part share out its memory
-pub record IsSharedOut (sizes : TableSizes) (link : LinkInput) (live : Live) (layout : Layout) (p : ℕ) : Type 0 where
-  pub whole : (part_record layout p).mem_size ≡ bytes_of (part_at link.plan.sections p) (owners_of link (output_content sizes link live) p)
-  pub tiled : IsTiled (part_record layout p).mem_offset (part_at link.plan.sections p) (owners_of link (output_content sizes link live) p)
+pub record IsSharedOut (made : Made) (layout : LayoutRecord) (p : ℕ) : Type 0 where
+  pub whole : (part_record layout p).mem_size ≡ bytes_of (part_at made.link.plan.sections p) (owners_of (made_filling made) p)
+  pub tiled : IsTiled (part_record layout p).mem_offset (part_at made.link.plan.sections p) (owners_of (made_filling made) p)
 
 -- x is live section a, and l is told of it
-pub record IsTold (link : LinkInput) (live : Live) (layout : Layout) (a : ℕ) (x : Input) (l : LiveSection) : Type 0 where
-  pub there : slice_get (live_inputs link live) a ≡ Some x
-  pub told : slice_get (told_live link layout) a ≡ Some l
+pub record IsTold (made : Made) (layout : LayoutRecord) (a : ℕ) (x : Input) (l : LiveSection) : Type 0 where
+  pub there : slice_get (live_inputs made.link made.live) a ≡ Some x
+  pub told : slice_get (told_live made.link layout) a ≡ Some l
 
 -- an address lies in the bytes of a live section
 pub record IsInSection (address : ℕ) (l : LiveSection) : Type 0 where
@@ -83,16 +84,16 @@ pub record IsInSection (address : ℕ) (l : LiveSection) : Type 0 where
   pub ends : address < l.address + l.size
 
 -- no two live sections share an address, if they go to parts of sections that take addresses
-abbrev pub LiveSectionsAreApart : LinkInput → Live → Layout → Type 0
-LiveSectionsAreApart link live layout = (a b address : ℕ) (x y : Input) (l m : LiveSection) → a ≢ b
-    → IsTold link live layout a x l → IsTold link live layout b y m
-    → TakesMemory link.plan x.section.part → TakesMemory link.plan y.section.part
+abbrev pub LiveSectionsAreApart : Made → LayoutRecord → Type 0
+LiveSectionsAreApart made layout = (a b address : ℕ) (x y : Input) (l m : LiveSection) → a ≢ b
+    → IsTold made layout a x l → IsTold made layout b y m
+    → TakesMemory made.link.plan x.section.part → TakesMemory made.link.plan y.section.part
     → IsInSection address l → IsInSection address m → ⊥
 
 -- a live section with bytes starts at a multiple of its part's alignment, if the part isn't packed
-abbrev pub LiveSectionsAreAligned : LinkInput → Live → Layout → Type 0
-LiveSectionsAreAligned link live layout = (a : ℕ) (x : Input) (l : LiveSection) → IsTold link live layout a x l → 0 < l.size
-    → (part_at link.plan.sections x.section.part).packed ≡ false → (part_at link.plan.sections x.section.part).alignment ∣ l.address
+abbrev pub LiveSectionsAreAligned : Made → LayoutRecord → Type 0
+LiveSectionsAreAligned made layout = (a : ℕ) (x : Input) (l : LiveSection) → IsTold made layout a x l → 0 < l.size
+    → (part_at made.link.plan.sections x.section.part).packed ≡ false → (part_at made.link.plan.sections x.section.part).alignment ∣ l.address
 
 -- a symbol of an object has a resolution, and stands for a place in the section with this index
 pub record IsResolvedIn (link : LinkInput) (live : Live) (id : FileId) (file : InputFile) (i : ℕ) : Type 0 where
@@ -110,78 +111,78 @@ SymbolsStandInLiveSections link live = (id : FileId) (file : InputFile) (i : ℕ
     → is_merge section.slot ≡ false → is_marked live.marks (input_number link.groups id i) ≡ true
 
 -- the section of a file with this index is told as live
-pub record IsToldOf (link : LinkInput) (layout : Layout) (id : FileId) (i : ℕ) (l : LiveSection) : Type 0 where
+pub record IsToldOf (link : LinkInput) (layout : LayoutRecord) (id : FileId) (i : ℕ) (l : LiveSection) : Type 0 where
   pub number : ℕ
   pub told : slice_get (told_live link layout) number ≡ Some l
   pub file : l.file ≡ id
   pub index : l.index ≡ i
 
 -- that section is told, and the symbol's value is its address there and the offset, unless its data is merged
-abbrev pub ValuesAreInLiveSections : LinkInput → Live → Layout → Type 0
-ValuesAreInLiveSections link live layout = (id : FileId) (file : InputFile) (i offset : ℕ) (section : InputSection)
-    → file_in link.groups id ≡ Some file → (s : IsResolvedIn link live id file i) → s.symbol.at ≡ at.Section i offset
-    → slice_get file.sections i ≡ Some section → is_merge section.slot ≡ false → (l : LiveSection) × IsToldOf link layout id i l
-    × (option_map (λ r. r.raw_value) (resolution_at layout.symbol_resolutions (first_symbol link.groups id + s.index)) ≡ Some (l.address + offset))
+abbrev pub ValuesAreInLiveSections : Made → LayoutRecord → Type 0
+ValuesAreInLiveSections made layout = (id : FileId) (file : InputFile) (i offset : ℕ) (section : InputSection)
+    → file_in made.link.groups id ≡ Some file → (s : IsResolvedIn made.link made.live id file i) → s.symbol.at ≡ at.Section i offset
+    → slice_get file.sections i ≡ Some section → is_merge section.slot ≡ false → (l : LiveSection) × IsToldOf made.link layout id i l
+    × (option_map (λ r. r.raw_value) (resolution_at layout.symbol_resolutions (first_symbol made.link.groups id + s.index)) ≡ Some (l.address + offset))
 
 -- ---- commons
 
 -- a common of a part, so many bytes large, is an owner of bytes there, and its symbol has the address of these as its value; that is a
 -- multiple of the part's alignment, if there are any bytes and the part isn't packed
-pub record IsCommonAt (sizes : TableSizes) (link : LinkInput) (live : Live) (layout : Layout) (p s size : ℕ) : Type 0 where
-  pub part : p < length (all_parts link.plan.sections)
+pub record IsCommonAt (made : Made) (layout : LayoutRecord) (p s size : ℕ) : Type 0 where
+  pub part : p < length (all_parts made.link.plan.sections)
   pub number : ℕ
-  pub owner : slice_get (owners_of link (output_content sizes link live) p) number ≡ Some (CommonOwner s size)
+  pub owner : slice_get (owners_of (made_filling made) p) number ≡ Some (CommonOwner s size)
   pub address : ℕ
-  pub at : address ≡ owner_address (part_record layout p).mem_offset (part_at link.plan.sections p) (owners_of link (output_content sizes link live) p) number
+  pub at : address ≡ owner_address (part_record layout p).mem_offset (part_at made.link.plan.sections p) (owners_of (made_filling made) p) number
   pub valued : option_map (λ r. r.raw_value) (resolution_at layout.symbol_resolutions s) ≡ Some address
-  pub aligned : 0 < size → (part_at link.plan.sections p).packed ≡ false → (part_at link.plan.sections p).alignment ∣ address
+  pub aligned : 0 < size → (part_at made.link.plan.sections p).packed ≡ false → (part_at made.link.plan.sections p).alignment ∣ address
 
 -- so stands each common that has a resolution
-abbrev pub CommonsStand : TableSizes → LinkInput → Live → Layout → Type 0
-CommonsStand sizes link live layout = (p s size : ℕ) → IsCommonIn link live p s size → IsCommonAt sizes link live layout p s size
+abbrev pub CommonsStand : Made → LayoutRecord → Type 0
+CommonsStand made layout = (p s size : ℕ) → IsCommonIn made.link made.live p s size → IsCommonAt made layout p s size
 
 -- ---- entries
 
 -- a symbol has an entry with bytes in a part: it is an owner there, and this is its address
-pub record IsEntryAt (sizes : TableSizes) (link : LinkInput) (live : Live) (layout : Layout) (p s address : ℕ) : Type 0 where
-  pub part : p < length (all_parts link.plan.sections)
+pub record IsEntryAt (made : Made) (layout : LayoutRecord) (p s address : ℕ) : Type 0 where
+  pub part : p < length (all_parts made.link.plan.sections)
   pub number : ℕ
   pub bytes : ℕ
   pub some : 0 < bytes
-  pub owner : slice_get (owners_of link (output_content sizes link live) p) number ≡ Some (EntryOwner (record { owner = SymbolEntry s; bytes = bytes }))
-  pub at : address ≡ owner_address (part_record layout p).mem_offset (part_at link.plan.sections p) (owners_of link (output_content sizes link live) p) number
+  pub owner : slice_get (owners_of (made_filling made) p) number ≡ Some (EntryOwner (record { owner = SymbolEntry s; bytes = bytes }))
+  pub at : address ≡ owner_address (part_record layout p).mem_offset (part_at made.link.plan.sections p) (owners_of (made_filling made) p) number
 
 -- what a resolution tells of entries is its symbol's own, and all of it: its address in got, and in plt, is that of the symbol's entry in
 -- the part that the plan names, and its number is the place of the symbol's last entry in the dynamic symbol table; and where the symbol
 -- has such an entry, the resolution tells it
-pub record AreOwnEntries (sizes : TableSizes) (link : LinkInput) (live : Live) (layout : Layout) (s : ℕ) (r : Resolution) : Type 0 where
-  pub got : (address : ℕ) → r.got ≡ Some address → ForSome link.plan.named.got (λ p. IsEntryAt sizes link live layout p s address)
-  pub plt : (address : ℕ) → r.plt ≡ Some address → ForSome link.plan.named.plt (λ p. IsEntryAt sizes link live layout p s address)
-  pub dynamic : (k : ℕ) → r.dynamic ≡ Some k → HasLastEntry s k sizes.symbol_entry (tables_of link (output_content sizes link live)).dynsym
-  pub got_told : (p address : ℕ) → link.plan.named.got ≡ Some p → IsEntryAt sizes link live layout p s address → r.got ≡ Some address
-  pub plt_told : (p address : ℕ) → link.plan.named.plt ≡ Some p → IsEntryAt sizes link live layout p s address → r.plt ≡ Some address
-  pub dynamic_told : (k : ℕ) → HasLastEntry s k sizes.symbol_entry (tables_of link (output_content sizes link live)).dynsym → r.dynamic ≡ Some k
+pub record AreOwnEntries (made : Made) (layout : LayoutRecord) (s : ℕ) (r : Resolution) : Type 0 where
+  pub got : (address : ℕ) → r.got ≡ Some address → ForSome made.link.plan.named.got (λ p. IsEntryAt made layout p s address)
+  pub plt : (address : ℕ) → r.plt ≡ Some address → ForSome made.link.plan.named.plt (λ p. IsEntryAt made layout p s address)
+  pub dynamic : (k : ℕ) → r.dynamic ≡ Some k → HasLastEntry s k made.machine.sizes.symbol_entry (tables_of (made_content made)).dynsym
+  pub got_told : (p address : ℕ) → made.link.plan.named.got ≡ Some p → IsEntryAt made layout p s address → r.got ≡ Some address
+  pub plt_told : (p address : ℕ) → made.link.plan.named.plt ≡ Some p → IsEntryAt made layout p s address → r.plt ≡ Some address
+  pub dynamic_told : (k : ℕ) → HasLastEntry s k made.machine.sizes.symbol_entry (tables_of (made_content made)).dynsym → r.dynamic ≡ Some k
 
 -- so it is of each resolution
-abbrev pub EntriesStand : TableSizes → LinkInput → Live → Layout → Type 0
-EntriesStand sizes link live layout = (s : ℕ) (r : Resolution) → resolution_at layout.symbol_resolutions s ≡ Some r → AreOwnEntries sizes link live layout s r
+abbrev pub EntriesStand : Made → LayoutRecord → Type 0
+EntriesStand made layout = (s : ℕ) (r : Resolution) → resolution_at layout.symbol_resolutions s ≡ Some r → AreOwnEntries made layout s r
 
 -- the part that the plan names for a table has its entries, and nothing else
 abbrev pub TablesStandAlone : TableSizes → LinkInput → Live → Type 0
 TablesStandAlone sizes link live = (k p : ℕ) → slice_get (table_parts link.plan.named) k ≡ Some (Some p)
-    → owners_of link (output_content sizes link live) p ≡ map EntryOwner (table_of link.plan.named (tables_of link (output_content sizes link live)) p)
+    → owners_of (output_filling sizes link live) p ≡ map EntryOwner (table_of link.plan.named (tables_of (output_content sizes link live)) p)
 
 -- ---- merged data
 
 -- the image of merged inputs is the first owner of a part of their output section, which has alignment 1, and starts with it; each of
 -- its distinct pieces has a range of its own there; and at each offset of an input's data the image shows what the input has, from the
 -- offset to its piece's end
-pub record IsImageAt (sizes : TableSizes) (link : LinkInput) (live : Live) (layout : Layout) (s : ℕ) (inputs : List MergeInput) : Type 0 where
+pub record IsImageAt (made : Made) (layout : LayoutRecord) (s : ℕ) (inputs : List MergeInput) : Type 0 where
   pub part : ℕ
-  pub there : part < length (all_parts link.plan.sections)
-  pub belongs : slice_index (part_sections link.plan.sections) part ≡ s
-  pub alignment : (part_at link.plan.sections part).alignment ≡ 1
-  pub owner : slice_get (owners_of link (output_content sizes link live) part) 0 ≡ Some (ImageOwner s (length (image fnv64 (all_pieces inputs))))
+  pub there : part < length (all_parts made.link.plan.sections)
+  pub belongs : slice_index (part_sections made.link.plan.sections) part ≡ s
+  pub alignment : (part_at made.link.plan.sections part).alignment ≡ 1
+  pub owner : slice_get (owners_of (made_filling made) part) 0 ≡ Some (ImageOwner s (length (image fnv64 (all_pieces inputs))))
   pub start : image_start layout.merged_string_start_addresses s ≡ (part_record layout part).mem_offset
   pub within : (p : Piece) → is_among (all_pieces inputs) p ≡ true
       → image_place fnv64 (all_pieces inputs) p + length p ≤ length (image fnv64 (all_pieces inputs))
@@ -192,19 +193,19 @@ pub record IsImageAt (sizes : TableSizes) (link : LinkInput) (live : Live) (layo
       → Shows inputs x offset (offset_place fnv64 inputs x offset)
 
 -- so stands the image of each output section that has merged inputs
-abbrev pub ImagesStand : TableSizes → LinkInput → Live → Layout → Type 0
-ImagesStand sizes link live layout = (s : ℕ) (inputs : List MergeInput) → slice_get layout.merged_strings s ≡ Some inputs → 0 < length inputs
-    → IsImageAt sizes link live layout s inputs
+abbrev pub ImagesStand : Made → LayoutRecord → Type 0
+ImagesStand made layout = (s : ℕ) (inputs : List MergeInput) → slice_get layout.merged_strings s ≡ Some inputs → 0 < length inputs
+    → IsImageAt made layout s inputs
 
 -- a named symbol that has a resolution and stands in a merged section has an address at which the image of the output section shows
 -- what stands there
-abbrev pub NamedSymbolsShow : LinkInput → Live → Layout → Type 0
-NamedSymbolsShow link live layout = (id : FileId) (file : InputFile) (i offset : ℕ) (section : InputSection)
-    → file_in link.groups id ≡ Some file → (s : IsResolvedIn link live id file i) → s.symbol.at ≡ at.Section i offset
+abbrev pub NamedSymbolsShow : Made → LayoutRecord → Type 0
+NamedSymbolsShow made layout = (id : FileId) (file : InputFile) (i offset : ℕ) (section : InputSection)
+    → file_in made.link.groups id ≡ Some file → (s : IsResolvedIn made.link made.live id file i) → s.symbol.at ≡ at.Section i offset
     → slice_get file.sections i ≡ Some section → is_merge section.slot ≡ true → (length s.symbol.name == 0) ≡ false → (address : ℕ)
-    × (option_map (λ r. r.raw_value) (resolution_at layout.symbol_resolutions (first_symbol link.groups id + s.index)) ≡ Some address)
-    × IsShownAt link (image_start layout.merged_string_start_addresses)
-    (record { number = input_number link.groups id i; section = section; offset = offset; named = true }) (pos 0) address
+    × (option_map (λ r. r.raw_value) (resolution_at layout.symbol_resolutions (first_symbol made.link.groups id + s.index)) ≡ Some address)
+    × IsShownAt made.link (image_start layout.merged_string_start_addresses)
+    (record { number = input_number made.link.groups id i; section = section; offset = offset; named = true }) (pos 0) address
 
 -- a relocation of a live regular section that asks for flags, by its file, its section's index and its own
 pub record IsReference (link : LinkInput) (live : Live) (id : FileId) (file : InputFile) (i k : ℕ) (r : Relocation) : Type 0 where
@@ -217,18 +218,18 @@ pub record IsReference (link : LinkInput) (live : Live) (id : FileId) (file : In
   pub asks : (resolution_flags r.kind == 0) ≡ false
 
 -- where such a one's definition is placed in merged data, the reference has an address: there the image shows what it refers to
-abbrev pub ReferencesShow : LinkInput → Live → Layout → Type 0
-ReferencesShow link live layout = (id : FileId) (file : InputFile) (i k : ℕ) (r : Relocation) (place : MergePlace) → IsReference link live id file i k r
-    → symbol_place link.groups (local_definition (first_symbol link.groups id) file.symbols r.symbol) ≡ Some place → (address : ℕ)
-    × (merged_address link (image_start layout.merged_string_start_addresses) (local_definition (first_symbol link.groups id) file.symbols r.symbol) r.addend false ≡ Ok (Some address))
-    × IsShownAt link (image_start layout.merged_string_start_addresses) place r.addend address
+abbrev pub ReferencesShow : Made → LayoutRecord → Type 0
+ReferencesShow made layout = (id : FileId) (file : InputFile) (i k : ℕ) (r : Relocation) (place : MergePlace) → IsReference made.link made.live id file i k r
+    → symbol_place made.link.groups (local_definition (first_symbol made.link.groups id) file.symbols r.symbol) ≡ Some place → (address : ℕ)
+    × (merged_address made.link (image_start layout.merged_string_start_addresses) (local_definition (first_symbol made.link.groups id) file.symbols r.symbol) r.addend false ≡ Ok (Some address))
+    × IsShownAt made.link (image_start layout.merged_string_start_addresses) place r.addend address
 
 -- no two owners share an address, if they go to parts of sections that take addresses: neither live sections nor images
-abbrev pub OwnersAreApart : TableSizes → LinkInput → Live → Layout → Type 0
-OwnersAreApart sizes link live layout = (p q j k address : ℕ) → p < length (all_parts link.plan.sections) → q < length (all_parts link.plan.sections)
-    → TakesMemory link.plan p → TakesMemory link.plan q
-    → HasByte (part_record layout p).mem_offset (part_at link.plan.sections p) (owners_of link (output_content sizes link live) p) j address
-    → HasByte (part_record layout q).mem_offset (part_at link.plan.sections q) (owners_of link (output_content sizes link live) q) k address
+abbrev pub OwnersAreApart : Made → LayoutRecord → Type 0
+OwnersAreApart made layout = (p q j k address : ℕ) → p < length (all_parts made.link.plan.sections) → q < length (all_parts made.link.plan.sections)
+    → TakesMemory made.link.plan p → TakesMemory made.link.plan q
+    → HasByte (part_record layout p).mem_offset (part_at made.link.plan.sections p) (owners_of (made_filling made) p) j address
+    → HasByte (part_record layout q).mem_offset (part_at made.link.plan.sections q) (owners_of (made_filling made) q) k address
     → (p ≡ q) × (j ≡ k)
 
 -- ---- outputs
@@ -237,50 +238,51 @@ OwnersAreApart sizes link live layout = (p q j k address : ℕ) → p < length (
 -- secondaries besides; it has the attributes of the plan and of what went into it, and
 -- its place among the emitted ones as its index; the active segments are told, each with what it spans, and the thread-local one by itself; and no section that is allocated
 -- stands outside them where it may not
-pub record AreOutputsTold (sizes : TableSizes) (link : LinkInput) (live : Live) (layout : Layout) : Type 0 where
-  pub sections : layout.section_layouts ≡ section_records link.plan.sections layout.section_part_layouts
-  pub joined : layout.merged_section_layouts ≡ merged_records link.plan.sections layout.section_layouts
-  pub attributes : layout.section_attributes ≡ all_section_attributes link live
-  pub indexes : layout.output_section_indexes ≡ by_section (output_index link (output_content sizes link live)) link
-  pub segments : layout.segment_layouts ≡ segment_layouts FromSections link.plan link.options.stack layout.section_layouts
-      (is_emitted link (output_content sizes link live)) (active_segments link (output_content sizes link live))
-  pub thread_local : layout.tls_layout ≡ option_map (λ l. l.sizes) (thread_local_one link.plan layout.segment_layouts)
-  pub covered : first_outside link layout.section_layouts (is_emitted link (output_content sizes link live)) ≡ None
+pub record AreOutputsTold (made : Made) (layout : LayoutRecord) : Type 0 where
+  pub sections : layout.section_layouts ≡ section_records made.link.plan.sections layout.section_part_layouts
+  pub joined : layout.merged_section_layouts ≡ merged_records made.link.plan.sections layout.section_layouts
+  pub attributes : layout.section_attributes ≡ all_section_attributes made.link made.live
+  pub indexes : layout.output_section_indexes ≡ by_section (output_index (made_content made)) made.link
+  pub segments : layout.segment_layouts ≡ segment_layouts FromSections made.link.plan made.link.options.stack layout.section_layouts
+      (is_emitted (made_content made)) (active_segments (made_content made))
+  pub thread_local : layout.tls_layout ≡ option_map (λ l. l.sizes) (thread_local_one made.link.plan layout.segment_layouts)
+  pub covered : first_outside made.link layout.section_layouts (is_emitted (made_content made)) ≡ None
 
 -- ---- all
 
 -- what holds of the memory of a layout under a plain plan: no two parts share an address, nor do two live sections, nor an
 -- image and another owner; and memory goes along the file
-pub record IsSoundInMemory (sizes : TableSizes) (link : LinkInput) (live : Live) (layout : Layout) : Type 0 where
-  pub disjoint : MemoryIsDisjoint link.plan layout.section_part_layouts
-  pub apart : LiveSectionsAreApart link live layout
-  pub owners : OwnersAreApart sizes link live layout
-  pub congruent : MemoryIsCongruent link layout
+pub record IsSoundInMemory (made : Made) (layout : LayoutRecord) : Type 0 where
+  pub disjoint : MemoryIsDisjoint made.link.plan layout.section_part_layouts
+  pub apart : LiveSectionsAreApart made layout
+  pub owners : OwnersAreApart made layout
+  pub congruent : MemoryIsCongruent made.link layout
 
--- a sound layout: all references are met; the live sections are those that are reached, each where its part's owners let it
+-- a sound layout of what it is made of: it lends the link; all references are met; the live sections are those that are reached, each where its part's owners let it
 -- stand, aligned; what is merged is all that the link has to merge, with the starts of its buckets, each image stands in a part, with its
 -- pieces apart, and shows its inputs, nothing refers outside their data, and references into it have addresses that show what they choose; each symbol that is asked for stands for a place in a live section, at its address where nothing is relaxed, or
 -- in merged data, or for a number, or is a common, at the address of its bytes in a part; tables stand alone in their parts, and what a resolution tells of entries is its symbol's own; output sections, their indexes and attributes, and segments are told as they are; each byte of a part
 -- has one owner; no two parts share a byte of the file; and under a plain plan the same holds of memory
-pub record IsSound (sizes : TableSizes) (link : LinkInput) (live : Live) (layout : Layout) : Type 0 where
-  pub met : reference_faults link ≡ []
-  pub reached : AreLive link live
-  pub shown : told_live link layout ≡ live_sections link (output_content sizes link live) (starts_of layout.section_part_layouts)
-  pub merged : layout.merged_strings ≡ (link_inputs link).outputs
+pub record IsSound (made : Made) (layout : LayoutRecord) : Type 0 where
+  pub lent : layout.link ≡ made.link
+  pub met : reference_faults made.link ≡ []
+  pub reached : AreLive made.link made.live
+  pub shown : told_live made.link layout ≡ live_sections (made_filling made) (starts_of layout.section_part_layouts)
+  pub merged : layout.merged_strings ≡ (link_inputs made.link).outputs
   pub starts : AreStartsOf layout.merged_strings layout.merged_string_start_addresses
-  pub images : ImagesStand sizes link live layout
-  pub named : NamedSymbolsShow link live layout
-  pub references : ReferencesShow link live layout
-  pub inside : merge_offsets link live ≡ []
-  pub resolved : layout.symbol_resolutions ≡ symbol_resolutions sizes link live (starts_of layout.section_part_layouts)
-  pub placed : SymbolsStandInLiveSections link live
-  pub valued : link.options.relax ≡ false → ValuesAreInLiveSections link live layout
-  pub commons : CommonsStand sizes link live layout
-  pub alone : TablesStandAlone sizes link live
-  pub entries : EntriesStand sizes link live layout
-  pub entered : layout.entry_symbol_id ≡ entry_symbol link
-  pub outputs : AreOutputsTold sizes link live layout
-  pub aligned : LiveSectionsAreAligned link live layout
-  pub shared : (p : ℕ) → p < length (all_parts link.plan.sections) → IsSharedOut sizes link live layout p
+  pub images : ImagesStand made layout
+  pub named : NamedSymbolsShow made layout
+  pub references : ReferencesShow made layout
+  pub inside : merge_offsets made.link made.live ≡ []
+  pub resolved : layout.symbol_resolutions ≡ symbol_resolutions made.machine.sizes made.link made.live (starts_of layout.section_part_layouts)
+  pub placed : SymbolsStandInLiveSections made.link made.live
+  pub valued : made.link.options.relax ≡ false → ValuesAreInLiveSections made layout
+  pub commons : CommonsStand made layout
+  pub alone : TablesStandAlone made.machine.sizes made.link made.live
+  pub entries : EntriesStand made layout
+  pub entered : layout.entry_symbol_id ≡ entry_symbol made.link
+  pub outputs : AreOutputsTold made layout
+  pub aligned : LiveSectionsAreAligned made layout
+  pub shared : (p : ℕ) → p < length (all_parts made.link.plan.sections) → IsSharedOut made layout p
   pub file : FileIsDisjoint layout.section_part_layouts
-  pub memory : IsPlain link.plan link.options.output → IsSoundInMemory sizes link live layout
+  pub memory : IsPlain made.link.plan made.link.options.output → IsSoundInMemory made layout

@@ -20,7 +20,7 @@ use Rattle.lk_merge.specs.LinkInputs.{link_inputs}
 use Rattle.lk_merge.specs.Pieces.{MergeInput}
 use Rattle.lk_expressions.specs.declared.positions.SymbolPosition.{SymbolPosition}
 use Rattle.lk_expressions.specs.Named.{names_no_symbol}
-use Rattle.lk_sizes.specs.Owners.{Content}
+use Rattle.lk_sizes.specs.Owners.{Filling}
 use Rattle.lk_layout.specs.Positions.{symbol_positions}
 use Rattle.lk_layout.specs.Resolutions.{Places, merged_value}
 
@@ -51,8 +51,8 @@ position_in marks offsets first sections (at.Section i offset) = option_and_then
 position_in marks offsets first sections _ = None
 
 -- the places of all symbols; none where no expression of a walk names a symbol, since then no place is read
-abbrev pub asked_positions : LinkInput → Content → List (Option SymbolPosition)
-asked_positions link content = if names_no_symbol link.plan then [] else symbol_positions link content
+abbrev pub asked_positions : Filling → List (Option SymbolPosition)
+asked_positions filling = if names_no_symbol filling.content.link.plan then [] else symbol_positions filling
 
 -- the merged sections of a well-formed link, with addresses of their buckets
 pub record AreMergedOf (link : LinkInput) (merged : List (List MergeInput)) (addresses : List ℕ) : Type 0 where

@@ -15,7 +15,7 @@ ghost use Rattle.lk_sizes.specs.PartOwners.{part_size};
 ghost use Rattle.lk_sizes.specs.Header.{header_info};
 ghost use Rattle.lk_tables.specs.Commons.{all_commons};
 ghost use Rattle.lk_tables.specs.DynamicCounters.{AreNumbersAt};
-ghost use Rattle.lk_layout.specs.OutputContent.{output_content};
+ghost use Rattle.lk_layout.specs.OutputContent.{output_content, output_filling};
 ghost use Rattle.lk_layout.specs.Defined.{starts_of};
 ghost use Rattle.lk_layout.specs.MergingWords.{AreImages};
 ghost use Rattle.lk_layout.specs.Resolutions.{symbol_resolutions};
@@ -70,16 +70,16 @@ pub(crate) fn addresses_of<P: Platform>(
     requires live { AreLive link.now live.now }
     requires images { AreImages link.now images.now }
     requires commons { listed.now ≡ all_commons link.now live.now }
-    requires contents { contents.now ≡ part_contents link.now (output_content (P.table_sizes platform.now) link.now live.now) }
-    requires told { entries.told.now ≡ (header_info link.now (output_content (P.table_sizes platform.now) link.now live.now)).emitted }
+    requires contents { contents.now ≡ part_contents (output_filling (P.table_sizes platform.now) link.now live.now) }
+    requires told { entries.told.now ≡ (header_info (output_content (P.table_sizes platform.now) link.now live.now)).emitted }
     requires numbers { AreNumbersAt link.now live.now entries.told.now 0 entries.numbers }
     requires each { length parts.now ≡ length (all_parts link.now.plan.sections) }
     requires takes { (p : ℕ) → p < length parts.now
-        → (record_at parts.now p).mem_size ≡ part_size link.now (output_content (P.table_sizes platform.now) link.now live.now) p }
+        → (record_at parts.now p).mem_size ≡ part_size (output_filling (P.table_sizes platform.now) link.now live.now) p }
     ensures sections { IfOk result (λ told. told.sections.items
-        ≡ section_addresses link.now (output_content (P.table_sizes platform.now) link.now live.now) (starts_of parts.now)) }
+        ≡ section_addresses (output_filling (P.table_sizes platform.now) link.now live.now) (starts_of parts.now)) }
     ensures buckets { IfOk result (λ told. told.buckets
-        ≡ start_addresses fnv64 (link_inputs link.now).outputs (image_addresses link.now (output_content (P.table_sizes platform.now) link.now live.now) (starts_of parts.now))) }
+        ≡ start_addresses fnv64 (link_inputs link.now).outputs (image_addresses (output_filling (P.table_sizes platform.now) link.now live.now) (starts_of parts.now))) }
     ensures belong { IfOk result (λ told. AreMergedOf link.now images.now.sections told.buckets) }
     ensures resolutions { IfOk result (λ told. told.resolutions ≡ symbol_resolutions (P.table_sizes platform.now) link.now live.now (starts_of parts.now)) }
 {

@@ -6,43 +6,158 @@ ghost use Rattle.lk_layout.specs.Layouts.{resolved_entry};
 use crate::resolution::{EntryFault, entry_value};
 use crate::symbol_resolutions::SymbolResolutions;
 use lk_link::ids::SymbolId;
+use lk_link::link::LinkInput;
 use lk_link::list::List;
 use lk_merge::{MergedStringStartAddresses, MergedStringsSection};
 use lk_place::{OutputRecordLayout, SegmentLayout};
+use std::marker::Model;
 
-/// Where everything stands (libwild: `Layout`).
+/// Where everything stands (libwild: `Layout`). Contracts see a record of all that it lends.
 #[derive(Drop)]
 pub struct Layout<'data> {
-    /// Of each output section.
-    pub section_layouts: List<OutputRecordLayout>,
-    /// Of each output section together with its secondaries, from its own start on; nothing of a secondary section.
-    pub merged_section_layouts: List<OutputRecordLayout>,
-    /// Of each part, numbered over all sections.
-    pub section_part_layouts: List<OutputRecordLayout>,
-    /// Of each output section its attributes: the plan's, with those of its live input sections
-    /// (libwild: `propagate_section_attributes`).
-    pub section_attributes: List<u32>,
-    /// For each output section its index in the output; none where it isn't emitted.
-    pub output_section_indexes: List<Option<u32>>,
-    /// Of each active segment, by number.
-    pub segment_layouts: List<SegmentLayout>,
-    /// What the active thread-local segment spans; none where there is none.
-    pub tls_layout: Option<OutputRecordLayout>,
-    /// Of each input section, by its number over all files, whether it is live.
-    pub live_marks: List<bool>,
-    /// Of each live input section, by its number over all files, the address of its first byte; 0 for any other.
-    pub section_addresses: List<u64>,
-    /// Of each output section its merged data; pieces are lent by the link. Contracts see the list of its inputs.
-    pub merged_strings: List<MergedStringsSection<'data>>,
-    /// Where the buckets of merged data stand in memory.
-    pub merged_string_start_addresses: MergedStringStartAddresses,
-    /// Of each symbol, by number, what it stands for in the output; none where it has no resolution.
-    pub symbol_resolutions: SymbolResolutions,
-    /// The symbol that stands for the one where the program starts; none where the options name none.
-    pub entry_symbol_id: Option<SymbolId>,
+    pub(crate) link: &'data LinkInput,
+    pub(crate) section_layouts: List<OutputRecordLayout>,
+    pub(crate) merged_section_layouts: List<OutputRecordLayout>,
+    pub(crate) section_part_layouts: List<OutputRecordLayout>,
+    pub(crate) section_attributes: List<u32>,
+    pub(crate) output_section_indexes: List<Option<u32>>,
+    pub(crate) segment_layouts: List<SegmentLayout>,
+    pub(crate) tls_layout: Option<OutputRecordLayout>,
+    pub(crate) live_marks: List<bool>,
+    pub(crate) section_addresses: List<u64>,
+    pub(crate) merged_strings: List<MergedStringsSection<'data>>,
+    pub(crate) merged_string_start_addresses: MergedStringStartAddresses,
+    pub(crate) symbol_resolutions: SymbolResolutions,
+    pub(crate) entry_symbol_id: Option<SymbolId>,
+}
+
+impl<'data> Model for Layout<'data> {
+    ghost use Rattle.std.specs.Coded.{codes};
+    ghost use Rattle.lk_link.specs.contracts.link.LinkInput as link_input;
+    ghost use Rattle.lk_layout.specs.LayoutRecord.{LayoutRecord};
+
+    ghost Value = { LayoutRecord };
+
+    ghost coded = { Prim.hlevel (codes, link_input.the_row.coded) };
+
+    ghost view = { λ a. record {
+      link = a.link.now;
+      section_layouts = a.section_layouts;
+      merged_section_layouts = a.merged_section_layouts;
+      section_part_layouts = a.section_part_layouts;
+      section_attributes = a.section_attributes;
+      output_section_indexes = a.output_section_indexes;
+      segment_layouts = a.segment_layouts;
+      tls_layout = a.tls_layout;
+      live_marks = a.live_marks;
+      section_addresses = a.section_addresses;
+      merged_strings = a.merged_strings;
+      merged_string_start_addresses = a.merged_string_start_addresses;
+      symbol_resolutions = a.symbol_resolutions;
+      entry_symbol_id = a.entry_symbol_id;
+    } };
 }
 
 impl<'data> Layout<'data> {
+    /// The link that is laid out.
+    pub fn link(&self) -> &'data LinkInput
+        ensures { result.now ≡ self.now.link }
+    {
+        self.link
+    }
+
+    /// The record of each output section.
+    pub fn section_layouts(&self) -> &[OutputRecordLayout]
+        ensures { result.now ≡ self.now.section_layouts }
+    {
+        self.section_layouts.as_slice()
+    }
+
+    /// That of each output section together with its secondaries, from its own start on; of nothing for a secondary section.
+    pub fn merged_section_layouts(&self) -> &[OutputRecordLayout]
+        ensures { result.now ≡ self.now.merged_section_layouts }
+    {
+        self.merged_section_layouts.as_slice()
+    }
+
+    /// That of each part, numbered over all sections.
+    pub fn section_part_layouts(&self) -> &[OutputRecordLayout]
+        ensures { result.now ≡ self.now.section_part_layouts }
+    {
+        self.section_part_layouts.as_slice()
+    }
+
+    /// Of each output section its attributes: the plan's, with those of its live input sections
+    /// (libwild: `propagate_section_attributes`).
+    pub fn section_attributes(&self) -> &[u32]
+        ensures { result.now ≡ self.now.section_attributes }
+    {
+        self.section_attributes.as_slice()
+    }
+
+    /// For each output section its index in the output; none where it isn't emitted.
+    pub fn output_section_indexes(&self) -> &[Option<u32>]
+        ensures { result.now ≡ self.now.output_section_indexes }
+    {
+        self.output_section_indexes.as_slice()
+    }
+
+    /// Of each active segment, by number, what it spans.
+    pub fn segment_layouts(&self) -> &[SegmentLayout]
+        ensures { result.now ≡ self.now.segment_layouts }
+    {
+        self.segment_layouts.as_slice()
+    }
+
+    /// What the active thread-local segment spans; none where there is none.
+    pub fn tls_layout(&self) -> Option<OutputRecordLayout>
+        ensures { result ≡ self.now.tls_layout }
+    {
+        self.tls_layout
+    }
+
+    /// Of each input section, by its number over all files, whether it is live.
+    pub fn live_marks(&self) -> &[bool]
+        ensures { result.now ≡ self.now.live_marks }
+    {
+        self.live_marks.as_slice()
+    }
+
+    /// Of each live input section, by its number over all files, the address of its first byte; 0 for any other.
+    pub fn section_addresses(&self) -> &[u64]
+        ensures { result.now ≡ self.now.section_addresses }
+    {
+        self.section_addresses.as_slice()
+    }
+
+    /// Of each output section its merged data; pieces are lent by the link. Contracts see the list of its inputs.
+    pub fn merged_strings(&self) -> &[MergedStringsSection<'data>]
+        ensures { result.now ≡ self.now.merged_strings }
+    {
+        self.merged_strings.as_slice()
+    }
+
+    /// Where the buckets of merged data stand in memory.
+    pub fn merged_string_start_addresses(&self) -> &MergedStringStartAddresses
+        ensures { result.now ≡ self.now.merged_string_start_addresses }
+    {
+        &self.merged_string_start_addresses
+    }
+
+    /// Of each symbol, by number, what it stands for in the output; none where it has no resolution.
+    pub fn symbol_resolutions(&self) -> &SymbolResolutions
+        ensures { result.now ≡ self.now.symbol_resolutions }
+    {
+        &self.symbol_resolutions
+    }
+
+    /// The symbol that stands for the one where the program starts; none where the options name none.
+    pub fn entry_symbol_id(&self) -> Option<SymbolId>
+        ensures { result ≡ self.now.entry_symbol_id }
+    {
+        self.entry_symbol_id
+    }
+
     /// The address where the program starts; none where no entry is named. Refused where the entry's symbol has no resolution, and
     /// where only the dynamic linker gives its value. Takes constant time.
     pub fn resolved_entry_symbol_address(&self) -> Result<Option<u64>, EntryFault>

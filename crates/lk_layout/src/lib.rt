@@ -5,7 +5,7 @@
 mod addresses;
 pub mod arch;
 pub mod carried;
-pub mod compute;
+mod computation;
 mod entries;
 pub mod error;
 mod headers;
@@ -18,10 +18,12 @@ pub mod outside;
 mod positions;
 mod references;
 pub mod resolution;
+mod stages;
 mod symbol_resolutions;
 
 pub use crate::arch::{Arch, Small64Arch};
 pub use crate::carried::first_uncarried;
+pub use crate::computation::{compute, compute_alone};
 pub use crate::error::{LayoutError, Uncarried};
 pub use crate::layout::Layout;
 pub use crate::outside::MergeOffsetPlace;

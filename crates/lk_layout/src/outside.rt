@@ -22,7 +22,6 @@ use lk_link::marks::is_marked;
 use lk_link::relocation::resolution_flags;
 use lk_link::{FileId, FileRef, InputSection, InputSymbol, LinkInput, Relocation, SymbolId};
 use lk_merge::{MergedStringsSection, refers_outside, refers_outside_in, stands_outside_in};
-use lk_tables::is_wanted;
 use std::fmt;
 
 /// What chooses an offset outside the data of a merged section.
@@ -125,7 +124,7 @@ fn check_symbol(
     ensures { StopsAtFirst (symbol_outside link.now live.now file.entry.file.now.kind (number, symbol.now)) result }
 {
     let flags = flags_at(live, number);
-    let is_resolved = is_wanted(file.file.kind, SymbolId::from_u32(number), symbol, flags);
+    let is_resolved = symbol.is_wanted(file.file.kind, SymbolId::from_u32(number), flags);
     if is_resolved && is_outside(link, file, number, symbol) {
         return Err(MergeOffsetPlace::OfSymbol(SymbolId::from_u32(number)));
     }

@@ -17,7 +17,7 @@ ghost use Rattle.lk_sizes.specs.Contents.{part_contents};
 ghost use Rattle.lk_sizes.specs.PartOwners.{part_sizes};
 ghost use Rattle.lk_tables.specs.Commons.{all_commons};
 ghost use Rattle.lk_layout.specs.MergingWords.{AreImages};
-ghost use Rattle.lk_layout.specs.OutputContent.{output_content};
+ghost use Rattle.lk_layout.specs.OutputContent.{output_content, output_filling};
 ghost use Rattle.lk_layout.specs.Positions.{file_positions, no_starts, symbol_positions};
 ghost use Rattle.lk_layout.specs.Tables.{HasRoom, HaveRoom, asked_positions, position_in, section_position_in};
 
@@ -46,9 +46,9 @@ pub(crate) fn asked_positions<P: Platform>(
     requires live { AreLive link.now live.now }
     requires images { AreImages link.now images.now }
     requires commons { commons.now ≡ all_commons link.now live.now }
-    requires contents { contents.now ≡ part_contents link.now (output_content (P.table_sizes platform.now) link.now live.now) }
-    requires sizes { sizes.now ≡ part_sizes link.now (output_content (P.table_sizes platform.now) link.now live.now) }
-    ensures { IfOk result (λ positions. positions ≡ asked_positions link.now (output_content (P.table_sizes platform.now) link.now live.now)) }
+    requires contents { contents.now ≡ part_contents (output_filling (P.table_sizes platform.now) link.now live.now) }
+    requires sizes { sizes.now ≡ part_sizes (output_filling (P.table_sizes platform.now) link.now live.now) }
+    ensures { IfOk result (λ positions. positions ≡ asked_positions (output_filling (P.table_sizes platform.now) link.now live.now)) }
 {
     if names_no_symbol(&link.plan) {
         return Ok(SymbolPositions::new(List::new(alloc)));
@@ -74,9 +74,9 @@ fn symbol_positions<P: Platform>(
     requires live { AreLive link.now live.now }
     requires images { AreImages link.now images.now }
     requires commons { commons.now ≡ all_commons link.now live.now }
-    requires contents { contents.now ≡ part_contents link.now (output_content (P.table_sizes platform.now) link.now live.now) }
-    requires sizes { sizes.now ≡ part_sizes link.now (output_content (P.table_sizes platform.now) link.now live.now) }
-    ensures { IfOk result (λ positions. positions ≡ symbol_positions link.now (output_content (P.table_sizes platform.now) link.now live.now)) }
+    requires contents { contents.now ≡ part_contents (output_filling (P.table_sizes platform.now) link.now live.now) }
+    requires sizes { sizes.now ≡ part_sizes (output_filling (P.table_sizes platform.now) link.now live.now) }
+    ensures { IfOk result (λ positions. positions ≡ symbol_positions (output_filling (P.table_sizes platform.now) link.now live.now)) }
 {
     let starts = no_starts(alloc, sizes)?;
     let lens = &images.lens;
@@ -112,10 +112,10 @@ fn push_file_positions<P: Platform>(
 ) -> Result<(), AllocError>
     requires good { IsWellFormed link.now }
     requires there { file_in link.now.groups file.id ≡ Some file.file.now }
-    requires offsets { offsets.now ≡ section_addresses link.now (output_content (P.table_sizes platform.now) link.now live.now) (no_starts link.now) }
+    requires offsets { offsets.now ≡ section_addresses (output_filling (P.table_sizes platform.now) link.now live.now) (no_starts link.now) }
     requires room { HaveRoom live.now.marks offsets.now link.now.groups }
     ensures { OnOk result (positions.new.items
-        ≡ positions.old.items ++ file_positions link.now (output_content (P.table_sizes platform.now) link.now live.now) (file_of file.entry)) }
+        ≡ positions.old.items ++ file_positions (output_filling (P.table_sizes platform.now) link.now live.now) (file_of file.entry)) }
 {
     let symbols = file.file.symbols.as_slice();
     if !file.file.kind.is_object() {

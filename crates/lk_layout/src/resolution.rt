@@ -32,7 +32,7 @@ use lk_link::{
     TableCursors, ValueFlags,
 };
 use lk_sizes::CommonAddress;
-use lk_tables::{DynamicNumbers, is_wanted};
+use lk_tables::DynamicNumbers;
 use std::alloc::{AllocError, Global};
 
 /// Why the entry has no address.
@@ -288,7 +288,7 @@ fn resolve<P: Platform>(
     let id = SymbolId::from_u32(number);
     let dynamic = next.numbers.take(link, live, tables.told, file, id, symbol);
     let flags = flags_at(live, number);
-    if !is_wanted(kind, id, symbol, flags) {
+    if !symbol.is_wanted(kind, id, flags) {
         return None;
     }
     let raw_value = symbol_value(tables, merged, file, first, number, symbol);

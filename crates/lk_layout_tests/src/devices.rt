@@ -5,13 +5,11 @@ ghost use Rattle.std.specs.Prelude.{◌≡◌, IfOk};
 use crate::rows::{Asked, expect_rows, expect_text};
 use crate::runs::{ROOM, words_of};
 use lk_link::NoGate;
-use lk_run::memory::{MemorySink, MemorySource};
-use lk_run::run::run;
-use lk_run::sink::Sink;
-use lk_run::source::Source;
-use lk_run::standard::{StandardInput, StandardOutput};
-use lk_run::sure::{SureSink, SureSource};
 use lk_run::transfer::{read_all, write_all};
+use lk_run::{
+    MemorySink, MemorySource, Sink, Source, StandardInput, StandardOutput, SureSink, SureSource,
+    run,
+};
 use lk_test_rows::add;
 use std::alloc::{AllocError, Global};
 use std::io::{Read, Write};

@@ -2,13 +2,12 @@
 
 ghost use Rattle.std.specs.Prelude.{◌≡◌, ◌≤◌, true};
 
-use crate::report::report_of;
 use crate::rows::{Asked, expect_rows};
 use crate::runs::expect_reports;
-use crate::shown::Shown;
-use lk_layout::compute::compute;
-use lk_layout::{Layout, LayoutError, Small64Arch};
+use lk_check::check_link;
+use lk_layout::{Layout, LayoutError, Small64Arch, compute};
 use lk_link::{Gate, LinkInput, NoGate, Small64};
+use lk_run::report_text;
 use lk_test_rows::add;
 use std::alloc::{AllocError, Global};
 use std::sync::Wait;
@@ -51,6 +50,22 @@ segment 0 mem 0x1000 32 file 0x0 15 align 16
 live 1 0 0 0x1000 8
 live 1 0 1 0x1008 7
 live 1 0 2 0x1010 16
+entry -
+end
+
+# Sections of two, three, one and two parts, of which one part has bytes: the other sections are told with their first parts.
+{"plan":{"page":16,"base":["num",43968],"sections":[{"attrs":1,"parts":[[2,false],[1,false]]},{"attrs":3,"parts":[[4,false],[2,false],[1,false]]},{"attrs":1,"parts":[[1,false]]},{"attrs":1,"parts":[[2,false],[1,false]]}],"segments":[{"kind":"load"},{"kind":"load"}],"events":[["seg",0],["sec",0],["endseg",0],["seg",1],["sec",1],["sec",2],["sec",3],["endseg",1]]},"groups":[[{"kind":"prelude"}],[{"kind":"object","sections":[{"slot":"unloaded","size":1},{"slot":"unloaded","size":2},{"slot":"must","part":3,"size":3},{"slot":"unloaded","size":3}]}]]}
+0 layout
+section 0 index - mem 0xabc0 0 file 0x0 0 align 1 lma 0xabc0 attrs 1
+section 1 index 0 mem 0xabc0 4 file 0x0 4 align 2 lma 0xabc0 attrs 3
+section 2 index - mem 0xabc4 0 file 0x4 0 align 1 lma 0xabc4 attrs 1
+section 3 index - mem 0xabc4 0 file 0x4 0 align 1 lma 0xabc4 attrs 1
+part 0 mem 0xabc0 0 file 0x0 0 align 1
+part 3 mem 0xabc0 4 file 0x0 4 align 2
+part 5 mem 0xabc4 0 file 0x4 0 align 1
+part 6 mem 0xabc4 0 file 0x4 0 align 1
+segment 1 mem 0xabc0 4 file 0x0 4 align 2
+live 1 0 2 0xabc0 3
 entry -
 end
 
@@ -283,12 +298,12 @@ const REFUSED: &str = r#"
 # in a plan, behind its sections and events,
 @ {"plan":{"page":16,"sections":[{"parts":[[1,false]]}],"events":[["sec",0]]...},"groups":[[{"kind":"prelude"}]]}
 ,"custom_base":true => 1 base address (0x0) is less than the size of headers (0x40)
-,"singletons":0 => 1 not carried: partial
+,"singletons":0 => 1 bad link: rule 5, plan
 ,"primary":0},"options":{"branch_range":2097153 => 1 not carried: primary
 ,"primary":0,"comment":0},"options":{"branch_range":2097153 => 1 not carried: primary
 ,"primary":0 => 1 bad link: rule 4, part field 12
 ,"base":["sym",0] => 1 bad link: rule 8, plan
-,"custom_base":true,"singletons":0 => 1 not carried: partial
+,"singletons":0},"options":{"output":"partial" => 1 not carried: partial
 # in the first of two output sections,
 @ {"plan":{"page":16,"sections":[{"parts":[[1,false]],...},{"parts":[[1,false]]}],"events":[["sec",0],["sec",1]]},"groups":[[{"kind":"prelude"}]]}
 "region":"r" => 1 region of section 0 not declared
@@ -328,6 +343,14 @@ impl Gate for Door {
     ghost may_enter = { λ door. door.is_open ≡ true };
 
     fn enter(&self, _group: u32) {}
+}
+
+/// The report of a layout; nothing where the link isn't well formed.
+fn report_of(alloc: Global, link: &LinkInput, layout: &Layout<'_>) -> Result<String, AllocError> {
+    if check_link(link).is_err() {
+        return Ok(String::new(alloc));
+    }
+    report_text(alloc, link, layout)
 }
 
 /// The report of a layout, or why there is none.
@@ -382,5 +405,5 @@ const UNCARRIED: &str = r#"
 
 #[test]
 fn what_is_not_carried_is_found(rt: HostRuntime) -> Result<(), Fail> {
-    expect_rows(&rt, rt.alloc(), Asked::Of(Shown::Uncarried), UNCARRIED)
+    expect_rows(&rt, rt.alloc(), Asked::Uncarried, UNCARRIED)
 }

@@ -16,13 +16,9 @@ mod placements;
 #[cfg(test)]
 mod reach;
 #[cfg(test)]
-mod report;
-#[cfg(test)]
 mod rows;
 #[cfg(test)]
 mod runs;
-#[cfg(test)]
-mod shown;
 #[cfg(test)]
 mod tabled;
 #[cfg(test)]

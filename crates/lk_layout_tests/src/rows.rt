@@ -3,11 +3,11 @@
 use crate::devices::{add_calls, add_held, add_reads, add_run, add_whole, add_writes};
 use crate::layout::add_workers;
 use crate::runs::{add_end, add_words};
-use crate::shown::{Shown, add_shown};
 use crate::words::add_both_runs;
 use lk_input::{InputError, read_link};
+use lk_layout::first_uncarried;
 use lk_link::LinkInput;
-use lk_test_rows::{Row, rows_of};
+use lk_test_rows::{Row, add, rows_of};
 use std::alloc::{AllocError, Global};
 use std::process::Abort;
 use std::sync::Wait;
@@ -17,8 +17,8 @@ use std::thread::Threads;
 /// What is asked about a text.
 #[derive(Clone, Copy)]
 pub enum Asked {
-    /// What is told of the description that it is.
-    Of(Shown),
+    /// What isn't carried of the description that it is.
+    Uncarried,
     /// What reports are made of it by how many workers.
     Workers,
     /// How a run over it ends.
@@ -50,7 +50,7 @@ fn add_found(
     link: &Result<LinkInput, InputError>,
 ) -> Result<(), AllocError> {
     match (link, asked) {
-        (Ok(link), Asked::Of(shown)) => add_shown(alloc, line, shown, link),
+        (Ok(link), Asked::Uncarried) => add(line, "first", &first_uncarried(link)),
         (Ok(link), _) => add_workers(rt, alloc, line, link),
         (Err(error), _) => write!(line, "no link: {error}"),
     }
@@ -77,7 +77,7 @@ fn add_answer(
     text: &str,
 ) -> Result<(), AllocError> {
     match asked {
-        Asked::Of(_) | Asked::Workers => add_linked(rt, alloc, line, asked, text),
+        Asked::Uncarried | Asked::Workers => add_linked(rt, alloc, line, asked, text),
         Asked::Run => add_end(alloc, line, text),
         Asked::Words => add_words(alloc, line, text),
         Asked::BothRuns => add_both_runs(rt, alloc, line, text),

@@ -2,10 +2,7 @@
 
 use crate::rows::expect_text;
 use lk_link::NoGate;
-use lk_run::memory::{MemorySink, MemorySource};
-use lk_run::run::{run, run_alone};
-use lk_run::status::Status;
-use lk_run::words::read_words;
+use lk_run::{MemorySink, MemorySource, Status, read_words, run, run_alone};
 use lk_test_rows::{Frame, NO_FRAME, add, frame_of, framed};
 use std::alloc::{AllocError, Global};
 use std::process::Abort;

@@ -2,9 +2,7 @@
 
 use crate::rows::{Asked, expect_rows, expect_text};
 use crate::runs::{told_by_workers, words_of};
-use lk_run::run::run_alone;
-use lk_run::status::Status;
-use lk_run::sure::{SureSink, SureSource};
+use lk_run::{Status, SureSink, SureSource, run_alone};
 use lk_test_rows::add;
 use std::alloc::{AllocError, Global};
 use std::sync::Wait;

@@ -19,10 +19,11 @@ use Rattle.lk_link.specs.declared.plan.PlanPart.{PlanPart}
 use Rattle.lk_link.specs.declared.plan.PlanSection.{PlanSection}
 use Rattle.lk_link.specs.Alignments.{is_alignment}
 use Rattle.lk_link.specs.Limits.{counted, limit_of, AreFew}
+use Rattle.lk_link.specs.OutputKinds.{is_partial}
 use Rattle.lk_link.specs.Parts.{all_parts, first_part}
 use Rattle.lk_link.proofs.Places.{value_of, all_at, all_from, all_joined}
 use Rattle.lk_link.proofs.Powers.{alignment-pos, alignment-le}
-use Rattle.lk_link.specs.Rules.{is_branch_range, has_entry, is_good_options, falls, is_primary, has_primary, is_good_section, AreGoodOptions, IsPrimary, IsGoodSection}
+use Rattle.lk_link.specs.Rules.{is_branch_range, has_entry, is_good_options, falls, is_primary, has_primary, is_good_section, has_good_singletons, AreGoodOptions, IsPrimary, IsGoodSection}
 use Rattle.lk_link.specs.Symbols.{symbol_at}
 use Rattle.lk_link.specs.WellFormed.{IsInRange, IsAboutPlace, IsWellFormed}
 
@@ -134,6 +135,16 @@ section_parts_within sections s section at_s =
     let same = get_or_from_slice_get sections s section section at_s in
     let sum = length-flat_map-take (λ q. q.parts) sections s section inside in
     rw same at sum
+
+-- ---- singletons
+
+-- the section of singletons is there, and output is partial
+pub good_singletons : (link : LinkInput) (s : ℕ) → has_good_singletons link ≡ true → link.plan.singletons ≡ Some s → (s < length link.plan.sections) × (is_partial link.options.output ≡ true)
+good_singletons link s h e =
+    let both : (nat_lt s (length link.plan.sections) && is_partial link.options.output) ≡ true =
+    sym (ap (λ o. option_map_or (λ t. nat_lt t (length link.plan.sections) && is_partial link.options.output) o true) e) ∙ h in
+    let parts = and_parts (nat_lt s (length link.plan.sections)) (is_partial link.options.output) both in
+    (ltb-true s (length link.plan.sections) parts.0, parts.1)
 
 -- ---- events
 

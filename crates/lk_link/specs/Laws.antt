@@ -8,6 +8,7 @@ use Rattle.lk_link.specs.declared.plan.PlanSection.{PlanSection}
 use Rattle.lk_link.specs.Alignments.{is_alignment}
 use Rattle.lk_link.specs.ExpressionRules.{AreGoodExpressions}
 use Rattle.lk_link.specs.Limits.{AreFew}
+use Rattle.lk_link.specs.OutputKinds.{is_partial}
 use Rattle.lk_link.specs.PartFieldRules.{AreGoodPartFields}
 use Rattle.lk_link.specs.Parts.{all_parts, first_part}
 use Rattle.lk_link.specs.Rules.{AreGoodOptions, IsPrimary, IsGoodSection}
@@ -37,6 +38,11 @@ PrimariesAreOthers = (link : LinkInput) (s p : ℕ) (section : PlanSection) → 
 -- the parts that its plan names are good: they are there, and table parts are no others
 abbrev pub PartFieldsAreGood : Type 0
 PartFieldsAreGood = (link : LinkInput) → IsWellFormed link → AreGoodPartFields link
+
+-- the section of singletons of a link is one of its plan's, and the link's output is partial
+abbrev pub SingletonsAreGood : Type 0
+SingletonsAreGood = (link : LinkInput) (s : ℕ) → IsWellFormed link → link.plan.singletons ≡ Some s
+    → (s < length link.plan.sections) × (is_partial link.options.output ≡ true)
 
 -- its events name what is there, each of them once
 abbrev pub EventsStandOnce : Type 0

@@ -1,5 +1,5 @@
 -- Which parts symbols and input sections may go to.
-use Rattle.std.specs.Prelude.{ℕ, ◌+◌, ◌==◌, ◌&&◌, ◌||◌, not, Bool, false, List, [], ◌∷◌, Option, is_some, length, nat_le, nat_lt}
+use Rattle.std.specs.Prelude.{ℕ, ◌+◌, ◌==◌, ◌&&◌, not, Bool, false, List, [], ◌∷◌, Option, length, nat_le, nat_lt}
 use Rattle.std.specs.List.{list_any}
 use Rattle.std.specs.Option.{option_map_or}
 use Rattle.lk_link.specs.declared.plan.NamedParts.{NamedParts}
@@ -11,10 +11,6 @@ use Rattle.lk_link.specs.Parts.{all_parts, first_part}
 abbrev pub table_parts : NamedParts → List (Option ℕ)
 table_parts n = n.got ∷ n.plt ∷ n.symtab_local ∷ n.symtab_global ∷ n.strtab ∷ n.dynsym ∷ n.dynstr
     ∷ n.file_header ∷ n.program_headers ∷ n.section_headers ∷ n.shstrtab ∷ []
-
--- the plan gives a table part or the comment part
-abbrev pub names_table : NamedParts → Bool
-names_table n = list_any is_some (table_parts n) || is_some n.comment
 
 -- whether it is this part
 abbrev pub is_part : ℕ → Option ℕ → Bool

@@ -3,7 +3,7 @@ use Rattle.std.specs.Prelude.{ℕ, ◌+◌, Bool, true, false}
 use Rattle.lk_link.specs.declared.relocation.RelocationKind.{RelocationKind}
 use Rattle.lk_link.specs.declared.relocation.RelocationKind.TheVariants as kind
 use Rattle.lk_link.specs.declared.flags.TheConstants.ValueFlags as flag
-use Rattle.lk_link.specs.Flags.{has_flag, wants_got_entry, wants_table_entry}
+use Rattle.lk_link.specs.Flags.{has_flag, wants_got_entry}
 
 -- the flags that it asks for
 abbrev pub resolution_flags : RelocationKind → ℕ
@@ -49,10 +49,6 @@ resolution_flags kind.SymbolSize = flag.SYMBOL_SIZE.0
 resolution_flags kind.None = 0
 resolution_flags kind.Alignment = 0
 resolution_flags kind.MachoAddition = 0
-
--- whether it wants an entry of a table: of plt, of got, or a thread-local one of got
-abbrev pub wants_entry : RelocationKind → Bool
-wants_entry kind = wants_table_entry (resolution_flags kind)
 
 -- whether it wants an entry of plt
 abbrev pub wants_plt : RelocationKind → Bool

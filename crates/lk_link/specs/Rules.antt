@@ -4,6 +4,7 @@ use Rattle.std.specs.List.{list_all, list_any}
 use Rattle.std.specs.Option.{ForSome, option_map_or}
 use Rattle.lk_link.specs.declared.file.InputFile.{InputFile}
 use Rattle.lk_link.specs.declared.limits.TheConstants.{ATTRIBUTE_SETS, MOST_NEAR_BRANCH, MOST_BUCKET, MOST_MERGE_GROUP}
+use Rattle.lk_link.specs.declared.link.LinkInput.{LinkInput}
 use Rattle.lk_link.specs.declared.options.Options.{Options}
 use Rattle.lk_link.specs.declared.plan.PlanPart.{PlanPart}
 use Rattle.lk_link.specs.declared.plan.PlanSection.{PlanSection}
@@ -12,6 +13,7 @@ use Rattle.lk_link.specs.declared.plan.OrderEvent.TheVariants.{SegmentStart, Seg
 use Rattle.lk_link.specs.declared.symbol.InputSymbol.{InputSymbol}
 use Rattle.lk_link.specs.Alignments.{is_alignment}
 use Rattle.lk_link.specs.FileKinds.{is_prelude, is_script}
+use Rattle.lk_link.specs.OutputKinds.{is_partial}
 use Rattle.lk_link.specs.Symbols.{symbol_at}
 
 -- ---- options
@@ -71,6 +73,13 @@ pub record IsGoodSection (sections : List PlanSection) (s : PlanSection) : Type 
   pub falling : falls s.parts ≡ true
   pub few_attrs : s.attrs < ATTRIBUTE_SETS
   pub primary : ForSome s.primary (IsPrimary sections)
+
+-- ---- singletons
+
+-- the section whose input sections stay output sections of their own, if there is one, is one of the plan's, and the output is partial
+abbrev pub has_good_singletons : LinkInput → Bool
+has_good_singletons link =
+    option_map_or (λ s. nat_lt s (length link.plan.sections) && is_partial link.options.output) link.plan.singletons true
 
 -- ---- events
 

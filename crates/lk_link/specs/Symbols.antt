@@ -1,11 +1,15 @@
 -- The symbols of a link, numbered over all files in order.
-use Rattle.std.specs.Prelude.{◌≡◌, ℕ, ◌+◌, ◌<◌, ◌≤◌, ◌==◌, Bool, List, Option, option_map, unwrap_or, length, take, slice_get, sum_by, ◌-◌, Some}
+use Rattle.std.specs.Prelude.{◌≡◌, ℕ, ◌+◌, ◌<◌, ◌≤◌, ◌==◌, ◌&&◌, ◌||◌, not, Bool, List, Option, option_map, unwrap_or, length, take, slice_get, sum_by, ◌-◌, Some}
 use Rattle.std.specs.List.{flat_map}
+use Rattle.lk_link.specs.declared.file.FileKind.{FileKind}
 use Rattle.lk_link.specs.declared.file.InputFile.{InputFile}
+use Rattle.lk_link.specs.declared.flags.ValueFlags.{ValueFlags}
 use Rattle.lk_link.specs.declared.ids.FileId.{FileId}
 use Rattle.lk_link.specs.declared.ids.SymbolIdRange.{SymbolIdRange}
 use Rattle.lk_link.specs.declared.symbol.InputSymbol.{InputSymbol}
+use Rattle.lk_link.specs.FileKinds.{is_internal, is_not_loaded}
 use Rattle.lk_link.specs.Files.{file_in}
+use Rattle.lk_link.specs.Flags.{has_resolution}
 
 -- the files of all groups, in order
 abbrev pub all_files : List (List InputFile) → List InputFile
@@ -26,6 +30,20 @@ definition_of groups s = option_map (λ x. unwrap_or x.def s) (symbol_at groups 
 -- whether a symbol, with its number, stands for itself
 abbrev pub is_canonical : ℕ → InputSymbol → Bool
 is_canonical s x = unwrap_or x.def s == s
+
+-- whether it has a name
+abbrev pub is_named : InputSymbol → Bool
+is_named x = not (length x.name == 0)
+
+-- whether files of a kind give their symbols resolutions: a file that isn't loaded gives none, and one whose symbols the linker places
+-- only to those with a name
+abbrev pub can_resolve : FileKind → InputSymbol → Bool
+can_resolve kind x = not (is_not_loaded kind) && (is_named x || not (is_internal kind))
+
+-- whether a symbol of a file, with its number and these flags, gets a resolution: it stands for itself, and something wants it. The start
+-- of the first load segment counts, since no one knows yet which segment that is
+abbrev pub is_wanted : FileKind → ℕ → InputSymbol → ValueFlags → Bool
+is_wanted kind s x flags = is_canonical s x && has_resolution flags.0 && can_resolve kind x
 
 -- how many symbols a file has
 abbrev pub symbols_in : InputFile → ℕ

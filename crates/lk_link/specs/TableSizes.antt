@@ -12,7 +12,6 @@ use Rattle.lk_link.specs.declared.tables.Allocation.{Allocation}
 use Rattle.lk_link.specs.declared.tables.TableCursors.{TableCursors}
 use Rattle.lk_link.specs.declared.tables.TheConstants.{GREATEST_ENTRY}
 use Rattle.lk_link.specs.Flags.{got_entries, has_flag, wants_got_entry}
-use Rattle.lk_link.specs.Target.{Target}
 
 -- the bytes of entries and headers
 pub record TableSizes : Type 0 where
@@ -25,11 +24,6 @@ pub record TableSizes : Type 0 where
   pub program_header : ℕ
   -- for each section
   pub section_header : ℕ
-
--- all of the machine that a link is for: where its load segments start, and what its tables take
-pub record Machine : Type 0 where
-  pub target : Target
-  pub sizes : TableSizes
 
 -- what isn't asked for takes nothing, and no entry and no header is greater than a page can be
 pub record AreLawful (sizes : TableSizes) : Type 0 where

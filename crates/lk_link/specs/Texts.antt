@@ -39,6 +39,7 @@ rule_number rule.Options = 1
 rule_number rule.Page = 2
 rule_number rule.Sections = 3
 rule_number rule.PartFields = 4
+rule_number rule.Singletons = 5
 rule_number rule.TlsSegment = 6
 rule_number rule.Events = 7
 rule_number rule.Expressions = 8

@@ -16,7 +16,7 @@ use Rattle.lk_link.specs.Files.{file_in}
 use Rattle.lk_link.specs.InputRules.{has_good_inputs}
 use Rattle.lk_link.specs.Limits.{counted, limit_of}
 use Rattle.lk_link.specs.PartFieldRules.{HasGoodPartFields}
-use Rattle.lk_link.specs.Rules.{is_good_options, is_good_section, has_script, is_location, begins_with_prelude}
+use Rattle.lk_link.specs.Rules.{is_good_options, is_good_section, has_good_singletons, has_script, is_location, begins_with_prelude}
 use Rattle.lk_link.specs.SegmentKinds.{is_tls}
 use Rattle.lk_link.specs.SymbolRules.{is_good_symbol, file_symbols}
 use Rattle.lk_link.specs.Symbols.{all_files}
@@ -60,6 +60,7 @@ pub record IsWellFormed (link : LinkInput) : Type 0 where
   pub page : is_alignment link.plan.page ≡ true
   pub sections : list_all (is_good_section link.plan.sections) link.plan.sections ≡ true
   pub parts : HasGoodPartFields link
+  pub singletons : has_good_singletons link ≡ true
   pub tls : count_by (λ s. is_tls s.kind) link.plan.segments ≤ 1
   pub events : IsEventOrder link.plan
   pub locations : list_any is_location link.plan.events ≡ true → has_script link.groups ≡ true

@@ -45,6 +45,8 @@ pub enum Rule {
     /// primary code; the comment's part has alignment 1; the primary part isn't packed, has alignment at most 16, and is
     /// named only where branches are limited.
     PartFields,
+    /// The section of singletons is one of the plan's, and is given only where output is partial.
+    Singletons,
     /// At most one segment is for thread-local data.
     TlsSegment,
     /// Each section is placed once; each segment is opened once, and closed once after that; what an event names is
@@ -145,6 +147,7 @@ impl Rule {
             Rule::Page => 2,
             Rule::Sections => 3,
             Rule::PartFields => 4,
+            Rule::Singletons => 5,
             Rule::TlsSegment => 6,
             Rule::Events => 7,
             Rule::Expressions => 8,

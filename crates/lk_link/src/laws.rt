@@ -4,7 +4,7 @@ ghost use Rattle.std.specs.Prelude.{◌≡◌};
 ghost use Rattle.std.specs.Ordering.{nat_cmp};
 ghost use Rattle.lk_link.specs.Files.{file_cmp};
 ghost use Rattle.lk_link.specs.InputLaws.{CandidatesAreGood, InputsAreGood, InputsGoToParts, InputListsAreFew, TablesAreThere};
-ghost use Rattle.lk_link.specs.Laws.{ExpressionsAreGood, OptionsAreGood, PartFieldsAreGood, PartsAreAligned, SectionsAreGood, PrimariesAreOthers, EventsStandOnce, ListsAreFew};
+ghost use Rattle.lk_link.specs.Laws.{ExpressionsAreGood, OptionsAreGood, PartFieldsAreGood, PartsAreAligned, SectionsAreGood, PrimariesAreOthers, SingletonsAreGood, EventsStandOnce, ListsAreFew};
 ghost use Rattle.lk_link.specs.SymbolLaws.{SymbolsAreGood, NumberedSymbolsAreGood, DefinitionsStandForThemselves};
 
 use crate::alignment::Alignment;
@@ -84,6 +84,11 @@ pub fn primaries_are_others()
 /// comment's and the primary part.
 pub fn part_fields_are_good()
     ensures { PartFieldsAreGood }
+{}
+
+/// A law: the section of singletons of a well-formed link is one of its plan's, and its output is partial.
+pub fn singletons_are_good()
+    ensures { SingletonsAreGood }
 {}
 
 /// A law: the events of a well-formed link name what is there, each of them once.

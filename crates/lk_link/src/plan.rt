@@ -2,6 +2,7 @@
 
 ghost use Rattle.std.specs.Prelude.{◌≡◌, ◌+◌, ◌≤◌, ◌<◌, ◌==◌, length, slice_get, IfOk};
 ghost use Rattle.std.specs.Option.{option_copied};
+ghost use Rattle.lk_link.specs.PartRules.{is_part};
 
 use crate::expression::Expression;
 use crate::ids::{OutputSectionId, PartId, SegmentId};
@@ -203,24 +204,52 @@ pub struct NamedParts {
 }
 
 impl NamedParts {
-    ghost use Rattle.lk_link.specs.PartRules.{names_table};
+    ghost use Rattle.lk_link.specs.PartRules.{is_table_part, table_parts};
 
-    /// Whether the plan gives a table part or the comment part.
-    pub fn names_table(&self) -> bool
-        ensures { result ≡ names_table self.now }
+    /// The table parts, which only the linker fills, in the order in which the plan names them.
+    pub fn table_parts(&self) -> [Option<PartId>; 11]
+        ensures { result ≡ table_parts self.now }
     {
-        self.got.is_some()
-            || self.plt.is_some()
-            || self.symtab_local.is_some()
-            || self.symtab_global.is_some()
-            || self.strtab.is_some()
-            || self.dynsym.is_some()
-            || self.dynstr.is_some()
-            || self.file_header.is_some()
-            || self.program_headers.is_some()
-            || self.section_headers.is_some()
-            || self.shstrtab.is_some()
-            || self.comment.is_some()
+        [
+            self.got,
+            self.plt,
+            self.symtab_local,
+            self.symtab_global,
+            self.strtab,
+            self.dynsym,
+            self.dynstr,
+            self.file_header,
+            self.program_headers,
+            self.section_headers,
+            self.shstrtab,
+        ]
+    }
+
+    /// Whether a part is a table part.
+    pub fn is_table_part(&self, part: PartId) -> bool
+        ensures { result ≡ is_table_part self.now part }
+    {
+        is_part(self.got, part)
+            || is_part(self.plt, part)
+            || is_part(self.symtab_local, part)
+            || is_part(self.symtab_global, part)
+            || is_part(self.strtab, part)
+            || is_part(self.dynsym, part)
+            || is_part(self.dynstr, part)
+            || is_part(self.file_header, part)
+            || is_part(self.program_headers, part)
+            || is_part(self.section_headers, part)
+            || is_part(self.shstrtab, part)
+    }
+}
+
+/// Whether it is this part.
+pub fn is_part(named: Option<PartId>, part: PartId) -> bool
+    ensures { result ≡ is_part part named }
+{
+    match named {
+        None => false,
+        Some(named) => named.as_u32() == part.as_u32(),
     }
 }
 
@@ -247,6 +276,7 @@ pub struct Plan {
 }
 
 impl Plan {
+    ghost use Rattle.lk_link.specs.PartRules.{is_singleton_part};
     ghost use Rattle.lk_link.specs.PlanSections.{is_singletons, own_attributes, is_allocated, is_file_backed, is_thread_local, is_zero_fill_thread_local, has_memory};
 
     /// Whether the input sections of a section stay output sections of their own.
@@ -255,6 +285,16 @@ impl Plan {
     {
         match self.singletons {
             Some(singletons) => singletons.as_u32() == section.as_u32(),
+            None => false,
+        }
+    }
+
+    /// Whether a part belongs to the section whose input sections stay output sections of their own.
+    pub fn is_singleton_part(&self, part: PartId) -> bool
+        ensures { result ≡ is_singleton_part self.now part }
+    {
+        match self.singletons {
+            Some(section) => self.sections.is_part_of(section, part),
             None => false,
         }
     }
@@ -332,6 +372,7 @@ impl Model for PlanSections {
 }
 
 impl PlanSections {
+    ghost use Rattle.lk_link.specs.PartRules.{is_part_of};
     ghost use Rattle.lk_link.specs.Parts.{all_parts, first_part};
     ghost use Rattle.lk_link.specs.PlanSections.{section_at, primary_of};
 
@@ -431,5 +472,18 @@ impl PlanSections {
         ensures behind { result.1 ≡ first_part self.now (section + 1) }
     {
         (self.starts[section], self.starts[section + 1])
+    }
+
+    /// Whether a part belongs to this section.
+    pub fn is_part_of(&self, section: OutputSectionId, part: PartId) -> bool
+        ensures { result ≡ is_part_of self.now section part }
+    {
+        let section = section.as_usize();
+        if section < self.len() {
+            let (first, behind) = self.part_range(section);
+            first <= part.as_usize() && part.as_usize() < behind
+        } else {
+            false
+        }
     }
 }

@@ -1,7 +1,7 @@
 //! Relocations: what a section refers to, and how.
 
 ghost use Rattle.std.specs.Prelude.{◌≡◌};
-ghost use Rattle.lk_link.specs.Relocations.{resolution_flags, needs_tlsld, wants_entry, wants_got, wants_plt};
+ghost use Rattle.lk_link.specs.Relocations.{resolution_flags, needs_tlsld, wants_got, wants_plt};
 
 use crate::flags::ValueFlags;
 
@@ -53,13 +53,6 @@ pub enum RelocationKind {
 }
 
 impl RelocationKind {
-    /// Whether it wants an entry of its symbol in a table: of the PLT, of the GOT, or a thread-local one of the GOT.
-    pub fn wants_entry(self) -> bool
-        ensures { result ≡ wants_entry self }
-    {
-        resolution_flags(self).wants_table_entry()
-    }
-
     /// Whether it wants an entry of its symbol in the PLT.
     pub fn wants_plt(self) -> bool
         ensures { result ≡ wants_plt self }

@@ -3,8 +3,10 @@
 ghost use Rattle.std.specs.Prelude.{◌≡◌};
 
 use crate::expression::Expression;
+use crate::file::FileKind;
 use crate::flags::ValueFlags;
 use crate::ids::{OutputSectionId, PartId, SymbolId};
+use crate::section::InputSection;
 use crate::text::Text;
 
 /// Where the location counter stands that a redirect's expression may name (libwild: `SymbolLoc`).
@@ -63,7 +65,7 @@ pub enum SymbolPlacement {
 }
 
 impl SymbolPlacement {
-    ghost use Rattle.lk_link.specs.SymbolPlacements.{is_common, is_undefined};
+    ghost use Rattle.lk_link.specs.SymbolPlacements.{edge_of, is_common, is_in_discarded, is_provided, is_undefined};
 
     /// Whether it is bytes of a part that all objects share.
     pub fn is_common(&self) -> bool
@@ -80,6 +82,41 @@ impl SymbolPlacement {
             self,
             SymbolPlacement::Undef | SymbolPlacement::Undefined | SymbolPlacement::ForceUndefined
         )
+    }
+
+    /// Whether it is in a section that is discarded, of a file with these sections.
+    pub fn is_in_discarded(&self, sections: &[InputSection]) -> bool
+        ensures { result ≡ is_in_discarded sections.now self.now }
+    {
+        match self {
+            SymbolPlacement::Section { index, .. } => match sections.get(*index as usize) {
+                Some(section) => section.slot.is_discarded(),
+                None => false,
+            },
+            _ => false,
+        }
+    }
+
+    /// The output section at whose start or end it is, or at the end of it and of those that are secondary to it.
+    pub fn edge_of(&self) -> Option<OutputSectionId>
+        ensures { result ≡ edge_of self.now }
+    {
+        match self {
+            SymbolPlacement::SectionStart(output)
+            | SymbolPlacement::SectionEnd(output)
+            | SymbolPlacement::SectionGroupEnd(output) => Some(*output),
+            _ => None,
+        }
+    }
+
+    /// Whether it is a redirect that counts only if something wants it.
+    pub fn is_provided(&self) -> bool
+        ensures { result ≡ is_provided self.now }
+    {
+        match self {
+            SymbolPlacement::Redirect { provide, .. } => *provide,
+            _ => false,
+        }
     }
 }
 
@@ -98,7 +135,7 @@ pub struct InputSymbol {
 }
 
 impl InputSymbol {
-    ghost use Rattle.lk_link.specs.Symbols.{is_canonical};
+    ghost use Rattle.lk_link.specs.Symbols.{can_resolve, is_canonical, is_named, is_wanted};
 
     /// Whether it stands for itself, where this is its number over all files.
     pub fn is_canonical(&self, number: SymbolId) -> bool
@@ -108,5 +145,27 @@ impl InputSymbol {
             Some(definition) => definition.as_u32() == number.as_u32(),
             None => true,
         }
+    }
+
+    /// Whether it has a name.
+    pub fn is_named(&self) -> bool
+        ensures { result ≡ is_named self.now }
+    {
+        self.name.len() != 0
+    }
+
+    /// Whether files of a kind give such a symbol a resolution.
+    fn can_resolve(&self, kind: FileKind) -> bool
+        ensures { result ≡ can_resolve kind self.now }
+    {
+        !kind.is_not_loaded() && (self.is_named() || !kind.is_internal())
+    }
+
+    /// Whether it gets a resolution with these flags, whatever becomes of segments: where it is a symbol of a file of a kind,
+    /// and has this number over all files.
+    pub fn is_wanted(&self, kind: FileKind, number: SymbolId, flags: ValueFlags) -> bool
+        ensures { result ≡ is_wanted kind number self.now flags }
+    {
+        self.is_canonical(number) && flags.has_resolution() && self.can_resolve(kind)
     }
 }

@@ -10,7 +10,7 @@ use lk_gc::{Live, traverse_alone};
 use lk_link::{FileId, LinkInput, PartId, Small64};
 use lk_sizes::part_owners::owners;
 use lk_sizes::{PartOwners, SizeError, part_sizes};
-use lk_tables::{FileShare, TableTotals, bytes_in_part};
+use lk_tables::{FileShare, TableTotals, bytes_in_part, mark_prelude, symbol_shares};
 use std::alloc::{AllocError, Global};
 use std::test::Fail;
 
@@ -30,12 +30,15 @@ const OWNED: &str = r#"
 /// The lengths of the images of its output sections.
 const IMAGE_LENS: &[u64] = &[0, 0, 0, 0, 0, 0, 3];
 
-/// The sections that are live, of a link whose output isn't partial, and what comes into its parts.
+/// The sections that are live, of a link whose output isn't partial, what comes into its parts, and what files take in tables, of the
+/// prelude what it takes behind that too.
 #[derive(Clone, Copy)]
 struct Owned<'a> {
     link: &'a LinkInput,
     live: &'a Live,
     owners: &'a PartOwners,
+    shares: &'a [FileShare],
+    late: FileShare,
 }
 
 /// Adds the live sections of a part that a file has.
@@ -67,7 +70,7 @@ fn add_commons(
     behind: usize,
     part: u32,
 ) -> Result<(), AllocError> {
-    for common in owners.commons.as_slice() {
+    for common in owners.commons() {
         let symbol = common.symbol.as_usize();
         if first <= symbol && symbol < behind && common.part.as_u32() == part {
             let size = common.size;
@@ -132,7 +135,7 @@ fn add_file(
 ) -> Result<(), AllocError> {
     add_sections(line, owned, file, part)?;
     add_commons(line, owned.owners, symbols.0, symbols.1, part)?;
-    match owned.owners.shares.as_slice().get(number) {
+    match owned.shares.get(number) {
         Some(share) => {
             let word = format!(in alloc; "file {number}")?;
             add_share(line, owned.link, word.as_str(), share, part)
@@ -159,7 +162,7 @@ fn add_files(
             number = number.saturating_add(1);
         }
     }
-    add_share(line, owned.link, "late", &owned.owners.prelude, part)
+    add_share(line, owned.link, "late", &owned.late, part)
 }
 
 /// Adds the owners of a part with so many bytes, in their order.
@@ -172,7 +175,7 @@ fn add_part(
 ) -> Result<(), AllocError> {
     let space = if part == 0 { "" } else { " " };
     write!(line, "{space}{part}:")?;
-    match owned.owners.contents.as_slice().get(part as usize) {
+    match owned.owners.contents().get(part as usize) {
         Some(contents) if contents.has_image => line.push_str(" image")?,
         _ => {}
     }
@@ -202,7 +205,18 @@ fn add_live_owned(
     requires live { AreLive link.now live.now }
 {
     match &owners(alloc, link, &Small64, live, IMAGE_LENS) {
-        Ok(owners) => add_parts(alloc, line, Owned { link, live, owners }),
+        Ok(owners) => {
+            let shares = &symbol_shares(alloc, link, &Small64, live)?.files;
+            let late = mark_prelude(link, &Small64, live, owners.header().emitted.as_slice());
+            let owned = Owned {
+                link,
+                live,
+                owners,
+                shares,
+                late,
+            };
+            add_parts(alloc, line, owned)
+        }
         Err(SizeError::NoMemory) => Err(AllocError),
         Err(error) => write!(line, "refused {error:?}"),
     }

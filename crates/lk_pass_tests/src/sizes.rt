@@ -215,7 +215,7 @@ fn add_counted(
     requires live { AreLive link.now live.now }
     requires count { length owners.now.contents ≡ length (all_parts link.now.plan.sections) }
 {
-    let contents = owners.contents.as_slice();
+    let contents = owners.contents();
     add(line, "parts", &contents)?;
     let attributes = propagate_section_attributes(alloc, link, live)?;
     add(line, "attributes", &attributes)?;
@@ -236,10 +236,10 @@ fn add_owners(
     requires good { IsWellFormed link.now }
     requires live { AreLive link.now live.now }
 {
-    if owners.contents.len() == link.plan.sections.parts().len() {
+    if owners.contents().len() == link.plan.sections.parts().len() {
         add_counted(alloc, line, link, live, owners)?;
     }
-    add_headers(line, &owners.header)
+    add_headers(line, owners.header())
 }
 
 /// Adds what comes into each part, and what that makes of images, sections and segments.

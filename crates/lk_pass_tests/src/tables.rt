@@ -1,7 +1,6 @@
 //! What symbols take in tables: which are copied, the symbol table with its names, and the dynamic symbol table.
 
 ghost use Rattle.std.specs.Prelude.{◌≡◌, false, length};
-ghost use Rattle.lk_link.specs.OutputKinds.{is_partial};
 ghost use Rattle.lk_link.specs.Parts.{all_parts};
 ghost use Rattle.lk_link.specs.WellFormed.{IsWellFormed};
 ghost use Rattle.lk_gc.specs.Reach.{AreLive};
@@ -45,7 +44,8 @@ const TABLES: &str = r#"
 {"plan":{"page":16,"sections":[{"attrs":0,"emit":"never","parts":[[8,false],[4,false]]},{"attrs":1,"parts":[[1,false]]}],"segments":[{"kind":"load"}],"events":[["seg",0],["sec",0],["sec",1],["endseg",0]],"symtab_local":0,"symtab_global":1},"groups":[[{"kind":"prelude"}],[{"kind":"object","sections":[{"slot":"must","part":2,"size":1}],"symbols":[{"at":["sec",0,0],"name":"x","flags":8}]}]]} => first TableTotals { got: 0, plt: 0, symtab_local: 0, symtab_global: 24, strtab: 2, dynsym: 0, dynstr: 0, file_header: 0, program_headers: 0, section_headers: 0, shstrtab: 0 } copied [Some("x")] symbols [(FileId { group: 0, file: 0 }, 24, 0, 1), (FileId { group: 1, file: 0 }, 0, 24, 2)] whole TableTotals { got: 0, plt: 0, symtab_local: 24, symtab_global: 24, strtab: 3, dynsym: 0, dynstr: 0, file_header: 64, program_headers: 56, section_headers: 64, shstrtab: 1 } parts [24, 24, 0] headers HeaderSizes { file_header: 64, program_headers: 56, section_headers: 64, shstrtab: 1 } dynamic []
 {"plan":{"page":1,"sections":[{"attrs":1,"parts":[[1,false]]}],"strtab":0,"events":[["sec",0]]},"groups":[[{"kind":"prelude"}]]} => first TableTotals { got: 0, plt: 0, symtab_local: 0, symtab_global: 0, strtab: 0, dynsym: 0, dynstr: 0, file_header: 0, program_headers: 0, section_headers: 0, shstrtab: 0 } copied [] symbols [(FileId { group: 0, file: 0 }, 24, 0, 1)] whole TableTotals { got: 0, plt: 0, symtab_local: 24, symtab_global: 0, strtab: 1, dynsym: 0, dynstr: 0, file_header: 64, program_headers: 0, section_headers: 0, shstrtab: 0 } parts [1] headers HeaderSizes { file_header: 64, program_headers: 0, section_headers: 0, shstrtab: 0 } dynamic []
 {"plan":{"page":16,"sections":[{"attrs":1,"parts":[[1,false]]}],"segments":[{"kind":"load"}],"events":[["seg",0],["sec",0],["endseg",0]]},"groups":[[{"kind":"prelude"}],[{"kind":"object","sections":[{"slot":"must","size":4}],"symbols":[{"at":["sec",0,0],"name":"x","flags":63}]}]]} => first TableTotals { got: 0, plt: 0, symtab_local: 0, symtab_global: 24, strtab: 2, dynsym: 0, dynstr: 0, file_header: 0, program_headers: 0, section_headers: 0, shstrtab: 0 } copied [Some("x")] symbols [(FileId { group: 0, file: 0 }, 24, 0, 1), (FileId { group: 1, file: 0 }, 0, 24, 2)] whole TableTotals { got: 0, plt: 0, symtab_local: 24, symtab_global: 24, strtab: 3, dynsym: 0, dynstr: 0, file_header: 64, program_headers: 56, section_headers: 64, shstrtab: 1 } parts [0] headers HeaderSizes { file_header: 64, program_headers: 56, section_headers: 64, shstrtab: 1 } dynamic []
-{"plan":{"page":16,"sections":[{"attrs":0,"parts":[[8,false]]},{"attrs":0,"parts":[[1,false]]}],"segments":[],"events":[["sec",0],["sec",1]],"symtab_global":0},"groups":[[{"kind":"prelude"}],[{"kind":"dynamic","symbols":[{"at":["undef"],"name":"u"}]}],[{"kind":"object","sections":[{"slot":"must","part":1,"size":4,"relocs":[[0,"Relative",0,0,false]]}],"symbols":[{"at":["undef"],"weak":true,"def":0}]}]],"options":{"output":"partial"}} => first TableTotals { got: 0, plt: 0, symtab_local: 0, symtab_global: 24, strtab: 2, dynsym: 0, dynstr: 0, file_header: 0, program_headers: 0, section_headers: 0, shstrtab: 0 } copied [None, None] headers HeaderSizes { file_header: 64, program_headers: 0, section_headers: 128, shstrtab: 2 } dynamic []
+{"plan":{"page":16,"sections":[{"attrs":0,"parts":[[8,false]]},{"attrs":0,"parts":[[1,false]]}],"segments":[],"events":[["sec",0],["sec",1]],"symtab_global":0},"groups":[[{"kind":"prelude"}],[{"kind":"dynamic","symbols":[{"at":["undef"],"name":"u"}]}],[{"kind":"object","sections":[{"slot":"must","part":1,"size":4,"relocs":[[0,"Relative",0,0,false]]}],"symbols":[{"at":["undef"],"weak":true,"def":0}]}]],"options":{"output":"partial"}} => first TableTotals { got: 0, plt: 0, symtab_local: 0, symtab_global: 24, strtab: 2, dynsym: 0, dynstr: 0, file_header: 0, program_headers: 0, section_headers: 0, shstrtab: 0 } copied [None, None] symbols [(FileId { group: 0, file: 0 }, 48, 0, 1), (FileId { group: 1, file: 0 }, 0, 24, 2), (FileId { group: 2, file: 0 }, 0, 0, 0)] whole TableTotals { got: 0, plt: 0, symtab_local: 48, symtab_global: 24, strtab: 3, dynsym: 0, dynstr: 0, file_header: 64, program_headers: 0, section_headers: 128, shstrtab: 2 } parts [24, 0] headers HeaderSizes { file_header: 64, program_headers: 0, section_headers: 128, shstrtab: 2 } dynamic []
+{"options":{"output":"partial"},"plan":{"page":16,"sections":[{"name":"t","attrs":0,"parts":[[8,false]]},{"name":"uv","attrs":1,"parts":[[1,false]]},{"name":"s","attrs":1,"parts":[[1,false]]}],"segments":[],"events":[["sec",0],["sec",1],["sec",2]],"symtab_local":0,"singletons":2},"groups":[[{"kind":"prelude"}],[{"kind":"object","sections":[{"slot":"must","part":1,"size":1},{"slot":"must","part":2,"size":3,"name":"one"},{"slot":"unloaded","part":2,"name":"two"},{"slot":"must","part":2}]}]]} => first TableTotals { got: 0, plt: 0, symtab_local: 0, symtab_global: 0, strtab: 0, dynsym: 0, dynstr: 0, file_header: 0, program_headers: 0, section_headers: 0, shstrtab: 0 } copied [] symbols [(FileId { group: 0, file: 0 }, 96, 0, 1), (FileId { group: 1, file: 0 }, 0, 0, 0)] whole TableTotals { got: 0, plt: 0, symtab_local: 96, symtab_global: 0, strtab: 1, dynsym: 0, dynstr: 0, file_header: 64, program_headers: 0, section_headers: 192, shstrtab: 8 } parts [96, 0, 0] headers HeaderSizes { file_header: 64, program_headers: 0, section_headers: 192, shstrtab: 8 } dynamic []
 {"options":{"output":"shared"},"plan":{"page":16,"sections":[{"name":"«1048576 times s»","attrs":1,"parts":[[8,false],[1,false]]},{"attrs":1,"parts":[[4,false]]}],"segments":[{"kind":"load"}],"events":[["seg",0],["sec",0],["sec",1],["endseg",0]],"dynsym":0,"dynstr":1},"groups":[[{"kind":"prelude"}],[{"kind":"object","sections":[{"slot":"must","part":2,"size":4}],"symbols":[{"at":["sec",0,0],"name":"«1048576 times a»"}]}]]} => first TableTotals { got: 0, plt: 0, symtab_local: 0, symtab_global: 24, strtab: 1048577, dynsym: 24, dynstr: 1048577, file_header: 0, program_headers: 0, section_headers: 0, shstrtab: 0 } copied [Some("long")] symbols [(FileId { group: 0, file: 0 }, 24, 0, 1), (FileId { group: 1, file: 0 }, 0, 24, 1048577)] whole TableTotals { got: 0, plt: 0, symtab_local: 24, symtab_global: 24, strtab: 1048578, dynsym: 48, dynstr: 1048578, file_header: 64, program_headers: 56, section_headers: 128, shstrtab: 1048578 } parts [48, 1048578, 0] headers HeaderSizes { file_header: 64, program_headers: 56, section_headers: 128, shstrtab: 1048578 } dynamic [SymbolId { number: 0 }]
 {"options":{"output":"shared"},"plan":{"page":16,"sections":[{"attrs":1,"parts":[[8,false],[1,false]]},{"attrs":1,"parts":[[4,false]]}],"segments":[{"kind":"load"}],"events":[["seg",0],["sec",0],["sec",1],["endseg",0]],"dynsym":0,"dynstr":1},"groups":[[{"kind":"prelude"}],[{"kind":"object","sections":[{"slot":"must","part":2,"size":4}],"symbols":[{"at":["sec",0,0]}]}]]} => first TableTotals { got: 0, plt: 0, symtab_local: 0, symtab_global: 0, strtab: 0, dynsym: 24, dynstr: 1, file_header: 0, program_headers: 0, section_headers: 0, shstrtab: 0 } copied [None] symbols [(FileId { group: 0, file: 0 }, 24, 0, 1), (FileId { group: 1, file: 0 }, 0, 0, 0)] whole TableTotals { got: 0, plt: 0, symtab_local: 24, symtab_global: 0, strtab: 1, dynsym: 48, dynstr: 2, file_header: 64, program_headers: 56, section_headers: 128, shstrtab: 2 } parts [48, 2, 0] headers HeaderSizes { file_header: 64, program_headers: 56, section_headers: 128, shstrtab: 2 } dynamic [SymbolId { number: 0 }]
 "#;
@@ -112,10 +112,9 @@ fn add_whole(
     header: &HeaderInfo,
     shares: &[FileShare],
 ) -> Result<(), AllocError>
-    requires good { IsWellFormed link.now }
-    requires whole { is_partial link.now.options.output ≡ false }
+    requires { IsWellFormed link.now }
 {
-    let prelude = mark_prelude(link, &Small64, live, header.emitted.as_slice());
+    let prelude = mark_prelude(link, &Small64, live, header.told.as_slice());
     let whole = whole_totals(link, &Small64, shares, prelude, header);
     add(line, "whole", &whole)?;
     add(line, "parts", &part_bytes(alloc, link, &whole)?)
@@ -129,8 +128,7 @@ fn add_symbols(
     live: &Live,
     header: &HeaderInfo,
 ) -> Result<(), AllocError>
-    requires good { IsWellFormed link.now }
-    requires whole { is_partial link.now.options.output ≡ false }
+    requires { IsWellFormed link.now }
 {
     let symbols = symbol_sizes(alloc, link, &Small64, live, header)?;
     add(line, "symbols", &symbols)
@@ -148,10 +146,8 @@ fn add_by_header(
     requires { IsWellFormed link.now }
 {
     add_copies(alloc, line, link, live)?;
-    if !link.options.output.is_partial() {
-        add_symbols(alloc, line, link, live, header)?;
-        add_whole(alloc, line, link, live, header, shares)?;
-    }
+    add_symbols(alloc, line, link, live, header)?;
+    add_whole(alloc, line, link, live, header, shares)?;
     add(line, "headers", &header_sizes(link, &Small64, header))?;
     add_dynamic(alloc, line, link, live, header)
 }

@@ -17,7 +17,7 @@ use Rattle.lk_reach.specs.declared.units.Ask.{Ask}
 use Rattle.lk_reach.specs.declared.units.Unit.TheVariants.{Sym}
 use Rattle.lk_reach.specs.declared.walk.Walk.{Walk}
 use Rattle.lk_reach.specs.Edges.{edge_in}
-use Rattle.lk_reach.specs.Placements.{edge_of}
+use Rattle.lk_link.specs.SymbolPlacements.{edge_of}
 use Rattle.lk_reach.specs.Marks.{IsInside, IsJoined, asking, join_all}
 use Rattle.lk_reach.specs.Units.{file_roots, follows, kind_roots, location_asks, script_roots, wanted_symbol_asks}
 use Rattle.lk_reach.specs.Walking.{Adds, AreAsked, IsDone, IsSized}

@@ -40,7 +40,8 @@ use Rattle.lk_link.specs.declared.expression.Token.TheVariants as token
 use Rattle.lk_link.specs.declared.symbol.SymbolPlacement.{SymbolPlacement}
 use Rattle.lk_link.specs.declared.symbol.SymbolPlacement.TheVariants as at
 use Rattle.lk_link.specs.Expressions.{postfix}
-use Rattle.lk_reach.specs.Placements.{edge_of, is_defined, section_of}
+use Rattle.lk_link.specs.SymbolPlacements.{edge_of, section_of}
+use Rattle.lk_reach.specs.Placements.{is_defined}
 use Rattle.lk_reach.specs.Units.{candidate_ask, candidate_asks, event_asks, is_script_root, is_shown, kind_asks, location_asks, script_redirect_asks, script_symbol_asks, shown_ask, wanted_symbol_asks, AskFlag, AskFor, ask_for, asked_definition, asked_members, asked_references, definition_ask, dynamic_ask, entry_asks, own_asks, prelude_symbol_asks, token_ask, token_asks, export_asks, export_roots, file_roots, flags_from, flags_of, follows, group_asks, is_other, is_primary_section, is_root, kind_roots, local_definition, member_asks, numbered_symbols, range_mark, reference, relocation_asks, roots, section_references, section_roots, symbol_asks}
 use Rattle.lk_reach.proofs.ReachLemmas.{reach_more, reach_root}
 

@@ -30,7 +30,7 @@ use Rattle.lk_link.specs.Inputs.{NumberedFile, numbered_files}
 use Rattle.lk_link.specs.InputSlots.{can_be_kept, is_regular}
 use Rattle.lk_link.specs.Relocations.{resolution_flags}
 use Rattle.lk_link.specs.SectionGroups.{group_members}
-use Rattle.lk_link.specs.SymbolPlacements.{is_undefined}
+use Rattle.lk_link.specs.SymbolPlacements.{edge_of, is_in_discarded, is_provided, is_undefined, section_of}
 use Rattle.lk_link.specs.Symbols.{definition_of, first_symbol, is_canonical, symbol_at}
 use Rattle.lk_link.specs.WellFormed.{IsWellFormed}
 use Rattle.lk_link.proofs.Elements.{at_index, numbered_at}
@@ -44,7 +44,7 @@ use Rattle.lk_reach.specs.declared.units.Unit.{Unit as LinkUnit}
 use Rattle.lk_reach.specs.declared.units.Unit.TheVariants.{Sym, Sec}
 use Rattle.lk_reach.specs.Exports.{is_exportable, is_exported, is_listed, is_own_definition, is_seen_outside, list_for, mode_of}
 use Rattle.lk_reach.specs.Laws.{ReachedStandForThemselves}
-use Rattle.lk_reach.specs.Placements.{edge_of, is_defined, is_in_discarded, is_provided, section_of}
+use Rattle.lk_reach.specs.Placements.{is_defined}
 use Rattle.lk_reach.specs.Reach.{IsPath}
 use Rattle.lk_reach.specs.Units.{AskFor, AsksFor, ask_for, asked_definition, asked_members, asked_references, candidate_ask, candidate_asks, definition_ask, dynamic_ask, entry_asks, event_asks, export_asks, export_roots, file_roots, flags_from, follows, group_asks, is_other, is_primary_section, is_root, is_script_root, is_shown, kind_asks, kind_roots, local_definition, location_asks, member_asks, numbered_symbols, own_asks, prelude_symbol_asks, range_mark, redirect_references, reference, relocation_asks, roots, script_redirect_asks, section_references, section_roots, shown_ask, symbol_asks, target_of, token_ask, token_asks, wanted_symbol_asks}
 use Rattle.lk_reach.proofs.Numbered.{file_at, sections_of}

@@ -49,8 +49,8 @@ use Rattle.lk_link.specs.declared.expression.Operand.TheVariants as operand
 use Rattle.lk_link.specs.declared.expression.Token.{Token}
 use Rattle.lk_link.specs.declared.expression.Token.TheVariants as token
 use Rattle.lk_link.specs.Expressions.{Term, postfix}
-use Rattle.lk_link.specs.SymbolPlacements.{is_undefined}
-use Rattle.lk_reach.specs.Placements.{edge_of, is_defined, section_of}
+use Rattle.lk_link.specs.SymbolPlacements.{edge_of, is_undefined, section_of}
+use Rattle.lk_reach.specs.Placements.{is_defined}
 use Rattle.lk_reach.specs.Units.{candidate_ask, candidate_asks, event_asks, is_script_root, is_shown, kind_asks, location_asks, redirect_references, script_redirect_asks, shown_ask, wanted_symbol_asks, ask_for, asked_members, asked_references, asked_definition, comes_along, definition_ask, dynamic_ask, entry_asks, own_asks, prelude_symbol_asks, token_ask, token_asks, flags_from, export_asks, export_roots, file_roots, group_asks, is_coming, is_other, member_asks, other_asks, follows, is_primary_section, is_root, kind_roots, local_definition, numbered_symbols, range_mark, reference, relocation_asks, roots, section_references, section_roots, symbol_asks, symbols_of, unit_of}
 use Rattle.lk_link.proofs.Elements.{append_at, append_left, append_right, at_index, filter_at, flat_map_at, map_at, map_in, numbered_at}
 use Rattle.lk_reach.proofs.Numbered.{IsFileAt, IsSectionOf, file_at, file_of_input, one_place, sections_of}

@@ -8,7 +8,7 @@ use Rattle.lk_link.specs.FileKinds.{is_synthetic}
 use Rattle.lk_link.specs.Files.{file_in}
 use Rattle.lk_reach.specs.declared.edges.EdgeAt.{EdgeAt}
 use Rattle.lk_reach.specs.declared.units.Unit.TheVariants.{Sym}
-use Rattle.lk_reach.specs.Placements.{edge_of}
+use Rattle.lk_link.specs.SymbolPlacements.{edge_of}
 use Rattle.lk_reach.specs.Units.{candidate_asks, follows}
 
 -- a symbol asks for the candidates of an output section, of its file

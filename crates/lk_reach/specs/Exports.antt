@@ -15,11 +15,10 @@ use Rattle.lk_link.specs.Files.{file_in}
 use Rattle.lk_link.specs.Flags.{has_flag}
 use Rattle.lk_link.specs.Names.{has_name}
 use Rattle.lk_link.specs.OutputKinds.{is_loaded_dynamically}
-use Rattle.lk_link.specs.SymbolPlacements.{is_undefined}
+use Rattle.lk_link.specs.SymbolPlacements.{is_in_discarded, is_undefined}
 use Rattle.lk_link.specs.Symbols.{is_canonical, symbol_at}
 use Rattle.lk_reach.specs.declared.exports.ExportSymbolsMode.{ExportSymbolsMode}
 use Rattle.lk_reach.specs.declared.exports.ExportSymbolsMode.TheVariants as mode
-use Rattle.lk_reach.specs.Placements.{is_in_discarded}
 
 -- ---- files
 

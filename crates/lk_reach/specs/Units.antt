@@ -36,8 +36,9 @@ use Rattle.lk_link.specs.SectionGroups.{group_members}
 use Rattle.lk_link.specs.Symbols.{definition_of, first_symbol, is_canonical}
 use Rattle.lk_reach.specs.declared.exports.ExportSymbolsMode.TheVariants as mode
 use Rattle.lk_reach.specs.Exports.{is_exported, is_own_definition, list_for, mode_of}
-use Rattle.lk_reach.specs.Placements.{edge_of, is_defined, is_provided}
-pub use Rattle.lk_reach.specs.Placements.{section_of}
+use Rattle.lk_link.specs.SymbolPlacements.{edge_of, is_provided}
+use Rattle.lk_reach.specs.Placements.{is_defined}
+pub use Rattle.lk_link.specs.SymbolPlacements.{section_of}
 use Rattle.lk_reach.specs.declared.units.Ask.{Ask}
 use Rattle.lk_reach.specs.declared.units.Ask.TheVariants.{Reference, Section, Mark}
 use Rattle.lk_reach.specs.declared.units.Unit.{Unit as LinkUnit}

@@ -10,7 +10,6 @@ ghost use Rattle.lk_reach.specs.Edges.{IsEdgeAt, edge_in, offers_candidates};
 ghost use Rattle.lk_reach.specs.Units.{follows};
 ghost use Rattle.lk_reach.specs.declared.units.Unit.TheVariants.{Sym};
 
-use crate::reaching::edge_of;
 use crate::walk::{set_mark, unmarked};
 use lk_link::{
     FileId, InputFile, InputSymbol, LinkInput, OutputSectionId, SymbolId, SymbolPlacement,
@@ -114,7 +113,7 @@ fn edge_in(id: FileId, file: &InputFile, at: &SymbolPlacement) -> Option<EdgeAt>
     if !file.kind.is_synthetic() {
         return None;
     }
-    let output = edge_of(at)?;
+    let output = at.edge_of()?;
     Some(EdgeAt { file: id, output })
 }
 
@@ -171,7 +170,7 @@ fn lead_symbols(leaders: &mut Vec<u32>, heads: &mut Vec<u32>, first: u32, symbol
 {
     let mut number = first;
     for symbol in symbols {
-        if let Some(output) = edge_of(&symbol.at) {
+        if let Some(output) = symbol.at.edge_of() {
             lead(leaders, heads, first, number, output.as_usize());
         }
         number = number.saturating_add(1);

@@ -2,12 +2,11 @@
 
 ghost use Rattle.std.specs.Prelude.{◌≡◌};
 ghost use Rattle.std.specs.Option.{option_copied};
-ghost use Rattle.lk_reach.specs.Placements.{is_in_discarded};
 ghost use Rattle.lk_reach.specs.Exports.{can_export, export_mode, is_exportable, is_exported, is_exported_whole, is_listed, is_own_definition, is_seen_outside, is_shared, list_for, mode_of};
 
 use lk_link::{
     FileId, InputFile, InputSection, InputSymbol, LinkInput, Names, Options, OutputKind, SymbolId,
-    SymbolPlacement, ValueFlags,
+    ValueFlags,
 };
 
 /// Which symbols of a file are exported (libwild: `ExportSymbolsMode`).
@@ -129,18 +128,5 @@ pub(crate) fn is_exported(
 ) -> bool
     ensures { result ≡ is_exported (option_copied list.entry) sections.now (symbol, own.now) }
 {
-    !is_in_discarded(sections, &own.at) && is_exportable(list, symbol, own, own.flags)
-}
-
-/// Whether a placement is in a section that is discarded, of a file with these sections.
-pub fn is_in_discarded(sections: &[InputSection], at: &SymbolPlacement) -> bool
-    ensures { result ≡ is_in_discarded sections.now at.now }
-{
-    match at {
-        SymbolPlacement::Section { index, .. } => match sections.get(*index as usize) {
-            Some(section) => section.slot.is_discarded(),
-            None => false,
-        },
-        _ => false,
-    }
+    !own.at.is_in_discarded(sections) && is_exportable(list, symbol, own, own.flags)
 }

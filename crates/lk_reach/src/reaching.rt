@@ -8,7 +8,6 @@ ghost use Rattle.lk_link.specs.InputSlots.{is_regular};
 ghost use Rattle.lk_link.specs.Walks.{file_of};
 ghost use Rattle.lk_link.specs.WellFormed.{IsWellFormed};
 ghost use Rattle.lk_reach.specs.declared.units.Unit.TheVariants.{Sym, Sec};
-ghost use Rattle.lk_reach.specs.Placements.{edge_of, is_provided};
 ghost use Rattle.lk_reach.specs.Units.{all_of, asked_definition, asked_members, asked_references, definition_ask, dynamic_ask, dynamic_roots, entry_asks, export_roots, forced_ask, operand_ask, own_asks, prelude_symbol_asks, token_ask, event_asks, file_roots, follows, is_primary_section, is_script_root, kind_asks, object_symbol_asks, section_roots, script_redirect_asks, script_symbol_asks, shown_ask, synthetic_symbol_asks, wanted_symbol_asks};
 
 use crate::asks::{
@@ -20,7 +19,7 @@ use crate::scripts::{LocationAsks, RedirectAsks, ScriptRoots, WantedAsks};
 use crate::units::{Ask, Unit};
 use lk_link::{
     FileId, FileKind, FileRef, InputFile, InputGroups, InputSection, InputSlot, InputSymbol,
-    LinkInput, Operand, OrderEvent, OutputSectionId, SymbolId, SymbolPlacement, Token, ValueFlags,
+    LinkInput, Operand, OrderEvent, SymbolId, SymbolPlacement, Token, ValueFlags,
 };
 
 /// What a unit asks for, in order: a symbol of an object for its section, one of a synthetic file for the candidates of the
@@ -135,21 +134,9 @@ fn placed_section(id: FileId, at: &SymbolPlacement) -> Option<Ask>
 fn edge_candidates<'a>(file: &'a InputFile, at: &SymbolPlacement) -> Successors<'a>
     ensures { result ≡ synthetic_symbol_asks file.now.candidates at.now }
 {
-    match edge_of(at) {
+    match at.edge_of() {
         Some(output) => Successors::from_candidates(file.candidates.of(output)),
         None => Successors::none(),
-    }
-}
-
-/// The output section at whose start or end a placement is, or at the end of it and of those that are secondary to it.
-pub(crate) fn edge_of(at: &SymbolPlacement) -> Option<OutputSectionId>
-    ensures { result ≡ edge_of at.now }
-{
-    match at {
-        SymbolPlacement::SectionStart(output)
-        | SymbolPlacement::SectionEnd(output)
-        | SymbolPlacement::SectionGroupEnd(output) => Some(*output),
-        _ => None,
     }
 }
 
@@ -315,17 +302,7 @@ fn wanted_symbols<'a>(link: &'a LinkInput, file: FileRef<'a>) -> Option<WantedAs
 pub(crate) fn is_script_root(number: SymbolId, symbol: &InputSymbol) -> bool
     ensures { result ≡ is_script_root (number, symbol.now) }
 {
-    symbol.is_canonical(number) && !is_provided(&symbol.at)
-}
-
-/// Whether a placement is a redirect that counts only if something wants it.
-fn is_provided(at: &SymbolPlacement) -> bool
-    ensures { result ≡ is_provided at.now }
-{
-    match at {
-        SymbolPlacement::Redirect { provide, .. } => *provide,
-        _ => false,
-    }
+    symbol.is_canonical(number) && !symbol.at.is_provided()
 }
 
 /// What the expressions of these events refer to, where they set the location counter.

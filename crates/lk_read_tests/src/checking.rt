@@ -91,6 +91,20 @@ const RULES: &str = r#"
 # A primary part only where branches are limited.
 @ {"options":{"branch_range":0},"plan":{"page":1,"sections":[{"parts":[[16,false]]}],"events":[["sec",0]],...},"groups":[[{"kind":"prelude"}]]}
 "primary":0 => bad link: rule 4, part field 12
+# The section of singletons, of a plan with two sections: in partial output,
+@ {"options":{"output":"partial"},"plan":{"page":1,"sections":[{"parts":[[1,false]]},{"parts":[[1,false]]}],"events":[["sec",0],["sec",1]]...},"groups":[[{"kind":"prelude"}]]}
+ => well formed
+,"singletons":0 => well formed
+,"singletons":1 => well formed
+,"singletons":2 => bad link: rule 5, plan
+,"singletons":4294967295 => bad link: rule 5, plan
+# and in other output.
+@ {"options":{...},"plan":{"page":1,"sections":[{"parts":[[1,false]]},{"parts":[[1,false]]}],"events":[["sec",0],["sec",1]],"singletons":1},"groups":[[{"kind":"prelude"}]]}
+"output":"partial" => well formed
+"output":"static" => bad link: rule 5, plan
+"output":"dynamic" => bad link: rule 5, plan
+"output":"shared" => bad link: rule 5, plan
+ => bad link: rule 5, plan
 # Three segments, one behind the other.
 @ {"plan":{"page":1,"segments":[...],"events":[["seg",0],["endseg",0],["seg",1],["endseg",1],["seg",2],["endseg",2]]},"groups":[[{"kind":"prelude"}]]}
 {"kind":"load"},{"kind":"tls"},{"kind":"stack"} => well formed
@@ -409,10 +423,11 @@ const RULES: &str = r#"
 [0,1,0,0],[0,1,0,4294967295] => bad link: rule 13, file 1 1
 # The first broken rule: in each row one rule more is kept.
 @ ...
-{"options":{"merge_group":0},"plan":{"page":3,"base":["sym",9],"sections":[{"parts":[[1,false]],"attrs":32}],"segments":[{"kind":"tls"},{"kind":"tls"}],"events":[["seg",0],["seg",1],["endseg",0],["endseg",1]],"got":9},"groups":[[{"kind":"prelude"}],[{"kind":"prelude","symbols":[{"at":["dyn"]}],"sections":[{"slot":"must","part":1,"size":1,"relocs":[[0,"Got",0,0,false]]}],"candidates":[[9,9,9,9]]}]]} => bad link: rule 1, options
-{"options":{"merge_group":1},"plan":{"page":3,"base":["sym",9],"sections":[{"parts":[[1,false]],"attrs":32}],"segments":[{"kind":"tls"},{"kind":"tls"}],"events":[["seg",0],["seg",1],["endseg",0],["endseg",1]],"got":9},"groups":[[{"kind":"prelude"}],[{"kind":"prelude","symbols":[{"at":["dyn"]}],"sections":[{"slot":"must","part":1,"size":1,"relocs":[[0,"Got",0,0,false]]}],"candidates":[[9,9,9,9]]}]]} => bad link: rule 2, plan
-{"options":{"merge_group":1},"plan":{"page":1,"base":["sym",9],"sections":[{"parts":[[1,false]],"attrs":32}],"segments":[{"kind":"tls"},{"kind":"tls"}],"events":[["seg",0],["seg",1],["endseg",0],["endseg",1]],"got":9},"groups":[[{"kind":"prelude"}],[{"kind":"prelude","symbols":[{"at":["dyn"]}],"sections":[{"slot":"must","part":1,"size":1,"relocs":[[0,"Got",0,0,false]]}],"candidates":[[9,9,9,9]]}]]} => bad link: rule 3, section 0
-{"options":{"merge_group":1},"plan":{"page":1,"base":["sym",9],"sections":[{"parts":[[1,false]],"attrs":31}],"segments":[{"kind":"tls"},{"kind":"tls"}],"events":[["seg",0],["seg",1],["endseg",0],["endseg",1]],"got":9},"groups":[[{"kind":"prelude"}],[{"kind":"prelude","symbols":[{"at":["dyn"]}],"sections":[{"slot":"must","part":1,"size":1,"relocs":[[0,"Got",0,0,false]]}],"candidates":[[9,9,9,9]]}]]} => bad link: rule 4, part field 0
+{"options":{"merge_group":0},"plan":{"page":3,"base":["sym",9],"sections":[{"parts":[[1,false]],"attrs":32}],"segments":[{"kind":"tls"},{"kind":"tls"}],"events":[["seg",0],["seg",1],["endseg",0],["endseg",1]],"got":9,"singletons":0},"groups":[[{"kind":"prelude"}],[{"kind":"prelude","symbols":[{"at":["dyn"]}],"sections":[{"slot":"must","part":1,"size":1,"relocs":[[0,"Got",0,0,false]]}],"candidates":[[9,9,9,9]]}]]} => bad link: rule 1, options
+{"options":{"merge_group":1},"plan":{"page":3,"base":["sym",9],"sections":[{"parts":[[1,false]],"attrs":32}],"segments":[{"kind":"tls"},{"kind":"tls"}],"events":[["seg",0],["seg",1],["endseg",0],["endseg",1]],"got":9,"singletons":0},"groups":[[{"kind":"prelude"}],[{"kind":"prelude","symbols":[{"at":["dyn"]}],"sections":[{"slot":"must","part":1,"size":1,"relocs":[[0,"Got",0,0,false]]}],"candidates":[[9,9,9,9]]}]]} => bad link: rule 2, plan
+{"options":{"merge_group":1},"plan":{"page":1,"base":["sym",9],"sections":[{"parts":[[1,false]],"attrs":32}],"segments":[{"kind":"tls"},{"kind":"tls"}],"events":[["seg",0],["seg",1],["endseg",0],["endseg",1]],"got":9,"singletons":0},"groups":[[{"kind":"prelude"}],[{"kind":"prelude","symbols":[{"at":["dyn"]}],"sections":[{"slot":"must","part":1,"size":1,"relocs":[[0,"Got",0,0,false]]}],"candidates":[[9,9,9,9]]}]]} => bad link: rule 3, section 0
+{"options":{"merge_group":1},"plan":{"page":1,"base":["sym",9],"sections":[{"parts":[[1,false]],"attrs":31}],"segments":[{"kind":"tls"},{"kind":"tls"}],"events":[["seg",0],["seg",1],["endseg",0],["endseg",1]],"got":9,"singletons":0},"groups":[[{"kind":"prelude"}],[{"kind":"prelude","symbols":[{"at":["dyn"]}],"sections":[{"slot":"must","part":1,"size":1,"relocs":[[0,"Got",0,0,false]]}],"candidates":[[9,9,9,9]]}]]} => bad link: rule 4, part field 0
+{"options":{"merge_group":1},"plan":{"page":1,"base":["sym",9],"sections":[{"parts":[[1,false]],"attrs":31}],"segments":[{"kind":"tls"},{"kind":"tls"}],"events":[["seg",0],["seg",1],["endseg",0],["endseg",1]],"singletons":0},"groups":[[{"kind":"prelude"}],[{"kind":"prelude","symbols":[{"at":["dyn"]}],"sections":[{"slot":"must","part":1,"size":1,"relocs":[[0,"Got",0,0,false]]}],"candidates":[[9,9,9,9]]}]]} => bad link: rule 5, plan
 {"options":{"merge_group":1},"plan":{"page":1,"base":["sym",9],"sections":[{"parts":[[1,false]],"attrs":31}],"segments":[{"kind":"tls"},{"kind":"tls"}],"events":[["seg",0],["seg",1],["endseg",0],["endseg",1]]},"groups":[[{"kind":"prelude"}],[{"kind":"prelude","symbols":[{"at":["dyn"]}],"sections":[{"slot":"must","part":1,"size":1,"relocs":[[0,"Got",0,0,false]]}],"candidates":[[9,9,9,9]]}]]} => bad link: rule 6, segment 1
 {"options":{"merge_group":1},"plan":{"page":1,"base":["sym",9],"sections":[{"parts":[[1,false]],"attrs":31}],"segments":[{"kind":"tls"},{"kind":"load"}],"events":[["seg",0],["seg",1],["endseg",0],["endseg",1]]},"groups":[[{"kind":"prelude"}],[{"kind":"prelude","symbols":[{"at":["dyn"]}],"sections":[{"slot":"must","part":1,"size":1,"relocs":[[0,"Got",0,0,false]]}],"candidates":[[9,9,9,9]]}]]} => bad link: rule 7, event 4
 {"options":{"merge_group":1},"plan":{"page":1,"base":["sym",9],"sections":[{"parts":[[1,false]],"attrs":31}],"segments":[{"kind":"tls"},{"kind":"load"}],"events":[["seg",0],["seg",1],["endseg",0],["endseg",1],["sec",0]]},"groups":[[{"kind":"prelude"}],[{"kind":"prelude","symbols":[{"at":["dyn"]}],"sections":[{"slot":"must","part":1,"size":1,"relocs":[[0,"Got",0,0,false]]}],"candidates":[[9,9,9,9]]}]]} => bad link: rule 8, plan

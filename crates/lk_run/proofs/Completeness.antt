@@ -7,7 +7,7 @@ use Rattle.lk_input.specs.Reading.{reading_of}
 use Rattle.lk_link.specs.declared.link.LinkInput.{LinkInput}
 use Rattle.lk_layout.specs.Machines.{small64_machine}
 use Rattle.lk_layout.specs.declared.error.LayoutError.{LayoutError}
-use Rattle.lk_layout.specs.declared.layout.Layout.{Layout}
+use Rattle.lk_layout.specs.LayoutRecord.{LayoutRecord}
 use Rattle.lk_layout.specs.Defined.{IsDefined}
 use Rattle.lk_layout.specs.Laws.{DefinedAnswerExists, DefinedAnswerIsOne}
 use Rattle.lk_run.specs.declared.answer.Answer.{Answer}
@@ -102,7 +102,7 @@ runs_tell every one words from bytes left =
 
 -- ---- a description that meets no refusal
 
-told_result : (link : LinkInput) (result : Result Layout LayoutError) (answer : Answer) → ((e : LayoutError) → IsDefined small64_machine link (Err e) → ⊥)
+told_result : (link : LinkInput) (result : Result LayoutRecord LayoutError) (answer : Answer) → ((e : LayoutError) → IsDefined small64_machine link (Err e) → ⊥)
     → IsDefined small64_machine link result → answer ≡ told_of link result → answer.status ≡ LaidOut
 told_result link (Ok layout) answer unrefused defined is = ap (λ (a : Answer). a.status) is
 told_result link (Err e) answer unrefused defined is = absurd (unrefused e defined)

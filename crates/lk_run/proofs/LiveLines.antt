@@ -11,7 +11,7 @@ use Rattle.lk_link.specs.Walks.{input_of}
 use Rattle.lk_gc.specs.Reach.{marked}
 use Rattle.lk_sizes.specs.Addresses.{told_section}
 use Rattle.lk_sizes.proofs.Numbering.{numbered_push}
-use Rattle.lk_layout.specs.declared.layout.Layout.{Layout}
+use Rattle.lk_layout.specs.LayoutRecord.{LayoutRecord}
 use Rattle.lk_layout.specs.Layouts.{told_live}
 use Rattle.lk_run.specs.Report.{input_text, live_line, live_lines, told_at}
 
@@ -33,7 +33,7 @@ next_text f done x n first before after many so_far written =
     ∙ ap (λ (t : List ℕ). first ++ t) (sym told)
 
 -- those of input sections numbered from n on are the lines of those that have a mark
-texts_from : (layout : Layout) (marks : List Bool) (xs : List Input) (n : ℕ) → ((k : ℕ) → is_marked layout.live_marks (n + k) ≡ is_marked marks k)
+texts_from : (layout : LayoutRecord) (marks : List Bool) (xs : List Input) (n : ℕ) → ((k : ℕ) → is_marked layout.live_marks (n + k) ≡ is_marked marks k)
     → flat_map (input_text layout) (enumerate_from n xs) ≡ live_lines (map (told_section layout.section_addresses) (marked marks (enumerate_from n xs)))
 texts_from layout [] [] n h = refl
 texts_from layout (m ∷ marks) [] n h = refl
@@ -57,7 +57,7 @@ texts_from layout (false ∷ marks) (x ∷ xs) n h =
     ap (λ b. (if b then line else []) ++ flat_map (input_text layout) (enumerate_from (n + 1) xs)) none ∙ rest
 
 -- the texts of all input sections are the lines of the live ones
-pub all_texts : (link : LinkInput) (layout : Layout) (first text : List ℕ) (done : List InputRef) → text ≡ first ++ flat_map (input_text layout) (enumerate_from 0 (map input_of done))
+pub all_texts : (link : LinkInput) (layout : LayoutRecord) (first text : List ℕ) (done : List InputRef) → text ≡ first ++ flat_map (input_text layout) (enumerate_from 0 (map input_of done))
     → map input_of done ≡ all_inputs link.groups → text ≡ first ++ live_lines (told_live link layout)
 all_texts link layout first text done so_far all =
     so_far ∙ ap (λ (xs : List Input). first ++ flat_map (input_text layout) (enumerate_from 0 xs)) all

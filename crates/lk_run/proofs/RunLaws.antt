@@ -5,15 +5,15 @@ use Rattle.lk_input.specs.declared.read.error.InputError.{InputError}
 use Rattle.lk_input.specs.Reading.{reading_of}
 use Rattle.lk_link.specs.declared.link.LinkInput.{LinkInput}
 use Rattle.lk_layout.specs.declared.error.LayoutError.{LayoutError}
-use Rattle.lk_layout.specs.declared.layout.Layout.{Layout}
+use Rattle.lk_layout.specs.LayoutRecord.{LayoutRecord}
 use Rattle.lk_run.specs.declared.answer.Answer.{Answer}
 use Rattle.lk_run.specs.declared.status.Status.{Status}
 use Rattle.lk_run.specs.declared.status.Status.TheVariants.{LaidOut, Refused, Usage, Unreadable, ReadFault, WriteFault, NoMemory}
 use Rattle.lk_run.specs.declared.words.Command.{Command}
 use Rattle.lk_run.specs.declared.words.Command.TheVariants as commands
 use Rattle.lk_run.specs.Device.{SourceState, SinkState}
-use Rattle.lk_run.specs.declared.run.Reading.{Reading}
-use Rattle.lk_run.specs.declared.run.Reading.TheVariants.{Link, Fault}
+use Rattle.lk_run.specs.declared.top_call.Reading.{Reading}
+use Rattle.lk_run.specs.declared.top_call.Reading.TheVariants.{Link, Fault}
 use Rattle.lk_run.specs.Run.{Held, Whole, Longer, Holds, IsReadUp, IsKept, IsAnswerTo, IsAnswerToReading, IsDefinedFor, Commanded, Uncommanded, IsRun, told_of}
 use Rattle.lk_run.specs.Steps.{IsReadAs, IsReadingOf, IsLinkToldBy, IsCommandRun, IsLayoutRun, IsUsageRun, IsFailure}
 use Rattle.lk_run.specs.Words.{command_of, usage}
@@ -22,7 +22,7 @@ use Rattle.lk_run.specs.Words.{command_of, usage}
 abbrev pub IsTold : Status → Type 0
 IsTold status = (status ≡ LaidOut) ⊎ ((status ≡ Refused) ⊎ (status ≡ Unreadable))
 
-told_link : (link : LinkInput) (result : Result Layout LayoutError) → IsTold (told_of link result).status
+told_link : (link : LinkInput) (result : Result LayoutRecord LayoutError) → IsTold (told_of link result).status
 told_link link (Ok layout) = inl refl
 told_link link (Err e) = inr (inl refl)
 

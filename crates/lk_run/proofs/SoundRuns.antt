@@ -5,8 +5,9 @@ use Rattle.lk_input.specs.declared.read.error.InputError.{InputError}
 use Rattle.lk_input.specs.Reading.{reading_of}
 use Rattle.lk_link.specs.declared.link.LinkInput.{LinkInput}
 use Rattle.lk_layout.specs.Machines.{small64_machine, small64_machine_is_lawful}
+use Rattle.lk_layout.specs.Made.{made_of}
 use Rattle.lk_layout.specs.declared.error.LayoutError.{LayoutError}
-use Rattle.lk_layout.specs.declared.layout.Layout.{Layout}
+use Rattle.lk_layout.specs.LayoutRecord.{LayoutRecord}
 use Rattle.lk_layout.specs.Defined.{IsDefined}
 use Rattle.lk_layout.specs.Laws.{DefinedLayoutsAreSound}
 use Rattle.lk_run.specs.declared.answer.Answer.{Answer}
@@ -20,7 +21,7 @@ use Rattle.lk_run.specs.SoundRun.{TellsSoundLayout, IsSoundRun}
 use Rattle.lk_run.specs.Words.{command_of}
 
 -- an answer with the status of a layout is its report
-told_layout : DefinedLayoutsAreSound → (from : SourceState) (before after : SinkState) (bytes : List ℕ) (link : LinkInput) (result : Result Layout LayoutError) (answer : Answer)
+told_layout : DefinedLayoutsAreSound → (from : SourceState) (before after : SinkState) (bytes : List ℕ) (link : LinkInput) (result : Result LayoutRecord LayoutError) (answer : Answer)
     → Holds from.left (Whole bytes) → reading_of bytes ≡ Ok link → IsDefined small64_machine link result → answer ≡ told_of link result → LaidOut ≡ answer.status → Takes before after answer.text
     → TellsSoundLayout from before after
 told_layout law from before after bytes link (Ok layout) answer holds described defined is status written =
@@ -28,12 +29,12 @@ told_layout law from before after bytes link (Ok layout) answer holds described 
     record {
       bytes = bytes;
       holds = holds;
-      link = link;
+      made = made_of small64_machine link sound.0 sound.1 sound.2;
       described = described;
+      machine = refl;
       layout = layout;
       defined = defined;
-      live = sound.0;
-      sound = sound.1;
+      sound = sound.3;
       written = subst (Takes before after) (ap (λ (a : Answer). a.text) is) written;
     }
 told_layout law from before after bytes link (Err e) answer holds described defined is status written =

@@ -9,7 +9,7 @@ use Rattle.lk_link.specs.Inputs.{Input}
 use Rattle.lk_link.specs.Marks.{is_marked}
 use Rattle.lk_link.specs.Parts.{first_part}
 use Rattle.lk_link.specs.Texts.{joined}
-use Rattle.lk_layout.specs.declared.layout.Layout.{Layout}
+use Rattle.lk_layout.specs.LayoutRecord.{LayoutRecord}
 use Rattle.lk_layout.specs.declared.resolution.EntryFault.{EntryFault}
 use Rattle.lk_layout.specs.declared.resolution.EntryFault.TheVariants.{NotAnAddress, NotLoaded}
 use Rattle.lk_link.specs.declared.resolution.Resolution.{Resolution}
@@ -64,12 +64,12 @@ section_text s (Some r) (Some index) (Some attrs) = section_line s r index attrs
 section_text s _ _ _ = []
 
 -- that of the section with this number in a layout
-abbrev pub laid_out_text : Layout → ℕ → List ℕ
+abbrev pub laid_out_text : LayoutRecord → ℕ → List ℕ
 laid_out_text layout s =
     section_text s (slice_get layout.section_layouts s) (slice_get layout.output_section_indexes s) (slice_get layout.section_attributes s)
 
 -- the lines of all output sections
-abbrev pub section_lines : List PlanSection → Layout → List ℕ
+abbrev pub section_lines : List PlanSection → LayoutRecord → List ℕ
 section_lines sections layout = each (λ s _. laid_out_text layout s) 0 sections
 
 -- ---- parts
@@ -124,7 +124,7 @@ abbrev pub told_at : Input → ℕ → LiveSection
 told_at x address = record { file = x.file; index = x.index; address = address; size = x.section.size }
 
 -- what is told of an input section with its number: its line, if it is live
-abbrev pub input_text : Layout → ℕ × Input → List ℕ
+abbrev pub input_text : LayoutRecord → ℕ × Input → List ℕ
 input_text layout q =
     if is_marked layout.live_marks q.0 then live_line (told_at q.1 (slice_index layout.section_addresses q.0)) else []
 
@@ -195,14 +195,14 @@ entry_line (Err NotAnAddress) = codes "entry not an address\n"
 -- ---- the report
 
 -- the lines of sections, parts and segments
-abbrev pub record_lines : LinkInput → Layout → List ℕ
+abbrev pub record_lines : LinkInput → LayoutRecord → List ℕ
 record_lines link layout = joined (
     section_lines link.plan.sections layout ∷
     part_lines link.plan.sections layout.section_part_layouts ∷
     segment_lines layout.segment_layouts ∷ [])
 
 -- the report of a link's layout; a section or a part that the layout has no record of is left out
-abbrev pub report : LinkInput → Layout → List ℕ
+abbrev pub report : LinkInput → LayoutRecord → List ℕ
 report link layout = joined (
     codes "layout\n" ∷
     record_lines link layout ∷

@@ -5,7 +5,7 @@ use Rattle.lk_input.specs.declared.read.error.InputError.{InputError}
 use Rattle.lk_input.specs.Reading.{reading_of}
 use Rattle.lk_link.specs.declared.link.LinkInput.{LinkInput}
 use Rattle.lk_layout.specs.declared.error.LayoutError.{LayoutError}
-use Rattle.lk_layout.specs.declared.layout.Layout.{Layout}
+use Rattle.lk_layout.specs.LayoutRecord.{LayoutRecord}
 use Rattle.lk_layout.specs.Defined.{IsDefined}
 use Rattle.lk_layout.specs.Machines.{small64_machine}
 use Rattle.lk_run.specs.declared.answer.Answer.{Answer}
@@ -22,13 +22,13 @@ use Rattle.lk_run.specs.Words.{command_of, usage}
 -- ---- the answer
 
 -- what is told of a link and its layout, or of why it has none
-abbrev pub told_of : LinkInput → Result Layout LayoutError → Answer
+abbrev pub told_of : LinkInput → Result LayoutRecord LayoutError → Answer
 told_of link (Ok layout) = record { status = LaidOut; text = report link layout }
 told_of link (Err e) = record { status = Refused; text = fault_text_of e }
 
 -- the answer to what was read: what is told of the link's defined answer on the small platform, or why there is no link
 abbrev pub IsAnswerToReading : Result LinkInput InputError → Answer → Type 0
-IsAnswerToReading (Ok link) answer = (result : Result Layout LayoutError) × IsDefined small64_machine link result × (answer ≡ told_of link result)
+IsAnswerToReading (Ok link) answer = (result : Result LayoutRecord LayoutError) × IsDefined small64_machine link result × (answer ≡ told_of link result)
 IsAnswerToReading (Err e) answer = answer ≡ record { status = Unreadable; text = input_fault_text_of e }
 
 -- what a source holds: all its bytes, or more than are read

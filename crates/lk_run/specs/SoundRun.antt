@@ -1,11 +1,10 @@
 -- What a run that laid out a link has told: the report of a sound layout of the link that its source held.
 use Rattle.std.specs.Prelude.{◌≡◌, ℕ, List, Ok}
-use Rattle.lk_gc.specs.declared.live.Live.{Live}
 use Rattle.lk_input.specs.Reading.{reading_of}
-use Rattle.lk_link.specs.declared.link.LinkInput.{LinkInput}
-use Rattle.lk_layout.specs.declared.layout.Layout.{Layout}
+use Rattle.lk_layout.specs.LayoutRecord.{LayoutRecord}
 use Rattle.lk_layout.specs.Defined.{IsDefined}
 use Rattle.lk_layout.specs.Machines.{small64_machine}
+use Rattle.lk_layout.specs.Made.{Made}
 use Rattle.lk_layout.specs.Sound.{IsSound}
 use Rattle.lk_run.specs.declared.status.Status.{Status}
 use Rattle.lk_run.specs.declared.status.Status.TheVariants.{LaidOut}
@@ -19,13 +18,13 @@ use Rattle.lk_run.specs.Words.{IsCommand}
 pub record TellsSoundLayout (from : SourceState) (before after : SinkState) : Type 0 where
   pub bytes : List ℕ
   pub holds : Holds from.left (Whole bytes)
-  pub link : LinkInput
-  pub described : reading_of bytes ≡ Ok link
-  pub layout : Layout
-  pub defined : IsDefined small64_machine link (Ok layout)
-  pub live : Live
-  pub sound : IsSound small64_machine.sizes link live layout
-  pub written : Takes before after (report link layout)
+  pub made : Made
+  pub described : reading_of bytes ≡ Ok made.link
+  pub machine : made.machine ≡ small64_machine
+  pub layout : LayoutRecord
+  pub defined : IsDefined small64_machine made.link (Ok layout)
+  pub sound : IsSound made layout
+  pub written : Takes before after (report made.link layout)
 
 -- a run of the words `layout N` that ends with the status of a layout has told a sound one
 abbrev pub IsSoundRun : List (List ℕ) → SourceState → SinkState → SinkState → Status → Type 0

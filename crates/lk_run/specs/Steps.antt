@@ -3,8 +3,8 @@ use Rattle.std.specs.Prelude.{◌≡◌, ℕ, ◌<◌, List, length, slice_index
 use Rattle.lk_input.specs.declared.read.error.InputError.{InputError}
 use Rattle.lk_link.specs.declared.link.LinkInput.{LinkInput}
 use Rattle.lk_run.specs.declared.answer.Answer.{Answer}
-use Rattle.lk_run.specs.declared.run.Reading.{Reading}
-use Rattle.lk_run.specs.declared.run.Reading.TheVariants.{Link, Fault}
+use Rattle.lk_run.specs.declared.top_call.Reading.{Reading}
+use Rattle.lk_run.specs.declared.top_call.Reading.TheVariants.{Link, Fault}
 use Rattle.lk_run.specs.declared.status.Status.{Status}
 use Rattle.lk_run.specs.declared.status.Status.TheVariants.{LaidOut, Refused, Usage, Unreadable, ReadFault, WriteFault, NoMemory}
 use Rattle.lk_run.specs.declared.words.Command.{Command}

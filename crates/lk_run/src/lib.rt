@@ -2,7 +2,7 @@
 #![tactic(auto)]
 
 pub mod answer;
-pub mod fault_text;
+pub mod fault_texts;
 pub mod faults;
 pub mod laws;
 pub mod limit;
@@ -11,23 +11,26 @@ pub mod memory;
 mod merged;
 pub mod program;
 pub mod report;
-pub mod run;
 pub mod sink;
 pub mod source;
 pub mod standard;
 pub mod status;
 pub mod sure;
+mod top_call;
 mod transcript;
 pub mod transfer;
 pub mod words;
 
 pub use answer::Answer;
+pub use fault_texts::fault_text;
 pub use faults::FaultCount;
 pub use memory::{MemorySink, MemorySource};
+pub use report::report_text;
 pub use sink::Sink;
 pub use source::{Failed, Source};
 pub use standard::{StandardInput, StandardOutput};
 pub use status::Status;
 pub use sure::{SureSink, SureSource};
+pub use top_call::{run, run_alone};
 pub use transfer::ReadAllError;
-pub use words::Command;
+pub use words::{Command, read_words};

@@ -7,10 +7,10 @@ ghost use Rattle.std.specs.Vec.Iter.{into_iter_items};
 ghost use Rattle.lk_run.specs.Program.{IsProgramRun, IsStopped};
 ghost use Rattle.lk_run.specs.RunAlone.{AsksForWorkers};
 
-use crate::run::run;
 use crate::sink::Sink;
 use crate::source::Source;
 use crate::status::Status;
+use crate::top_call::run;
 use crate::words::words_behind_name;
 use lk_link::gate::NoGate;
 use std::alloc::Global;

@@ -98,10 +98,10 @@ pub fn report_text(
     write_live_sections(&mut text, link, layout)?;
     write_merged(
         &mut text,
-        layout.merged_strings.as_slice(),
-        &layout.merged_string_start_addresses,
+        layout.merged_strings(),
+        layout.merged_string_start_addresses(),
     )?;
-    write_symbols(&mut text, &layout.symbol_resolutions)?;
+    write_symbols(&mut text, layout.symbol_resolutions())?;
     write_entry(&mut text, layout.resolved_entry_symbol_address())?;
     text.push_str("end\n")?;
     Ok(text)
@@ -110,21 +110,21 @@ pub fn report_text(
 /// How many bytes the report mostly has, so that its text seldom grows.
 fn room_of(layout: &Layout<'_>) -> usize {
     let records = layout
-        .section_layouts
+        .section_layouts()
         .len()
-        .saturating_add(layout.section_part_layouts.len())
-        .saturating_add(layout.segment_layouts.len())
+        .saturating_add(layout.section_part_layouts().len())
+        .saturating_add(layout.segment_layouts().len())
         .saturating_add(1);
     records
         .saturating_mul(RECORD_LINE)
         .saturating_add(count_live(layout).saturating_mul(LIVE_LINE))
-        .saturating_add(merged_room(layout.merged_strings.as_slice()))
-        .saturating_add(symbols_room(&layout.symbol_resolutions))
+        .saturating_add(merged_room(layout.merged_strings()))
+        .saturating_add(symbols_room(layout.symbol_resolutions()))
 }
 
 /// How many input sections are live.
 fn count_live(layout: &Layout<'_>) -> usize {
-    let marks = layout.live_marks.as_slice();
+    let marks = layout.live_marks();
     marks.iter().filter(|mark| **mark).count()
 }
 
@@ -163,8 +163,8 @@ fn write_records(text: &mut String, link: &LinkInput, layout: &Layout<'_>) -> Re
 {
     let sections = &link.plan.sections;
     write_sections(text, sections.as_slice(), layout)?;
-    write_parts(text, sections, layout.section_part_layouts.as_slice())?;
-    write_segments(text, layout.segment_layouts.as_slice())
+    write_parts(text, sections, layout.section_part_layouts())?;
+    write_segments(text, layout.segment_layouts())
 }
 
 /// The lines of the output sections.
@@ -186,9 +186,9 @@ fn write_sections(
 fn write_section(text: &mut String, number: usize, layout: &Layout<'_>) -> Result<(), AllocError>
     ensures { IfOk result (λ _. string_bytes text.new ≡ string_bytes text.old ++ laid_out_text layout.now number) }
 {
-    let range = layout.section_layouts.get(number);
-    let index = layout.output_section_indexes.get(number);
-    let attrs = layout.section_attributes.get(number);
+    let range = layout.section_layouts().get(number);
+    let index = layout.output_section_indexes().get(number);
+    let attrs = layout.section_attributes().get(number);
     match (range, index, attrs) {
         (Some(range), Some(index), Some(attrs)) => {
             write_section_line(text, number, range, *index, *attrs)
@@ -356,8 +356,8 @@ fn write_input(
 ) -> Result<(), AllocError>
     ensures { IfOk result (λ _. string_bytes text.new ≡ string_bytes text.old ++ input_text layout.now (number, input_of input.entry)) }
 {
-    if is_marked(layout.live_marks.as_slice(), number) {
-        let address = address_at(layout.section_addresses.as_slice(), number);
+    if is_marked(layout.live_marks(), number) {
+        let address = address_at(layout.section_addresses(), number);
         write_live_section(text, input, address)?;
     }
     Ok(())

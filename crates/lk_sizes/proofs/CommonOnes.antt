@@ -1,14 +1,15 @@
 -- The commons of a link: each stands once, in the order of symbols, among the owners of its part.
-use Rattle.std.proofs.Common.{◌≡◌, ℕ, zero, suc, ◌+◌, ◌<◌, ◌≤◌, ◌==◌, true, false, List, [], ◌∷◌, ◌++◌, length, map, take, Option, Some, None, get_or, length-append, refl, sym, ap, ◌∙◌, subst, arith, append_assoc}
+use Rattle.std.proofs.Common.{◌≡◌, ℕ, zero, suc, ◌+◌, ◌<◌, ◌≤◌, true, false, List, [], ◌∷◌, ◌++◌, length, map, Option, Some, None, get_or, length-append, refl, sym, ap, ◌∙◌, subst, arith, append_assoc}
 use Rattle.std.specs.Prelude.{Bool, cond, if◌then◌else◌, nat_le, nat_lt, position, unwrap_or}
-use Rattle.std.specs.List.{AllByRecursion, cons_option, enumerate_from, filter_map, flat_map, position_or_len, slice_get}
+use Rattle.std.specs.List.{cons_option, enumerate_from, filter_map, flat_map, position_or_len, slice_get}
 use Rattle.std.proofs.Math.Seq.{get_or-append_seam}
-use Rattle.std.proofs.lemmas.Bool.{eqb-true, false_from_ne_true, le-leb, lt-leb, ltb-false}
+use Rattle.std.proofs.lemmas.Bool.{le-leb, lt-leb, ltb-false}
 use Rattle.std.proofs.lemmas.List.Quantifiers.{position-Some}
 use Rattle.std.proofs.lemmas.Grind.{flat_map-append}
-use Rattle.std.proofs.lemmas.List.{append-nil, append_cancel_left, get_or_append_left, map-append, take_more}
-use Rattle.std.proofs.lemmas.List.Sums.{position_or_len_is, sum_by_more}
-use Rattle.std.proofs.lemmas.Option.{get_or_from_slice_get, slice_get_within}
+use Rattle.std.proofs.lemmas.List.{append-nil, append_cancel_left, get_or_append_left}
+use Rattle.std.proofs.lemmas.List.Elements.{filter_map-append}
+use Rattle.std.proofs.lemmas.List.Sums.{position_or_len_is}
+use Rattle.std.proofs.lemmas.Option.{get_or_from_slice_get}
 use Rattle.lk_link.specs.declared.file.FileKind.{FileKind}
 use Rattle.lk_link.specs.declared.file.InputFile.{InputFile}
 use Rattle.lk_link.specs.declared.link.LinkInput.{LinkInput}
@@ -19,14 +20,14 @@ use Rattle.lk_link.specs.declared.walks.FileRef.{FileRef}
 use Rattle.lk_link.specs.Files.{file_in}
 use Rattle.lk_link.specs.Inputs.{Input, NumberedFile, numbered_files}
 use Rattle.lk_link.specs.Symbols.{all_files, file_number, first_symbol, symbols_before, symbols_in}
-use Rattle.lk_link.proofs.Elements.{append_right, at_index, flat_map_at, flat_map_in, map_in, numbered_at}
+use Rattle.lk_link.proofs.Elements.{append_left, append_right, at_index, flat_map_at, flat_map_in, map_in, numbered_at}
 use Rattle.lk_link.specs.PartRules.{is_table_part}
 use Rattle.lk_link.specs.Parts.{all_parts}
 use Rattle.lk_link.specs.SymbolRules.{IsPlacementThere}
 use Rattle.lk_link.specs.Walks.{file_of}
 use Rattle.lk_link.specs.WellFormed.{IsWellFormed}
 use Rattle.lk_link.proofs.GoodSymbols.{symbol_of as symbols_are_good}
-use Rattle.lk_link.proofs.InputLemmas.{file_stands, files_from_are, numbered_get}
+use Rattle.lk_link.proofs.InputLemmas.{file_stands, numbered_get}
 use Rattle.lk_gc.specs.declared.live.Live.{Live}
 use Rattle.lk_reach.proofs.Numbered.{file_at}
 use Rattle.lk_reach.proofs.WalkLemmas.{one_file_more}
@@ -34,55 +35,14 @@ use Rattle.lk_tables.specs.declared.commons.Common.{Common}
 use Rattle.lk_sizes.specs.Addresses.{CommonsRise}
 use Rattle.lk_tables.specs.Copied.{is_wanted}
 use Rattle.lk_tables.specs.Late.{flags_at}
-use Rattle.lk_sizes.specs.Owners.{CommonOwner, Content, EntryOwner, IdentityOwner, ImageOwner, IsCommonIn, Owner, SectionOwner, Taker, all_commons, common_at, common_of, common_taker, commons_of, file_takers, live_of, section_taker, takers}
-use Rattle.lk_sizes.specs.PartOwners.{CommonsAreOwners, common_address, is_common_of}
+use Rattle.lk_sizes.specs.Owners.{Filling, IsCommonIn, Taker, all_commons, common_at, common_of, common_taker, commons_of, file_takers, live_of, section_taker, takers, thunk_takers}
+use Rattle.lk_sizes.specs.PartOwners.{CommonsAreOwners, common_address, common_key, owners_of}
 use Rattle.lk_sizes.specs.Tables.{AreLeft, CommonsGo, behind_leading, bytes_in, reach_from}
-use Rattle.lk_sizes.proofs.Addressing.{IsAmong, NonePass, StandsBehind, address_behind, all_parted, among, same_number, stands_behind, stands_there}
-
--- ---- numbers that rise
-
--- each is above the one before it, the first at least low, the last below high
-abbrev pub IsRising : ℕ → List ℕ → ℕ → Type 0
-IsRising low [] high = low ≤ high
-IsRising low (x ∷ xs) high = (low ≤ x) × IsRising (x + 1) xs high
-
-rising_lower : (low lower : ℕ) (xs : List ℕ) (high : ℕ) → lower ≤ low → IsRising low xs high → IsRising lower xs high
-rising_lower low lower [] high h i = omega (arith, i)
-rising_lower low lower (x ∷ xs) high h i = (omega (arith, i.0), i.1)
-
-rising_joined : (low middle high : ℕ) (xs ys : List ℕ) → IsRising low xs middle → IsRising middle ys high → IsRising low (xs ++ ys) high
-rising_joined low middle high [] ys h i = rising_lower middle low ys high h i
-rising_joined low middle high (x ∷ xs) ys h i = (h.0, rising_joined (x + 1) middle high xs ys h.1 i)
-
-rising_ends : (low high : ℕ) (xs : List ℕ) → IsRising low xs high → low ≤ high
-rising_ends low high [] h = h
-rising_ends low high (x ∷ xs) h = omega (arith, h.0, rising_ends (x + 1) high xs h.1)
-
-rising_above : (low high : ℕ) (xs : List ℕ) (y : ℕ) (ys : List ℕ) → IsRising low (xs ++ y ∷ ys) high → low ≤ y
-rising_above low high [] y ys h = h.0
-rising_above low high (x ∷ xs) y ys h = omega (arith, h.0, rising_above (x + 1) high xs y ys h.1)
-
--- those in front of one are below it
-rising_front : (low high : ℕ) (xs : List ℕ) (y : ℕ) (ys : List ℕ) → IsRising low (xs ++ y ∷ ys) high → AllByRecursion (λ x. x < y) xs
-rising_front low high [] y ys h = tt
-rising_front low high (x ∷ xs) y ys h = (omega (arith, rising_above (x + 1) high xs y ys h.1), rising_front (x + 1) high xs y ys h.1)
-
-rising_below : (low high : ℕ) (xs : List ℕ) (k y : ℕ) → IsRising low xs high → slice_get xs k ≡ Some y → y < high
-rising_below low high [] k y h there = absurd (cc)
-rising_below low high (x ∷ xs) zero y h there = let same : x ≡ y = cc in omega (arith, same, rising_ends (x + 1) high xs h.1)
-rising_below low high (x ∷ xs) (suc k) y h there = rising_below (x + 1) high xs k y h.1 there
-
-rising_at : (low high : ℕ) (xs : List ℕ) (k y : ℕ) → IsRising low xs high → slice_get xs k ≡ Some y → low ≤ y
-rising_at low high [] k y h there = absurd (cc)
-rising_at low high (x ∷ xs) zero y h there = let same : x ≡ y = cc in omega (arith, h.0, same)
-rising_at low high (x ∷ xs) (suc k) y h there = omega (arith, h.0, rising_at (x + 1) high xs k y h.1 there)
-
-pub rising_order : (low high : ℕ) (xs : List ℕ) (j k x y : ℕ) → IsRising low xs high → j < k → slice_get xs j ≡ Some x → slice_get xs k ≡ Some y → x < y
-rising_order low high [] j k x y h below at_j at_k = absurd (cc)
-rising_order low high (z ∷ xs) zero zero x y h below at_j at_k = absurd (omega arith)
-rising_order low high (z ∷ xs) zero (suc k) x y h below at_j at_k = let same : z ≡ x = cc in omega (arith, same, rising_at (z + 1) high xs k y h.1 at_k)
-rising_order low high (z ∷ xs) (suc j) zero x y h below at_j at_k = absurd (omega arith)
-rising_order low high (z ∷ xs) (suc j) (suc k) x y h below at_j at_k = rising_order (z + 1) high xs j k x y h.1 (omega arith) at_j at_k
+use Rattle.lk_sizes.proofs.Addressing.{IsAmong, StandsBehind, address_behind, among, stands_behind, stands_there}
+use Rattle.lk_sizes.proofs.Keys.{IsRising, NoneTwice, all_keys, made_keys, no_keys, rise_flat, rising_at, rising_below, rising_lower, rising_order}
+use Rattle.lk_sizes.proofs.OwnerKeys.{FilesRise, file_more, files_rise, keys_once, once_in_part, place_is_number, taker_keys}
+use Rattle.lk_sizes.proofs.Takers.{mapped_flat}
+use Rattle.lk_sizes.proofs.ThunkTakers.{no_block_keys}
 
 -- ---- the symbols of commons
 
@@ -133,132 +93,65 @@ rising_file live kind n (x ∷ symbols) =
     (λ c is. placed_number n x.at c (is_common live kind (n, x) c is).placed)
     (subst (λ (m : ℕ). IsRising (n + 1) (symbols_told (filter_map (common_of live kind) (enumerate_from (n + 1) symbols))) m) more (rising_file live kind (n + 1) symbols))
 
--- a file's number is its place
-place_is_number : (link : LinkInput) (k : ℕ) (f : NumberedFile) → slice_get (numbered_files link.groups) k ≡ Some f → k ≡ file_number link.groups f.id
-place_is_number link k f h =
-    let here = file_at link.groups k f h in
-    let there = file_at link.groups (file_number link.groups f.id) (record { id = f.id; file = f.file }) (file_stands link.groups f.id f.file here.there) in
-    here.place ∙ sym there.place
-
--- the symbols before the next file
-file_more : (link : LinkInput) (k : ℕ) (f : NumberedFile) → slice_get (numbered_files link.groups) k ≡ Some f
-    → symbols_before (k + 1) (all_files link.groups) ≡ symbols_before k (all_files link.groups) + length f.file.symbols
-file_more link k f at =
+-- a file's rise from its first symbol's number to the one behind its last
+one_rising : (link : LinkInput) (live : Live) → FilesRise link symbols_in (λ f. symbols_told (commons_of link live f))
+one_rising link live k f at =
     let all : List InputFile = all_files link.groups in
-    let in_all : slice_get all k ≡ Some f.file = ap (λ (fs : List InputFile). slice_get fs k) (sym (files_from_are 0 link.groups)) ∙ map_in (λ (g : NumberedFile). g.file) (numbered_files link.groups) k f at in
-    sum_by_more symbols_in all k f.file (slice_get_within all k f.file in_all) ∙ ap (λ (g : InputFile). symbols_before k all + symbols_in g) (get_or_from_slice_get all k f.file f.file in_all)
-
--- so do those of the first files
-rising_files : (link : LinkInput) (live : Live) (k : ℕ) → k ≤ length (numbered_files link.groups)
-    → IsRising 0 (symbols_told (flat_map (commons_of link live) (take k (numbered_files link.groups)))) (symbols_before k (all_files link.groups))
-rising_files link live zero h = omega arith
-rising_files link live (suc k) h =
-    let files : List NumberedFile = numbered_files link.groups in
-    let all : List InputFile = all_files link.groups in
-    let at = at_index files k (omega (arith, h)) in
-    let f : NumberedFile = at.0 in
-    let before : List Common = flat_map (commons_of link live) (take k files) in
-    let number : k + 1 ≡ suc k = omega arith in
-    let front : take (suc k) files ≡ take k files ++ f ∷ []
-    = ap (λ (n : ℕ). take n files) (sym number) ∙ take_more files k f (omega (arith, h)) ∙ ap (λ (g : NumberedFile). take k files ++ g ∷ []) (get_or_from_slice_get files k f f at.1) in
-    let split : symbols_told (flat_map (commons_of link live) (take (suc k) files)) ≡ symbols_told before ++ symbols_told (commons_of link live f)
-    = ap (λ (gs : List NumberedFile). symbols_told (flat_map (commons_of link live) gs)) front
-    ∙ ap symbols_told (flat_map-append (commons_of link live) (take k files) (f ∷ []) ∙ ap (λ (cs : List Common). before ++ cs) (append-nil (commons_of link live f)))
-    ∙ map-append (λ (c : Common). c.symbol) before (commons_of link live f) in
-    let first : first_symbol link.groups f.id ≡ symbols_before k all = ap (λ (n : ℕ). symbols_before n all) (sym (place_is_number link k f at.1)) in
-    let more = file_more link k f at.1 in
-    let end : first_symbol link.groups f.id + length f.file.symbols ≡ symbols_before (suc k) all = omega (arith, first, more, ap (λ (n : ℕ). symbols_before n all) number) in
-    subst (λ (xs : List ℕ). IsRising 0 xs (symbols_before (suc k) all)) (sym split)
-    (rising_joined 0 (symbols_before k all) (symbols_before (suc k) all) (symbols_told before) (symbols_told (commons_of link live f)) (rising_files link live k (omega (arith, h)))
-    (subst (λ (n : ℕ). IsRising n (symbols_told (commons_of link live f)) (symbols_before (suc k) all)) first
-    (subst (λ (n : ℕ). IsRising (first_symbol link.groups f.id) (symbols_told (commons_of link live f)) n) end (rising_file live f.file.kind (first_symbol link.groups f.id) f.file.symbols))))
+    let first : first_symbol link.groups f.id ≡ symbols_before k all = ap (λ (n : ℕ). symbols_before n all) (sym (place_is_number link k f at)) in
+    subst (λ (n : ℕ). IsRising n (symbols_told (commons_of link live f)) (n + length f.file.symbols)) first (rising_file live f.file.kind (first_symbol link.groups f.id) f.file.symbols)
 
 -- all rise
-pub all_rising : (link : LinkInput) (live : Live) → IsRising 0 (symbols_told (all_commons link live)) (symbols_before (length (numbered_files link.groups)) (all_files link.groups))
+all_rising : (link : LinkInput) (live : Live) → IsRising 0 (symbols_told (all_commons link live)) (symbols_before (0 + length (numbered_files link.groups)) (all_files link.groups))
 all_rising link live =
     let files : List NumberedFile = numbered_files link.groups in
-    subst (λ (fs : List NumberedFile). IsRising 0 (symbols_told (flat_map (commons_of link live) fs)) (symbols_before (length files) (all_files link.groups)))
-    (take_whole files) (rising_files link live (length files) (omega arith))
-  where
-    take_whole : {X : Type 0} (xs : List X) → take (length xs) xs ≡ xs
-    take_whole [] = refl
-    take_whole (x ∷ xs) = ap (λ (ys : List _). x ∷ ys) (take_whole xs)
+    subst (λ (ns : List ℕ). IsRising 0 ns (symbols_before (0 + length files) (all_files link.groups))) (mapped_flat (λ (c : Common). c.symbol) (commons_of link live) files)
+    (files_rise link symbols_in (λ f. symbols_told (commons_of link live f)) (one_rising link live))
 
 pub commons_rise : CommonsRise
 commons_rise link live j k c d below at_j at_k =
     let symbol : Common → ℕ = λ e. e.symbol in
-    rising_order 0 (symbols_before (length (numbered_files link.groups)) (all_files link.groups)) (symbols_told (all_commons link live)) j k c.symbol d.symbol (all_rising link live) below
+    rising_order 0 (symbols_before (0 + length (numbered_files link.groups)) (all_files link.groups)) (symbols_told (all_commons link live)) j k c.symbol d.symbol (all_rising link live) below
     (map_in symbol (all_commons link live) j c at_j) (map_in symbol (all_commons link live) k d at_k)
 
--- ---- commons among takers
+-- ---- commons among the owners of a part
 
-abbrev pub common_in : Owner → List ℕ
-common_in (ImageOwner section len) = []
-common_in (IdentityOwner size) = []
-common_in (SectionOwner x size) = []
-common_in (CommonOwner s size) = s ∷ []
-common_in (EntryOwner e) = []
+-- of a file's takers, its commons have such keys
+commons_told : (filling : Filling) (f : NumberedFile) → taker_keys common_key (file_takers filling f)
+    ≡ symbols_told (commons_of filling.content.link filling.content.live f)
+commons_told filling f =
+    let link : LinkInput = filling.content.link in
+    let live : Live = filling.content.live in
+    let key : Taker → Option ℕ = λ t. common_key t.owner in
+    let xs : List Input = live_of link live f in
+    let cs : List Common = commons_of link live f in
+    filter_map-append key (map (section_taker filling) xs) (map common_taker cs ++ thunk_takers filling f)
+    ∙ ap (λ (ns : List ℕ). ns ++ filter_map key (map common_taker cs ++ thunk_takers filling f))
+    (made_keys key (section_taker filling) xs ∙ no_keys (λ x. key (section_taker filling x)) xs (λ x. refl))
+    ∙ filter_map-append key (map common_taker cs) (thunk_takers filling f)
+    ∙ ap (λ (ns : List ℕ). filter_map key (map common_taker cs) ++ ns) (no_block_keys key filling f (λ p size. refl))
+    ∙ append-nil (filter_map key (map common_taker cs))
+    ∙ made_keys key common_taker cs
+    ∙ all_keys (λ (c : Common). c.symbol) cs
 
-abbrev pub commons_among : List Taker → List ℕ
-commons_among ts = flat_map (λ (t : Taker). common_in t.owner) ts
+-- the symbol of none stands twice among the owners of a part
+pub commons_once : (filling : Filling) (p : ℕ) → NoneTwice (filter_map common_key (owners_of filling p))
+commons_once filling p =
+    let link : LinkInput = filling.content.link in
+    let live : Live = filling.content.live in
+    let all : List InputFile = all_files link.groups in
+    once_in_part common_key filling p (record { image = λ section len. refl; identity = λ size. refl; entry = λ e. refl })
+    (keys_once common_key filling symbols_in (λ k f at.
+    subst (λ (ns : List ℕ). IsRising (symbols_before k all) ns (symbols_before k all + length f.file.symbols)) (sym (commons_told filling f)) (one_rising link live k f at)))
 
-none_told : (xs : List Input) → commons_among (map section_taker xs) ≡ []
-none_told [] = refl
-none_told (x ∷ xs) = none_told xs
-
-all_told : (cs : List Common) → commons_among (map common_taker cs) ≡ symbols_told cs
-all_told [] = refl
-all_told (c ∷ cs) = ap (λ (ss : List ℕ). c.symbol ∷ ss) (all_told cs)
-
-commons_joined : (ts us : List Taker) → commons_among (ts ++ us) ≡ commons_among ts ++ commons_among us
-commons_joined ts us = flat_map-append (λ (t : Taker). common_in t.owner) ts us
-
-of_files : (link : LinkInput) (content : Content) (files : List NumberedFile)
-    → commons_among (flat_map (file_takers link content.live) files) ≡ symbols_told (flat_map (commons_of link content.live) files)
-of_files link content [] = refl
-of_files link content (f ∷ files) =
-    let xs : List Input = live_of link content.live f in
-    let cs : List Common = commons_of link content.live f in
-    let rest : List Taker = flat_map (file_takers link content.live) files in
-    let one : commons_among (file_takers link content.live f) ≡ symbols_told cs
-    = commons_joined (map section_taker xs) (map common_taker cs) ∙ ap (λ (ss : List ℕ). ss ++ commons_among (map common_taker cs)) (none_told xs) ∙ all_told cs in
-    commons_joined (file_takers link content.live f) rest
-    ∙ ap (λ (ss : List ℕ). ss ++ commons_among rest) one
-    ∙ ap (λ (ss : List ℕ). symbols_told cs ++ ss) (of_files link content files)
-    ∙ sym (map-append (λ (c : Common). c.symbol) cs (flat_map (commons_of link content.live) files))
-
-pub commons_are : (link : LinkInput) (content : Content) → commons_among (takers link content.live) ≡ symbols_told (all_commons link content.live)
-commons_are link content = of_files link content (numbered_files link.groups)
-
--- ---- a common is none of those in front of it
-
-pub one_common_other : (s : ℕ) (o : Owner) → AllByRecursion (λ t. t < s) (common_in o) → is_common_of s o ≡ false
-one_common_other s (ImageOwner section len) h = refl
-one_common_other s (IdentityOwner size) h = refl
-one_common_other s (SectionOwner x size) h = refl
-one_common_other s (EntryOwner e) h = refl
-one_common_other s (CommonOwner t size) h = false_from_ne_true (t == s) (λ same. absurd (omega (arith, h.0, eqb-true t s same)))
-
-others : (s : ℕ) (ts : List Taker) → AllByRecursion (λ t. t < s) (commons_among ts) → NonePass (is_common_of s) ts
-others s [] h = tt
-others s (t ∷ ts) h =
-    let parted = all_parted (λ (n : ℕ). n < s) (common_in t.owner) (commons_among ts) h in
-    (one_common_other s t.owner parted.0, others s ts parted.1)
-
-pub common_stands : (link : LinkInput) (content : Content) (front : List Taker) (c : Common) (rest : List Taker) → takers link content.live ≡ front ++ common_taker c ∷ rest
-    → StandsBehind (is_common_of c.symbol) link content front (common_taker c)
-common_stands link content front c rest all =
-    let split : symbols_told (all_commons link content.live) ≡ commons_among front ++ c.symbol ∷ commons_among rest
-    = sym (commons_are link content) ∙ ap commons_among all ∙ commons_joined front (common_taker c ∷ rest) in
-    let end : ℕ = symbols_before (length (numbered_files link.groups)) (all_files link.groups) in
-    let below = rising_front 0 end (commons_among front) c.symbol (commons_among rest) (subst (λ (ss : List ℕ). IsRising 0 ss end) split (all_rising link content.live)) in
-    stands_behind (is_common_of c.symbol) link content front (common_taker c) rest all (record { image = λ section len. refl; identity = λ size. refl }) (others c.symbol front below) (same_number c.symbol)
+pub common_stands : (filling : Filling) (front : List Taker) (c : Common) (rest : List Taker) → takers filling ≡ front ++ common_taker c ∷ rest
+    → StandsBehind common_key c.symbol filling front (common_taker c)
+common_stands filling front c rest all = stands_behind common_key c.symbol filling front (common_taker c) rest all refl (commons_once filling c.part)
 
 -- its address
-pub common_behind : (link : LinkInput) (content : Content) (starts : List ℕ) (front : List Taker) (c : Common) (rest : List Taker) → takers link content.live ≡ front ++ common_taker c ∷ rest
-    → common_address link content starts c.part c.symbol ≡ behind_leading link content.merged_lens starts c.part + bytes_in link c.part front
-common_behind link content starts front c rest all =
-    address_behind (is_common_of c.symbol) link content starts front (common_taker c) (common_stands link content front c rest all)
+pub common_behind : (filling : Filling) (starts : List ℕ) (front : List Taker) (c : Common) (rest : List Taker) → takers filling ≡ front ++ common_taker c ∷ rest
+    → common_address filling starts c.part c.symbol ≡ behind_leading filling.content.link filling.content.merged_lens starts c.part + bytes_in filling.content.link c.part front
+common_behind filling starts front c rest all =
+    address_behind common_key c.symbol filling starts front (common_taker c) (common_stands filling front c rest all)
 
 -- ---- each common stands among the takers
 
@@ -285,23 +178,24 @@ common_at_index link live p s size h =
     let told : common_of live h.file.file.kind (s, h.symbol) ≡ Some c = ap (λ b. if b then common_at s h.symbol.at else None) h.wanted ∙ placed in
     filter_map_in (common_of live h.file.file.kind) (enumerate_from first h.file.file.symbols) h.index (s, h.symbol) c numbered told
 
-pub common_among : (link : LinkInput) (content : Content) (p s size : ℕ) → IsCommonIn link content.live p s size
-    → IsAmong (takers link content.live) (common_taker (record { symbol = s; part = p; size = size }))
-common_among link content p s size h =
+pub common_among : (filling : Filling) (p s size : ℕ) → IsCommonIn filling.content.link filling.content.live p s size
+    → IsAmong (takers filling) (common_taker (record { symbol = s; part = p; size = size }))
+common_among filling p s size h =
     let c : Common = record { symbol = s; part = p; size = size } in
-    let at = common_at_index link content.live p s size h in
-    let cs : List Common = commons_of link content.live h.file in
-    let sections : List Taker = map section_taker (live_of link content.live h.file) in
-    let in_file = append_right sections (map common_taker cs) at.0 (length sections + at.0) (common_taker c) refl (map_in common_taker cs at.0 c at.1) in
-    let there : slice_get (numbered_files link.groups) (file_number link.groups h.file.id) ≡ Some h.file = file_stands link.groups h.file.id h.file.file h.there in
-    let whole = flat_map_in (file_takers link content.live) (numbered_files link.groups) (file_number link.groups h.file.id) (length sections + at.0) h.file (common_taker c) there in_file in
-    among (takers link content.live) whole.0 (common_taker c) whole.1
+    let at = common_at_index filling.content.link filling.content.live p s size h in
+    let cs : List Common = commons_of filling.content.link filling.content.live h.file in
+    let sections : List Taker = map (section_taker filling) (live_of filling.content.link filling.content.live h.file) in
+    let own = append_left (map common_taker cs) (thunk_takers filling h.file) at.0 (common_taker c) (map_in common_taker cs at.0 c at.1) in
+    let in_file = append_right sections (map common_taker cs ++ thunk_takers filling h.file) at.0 (length sections + at.0) (common_taker c) refl own in
+    let there : slice_get (numbered_files filling.content.link.groups) (file_number filling.content.link.groups h.file.id) ≡ Some h.file = file_stands filling.content.link.groups h.file.id h.file.file h.there in
+    let whole = flat_map_in (file_takers filling) (numbered_files filling.content.link.groups) (file_number filling.content.link.groups h.file.id) (length sections + at.0) h.file (common_taker c) there in_file in
+    among (takers filling) whole.0 (common_taker c) whole.1
 
 pub commons_are_owners : CommonsAreOwners
-commons_are_owners link content p s size h =
+commons_are_owners filling p s size h =
     let c : Common = record { symbol = s; part = p; size = size } in
-    let split = common_among link content p s size h in
-    stands_there (is_common_of s) link content split.front (common_taker c) (common_stands link content split.front c split.rest split.splits)
+    let split = common_among filling p s size h in
+    stands_there common_key s filling split.front (common_taker c) (common_stands filling split.front c split.rest split.splits)
 
 -- ---- what a common that takes bytes is
 
@@ -385,35 +279,19 @@ all_go link live good k c at =
 
 -- ---- the commons of a file, and those behind it
 
--- a file's rise from its first symbol's number to the one behind its last
-one_rising : (link : LinkInput) (live : Live) (k : ℕ) (f : NumberedFile) → slice_get (numbered_files link.groups) k ≡ Some f
+-- a file's rise to the first symbol of the next
+to_next : (link : LinkInput) (live : Live) (k : ℕ) (f : NumberedFile) → slice_get (numbered_files link.groups) k ≡ Some f
     → IsRising (symbols_before k (all_files link.groups)) (symbols_told (commons_of link live f)) (symbols_before (k + 1) (all_files link.groups))
-one_rising link live k f at =
-    let all : List InputFile = all_files link.groups in
-    let first : first_symbol link.groups f.id ≡ symbols_before k all = ap (λ (n : ℕ). symbols_before n all) (sym (place_is_number link k f at)) in
-    let end : first_symbol link.groups f.id + length f.file.symbols ≡ symbols_before (k + 1) all = omega (arith, first, file_more link k f at) in
-    subst (λ (n : ℕ). IsRising n (symbols_told (commons_of link live f)) (symbols_before (k + 1) all)) first
-    (subst (λ (n : ℕ). IsRising (first_symbol link.groups f.id) (symbols_told (commons_of link live f)) n) end (rising_file live f.file.kind (first_symbol link.groups f.id) f.file.symbols))
+to_next link live k f at =
+    subst (λ (n : ℕ). IsRising (symbols_before k (all_files link.groups)) (symbols_told (commons_of link live f)) n) (sym (file_more symbols_in link k f at)) (one_rising link live k f at)
 
 -- those of the files from a place on
 rising_behind : (link : LinkInput) (live : Live) (k : ℕ) (files : List NumberedFile) → ((j : ℕ) (g : NumberedFile) → slice_get files j ≡ Some g → slice_get (numbered_files link.groups) (k + j) ≡ Some g)
     → IsRising (symbols_before k (all_files link.groups)) (symbols_told (flat_map (commons_of link live) files)) (symbols_before (k + length files) (all_files link.groups))
-rising_behind link live k [] at =
-    let none : k + 0 ≡ k = omega arith in
-    omega (arith, ap (λ (n : ℕ). symbols_before n (all_files link.groups)) none)
-rising_behind link live k (f ∷ files) at =
-    let all : List InputFile = all_files link.groups in
-    let none : k + 0 ≡ k = omega arith in
-    let more : k + 1 + length files ≡ k + length (f ∷ files) = omega arith in
-    let here : slice_get (numbered_files link.groups) k ≡ Some f = ap (λ (n : ℕ). slice_get (numbered_files link.groups) n) (sym none) ∙ at 0 f refl in
-    let rest = rising_behind link live (k + 1) files (λ j g there.
-    let next : k + 1 + j ≡ k + suc j = omega arith in
-    ap (λ (n : ℕ). slice_get (numbered_files link.groups) n) next ∙ at (suc j) g there) in
-    subst (λ (xs : List ℕ). IsRising (symbols_before k all) xs (symbols_before (k + length (f ∷ files)) all))
-    (sym (map-append (λ (c : Common). c.symbol) (commons_of link live f) (flat_map (commons_of link live) files)))
-    (subst (λ (n : ℕ). IsRising (symbols_before k all) (symbols_told (commons_of link live f) ++ symbols_told (flat_map (commons_of link live) files)) (symbols_before n all)) more
-    (rising_joined (symbols_before k all) (symbols_before (k + 1) all) (symbols_before (k + 1 + length files) all) (symbols_told (commons_of link live f))
-    (symbols_told (flat_map (commons_of link live) files)) (one_rising link live k f here) rest))
+rising_behind link live k files at =
+    let before : ℕ → ℕ = λ n. symbols_before n (all_files link.groups) in
+    subst (λ (ns : List ℕ). IsRising (before k) ns (before (k + length files))) (mapped_flat (λ (c : Common). c.symbol) (commons_of link live) files)
+    (rise_flat (λ f. symbols_told (commons_of link live f)) before k files (λ j g there. to_next link live (k + j) g (at j g there)))
 
 -- where commons reach a number
 no_common : Common
@@ -467,11 +345,11 @@ left_split link live f left h =
     let behind : List Common = flat_map (commons_of link live) h.rest in
     let at : slice_get (numbered_files link.groups) k ≡ Some f = ap (λ (fs : List NumberedFile). slice_get fs k) h.files ∙ append_seam h.done in
     let first : first_symbol link.groups f.id ≡ symbols_before k all = ap (λ (n : ℕ). symbols_before n all) (sym (place_is_number link k f at)) in
-    let end : symbols_before (k + 1) all ≡ first_symbol link.groups f.id + length f.file.symbols = omega (arith, first, file_more link k f at) in
+    let end : symbols_before (k + 1) all ≡ first_symbol link.groups f.id + length f.file.symbols = omega (arith, first, file_more symbols_in link k f at) in
     let rest = rising_behind link live (k + 1) h.rest (λ j g there. ap (λ (fs : List NumberedFile). slice_get fs (k + 1 + j)) h.files ∙ append_right h.done (f ∷ h.rest) (suc j) (k + 1 + j) g (omega arith) there) in
     ap (λ (n : ℕ). reach_from n left) (sym end)
     ∙ ap (reach_from (symbols_before (k + 1) all)) h.commons
-    ∙ reach_split (symbols_before k all) (symbols_before (k + 1) all) own behind (one_rising link live k f at)
+    ∙ reach_split (symbols_before k all) (symbols_before (k + 1) all) own behind (to_next link live k f at)
     (λ d there. le-leb (symbols_before (k + 1) all) d.symbol (rising_at (symbols_before (k + 1) all) (symbols_before (k + 1 + length h.rest) all) (symbols_told behind) 0 d.symbol rest
     (map_in (λ (c : Common). c.symbol) behind 0 d there)))
   where

@@ -24,8 +24,8 @@ use Rattle.lk_sizes.specs.declared.error.SizeError.TheVariants.{AddressOverflow}
 use Rattle.lk_sizes.specs.declared.owners.PartContents.{PartContents}
 use Rattle.lk_sizes.specs.declared.owners.PartTotal.{PartTotal}
 use Rattle.lk_sizes.specs.Attributes.{part_attributes}
-use Rattle.lk_sizes.specs.Contents.{AreContentTotals, contents_of, part_contents, size_refusal}
-use Rattle.lk_sizes.specs.Owners.{AreFirstSizes, Content, EntryOwner, bytes_of, content_of, content_owners, content_size, first_size, has_image, owner_bytes}
+use Rattle.lk_sizes.specs.Contents.{AreContentTotals, contents_of, part_contents, sum_refusal}
+use Rattle.lk_sizes.specs.Owners.{AreFirstSizes, EntryOwner, Filling, bytes_of, content_of, content_owners, content_size, first_size, has_image, owner_bytes, plain_filling}
 use Rattle.lk_sizes.specs.PartOwners.{overflowing_part, part_size, part_sizes, tables_of}
 use Rattle.lk_sizes.specs.Tables.{with_table, with_tables}
 use Rattle.lk_sizes.proofs.Made.{made_map}
@@ -39,61 +39,61 @@ abbrev pub sums : List PartTotal → List ℕ
 sums totals = map (λ t. t.bytes) totals
 
 -- what adding up gives
-pub record AreSums (link : LinkInput) (content : Content) (totals : List PartTotal) : Type 0 where
-  pub count : length totals ≡ length (all_parts link.plan.sections)
-  pub bytes : (p : ℕ) (total : PartTotal) → slice_get totals p ≡ Some total → min total.bytes (2 ^ 64) ≡ min (part_size link content p) (2 ^ 64)
-  pub image : (p : ℕ) (total : PartTotal) → slice_get totals p ≡ Some total → total.has_image ≡ has_image link p
-  pub attrs : (p : ℕ) (total : PartTotal) → slice_get totals p ≡ Some total → total.attrs ≡ part_attributes link content.live p
+pub record AreSums (filling : Filling) (totals : List PartTotal) : Type 0 where
+  pub count : length totals ≡ length (all_parts filling.content.link.plan.sections)
+  pub bytes : (p : ℕ) (total : PartTotal) → slice_get totals p ≡ Some total → min total.bytes (2 ^ 64) ≡ min (part_size filling p) (2 ^ 64)
+  pub image : (p : ℕ) (total : PartTotal) → slice_get totals p ≡ Some total → total.has_image ≡ has_image filling.content.link p
+  pub attrs : (p : ℕ) (total : PartTotal) → slice_get totals p ≡ Some total → total.attrs ≡ part_attributes filling.content.link filling.content.live p
 
-agree : (link : LinkInput) (content : Content) (totals : List PartTotal) → AreSums link content totals → (p : ℕ) → p < length (sums totals) → min (slice_index (sums totals) p) (2 ^ 64) ≡ min (slice_index (part_sizes link content) p) (2 ^ 64)
-agree link content totals h p below =
-    let parts : List PlanPart = all_parts link.plan.sections in
+agree : (filling : Filling) (totals : List PartTotal) → AreSums filling totals → (p : ℕ) → p < length (sums totals) → min (slice_index (sums totals) p) (2 ^ 64) ≡ min (slice_index (part_sizes filling) p) (2 ^ 64)
+agree filling totals h p below =
+    let parts : List PlanPart = all_parts filling.content.link.plan.sections in
     let within : p < length totals = omega (arith, length-map totals (λ (t : PartTotal). t.bytes)) in
     let at = at_index totals p within in
     let sum : slice_index (sums totals) p ≡ at.0.bytes = get_or_from_slice_get (sums totals) p at.0.bytes 0 (map_in (λ (t : PartTotal). t.bytes) totals p at.0 at.1) in
-    let size : slice_index (part_sizes link content) p ≡ part_size link content p = made_at (part_size link content) 0 parts 0 p (omega (arith, h.count)) ∙ ap (part_size link content) (omega arith) in
+    let size : slice_index (part_sizes filling) p ≡ part_size filling p = made_at (part_size filling) 0 parts 0 p (omega (arith, h.count)) ∙ ap (part_size filling) (omega arith) in
     omega (arith, sum, size, h.bytes p at.0 at.1)
 
-as_long : (link : LinkInput) (content : Content) (totals : List PartTotal) → AreSums link content totals → length (sums totals) ≡ length (part_sizes link content)
-as_long link content totals h =
-    length-map totals (λ (t : PartTotal). t.bytes) ∙ h.count ∙ sym (length-made (part_size link content) (all_parts link.plan.sections) 0)
+as_long : (filling : Filling) (totals : List PartTotal) → AreSums filling totals → length (sums totals) ≡ length (part_sizes filling)
+as_long filling totals h =
+    length-map totals (λ (t : PartTotal). t.bytes) ∙ h.count ∙ sym (length-made (part_size filling) (all_parts filling.content.link.plan.sections) 0)
 
 -- what doesn't fit is refused
-pub refused : (link : LinkInput) (content : Content) (totals : List PartTotal) (i : ℕ) → AreSums link content totals → i < length totals → sum_by (λ t. t.bytes) (take i totals) < 2 ^ 64
-    → 2 ^ 64 - 1 < sum_by (λ t. t.bytes) (take (i + 1) totals) → size_refusal link content ≡ Some (AddressOverflow (Part i))
-refused link content totals i h within low high =
+pub refused : (filling : Filling) (totals : List PartTotal) (i : ℕ) → AreSums filling totals → i < length totals → sum_by (λ t. t.bytes) (take i totals) < 2 ^ 64
+    → 2 ^ 64 - 1 < sum_by (λ t. t.bytes) (take (i + 1) totals) → sum_refusal filling ≡ Some (AddressOverflow (Part i))
+refused filling totals i h within low high =
     let before = sum-map (λ (t : PartTotal). t.bytes) (take i totals) in
     let behind = sum-map (λ (t : PartTotal). t.bytes) (take (i + 1) totals) in
     let front = take-map (λ (t : PartTotal). t.bytes) i totals in
     let more = take-map (λ (t : PartTotal). t.bytes) (i + 1) totals in
     let found : overflowing_part (sums totals) ≡ Some i = overflows_at (sums totals) i (omega (arith, length-map totals (λ (t : PartTotal). t.bytes))) (omega (arith, ap sum front, before)) (omega (arith, ap sum more, behind)) in
-    ap (option_map (λ p. AddressOverflow (Part p))) (sym (agree_overflow (sums totals) (part_sizes link content) (as_long link content totals h) (agree link content totals h)) ∙ found)
+    ap (option_map (λ p. AddressOverflow (Part p))) (sym (agree_overflow (sums totals) (part_sizes filling) (as_long filling totals h) (agree filling totals h)) ∙ found)
 
 -- what fits is what the live sections bring
-pub fitting : (link : LinkInput) (content : Content) (totals : List PartTotal) → AreSums link content totals → sum_by (λ t. t.bytes) totals < 2 ^ 64
-    → (size_refusal link content ≡ None) × (map as_contents totals ≡ part_contents link content)
-fitting link content totals h fits =
+pub fitting : (filling : Filling) (totals : List PartTotal) → AreSums filling totals → sum_by (λ t. t.bytes) totals < 2 ^ 64
+    → (sum_refusal filling ≡ None) × (map as_contents totals ≡ part_contents filling)
+fitting filling totals h fits =
     let low : sum (sums totals) < 2 ^ 64 = omega (arith, sum-map (λ (t : PartTotal). t.bytes) totals) in
-    let same : sums totals ≡ part_sizes link content = agree_fitting (sums totals) (part_sizes link content) (as_long link content totals h) (agree link content totals h) low in
-    let none : overflowing_part (part_sizes link content) ≡ None = ap overflowing_part (sym same) ∙ overflows_nowhere (sums totals) low in
-    let parts : List PlanPart = all_parts link.plan.sections in
-    let contents : map as_contents totals ≡ part_contents link content =
-    made_of (contents_of link content) (map as_contents totals) parts 0 (length-map totals as_contents ∙ h.count) (λ p below.
+    let same : sums totals ≡ part_sizes filling = agree_fitting (sums totals) (part_sizes filling) (as_long filling totals h) (agree filling totals h) low in
+    let none : overflowing_part (part_sizes filling) ≡ None = ap overflowing_part (sym same) ∙ overflows_nowhere (sums totals) low in
+    let parts : List PlanPart = all_parts filling.content.link.plan.sections in
+    let contents : map as_contents totals ≡ part_contents filling =
+    made_of (contents_of filling) (map as_contents totals) parts 0 (length-map totals as_contents ∙ h.count) (λ p below.
     let at = at_index totals p (omega (arith, h.count)) in
-    let size : slice_index (part_sizes link content) p ≡ part_size link content p = made_at (part_size link content) 0 parts 0 p below ∙ ap (part_size link content) (omega arith) in
+    let size : slice_index (part_sizes filling) p ≡ part_size filling p = made_at (part_size filling) 0 parts 0 p below ∙ ap (part_size filling) (omega arith) in
     let sum : slice_index (sums totals) p ≡ at.0.bytes = get_or_from_slice_get (sums totals) p at.0.bytes 0 (map_in (λ (t : PartTotal). t.bytes) totals p at.0 at.1) in
-    let bytes : at.0.bytes ≡ part_size link content p = sym sum ∙ ap (λ (xs : List ℕ). slice_index xs p) same ∙ size in
+    let bytes : at.0.bytes ≡ part_size filling p = sym sum ∙ ap (λ (xs : List ℕ). slice_index xs p) same ∙ size in
     let number : 0 + p ≡ p = omega arith in
     map_in as_contents totals p at.0 at.1
     ∙ ap (λ (b : ℕ). Some (record (as_contents at.0) { bytes = b })) bytes
-    ∙ ap (λ (e : Bool). let c : PartContents = record { bytes = part_size link content p; has_image = e; attrs = at.0.attrs } in Some c) (h.image p at.0 at.1)
-    ∙ ap (λ (a : ℕ). let c : PartContents = record { bytes = part_size link content p; has_image = has_image link p; attrs = a } in Some c) (h.attrs p at.0 at.1)
-    ∙ ap (λ (n : ℕ). Some (contents_of link content n)) (sym number)) in
+    ∙ ap (λ (e : Bool). let c : PartContents = record { bytes = part_size filling p; has_image = e; attrs = at.0.attrs } in Some c) (h.image p at.0 at.1)
+    ∙ ap (λ (a : ℕ). let c : PartContents = record { bytes = part_size filling p; has_image = has_image filling.content.link p; attrs = a } in Some c) (h.attrs p at.0 at.1)
+    ∙ ap (λ (n : ℕ). Some (contents_of filling n)) (sym number)) in
     (ap (option_map (λ p. AddressOverflow (Part p))) none, contents)
 
 -- the bytes of the contents are the sizes
-pub contents_sizes : (link : LinkInput) (content : Content) → map (λ c. c.bytes) (part_contents link content) ≡ part_sizes link content
-contents_sizes link content = made_map (λ (c : PartContents). c.bytes) (contents_of link content) (all_parts link.plan.sections) 0
+pub contents_sizes : (filling : Filling) → map (λ c. c.bytes) (part_contents filling) ≡ part_sizes filling
+contents_sizes filling = made_map (λ (c : PartContents). c.bytes) (contents_of filling) (all_parts filling.content.link.plan.sections) 0
 
 -- ---- with the entries of tables
 
@@ -108,24 +108,24 @@ entries_take part (e ∷ es) =
     )
 
 -- what content and the entries of some tables take in a part
-size_with : (link : LinkInput) (live : Live) (merged_lens : List ℕ) (lists : TableLists) (p : ℕ)
-    → bytes_of (part_at link.plan.sections p) (content_owners link live merged_lens p ++ map EntryOwner (table_of link.plan.named lists p))
-    ≡ content_size link live merged_lens p + table_bytes link.plan.named lists p
-size_with link live merged_lens lists p =
-    let part : PlanPart = part_at link.plan.sections p in
-    let entries : List TableEntry = table_of link.plan.named lists p in
-    omega (arith, sum_by-append (owner_bytes part) (content_owners link live merged_lens p) (map EntryOwner entries), entries_take part entries)
+size_with : (filling : Filling) (lists : TableLists) (p : ℕ)
+    → bytes_of (part_at filling.content.link.plan.sections p) (content_owners filling p ++ map EntryOwner (table_of filling.content.link.plan.named lists p))
+    ≡ content_size filling p + table_bytes filling.content.link.plan.named lists p
+size_with filling lists p =
+    let part : PlanPart = part_at filling.content.link.plan.sections p in
+    let entries : List TableEntry = table_of filling.content.link.plan.named lists p in
+    omega (arith, sum_by-append (owner_bytes part) (content_owners filling p) (map EntryOwner entries), entries_take part entries)
 
 -- a total is what both bring
-record IsWith (link : LinkInput) (live : Live) (merged_lens : List ℕ) (lists : TableLists) (p : ℕ) (total : PartTotal) : Type 0 where
-  bytes : min total.bytes (2 ^ 64) ≡ min (content_size link live merged_lens p + table_bytes link.plan.named lists p) (2 ^ 64)
-  image : total.has_image ≡ has_image link p
-  attrs : total.attrs ≡ part_attributes link live p
+record IsWith (filling : Filling) (lists : TableLists) (p : ℕ) (total : PartTotal) : Type 0 where
+  bytes : min total.bytes (2 ^ 64) ≡ min (content_size filling p + table_bytes filling.content.link.plan.named lists p) (2 ^ 64)
+  image : total.has_image ≡ has_image filling.content.link p
+  attrs : total.attrs ≡ part_attributes filling.content.link filling.content.live p
 
-with_at : (link : LinkInput) (live : Live) (merged_lens : List ℕ) (lists : TableLists) (totals : List PartTotal) (p : ℕ) (total : PartTotal) → AreContentTotals link live merged_lens totals
-    → slice_get (with_tables link.plan.named lists totals) p ≡ Some total → IsWith link live merged_lens lists p total
-with_at link live merged_lens lists totals p total are there =
-    let named : NamedParts = link.plan.named in
+with_at : (filling : Filling) (lists : TableLists) (totals : List PartTotal) (p : ℕ) (total : PartTotal) → AreContentTotals filling totals
+    → slice_get (with_tables filling.content.link.plan.named lists totals) p ≡ Some total → IsWith filling lists p total
+with_at filling lists totals p total are there =
+    let named : NamedParts = filling.content.link.plan.named in
     let from = map_at (with_table named lists) (enumerate_from 0 totals) p total there in
     let q : ℕ × PartTotal = from.0 in
     let at = numbered_at 0 totals p q from.1 in
@@ -143,15 +143,15 @@ as_many : (named : NamedParts) (lists : TableLists) (totals : List PartTotal) �
 as_many named lists totals = length-map (enumerate_from 0 totals) (with_table named lists) ∙ length-enumerate_from 0 totals
 
 -- with the whole tables, they are the sums of the parts
-pub are_sums : (link : LinkInput) (content : Content) (totals : List PartTotal) → AreContentTotals link content.live content.merged_lens totals
-    → AreSums link content (with_tables link.plan.named (tables_of link content) totals)
-are_sums link content totals are =
-    let lists : TableLists = tables_of link content in
-    let at : (p : ℕ) (total : PartTotal) → slice_get (with_tables link.plan.named lists totals) p ≡ Some total → IsWith link content.live content.merged_lens lists p total
-    = λ p total there. with_at link content.live content.merged_lens lists totals p total are there in
+pub are_sums : (filling : Filling) (totals : List PartTotal) → AreContentTotals filling totals
+    → AreSums filling (with_tables filling.content.link.plan.named (tables_of filling.content) totals)
+are_sums filling totals are =
+    let lists : TableLists = tables_of filling.content in
+    let at : (p : ℕ) (total : PartTotal) → slice_get (with_tables filling.content.link.plan.named lists totals) p ≡ Some total → IsWith filling lists p total
+    = λ p total there. with_at filling lists totals p total are there in
     record {
-      count = as_many link.plan.named lists totals ∙ are.count;
-      bytes = λ p total there. (at p total there).bytes ∙ ap (λ (n : ℕ). min n (2 ^ 64)) (sym (size_with link content.live content.merged_lens lists p));
+      count = as_many filling.content.link.plan.named lists totals ∙ are.count;
+      bytes = λ p total there. (at p total there).bytes ∙ ap (λ (n : ℕ). min n (2 ^ 64)) (sym (size_with filling lists p));
       image = λ p total there. (at p total there).image;
       attrs = λ p total there. (at p total there).attrs;
     }
@@ -176,8 +176,8 @@ abbrev pub cap : PartTotal → ℕ
 cap t = min t.bytes (2 ^ 64 - 1)
 
 -- with the first tables, they tell what the first sizes tell
-pub are_first : (sizes : TableSizes) (link : LinkInput) (live : Live) (merged_lens : List ℕ) (totals : List PartTotal) (first : List ℕ) → AreContentTotals link live merged_lens totals
-    → first ≡ map cap (with_tables link.plan.named (first_tables sizes link live) totals) → AreFirstSizes link (content_of sizes live merged_lens) first
+pub are_first : (sizes : TableSizes) (link : LinkInput) (live : Live) (merged_lens : List ℕ) (totals : List PartTotal) (first : List ℕ) → AreContentTotals (plain_filling (content_of link sizes live merged_lens)) totals
+    → first ≡ map cap (with_tables link.plan.named (first_tables sizes link live) totals) → AreFirstSizes (content_of link sizes live merged_lens) first
 are_first sizes link live merged_lens totals first are is =
     let lists : TableLists = first_tables sizes link live in
     let whole : List PartTotal = with_tables link.plan.named lists totals in
@@ -188,7 +188,7 @@ are_first sizes link live merged_lens totals first are is =
           let at = at_index whole p (omega (arith, below, count)) in
           let read : slice_index first p ≡ cap at.0
           = ap (λ (xs : List ℕ). slice_index xs p) is ∙ get_or_from_slice_get (map cap whole) p (cap at.0) 0 (map_in cap whole p at.0 at.1) in
-          let with = with_at link live merged_lens lists totals p at.0 are at.1 in
-          above_alike (slice_index first p) (first_size link (content_of sizes live merged_lens) p)
-          (omega (arith, read, with.bytes, size_with link live merged_lens lists p));
+          let with = with_at (plain_filling (content_of link sizes live merged_lens)) lists totals p at.0 are at.1 in
+          above_alike (slice_index first p) (first_size (content_of link sizes live merged_lens) p)
+          (omega (arith, read, with.bytes, size_with (plain_filling (content_of link sizes live merged_lens)) lists p));
     }

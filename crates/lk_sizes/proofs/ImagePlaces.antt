@@ -22,7 +22,7 @@ use Rattle.lk_link.proofs.PartNumbers.{first_part-cons, first_part-suc}
 use Rattle.lk_sizes.specs.Images.{ImagesStandWhereInputsGo, image_part}
 use Rattle.lk_sizes.specs.Owners.{has_image, into, is_merged}
 use Rattle.lk_link.specs.Parts.{part_sections}
-use Rattle.lk_sizes.proofs.Addressing.{same_number}
+use Rattle.lk_sizes.proofs.Keys.{same_number}
 use Rattle.lk_sizes.proofs.ImageLemmas.{its_section}
 use Rattle.lk_sizes.proofs.KeptOnes.{merged_good}
 

@@ -10,7 +10,6 @@ use Rattle.std.proofs.lemmas.List.Folds.{find_at}
 use Rattle.std.proofs.lemmas.List.FromFn.{get_or-range_with_len, length-range_with_len}
 use Rattle.std.proofs.lemmas.List.Sums.{passes_at_first}
 use Rattle.std.proofs.lemmas.Option.{get_or_from_slice_get, slice_get-get_or, slice_get_past, slice_get_within}
-use Rattle.lk_link.specs.declared.link.LinkInput.{LinkInput}
 use Rattle.lk_link.specs.declared.plan.PlanSection.{PlanSection}
 use Rattle.lk_link.specs.Parts.{all_parts, first_part, part_at}
 use Rattle.lk_link.proofs.PartNumbers.{first_part-le, first_part-rises}
@@ -18,11 +17,11 @@ use Rattle.lk_sizes.specs.declared.owners.PartContents.{PartContents}
 use Rattle.lk_sizes.specs.Attributes.{parts_of}
 use Rattle.lk_sizes.specs.Contents.{contents_of, part_contents}
 use Rattle.lk_sizes.specs.Images.{ImagesAreOwners, image_address, image_addresses, image_number, image_part, is_image_of}
-use Rattle.lk_sizes.specs.Owners.{Content, EntryOwner, ImageOwner, Owner, has_image, identity_of, owner_address, owners_in, takers}
+use Rattle.lk_sizes.specs.Owners.{EntryOwner, Filling, ImageOwner, Owner, has_image, identity_of, owner_address, owners_in, takers}
 use Rattle.lk_sizes.specs.PartOwners.{owners_of, tables_of}
 use Rattle.lk_tables.specs.TableLists.{table_of}
 use Rattle.lk_sizes.specs.Tables.{in_section}
-use Rattle.lk_sizes.proofs.Addressing.{same_number}
+use Rattle.lk_sizes.proofs.Keys.{same_number}
 use Rattle.lk_sizes.proofs.Emitting.{contents_are, whole}
 use Rattle.lk_sizes.proofs.ImageLemmas.{its_section, section_of}
 use Rattle.lk_sizes.proofs.Made.{made_same_below}
@@ -95,27 +94,27 @@ found p first n q is =
 -- ---- the image of a section
 
 -- it is the first owner of its part
-pub record IsFirst (link : LinkInput) (content : Content) (s p : ℕ) : Type 0 where
-  pub number : image_number link content s p ≡ 0
-  pub owner : slice_get (owners_of link content p) 0 ≡ Some (ImageOwner s (slice_index content.merged_lens s))
-  pub has : has_image link p ≡ true
-  pub from : first_part link.plan.sections s ≤ p
-  pub below : p < first_part link.plan.sections (s + 1)
+pub record IsFirst (filling : Filling) (s p : ℕ) : Type 0 where
+  pub number : image_number filling s p ≡ 0
+  pub owner : slice_get (owners_of filling p) 0 ≡ Some (ImageOwner s (slice_index filling.content.merged_lens s))
+  pub has : has_image filling.content.link p ≡ true
+  pub from : first_part filling.content.link.plan.sections s ≤ p
+  pub below : p < first_part filling.content.link.plan.sections (s + 1)
 
-pub image_is_first : (link : LinkInput) (content : Content) (s p : ℕ) → s < length link.plan.sections → image_part link s ≡ Some p → IsFirst link content s p
-image_is_first link content s p below is =
-    let sections : List PlanSection = link.plan.sections in
+pub image_is_first : (filling : Filling) (s p : ℕ) → s < length filling.content.link.plan.sections → image_part filling.content.link s ≡ Some p → IsFirst filling s p
+image_is_first filling s p below is =
+    let sections : List PlanSection = filling.content.link.plan.sections in
     let rises = first_part-rises sections s in
-    let at = found (has_image link) (first_part sections s) (first_part sections (s + 1) - first_part sections s) p is in
+    let at = found (has_image filling.content.link) (first_part sections s) (first_part sections (s + 1) - first_part sections s) p is in
     let within : p < first_part sections (s + 1) = omega (arith, at.below, rises) in
-    let section : section_of link p ≡ s = its_section sections s p below at.from within in
-    let identity : List Owner = identity_of link p in
-    let brought : List Owner = owners_in p (takers link content.live) in
-    let entries : List Owner = map EntryOwner (table_of link.plan.named (tables_of link content) p) in
+    let section : section_of filling.content.link p ≡ s = its_section sections s p below at.from within in
+    let identity : List Owner = identity_of filling.content.link p in
+    let brought : List Owner = owners_in p (takers filling) in
+    let entries : List Owner = map EntryOwner (table_of filling.content.link.plan.named (tables_of filling.content) p) in
     let rest : List Owner = (identity ++ brought) ++ entries in
-    let image : ℕ → List Owner = λ t. ImageOwner t (slice_index content.merged_lens t) ∷ [] in
-    let owners : owners_of link content p ≡ image s ++ rest =
-    ap (λ b. ((cond b (image (section_of link p)) [] ++ identity) ++ brought) ++ entries) at.passes ∙ ap (λ t. image t ++ rest) section in
+    let image : ℕ → List Owner = λ t. ImageOwner t (slice_index filling.content.merged_lens t) ∷ [] in
+    let owners : owners_of filling p ≡ image s ++ rest =
+    ap (λ b. ((cond b (image (section_of filling.content.link p)) [] ++ identity) ++ brought) ++ entries) at.passes ∙ ap (λ t. image t ++ rest) section in
     record {
       number = ap (position_or_len (is_image_of s)) owners ∙ ap (λ b. cond (not b) (1 + position_or_len (is_image_of s) rest) 0) (same_number s);
       owner = ap (λ os. slice_get os 0) owners;
@@ -125,20 +124,20 @@ image_is_first link content s p below is =
     }
 
 pub images_are_owners : ImagesAreOwners
-images_are_owners link content s p below is =
-    let at = image_is_first link content s p below is in
-    ap (slice_get (owners_of link content p)) at.number ∙ at.owner
+images_are_owners filling s p below is =
+    let at = image_is_first filling s p below is in
+    ap (slice_get (owners_of filling p)) at.number ∙ at.owner
 
 -- so it stands at the start of its part
-address_is : (link : LinkInput) (content : Content) (starts : List ℕ) (s : ℕ) → s < length link.plan.sections
-    → image_address link content starts s ≡ option_map_or (slice_index starts) (image_part link s) 0
-address_is link content starts s below =
-    let address : ℕ → ℕ = λ p. owner_address (slice_index starts p) (part_at link.plan.sections p) (owners_of link content p) (image_number link content s p) in
-    (elim (image_part link s) as (λ o. image_part link s ≡ o → option_map_or address o 0 ≡ option_map_or (slice_index starts) o 0) [
+address_is : (filling : Filling) (starts : List ℕ) (s : ℕ) → s < length filling.content.link.plan.sections
+    → image_address filling starts s ≡ option_map_or (slice_index starts) (image_part filling.content.link s) 0
+address_is filling starts s below =
+    let address : ℕ → ℕ = λ p. owner_address (slice_index starts p) (part_at filling.content.link.plan.sections p) (owners_of filling p) (image_number filling s p) in
+    (elim (image_part filling.content.link s) as (λ o. image_part filling.content.link s ≡ o → option_map_or address o 0 ≡ option_map_or (slice_index starts) o 0) [
       | None ↦ λ is. refl
       | Some p ↦ λ is.
-          let at = image_is_first link content s p below is in
-          ap (λ n. owner_address (slice_index starts p) (part_at link.plan.sections p) (owners_of link content p) n) at.number ∙ omega arith
+          let at = image_is_first filling s p below is in
+          ap (λ n. owner_address (slice_index starts p) (part_at filling.content.link.plan.sections p) (owners_of filling p) n) at.number ∙ omega arith
     ]) refl
 
 -- by tables of the contents and starts of parts: that of the parts from one number to another
@@ -149,21 +148,21 @@ start_among contents starts first behind = option_map_or (slice_index (slice_ran
 abbrev pub start_by : List PlanSection → List PartContents → List ℕ → ℕ → ℕ
 start_by sections contents starts s = start_among contents starts (first_part sections s) (first_part sections (s + 1))
 
-start_is : (link : LinkInput) (content : Content) (starts : List ℕ) (s : ℕ) → s < length link.plan.sections → length starts ≡ length (all_parts link.plan.sections)
-    → start_by link.plan.sections (part_contents link content) starts s ≡ image_address link content starts s
-start_is link content starts s below count =
-    let sections : List PlanSection = link.plan.sections in
+start_is : (filling : Filling) (starts : List ℕ) (s : ℕ) → s < length filling.content.link.plan.sections → length starts ≡ length (all_parts filling.content.link.plan.sections)
+    → start_by filling.content.link.plan.sections (part_contents filling) starts s ≡ image_address filling starts s
+start_is filling starts s below count =
+    let sections : List PlanSection = filling.content.link.plan.sections in
     let parts : List ℕ = parts_of sections s in
     let part : List ℕ = in_section sections s starts in
-    let places : position (λ c. c.has_image) (in_section sections s (part_contents link content)) ≡ position (has_image link) parts =
-    ap (position (λ (c : PartContents). c.has_image)) (contents_are link content s below) ∙ first_map (λ (c : PartContents). c.has_image) (contents_of link content) parts in
+    let places : position (λ c. c.has_image) (in_section sections s (part_contents filling)) ≡ position (has_image filling.content.link) parts =
+    ap (position (λ (c : PartContents). c.has_image)) (contents_are filling s below) ∙ first_map (λ (c : PartContents). c.has_image) (contents_of filling) parts in
     ap (λ o. option_map_or (slice_index part) o 0) places
-    ∙ start_found (has_image link) starts (first_part sections s) (first_part sections (s + 1)) (first_part-rises sections s) (omega (arith, count, first_part-le sections (s + 1)))
-    ∙ sym (address_is link content starts s below)
+    ∙ start_found (has_image filling.content.link) starts (first_part sections s) (first_part sections (s + 1)) (first_part-rises sections s) (omega (arith, count, first_part-le sections (s + 1)))
+    ∙ sym (address_is filling starts s below)
 
-pub all_addresses : (link : LinkInput) (content : Content) (starts : List ℕ) (n : ℕ) → n ≡ length link.plan.sections → length starts ≡ length (all_parts link.plan.sections)
-    → map (start_by link.plan.sections (part_contents link content) starts) (range_with_len 0 n) ≡ image_addresses link content starts
-all_addresses link content starts n h count =
-    whole (start_by link.plan.sections (part_contents link content) starts) link.plan.sections n h
-    ∙ made_same_below (start_by link.plan.sections (part_contents link content) starts) (image_address link content starts) link.plan.sections 0
-    (λ s below. start_is link content starts s (omega (arith, below)) count)
+pub all_addresses : (filling : Filling) (starts : List ℕ) (n : ℕ) → n ≡ length filling.content.link.plan.sections → length starts ≡ length (all_parts filling.content.link.plan.sections)
+    → map (start_by filling.content.link.plan.sections (part_contents filling) starts) (range_with_len 0 n) ≡ image_addresses filling starts
+all_addresses filling starts n h count =
+    whole (start_by filling.content.link.plan.sections (part_contents filling) starts) filling.content.link.plan.sections n h
+    ∙ made_same_below (start_by filling.content.link.plan.sections (part_contents filling) starts) (image_address filling starts) filling.content.link.plan.sections 0
+    (λ s below. start_is filling starts s (omega (arith, below)) count)

@@ -8,6 +8,7 @@ pub mod ImageLemmas
 pub mod ImagePlaces
 pub mod ImageStarts
 pub mod KeptOnes
+pub mod Keys
 pub mod Limited
 pub mod LiveOnes
 pub mod LiveParts
@@ -15,13 +16,16 @@ pub mod Made
 pub mod Marks
 pub mod Numbering
 pub mod Overflowing
+pub mod OwnerKeys
 pub mod OwnerPlaces
+pub mod OwnSizes
 pub mod OwnersLive
 pub mod OwnersOnce
 pub mod Placed
 pub mod SymbolsKeep
 pub mod TableParts
 pub mod Takers
+pub mod ThunkTakers
 pub mod Tiling
 pub mod Turns
 pub mod Wholes

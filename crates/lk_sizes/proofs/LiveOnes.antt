@@ -1,8 +1,6 @@
 -- The live sections of a link: each is one of the link's, goes to a part, and stands once among them.
-use Rattle.std.proofs.Common.{◌≡◌, ℕ, zero, suc, ◌<◌, ◌==◌, ◌&&◌, Bool, true, false, List, [], ◌∷◌, ◌++◌, length, Some, refl, ap, ◌∙◌, arith}
+use Rattle.std.proofs.Common.{◌≡◌, ℕ, zero, suc, ◌<◌, Bool, true, false, List, [], ◌∷◌, length, Some, refl, arith}
 use Rattle.std.specs.List.{AllByRecursion, slice_get, slice_index_or}
-use Rattle.std.proofs.lemmas.Bool.{and_parts, eqb-true, false_from_ne_true}
-use Rattle.lk_link.specs.declared.ids.FileId.{FileId}
 use Rattle.lk_link.specs.declared.link.LinkInput.{LinkInput}
 use Rattle.lk_link.specs.declared.section.InputSlot.{InputSlot}
 use Rattle.lk_link.specs.declared.section.InputSlot.TheVariants as slot
@@ -15,8 +13,6 @@ use Rattle.lk_link.specs.WellFormed.{IsWellFormed}
 use Rattle.lk_gc.specs.declared.live.Live.{Live}
 use Rattle.lk_gc.specs.Reach.{AreLive, IsLive, live_inputs, marked}
 use Rattle.lk_reach.proofs.Numbered.{file_of_input, one_place}
-use Rattle.lk_sizes.specs.Owners.{SectionOwner}
-use Rattle.lk_sizes.specs.PartOwners.{owns}
 
 -- ---- each is one of the link's
 
@@ -102,22 +98,3 @@ live_differ link live =
     (pairwise_from_places Differ (all_inputs link.groups) (λ j k x y less at_j at_k file index.
     let same : j ≡ k = one_place link.groups j k x y at_j at_k file index in
     absurd (omega (arith, same))))
-
-behind : {X : Type 0} (P : X → Type 0) (xs : List X) (y : X) (ys : List X) → AllByRecursion P (xs ++ y ∷ ys) → P y
-behind P [] y ys h = h.0
-behind P (x ∷ xs) y ys h = behind P xs y ys h.1
-
--- those in front of one differ from it
-pub in_front : {X : Type 0} (R : X → X → Type 0) (xs : List X) (y : X) (ys : List X) → Pairwise R (xs ++ y ∷ ys) → AllByRecursion (λ x. R x y) xs
-in_front R [] y ys h = tt
-in_front R (x ∷ xs) y ys h = (behind (R x) xs y ys h.0, in_front R xs y ys h.1)
-
--- what differs isn't taken for the other
-pub not_section : (x y : Input) (size : ℕ) → Differ x y → owns y (SectionOwner x size) ≡ false
-not_section x y size differ = false_from_ne_true (owns y (SectionOwner x size)) (λ taken.
-    let both = and_parts (x.file.group == y.file.group && x.file.file == y.file.file) (x.index == y.index) taken in
-    let ids = and_parts (x.file.group == y.file.group) (x.file.file == y.file.file) both.0 in
-    let group : x.file.group ≡ y.file.group = eqb-true x.file.group y.file.group ids.0 in
-    let file : x.file.file ≡ y.file.file = eqb-true x.file.file y.file.file ids.1 in
-    let id : x.file ≡ y.file = ap (λ (g : ℕ). let i : FileId = record { group = g; file = x.file.file } in i) group ∙ ap (λ (f : ℕ). let i : FileId = record { group = y.file.group; file = f } in i) file in
-    differ id (eqb-true x.index y.index both.1))

@@ -2,7 +2,6 @@
 use Rattle.std.proofs.Common.{◌≡◌, ℕ, suc, ◌+◌, Bool, true, false, if◌then◌else◌, List, [], ◌∷◌, ◌++◌, length, map, set, Some, refl, sym, ap, ◌∙◌, arith}
 use Rattle.std.specs.List.{enumerate_from, slice_get, slice_index, slice_index_or}
 use Rattle.std.proofs.lemmas.Option.{get_or_from_slice_get}
-use Rattle.lk_link.specs.declared.link.LinkInput.{LinkInput}
 use Rattle.lk_link.specs.Inputs.{Input, all_inputs}
 use Rattle.lk_link.specs.Marks.{is_marked}
 use Rattle.lk_link.proofs.Elements.{map_in}
@@ -10,8 +9,9 @@ use Rattle.lk_link.proofs.InputLemmas.{numbered_get}
 use Rattle.lk_gc.specs.Reach.{marked}
 use Rattle.lk_sizes.specs.declared.addresses.LiveSection.{LiveSection}
 use Rattle.lk_sizes.specs.Addresses.{TableTellsLiveSections, live_section, section_address, section_addresses, told_section}
-use Rattle.lk_sizes.specs.Owners.{Content}
+use Rattle.lk_sizes.specs.Owners.{Filling, plain_filling, size_of}
 use Rattle.lk_sizes.specs.PartOwners.{live_address}
+use Rattle.lk_sizes.proofs.OwnSizes.{own_size}
 
 -- one element more, with its number
 pub numbered_push : {X : Type 0} (o : ℕ) (xs : List X) (x : X) → enumerate_from o (xs ++ x ∷ []) ≡ enumerate_from o xs ++ (o + length xs, x) ∷ []
@@ -23,35 +23,38 @@ numbered_push o (y ∷ xs) x =
 -- ---- told by number
 
 -- those that have a mark, numbered from n on, are told by a table that has their addresses
-told_from : (link : LinkInput) (content : Content) (starts table : List ℕ) (marks : List Bool) (xs : List Input) (n : ℕ)
-    → ((k : ℕ) (x : Input) → slice_get xs k ≡ Some x → slice_index_or marks k false ≡ true → slice_index table (n + k) ≡ live_address link content starts x)
-    → map (told_section table) (marked marks (enumerate_from n xs)) ≡ map (live_section link content starts) (marked marks xs)
-told_from link content starts table [] xs n h = refl
-told_from link content starts table (m ∷ marks) [] n h = refl
-told_from link content starts table (true ∷ marks) (x ∷ xs) n h =
-    let here : slice_index table n ≡ live_address link content starts x = let number : n + 0 ≡ n = omega arith in ap (slice_index table) (sym number) ∙ h 0 x refl refl in
-    let told : ℕ → LiveSection = λ address. record { file = x.file; index = x.index; address = address; size = x.section.size } in
-    ap (λ (a : ℕ). told a ∷ map (told_section table) (marked marks (enumerate_from (n + 1) xs))) here
-    ∙ ap (λ (ls : List LiveSection). live_section link content starts x ∷ ls) (told_from link content starts table marks xs (n + 1) (λ k y at set.
+told_from : (filling : Filling) (starts table : List ℕ) (marks : List Bool) (xs : List Input) (n : ℕ)
+    → ((k : ℕ) (x : Input) → slice_get xs k ≡ Some x → size_of filling x ≡ x.section.size)
+    → ((k : ℕ) (x : Input) → slice_get xs k ≡ Some x → slice_index_or marks k false ≡ true → slice_index table (n + k) ≡ live_address filling starts x)
+    → map (told_section table) (marked marks (enumerate_from n xs)) ≡ map (live_section filling starts) (marked marks xs)
+told_from filling starts table [] xs n sized h = refl
+told_from filling starts table (m ∷ marks) [] n sized h = refl
+told_from filling starts table (true ∷ marks) (x ∷ xs) n sized h =
+    let here : slice_index table n ≡ live_address filling starts x = let number : n + 0 ≡ n = omega arith in ap (slice_index table) (sym number) ∙ h 0 x refl refl in
+    let told : ℕ → ℕ → LiveSection = λ address size. record { file = x.file; index = x.index; address = address; size = size } in
+    ap (λ (a : ℕ). told a x.section.size ∷ map (told_section table) (marked marks (enumerate_from (n + 1) xs))) here
+    ∙ ap (λ (s : ℕ). told (live_address filling starts x) s ∷ map (told_section table) (marked marks (enumerate_from (n + 1) xs))) (sym (sized 0 x refl))
+    ∙ ap (λ (ls : List LiveSection). live_section filling starts x ∷ ls) (told_from filling starts table marks xs (n + 1) (λ k. sized (suc k)) (λ k y at set.
     let number : n + 1 + k ≡ n + suc k = omega arith in
     ap (slice_index table) number ∙ h (suc k) y at set))
-told_from link content starts table (false ∷ marks) (x ∷ xs) n h =
-    told_from link content starts table marks xs (n + 1) (λ k y at set.
+told_from filling starts table (false ∷ marks) (x ∷ xs) n sized h =
+    told_from filling starts table marks xs (n + 1) (λ k. sized (suc k)) (λ k y at set.
     let number : n + 1 + k ≡ n + suc k = omega arith in
     ap (slice_index table) number ∙ h (suc k) y at set)
 
 -- the table has the address of each live section
-pub table_at : (link : LinkInput) (content : Content) (starts : List ℕ) (k : ℕ) (x : Input) → slice_get (all_inputs link.groups) k ≡ Some x → is_marked content.live.marks k ≡ true
-    → slice_index (section_addresses link content starts) k ≡ live_address link content starts x
-table_at link content starts k x there set =
-    let f : ℕ × Input → ℕ = section_address link content starts in
+pub table_at : (filling : Filling) (starts : List ℕ) (k : ℕ) (x : Input) → slice_get (all_inputs filling.content.link.groups) k ≡ Some x → is_marked filling.content.live.marks k ≡ true
+    → slice_index (section_addresses filling starts) k ≡ live_address filling starts x
+table_at filling starts k x there set =
+    let f : ℕ × Input → ℕ = section_address filling starts in
     let number : 0 + k ≡ k = omega arith in
-    let numbered : slice_get (enumerate_from 0 (all_inputs link.groups)) k ≡ Some (k, x) = numbered_get 0 (all_inputs link.groups) k x there ∙ ap (λ (n : ℕ). Some (n, x)) number in
-    get_or_from_slice_get (section_addresses link content starts) k (f (k, x)) 0 (map_in f (enumerate_from 0 (all_inputs link.groups)) k (k, x) numbered)
-    ∙ ap (λ b. if b then live_address link content starts x else 0) set
+    let numbered : slice_get (enumerate_from 0 (all_inputs filling.content.link.groups)) k ≡ Some (k, x) = numbered_get 0 (all_inputs filling.content.link.groups) k x there ∙ ap (λ (n : ℕ). Some (n, x)) number in
+    get_or_from_slice_get (section_addresses filling starts) k (f (k, x)) 0 (map_in f (enumerate_from 0 (all_inputs filling.content.link.groups)) k (k, x) numbered)
+    ∙ ap (λ b. if b then live_address filling starts x else 0) set
 
 pub table_tells_live_sections : TableTellsLiveSections
-table_tells_live_sections link content starts =
-    told_from link content starts (section_addresses link content starts) content.live.marks (all_inputs link.groups) 0 (λ k x there set.
+table_tells_live_sections content starts =
+    let filling : Filling = plain_filling content in
+    told_from filling starts (section_addresses filling starts) content.live.marks (all_inputs content.link.groups) 0 (own_size content) (λ k x there set.
     let number : 0 + k ≡ k = omega arith in
-    ap (slice_index (section_addresses link content starts)) number ∙ table_at link content starts k x there set)
+    ap (slice_index (section_addresses filling starts)) number ∙ table_at filling starts k x there set)

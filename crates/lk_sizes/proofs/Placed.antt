@@ -25,13 +25,14 @@ use Rattle.lk_reach.proofs.SymbolNumbers.{inputs_few}
 use Rattle.lk_sizes.specs.declared.addresses.CommonAddress.{CommonAddress}
 use Rattle.lk_tables.specs.declared.commons.Common.{Common}
 use Rattle.lk_sizes.specs.Addresses.{section_address, told_common}
-use Rattle.lk_sizes.specs.Owners.{Content, EntryOwner, IsCommonIn, Taker, common_taker, commons_of, content_of, content_owners, file_takers, leading_of, live_of, owner_bytes, owners_in, section_taker, takers}
+use Rattle.lk_sizes.specs.Owners.{Content, EntryOwner, Filling, IsCommonIn, Taker, common_taker, commons_of, content_of, content_owners, leading_of, live_of, owner_bytes, owners_in, plain_filling, section_taker, takers}
 use Rattle.lk_sizes.specs.PartOwners.{EndsFit, common_address, live_address, tables_of}
 use Rattle.lk_tables.specs.TableLists.{table_of}
-use Rattle.lk_sizes.specs.Tables.{ArePassed, HaveSpace, behind_leading, bytes_in, common_place, common_places, live_below, next_behind, section_place, section_places}
+use Rattle.lk_sizes.specs.Tables.{ArePassed, HaveSpace, behind_leading, bytes_in, common_place, common_places, live_below, next_behind, own_file_takers, own_taker, section_place, section_places}
 use Rattle.lk_sizes.proofs.Addressing.{live_among, number_of, section_behind}
 use Rattle.lk_sizes.proofs.CommonOnes.{common_among, common_behind, common_goes}
 use Rattle.lk_sizes.proofs.LiveOnes.{live_goes_at}
+use Rattle.lk_sizes.proofs.OwnSizes.{live_own_size, own_taker_is, own_takers}
 use Rattle.std.proofs.Math.Seq.{take-append_seam}
 use Rattle.lk_sizes.proofs.Takers.{bytes_in-append, bytes_in_here, one_passed, passed_both, room_for}
 
@@ -87,7 +88,7 @@ live_split link live f k x there set =
 
 -- the next addresses are behind the first sections of a file, which have theirs
 pub record AreReached (link : LinkInput) (live : Live) (f : NumberedFile) (old : List ℕ) (k : ℕ) (next : List ℕ) (front addresses : List ℕ) : Type 0 where
-  pub passed : ArePassed link old (map section_taker (live_below link live f k)) next
+  pub passed : ArePassed link old (map own_taker (live_below link live f k)) next
   pub told : addresses ≡ front ++ map (section_place link live old f) (take k (enumerate_from 0 (sections_of_file f)))
 
 pub none_reached : (link : LinkInput) (live : Live) (f : NumberedFile) (old front : List ℕ) → AreReached link live f old 0 old front front
@@ -113,15 +114,15 @@ pub live_reached : (link : LinkInput) (live : Live) (f : NumberedFile) (old : Li
     → moved ≡ slice_index next at + capacity (part_at link.plan.sections at) x.section.size
     → AreReached link live f old (k + 1) (set next at moved) front (addresses ++ slice_index next at ∷ [])
 live_reached link live f old k next front addresses x at moved there lit h here within is =
-    let before : List Taker = map section_taker (live_below link live f k) in
-    let more : map section_taker (live_below link live f (k + 1)) ≡ before ++ section_taker x ∷ []
-    = ap (map section_taker) (below_live link live f k x there lit) ∙ map-append section_taker (live_below link live f k) (x ∷ []) in
+    let before : List Taker = map own_taker (live_below link live f k) in
+    let more : map own_taker (live_below link live f (k + 1)) ≡ before ++ own_taker x ∷ []
+    = ap (map own_taker) (below_live link live f k x there lit) ∙ map-append own_taker (live_below link live f k) (x ∷ []) in
     let place : slice_index next at ≡ section_place link live old f (k, x)
     = h.passed.moved at within
     ∙ ap (next_behind link old before) here
     ∙ ap (λ b. if b then next_behind link old before x.section.part else 0) (sym lit) in
     record {
-      passed = subst (λ (ts : List Taker). ArePassed link old ts (set next at moved)) (sym more) (one_passed link old before (section_taker x) next at moved h.passed here within is);
+      passed = subst (λ (ts : List Taker). ArePassed link old ts (set next at moved)) (sym more) (one_passed link old before (own_taker x) next at moved h.passed here within is);
       told = told_more link live f old front addresses k x (slice_index next at) there h.told place;
     }
 
@@ -129,32 +130,32 @@ live_reached link live f old k next front addresses x at moved there lit h here 
 pub other_reached : (link : LinkInput) (live : Live) (f : NumberedFile) (old : List ℕ) (k : ℕ) (next front addresses : List ℕ) (x : Input) → slice_get (sections_of_file f) k ≡ Some x
     → lives link live x ≡ false → AreReached link live f old k next front addresses → AreReached link live f old (k + 1) next front (addresses ++ 0 ∷ [])
 other_reached link live f old k next front addresses x there set h =
-    let before : List Taker = map section_taker (live_below link live f k) in
+    let before : List Taker = map own_taker (live_below link live f k) in
     record {
-      passed = subst (λ (xs : List Input). ArePassed link old (map section_taker xs) next) (sym (below_other link live f k x there set)) h.passed;
+      passed = subst (λ (xs : List Input). ArePassed link old (map own_taker xs) next) (sym (below_other link live f k x there set)) h.passed;
       told = told_more link live f old front addresses k x 0 there h.told (ap (λ b. if b then next_behind link old before x.section.part else 0) (sym set));
     }
 
 -- there is room for a live one
 pub live_room : (link : LinkInput) (live : Live) (f : NumberedFile) (old : List ℕ) (k : ℕ) (next : List ℕ) (x : Input) (at : ℕ) → slice_get (sections_of_file f) k ≡ Some x
-    → lives link live x ≡ true → HaveSpace link old (map section_taker (live_of link live f)) → ArePassed link old (map section_taker (live_below link live f k)) next → at ≡ x.section.part → at < length old
+    → lives link live x ≡ true → HaveSpace link old (map own_taker (live_of link live f)) → ArePassed link old (map own_taker (live_below link live f k)) next → at ≡ x.section.part → at < length old
     → slice_index next at + capacity (part_at link.plan.sections at) x.section.size < 2 ^ 64
 live_room link live f old k next x at there set space h here within =
     let split = live_split link live f k x there set in
-    let before : List Taker = map section_taker (live_below link live f k) in
-    let all : map section_taker (live_of link live f) ≡ before ++ section_taker x ∷ map section_taker split.0
-    = ap (map section_taker) split.1 ∙ map-append section_taker (live_below link live f k) (x ∷ split.0) in
-    room_for link old before (section_taker x) (map section_taker split.0) next at (subst (HaveSpace link old) all space) h here within
+    let before : List Taker = map own_taker (live_below link live f k) in
+    let all : map own_taker (live_of link live f) ≡ before ++ own_taker x ∷ map own_taker split.0
+    = ap (map own_taker) split.1 ∙ map-append own_taker (live_below link live f k) (x ∷ split.0) in
+    room_for link old before (own_taker x) (map own_taker split.0) next at (subst (HaveSpace link old) all space) h here within
 
 -- at the end all have their addresses
 pub all_reached : (link : LinkInput) (live : Live) (f : NumberedFile) (old : List ℕ) (k : ℕ) (next front addresses : List ℕ) → k ≡ length f.file.sections → AreReached link live f old k next front addresses
-    → ArePassed link old (map section_taker (live_of link live f)) next × (addresses ≡ front ++ section_places link live old f)
+    → ArePassed link old (map own_taker (live_of link live f)) next × (addresses ≡ front ++ section_places link live old f)
 all_reached link live f old k next front addresses all h =
     let xs : List Input = sections_of_file f in
     let count : length xs ≡ k = length-map (enumerate_from 0 f.file.sections) (numbered_section f.id) ∙ length-enumerate_from 0 f.file.sections ∙ sym all in
     let whole : take k xs ≡ xs = ap (λ (n : ℕ). take n xs) (sym count) ∙ take_whole xs in
     let numbers : take k (enumerate_from 0 xs) ≡ enumerate_from 0 xs = ap (λ (n : ℕ). take n (enumerate_from 0 xs)) (sym (length-enumerate_from 0 xs ∙ count)) ∙ take_whole (enumerate_from 0 xs) in (
-      subst (λ (ys : List Input). ArePassed link old (map section_taker (filter (lives link live) ys)) next) whole h.passed,
+      subst (λ (ys : List Input). ArePassed link old (map own_taker (filter (lives link live) ys)) next) whole h.passed,
       h.told ∙ ap (λ (qs : List (ℕ × Input)). front ++ map (section_place link live old f) qs) numbers,
     )
   where
@@ -228,31 +229,31 @@ made_alike {X} {Y} g h m n (x ∷ xs) same =
 abbrev pub AreEnds : LinkInput → List ℕ → List ℕ → List ℕ → Type 0
 AreEnds link merged_lens starts ends = ends ≡ map (behind_leading link merged_lens starts) (range_with_len 0 (length starts))
 
-end_at : (link : LinkInput) (content : Content) (starts ends : List ℕ) (p : ℕ) → AreEnds link content.merged_lens starts ends → p < length starts → slice_index ends p ≡ behind_leading link content.merged_lens starts p
-end_at link content starts ends p is below =
+end_at : (content : Content) (starts ends : List ℕ) (p : ℕ) → AreEnds content.link content.merged_lens starts ends → p < length starts → slice_index ends p ≡ behind_leading content.link content.merged_lens starts p
+end_at content starts ends p is below =
     ap (λ (ns : List ℕ). slice_index ns p) is
-    ∙ get_or-map-range_with_len (behind_leading link content.merged_lens starts) 0 (length starts) p p 0 below (omega arith)
+    ∙ get_or-map-range_with_len (behind_leading content.link content.merged_lens starts) 0 (length starts) p p 0 below (omega arith)
 
-pub ends_count : (link : LinkInput) (content : Content) (starts ends : List ℕ) → AreEnds link content.merged_lens starts ends → length ends ≡ length starts
-ends_count link content starts ends is = ap length is ∙ length-map-range_with_len (behind_leading link content.merged_lens starts) 0 (length starts)
+pub ends_count : (content : Content) (starts ends : List ℕ) → AreEnds content.link content.merged_lens starts ends → length ends ≡ length starts
+ends_count content starts ends is = ap length is ∙ length-map-range_with_len (behind_leading content.link content.merged_lens starts) 0 (length starts)
 
 -- all that files bring fits behind what leads
-pub all_fit : (link : LinkInput) (content : Content) (starts : List ℕ) (p : ℕ) → EndsFit link content starts → p < length starts
-    → behind_leading link content.merged_lens starts p + bytes_in link p (takers link content.live) < 2 ^ 64
-all_fit link content starts p fit below =
+pub all_fit : (filling : Filling) (starts : List ℕ) (p : ℕ) → EndsFit filling starts → p < length starts
+    → behind_leading filling.content.link filling.content.merged_lens starts p + bytes_in filling.content.link p (takers filling) < 2 ^ 64
+all_fit filling starts p fit below =
     omega (
       arith,
       fit p below,
-      sum_by-append (owner_bytes (part_at link.plan.sections p)) (content_owners link content.live content.merged_lens p)
-          (map EntryOwner (table_of link.plan.named (tables_of link content) p)),
-      sum_by-append (owner_bytes (part_at link.plan.sections p)) (leading_of link content.merged_lens p) (owners_in p (takers link content.live)),
+      sum_by-append (owner_bytes (part_at filling.content.link.plan.sections p)) (content_owners filling p)
+          (map EntryOwner (table_of filling.content.link.plan.named (tables_of filling.content) p)),
+      sum_by-append (owner_bytes (part_at filling.content.link.plan.sections p)) (leading_of filling.content.link filling.content.merged_lens p) (owners_in p (takers filling)),
     )
 
 -- the files so far have their addresses, and the next ones are behind them
 pub record AreDone (link : LinkInput) (live : Live) (merged_lens starts ends : List ℕ) (done : List NumberedFile) (next sections : List ℕ) (commons : List CommonAddress) : Type 0 where
-  pub passed : ArePassed link ends (flat_map (file_takers link live) done) next
-  pub addresses : (sizes : TableSizes) → sections ≡ map (section_address link (content_of sizes live merged_lens) starts) (enumerate_from 0 (inputs_of done))
-  pub told : (sizes : TableSizes) → commons ≡ map (told_common link (content_of sizes live merged_lens) starts) (flat_map (commons_of link live) done)
+  pub passed : ArePassed link ends (flat_map (own_file_takers link live) done) next
+  pub addresses : (sizes : TableSizes) → sections ≡ map (section_address (plain_filling (content_of link sizes live merged_lens)) starts) (enumerate_from 0 (inputs_of done))
+  pub told : (sizes : TableSizes) → commons ≡ map (told_common (plain_filling (content_of link sizes live merged_lens)) starts) (flat_map (commons_of link live) done)
 
 pub none_done : (link : LinkInput) (live : Live) (merged_lens starts ends : List ℕ) → AreDone link live merged_lens starts ends [] ends [] []
 none_done link live merged_lens starts ends =
@@ -265,9 +266,13 @@ pub record IsNextFile (link : LinkInput) (done : List NumberedFile) (f : Numbere
   pub rest : List NumberedFile
   pub splits : numbered_files link.groups ≡ done ++ f ∷ rest
 
-takers_split : (link : LinkInput) (content : Content) (done : List NumberedFile) (f : NumberedFile) (h : IsNextFile link done f)
-    → takers link content.live ≡ flat_map (file_takers link content.live) done ++ (file_takers link content.live f ++ flat_map (file_takers link content.live) h.rest)
-takers_split link content done f h = ap (flat_map (file_takers link content.live)) h.splits ∙ flat_map-append (file_takers link content.live) done (f ∷ h.rest)
+takers_split : (content : Content) (done : List NumberedFile) (f : NumberedFile) (h : IsNextFile content.link done f)
+    → takers (plain_filling content)
+    ≡ flat_map (own_file_takers content.link content.live) done ++ (own_file_takers content.link content.live f ++ flat_map (own_file_takers content.link content.live) h.rest)
+takers_split content done f h =
+    own_takers content
+    ∙ ap (flat_map (own_file_takers content.link content.live)) h.splits
+    ∙ flat_map-append (own_file_takers content.link content.live) done (f ∷ h.rest)
 
 -- a part of a list around an element
 around : {X : Type 0} (before front rest after : List X) (x : X) → before ++ ((front ++ x ∷ rest) ++ after) ≡ (before ++ front) ++ x ∷ (rest ++ after)
@@ -275,121 +280,122 @@ around before front rest after x =
     ap (λ (zs : List _). before ++ zs) (append_assoc front (x ∷ rest) after) ∙ sym (append_assoc before front (x ∷ (rest ++ after)))
 
 -- space for the sections of a file, and for its commons behind them
-pub section_space : (link : LinkInput) (content : Content) (starts ends : List ℕ) (done : List NumberedFile) (f : NumberedFile) (next : List ℕ) (h : IsNextFile link done f) → EndsFit link content starts
-    → AreEnds link content.merged_lens starts ends → ArePassed link ends (flat_map (file_takers link content.live) done) next → HaveSpace link next (map section_taker (live_of link content.live f))
-section_space link content starts ends done f next h fit is passed = λ p below.
-    let before : List Taker = flat_map (file_takers link content.live) done in
-    let count = ends_count link content starts ends is in
+pub section_space : (content : Content) (starts ends : List ℕ) (done : List NumberedFile) (f : NumberedFile) (next : List ℕ) (h : IsNextFile content.link done f) → EndsFit (plain_filling content) starts
+    → AreEnds content.link content.merged_lens starts ends → ArePassed content.link ends (flat_map (own_file_takers content.link content.live) done) next → HaveSpace content.link next (map own_taker (live_of content.link content.live f))
+section_space content starts ends done f next h fit is passed = λ p below.
+    let before : List Taker = flat_map (own_file_takers content.link content.live) done in
+    let count = ends_count content starts ends is in
     let inside : p < length starts = omega (arith, below, passed.count, count) in
     omega (
       arith,
       passed.moved p (omega (arith, below, passed.count)),
-      end_at link content starts ends p is inside,
-      all_fit link content starts p fit inside,
-      ap (bytes_in link p) (takers_split link content done f h),
-      bytes_in-append link p before (file_takers link content.live f ++ flat_map (file_takers link content.live) h.rest),
-      bytes_in-append link p (file_takers link content.live f) (flat_map (file_takers link content.live) h.rest),
-      bytes_in-append link p (map section_taker (live_of link content.live f)) (map common_taker (commons_of link content.live f)),
+      end_at content starts ends p is inside,
+      all_fit (plain_filling content) starts p fit inside,
+      ap (bytes_in content.link p) (takers_split content done f h),
+      bytes_in-append content.link p before (own_file_takers content.link content.live f ++ flat_map (own_file_takers content.link content.live) h.rest),
+      bytes_in-append content.link p (own_file_takers content.link content.live f) (flat_map (own_file_takers content.link content.live) h.rest),
+      bytes_in-append content.link p (map own_taker (live_of content.link content.live f)) (map common_taker (commons_of content.link content.live f)),
     )
 
-pub common_space : (link : LinkInput) (content : Content) (starts ends : List ℕ) (done : List NumberedFile) (f : NumberedFile) (next later : List ℕ) (h : IsNextFile link done f) → EndsFit link content starts
-    → AreEnds link content.merged_lens starts ends → ArePassed link ends (flat_map (file_takers link content.live) done) next → ArePassed link next (map section_taker (live_of link content.live f)) later
-    → HaveSpace link later (map common_taker (commons_of link content.live f))
-common_space link content starts ends done f next later h fit is passed sections = λ p below.
-    let before : List Taker = flat_map (file_takers link content.live) done in
-    let count = ends_count link content starts ends is in
+pub common_space : (content : Content) (starts ends : List ℕ) (done : List NumberedFile) (f : NumberedFile) (next later : List ℕ) (h : IsNextFile content.link done f) → EndsFit (plain_filling content) starts
+    → AreEnds content.link content.merged_lens starts ends → ArePassed content.link ends (flat_map (own_file_takers content.link content.live) done) next → ArePassed content.link next (map own_taker (live_of content.link content.live f)) later
+    → HaveSpace content.link later (map common_taker (commons_of content.link content.live f))
+common_space content starts ends done f next later h fit is passed sections = λ p below.
+    let before : List Taker = flat_map (own_file_takers content.link content.live) done in
+    let count = ends_count content starts ends is in
     let inside : p < length starts = omega (arith, below, sections.count, passed.count, count) in
     omega (
       arith,
       sections.moved p (omega (arith, below, sections.count)),
       passed.moved p (omega (arith, below, sections.count, passed.count)),
-      end_at link content starts ends p is inside,
-      all_fit link content starts p fit inside,
-      ap (bytes_in link p) (takers_split link content done f h),
-      bytes_in-append link p before (file_takers link content.live f ++ flat_map (file_takers link content.live) h.rest),
-      bytes_in-append link p (file_takers link content.live f) (flat_map (file_takers link content.live) h.rest),
-      bytes_in-append link p (map section_taker (live_of link content.live f)) (map common_taker (commons_of link content.live f)),
+      end_at content starts ends p is inside,
+      all_fit (plain_filling content) starts p fit inside,
+      ap (bytes_in content.link p) (takers_split content done f h),
+      bytes_in-append content.link p before (own_file_takers content.link content.live f ++ flat_map (own_file_takers content.link content.live) h.rest),
+      bytes_in-append content.link p (own_file_takers content.link content.live f) (flat_map (own_file_takers content.link content.live) h.rest),
+      bytes_in-append content.link p (map own_taker (live_of content.link content.live f)) (map common_taker (commons_of content.link content.live f)),
     )
 
 -- the sections of the next file have the addresses of the link's
-section_is : (link : LinkInput) (content : Content) (starts ends : List ℕ) (done : List NumberedFile) (f : NumberedFile) (next : List ℕ) (h : IsNextFile link done f)
-    → IsWellFormed link → AreLive link content.live → length starts ≡ length (all_parts link.plan.sections) → AreEnds link content.merged_lens starts ends
-    → ArePassed link ends (flat_map (file_takers link content.live) done) next → (k : ℕ) (x : Input) → slice_get (sections_of_file f) k ≡ Some x
-    → section_place link content.live next f (k, x) ≡ section_address link content starts (length (inputs_of done) + k, x)
-section_is link content starts ends done f next h good are parts is passed k x there =
-    let before : List Taker = flat_map (file_takers link content.live) done in
-    let inputs : List Input = all_inputs link.groups in
+section_is : (content : Content) (starts ends : List ℕ) (done : List NumberedFile) (f : NumberedFile) (next : List ℕ) (h : IsNextFile content.link done f)
+    → IsWellFormed content.link → AreLive content.link content.live → length starts ≡ length (all_parts content.link.plan.sections) → AreEnds content.link content.merged_lens starts ends
+    → ArePassed content.link ends (flat_map (own_file_takers content.link content.live) done) next → (k : ℕ) (x : Input) → slice_get (sections_of_file f) k ≡ Some x
+    → section_place content.link content.live next f (k, x) ≡ section_address (plain_filling content) starts (length (inputs_of done) + k, x)
+section_is content starts ends done f next h good are parts is passed k x there =
+    let before : List Taker = flat_map (own_file_takers content.link content.live) done in
+    let inputs : List Input = all_inputs content.link.groups in
     let split : inputs ≡ inputs_of done ++ (sections_of_file f ++ inputs_of h.rest) = ap inputs_of h.splits ∙ flat_map-append sections_of_file done (f ∷ h.rest) in
     let here = append_left (sections_of_file f) (inputs_of h.rest) k x there in
     let place = append_right (inputs_of done) (sections_of_file f ++ inputs_of h.rest) k (length (inputs_of done) + k) x refl here in
     let at : slice_get inputs (length (inputs_of done) + k) ≡ Some x = ap (λ (xs : List Input). slice_get xs (length (inputs_of done) + k)) split ∙ place in
-    let number : input_number link.groups x.file x.index ≡ length (inputs_of done) + k = number_of link (length (inputs_of done) + k) x at in
-    let mark : is_marked content.live.marks (length (inputs_of done) + k) ≡ lives link content.live x = ap (is_marked content.live.marks) (sym number) in
-    let front : List Taker = map section_taker (live_below link content.live f k) in
-    (elim (lives link content.live x) as (λ b. lives link content.live x ≡ b → (if b then next_behind link next front x.section.part else 0) ≡ (if b then live_address link content starts x else 0)) [
+    let number : input_number content.link.groups x.file x.index ≡ length (inputs_of done) + k = number_of content.link (length (inputs_of done) + k) x at in
+    let mark : is_marked content.live.marks (length (inputs_of done) + k) ≡ lives content.link content.live x = ap (is_marked content.live.marks) (sym number) in
+    let front : List Taker = map own_taker (live_below content.link content.live f k) in
+    (elim (lives content.link content.live x) as (λ b. lives content.link content.live x ≡ b → (if b then next_behind content.link next front x.section.part else 0) ≡ (if b then live_address (plain_filling content) starts x else 0)) [
       | true ↦ λ set.
-          let in_file = live_split link content.live f k x there set in
-          let commons : List Taker = map common_taker (commons_of link content.live f) in
-          let later : List Taker = flat_map (file_takers link content.live) h.rest in
-          let mapped : map section_taker (live_of link content.live f) ≡ front ++ section_taker x ∷ map section_taker in_file.0
-          = ap (map section_taker) in_file.1 ∙ map-append section_taker (live_below link content.live f k) (x ∷ in_file.0) in
-          let whole : takers link content.live ≡ (before ++ front) ++ section_taker x ∷ (map section_taker in_file.0 ++ (commons ++ later))
-          = takers_split link content done f h
-          ∙ ap (λ (ts : List Taker). before ++ ts) (append_assoc (map section_taker (live_of link content.live f)) commons later)
+          let in_file = live_split content.link content.live f k x there set in
+          let commons : List Taker = map common_taker (commons_of content.link content.live f) in
+          let later : List Taker = flat_map (own_file_takers content.link content.live) h.rest in
+          let mapped : map own_taker (live_of content.link content.live f) ≡ front ++ own_taker x ∷ map own_taker in_file.0
+          = ap (map own_taker) in_file.1 ∙ map-append own_taker (live_below content.link content.live f k) (x ∷ in_file.0) in
+          let whole : takers (plain_filling content) ≡ (before ++ front) ++ own_taker x ∷ (map own_taker in_file.0 ++ (commons ++ later))
+          = takers_split content done f h
+          ∙ ap (λ (ts : List Taker). before ++ ts) (append_assoc (map own_taker (live_of content.link content.live f)) commons later)
           ∙ ap (λ (ts : List Taker). before ++ (ts ++ (commons ++ later))) mapped
-          ∙ around before front (map section_taker in_file.0) (commons ++ later) (section_taker x) in
-          let goes : x.section.part < length starts = omega (arith, parts, live_goes_at link content.live (length (inputs_of done) + k) x good are at (mark ∙ set)) in
+          ∙ around before front (map own_taker in_file.0) (commons ++ later) (own_taker x) in
+          let goes : x.section.part < length starts = omega (arith, parts, live_goes_at content.link content.live (length (inputs_of done) + k) x good are at (mark ∙ set)) in
           omega (
             arith,
-            passed.moved x.section.part (omega (arith, goes, ends_count link content starts ends is)),
-            end_at link content starts ends x.section.part is goes,
-            bytes_in-append link x.section.part before front,
-            section_behind link content starts (before ++ front) x (map section_taker in_file.0 ++ (commons ++ later)) whole,
+            passed.moved x.section.part (omega (arith, goes, ends_count content starts ends is)),
+            end_at content starts ends x.section.part is goes,
+            bytes_in-append content.link x.section.part before front,
+            section_behind (plain_filling content) starts (before ++ front) x (map own_taker in_file.0 ++ (commons ++ later))
+                (whole ∙ ap (λ (t : Taker). (before ++ front) ++ t ∷ (map own_taker in_file.0 ++ (commons ++ later))) (sym (own_taker_is content (length (inputs_of done) + k) x at))),
           )
       | false ↦ λ set. refl
     ]) refl
-    ∙ ap (λ b. if b then live_address link content starts x else 0) (sym mark)
+    ∙ ap (λ b. if b then live_address (plain_filling content) starts x else 0) (sym mark)
 
-sections_are_placed : (link : LinkInput) (content : Content) (starts ends : List ℕ) (done : List NumberedFile) (f : NumberedFile) (next : List ℕ) (h : IsNextFile link done f)
-    → IsWellFormed link → AreLive link content.live → length starts ≡ length (all_parts link.plan.sections) → AreEnds link content.merged_lens starts ends
-    → ArePassed link ends (flat_map (file_takers link content.live) done) next
-    → section_places link content.live next f ≡ map (section_address link content starts) (enumerate_from (length (inputs_of done)) (sections_of_file f))
-sections_are_placed link content starts ends done f next h good are parts is passed =
-    made_alike (section_place link content.live next f) (section_address link content starts) 0 (length (inputs_of done)) (sections_of_file f) (λ k x there.
+sections_are_placed : (content : Content) (starts ends : List ℕ) (done : List NumberedFile) (f : NumberedFile) (next : List ℕ) (h : IsNextFile content.link done f)
+    → IsWellFormed content.link → AreLive content.link content.live → length starts ≡ length (all_parts content.link.plan.sections) → AreEnds content.link content.merged_lens starts ends
+    → ArePassed content.link ends (flat_map (own_file_takers content.link content.live) done) next
+    → section_places content.link content.live next f ≡ map (section_address (plain_filling content) starts) (enumerate_from (length (inputs_of done)) (sections_of_file f))
+sections_are_placed content starts ends done f next h good are parts is passed =
+    made_alike (section_place content.link content.live next f) (section_address (plain_filling content) starts) 0 (length (inputs_of done)) (sections_of_file f) (λ k x there.
     let number : 0 + k ≡ k = omega arith in
-    ap (λ (n : ℕ). section_place link content.live next f (n, x)) number ∙ section_is link content starts ends done f next h good are parts is passed k x there)
+    ap (λ (n : ℕ). section_place content.link content.live next f (n, x)) number ∙ section_is content starts ends done f next h good are parts is passed k x there)
 
 -- so have its commons
-common_is : (link : LinkInput) (content : Content) (starts ends : List ℕ) (done : List NumberedFile) (f : NumberedFile) (next later : List ℕ) (h : IsNextFile link done f)
-    → IsWellFormed link → file_in link.groups f.id ≡ Some f.file → length starts ≡ length (all_parts link.plan.sections) → AreEnds link content.merged_lens starts ends
-    → ArePassed link ends (flat_map (file_takers link content.live) done) next → ArePassed link next (map section_taker (live_of link content.live f)) later
-    → (k : ℕ) (c : Common) → slice_get (commons_of link content.live f) k ≡ Some c
-    → common_place link later (commons_of link content.live f) (k, c) ≡ told_common link content starts c
-common_is link content starts ends done f next later h good in_link parts is passed sections k c there =
-    let before : List Taker = flat_map (file_takers link content.live) done in
-    let cs : List Common = commons_of link content.live f in
+common_is : (content : Content) (starts ends : List ℕ) (done : List NumberedFile) (f : NumberedFile) (next later : List ℕ) (h : IsNextFile content.link done f)
+    → IsWellFormed content.link → file_in content.link.groups f.id ≡ Some f.file → length starts ≡ length (all_parts content.link.plan.sections) → AreEnds content.link content.merged_lens starts ends
+    → ArePassed content.link ends (flat_map (own_file_takers content.link content.live) done) next → ArePassed content.link next (map own_taker (live_of content.link content.live f)) later
+    → (k : ℕ) (c : Common) → slice_get (commons_of content.link content.live f) k ≡ Some c
+    → common_place content.link later (commons_of content.link content.live f) (k, c) ≡ told_common (plain_filling content) starts c
+common_is content starts ends done f next later h good in_link parts is passed sections k c there =
+    let before : List Taker = flat_map (own_file_takers content.link content.live) done in
+    let cs : List Common = commons_of content.link content.live f in
     let split = split_at cs k c there in
-    let own : List Taker = map section_taker (live_of link content.live f) in
+    let own : List Taker = map own_taker (live_of content.link content.live f) in
     let front : List Taker = map common_taker (take k cs) in
     let rest : List Taker = map common_taker split.0 in
-    let behind : List Taker = flat_map (file_takers link content.live) h.rest in
+    let behind : List Taker = flat_map (own_file_takers content.link content.live) h.rest in
     let mapped : map common_taker cs ≡ front ++ common_taker c ∷ rest = ap (map common_taker) split.1 ∙ map-append common_taker (take k cs) (c ∷ split.0) in
-    let in_file : file_takers link content.live f ≡ (own ++ front) ++ common_taker c ∷ rest
+    let in_file : own_file_takers content.link content.live f ≡ (own ++ front) ++ common_taker c ∷ rest
     = ap (λ (ts : List Taker). own ++ ts) mapped ∙ sym (append_assoc own front (common_taker c ∷ rest)) in
-    let whole : takers link content.live ≡ (before ++ (own ++ front)) ++ common_taker c ∷ (rest ++ behind)
-    = takers_split link content done f h
+    let whole : takers (plain_filling content) ≡ (before ++ (own ++ front)) ++ common_taker c ∷ (rest ++ behind)
+    = takers_split content done f h
     ∙ ap (λ (ts : List Taker). before ++ (ts ++ behind)) in_file
     ∙ around before (own ++ front) rest behind (common_taker c) in
-    let goes : c.part < length starts = omega (arith, parts, common_goes link content.live f (take k cs) c split.0 good in_link split.1) in
-    let address : next_behind link later front c.part ≡ common_address link content starts c.part c.symbol
+    let goes : c.part < length starts = omega (arith, parts, common_goes content.link content.live f (take k cs) c split.0 good in_link split.1) in
+    let address : next_behind content.link later front c.part ≡ common_address (plain_filling content) starts c.part c.symbol
     = omega (
       arith,
-      sections.moved c.part (omega (arith, goes, ends_count link content starts ends is, passed.count)),
-      passed.moved c.part (omega (arith, goes, ends_count link content starts ends is)),
-      end_at link content starts ends c.part is goes,
-      bytes_in-append link c.part before (own ++ front),
-      bytes_in-append link c.part own front,
-      common_behind link content starts (before ++ (own ++ front)) c (rest ++ behind) whole,
+      sections.moved c.part (omega (arith, goes, ends_count content starts ends is, passed.count)),
+      passed.moved c.part (omega (arith, goes, ends_count content starts ends is)),
+      end_at content starts ends c.part is goes,
+      bytes_in-append content.link c.part before (own ++ front),
+      bytes_in-append content.link c.part own front,
+      common_behind (plain_filling content) starts (before ++ (own ++ front)) c (rest ++ behind) whole,
     ) in
     let tell : ℕ → CommonAddress = λ a. record { symbol = c.symbol; address = a } in
     ap tell address
@@ -398,16 +404,16 @@ without_number : {X Y : Type 0} (g : X → Y) (n : ℕ) (xs : List X) → map (�
 without_number g n [] = refl
 without_number g n (x ∷ xs) = ap (λ (ys : List _). g x ∷ ys) (without_number g (n + 1) xs)
 
-commons_are_placed : (link : LinkInput) (content : Content) (starts ends : List ℕ) (done : List NumberedFile) (f : NumberedFile) (next later : List ℕ) (h : IsNextFile link done f)
-    → IsWellFormed link → file_in link.groups f.id ≡ Some f.file → length starts ≡ length (all_parts link.plan.sections) → AreEnds link content.merged_lens starts ends
-    → ArePassed link ends (flat_map (file_takers link content.live) done) next → ArePassed link next (map section_taker (live_of link content.live f)) later
-    → common_places link later (commons_of link content.live f) ≡ map (told_common link content starts) (commons_of link content.live f)
-commons_are_placed link content starts ends done f next later h good in_link parts is passed sections =
-    made_alike (common_place link later (commons_of link content.live f)) (λ (q : ℕ × Common). told_common link content starts q.1) 0 0 (commons_of link content.live f) (λ k c there.
+commons_are_placed : (content : Content) (starts ends : List ℕ) (done : List NumberedFile) (f : NumberedFile) (next later : List ℕ) (h : IsNextFile content.link done f)
+    → IsWellFormed content.link → file_in content.link.groups f.id ≡ Some f.file → length starts ≡ length (all_parts content.link.plan.sections) → AreEnds content.link content.merged_lens starts ends
+    → ArePassed content.link ends (flat_map (own_file_takers content.link content.live) done) next → ArePassed content.link next (map own_taker (live_of content.link content.live f)) later
+    → common_places content.link later (commons_of content.link content.live f) ≡ map (told_common (plain_filling content) starts) (commons_of content.link content.live f)
+commons_are_placed content starts ends done f next later h good in_link parts is passed sections =
+    made_alike (common_place content.link later (commons_of content.link content.live f)) (λ (q : ℕ × Common). told_common (plain_filling content) starts q.1) 0 0 (commons_of content.link content.live f) (λ k c there.
     let number : 0 + k ≡ k = omega arith in
-    ap (λ (n : ℕ). common_place link later (commons_of link content.live f) (n, c)) number
-    ∙ common_is link content starts ends done f next later h good in_link parts is passed sections k c there)
-    ∙ without_number (told_common link content starts) 0 (commons_of link content.live f)
+    ap (λ (n : ℕ). common_place content.link later (commons_of content.link content.live f) (n, c)) number
+    ∙ common_is content starts ends done f next later h good in_link parts is passed sections k c there)
+    ∙ without_number (told_common (plain_filling content) starts) 0 (commons_of content.link content.live f)
 
 -- numbers go on behind those of a first list
 numbered_append : {X : Type 0} (n : ℕ) (xs ys : List X) → enumerate_from n (xs ++ ys) ≡ enumerate_from n xs ++ enumerate_from (n + length xs) ys
@@ -421,39 +427,41 @@ pub file_done : (link : LinkInput) (live : Live) (merged_lens starts ends : List
     (commons new_commons : List CommonAddress) (h : IsNextFile link done f)
     → IsWellFormed link → AreLive link live → file_in link.groups f.id ≡ Some f.file → length starts ≡ length (all_parts link.plan.sections) → AreEnds link merged_lens starts ends
     → AreDone link live merged_lens starts ends done next sections commons
-    → ArePassed link next (map section_taker (live_of link live f)) later → new_sections ≡ sections ++ section_places link live next f
+    → ArePassed link next (map own_taker (live_of link live f)) later → new_sections ≡ sections ++ section_places link live next f
     → ArePassed link later (map common_taker (commons_of link live f)) last → new_commons ≡ commons ++ common_places link later (commons_of link live f)
     → AreDone link live merged_lens starts ends (done ++ f ∷ []) last new_sections new_commons
 file_done link live merged_lens starts ends done f next later last sections new_sections commons new_commons h good are in_link parts is so_far by_sections told_sections by_commons told_commons =
-    let before : List Taker = flat_map (file_takers link live) done in
+    let before : List Taker = flat_map (own_file_takers link live) done in
     let n : ℕ = length (inputs_of done) in
     let zero_more : 0 + n ≡ n = omega arith in
     let inputs : inputs_of (done ++ f ∷ []) ≡ inputs_of done ++ sections_of_file f
     = flat_map-append sections_of_file done (f ∷ []) ∙ ap (λ (xs : List Input). inputs_of done ++ xs) (append-nil (sections_of_file f)) in
-    let takes : flat_map (file_takers link live) (done ++ f ∷ []) ≡ before ++ file_takers link live f
-    = flat_map-append (file_takers link live) done (f ∷ []) ∙ ap (λ (ts : List Taker). before ++ ts) (append-nil (file_takers link live f)) in
+    let takes : flat_map (own_file_takers link live) (done ++ f ∷ []) ≡ before ++ own_file_takers link live f
+    = flat_map-append (own_file_takers link live) done (f ∷ []) ∙ ap (λ (ts : List Taker). before ++ ts) (append-nil (own_file_takers link live f)) in
     let cs : flat_map (commons_of link live) (done ++ f ∷ []) ≡ flat_map (commons_of link live) done ++ commons_of link live f
     = flat_map-append (commons_of link live) done (f ∷ []) ∙ ap (λ (c : List Common). flat_map (commons_of link live) done ++ c) (append-nil (commons_of link live f)) in
     record {
       passed = subst (λ (ts : List Taker). ArePassed link ends ts last) (sym takes)
-          (passed_both link ends next last before (file_takers link live f) so_far.passed
-          (passed_both link next later last (map section_taker (live_of link live f)) (map common_taker (commons_of link live f)) by_sections by_commons));
+          (passed_both link ends next last before (own_file_takers link live f) so_far.passed
+          (passed_both link next later last (map own_taker (live_of link live f)) (map common_taker (commons_of link live f)) by_sections by_commons));
       addresses = λ sizes.
-          let content : Content = content_of sizes live merged_lens in
-          let g : ℕ × Input → ℕ = section_address link content starts in
+          let content : Content = content_of link sizes live merged_lens in
+          let filling : Filling = plain_filling content in
+          let g : ℕ × Input → ℕ = section_address filling starts in
           told_sections
           ∙ ap (λ (ns : List ℕ). ns ++ section_places link live next f) (so_far.addresses sizes)
-          ∙ ap (λ (ns : List ℕ). map g (enumerate_from 0 (inputs_of done)) ++ ns) (sections_are_placed link content starts ends done f next h good are parts is so_far.passed)
+          ∙ ap (λ (ns : List ℕ). map g (enumerate_from 0 (inputs_of done)) ++ ns) (sections_are_placed content starts ends done f next h good are parts is so_far.passed)
           ∙ sym (ap (λ (xs : List Input). map g (enumerate_from 0 xs)) inputs
           ∙ ap (map g) (numbered_append 0 (inputs_of done) (sections_of_file f))
           ∙ map-append g (enumerate_from 0 (inputs_of done)) (enumerate_from (0 + n) (sections_of_file f))
           ∙ ap (λ (m : ℕ). map g (enumerate_from 0 (inputs_of done)) ++ map g (enumerate_from m (sections_of_file f))) zero_more);
       told = λ sizes.
-          let content : Content = content_of sizes live merged_lens in
-          let tell : Common → CommonAddress = told_common link content starts in
+          let content : Content = content_of link sizes live merged_lens in
+          let filling : Filling = plain_filling content in
+          let tell : Common → CommonAddress = told_common filling starts in
           told_commons
           ∙ ap (λ (c : List CommonAddress). c ++ common_places link later (commons_of link live f)) (so_far.told sizes)
-          ∙ ap (λ (c : List CommonAddress). map tell (flat_map (commons_of link live) done) ++ c) (commons_are_placed link content starts ends done f next later h good in_link parts is so_far.passed by_sections)
+          ∙ ap (λ (c : List CommonAddress). map tell (flat_map (commons_of link live) done) ++ c) (commons_are_placed content starts ends done f next later h good in_link parts is so_far.passed by_sections)
           ∙ sym (ap (map tell) cs ∙ map-append tell (flat_map (commons_of link live) done) (commons_of link live f));
     }
 
@@ -490,33 +498,35 @@ section_turn link live f sections marks k section number good are in_link all re
 -- ---- ends
 
 -- behind a live section there is room for what it takes
-pub live_ends : (link : LinkInput) (content : Content) (starts : List ℕ) (k : ℕ) (x : Input) → slice_get (live_inputs link content.live) k ≡ Some x → EndsFit link content starts
-    → x.section.part < length starts → live_address link content starts x + capacity (part_at link.plan.sections x.section.part) x.section.size < 2 ^ 64
-live_ends link content starts k x there fit within =
+pub live_ends : (content : Content) (starts : List ℕ) (k : ℕ) (x : Input) → slice_get (live_inputs content.link content.live) k ≡ Some x → EndsFit (plain_filling content) starts
+    → x.section.part < length starts → live_address (plain_filling content) starts x + capacity (part_at content.link.plan.sections x.section.part) x.section.size < 2 ^ 64
+live_ends content starts k x there fit within =
+    let filling : Filling = plain_filling content in
     let p : ℕ = x.section.part in
-    let split = live_among link content k x there in
+    let split = live_among filling k x there in
     omega (
       arith,
-      section_behind link content starts split.front x split.rest split.splits,
-      all_fit link content starts p fit within,
-      ap (bytes_in link p) split.splits,
-      bytes_in-append link p split.front (section_taker x ∷ split.rest),
-      bytes_in-append link p (section_taker x ∷ []) split.rest,
-      bytes_in_here link p (section_taker x) refl,
+      section_behind filling starts split.front x split.rest split.splits,
+      all_fit filling starts p fit within,
+      ap (bytes_in content.link p) split.splits,
+      bytes_in-append content.link p split.front (section_taker filling x ∷ split.rest),
+      bytes_in-append content.link p (section_taker filling x ∷ []) split.rest,
+      bytes_in_here content.link p (section_taker filling x) refl,
+      ap (capacity (part_at content.link.plan.sections p)) (live_own_size content k x there),
     )
 
 -- and behind a common
-pub common_ends : (link : LinkInput) (content : Content) (starts : List ℕ) (p s size : ℕ) → IsCommonIn link content.live p s size → EndsFit link content starts
-    → p < length starts → common_address link content starts p s + capacity (part_at link.plan.sections p) size < 2 ^ 64
-common_ends link content starts p s size h fit within =
+pub common_ends : (filling : Filling) (starts : List ℕ) (p s size : ℕ) → IsCommonIn filling.content.link filling.content.live p s size → EndsFit filling starts
+    → p < length starts → common_address filling starts p s + capacity (part_at filling.content.link.plan.sections p) size < 2 ^ 64
+common_ends filling starts p s size h fit within =
     let c : Common = record { symbol = s; part = p; size = size } in
-    let split = common_among link content p s size h in
+    let split = common_among filling p s size h in
     omega (
       arith,
-      common_behind link content starts split.front c split.rest split.splits,
-      all_fit link content starts p fit within,
-      ap (bytes_in link p) split.splits,
-      bytes_in-append link p split.front (common_taker c ∷ split.rest),
-      bytes_in-append link p (common_taker c ∷ []) split.rest,
-      bytes_in_here link p (common_taker c) refl,
+      common_behind filling starts split.front c split.rest split.splits,
+      all_fit filling starts p fit within,
+      ap (bytes_in filling.content.link p) split.splits,
+      bytes_in-append filling.content.link p split.front (common_taker c ∷ split.rest),
+      bytes_in-append filling.content.link p (common_taker c ∷ []) split.rest,
+      bytes_in_here filling.content.link p (common_taker c) refl,
     )

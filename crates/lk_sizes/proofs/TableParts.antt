@@ -16,7 +16,7 @@ use Rattle.lk_gc.specs.declared.live.Live.{Live}
 use Rattle.lk_gc.specs.Reach.{AreLive, live_inputs}
 use Rattle.lk_reach.proofs.Numbered.{file_at}
 use Rattle.lk_tables.specs.declared.commons.Common.{Common}
-use Rattle.lk_sizes.specs.Owners.{EntryOwner, IdentityOwner, ImageOwner, Owner, Taker, common_taker, commons_of, file_takers, has_image, identity_of, images_of, into, is_merged, live_of, owners_in, section_taker, takers}
+use Rattle.lk_sizes.specs.Owners.{EntryOwner, Filling, IdentityOwner, ImageOwner, Owner, Taker, common_taker, commons_of, file_takers, has_image, identity_of, images_of, into, is_merged, live_of, owners_in, section_taker, takers, thunk_takers}
 use Rattle.lk_sizes.specs.PartOwners.{TablePartsHaveEntriesAlone, tables_of}
 use Rattle.lk_tables.specs.TableLists.{table_of}
 use Rattle.lk_sizes.proofs.Addressing.{live_by_files}
@@ -25,6 +25,7 @@ use Rattle.lk_sizes.proofs.ImagePlaces.{any_at}
 use Rattle.lk_sizes.proofs.KeptOnes.{merged_good}
 use Rattle.lk_sizes.proofs.LiveOnes.{live_good}
 use Rattle.lk_sizes.proofs.Takers.{owners_in_other}
+use Rattle.lk_sizes.proofs.ThunkTakers.{one_block}
 
 -- what goes to a part that is no table part doesn't go to one
 elsewhere : (named : NamedParts) (p q : ℕ) → is_table_part named p ≡ true → is_table_part named q ≡ false → q ≡ p → ⊥
@@ -63,27 +64,38 @@ none_brought : (p : ℕ) (ts : List Taker) → ((k : ℕ) (t : Taker) → slice_
 none_brought p [] h = refl
 none_brought p (t ∷ ts) h = owners_in_other p t ts (h 0 t refl) ∙ none_brought p ts (λ k. h (suc k))
 
-goes_elsewhere : (link : LinkInput) (live : Live) (p k : ℕ) (t : Taker) → IsWellFormed link → AreLive link live → is_table_part link.plan.named p ≡ true
-    → slice_get (takers link live) k ≡ Some t → t.part ≡ p → ⊥
-goes_elsewhere link live p k t good are table there same =
-    let at = flat_map_at (file_takers link live) (numbered_files link.groups) k t there in
-    elim (append_at (map section_taker (live_of link live at.from)) (map common_taker (commons_of link live at.from)) at.inner t at.gives) [
+-- the primary part is no table part
+primary_is_free : (link : LinkInput) (p : ℕ) → IsWellFormed link → link.plan.named.primary ≡ Some p → is_table_part link.plan.named p ≡ false
+primary_is_free link p good is = ((good_part_fields link good).primary p is).0.no_table
+
+goes_elsewhere : (filling : Filling) (p k : ℕ) (t : Taker) → IsWellFormed filling.content.link → AreLive filling.content.link filling.content.live
+    → is_table_part filling.content.link.plan.named p ≡ true → slice_get (takers filling) k ≡ Some t → t.part ≡ p → ⊥
+goes_elsewhere filling p k t good are table there same =
+    let link : LinkInput = filling.content.link in
+    let live : Live = filling.content.live in
+    let at = flat_map_at (file_takers filling) (numbered_files link.groups) k t there in
+    elim (append_at (map (section_taker filling) (live_of link live at.from)) (map common_taker (commons_of link live at.from) ++ thunk_takers filling at.from) at.inner t at.gives) [
       | inl section ↦
-          let from = map_at section_taker (live_of link live at.from) at.inner t section in
+          let from = map_at (section_taker filling) (live_of link live at.from) at.inner t section in
           let whole = flat_map_in (live_of link live) (numbered_files link.groups) at.outer at.inner at.from from.0 at.there from.1 in
           let lives : slice_get (live_inputs link live) whole.0 ≡ Some from.0 = ap (λ (xs : List Input). slice_get xs whole.0) (sym (live_by_files link live)) ∙ whole.1 in
           elsewhere link.plan.named p from.0.section.part table (live_good link live whole.0 from.0 good are lives).1.to_no_table (ap (λ (u : Taker). u.part) from.2 ∙ same)
-      | inr common ↦
-          let from = map_at common_taker (commons_of link live at.from) common.0 t common.2 in
-          let c : Common = from.0 in
-          let is = is_common_in link live at.from common.0 c (file_at link.groups at.outer at.from at.there).there from.1 in
-          elsewhere link.plan.named p c.part table (common_is_placed link live c.part c.symbol c.size good is).1 (ap (λ (u : Taker). u.part) from.2 ∙ same)
+      | inr behind ↦ elim (append_at (map common_taker (commons_of link live at.from)) (thunk_takers filling at.from) behind.0 t behind.2) [
+        | inl common ↦
+            let from = map_at common_taker (commons_of link live at.from) behind.0 t common in
+            let c : Common = from.0 in
+            let is = is_common_in link live at.from behind.0 c (file_at link.groups at.outer at.from at.there).there from.1 in
+            elsewhere link.plan.named p c.part table (common_is_placed link live c.part c.symbol c.size good is).1 (ap (λ (u : Taker). u.part) from.2 ∙ same)
+        | inr thunk ↦
+            let is = one_block filling at.from thunk.0 t thunk.2 in
+            elsewhere link.plan.named p t.part table (primary_is_free link t.part good is.primary) same
+      ]
     ]
 
 pub table_parts_have_entries_alone : TablePartsHaveEntriesAlone
-table_parts_have_entries_alone link content p good are table =
-    let lens : List ℕ = content.merged_lens in
-    let entries : List Owner = map EntryOwner (table_of link.plan.named (tables_of link content) p) in
-    ap (λ (os : List Owner). ((os ++ identity_of link p) ++ owners_in p (takers link content.live)) ++ entries) (no_image link lens p good table)
-    ∙ ap (λ (os : List Owner). (os ++ owners_in p (takers link content.live)) ++ entries) (no_identity link p good table)
-    ∙ ap (λ (os : List Owner). os ++ entries) (none_brought p (takers link content.live) (λ k t. goes_elsewhere link content.live p k t good are table))
+table_parts_have_entries_alone filling p good are table =
+    let lens : List ℕ = filling.content.merged_lens in
+    let entries : List Owner = map EntryOwner (table_of filling.content.link.plan.named (tables_of filling.content) p) in
+    ap (λ (os : List Owner). ((os ++ identity_of filling.content.link p) ++ owners_in p (takers filling)) ++ entries) (no_image filling.content.link lens p good table)
+    ∙ ap (λ (os : List Owner). (os ++ owners_in p (takers filling)) ++ entries) (no_identity filling.content.link p good table)
+    ∙ ap (λ (os : List Owner). os ++ entries) (none_brought p (takers filling) (λ k t. goes_elsewhere filling p k t good are table))

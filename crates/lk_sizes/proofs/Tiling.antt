@@ -1,7 +1,9 @@
 -- The owners of a part tile it.
-use Rattle.std.proofs.Common.{◌≡◌, ℕ, ◌+◌, ◌<◌, ◌≤◌, suc, zero, List, [], ◌∷◌, ◌++◌, ◌∙◌, map, take, inl, inr, ap, sym, subst, refl, true, false, arith, cond, length}
+use Rattle.std.proofs.Common.{◌≡◌, ℕ, ◌+◌, ◌<◌, ◌≤◌, ◌==◌, suc, zero, List, [], ◌∷◌, ◌++◌, ◌∙◌, map, filter, take, Some, None, inl, inr, ap, sym, subst, refl, true, false, arith, cond, length}
 use Rattle.std.specs.Int.{◌∣◌, next_multiple_of}
-use Rattle.std.specs.List.{AllByRecursion, flat_map}
+use Rattle.std.specs.List.{AllByRecursion, flat_map, slice_index}
+use Rattle.std.specs.Option.{option_to_list}
+use Rattle.std.specs.Prelude.{Option, option_and_then, option_map}
 use Rattle.std.proofs.lemmas.List.{append-nil, get_or_past}
 use Rattle.std.proofs.lemmas.List.Sums.{sum_by-cons}
 use Rattle.std.proofs.lemmas.Bool.{cases_lt}
@@ -12,18 +14,17 @@ use Rattle.lk_link.specs.declared.link.LinkInput.{LinkInput}
 use Rattle.lk_link.specs.declared.plan.PlanPart.{PlanPart}
 use Rattle.lk_link.specs.Alignments.{is_alignment}
 use Rattle.lk_link.proofs.GoodLinks.{part_aligned}
-use Rattle.lk_link.specs.Parts.{all_parts, part_at}
+use Rattle.lk_link.specs.Parts.{all_parts, part_at, part_sections}
 use Rattle.lk_link.proofs.Powers.{alignment-pos}
 use Rattle.lk_link.specs.Sizes.{capacity}
 use Rattle.lk_link.proofs.Starts.{next_multiple_is_least}
 use Rattle.lk_link.specs.WellFormed.{IsWellFormed}
-use Rattle.lk_sizes.specs.Owners.{EntryOwner, Owner, Taker, bytes_of, common_taker, commons_of, content_owners, file_takers, leading_of, live_of, owner_address, owner_bytes, owners_in, section_taker, takers}
+use Rattle.lk_sizes.specs.Owners.{EntryOwner, Filling, IdentityOwner, ImageOwner, Owner, Taker, bytes_of, common_taker, commons_of, content_owners, file_takers, has_image, identity_of, identity_size, images_of, leading_of, live_of, owner_address, owner_bytes, owners_in, section_taker, size_of, takers, thunk_bytes, thunk_taker, thunk_takers}
 use Rattle.lk_sizes.specs.PartOwners.{owners_of, tables_of}
 use Rattle.lk_tables.specs.declared.commons.Common.{Common}
 use Rattle.lk_gc.specs.declared.live.Live.{Live}
 use Rattle.lk_tables.specs.SymbolTable.{TableEntry}
 use Rattle.lk_tables.proofs.PartLists.{other_parts}
-use Rattle.lk_sizes.proofs.Addressing.{all_joined, of_leading, of_takers}
 use Rattle.lk_link.specs.Inputs.{Input, NumberedFile, numbered_files}
 use Rattle.lk_sizes.specs.Tiles.{HasByte, IsTiled, OwnersTileTheirPart, OwnersAreAligned}
 
@@ -91,7 +92,7 @@ pub tiles : (start : ℕ) (part : PlanPart) (owners : List Owner) → IsTiled st
 tiles start part owners = record { inside = inside start part owners; covered = covered start part owners; apart = apart start part owners }
 
 pub owners_tile : OwnersTileTheirPart
-owners_tile link content p start = tiles start (part_at link.plan.sections p) (owners_of link content p)
+owners_tile filling p start = tiles start (part_at filling.content.link.plan.sections p) (owners_of filling p)
 
 -- ---- alignment
 
@@ -122,37 +123,87 @@ aligned part [] (suc k) h = dvd-zero part.alignment
 aligned part (o ∷ owners) (suc k) h =
     subst (λ (n : ℕ). part.alignment ∣ n) (sym (whole part o (take k owners))) (dvd-add part.alignment h.0 (aligned part owners k h.1))
 
-rounded_sections : (part : PlanPart) (xs : List Input) → part.packed ≡ false → 0 < part.alignment
-    → AllByRecursion (λ (t : Taker). IsRounded part t.owner) (map section_taker xs)
-rounded_sections part [] h i = tt
-rounded_sections part (x ∷ xs) h i = (rounded part x.section.size h i, rounded_sections part xs h i)
+all_joined : {X : Type 0} (P : X → Type 0) (xs ys : List X) → AllByRecursion P xs → AllByRecursion P ys → AllByRecursion P (xs ++ ys)
+all_joined P [] ys h i = i
+all_joined P (x ∷ xs) ys h i = (h.0, all_joined P xs ys h.1 i)
+
+-- something holds of what leads in each part
+record OfLeading (P : Owner → Type 0) : Type 0 where
+  image : (section len : ℕ) → P (ImageOwner section len)
+  identity : (size : ℕ) → P (IdentityOwner size)
+
+-- what holds of what takers bring
+of_takers : (P : Owner → Type 0) (p : ℕ) (ts : List Taker) → AllByRecursion (λ (t : Taker). P t.owner) ts → AllByRecursion P (owners_in p ts)
+of_takers P p [] h = tt
+of_takers P p (t ∷ ts) h =
+    let rest : List Taker = filter (λ (u : Taker). u.part == p) ts in
+    elim (t.part == p) as (λ b. AllByRecursion P (map (λ (u : Taker). u.owner) (cond b (t ∷ rest) rest))) [
+      | true ↦ (h.0, of_takers P p ts h.1)
+      | false ↦ of_takers P p ts h.1
+    ]
+
+of_image : (P : Owner → Type 0) (link : LinkInput) (merged_lens : List ℕ) (p : ℕ) → OfLeading P → AllByRecursion P (images_of link merged_lens p)
+of_image P link merged_lens p all =
+    let section : ℕ = slice_index (part_sections link.plan.sections) p in
+    elim (has_image link p) as (λ b. AllByRecursion P (cond b (ImageOwner section (slice_index merged_lens section) ∷ []) [])) [
+      | true ↦ (all.image section (slice_index merged_lens section), tt)
+      | false ↦ tt
+    ]
+
+of_identity : (P : Owner → Type 0) (link : LinkInput) (p : ℕ) → OfLeading P → AllByRecursion P (identity_of link p)
+of_identity P link p all =
+    elim (identity_size link p) as (λ o. AllByRecursion P (option_to_list (option_map IdentityOwner o))) [
+      | None ↦ tt
+      | Some size ↦ (all.identity size, tt)
+    ]
+
+of_leading : (P : Owner → Type 0) (link : LinkInput) (merged_lens : List ℕ) (p : ℕ) → OfLeading P → AllByRecursion P (leading_of link merged_lens p)
+of_leading P link merged_lens p all =
+    all_joined P (images_of link merged_lens p) (identity_of link p) (of_image P link merged_lens p all) (of_identity P link p all)
+
+rounded_sections : (part : PlanPart) (filling : Filling) (xs : List Input) → part.packed ≡ false → 0 < part.alignment
+    → AllByRecursion (λ (t : Taker). IsRounded part t.owner) (map (section_taker filling) xs)
+rounded_sections part filling [] h i = tt
+rounded_sections part filling (x ∷ xs) h i = (rounded part (size_of filling x) h i, rounded_sections part filling xs h i)
 
 rounded_commons : (part : PlanPart) (cs : List Common) → part.packed ≡ false → 0 < part.alignment
     → AllByRecursion (λ (t : Taker). IsRounded part t.owner) (map common_taker cs)
 rounded_commons part [] h i = tt
 rounded_commons part (c ∷ cs) h i = (rounded part c.size h i, rounded_commons part cs h i)
 
-rounded_takers : (part : PlanPart) (link : LinkInput) (live : Live) (files : List NumberedFile) → part.packed ≡ false → 0 < part.alignment
-    → AllByRecursion (λ (t : Taker). IsRounded part t.owner) (flat_map (file_takers link live) files)
-rounded_takers part link live [] h i = tt
-rounded_takers part link live (f ∷ files) h i =
+rounded_block : (part : PlanPart) (filling : Filling) (f : NumberedFile) → part.packed ≡ false → 0 < part.alignment
+    → AllByRecursion (λ (t : Taker). IsRounded part t.owner) (thunk_takers filling f)
+rounded_block part filling f h i = by filling.content.link.plan.named.primary (thunk_bytes filling f.id)
+  where
+    by : (at bytes : Option ℕ) → AllByRecursion (λ (t : Taker). IsRounded part t.owner) (option_to_list (option_and_then (λ p. option_map (thunk_taker f.id p) bytes) at))
+    by None bytes = tt
+    by (Some p) None = tt
+    by (Some p) (Some size) = (rounded part size h i, tt)
+
+rounded_takers : (part : PlanPart) (filling : Filling) (files : List NumberedFile) → part.packed ≡ false → 0 < part.alignment
+    → AllByRecursion (λ (t : Taker). IsRounded part t.owner) (flat_map (file_takers filling) files)
+rounded_takers part filling [] h i = tt
+rounded_takers part filling (f ∷ files) h i =
+    let link : LinkInput = filling.content.link in
+    let live : Live = filling.content.live in
     let each : Taker → Type 0 = λ t. IsRounded part t.owner in
-    all_joined each (file_takers link live f) (flat_map (file_takers link live) files)
-    (all_joined each (map section_taker (live_of link live f)) (map common_taker (commons_of link live f))
-    (rounded_sections part (live_of link live f) h i) (rounded_commons part (commons_of link live f) h i))
-    (rounded_takers part link live files h i)
+    all_joined each (file_takers filling f) (flat_map (file_takers filling) files)
+    (all_joined each (map (section_taker filling) (live_of link live f)) (map common_taker (commons_of link live f) ++ thunk_takers filling f)
+    (rounded_sections part filling (live_of link live f) h i)
+    (all_joined each (map common_taker (commons_of link live f)) (thunk_takers filling f) (rounded_commons part (commons_of link live f) h i) (rounded_block part filling f h i)))
+    (rounded_takers part filling files h i)
 
 pub owners_are_aligned : OwnersAreAligned
-owners_are_aligned link content p k good free unpacked =
-    let part : PlanPart = part_at link.plan.sections p in
-    let above = alignment-pos part.alignment (part_is_aligned link p good) in
-    let own : List Owner = content_owners link content.live content.merged_lens p in
-    let none : owners_of link content p ≡ own
-    = ap (λ (es : List TableEntry). own ++ map EntryOwner es) (other_parts link.plan.named (tables_of link content) p free) ∙ append-nil own in
-    let brought : List Owner = owners_in p (takers link content.live) in
+owners_are_aligned filling p k good free unpacked =
+    let part : PlanPart = part_at filling.content.link.plan.sections p in
+    let above = alignment-pos part.alignment (part_is_aligned filling.content.link p good) in
+    let own : List Owner = content_owners filling p in
+    let none : owners_of filling p ≡ own
+    = ap (λ (es : List TableEntry). own ++ map EntryOwner es) (other_parts filling.content.link.plan.named (tables_of filling.content) p free) ∙ append-nil own in
+    let brought : List Owner = owners_in p (takers filling) in
     let all : AllByRecursion (IsRounded part) own
-    = all_joined (IsRounded part) (leading_of link content.merged_lens p) brought
-    (of_leading (IsRounded part) link content.merged_lens p
+    = all_joined (IsRounded part) (leading_of filling.content.link filling.content.merged_lens p) brought
+    (of_leading (IsRounded part) filling.content.link filling.content.merged_lens p
     (record { image = λ section len. rounded part len unpacked above; identity = λ size. rounded part size unpacked above }))
-    (of_takers (IsRounded part) p (takers link content.live) (rounded_takers part link content.live (numbered_files link.groups) unpacked above)) in
+    (of_takers (IsRounded part) p (takers filling) (rounded_takers part filling (numbered_files filling.content.link.groups) unpacked above)) in
     subst (λ (os : List Owner). part.alignment ∣ bytes_of part (take k os)) (sym none) (aligned part own k all)

@@ -11,6 +11,7 @@ use Rattle.lk_link.specs.FileKinds.{is_prelude}
 use Rattle.lk_link.specs.Inputs.{NumberedFile, numbered_files}
 use Rattle.lk_link.specs.Inside.{sections_inside}
 use Rattle.lk_link.specs.OutputKinds.{is_partial}
+use Rattle.lk_link.specs.PartRules.{is_table_part}
 use Rattle.lk_link.specs.PlanSections.{is_singletons, primary_of, section_at}
 use Rattle.lk_link.specs.SegmentKinds.{is_stack, segment_at}
 use Rattle.lk_link.specs.Marks.{is_marked}
@@ -45,28 +46,40 @@ is_kept_by_symbol link live s = list_any (file_keeps link live s) (numbered_file
 
 -- whether an output section is kept: the plan always emits it, what is live keeps it, a symbol of the prelude does, or one of its parts has
 -- bytes by its first size
-abbrev pub is_kept : LinkInput → Content → ℕ → Bool
-is_kept link content s =
-    is_always (section_at link.plan.sections s).emit || is_marked content.live.kept s || is_kept_by_symbol link content.live s
-    || list_any (λ p. nat_lt 0 (first_size link content p)) (parts_of link.plan.sections s)
+abbrev pub is_kept : Content → ℕ → Bool
+is_kept content s =
+    is_always (section_at content.link.plan.sections s).emit || is_marked content.live.kept s || is_kept_by_symbol content.link content.live s
+    || list_any (λ p. nat_lt 0 (first_size content p)) (parts_of content.link.plan.sections s)
 
 -- whether an output section can be emitted: the plan doesn't say never, and it isn't that of singletons
 abbrev pub can_be_emitted : Plan → ℕ → Bool
 can_be_emitted plan s = not (is_never (section_at plan.sections s).emit) && not (is_singletons plan s)
 
 -- a section is emitted where it, or one that is secondary to it, is kept, and it can be; a secondary section isn't
-abbrev pub is_emitted : LinkInput → Content → ℕ → Bool
-is_emitted link content s =
-    list_any (λ q. primary_of link.plan.sections q.0 == s && is_kept link content q.0) (enumerate_from 0 link.plan.sections)
-    && can_be_emitted link.plan s
+abbrev pub is_emitted : Content → ℕ → Bool
+is_emitted content s =
+    list_any (λ q. primary_of content.link.plan.sections q.0 == s && is_kept content q.0) (enumerate_from 0 content.link.plan.sections)
+    && can_be_emitted content.link.plan s
 
 -- for each output section, whether it is emitted
-abbrev pub emitted_marks : LinkInput → Content → List Bool
-emitted_marks link content = by_section (is_emitted link content) link
+abbrev pub emitted_marks : Content → List Bool
+emitted_marks content = by_section (is_emitted content) content.link
+
+-- whether an output section has a part that is no table
+abbrev pub has_content : Plan → ℕ → Bool
+has_content plan s = list_any (λ p. not (is_table_part plan.named p)) (parts_of plan.sections s)
+
+-- whether symbols at the edges of a section are told: where it is emitted, and in output that is linked again has such a part
+abbrev pub tells_edges : Content → ℕ → Bool
+tells_edges content s = is_emitted content s && (not (is_partial content.link.options.output) || has_content content.link.plan s)
+
+-- for each output section, whether they are
+abbrev pub told_marks : Content → List Bool
+told_marks content = by_section (tells_edges content) content.link
 
 -- a section's index in the output: its place among the emitted ones, in the order of events
-abbrev pub output_index : LinkInput → Content → ℕ → Option ℕ
-output_index link content s = position (λ t. t == s) (filter (is_emitted link content) (event_sections link.plan.events))
+abbrev pub output_index : Content → ℕ → Option ℕ
+output_index content s = position (λ t. t == s) (filter (is_emitted content) (event_sections content.link.plan.events))
 
 -- ---- segments
 
@@ -79,9 +92,9 @@ is_told link some i =
     || list_any some (sections_inside link.plan.events i))
 
 -- whether it is active: told by the emitted sections
-abbrev pub is_active : LinkInput → Content → ℕ → Bool
-is_active link content i = is_told link (is_emitted link content) i
+abbrev pub is_active : Content → ℕ → Bool
+is_active content i = is_told content.link (is_emitted content) i
 
 -- the active segments, in rising order
-abbrev pub active_segments : LinkInput → Content → List ℕ
-active_segments link content = filter (is_active link content) (map (λ q. q.0) (enumerate_from 0 link.plan.segments))
+abbrev pub active_segments : Content → List ℕ
+active_segments content = filter (is_active content) (map (λ q. q.0) (enumerate_from 0 content.link.plan.segments))

@@ -8,7 +8,7 @@ use Rattle.lk_link.specs.Parts.{part_at}
 use Rattle.lk_link.specs.PartRules.{is_table_part}
 use Rattle.lk_link.specs.WellFormed.{IsWellFormed}
 use Rattle.lk_sizes.specs.Attributes.{by_section, parts_of}
-use Rattle.lk_sizes.specs.Owners.{Content, ImageOwner, Owner, has_image, is_merged, owner_address}
+use Rattle.lk_sizes.specs.Owners.{Filling, ImageOwner, Owner, has_image, is_merged, owner_address}
 use Rattle.lk_sizes.specs.PartOwners.{owners_of}
 use Rattle.lk_link.specs.Parts.{part_sections}
 
@@ -22,25 +22,25 @@ is_image_of s (ImageOwner section len) = section == s
 is_image_of s _ = false
 
 -- how many owners of its part stand before it
-abbrev pub image_number : LinkInput → Content → ℕ → ℕ → ℕ
-image_number link content s p = position_or_len (is_image_of s) (owners_of link content p)
+abbrev pub image_number : Filling → ℕ → ℕ → ℕ
+image_number filling s p = position_or_len (is_image_of s) (owners_of filling p)
 
 -- the image's address, by the starts of all parts in memory; 0 where there is no image
-abbrev pub image_address : LinkInput → Content → List ℕ → ℕ → ℕ
-image_address link content starts s =
-    option_map_or (λ p. owner_address (slice_index starts p) (part_at link.plan.sections p) (owners_of link content p)
-    (image_number link content s p)) (image_part link s) 0
+abbrev pub image_address : Filling → List ℕ → ℕ → ℕ
+image_address filling starts s =
+    option_map_or (λ p. owner_address (slice_index starts p) (part_at filling.content.link.plan.sections p) (owners_of filling p)
+    (image_number filling s p)) (image_part filling.content.link s) 0
 
 -- those of the images of all output sections
-abbrev pub image_addresses : LinkInput → Content → List ℕ → List ℕ
-image_addresses link content starts = by_section (image_address link content starts) link
+abbrev pub image_addresses : Filling → List ℕ → List ℕ
+image_addresses filling starts = by_section (image_address filling starts) filling.content.link
 
 -- ---- laws
 
 -- an image stands among the owners of its part under its number there, with its length
 abbrev pub ImagesAreOwners : Type 0
-ImagesAreOwners = (link : LinkInput) (content : Content) (s p : ℕ) → s < length link.plan.sections → image_part link s ≡ Some p
-    → slice_get (owners_of link content p) (image_number link content s p) ≡ Some (ImageOwner s (slice_index content.merged_lens s))
+ImagesAreOwners = (filling : Filling) (s p : ℕ) → s < length filling.content.link.plan.sections → image_part filling.content.link s ≡ Some p
+    → slice_get (owners_of filling p) (image_number filling s p) ≡ Some (ImageOwner s (slice_index filling.content.merged_lens s))
 
 -- where a section that is merged goes, the image of its output section stands: in that one's part of alignment 1, which is no table part
 pub record StandsWhereItsInputsGo (link : LinkInput) (x : Input) : Type 0 where

@@ -6,6 +6,7 @@ pub mod Header
 pub mod Images
 pub mod Kept
 pub mod Owners
+pub mod OwnersRecord
 pub mod PartOwners
 pub mod Sizing
 pub mod Tables

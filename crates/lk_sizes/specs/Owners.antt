@@ -1,8 +1,9 @@
 -- What goes into the output, and who takes the bytes of a part, but for entries of tables that wait for the emitted sections.
-use Rattle.std.specs.Prelude.{◌≡◌, ℕ, ◌+◌, ◌<◌, ◌==◌, Bool, if◌then◌else◌, List, length, take, map, filter}
-use Rattle.std.specs.Prelude.{[], ◌∷◌, ◌++◌, true, sum_by, slice_index, Option, Some, None, nat_lt, option_map}
+use Rattle.std.specs.Prelude.{◌≡◌, ℕ, ◌+◌, ◌<◌, ◌==◌, ◌&&◌, Bool, if◌then◌else◌, List, length, take, map, filter}
+use Rattle.std.specs.Prelude.{[], ◌∷◌, ◌++◌, true, sum_by, slice_index, Option, Some, None, find, nat_lt, option_and_then, option_map}
 use Rattle.std.specs.List.{enumerate_from, flat_map, list_any, slice_get}
 use Rattle.std.specs.Option.{option_to_list}
+use Rattle.lk_link.specs.declared.ids.FileId.{FileId}
 use Rattle.lk_link.specs.declared.link.LinkInput.{LinkInput}
 use Rattle.lk_link.specs.declared.plan.PlanPart.{PlanPart}
 use Rattle.lk_link.specs.declared.symbol.InputSymbol.{InputSymbol}
@@ -25,16 +26,40 @@ use Rattle.lk_tables.specs.Late.{flags_at}
 use Rattle.lk_tables.specs.SymbolTable.{TableEntry}
 use Rattle.lk_tables.specs.TableLists.{first_tables, table_of}
 
--- what goes into the output: what tables take on a machine, the live sections of a link, and the merged images of output sections, by
--- their lengths
+-- what goes into the output of a link: what tables take on a machine, the live sections, and the merged images of output
+-- sections, by their lengths
 pub record Content : Type 0 where
+  pub link : LinkInput
   pub sizes : TableSizes
   pub live : Live
   pub merged_lens : List ℕ
 
--- that of these sizes, live sections and lengths
-abbrev pub content_of : TableSizes → Live → List ℕ → Content
-content_of sizes live merged_lens = record { sizes = sizes; live = live; merged_lens = merged_lens }
+-- that of this link, these sizes, live sections and lengths
+abbrev pub content_of : LinkInput → TableSizes → Live → List ℕ → Content
+content_of link sizes live merged_lens = record { link = link; sizes = sizes; live = live; merged_lens = merged_lens }
+
+-- what fills the parts: what goes into the output, the bytes of the block of thunks that each of some files owns, in the order
+-- of files, and the size of each input section, by its number over all files
+pub record Filling : Type 0 where
+  pub content : Content
+  pub thunks : List (FileId × ℕ)
+  pub sizes : List ℕ
+
+-- the sizes that the input sections of a link have in its description
+unfoldable pub own_sizes : LinkInput → List ℕ
+own_sizes link = map (λ x. x.section.size) (all_inputs link.groups)
+
+-- with these, and without thunks
+abbrev pub plain_filling : Content → Filling
+plain_filling content = record { content = content; thunks = []; sizes = own_sizes content.link }
+
+-- one without its thunks
+abbrev pub without_thunks : Filling → Filling
+without_thunks filling = record filling { thunks = [] }
+
+-- the same for this link
+abbrev pub in_link : LinkInput → Filling → Filling
+in_link link filling = record filling { content = record filling.content { link = link } }
 
 -- those of some input sections that go to a part
 abbrev pub into : ℕ → List Input → List Input
@@ -57,12 +82,14 @@ has_image link p = list_any is_merged (into p (all_inputs link.groups))
 -- ---- owners
 
 -- one that takes bytes of a part: the merged image of an output section, so many bytes long; the linker's identity, so many bytes long; a
--- live section, with its size; a common, by its symbol, with its size; or an entry of a table (libwild adds up sizes file by file)
+-- live section, with its size; a common, by its symbol, with its size; the block of thunks that a file owns,
+-- so many bytes long; or an entry of a table (libwild adds up sizes file by file)
 pub data Owner : Type 0 where
   ImageOwner : ℕ → ℕ → Owner
   IdentityOwner : ℕ → Owner
   SectionOwner : Input → ℕ → Owner
   CommonOwner : ℕ → ℕ → Owner
+  ThunkOwner : FileId → ℕ → Owner
   EntryOwner : TableEntry → Owner
 
 -- the bytes that it takes in a part: an entry its own, any other its size with the padding behind it
@@ -71,6 +98,7 @@ owner_bytes part (ImageOwner section len) = capacity part len
 owner_bytes part (IdentityOwner size) = capacity part size
 owner_bytes part (SectionOwner x size) = capacity part size
 owner_bytes part (CommonOwner s size) = capacity part size
+owner_bytes part (ThunkOwner id size) = capacity part size
 owner_bytes part (EntryOwner e) = e.bytes
 
 -- the image of a part's output section, by the lengths of all images, if it stands there
@@ -99,9 +127,13 @@ pub record Taker : Type 0 where
   pub part : ℕ
   pub owner : Owner
 
+-- the size of an input section, by those of all
+abbrev pub size_of : Filling → Input → ℕ
+size_of filling x = slice_index filling.sizes (input_number filling.content.link.groups x.file x.index)
+
 -- a section with its size, in the part that it goes to
-abbrev pub section_taker : Input → Taker
-section_taker x = record { part = x.section.part; owner = SectionOwner x x.section.size }
+abbrev pub section_taker : Filling → Input → Taker
+section_taker filling x = record { part = x.section.part; owner = SectionOwner x (size_of filling x) }
 
 -- the live sections of a file, by index
 abbrev pub live_of : LinkInput → Live → NumberedFile → List Input
@@ -111,29 +143,45 @@ live_of link live f = filter (λ x. is_marked live.marks (input_number link.grou
 abbrev pub common_taker : Common → Taker
 common_taker c = record { part = c.part; owner = CommonOwner c.symbol c.size }
 
--- what takes bytes for a file: its live sections, then its commons
-abbrev pub file_takers : LinkInput → Live → NumberedFile → List Taker
-file_takers link live f = map section_taker (live_of link live f) ++ map common_taker (commons_of link live f)
+-- the bytes of the block of thunks that a file owns, if it owns one
+abbrev pub thunk_bytes : Filling → FileId → Option ℕ
+thunk_bytes filling id = option_map (λ q. q.1) (find (λ q. q.0.group == id.group && q.0.file == id.file) filling.thunks)
+
+-- the block of a file in a part, so many bytes long
+abbrev pub thunk_taker : FileId → ℕ → ℕ → Taker
+thunk_taker id p size = record { part = p; owner = ThunkOwner id size }
+
+-- the block that a file owns, in the plan's primary part
+abbrev pub thunk_takers : Filling → NumberedFile → List Taker
+thunk_takers filling f =
+    let primary = filling.content.link.plan.named.primary in
+    option_to_list (option_and_then (λ p. option_map (thunk_taker f.id p) (thunk_bytes filling f.id)) primary)
+
+-- what takes bytes for a file: its live sections, then its commons, then the block of thunks that it owns
+abbrev pub file_takers : Filling → NumberedFile → List Taker
+file_takers filling f =
+    map (section_taker filling) (live_of filling.content.link filling.content.live f)
+    ++ (map common_taker (commons_of filling.content.link filling.content.live f) ++ thunk_takers filling f)
 
 -- file by file
-abbrev pub takers : LinkInput → Live → List Taker
-takers link live = flat_map (file_takers link live) (numbered_files link.groups)
+abbrev pub takers : Filling → List Taker
+takers filling = flat_map (file_takers filling) (numbered_files filling.content.link.groups)
 
 -- those that take bytes of this part
 abbrev pub owners_in : ℕ → List Taker → List Owner
 owners_in p ts = map (λ t. t.owner) (filter (λ t. t.part == p) ts)
 
 -- the owners of a part that are no entries of tables, in order: what leads, then what files bring
-abbrev pub content_owners : LinkInput → Live → List ℕ → ℕ → List Owner
-content_owners link live merged_lens p = leading_of link merged_lens p ++ owners_in p (takers link live)
+abbrev pub content_owners : Filling → ℕ → List Owner
+content_owners filling p = leading_of filling.content.link filling.content.merged_lens p ++ owners_in p (takers filling)
 
 -- the bytes of some owners of a part
 abbrev pub bytes_of : PlanPart → List Owner → ℕ
 bytes_of part owners = sum_by (owner_bytes part) owners
 
 -- those of a part's owners that are no entries of tables
-abbrev pub content_size : LinkInput → Live → List ℕ → ℕ → ℕ
-content_size link live merged_lens p = bytes_of (part_at link.plan.sections p) (content_owners link live merged_lens p)
+abbrev pub content_size : Filling → ℕ → ℕ
+content_size filling p = bytes_of (part_at filling.content.link.plan.sections p) (content_owners filling p)
 
 -- an owner's address: its part's start, and the bytes of the owners before it (libwild: `finalise_layout`)
 abbrev pub owner_address : ℕ → PlanPart → List Owner → ℕ → ℕ
@@ -147,19 +195,19 @@ by_part f link = map (λ q. f q.0) (enumerate_from 0 (all_parts link.plan.sectio
 
 -- the owners that tell whether a part keeps its section: with the sizes that input sections have in the description, and the entries that
 -- are known before it is known which sections are emitted
-abbrev pub first_owners : LinkInput → Content → ℕ → List Owner
-first_owners link content p =
-    content_owners link content.live content.merged_lens p
-    ++ map EntryOwner (table_of link.plan.named (first_tables content.sizes link content.live) p)
+abbrev pub first_owners : Content → ℕ → List Owner
+first_owners content p =
+    content_owners (plain_filling content) p
+    ++ map EntryOwner (table_of content.link.plan.named (first_tables content.sizes content.link content.live) p)
 
 -- what they take
-abbrev pub first_size : LinkInput → Content → ℕ → ℕ
-first_size link content p = bytes_of (part_at link.plan.sections p) (first_owners link content p)
+abbrev pub first_size : Content → ℕ → ℕ
+first_size content p = bytes_of (part_at content.link.plan.sections p) (first_owners content p)
 
 -- these tell what the first sizes tell: for each part, whether it has bytes
-pub record AreFirstSizes (link : LinkInput) (content : Content) (sizes : List ℕ) : Type 0 where
-  pub count : length sizes ≡ length (all_parts link.plan.sections)
-  pub each : (p : ℕ) → p < length sizes → nat_lt 0 (slice_index sizes p) ≡ nat_lt 0 (first_size link content p)
+pub record AreFirstSizes (content : Content) (sizes : List ℕ) : Type 0 where
+  pub count : length sizes ≡ length (all_parts content.link.plan.sections)
+  pub each : (p : ℕ) → p < length sizes → nat_lt 0 (slice_index sizes p) ≡ nat_lt 0 (first_size content p)
 
 -- ---- commons
 

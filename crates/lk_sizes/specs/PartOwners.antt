@@ -1,78 +1,105 @@
 -- Who takes the bytes of a part, and where each stands.
-use Rattle.std.specs.Prelude.{◌≡◌, ℕ, zero, suc, ◌+◌, ◌-◌, ◌^◌, ◌<◌, ◌==◌, ◌&&◌, Bool, if◌then◌else◌, List, length, take, map}
+use Rattle.std.specs.Prelude.{◌≡◌, ℕ, zero, suc, ◌+◌, ◌-◌, ◌^◌, ◌<◌, ◌==◌, Bool, if◌then◌else◌, List, length, take, map}
 use Rattle.std.specs.Prelude.{◌++◌, true, false, sum, slice_index, Option, Some, None, nat_lt, Contains}
 use Rattle.std.specs.List.{position_or_len, slice_get}
+use Rattle.std.specs.Option.{option_map_or}
 use Rattle.lk_link.specs.declared.link.LinkInput.{LinkInput}
-use Rattle.lk_link.specs.Files.{first_some}
-use Rattle.lk_link.specs.Inputs.{Input}
+use Rattle.lk_link.specs.declared.file.InputFile.{InputFile}
+use Rattle.lk_link.specs.declared.ids.FileId.{FileId}
+use Rattle.lk_link.specs.Files.{file_in, first_some}
+use Rattle.lk_link.specs.Inputs.{Input, input_number}
 use Rattle.lk_link.specs.PartRules.{is_table_part}
 use Rattle.lk_link.specs.Parts.{part_at, part_sections}
+use Rattle.lk_link.specs.Symbols.{file_number}
 use Rattle.lk_link.specs.WellFormed.{IsWellFormed}
 use Rattle.lk_gc.specs.Reach.{AreLive, live_inputs}
 use Rattle.lk_tables.specs.SymbolTable.{TableEntry}
 use Rattle.lk_tables.specs.TableLists.{TableLists, table_of, whole_tables}
 use Rattle.lk_sizes.specs.Emitted.{active_segments, emitted_marks}
-use Rattle.lk_sizes.specs.Owners.{CommonOwner, Content, EntryOwner, IdentityOwner, ImageOwner, IsCommonIn, Owner, SectionOwner, by_part, bytes_of, content_owners, has_image, identity_size, images_of, owner_address}
+use Rattle.lk_sizes.specs.Owners.{CommonOwner, Content, EntryOwner, Filling, IdentityOwner, ImageOwner, IsCommonIn, Owner, SectionOwner, ThunkOwner, by_part, bytes_of, content_owners, has_image, identity_size, images_of, owner_address, size_of, thunk_bytes}
 
 -- the tables of the output, by which sections are emitted and which segments are active
-abbrev pub tables_of : LinkInput → Content → TableLists
-tables_of link content =
-    whole_tables content.sizes link content.live (emitted_marks link content) (emitted_marks link content) (active_segments link content)
+abbrev pub tables_of : Content → TableLists
+tables_of content =
+    whole_tables content.sizes content.link content.live (emitted_marks content) (emitted_marks content) (active_segments content)
 
 -- the owners of a part, in order: those of its content, then the entries of tables there
-abbrev pub owners_of : LinkInput → Content → ℕ → List Owner
-owners_of link content p =
-    content_owners link content.live content.merged_lens p ++ map EntryOwner (table_of link.plan.named (tables_of link content) p)
+abbrev pub owners_of : Filling → ℕ → List Owner
+owners_of filling p =
+    content_owners filling p ++ map EntryOwner (table_of filling.content.link.plan.named (tables_of filling.content) p)
+
+-- ---- keys
+
+-- whether an owner has this key
+abbrev pub has_key : (Owner → Option ℕ) → ℕ → Owner → Bool
+has_key key n o = option_map_or (λ m. m == n) (key o) false
+
+-- the key of a section: its number over all files
+abbrev pub section_key : LinkInput → Owner → Option ℕ
+section_key link (SectionOwner x size) = Some (input_number link.groups x.file x.index)
+section_key link _ = None
+
+-- that of a common: its symbol
+abbrev pub common_key : Owner → Option ℕ
+common_key (CommonOwner s size) = Some s
+common_key _ = None
+
+-- that of a block of thunks: the number of its file over all groups
+abbrev pub thunk_key : LinkInput → Owner → Option ℕ
+thunk_key link (ThunkOwner id size) = Some (file_number link.groups id)
+thunk_key link _ = None
 
 -- ---- addresses of live sections
 
--- whether an owner is this input section
-abbrev pub owns : Input → Owner → Bool
-owns x (SectionOwner y size) = y.file.group == x.file.group && y.file.file == x.file.file && y.index == x.index
-owns x _ = false
-
 -- how many owners of its part stand before a live section
-abbrev pub owner_number : LinkInput → Content → Input → ℕ
-owner_number link content x = position_or_len (owns x) (owners_of link content x.section.part)
+abbrev pub owner_number : Filling → Input → ℕ
+owner_number filling x =
+    let link = filling.content.link in
+    position_or_len (has_key (section_key link) (input_number link.groups x.file x.index)) (owners_of filling x.section.part)
 
 -- a live section's address, by the starts of all parts in memory
-abbrev pub live_address : LinkInput → Content → List ℕ → Input → ℕ
-live_address link content starts x =
+abbrev pub live_address : Filling → List ℕ → Input → ℕ
+live_address filling starts x =
     let p = x.section.part in
-    owner_address (slice_index starts p) (part_at link.plan.sections p) (owners_of link content p) (owner_number link content x)
+    let sections = filling.content.link.plan.sections in
+    owner_address (slice_index starts p) (part_at sections p) (owners_of filling p) (owner_number filling x)
 
 -- ---- addresses of commons
 
--- whether an owner is the common with this symbol
-abbrev pub is_common_of : ℕ → Owner → Bool
-is_common_of s (CommonOwner t size) = t == s
-is_common_of s _ = false
-
--- how many owners of its part stand before it
-abbrev pub common_number : LinkInput → Content → ℕ → ℕ → ℕ
-common_number link content p s = position_or_len (is_common_of s) (owners_of link content p)
+-- how many owners of its part stand before the common with this symbol
+abbrev pub common_number : Filling → ℕ → ℕ → ℕ
+common_number filling p s = position_or_len (has_key common_key s) (owners_of filling p)
 
 -- the address of the common of a part with this symbol, by the starts of all parts in memory
-abbrev pub common_address : LinkInput → Content → List ℕ → ℕ → ℕ → ℕ
-common_address link content starts p s =
-    owner_address (slice_index starts p) (part_at link.plan.sections p) (owners_of link content p) (common_number link content p s)
+abbrev pub common_address : Filling → List ℕ → ℕ → ℕ → ℕ
+common_address filling starts p s =
+    let sections = filling.content.link.plan.sections in
+    owner_address (slice_index starts p) (part_at sections p) (owners_of filling p) (common_number filling p s)
+
+-- ---- blocks of thunks
+
+-- how many owners of its part stand before the block that a file owns
+abbrev pub thunk_number : Filling → ℕ → FileId → ℕ
+thunk_number filling p id =
+    let link = filling.content.link in
+    position_or_len (has_key (thunk_key link) (file_number link.groups id)) (owners_of filling p)
 
 -- ---- ends
 
 -- each part ends below 2^64
-abbrev pub EndsFit : LinkInput → Content → List ℕ → Type 0
-EndsFit link content starts = (p : ℕ) → p < length starts
-    → slice_index starts p + bytes_of (part_at link.plan.sections p) (owners_of link content p) < 2 ^ 64
+abbrev pub EndsFit : Filling → List ℕ → Type 0
+EndsFit filling starts = (p : ℕ) → p < length starts
+    → slice_index starts p + bytes_of (part_at filling.content.link.plan.sections p) (owners_of filling p) < 2 ^ 64
 
 -- ---- sizes
 
 -- a part's size is the sum of its owners' bytes
-abbrev pub part_size : LinkInput → Content → ℕ → ℕ
-part_size link content p = bytes_of (part_at link.plan.sections p) (owners_of link content p)
+abbrev pub part_size : Filling → ℕ → ℕ
+part_size filling p = bytes_of (part_at filling.content.link.plan.sections p) (owners_of filling p)
 
 -- the sizes of all parts (libwild: `compute_total_section_part_sizes`)
-abbrev pub part_sizes : LinkInput → Content → List ℕ
-part_sizes link content = by_part (part_size link content) link
+abbrev pub part_sizes : Filling → List ℕ
+part_sizes filling = by_part (part_size filling) filling.content.link
 
 -- the least number below n that passes
 abbrev pub least_below : (ℕ → Bool) → ℕ → Option ℕ
@@ -87,56 +114,69 @@ overflowing_part sizes = least_below (λ p. nat_lt (2 ^ 64 - 1) (sum (take (p + 
 
 -- each live section stands among the owners of its part under its number there
 abbrev pub LiveSectionsAreOwners : Type 0
-LiveSectionsAreOwners = (link : LinkInput) (content : Content) (x : Input) → Contains (live_inputs link content.live) x
-    → slice_get (owners_of link content x.section.part) (owner_number link content x) ≡ Some (SectionOwner x x.section.size)
+LiveSectionsAreOwners = (filling : Filling) (x : Input) → Contains (live_inputs filling.content.link filling.content.live) x
+    → slice_get (owners_of filling x.section.part) (owner_number filling x) ≡ Some (SectionOwner x (size_of filling x))
 
 -- each common that takes bytes stands among the owners of its part under its number there
 abbrev pub CommonsAreOwners : Type 0
-CommonsAreOwners = (link : LinkInput) (content : Content) (p s size : ℕ) → IsCommonIn link content.live p s size
-    → slice_get (owners_of link content p) (common_number link content p s) ≡ Some (CommonOwner s size)
+CommonsAreOwners = (filling : Filling) (p s size : ℕ) → IsCommonIn filling.content.link filling.content.live p s size
+    → slice_get (owners_of filling p) (common_number filling p s) ≡ Some (CommonOwner s size)
+
+-- the block of thunks that a file owns stands among the owners of the primary part under its number there
+abbrev pub ThunksAreOwners : Type 0
+ThunksAreOwners = (filling : Filling) (id : FileId) (file : InputFile) (p size : ℕ)
+    → file_in filling.content.link.groups id ≡ Some file → filling.content.link.plan.named.primary ≡ Some p → thunk_bytes filling id ≡ Some size
+    → slice_get (owners_of filling p) (thunk_number filling p id) ≡ Some (ThunkOwner id size)
 
 -- what an owner of a part is: the image there of the part's output section; the identity, if it stands there; a live section that goes to
--- it, with its size; one of its commons; or an entry of a table there
-abbrev pub IsOwnerOf : LinkInput → Content → ℕ → Owner → Type 0
-IsOwnerOf link content p (ImageOwner section len) =
-    (has_image link p ≡ true) × (section ≡ slice_index (part_sections link.plan.sections) p) × (len ≡ slice_index content.merged_lens section)
-IsOwnerOf link content p (IdentityOwner size) = identity_size link p ≡ Some size
-IsOwnerOf link content p (SectionOwner x size) = Contains (live_inputs link content.live) x × (x.section.part ≡ p) × (size ≡ x.section.size)
-IsOwnerOf link content p (CommonOwner s size) = IsCommonIn link content.live p s size
-IsOwnerOf link content p (EntryOwner e) = Contains (table_of link.plan.named (tables_of link content) p) e
+-- it, with its size; one of its commons; the block of thunks that a file owns, in the primary part; or an entry of a table there
+abbrev pub IsOwnerOf : Filling → ℕ → Owner → Type 0
+IsOwnerOf filling p (ImageOwner section len) =
+    (has_image filling.content.link p ≡ true) × (section ≡ slice_index (part_sections filling.content.link.plan.sections) p)
+    × (len ≡ slice_index filling.content.merged_lens section)
+IsOwnerOf filling p (IdentityOwner size) = identity_size filling.content.link p ≡ Some size
+IsOwnerOf filling p (SectionOwner x size) =
+    Contains (live_inputs filling.content.link filling.content.live) x × (x.section.part ≡ p) × (size ≡ size_of filling x)
+IsOwnerOf filling p (CommonOwner s size) = IsCommonIn filling.content.link filling.content.live p s size
+IsOwnerOf filling p (ThunkOwner id size) =
+    (filling.content.link.plan.named.primary ≡ Some p) × (thunk_bytes filling id ≡ Some size)
+IsOwnerOf filling p (EntryOwner e) = Contains (table_of filling.content.link.plan.named (tables_of filling.content) p) e
 
 -- each owner of a part is one of these
 abbrev pub OwnersAreLive : Type 0
-OwnersAreLive = (link : LinkInput) (content : Content) (p k : ℕ) (o : Owner) → slice_get (owners_of link content p) k ≡ Some o
-    → IsOwnerOf link content p o
+OwnersAreLive = (filling : Filling) (p k : ℕ) (o : Owner) → slice_get (owners_of filling p) k ≡ Some o
+    → IsOwnerOf filling p o
 
 -- a part that the plan names for a table has the entries of its table, and no other owner
 abbrev pub TablePartsHaveEntriesAlone : Type 0
-TablePartsHaveEntriesAlone = (link : LinkInput) (content : Content) (p : ℕ) → IsWellFormed link → AreLive link content.live
-    → is_table_part link.plan.named p ≡ true → owners_of link content p ≡ map EntryOwner (table_of link.plan.named (tables_of link content) p)
+TablePartsHaveEntriesAlone = (filling : Filling) (p : ℕ) → IsWellFormed filling.content.link
+    → AreLive filling.content.link filling.content.live → is_table_part filling.content.link.plan.named p ≡ true
+    → owners_of filling p ≡ map EntryOwner (table_of filling.content.link.plan.named (tables_of filling.content) p)
 
--- the number that an owner has in its part: the image is the first; the identity stands behind the image, if there is one; a live section
--- and a common have theirs; and an entry stands behind all that is none, where it stands in the table
-abbrev pub HasItsNumber : LinkInput → Content → ℕ → ℕ → Owner → Type 0
-HasItsNumber link content p k (ImageOwner section len) = k ≡ 0
-HasItsNumber link content p k (IdentityOwner size) = k ≡ length (images_of link content.merged_lens p)
-HasItsNumber link content p k (SectionOwner x size) = k ≡ owner_number link content x
-HasItsNumber link content p k (CommonOwner s size) = k ≡ common_number link content p s
-HasItsNumber link content p k (EntryOwner e) = (j : ℕ) × (k ≡ length (content_owners link content.live content.merged_lens p) + j)
-    × (slice_get (table_of link.plan.named (tables_of link content) p) j ≡ Some e)
+-- the number that an owner has in its part: the image is the first; the identity stands behind the image, if there is one; a live section,
+-- a common and a block of thunks have theirs; and an entry stands behind all that is none, where it stands in the table
+abbrev pub HasItsNumber : Filling → ℕ → ℕ → Owner → Type 0
+HasItsNumber filling p k (ImageOwner section len) = k ≡ 0
+HasItsNumber filling p k (IdentityOwner size) = k ≡ length (images_of filling.content.link filling.content.merged_lens p)
+HasItsNumber filling p k (SectionOwner x size) = k ≡ owner_number filling x
+HasItsNumber filling p k (CommonOwner s size) = k ≡ common_number filling p s
+HasItsNumber filling p k (ThunkOwner id size) = k ≡ thunk_number filling p id
+HasItsNumber filling p k (EntryOwner e) = (j : ℕ) × (k ≡ length (content_owners filling p) + j)
+    × (slice_get (table_of filling.content.link.plan.named (tables_of filling.content) p) j ≡ Some e)
 
 -- each owner of a part stands there under its number, so once
 abbrev pub OwnersStandOnce : Type 0
-OwnersStandOnce = (link : LinkInput) (content : Content) (p k : ℕ) (o : Owner) → slice_get (owners_of link content p) k ≡ Some o
-    → HasItsNumber link content p k o
+OwnersStandOnce = (filling : Filling) (p k : ℕ) (o : Owner) → slice_get (owners_of filling p) k ≡ Some o
+    → HasItsNumber filling p k o
 
 -- the identity stands among the owners of the part for comments under that number, if there is such a part
 abbrev pub IdentityIsOwner : Type 0
-IdentityIsOwner = (link : LinkInput) (content : Content) (p size : ℕ) → identity_size link p ≡ Some size
-    → slice_get (owners_of link content p) (length (images_of link content.merged_lens p)) ≡ Some (IdentityOwner size)
+IdentityIsOwner = (filling : Filling) (p size : ℕ) → identity_size filling.content.link p ≡ Some size
+    → slice_get (owners_of filling p) (length (images_of filling.content.link filling.content.merged_lens p))
+    ≡ Some (IdentityOwner size)
 
 -- so does each entry of the tables for which the plan names a part
 abbrev pub EntriesAreOwners : Type 0
-EntriesAreOwners = (link : LinkInput) (content : Content) (p j : ℕ) (e : TableEntry)
-    → slice_get (table_of link.plan.named (tables_of link content) p) j ≡ Some e
-    → slice_get (owners_of link content p) (length (content_owners link content.live content.merged_lens p) + j) ≡ Some (EntryOwner e)
+EntriesAreOwners = (filling : Filling) (p j : ℕ) (e : TableEntry)
+    → slice_get (table_of filling.content.link.plan.named (tables_of filling.content) p) j ≡ Some e
+    → slice_get (owners_of filling p) (length (content_owners filling p) + j) ≡ Some (EntryOwner e)

@@ -1,11 +1,15 @@
 -- What the code goes by: lists by part, and marks of sections. Contracts of private functions speak of these.
-use Rattle.std.specs.Prelude.{◌≡◌, ℕ, ◌+◌, ◌-◌, ◌^◌, ◌<◌, Bool, if◌then◌else◌, List, ◌∷◌, ◌++◌, Some, filter, length, map, min, nat_le, position, slice_get, slice_index, slice_range, take, unwrap_or}
+use Rattle.std.specs.Prelude.{◌≡◌, ℕ, ◌+◌, ◌-◌, ◌^◌, ◌<◌, ◌&&◌, ◌||◌, not, Bool, if◌then◌else◌, List, ◌∷◌, ◌++◌, Some, filter, length, map, min, nat_le, position, slice_get, slice_index, slice_range, take, unwrap_or}
 use Rattle.std.specs.List.{enumerate_from, flat_map, slice_index_or}
+use Rattle.std.specs.Option.{option_map_or}
 use Rattle.lk_link.specs.declared.link.LinkInput.{LinkInput}
 use Rattle.lk_link.specs.declared.plan.NamedParts.{NamedParts}
+use Rattle.lk_link.specs.declared.plan.OrderEvent.{OrderEvent}
 use Rattle.lk_link.specs.declared.plan.PlanSection.{PlanSection}
 use Rattle.lk_link.specs.Inputs.{Input, NumberedFile, input_number, inputs_from, numbered_files}
+use Rattle.lk_link.specs.Inside.{placed_section}
 use Rattle.lk_link.specs.Marks.{is_marked}
+use Rattle.lk_link.specs.OutputKinds.{is_partial}
 use Rattle.lk_link.specs.Parts.{all_parts, first_part, part_at}
 use Rattle.lk_gc.specs.declared.live.Live.{Live}
 use Rattle.lk_gc.specs.Reach.{live_inputs}
@@ -14,20 +18,36 @@ use Rattle.lk_tables.specs.TableLists.{TableLists, table_bytes}
 use Rattle.lk_sizes.specs.declared.addresses.CommonAddress.{CommonAddress}
 use Rattle.lk_tables.specs.declared.commons.Common.{Common}
 use Rattle.lk_sizes.specs.declared.owners.PartTotal.{PartTotal}
-use Rattle.lk_sizes.specs.Emitted.{is_told}
-use Rattle.lk_sizes.specs.Owners.{Taker, bytes_of, common_taker, commons_of, leading_of, owners_in, section_taker}
+use Rattle.lk_sizes.specs.Emitted.{has_content, is_told}
+use Rattle.lk_sizes.specs.Owners.{SectionOwner, Taker, bytes_of, common_taker, commons_of, leading_of, live_of, owners_in}
 
 -- of what is listed by part, that of a section's parts
 abbrev pub in_section : {X : Type 0} → List PlanSection → ℕ → List X → List X
 in_section sections s xs = slice_range xs (first_part sections s) (first_part sections (s + 1))
 
+-- whether symbols at the edges of a section are told, by marks of emitted ones
+abbrev pub edges_by : LinkInput → List Bool → ℕ → Bool
+edges_by link emitted s = is_marked emitted s && (not (is_partial link.options.output) || has_content link.plan s)
+
+-- how many emitted sections an event places, by marks of these
+abbrev pub placed_count : List Bool → OrderEvent → ℕ
+placed_count emitted e = option_map_or (λ s. if is_marked emitted s then 1 else 0) (placed_section e) 0
+
 -- the bytes that some takers bring to a part
 abbrev pub bytes_in : LinkInput → ℕ → List Taker → ℕ
 bytes_in link p ts = bytes_of (part_at link.plan.sections p) (owners_in p ts)
 
--- the bytes that live sections bring to a part
+-- a section with the size that it has in the description, in the part that it goes to
+abbrev pub own_taker : Input → Taker
+own_taker x = record { part = x.section.part; owner = SectionOwner x x.section.size }
+
+-- what takes bytes for a file where sections have such sizes
+abbrev pub own_file_takers : LinkInput → Live → NumberedFile → List Taker
+own_file_takers link live f = map own_taker (live_of link live f) ++ map common_taker (commons_of link live f)
+
+-- the bytes that live sections of such sizes bring to a part
 abbrev pub live_size : LinkInput → Live → ℕ → ℕ
-live_size link live p = bytes_in link p (map section_taker (live_inputs link live))
+live_size link live p = bytes_in link p (map own_taker (live_inputs link live))
 
 -- the bytes that commons bring to a part
 abbrev pub commons_size : LinkInput → ℕ → List Common → ℕ
@@ -79,7 +99,7 @@ live_below link live f k =
 abbrev pub section_place : LinkInput → Live → List ℕ → NumberedFile → ℕ × Input → ℕ
 section_place link live next f q =
     if is_marked live.marks (input_number link.groups q.1.file q.1.index)
-    then next_behind link next (map section_taker (live_below link live f q.0)) q.1.section.part
+    then next_behind link next (map own_taker (live_below link live f q.0)) q.1.section.part
     else 0
 
 abbrev pub section_places : LinkInput → Live → List ℕ → NumberedFile → List ℕ

@@ -1,10 +1,9 @@
 -- The owners of a part share out its bytes.
 use Rattle.std.specs.Prelude.{◌≡◌, ℕ, ◌+◌, ◌<◌, ◌≤◌, List, take, Some, slice_get, false}
 use Rattle.std.specs.Int.{◌∣◌}
-use Rattle.lk_link.specs.declared.link.LinkInput.{LinkInput}
 use Rattle.lk_link.specs.declared.plan.PlanPart.{PlanPart}
 use Rattle.lk_link.specs.WellFormed.{IsWellFormed}
-use Rattle.lk_sizes.specs.Owners.{Content, Owner, owner_address, owner_bytes, bytes_of}
+use Rattle.lk_sizes.specs.Owners.{Filling, Owner, bytes_of, owner_address, owner_bytes}
 use Rattle.lk_sizes.specs.PartOwners.{owners_of}
 use Rattle.lk_link.specs.PartRules.{is_table_part}
 use Rattle.lk_link.specs.Parts.{part_at}
@@ -24,11 +23,12 @@ pub record IsTiled (start : ℕ) (part : PlanPart) (owners : List Owner) : Type 
 
 -- the owners of each part tile it, wherever it starts
 abbrev pub OwnersTileTheirPart : Type 0
-OwnersTileTheirPart = (link : LinkInput) (content : Content) (p start : ℕ)
-    → IsTiled start (part_at link.plan.sections p) (owners_of link content p)
+OwnersTileTheirPart = (filling : Filling) (p start : ℕ)
+    → IsTiled start (part_at filling.content.link.plan.sections p) (owners_of filling p)
 
 -- where a part is no table part and isn't packed, each owner stands at a multiple of the alignment from the part's start
 abbrev pub OwnersAreAligned : Type 0
-OwnersAreAligned = (link : LinkInput) (content : Content) (p k : ℕ) → IsWellFormed link
-    → is_table_part link.plan.named p ≡ false → (part_at link.plan.sections p).packed ≡ false
-    → (part_at link.plan.sections p).alignment ∣ bytes_of (part_at link.plan.sections p) (take k (owners_of link content p))
+OwnersAreAligned = (filling : Filling) (p k : ℕ) → IsWellFormed filling.content.link
+    → is_table_part filling.content.link.plan.named p ≡ false → (part_at filling.content.link.plan.sections p).packed ≡ false
+    → (part_at filling.content.link.plan.sections p).alignment
+    ∣ bytes_of (part_at filling.content.link.plan.sections p) (take k (owners_of filling p))

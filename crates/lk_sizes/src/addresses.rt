@@ -18,9 +18,9 @@ ghost use Rattle.lk_link.specs.WellFormed.{IsWellFormed};
 ghost use Rattle.lk_gc.specs.Reach.{AreLive};
 ghost use Rattle.lk_sizes.specs.Addresses.{common_addresses, section_addresses};
 ghost use Rattle.lk_sizes.specs.Contents.{part_contents};
-ghost use Rattle.lk_sizes.specs.Owners.{all_commons, by_part, common_taker, content_of, has_image, live_of, section_taker};
+ghost use Rattle.lk_sizes.specs.Owners.{all_commons, by_part, common_taker, content_of, has_image, live_of, plain_filling};
 ghost use Rattle.lk_sizes.specs.PartOwners.{EndsFit};
-ghost use Rattle.lk_sizes.specs.Tables.{ArePassed, CommonsGo, HaveSpace, behind_leading, common_places, section_places};
+ghost use Rattle.lk_sizes.specs.Tables.{ArePassed, CommonsGo, HaveSpace, behind_leading, common_places, own_taker, section_places};
 
 use crate::commons::split_commons;
 use crate::owners::{PartContents, identity_bytes, identity_size, image_bytes, image_lens};
@@ -75,12 +75,12 @@ pub fn owner_addresses(
     requires live { AreLive link.now live.now }
     requires commons { listed.now ≡ all_commons link.now live.now }
     requires starts { length starts.now ≡ length (all_parts link.now.plan.sections) }
-    requires room { (sizes : TableSizes) × (contents.now ≡ part_contents link.now (content_of sizes live.now merged_lens.now))
-        × EndsFit link.now (content_of sizes live.now merged_lens.now) starts.now }
+    requires room { (sizes : TableSizes) × (contents.now ≡ part_contents (plain_filling (content_of link.now sizes live.now merged_lens.now)))
+        × EndsFit (plain_filling (content_of link.now sizes live.now merged_lens.now)) starts.now }
     ensures sections { (sizes : TableSizes) → IfOk result (λ told. told.sections.items
-        ≡ section_addresses link.now (content_of sizes live.now merged_lens.now) starts.now) }
+        ≡ section_addresses (plain_filling (content_of link.now sizes live.now merged_lens.now)) starts.now) }
     ensures commons { (sizes : TableSizes) → IfOk result (λ told. told.commons.items
-        ≡ common_addresses link.now (content_of sizes live.now merged_lens.now) starts.now) }
+        ≡ common_addresses (plain_filling (content_of link.now sizes live.now merged_lens.now)) starts.now) }
 {
     let mut next = behind_leading(alloc, link, merged_lens, contents, starts)?;
     let mut sections = Vec::with_capacity(alloc, live.marks.len())?;
@@ -107,8 +107,8 @@ fn place_sections(
     requires live { AreLive link.now live.now }
     requires there { file_in link.now.groups file.id ≡ Some file.file.now }
     requires count { length next.old ≡ length (all_parts link.now.plan.sections) }
-    requires space { HaveSpace link.now next.old (map section_taker (live_of link.now live.now (file_of file))) }
-    ensures moved { OnOk result (ArePassed link.now next.old (map section_taker (live_of link.now live.now (file_of file.entry))) next.new) }
+    requires space { HaveSpace link.now next.old (map own_taker (live_of link.now live.now (file_of file))) }
+    ensures moved { OnOk result (ArePassed link.now next.old (map own_taker (live_of link.now live.now (file_of file.entry))) next.new) }
     ensures told { OnOk result (addresses.new.items
         ≡ addresses.old.items ++ section_places link.now live.now next.old (file_of file.entry)) }
 {

@@ -9,7 +9,7 @@ ghost use Rattle.lk_gc.specs.Reach.{AreLive};
 ghost use Rattle.lk_gc.specs.declared.live.Live.{Live};
 ghost use Rattle.lk_sizes.specs.Attributes.{all_section_attributes, part_attributes};
 ghost use Rattle.lk_sizes.specs.Contents.{part_contents};
-ghost use Rattle.lk_sizes.specs.Owners.{Content, by_part};
+ghost use Rattle.lk_sizes.specs.Owners.{Filling, by_part, in_link};
 ghost use Rattle.lk_sizes.specs.Tables.{in_section};
 
 use crate::owners::{PartContents, PartTotal, add_inputs};
@@ -51,8 +51,8 @@ pub fn attributes_of_contents(
 ) -> Result<Vec<u32>, AllocError>
     requires good { IsWellFormed link.now }
     requires count { length contents.now ≡ length (all_parts link.now.plan.sections) }
-    ensures contents { (content : Content) → contents.now ≡ part_contents link.now content
-        → IfOk result (λ all. all.items ≡ all_section_attributes link.now content.live) }
+    ensures contents { (filling : Filling) → contents.now ≡ part_contents (in_link link.now filling)
+        → IfOk result (λ all. all.items ≡ all_section_attributes link.now filling.content.live) }
     ensures joined { (live : Live) → map (λ c. c.attrs) contents.now ≡ by_part (part_attributes link.now live) link.now
         → IfOk result (λ all. all.items ≡ all_section_attributes link.now live) }
 {

@@ -31,9 +31,9 @@ ghost use Rattle.lk_link.specs.TableSizes.{TableSizes};
 ghost use Rattle.lk_link.specs.WellFormed.{IsInRange, IsWellFormed};
 ghost use Rattle.lk_sizes.specs.Attributes.{by_section};
 ghost use Rattle.lk_tables.specs.HeaderParts.{event_sections};
-ghost use Rattle.lk_sizes.specs.Emitted.{can_be_emitted, is_emitted, is_kept, is_kept_by_symbol};
+ghost use Rattle.lk_sizes.specs.Emitted.{can_be_emitted, has_content, is_emitted, is_kept, is_kept_by_symbol};
 ghost use Rattle.lk_sizes.specs.Header.{header_info};
-ghost use Rattle.lk_sizes.specs.Tables.{active_by, in_section};
+ghost use Rattle.lk_sizes.specs.Tables.{active_by, edges_by, in_section, placed_count};
 ghost use Rattle.lk_sizes.specs.Owners.{AreFirstSizes, content_of};
 
 use crate::kept_symbols::mark_kept_by_symbols;
@@ -41,9 +41,10 @@ use lk_gc::Live;
 use lk_link::limits::{EVENTS, SEGMENTS};
 use lk_link::marks::is_marked;
 use lk_link::{
-    LinkInput, List, OrderEvent, OutputSectionId, Plan, PlanSections, PlanSegment, SegmentId,
+    LinkInput, List, OrderEvent, OutputSectionId, PartId, Plan, PlanSections, PlanSegment,
+    SegmentId,
 };
-use lk_tables::HeaderInfo;
+use lk_tables::{HeaderInfo, singleton_sizes};
 use std::alloc::{AllocError, Global};
 
 /// What the headers tell, by what is live and the first sizes of the parts in bytes (libwild: `determine_header_sizes`).
@@ -56,19 +57,25 @@ pub fn determine_header_sizes(
 ) -> Result<HeaderInfo, AllocError>
     requires good { IsWellFormed link.now }
     requires sizes { length first_sizes.now ≡ length (all_parts link.now.plan.sections) }
-    ensures header { (sizes : TableSizes) (lens : List ℕ) → AreFirstSizes link.now (content_of sizes live.now lens) first_sizes.now
-        → IfOk result (λ header. header ≡ header_info link.now (content_of sizes live.now lens)) }
-    ensures marks { (sizes : TableSizes) (lens : List ℕ) → AreFirstSizes link.now (content_of sizes live.now lens) first_sizes.now
-        → IfOk result (λ header. is_marked header.emitted ≡ is_emitted link.now (content_of sizes live.now lens)) }
+    ensures header { (sizes : TableSizes) (lens : List ℕ) → AreFirstSizes (content_of link.now sizes live.now lens) first_sizes.now
+        → IfOk result (λ header. header ≡ header_info (content_of link.now sizes live.now lens)) }
+    ensures marks { (sizes : TableSizes) (lens : List ℕ) → AreFirstSizes (content_of link.now sizes live.now lens) first_sizes.now
+        → IfOk result (λ header. is_marked header.emitted ≡ is_emitted (content_of link.now sizes live.now lens)) }
 {
     let emitted = mark_emitted(alloc, link, live, first_sizes)?;
     let indexes = index_emitted(alloc, &link.plan, &emitted)?;
     let insides = link.plan.sections_of_segments(alloc)?;
     let active = find_active(alloc, link, &emitted, &insides)?;
+    let told = mark_told(alloc, link, &emitted)?;
+    let (singletons, name_bytes) = singleton_sizes(link, live);
+    let count = count_emitted(link.plan.events.as_slice(), &emitted) + singletons;
     Ok(HeaderInfo {
         emitted: List::from_vec(emitted),
+        told: List::from_vec(told),
         output_section_indexes: List::from_vec(indexes),
         active_segment_ids: List::from_vec(active),
+        num_output_sections_with_content: count,
+        partial_link_section_name_bytes: name_bytes,
     })
 }
 
@@ -89,8 +96,8 @@ fn mark_emitted(
     requires good { IsWellFormed link.now }
     requires sizes { length first_sizes.now ≡ length (all_parts link.now.plan.sections) }
     ensures count { IfOk result (λ emitted. length emitted.items ≡ length link.now.plan.sections) }
-    ensures emitted { (sizes : TableSizes) (lens : List ℕ) → AreFirstSizes link.now (content_of sizes live.now lens) first_sizes.now
-        → IfOk result (λ emitted. emitted.items ≡ by_section (is_emitted link.now (content_of sizes live.now lens)) link.now) }
+    ensures emitted { (sizes : TableSizes) (lens : List ℕ) → AreFirstSizes (content_of link.now sizes live.now lens) first_sizes.now
+        → IfOk result (λ emitted. emitted.items ≡ by_section (is_emitted (content_of link.now sizes live.now lens)) link.now) }
 {
     let by_symbols = mark_kept_by_symbols(alloc, link, live)?;
     let kept = mark_kept(alloc, link, live, &by_symbols, first_sizes)?;
@@ -132,8 +139,8 @@ fn mark_kept(
     requires symbols { (s : ℕ) → s < length link.now.plan.sections → is_marked by_symbols.now s ≡ is_kept_by_symbol link.now live.now s }
     requires sizes { length first_sizes.now ≡ length (all_parts link.now.plan.sections) }
     ensures count { IfOk result (λ kept. length kept.items ≡ length link.now.plan.sections) }
-    ensures kept { (sizes : TableSizes) (lens : List ℕ) → AreFirstSizes link.now (content_of sizes live.now lens) first_sizes.now
-        → IfOk result (λ kept. kept.items ≡ by_section (is_kept link.now (content_of sizes live.now lens)) link.now) }
+    ensures kept { (sizes : TableSizes) (lens : List ℕ) → AreFirstSizes (content_of link.now sizes live.now lens) first_sizes.now
+        → IfOk result (λ kept. kept.items ≡ by_section (is_kept (content_of link.now sizes live.now lens)) link.now) }
 {
     let plan = &link.plan;
     let mut kept = Vec::with_capacity(alloc, plan.sections.len())?;
@@ -202,6 +209,68 @@ fn can_be_emitted(plan: &Plan, section: OutputSectionId) -> bool
 {
     let emit = plan.sections.as_slice()[section.as_usize()].emit;
     !emit.is_never() && !plan.is_singletons(section)
+}
+
+/// Whether a section has a part that is no table.
+fn has_content(plan: &Plan, section: usize) -> bool
+    requires within { section < length plan.now.sections }
+    requires few { length (all_parts plan.now.sections) < 2 ^ 32 }
+    ensures { result ≡ has_content plan.now section }
+{
+    let (first, behind) = plan.sections.part_range(section);
+    for part in first..behind {
+        if !plan.named.is_table_part(PartId::from_u32(part as u32)) {
+            return true;
+        }
+    }
+    false
+}
+
+/// Whether symbols at the edges of a section are told, by marks of emitted ones.
+fn tells_edges(link: &LinkInput, section: usize, emitted: &[bool]) -> bool
+    requires within { section < length link.now.plan.sections }
+    requires few { length (all_parts link.now.plan.sections) < 2 ^ 32 }
+    ensures { result ≡ edges_by link.now emitted.now section }
+{
+    is_marked(emitted, section)
+        && (!link.options.output.is_partial() || has_content(&link.plan, section))
+}
+
+/// For each output section whether symbols at its edges are told, by marks of emitted ones.
+fn mark_told(alloc: Global, link: &LinkInput, emitted: &[bool]) -> Result<Vec<bool>, AllocError>
+    requires few { length (all_parts link.now.plan.sections) < 2 ^ 32 }
+    ensures { IfOk result (λ told. told.items ≡ by_section (edges_by link.now emitted.now) link.now) }
+{
+    let sections = link.plan.sections.len();
+    let mut told = Vec::with_capacity(alloc, sections)?;
+    for number in 0..sections {
+        told.push(tells_edges(link, number, emitted))?;
+    }
+    Ok(told)
+}
+
+/// How many emitted sections an event places: one or none.
+fn placed_count(emitted: &[bool], event: &OrderEvent) -> u32
+    ensures { result ≡ placed_count emitted.now event.now }
+{
+    match event {
+        OrderEvent::Section(section) if is_marked(emitted, section.as_usize()) => 1,
+        _ => 0,
+    }
+}
+
+/// How many emitted sections events place.
+#[tactic(auto, using(std::proofs::lemmas::List::Sums::sum_by_more))]
+fn count_emitted(events: &[OrderEvent], emitted: &[bool]) -> u32
+    requires { length events.now ≤ EVENTS }
+    ensures count { result ≡ length (filter (is_marked emitted.now) (event_sections events.now)) }
+    ensures few { result ≤ EVENTS }
+{
+    let mut count = 0u32;
+    for event in events {
+        count = count.saturating_add(placed_count(emitted, event));
+    }
+    count
 }
 
 /// Gives an emitted section its index, if it has none yet.

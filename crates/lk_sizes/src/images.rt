@@ -5,7 +5,7 @@ ghost use Rattle.std.specs.Option.{option_map_or};
 ghost use Rattle.lk_link.specs.Parts.{all_parts};
 ghost use Rattle.lk_sizes.specs.Contents.{part_contents};
 ghost use Rattle.lk_sizes.specs.Images.{image_addresses};
-ghost use Rattle.lk_sizes.specs.Owners.{Content};
+ghost use Rattle.lk_sizes.specs.Owners.{Filling, in_link};
 
 use crate::owners::PartContents;
 use lk_link::LinkInput;
@@ -22,8 +22,8 @@ pub fn image_addresses(
 ) -> Result<Vec<u64>, AllocError>
     requires count { length contents.now ≡ length (all_parts link.now.plan.sections) }
     requires starts { length starts.now ≡ length (all_parts link.now.plan.sections) }
-    ensures { (content : Content) → contents.now ≡ part_contents link.now content
-        → IfOk result (λ addresses. addresses.items ≡ image_addresses link.now content starts.now) }
+    ensures { (filling : Filling) → contents.now ≡ part_contents (in_link link.now filling)
+        → IfOk result (λ addresses. addresses.items ≡ image_addresses (in_link link.now filling) starts.now) }
 {
     let sections = &link.plan.sections;
     let mut addresses = Vec::with_capacity(alloc, sections.len())?;

@@ -8,27 +8,11 @@ ghost use Rattle.lk_link.specs.Files.{file_in};
 ghost use Rattle.lk_link.specs.Marks.{is_marked};
 ghost use Rattle.lk_link.specs.Walks.{file_of};
 ghost use Rattle.lk_link.specs.WellFormed.{IsWellFormed};
-ghost use Rattle.lk_reach.specs.Placements.{edge_of};
 ghost use Rattle.lk_sizes.specs.Emitted.{file_keeps, is_kept_by_symbol, keeps, section_kept_by};
 
 use lk_gc::Live;
-use lk_link::{
-    FileKind, FileRef, InputSymbol, LinkInput, OutputSectionId, SymbolId, SymbolPlacement,
-};
-use lk_tables::is_wanted;
+use lk_link::{FileKind, FileRef, InputSymbol, LinkInput, OutputSectionId, SymbolId};
 use std::alloc::{AllocError, Global};
-
-/// The output section at whose start or end a placement is, or at the end of it and of those that are secondary to it.
-fn edge_of(at: &SymbolPlacement) -> Option<OutputSectionId>
-    ensures { result ≡ edge_of at.now }
-{
-    match at {
-        SymbolPlacement::SectionStart(output)
-        | SymbolPlacement::SectionEnd(output)
-        | SymbolPlacement::SectionGroupEnd(output) => Some(*output),
-        _ => None,
-    }
-}
 
 /// The output section that a symbol of a file of a kind, with its number, keeps.
 fn section_kept_by(
@@ -40,10 +24,10 @@ fn section_kept_by(
     ensures { result ≡ section_kept_by live.now kind (number, symbol.now) }
 {
     let flags = live.flags.as_slice().get(number.as_usize()).copied()?;
-    if !kind.is_prelude() || !is_wanted(kind, number, symbol, flags) {
+    if !kind.is_prelude() || !symbol.is_wanted(kind, number, flags) {
         return None;
     }
-    edge_of(&symbol.at)
+    symbol.at.edge_of()
 }
 
 /// Sets the mark of an output section, if there is one.

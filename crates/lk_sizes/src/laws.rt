@@ -2,7 +2,7 @@
 
 ghost use Rattle.lk_sizes.specs.Addresses.{CommonsRise, TableTellsLiveSections};
 ghost use Rattle.lk_sizes.specs.Images.{ImagesAreOwners, ImagesStandWhereInputsGo};
-ghost use Rattle.lk_sizes.specs.PartOwners.{CommonsAreOwners, EntriesAreOwners, IdentityIsOwner, LiveSectionsAreOwners, OwnersAreLive, OwnersStandOnce, TablePartsHaveEntriesAlone};
+ghost use Rattle.lk_sizes.specs.PartOwners.{CommonsAreOwners, EntriesAreOwners, IdentityIsOwner, LiveSectionsAreOwners, OwnersAreLive, OwnersStandOnce, TablePartsHaveEntriesAlone, ThunksAreOwners};
 ghost use Rattle.lk_sizes.specs.Tiles.{OwnersTileTheirPart, OwnersAreAligned};
 
 /// A law: the owners of a part tile it. Each byte of the part has one owner, and no owner reaches out of the part.
@@ -25,8 +25,8 @@ pub fn commons_are_owners()
     ensures { CommonsAreOwners }
 {}
 
-/// A law: each owner of a part is the image of its output section, the identity, a live section that goes to it, one of its commons, or
-/// an entry of a table there.
+/// A law: each owner of a part is the image of its output section, the identity, a live section that goes to it, one of its commons, the
+/// block of thunks that a file owns, or an entry of a table there.
 pub fn owners_are_live()
     ensures { OwnersAreLive }
 {}
@@ -59,6 +59,11 @@ pub fn table_parts_have_entries_alone()
 /// A law: each owner of a part stands there once, under its number.
 pub fn owners_stand_once()
     ensures { OwnersStandOnce }
+{}
+
+/// A law: the block of thunks that a file owns stands among the owners of the primary part under its number there.
+pub fn thunks_are_owners()
+    ensures { ThunksAreOwners }
 {}
 
 /// A law: the linker's identity stands among the owners of the part for comments, behind the image.

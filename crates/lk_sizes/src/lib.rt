@@ -18,8 +18,11 @@ pub use attributes::{attributes_of_contents, propagate_section_attributes};
 pub use error::SizeError;
 pub use header::determine_header_sizes;
 pub use images::image_addresses;
+pub use lk_gc::Live;
+pub use lk_link::{FileId, LinkInput, List, Place, Platform, SymbolId};
 pub use lk_tables::{
-    HeaderInfo, HeaderSizes, SymbolCopyInfo, dynamic_table, header_sizes, symbol_sizes,
+    Common, DynamicNumbers, FileShare, HeaderInfo, HeaderSizes, SymbolCopyInfo, TableTotals,
+    dynamic_table, header_sizes, symbol_sizes,
 };
 pub use owners::{PartContents, PartTotal, content_totals, first_sizes, part_contents};
 pub use part_owners::{PartOwners, part_sizes};

@@ -14,7 +14,6 @@ ghost use Rattle.lk_link.specs.Parts.{all_parts, part_sections};
 ghost use Rattle.lk_link.specs.Sizes.{capacity};
 ghost use Rattle.lk_link.specs.TableSizes.{TableSizes};
 ghost use Rattle.lk_link.specs.WellFormed.{IsWellFormed};
-ghost use Rattle.lk_link.specs.declared.link.LinkInput.{LinkInput};
 ghost use Rattle.lk_gc.specs.Reach.{AreLive};
 ghost use Rattle.lk_gc.specs.declared.live.Live.{Live};
 ghost use Rattle.lk_tables.specs.ShareWords.{first_shares};
@@ -22,7 +21,7 @@ ghost use Rattle.lk_tables.specs.TableLists.{TableLists};
 ghost use Rattle.lk_tables.specs.Totals.{totals_of};
 ghost use Rattle.lk_sizes.specs.Attributes.{part_attributes};
 ghost use Rattle.lk_sizes.specs.Contents.{AreContentTotals, GivesContents, part_contents};
-ghost use Rattle.lk_sizes.specs.Owners.{AreFirstSizes, Content, all_commons, content_of, has_image, identity_size};
+ghost use Rattle.lk_sizes.specs.Owners.{AreFirstSizes, Filling, all_commons, content_of, has_image, identity_size, in_link, plain_filling};
 ghost use Rattle.lk_sizes.specs.PartOwners.{part_sizes, tables_of};
 ghost use Rattle.lk_sizes.specs.Tables.{AreAdded, CommonsGo, commons_size, live_size, with_entries, with_tables};
 ghost use Rattle.lk_sizes.specs.declared.owners.PartTotal.{PartTotal};
@@ -215,8 +214,8 @@ pub fn part_contents(
 ) -> Result<List<PartContents>, SizeError>
     requires good { IsWellFormed link.now }
     requires count { length totals.now ≡ length (all_parts link.now.plan.sections) }
-    ensures { (content : Content) → AreContentTotals link.now content.live content.merged_lens totals.now
-        → tables.now ≡ totals_of (tables_of link.now content) → GivesContents link.now content result }
+    ensures { (filling : Filling) → AreContentTotals (in_link link.now filling) totals.now
+        → tables.now ≡ totals_of (tables_of (in_link link.now filling).content) → GivesContents (in_link link.now filling) result }
 {
     let whole = add_tables(alloc, link, totals, tables)?;
     let mut contents = Vec::with_capacity(alloc, whole.len())?;
@@ -267,9 +266,9 @@ pub fn first_sizes(
 ) -> Result<Vec<u64>, AllocError>
     requires good { IsWellFormed link.now }
     requires count { length totals.now ≡ length (all_parts link.now.plan.sections) }
-    ensures { (sizes : TableSizes) (live : Live) (merged_lens : List ℕ) → AreContentTotals link.now live merged_lens totals.now
-        → shares.now ≡ first_shares sizes link.now live
-        → IfOk result (λ first. AreFirstSizes link.now (content_of sizes live merged_lens) first.items) }
+    ensures { (sizes : TableSizes) (live : Live) (merged_lens : List ℕ)
+        → AreContentTotals (plain_filling (content_of link.now sizes live merged_lens)) totals.now → shares.now ≡ first_shares sizes link.now live
+        → IfOk result (λ first. AreFirstSizes (content_of link.now sizes live merged_lens) first.items) }
 {
     let tables = first_totals(link, shares);
     let whole = add_tables(alloc, link, totals, &tables)?;
@@ -301,7 +300,8 @@ pub fn content_totals(
     requires good { IsWellFormed link.now }
     requires live { AreLive link.now live.now }
     requires commons { commons.now ≡ all_commons link.now live.now }
-    ensures { IfOk result (λ totals. AreContentTotals link.now live.now merged_lens.now totals.items) }
+    ensures { (sizes : TableSizes)
+        → IfOk result (λ totals. AreContentTotals (plain_filling (content_of link.now sizes live.now merged_lens.now)) totals.items) }
 {
     let parts = link.plan.sections.parts();
     let lens = image_lens(alloc, link.plan.sections.as_slice(), merged_lens)?;
@@ -427,8 +427,8 @@ pub(crate) fn sizes_of_contents(
     contents: &[PartContents],
 ) -> Result<Vec<u64>, AllocError>
     ensures bytes { IfOk result (λ sizes. sizes.items ≡ map (λ c. c.bytes) contents.now) }
-    ensures sizes { (link : LinkInput) (content : Content) → contents.now ≡ part_contents link content
-        → IfOk result (λ sizes. sizes.items ≡ part_sizes link content) }
+    ensures sizes { (filling : Filling) → contents.now ≡ part_contents filling
+        → IfOk result (λ sizes. sizes.items ≡ part_sizes filling) }
 {
     let mut sizes = Vec::with_capacity(alloc, contents.len())?;
     for part in contents {

@@ -13,7 +13,8 @@ use Rattle.lk_link.specs.TableSizes.{TableSizes}
 use Rattle.lk_gc.specs.declared.live.Live.{Live}
 use Rattle.lk_reach.specs.Units.{flags_from}
 use Rattle.lk_tables.specs.declared.shares.FileShare.{FileShare}
-use Rattle.lk_tables.specs.Copied.{is_canonical, is_copied, is_copied_undefined, is_named, is_wanted}
+use Rattle.lk_link.specs.Symbols.{is_canonical, is_named, is_wanted}
+use Rattle.lk_tables.specs.Copied.{is_copied, is_copied_undefined}
 use Rattle.lk_tables.specs.Dynamic.{is_dynamic_symbol}
 use Rattle.lk_tables.specs.HeaderParts.{told_sum}
 use Rattle.lk_tables.specs.Late.{flags_at, is_late_place, late_flags}
@@ -46,11 +47,11 @@ dynamic_alike link live told f q h =
 -- ---- a number of what a file brings that waits for the marks
 
 -- it is a sum over symbols, which the marks change in the prelude alone
-pub record IsLate (sizes : TableSizes) (link : LinkInput) (live : Live) (col : FileShare → ℕ) (own : ℕ) (each : List Bool → NumberedFile → ℕ) : Type 0 where
+pub record IsLate (sizes : TableSizes) (link : LinkInput) (live : Live) (col : FileShare → ℕ) (own : List Bool → ℕ) (each : List Bool → NumberedFile → ℕ) : Type 0 where
   pub early : (s : FileShare) → col (early_part s) ≡ 0
   pub late : (s : FileShare) → col (late_part s) ≡ col s
   pub both : (a b : FileShare) → col (plus a b) ≡ told_sum (col a + col b)
-  pub table : col (table_share link sizes.symbol_entry) ≡ own
+  pub table : (told : List Bool) → told_sum (col (table_share link live sizes.symbol_entry told)) ≡ told_sum (own told)
   pub none : col no_share ≡ 0
   pub share : (told : List Bool) (f : NumberedFile) → col (file_share sizes link live told f) ≡ told_sum (each told f)
   pub alike : (told : List Bool) (f : NumberedFile) → is_prelude f.file.kind ≡ false → each told f ≡ each [] f
@@ -59,19 +60,23 @@ pub record IsLate (sizes : TableSizes) (link : LinkInput) (live : Live) (col : F
 abbrev pub own_of : ℕ → NumberedFile → ℕ
 own_of own f = if is_prelude f.file.kind then own else 0
 
+-- what is told of two numbers goes by what is told of one
+pub told_plus : (a b c d : ℕ) → told_sum a ≡ told_sum b → c ≡ d → told_sum (a + c) ≡ told_sum (b + d)
+told_plus a b c d h i = omega (arith, h, i)
+
 -- first the other files
-late_first : (sizes : TableSizes) (link : LinkInput) (live : Live) (col : FileShare → ℕ) (own : ℕ) (each : List Bool → NumberedFile → ℕ)
+late_first : (sizes : TableSizes) (link : LinkInput) (live : Live) (col : FileShare → ℕ) (own : List Bool → ℕ) (each : List Bool → NumberedFile → ℕ)
     → IsLate sizes link live col own each → (f : NumberedFile)
-    → told_sum (col (brought_first sizes link live f)) ≡ told_sum (if not (is_prelude f.file.kind) then each [] f + own_of own f else 0)
+    → told_sum (col (brought_first sizes link live f)) ≡ told_sum (if not (is_prelude f.file.kind) then each [] f + own_of (own []) f else 0)
 late_first sizes link live col own each is f = by_kind (is_prelude f.file.kind) refl
   where
     by_kind : (b : Bool) → is_prelude f.file.kind ≡ b
-        → told_sum (col (brought_first sizes link live f)) ≡ told_sum (if not (is_prelude f.file.kind) then each [] f + own_of own f else 0)
+        → told_sum (col (brought_first sizes link live f)) ≡ told_sum (if not (is_prelude f.file.kind) then each [] f + own_of (own []) f else 0)
     by_kind true h =
         let s = file_share sizes link live [] f in
         ap (λ b. told_sum (col (if b then early_part s else s))) h
         ∙ ap told_sum (is.early s)
-        ∙ ap (λ b. told_sum (if not b then each [] f + (if b then own else 0) else 0)) (sym h)
+        ∙ ap (λ b. told_sum (if not b then each [] f + (if b then own [] else 0) else 0)) (sym h)
     by_kind false h =
         let s = file_share sizes link live [] f in
         let more : each [] f ≡ each [] f + 0 = omega arith in
@@ -79,34 +84,33 @@ late_first sizes link live col own each is f = by_kind (is_prelude f.file.kind) 
         ∙ ap told_sum (is.share [] f)
         ∙ told_again (each [] f)
         ∙ ap told_sum more
-        ∙ ap (λ b. told_sum (if not b then each [] f + (if b then own else 0) else 0)) (sym h)
+        ∙ ap (λ b. told_sum (if not b then each [] f + (if b then own [] else 0) else 0)) (sym h)
 
 -- and behind that the prelude
-late_whole : (sizes : TableSizes) (link : LinkInput) (live : Live) (col : FileShare → ℕ) (own : ℕ) (each : List Bool → NumberedFile → ℕ)
+late_whole : (sizes : TableSizes) (link : LinkInput) (live : Live) (col : FileShare → ℕ) (own : List Bool → ℕ) (each : List Bool → NumberedFile → ℕ)
     → IsLate sizes link live col own each → (told : List Bool) (f : NumberedFile)
-    → told_sum (col (brought_first sizes link live f) + col (brought_late sizes link live told f)) ≡ told_sum (each told f + own_of own f)
+    → told_sum (col (brought_first sizes link live f) + col (brought_late sizes link live told f)) ≡ told_sum (each told f + own_of (own told) f)
 late_whole sizes link live col own each is told f = by_kind (is_prelude f.file.kind) refl
   where
     by_kind : (b : Bool) → is_prelude f.file.kind ≡ b
-        → told_sum (col (brought_first sizes link live f) + col (brought_late sizes link live told f)) ≡ told_sum (each told f + own_of own f)
+        → told_sum (col (brought_first sizes link live f) + col (brought_late sizes link live told f)) ≡ told_sum (each told f + own_of (own told) f)
     by_kind true h =
         let s = file_share sizes link live [] f in
         let t = file_share sizes link live told f in
         let first : col (brought_first sizes link live f) ≡ 0 = ap (λ b. col (if b then early_part s else s)) h ∙ is.early s in
-        let behind : col (brought_late sizes link live told f) ≡ told_sum (own + col t)
-        = ap (λ b. col (if b then plus (table_share link sizes.symbol_entry) (late_part t) else no_share)) h
-        ∙ is.both (table_share link sizes.symbol_entry) (late_part t)
-        ∙ ap (λ n. told_sum (n + col (late_part t))) is.table
-        ∙ ap (λ n. told_sum (own + n)) (is.late t) in
-        let mine : own_of own f ≡ own = ap (λ b. if b then own else 0) h in
+        let behind : col (brought_late sizes link live told f) ≡ told_sum (own told + col t)
+        = ap (λ b. col (if b then plus (table_share link live sizes.symbol_entry told) (late_part t) else no_share)) h
+        ∙ is.both (table_share link live sizes.symbol_entry told) (late_part t)
+        ∙ told_plus (col (table_share link live sizes.symbol_entry told)) (own told) (col (late_part t)) (col t) (is.table told) (is.late t) in
+        let mine : own_of (own told) f ≡ own told = ap (λ b. if b then own told else 0) h in
         omega (arith, first, behind, is.share told f, mine)
     by_kind false h =
         let s = file_share sizes link live [] f in
         let t = file_share sizes link live told f in
         let first : col (brought_first sizes link live f) ≡ col s = ap (λ b. col (if b then early_part s else s)) h in
         let behind : col (brought_late sizes link live told f) ≡ 0
-        = ap (λ b. col (if b then plus (table_share link sizes.symbol_entry) (late_part t) else no_share)) h ∙ is.none in
-        let mine : own_of own f ≡ 0 = ap (λ b. if b then own else 0) h in
+        = ap (λ b. col (if b then plus (table_share link live sizes.symbol_entry told) (late_part t) else no_share)) h ∙ is.none in
+        let mine : own_of (own told) f ≡ 0 = ap (λ b. if b then own told else 0) h in
         omega (arith, first, behind, is.share [] f, is.alike told f h, mine)
 
 -- ---- over all files
@@ -119,9 +123,9 @@ first_sum sizes link live col = told_sum (sum_by col (all_brought_first sizes li
 abbrev pub late_sum : TableSizes → LinkInput → Live → List Bool → (FileShare → ℕ) → ℕ
 late_sum sizes link live told col = told_sum (sum_by col (map (brought_late sizes link live told) (numbered_files link.groups)))
 
-pub late_first_total : (sizes : TableSizes) (link : LinkInput) (live : Live) (col : FileShare → ℕ) (own : ℕ) (each : List Bool → NumberedFile → ℕ)
+pub late_first_total : (sizes : TableSizes) (link : LinkInput) (live : Live) (col : FileShare → ℕ) (own : List Bool → ℕ) (each : List Bool → NumberedFile → ℕ)
     (g : List Bool → NumberedFile → List TableEntry) → IsLate sizes link live col own each
-    → ((told : List Bool) (f : NumberedFile) → entry_bytes (g told f) ≡ each told f + own_of own f)
+    → ((told : List Bool) (f : NumberedFile) → entry_bytes (g told f) ≡ each told f + own_of (own told) f)
     → first_sum sizes link live col ≡ told_sum (entry_bytes (flat_map (g []) (other_files link)))
 late_first_total sizes link live col own each g is bytes =
     let files = numbered_files link.groups in
@@ -138,9 +142,9 @@ late_first_total sizes link live col own each g is bytes =
     bytes_if true es = refl
     bytes_if false es = refl
 
-pub late_whole_total : (sizes : TableSizes) (link : LinkInput) (live : Live) (col : FileShare → ℕ) (own : ℕ) (each : List Bool → NumberedFile → ℕ)
+pub late_whole_total : (sizes : TableSizes) (link : LinkInput) (live : Live) (col : FileShare → ℕ) (own : List Bool → ℕ) (each : List Bool → NumberedFile → ℕ)
     (g : List Bool → NumberedFile → List TableEntry) → IsLate sizes link live col own each
-    → ((told : List Bool) (f : NumberedFile) → entry_bytes (g told f) ≡ each told f + own_of own f)
+    → ((told : List Bool) (f : NumberedFile) → entry_bytes (g told f) ≡ each told f + own_of (own told) f)
     → (told : List Bool)
     → told_sum (first_sum sizes link live col + late_sum sizes link live told col) ≡ told_sum (entry_bytes (flat_map (g told) (numbered_files link.groups)))
 late_whole_total sizes link live col own each g is bytes told =
@@ -161,7 +165,7 @@ pub record IsEarly (sizes : TableSizes) (link : LinkInput) (live : Live) (col : 
   pub early : (s : FileShare) → col (early_part s) ≡ col s
   pub late : (s : FileShare) → col (late_part s) ≡ 0
   pub both : (a b : FileShare) → col (plus a b) ≡ told_sum (col a + col b)
-  pub table : col (table_share link sizes.symbol_entry) ≡ 0
+  pub table : (told : List Bool) → col (table_share link live sizes.symbol_entry told) ≡ 0
   pub none : col no_share ≡ 0
   pub share : (f : NumberedFile) → col (file_share sizes link live [] f) ≡ told_sum (entry_bytes (g f))
 
@@ -187,10 +191,10 @@ pub none_behind : (sizes : TableSizes) (link : LinkInput) (live : Live) (col : F
     → IsEarly sizes link live col g → (told : List Bool) (f : NumberedFile) → col (brought_late sizes link live told f) ≡ 0
 none_behind sizes link live col g is told f = by_kind (is_prelude f.file.kind)
   where
-    by_kind : (b : Bool) → col (if b then plus (table_share link sizes.symbol_entry) (late_part (file_share sizes link live told f)) else no_share) ≡ 0
+    by_kind : (b : Bool) → col (if b then plus (table_share link live sizes.symbol_entry told) (late_part (file_share sizes link live told f)) else no_share) ≡ 0
     by_kind true =
         let t = file_share sizes link live told f in
-        omega (arith, is.both (table_share link sizes.symbol_entry) (late_part t), is.table, is.late t)
+        omega (arith, is.both (table_share link live sizes.symbol_entry told) (late_part t), is.table told, is.late t)
     by_kind false = is.none
 
 pub no_sum : {X : Type 0} (f : X → ℕ) (xs : List X) → ((x : X) → f x ≡ 0) → sum_by f xs ≡ 0

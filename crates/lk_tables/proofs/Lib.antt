@@ -14,6 +14,7 @@ pub mod PartBytes
 pub mod PartLists
 pub mod ShareSums
 pub mod ShareTies
+pub mod SingletonLemmas
 pub mod SymtabTotals
 pub mod TableLength
 pub mod TableSums

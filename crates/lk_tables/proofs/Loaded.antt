@@ -7,7 +7,6 @@ use Rattle.lk_link.specs.declared.link.LinkInput.{LinkInput}
 use Rattle.lk_link.specs.declared.section.InputSection.{InputSection}
 use Rattle.lk_link.specs.declared.section.InputSlot.{InputSlot}
 use Rattle.lk_link.specs.declared.section.InputSlot.TheVariants as slot
-use Rattle.lk_link.specs.declared.section.SectionSlot.{SectionSlot}
 use Rattle.lk_link.specs.declared.section.SectionSlot.TheVariants as after
 use Rattle.lk_link.specs.InputSlots.{is_discarded, is_merge}
 use Rattle.lk_link.specs.Inputs.{NumberedFile, input_number}

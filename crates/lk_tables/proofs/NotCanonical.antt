@@ -13,7 +13,8 @@ use Rattle.lk_link.specs.OutputKinds.{is_partial}
 use Rattle.lk_link.specs.SymbolPlacements.{is_common, is_undefined}
 use Rattle.lk_link.specs.TableSizes.{TableSizes}
 use Rattle.lk_gc.specs.declared.live.Live.{Live}
-use Rattle.lk_tables.specs.Copied.{can_resolve, is_canonical, is_copied, is_copied_undefined, is_in_loaded, is_named, is_wanted, may_stay, stands_for_something}
+use Rattle.lk_link.specs.Symbols.{can_resolve, is_canonical, is_named, is_wanted}
+use Rattle.lk_tables.specs.Copied.{is_copied, is_copied_undefined, is_in_loaded, may_stay, stands_for_something}
 use Rattle.lk_tables.specs.Dynamic.{exports, is_dynamic_symbol, is_redirect}
 use Rattle.lk_tables.specs.Late.{flags_at, late_flags}
 use Rattle.lk_tables.specs.ShareSteps.{dynamic_share, entry_share, no_share, symbol_share, symtab_share}

@@ -260,7 +260,7 @@ pub count_is : (sizes : TableSizes) (link : LinkInput) (live : Live) (told : Lis
 count_is sizes link live told shares prelude h i =
     let one : ℕ × InputSymbol → TableEntry = entry_of 1 in
     let each : List Bool → NumberedFile → List TableEntry = λ told f. map one (filter (is_dynamic_symbol link live told f) (symbols_by_number link f)) in
-    let sum = late_whole_total sizes link live (λ s. s.dynamic.count) 0 _ each (are_dynamic_counts sizes link live) (dynamic_bytes link live one) told in
+    let sum = late_whole_total sizes link live (λ s. s.dynamic.count) (λ marks. 0) _ each (are_dynamic_counts sizes link live) (dynamic_bytes link live one) told in
     let list : flat_map (each told) (numbered_files link.groups) ≡ map (value_of one) (filter (is_dynamic_one link live told) (rows link))
     = by_number (is_dynamic_symbol link live told) one link in
     ap (λ (xs : List FileShare). (plus (sum_of xs) prelude).dynamic.count) h

@@ -7,15 +7,16 @@ use Rattle.std.proofs.lemmas.List.Sums.{sum_by-append, sum_by-cons}
 use Rattle.lk_link.specs.declared.link.LinkInput.{LinkInput}
 use Rattle.lk_link.specs.declared.symbol.InputSymbol.{InputSymbol}
 use Rattle.lk_link.specs.FileKinds.{is_prelude}
-use Rattle.lk_link.specs.Inputs.{NumberedFile, numbered_files}
-use Rattle.lk_link.specs.OutputKinds.{is_loaded_dynamically}
+use Rattle.lk_link.specs.Inputs.{Input, NumberedFile, numbered_files}
+use Rattle.lk_link.specs.OutputKinds.{is_loaded_dynamically, is_partial}
 use Rattle.lk_gc.specs.declared.live.Live.{Live}
 use Rattle.lk_reach.specs.Units.{numbered_symbols}
 use Rattle.lk_tables.specs.Dynamic.{is_dynamic_symbol, is_export}
 use Rattle.lk_tables.specs.OwnEntries.{is_of}
 use Rattle.lk_tables.specs.ShareWords.{has_entry_there}
+use Rattle.lk_tables.specs.Singletons.{singletons, told_sections}
 use Rattle.lk_tables.specs.SymbolEntries.{allocated, is_resolved}
-use Rattle.lk_tables.specs.SymbolTable.{SymbolEntry, TableEntry, entry_of, first_entry, is_local_entry, name_of, symbols_by_number, table_start, table_symbols}
+use Rattle.lk_tables.specs.SymbolTable.{SymbolEntry, TableEntry, entry_of, first_entry, is_local_entry, local_start, name_of, section_entry, section_symbols, singleton_entry, symbols_by_number, table_start, table_symbols}
 use Rattle.lk_tables.specs.OwnTables.{SymbolsHaveOwnEntries, one_if}
 use Rattle.lk_tables.specs.TableLists.{file_dynamic_entries, file_dynamic_names, file_export_entries, file_export_names}
 use Rattle.lk_tables.proofs.BySymbol.{by_number, passes_of}
@@ -98,9 +99,35 @@ count_behind s start each (f ∷ files) none =
     let those = sum_by-append (λ e. cond (is_of s e) 1 0) (each f) (flat_map each files) in
     omega (arith, all, these, both, rest, those, none f, count_behind s start each files none)
 
-start_counts : (s n : ℕ) (b : Bool) → count_by (is_of s) (if b then first_entry n ∷ [] else []) ≡ 0
-start_counts s n true = refl
-start_counts s n false = refl
+start_counts : (s : ℕ) (b : Bool) (own : List TableEntry) → count_by (is_of s) own ≡ 0 → count_by (is_of s) (if b then own else []) ≡ 0
+start_counts s true own none = none
+start_counts s false own none = refl
+
+-- entries of sections are no symbol's
+none_of_sections : {X : Type 0} (s : ℕ) (g : X → TableEntry) (xs : List X) → ((x : X) → is_of s (g x) ≡ false) → count_by (is_of s) (map g xs) ≡ 0
+none_of_sections s g [] none = refl
+none_of_sections s g (x ∷ xs) none =
+    let here : ◌≡◌ {A = ℕ} (cond (is_of s (g x)) 1 0) 0 = ap {B = ℕ} (λ b. cond b 1 0) (none x) in
+    omega (arith, sum_by-cons (λ e. cond (is_of s e) 1 0) (g x) (map g xs), here, none_of_sections s g xs none)
+
+none_again : (s entry : ℕ) (again : Bool) (ss : List ℕ) (xs : List Input)
+    → count_by (is_of s) (if again then map (section_entry entry) ss ++ map (singleton_entry entry) xs else []) ≡ 0
+none_again s entry true ss xs =
+    omega (
+      arith,
+      sum_by-append (λ e. cond (is_of s e) 1 0) (map (section_entry entry) ss) (map (singleton_entry entry) xs),
+      none_of_sections s (section_entry entry) ss (λ x. refl),
+      none_of_sections s (singleton_entry entry) xs (λ x. refl),
+    )
+none_again s entry false ss xs = refl
+
+none_itself : (s entry : ℕ) (link : LinkInput) (live : Live) (told : List Bool) → count_by (is_of s) (local_start entry link live told) ≡ 0
+none_itself s entry link live told =
+    omega (
+      arith,
+      sum_by-cons (λ e. cond (is_of s e) 1 0) (first_entry entry) (section_symbols entry link live told),
+      none_again s entry (is_partial link.options.output) (told_sections link told) (singletons link live),
+    )
 
 pub same_flat : {X Y : Type 0} (g h : X → List Y) (xs : List X) → ((x : X) → g x ≡ h x) → flat_map g xs ≡ flat_map h xs
 same_flat g h [] same = refl
@@ -147,13 +174,13 @@ symbols_have_own_entries sizes link live told emitted active s f x at =
     record {
       got = own_of_files (λ g. is_resolved live g.file.kind) (λ q. (allocated sizes.allocation live q).got) link s f x at;
       plt = own_of_files (λ g. is_resolved live g.file.kind) (λ q. (allocated sizes.allocation live q).plt) link s f x at;
-      symtab_local = count_behind s (λ g. table_start link g entry)
+      symtab_local = count_behind s (λ g. table_start link g (local_start entry link live told))
           (λ g. map (entry_of entry) (filter (is_local_entry g.file.kind) (table_symbols link live told g))) files
-          (λ g. start_counts s entry (is_prelude g.file.kind && not link.options.strip_all))
+          (λ g. start_counts s (is_prelude g.file.kind && not link.options.strip_all) (local_start entry link live told) (none_itself s entry link live told))
           ∙ own_of_kind entry link live told (λ g. is_local_entry g.file.kind) s f x at;
       symtab_global = own_of_kind entry link live told (λ g q. not (is_local_entry g.file.kind q)) s f x at;
-      strtab = count_behind s (λ g. table_start link g 1) (λ g. map name_of (table_symbols link live told g)) files
-          (λ g. start_counts s 1 (is_prelude g.file.kind && not link.options.strip_all))
+      strtab = count_behind s (λ g. table_start link g (first_entry 1 ∷ [])) (λ g. map name_of (table_symbols link live told g)) files
+          (λ g. start_counts s (is_prelude g.file.kind && not link.options.strip_all) (first_entry 1 ∷ []) refl)
           ∙ own_names link live told s f x at;
       dynsym = if_loaded (is_loaded_dynamically link.options.output) (is_dynamic_symbol link live told f (s, x)) (is_export live f (s, x)) s entry
           (flat_map (file_dynamic_entries entry link live told) files) (flat_map (file_export_entries entry link live) files)

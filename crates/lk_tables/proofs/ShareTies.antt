@@ -1,5 +1,5 @@
 -- What symbols bring, added up, is what the entries of their file take.
-use Rattle.std.proofs.Common.{◌≡◌, ℕ, ◌+◌, Bool, true, false, if◌then◌else◌, List, [], ◌∷◌, ◌++◌, filter, length, map, sum_by, refl, sym, ap, ◌∙◌, arith, length-append}
+use Rattle.std.proofs.Common.{◌≡◌, ℕ, ◌+◌, Bool, true, false, if◌then◌else◌, List, [], ◌∷◌, filter, length, map, sum_by, refl, sym, ap, ◌∙◌, arith, length-append}
 use Rattle.std.specs.List.{flat_map}
 use Rattle.std.proofs.lemmas.List.Concat.{flat_map-cons}
 use Rattle.std.proofs.lemmas.List.Sums.{sum_by-append, sum_by-cons}
@@ -19,7 +19,7 @@ use Rattle.lk_tables.specs.ShareWords.{dynamic_taken, entries_taken, first_share
 use Rattle.lk_tables.specs.SymbolEntries.{got_entries, plt_entries}
 use Rattle.lk_tables.specs.SymbolTable.{TableEntry, entry_bytes, entry_of, global_entries, local_entries, name_entries, name_of, symbols_by_number}
 use Rattle.lk_tables.specs.TableLists.{file_dynamic_entries, file_dynamic_names, file_export_entries, file_export_names}
-use Rattle.lk_tables.proofs.Columns.{IsEarly, IsLate, no_sum, none_behind, own_of}
+use Rattle.lk_tables.proofs.Columns.{IsEarly, IsLate, no_sum, none_behind, own_of, told_plus}
 use Rattle.lk_tables.proofs.ShareSums.{entries_of_some, made_dynamic, made_entries, made_share, made_symtab, sum_made, told_entries}
 use Rattle.lk_tables.proofs.TableSums.{sum_passing}
 use Rattle.lk_tables.proofs.TotalLemmas.{are_dynamic_counts, are_dynamic_names, are_export_names, are_exports, are_names, dynamic_bytes, global_bytes, is_dynamic_entries, is_global, is_got, is_local, is_plt, local_bytes, name_bytes}
@@ -53,7 +53,7 @@ are_export_counts sizes link live = record {
   early = λ s. refl;
   late = λ s. refl;
   both = λ a b. refl;
-  table = refl;
+  table = λ told. refl;
   none = refl;
   share = λ f. ap told_sum (sum_made (λ s. s.exports.count) (symbol_share sizes link live [] f) (symbols_by_number link f)
       ∙ sym (sum_passing (is_export live f) (entry_of 1) (symbols_by_number link f)));
@@ -62,12 +62,12 @@ are_export_counts sizes link live = record {
 -- ---- first
 
 -- what waits for the marks, of another file than the prelude
-late_column : (sizes : TableSizes) (link : LinkInput) (live : Live) (col : FileShare → ℕ) (own : ℕ) (each : List Bool → NumberedFile → ℕ)
+late_column : (sizes : TableSizes) (link : LinkInput) (live : Live) (col : FileShare → ℕ) (own : List Bool → ℕ) (each : List Bool → NumberedFile → ℕ)
     (g : List Bool → NumberedFile → List TableEntry) → IsLate sizes link live col own each
-    → ((told : List Bool) (f : NumberedFile) → entry_bytes (g told f) ≡ each told f + own_of own f)
+    → ((told : List Bool) (f : NumberedFile) → entry_bytes (g told f) ≡ each told f + own_of (own told) f)
     → (f : NumberedFile) → is_prelude f.file.kind ≡ false → told_sum (entry_bytes (g [] f)) ≡ col (file_share sizes link live [] f)
 late_column sizes link live col own each g is bytes f h =
-    let mine : own_of own f ≡ 0 = ap (λ b. if b then own else 0) h in
+    let mine : own_of (own []) f ≡ 0 = ap (λ b. if b then own [] else 0) h in
     omega (arith, bytes [] f, mine, is.share [] f)
 
 pub first_share_is : (sizes : TableSizes) (link : LinkInput) (live : Live) (f : NumberedFile) → first_share sizes link live f ≡ brought_first sizes link live f
@@ -135,9 +135,9 @@ first_shares_are sizes link live = same_map (first_share sizes link live) (broug
 -- ---- behind that
 
 -- what waits for the marks, of the prelude
-late_sum : (sizes : TableSizes) (link : LinkInput) (live : Live) (col : FileShare → ℕ) (own : ℕ) (each : List Bool → NumberedFile → ℕ)
+late_sum : (sizes : TableSizes) (link : LinkInput) (live : Live) (col : FileShare → ℕ) (own : List Bool → ℕ) (each : List Bool → NumberedFile → ℕ)
     (g : List Bool → NumberedFile → List TableEntry) → IsLate sizes link live col own each
-    → ((told : List Bool) (f : NumberedFile) → entry_bytes (g told f) ≡ each told f + own_of own f)
+    → ((told : List Bool) (f : NumberedFile) → entry_bytes (g told f) ≡ each told f + own_of (own told) f)
     → (told : List Bool)
     → told_sum (entry_bytes (flat_map (g told) (preludes link))) ≡ told_sum (sum_by col (map (brought_late sizes link live told) (numbered_files link.groups)))
 late_sum sizes link live col own each g is bytes told =
@@ -152,18 +152,17 @@ late_sum sizes link live col own each g is bytes told =
         → told_sum (col (brought_late sizes link live told f)) ≡ told_sum (entry_bytes (if is_prelude f.file.kind then g told f else []))
     by_kind f true h =
         let t = file_share sizes link live told f in
-        let behind : col (brought_late sizes link live told f) ≡ told_sum (own + col t)
-        = ap (λ b. col (if b then plus (table_share link sizes.symbol_entry) (late_part t) else no_share)) h
-        ∙ is.both (table_share link sizes.symbol_entry) (late_part t)
-        ∙ ap (λ n. told_sum (n + col (late_part t))) is.table
-        ∙ ap (λ n. told_sum (own + n)) (is.late t) in
-        let mine : own_of own f ≡ own = ap (λ b. if b then own else 0) h in
+        let behind : col (brought_late sizes link live told f) ≡ told_sum (own told + col t)
+        = ap (λ b. col (if b then plus (table_share link live sizes.symbol_entry told) (late_part t) else no_share)) h
+        ∙ is.both (table_share link live sizes.symbol_entry told) (late_part t)
+        ∙ told_plus (col (table_share link live sizes.symbol_entry told)) (own told) (col (late_part t)) (col t) (is.table told) (is.late t) in
+        let mine : own_of (own told) f ≡ own told = ap (λ b. if b then own told else 0) h in
         let all : entry_bytes (if is_prelude f.file.kind then g told f else []) ≡ entry_bytes (g told f) = ap (λ b. entry_bytes (if b then g told f else [])) h in
         omega (arith, behind, is.share told f, mine, bytes told f, all)
     by_kind f false h =
         let t = file_share sizes link live told f in
         let behind : col (brought_late sizes link live told f) ≡ 0
-        = ap (λ b. col (if b then plus (table_share link sizes.symbol_entry) (late_part t) else no_share)) h ∙ is.none in
+        = ap (λ b. col (if b then plus (table_share link live sizes.symbol_entry told) (late_part t) else no_share)) h ∙ is.none in
         let none : entry_bytes (if is_prelude f.file.kind then g told f else []) ≡ 0 = ap (λ b. entry_bytes (if b then g told f else [])) h in
         omega (arith, behind, none)
 

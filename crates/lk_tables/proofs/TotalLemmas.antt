@@ -1,5 +1,5 @@
 -- The totals are the bytes of the tables.
-use Rattle.std.proofs.Common.{◌≡◌, ℕ, ◌+◌, ◌≤◌, ◌&&◌, not, Bool, true, false, if◌then◌else◌, List, [], ◌∷◌, ◌++◌, filter, length, map, sum_by, refl, sym, ap, ◌∙◌, arith, subst}
+use Rattle.std.proofs.Common.{◌≡◌, ℕ, ◌+◌, ◌*◌, ◌≤◌, ◌&&◌, not, Bool, true, false, if◌then◌else◌, List, [], ◌∷◌, ◌++◌, filter, length, map, sum_by, refl, sym, ap, ◌∙◌, arith, subst}
 use Rattle.std.specs.List.{flat_map}
 use Rattle.std.proofs.lemmas.List.Sums.{sum_by-append, sum_by-cons}
 use Rattle.lk_link.specs.declared.link.LinkInput.{LinkInput}
@@ -15,15 +15,16 @@ use Rattle.lk_tables.specs.declared.totals.TableTotals.{TableTotals}
 use Rattle.lk_tables.specs.Dynamic.{is_dynamic_symbol, is_export}
 use Rattle.lk_tables.specs.HeaderParts.{file_header_entries, header_sizes, told_sum}
 use Rattle.lk_tables.specs.HeaderSteps.{no_headers}
-use Rattle.lk_tables.specs.ShareSteps.{all_brought_first, all_brought_late, dynamic_share, plus, plus_dynamic, sum_of, symbol_share}
+use Rattle.lk_tables.specs.ShareSteps.{all_brought_first, all_brought_late, dynamic_share, own_locals, plus, plus_dynamic, sum_of, symbol_share}
 use Rattle.lk_tables.specs.ShareWords.{has_entry_there, no_dynamic}
 use Rattle.lk_tables.specs.SymbolEntries.{allocated, got_entries, is_resolved, plt_entries}
-use Rattle.lk_tables.specs.SymbolTable.{TableEntry, entry_bytes, entry_of, first_entry, global_entries, is_in_table, is_local_entry, local_entries, name_entries, name_of, symbols_by_number, table_start, table_symbols}
+use Rattle.lk_tables.specs.SymbolTable.{TableEntry, entry_bytes, entry_of, first_entry, global_entries, is_in_table, is_local_entry, local_entries, local_start, name_entries, name_of, symbols_by_number, table_start, table_symbols}
 use Rattle.lk_tables.specs.TableLists.{file_dynamic_entries, file_dynamic_names, file_export_entries, file_export_names, first_tables, other_files, whole_tables}
 use Rattle.lk_tables.specs.Totals.{totals_of}
 use Rattle.lk_tables.specs.TotalSteps.{dynamic_total, totals_by}
 use Rattle.lk_tables.proofs.Columns.{IsEarly, IsLate, dynamic_alike, early_total, early_whole_total, late_first_total, late_whole_total, own_of, there_alike}
-use Rattle.lk_tables.proofs.ShareSums.{sum_alike, sum_made}
+use Rattle.lk_tables.proofs.ShareSums.{sum_alike, sum_made, told_again}
+use Rattle.lk_tables.proofs.SingletonLemmas.{start_bytes}
 use Rattle.lk_tables.proofs.TableSums.{passing_twice, sum_passing}
 
 -- ---- the symbol table
@@ -40,14 +41,22 @@ pub symbols_there : (link : LinkInput) (live : Live) (told : List Bool) (f : Num
     → table_symbols link live told f ≡ filter (has_entry_there link live told f) (symbols_by_number link f)
 symbols_there link live told f = if_there link.options.strip_all (is_in_table link live told f) (symbols_by_number link f)
 
-start_by : (b c : Bool) (n : ℕ) → entry_bytes (if b && not c then first_entry n ∷ [] else []) ≡ (if b then (if not c then n else 0) else 0)
-start_by true true n = refl
-start_by true false n = let none : n + 0 ≡ n = omega arith in sum_by-cons (λ e. e.bytes) (first_entry n) [] ∙ none
-start_by false c n = refl
+start_by : (b c : Bool) (own : List TableEntry) → entry_bytes (if b && not c then own else []) ≡ (if b then (if not c then entry_bytes own else 0) else 0)
+start_by true true own = refl
+start_by true false own = refl
+start_by false c own = refl
 
--- the table's own entry, where there is a table
+-- one entry
+one_entry : (n : ℕ) → entry_bytes (first_entry n ∷ []) ≡ n
+one_entry n = omega (arith, sum_by-cons (λ (e : TableEntry). e.bytes) (first_entry n) [])
+
+-- what a table has itself, where there is one
 abbrev pub start_of : LinkInput → ℕ → ℕ
 start_of link n = if not link.options.strip_all then n else 0
+
+-- that of the local symbols
+abbrev pub locals_of : ℕ → LinkInput → Live → List Bool → ℕ
+locals_of entry link live told = start_of link (entry_bytes (local_start entry link live told))
 
 -- the symbols of one kind
 kind_bytes : (entry : ℕ) (link : LinkInput) (live : Live) (told : List Bool) (f : NumberedFile) (own : ℕ × InputSymbol → Bool)
@@ -66,11 +75,12 @@ abbrev pub names_of : LinkInput → Live → List Bool → NumberedFile → ℕ
 names_of link live told f = sum_by (λ q. if has_entry_there link live told f q then length q.1.name + 1 else 0) (symbols_by_number link f)
 
 pub local_bytes : (entry : ℕ) (link : LinkInput) (live : Live) (told : List Bool) (f : NumberedFile)
-    → entry_bytes (local_entries entry link live told f) ≡ each_of entry link live (λ g. is_local_entry g.file.kind) told f + own_of (start_of link entry) f
+    → entry_bytes (local_entries entry link live told f) ≡ each_of entry link live (λ g. is_local_entry g.file.kind) told f + own_of (locals_of entry link live told) f
 local_bytes entry link live told f =
     let symbols = map (entry_of entry) (filter (is_local_entry f.file.kind) (table_symbols link live told f)) in
-    let all = sum_by-append (λ e. e.bytes) (table_start link f entry) symbols in
-    omega (arith, all, start_by (is_prelude f.file.kind) link.options.strip_all entry, kind_bytes entry link live told f (is_local_entry f.file.kind))
+    let own = local_start entry link live told in
+    let all = sum_by-append (λ e. e.bytes) (table_start link f own) symbols in
+    omega (arith, all, start_by (is_prelude f.file.kind) link.options.strip_all own, kind_bytes entry link live told f (is_local_entry f.file.kind))
 
 pub global_bytes : (entry : ℕ) (link : LinkInput) (live : Live) (told : List Bool) (f : NumberedFile)
     → entry_bytes (global_entries entry link live told f) ≡ each_of entry link live (λ g q. not (is_local_entry g.file.kind q)) told f + own_of 0 f
@@ -85,27 +95,29 @@ pub name_bytes : (link : LinkInput) (live : Live) (told : List Bool) (f : Number
     → entry_bytes (name_entries link live told f) ≡ names_of link live told f + own_of (start_of link 1) f
 name_bytes link live told f =
     let symbols = map name_of (table_symbols link live told f) in
-    let all = sum_by-append (λ e. e.bytes) (table_start link f 1) symbols in
+    let own = first_entry 1 ∷ [] in
+    let all = sum_by-append (λ e. e.bytes) (table_start link f own) symbols in
+    let start : entry_bytes (table_start link f own) ≡ own_of (start_of link 1) f
+    = start_by (is_prelude f.file.kind) link.options.strip_all own
+    ∙ ap (λ n. if is_prelude f.file.kind then (if not link.options.strip_all then n else 0) else 0) (one_entry 1) in
     let names : entry_bytes symbols ≡ names_of link live told f
     = ap (λ xs. entry_bytes (map name_of xs)) (symbols_there link live told f)
     ∙ sum_passing (has_entry_there link live told f) name_of (symbols_by_number link f) in
-    omega (arith, all, start_by (is_prelude f.file.kind) link.options.strip_all 1, names)
+    omega (arith, all, start, names)
 
-and_true : (c : Bool) (n : ℕ) → (if c && true then n else 0) ≡ (if c then n else 0)
-and_true true n = refl
-and_true false n = refl
-
-and_false : (c : Bool) (n : ℕ) → (if c && not true then n else 0) ≡ 0
-and_false true n = refl
-and_false false n = refl
+-- what is told once or twice, where there is a table
+told_if : (b : Bool) (m n : ℕ) → m ≡ n → told_sum (if b then told_sum m else 0) ≡ told_sum (if b then n else 0)
+told_if true m n h = told_again m ∙ ap told_sum h
+told_if false m n h = refl
 
 pub is_local : (sizes : TableSizes) (link : LinkInput) (live : Live)
-    → IsLate sizes link live (λ s. s.symtab.local) (start_of link sizes.symbol_entry) (each_of sizes.symbol_entry link live (λ g. is_local_entry g.file.kind))
+    → IsLate sizes link live (λ s. s.symtab.local) (locals_of sizes.symbol_entry link live) (each_of sizes.symbol_entry link live (λ g. is_local_entry g.file.kind))
 is_local sizes link live = record {
   early = λ s. refl;
   late = λ s. refl;
   both = λ a b. refl;
-  table = and_true (not link.options.strip_all) sizes.symbol_entry;
+  table = λ told. told_if (not link.options.strip_all) (sizes.symbol_entry * own_locals link live told) (entry_bytes (local_start sizes.symbol_entry link live told))
+      (sym (start_bytes sizes.symbol_entry link live told));
   none = refl;
   share = λ told f. ap told_sum (sum_made (λ s. s.symtab.local) (symbol_share sizes link live told f) (symbols_by_number link f));
   alike = λ told f h. sum_alike (λ q. if has_entry_there link live told f q && is_local_entry f.file.kind q then sizes.symbol_entry else 0)
@@ -114,12 +126,12 @@ is_local sizes link live = record {
 }
 
 pub is_global : (sizes : TableSizes) (link : LinkInput) (live : Live)
-    → IsLate sizes link live (λ s. s.symtab.global) 0 (each_of sizes.symbol_entry link live (λ g q. not (is_local_entry g.file.kind q)))
+    → IsLate sizes link live (λ s. s.symtab.global) (λ told. 0) (each_of sizes.symbol_entry link live (λ g q. not (is_local_entry g.file.kind q)))
 is_global sizes link live = record {
   early = λ s. refl;
   late = λ s. refl;
   both = λ a b. refl;
-  table = and_false (not link.options.strip_all) sizes.symbol_entry;
+  table = λ told. refl;
   none = refl;
   share = λ told f. ap told_sum (sum_made (λ s. s.symtab.global) (symbol_share sizes link live told f) (symbols_by_number link f));
   alike = λ told f h. sum_alike (λ q. if has_entry_there link live told f q && not (is_local_entry f.file.kind q) then sizes.symbol_entry else 0)
@@ -128,12 +140,12 @@ is_global sizes link live = record {
 }
 
 pub are_names : (sizes : TableSizes) (link : LinkInput) (live : Live)
-    → IsLate sizes link live (λ s. s.symtab.names) (start_of link 1) (names_of link live)
+    → IsLate sizes link live (λ s. s.symtab.names) (λ told. start_of link 1) (names_of link live)
 are_names sizes link live = record {
   early = λ s. refl;
   late = λ s. refl;
   both = λ a b. refl;
-  table = refl;
+  table = λ told. refl;
   none = refl;
   share = λ told f. ap told_sum (sum_made (λ s. s.symtab.names) (symbol_share sizes link live told f) (symbols_by_number link f));
   alike = λ told f h. sum_alike (λ q. if has_entry_there link live told f q then length q.1.name + 1 else 0)
@@ -163,35 +175,35 @@ all_alike link live n told f h =
     (symbols_by_number link f) (λ q. ap (λ b. if b then n q else 0) (dynamic_alike link live told f q h))
 
 pub is_dynamic_entries : (sizes : TableSizes) (link : LinkInput) (live : Live)
-    → IsLate sizes link live (λ s. s.dynamic.entries) 0 (dynamic_of link live (λ q. sizes.symbol_entry))
+    → IsLate sizes link live (λ s. s.dynamic.entries) (λ told. 0) (dynamic_of link live (λ q. sizes.symbol_entry))
 is_dynamic_entries sizes link live = record {
   early = λ s. refl;
   late = λ s. refl;
   both = λ a b. refl;
-  table = refl;
+  table = λ told. refl;
   none = refl;
   share = λ told f. ap told_sum (sum_made (λ s. s.dynamic.entries) (symbol_share sizes link live told f) (symbols_by_number link f));
   alike = all_alike link live (λ q. sizes.symbol_entry);
 }
 
-pub are_dynamic_counts : (sizes : TableSizes) (link : LinkInput) (live : Live) → IsLate sizes link live (λ s. s.dynamic.count) 0 (dynamic_of link live (λ q. 1))
+pub are_dynamic_counts : (sizes : TableSizes) (link : LinkInput) (live : Live) → IsLate sizes link live (λ s. s.dynamic.count) (λ told. 0) (dynamic_of link live (λ q. 1))
 are_dynamic_counts sizes link live = record {
   early = λ s. refl;
   late = λ s. refl;
   both = λ a b. refl;
-  table = refl;
+  table = λ told. refl;
   none = refl;
   share = λ told f. ap told_sum (sum_made (λ s. s.dynamic.count) (symbol_share sizes link live told f) (symbols_by_number link f));
   alike = all_alike link live (λ q. 1);
 }
 
 pub are_dynamic_names : (sizes : TableSizes) (link : LinkInput) (live : Live)
-    → IsLate sizes link live (λ s. s.dynamic.names) 0 (dynamic_of link live (λ q. length q.1.name + 1))
+    → IsLate sizes link live (λ s. s.dynamic.names) (λ told. 0) (dynamic_of link live (λ q. length q.1.name + 1))
 are_dynamic_names sizes link live = record {
   early = λ s. refl;
   late = λ s. refl;
   both = λ a b. refl;
-  table = refl;
+  table = λ told. refl;
   none = refl;
   share = λ told f. ap told_sum (sum_made (λ s. s.dynamic.names) (symbol_share sizes link live told f) (symbols_by_number link f));
   alike = all_alike link live (λ q. length q.1.name + 1);
@@ -204,7 +216,7 @@ is_got sizes link live = record {
   early = λ s. refl;
   late = λ s. refl;
   both = λ a b. refl;
-  table = refl;
+  table = λ told. refl;
   none = refl;
   share = λ f. ap told_sum (sum_made (λ s. s.entries.got) (symbol_share sizes link live [] f) (symbols_by_number link f)
       ∙ sym (sum_passing (is_resolved live f.file.kind) (λ q. entry_of (allocated sizes.allocation live q).got q) (symbols_by_number link f)));
@@ -215,7 +227,7 @@ is_plt sizes link live = record {
   early = λ s. refl;
   late = λ s. refl;
   both = λ a b. refl;
-  table = refl;
+  table = λ told. refl;
   none = refl;
   share = λ f. ap told_sum (sum_made (λ s. s.entries.plt) (symbol_share sizes link live [] f) (symbols_by_number link f)
       ∙ sym (sum_passing (is_resolved live f.file.kind) (λ q. entry_of (allocated sizes.allocation live q).plt q) (symbols_by_number link f)));
@@ -227,7 +239,7 @@ are_exports sizes link live = record {
   early = λ s. refl;
   late = λ s. refl;
   both = λ a b. refl;
-  table = refl;
+  table = λ told. refl;
   none = refl;
   share = λ f. ap told_sum (sum_made (λ s. s.exports.entries) (symbol_share sizes link live [] f) (symbols_by_number link f)
       ∙ sym (sum_passing (is_export live f) (entry_of sizes.symbol_entry) (symbols_by_number link f)));
@@ -238,7 +250,7 @@ are_export_names sizes link live = record {
   early = λ s. refl;
   late = λ s. refl;
   both = λ a b. refl;
-  table = refl;
+  table = λ told. refl;
   none = refl;
   share = λ f. ap told_sum (sum_made (λ s. s.exports.names) (symbol_share sizes link live [] f) (symbols_by_number link f)
       ∙ sym (sum_passing (is_export live f) name_of (symbols_by_number link f)));
@@ -304,12 +316,12 @@ first_totals_are sizes link live shares h =
 
 pub whole_totals_are : (sizes : TableSizes) (link : LinkInput) (live : Live) (told emitted : List Bool) (active : List ℕ) → sizes.file_header ≤ 65536
     → (shares : List FileShare) (prelude : FileShare) → shares ≡ all_brought_first sizes link live → prelude ≡ all_brought_late sizes link live told
-    → totals_by (plus (sum_of shares) prelude) (dynamic_total link (dynamic_share true sizes.symbol_entry 0) (plus (sum_of shares) prelude)) (header_sizes sizes link emitted active)
+    → totals_by (plus (sum_of shares) prelude) (dynamic_total link (dynamic_share true sizes.symbol_entry 0) (plus (sum_of shares) prelude)) (header_sizes sizes link live emitted active)
     ≡ totals_of (whole_tables sizes link live told emitted active)
 whole_totals_are sizes link live told emitted active lawful shares prelude h i =
-    subst (λ xs. totals_by (plus (sum_of xs) prelude) (dynamic_total link own (plus (sum_of xs) prelude)) (header_sizes sizes link emitted active)
+    subst (λ xs. totals_by (plus (sum_of xs) prelude) (dynamic_total link own (plus (sum_of xs) prelude)) (header_sizes sizes link live emitted active)
     ≡ totals_of (whole_tables sizes link live told emitted active)) (sym h)
-    (subst (λ x. totals_by (plus first x) (dynamic_total link own (plus first x)) (header_sizes sizes link emitted active)
+    (subst (λ x. totals_by (plus first x) (dynamic_total link own (plus first x)) (header_sizes sizes link live emitted active)
     ≡ totals_of (whole_tables sizes link live told emitted active)) (sym i) these)
   where
     first : FileShare
@@ -325,12 +337,12 @@ whole_totals_are sizes link live told emitted active lawful shares prelude h i =
     all = plus first (all_brought_late sizes link live told)
 
     one : (n : ℕ) → n ≡ entry_bytes (first_entry n ∷ [])
-    one n = omega (arith, sum_by-cons (λ (t : TableEntry). t.bytes) (first_entry n) [])
+    one n = sym (one_entry n)
 
     few : entry_bytes (file_header_entries sizes.file_header) ≡ told_sum (entry_bytes (file_header_entries sizes.file_header))
     few = omega (arith, lawful, one sizes.file_header)
 
-    these : totals_by all (dynamic_total link own all) (header_sizes sizes link emitted active) ≡ totals_of (whole_tables sizes link live told emitted active)
+    these : totals_by all (dynamic_total link own all) (header_sizes sizes link live emitted active) ≡ totals_of (whole_tables sizes link live told emitted active)
     these = made_totals _ _ _ _ _ _ _ _ _ _ _ _ _ _ _ _ _ _ _ _ _ _
         (early_whole_total sizes link live _ _ (is_got sizes link live) told)
         (early_whole_total sizes link live _ _ (is_plt sizes link live) told)

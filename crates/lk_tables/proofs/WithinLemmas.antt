@@ -1,5 +1,5 @@
 -- The first tables are within the whole ones.
-use Rattle.std.proofs.Common.{◌≡◌, ℕ, ◌+◌, ◌≤◌, not, Bool, true, false, if◌then◌else◌, List, [], ◌∷◌, ◌++◌, Option, filter, sym, ap, ◌∙◌, refl, arith}
+use Rattle.std.proofs.Common.{◌≡◌, ℕ, ◌+◌, ◌≤◌, not, Bool, true, false, if◌then◌else◌, List, [], ◌∷◌, ◌++◌, Option, filter, ap, refl, arith}
 use Rattle.std.specs.List.{flat_map, zip}
 use Rattle.std.proofs.lemmas.List.Concat.{flat_map-cons}
 use Rattle.std.proofs.lemmas.List.Sums.{sum_by-append, sum_by-cons}
@@ -49,13 +49,16 @@ within_files : (g h : NumberedFile → List TableEntry) (files : List NumberedFi
 within_files g h [] same = omega arith
 within_files g h (f ∷ files) same = within_step g h f files (is_prelude f.file.kind) refl (same f) (within_files g h files same)
 
-late_within : (sizes : TableSizes) (link : LinkInput) (live : Live) (col : FileShare → ℕ) (own : ℕ) (each : List Bool → NumberedFile → ℕ)
+late_within : (sizes : TableSizes) (link : LinkInput) (live : Live) (col : FileShare → ℕ) (own : List Bool → ℕ) (each : List Bool → NumberedFile → ℕ)
     (g : List Bool → NumberedFile → List TableEntry) → IsLate sizes link live col own each
-    → ((told : List Bool) (f : NumberedFile) → entry_bytes (g told f) ≡ each told f + own_of own f)
+    → ((told : List Bool) (f : NumberedFile) → entry_bytes (g told f) ≡ each told f + own_of (own told) f)
     → (told : List Bool) → entry_bytes (flat_map (g []) (other_files link)) ≤ entry_bytes (flat_map (g told) (numbered_files link.groups))
 late_within sizes link live col own each g is bytes told =
     within_files (g []) (g told) (numbered_files link.groups)
-    (λ f h. bytes [] f ∙ ap (λ n. n + own_of own f) (sym (is.alike told f h)) ∙ sym (bytes told f))
+    (λ f h.
+    let first : own_of (own []) f ≡ 0 = ap (λ b. if b then own [] else 0) h in
+    let whole : own_of (own told) f ≡ 0 = ap (λ b. if b then own told else 0) h in
+    omega (arith, bytes [] f, bytes told f, is.alike told f h, first, whole))
 
 -- where there is a dynamic symbol table
 dynamic_within : (b : Bool) (own : TableEntry) (xs ys zs : List TableEntry) → entry_bytes xs ≤ entry_bytes ys

@@ -7,10 +7,9 @@ use Rattle.lk_link.specs.declared.symbol.InputSymbol.{InputSymbol}
 use Rattle.lk_link.specs.declared.symbol.SymbolPlacement.{SymbolPlacement}
 use Rattle.lk_link.specs.declared.symbol.SymbolPlacement.TheVariants as at
 use Rattle.lk_link.specs.Inputs.{NumberedFile, numbered_files}
-use Rattle.lk_link.specs.Symbols.{first_symbol}
+use Rattle.lk_link.specs.Symbols.{first_symbol, is_wanted}
 use Rattle.lk_gc.specs.declared.live.Live.{Live}
 use Rattle.lk_tables.specs.declared.commons.Common.{Common}
-use Rattle.lk_tables.specs.Copied.{is_wanted}
 use Rattle.lk_tables.specs.Late.{flags_at}
 
 -- a symbol with its number and this placement as a common, if it is one

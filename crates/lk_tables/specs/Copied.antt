@@ -1,5 +1,5 @@
--- Which symbols get a resolution, and which are copied to the symbol table of the output.
-use Rattle.std.specs.Prelude.{ℕ, ◌==◌, ◌&&◌, ◌||◌, not, Bool, false, true, codes, if◌then◌else◌, List, Option, Some, None, length, nat_eq, option_and_then, slice_get, unwrap_or}
+-- Which symbols are copied to the symbol table of the output. Whether one gets a resolution is told with the symbols.
+use Rattle.std.specs.Prelude.{ℕ, ◌&&◌, ◌||◌, not, Bool, false, true, codes, if◌then◌else◌, List, Option, Some, None, nat_eq, option_and_then, slice_get}
 use Rattle.std.specs.List.{starts_with}
 use Rattle.std.specs.Option.{option_map_or}
 use Rattle.lk_link.specs.declared.file.FileKind.{FileKind}
@@ -10,37 +10,17 @@ use Rattle.lk_link.specs.declared.options.DiscardLocals.{DiscardLocals}
 use Rattle.lk_link.specs.declared.options.DiscardLocals.TheVariants as discard
 use Rattle.lk_link.specs.declared.symbol.InputSymbol.{InputSymbol}
 use Rattle.lk_link.specs.declared.symbol.SymbolPlacement.{SymbolPlacement}
-use Rattle.lk_link.specs.FileKinds.{is_internal, is_not_loaded, is_object}
-use Rattle.lk_link.specs.Flags.{has_flag, has_resolution}
+use Rattle.lk_link.specs.FileKinds.{is_internal, is_object}
+use Rattle.lk_link.specs.Flags.{has_flag}
 use Rattle.lk_link.specs.Inputs.{NumberedFile}
 use Rattle.lk_link.specs.Names.{has_name}
 use Rattle.lk_link.specs.OutputKinds.{is_partial}
 use Rattle.lk_link.specs.SectionSlots.{is_loaded}
-use Rattle.lk_link.specs.SymbolPlacements.{is_common, is_undefined}
+use Rattle.lk_link.specs.SymbolPlacements.{is_common, is_in_discarded, is_undefined, section_of}
+pub use Rattle.lk_link.specs.Symbols.{can_resolve, is_canonical, is_named, is_wanted}
 use Rattle.lk_gc.specs.declared.live.Live.{Live}
-use Rattle.lk_reach.specs.Placements.{is_in_discarded, section_of}
 use Rattle.lk_gc.specs.Slots.{live_slot}
 use Rattle.lk_reach.specs.Units.{numbered_symbols}
-
--- ---- resolutions
-
--- whether a symbol with its number stands for itself
-abbrev pub is_canonical : ℕ → InputSymbol → Bool
-is_canonical s x = unwrap_or x.def s == s
-
--- whether it has a name
-abbrev pub is_named : InputSymbol → Bool
-is_named x = not (length x.name == 0)
-
--- whether files of a kind give their symbols resolutions: a file that isn't loaded gives none, and one whose symbols the linker places
--- only to those with a name
-abbrev pub can_resolve : FileKind → InputSymbol → Bool
-can_resolve kind x = not (is_not_loaded kind) && (is_named x || not (is_internal kind))
-
--- whether a symbol of a file, with its number and these flags, gets a resolution: it stands for itself, and something wants it. The start
--- of the first load segment counts, since no one knows yet which segment that is
-abbrev pub is_wanted : FileKind → ℕ → InputSymbol → ValueFlags → Bool
-is_wanted kind s x flags = is_canonical s x && has_resolution flags.0 && can_resolve kind x
 
 -- ---- symbols of objects
 

@@ -12,9 +12,6 @@ use Rattle.lk_tables.specs.HeaderParts.{section_name_bytes}
 abbrev pub no_headers : HeaderSizes
 no_headers = record { file_header = 0; program_headers = 0; section_headers = 0; shstrtab = 0 }
 
--- the header and the name of the section that an event places, if it is emitted
-abbrev pub event_header : ℕ → List Bool → OrderEvent → ℕ
-event_header bytes emitted e = option_map_or (λ s. if is_marked emitted s then bytes else 0) (placed_section e) 0
-
+-- the name of the section that an event places, if it is emitted
 abbrev pub event_name : LinkInput → List Bool → OrderEvent → ℕ
 event_name link emitted e = option_map_or (λ s. if is_marked emitted s then section_name_bytes link s else 0) (placed_section e) 0

@@ -12,7 +12,7 @@ use Rattle.lk_link.specs.FileKinds.{is_prelude}
 use Rattle.lk_link.specs.Flags.{has_resolution}
 use Rattle.lk_link.specs.Marks.{is_marked}
 use Rattle.lk_reach.specs.Units.{flags_from}
-use Rattle.lk_tables.specs.Copied.{is_canonical, is_named}
+use Rattle.lk_link.specs.Symbols.{is_canonical, is_named}
 
 -- the flags of a symbol by its number, by those of all symbols; none past the end
 abbrev pub flags_at : List ValueFlags → ℕ → ValueFlags

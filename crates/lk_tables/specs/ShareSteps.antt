@@ -1,10 +1,11 @@
 -- What the code goes by: what each symbol and each file brings to the tables. Contracts of private functions speak of these.
-use Rattle.std.specs.Prelude.{ℕ, ◌+◌, ◌&&◌, not, Bool, true, if◌then◌else◌, List, [], length, map, sum_by}
+use Rattle.std.specs.Prelude.{ℕ, ◌+◌, ◌*◌, ◌&&◌, not, Bool, if◌then◌else◌, List, [], length, map, sum_by}
 use Rattle.lk_link.specs.declared.link.LinkInput.{LinkInput}
 use Rattle.lk_link.specs.declared.symbol.InputSymbol.{InputSymbol}
 use Rattle.lk_link.specs.declared.tables.Allocation.{Allocation}
 use Rattle.lk_link.specs.FileKinds.{is_prelude}
 use Rattle.lk_link.specs.Inputs.{NumberedFile, numbered_files}
+use Rattle.lk_link.specs.OutputKinds.{is_partial}
 use Rattle.lk_link.specs.TableSizes.{TableSizes}
 use Rattle.lk_gc.specs.declared.live.Live.{Live}
 use Rattle.lk_tables.specs.declared.shares.DynamicShare.{DynamicShare}
@@ -14,6 +15,7 @@ use Rattle.lk_tables.specs.declared.shares.SymtabShare.{SymtabShare}
 use Rattle.lk_tables.specs.Dynamic.{is_dynamic_symbol, is_export}
 use Rattle.lk_tables.specs.HeaderParts.{told_sum}
 use Rattle.lk_tables.specs.ShareWords.{has_entry_there, no_dynamic, no_entries, no_symtab}
+use Rattle.lk_tables.specs.Singletons.{singletons, told_sections}
 use Rattle.lk_tables.specs.SymbolEntries.{allocated, is_resolved}
 use Rattle.lk_tables.specs.SymbolTable.{is_local_entry, symbols_by_number}
 
@@ -122,25 +124,34 @@ abbrev pub brought_first : TableSizes → LinkInput → Live → NumberedFile �
 brought_first sizes link live f =
     if is_prelude f.file.kind then early_part (file_share sizes link live [] f) else file_share sizes link live [] f
 
+-- how many entries the table of local symbols has itself
+abbrev pub own_locals : LinkInput → Live → List Bool → ℕ
+own_locals link live told =
+    if is_partial link.options.output then 1 + length (told_sections link told) + length (singletons link live) else 1
+
 -- what the symbol table itself takes, where there is one
-abbrev pub table_share : LinkInput → ℕ → FileShare
-table_share link entry = record {
+abbrev pub table_share : LinkInput → Live → ℕ → List Bool → FileShare
+table_share link live entry told = record {
   entries = no_entries;
-  symtab = symtab_share (not link.options.strip_all) true entry 0;
+  symtab = record {
+    local = if not link.options.strip_all then told_sum (entry * own_locals link live told) else 0;
+    global = 0;
+    names = if not link.options.strip_all then 1 else 0;
+  };
   dynamic = no_dynamic;
   exports = no_dynamic;
 }
 
--- what the prelude brings behind that: the table's own entry, and its symbols, late marks included; other files nothing
+-- what the prelude brings behind that: what the table has itself, and its symbols, late marks included; other files nothing
 abbrev pub brought_late : TableSizes → LinkInput → Live → List Bool → NumberedFile → FileShare
 brought_late sizes link live told f =
-    if is_prelude f.file.kind then plus (table_share link sizes.symbol_entry) (late_part (file_share sizes link live told f)) else no_share
+    if is_prelude f.file.kind then plus (table_share link live sizes.symbol_entry told) (late_part (file_share sizes link live told f)) else no_share
 
 -- what a file brings to the symbol table and its names, the prelude with the table's own
 abbrev pub whole_symtab : TableSizes → LinkInput → Live → List Bool → NumberedFile → SymtabShare
 whole_symtab sizes link live told f =
     if is_prelude f.file.kind
-    then plus_symtab (table_share link sizes.symbol_entry).symtab (file_share sizes link live told f).symtab
+    then plus_symtab (table_share link live sizes.symbol_entry told).symtab (file_share sizes link live told f).symtab
     else (file_share sizes link live told f).symtab
 
 -- ---- all files

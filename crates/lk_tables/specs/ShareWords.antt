@@ -74,8 +74,8 @@ first_shares sizes link live = map (first_share sizes link live) (numbered_files
 abbrev pub preludes : LinkInput → List NumberedFile
 preludes link = filter (λ f. is_prelude f.file.kind) (numbered_files link.groups)
 
--- what the prelude takes behind that, by the sections whose edges are told: in the symbol table, with the table's own entry, for its
--- dynamic symbols, and in the names of both
+-- what the prelude takes behind that, by the sections whose edges are told: in the symbol table, with what the table has itself, for
+-- its dynamic symbols, and in the names of both
 abbrev pub prelude_share : TableSizes → LinkInput → Live → List Bool → FileShare
 prelude_share sizes link live told = record {
   entries = no_entries;

@@ -6,22 +6,25 @@ use Rattle.lk_link.specs.declared.ids.FileId.{FileId}
 use Rattle.lk_link.specs.declared.link.LinkInput.{LinkInput}
 use Rattle.lk_link.specs.declared.symbol.InputSymbol.{InputSymbol}
 use Rattle.lk_link.specs.FileKinds.{is_internal, is_prelude}
-use Rattle.lk_link.specs.Inputs.{NumberedFile, numbered_files}
+use Rattle.lk_link.specs.Inputs.{Input, NumberedFile, numbered_files}
+use Rattle.lk_link.specs.OutputKinds.{is_partial}
 use Rattle.lk_link.specs.Symbols.{first_symbol}
 use Rattle.lk_gc.specs.declared.live.Live.{Live}
 use Rattle.lk_tables.specs.Copied.{is_copied, is_copied_undefined}
 use Rattle.lk_tables.specs.Late.{flags_at, late_flags}
+use Rattle.lk_tables.specs.Singletons.{singletons, told_sections}
 
 -- ---- entries
 
--- one that takes bytes of a table: the table itself, for the entry that each begins with; a symbol by its number; the file, a segment or
--- an output section, for its header or its name
+-- one that takes bytes of a table: the table itself, for the entry that each begins with; a symbol by its number; the file, a segment, an
+-- output section or an input section that stays one, for its header, its name or its symbol
 pub data TableOwner : Type 0 where
   FirstEntry : TableOwner
   SymbolEntry : ℕ → TableOwner
   FileEntry : TableOwner
   SegmentEntry : ℕ → TableOwner
   SectionEntry : ℕ → TableOwner
+  InputEntry : FileId → ℕ → TableOwner
 
 -- an entry of a table: whose it is, and its bytes
 pub record TableEntry : Type 0 where
@@ -35,6 +38,14 @@ entry_bytes entries = sum_by (λ e. e.bytes) entries
 -- the entry of a table itself, so many bytes long
 abbrev pub first_entry : ℕ → TableEntry
 first_entry bytes = record { owner = FirstEntry; bytes = bytes }
+
+-- that of an output section, so many bytes long
+abbrev pub section_entry : ℕ → ℕ → TableEntry
+section_entry bytes s = record { owner = SectionEntry s; bytes = bytes }
+
+-- that of an input section that stays one
+abbrev pub singleton_entry : ℕ → Input → TableEntry
+singleton_entry bytes x = record { owner = InputEntry x.file x.index; bytes = bytes }
 
 -- that of a symbol with its number, so many bytes long
 abbrev pub entry_of : ℕ → ℕ × InputSymbol → TableEntry
@@ -65,16 +76,27 @@ abbrev pub table_symbols : LinkInput → Live → List Bool → NumberedFile →
 table_symbols link live told f =
     if link.options.strip_all then [] else filter (is_in_table link live told f) (symbols_by_number link f)
 
--- what the prelude takes for a table itself, so many bytes, where there is a symbol table
-abbrev pub table_start : LinkInput → NumberedFile → ℕ → List TableEntry
-table_start link f bytes = if is_prelude f.file.kind && not link.options.strip_all then first_entry bytes ∷ [] else []
+-- what the prelude takes for a table itself, where there is a symbol table
+abbrev pub table_start : LinkInput → NumberedFile → List TableEntry → List TableEntry
+table_start link f own = if is_prelude f.file.kind && not link.options.strip_all then own else []
+
+-- in output that is linked again sections have symbols, so many bytes each: each output section whose edges are told, and each singleton
+abbrev pub section_symbols : ℕ → LinkInput → Live → List Bool → List TableEntry
+section_symbols entry link live told =
+    if is_partial link.options.output
+    then map (section_entry entry) (told_sections link told) ++ map (singleton_entry entry) (singletons link live)
+    else []
+
+-- what the table of local symbols has itself: an empty entry, and the symbols of sections
+abbrev pub local_start : ℕ → LinkInput → Live → List Bool → List TableEntry
+local_start entry link live told = first_entry entry ∷ section_symbols entry link live told
 
 -- ---- what a file takes
 
--- in the table of local symbols, with entries of so many bytes: the prelude an empty entry first, then each file its local symbols
+-- in the table of local symbols, with entries of so many bytes: the prelude what the table has itself, then each file its local symbols
 abbrev pub local_entries : ℕ → LinkInput → Live → List Bool → NumberedFile → List TableEntry
 local_entries entry link live told f =
-    table_start link f entry ++ map (entry_of entry) (filter (is_local_entry f.file.kind) (table_symbols link live told f))
+    table_start link f (local_start entry link live told) ++ map (entry_of entry) (filter (is_local_entry f.file.kind) (table_symbols link live told f))
 
 -- in that of the others: each file those
 abbrev pub global_entries : ℕ → LinkInput → Live → List Bool → NumberedFile → List TableEntry
@@ -83,7 +105,7 @@ global_entries entry link live told f =
 
 -- in the names of symbols: the prelude an empty name first, then each file the names of its symbols
 abbrev pub name_entries : LinkInput → Live → List Bool → NumberedFile → List TableEntry
-name_entries link live told f = table_start link f 1 ++ map name_of (table_symbols link live told f)
+name_entries link live told f = table_start link f (first_entry 1 ∷ []) ++ map name_of (table_symbols link live told f)
 
 -- the bytes of a file there, with its number
 abbrev pub file_symbol_sizes : ℕ → LinkInput → Live → List Bool → NumberedFile → FileId × ℕ × ℕ × ℕ

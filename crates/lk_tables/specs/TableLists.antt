@@ -94,14 +94,13 @@ first_tables sizes link live = record {
 
 -- ---- the whole tables
 
--- the tables, by the sections whose edges are told, those that have headers and the active segments; not yet of output that is linked
--- again, in whose symbol table sections have entries too
+-- the tables, by the sections whose edges are told, those that are emitted and the active segments
 abbrev pub whole_tables : TableSizes → LinkInput → Live → List Bool → List Bool → List ℕ → TableLists
 whole_tables sizes link live told emitted active = record {
   -- what each symbol with a resolution asks for, file by file
   got = flat_map (got_entries sizes.allocation link live) (numbered_files link.groups);
   plt = flat_map (plt_entries sizes.allocation link live) (numbered_files link.groups);
-  -- the table's own entry, and one for each copied symbol, file by file; their names
+  -- what the tables have themselves, and an entry for each copied symbol, file by file; their names
   symtab_local = flat_map (local_entries sizes.symbol_entry link live told) (numbered_files link.groups);
   symtab_global = flat_map (global_entries sizes.symbol_entry link live told) (numbered_files link.groups);
   strtab = flat_map (name_entries link live told) (numbered_files link.groups);
@@ -112,9 +111,9 @@ whole_tables sizes link live told emitted active = record {
   dynstr = if_dynamic link (first_entry 1
       ∷ (flat_map (file_dynamic_names link live told) (numbered_files link.groups)
       ++ flat_map (file_export_names link live) (numbered_files link.groups)));
-  -- the file's header, one for each active segment, and one for each section that has one; the names of those sections
+  -- the file's header, one for each active segment, and one for each emitted section and each singleton; the names of these
   file_header = file_header_entries sizes.file_header;
   program_headers = program_header_entries sizes.program_header active;
-  section_headers = section_header_entries sizes.section_header link emitted;
-  shstrtab = section_name_entries link emitted;
+  section_headers = section_header_entries sizes.section_header link live emitted;
+  shstrtab = section_name_entries link live emitted;
 }

@@ -4,7 +4,6 @@ ghost use Rattle.std.specs.Prelude.{◌≡◌, ◌++◌, [], OnOk};
 ghost use Rattle.std.specs.List.{cons_option};
 ghost use Rattle.lk_tables.specs.Commons.{common_at, common_of};
 
-use crate::copied::is_wanted;
 use crate::symbol_table::flags_at;
 use lk_gc::Live;
 use lk_link::{FileKind, InputSymbol, PartId, SymbolId, SymbolPlacement};
@@ -40,7 +39,7 @@ fn common_of(live: &Live, kind: FileKind, number: SymbolId, symbol: &InputSymbol
 {
     let common = common_at(number, &symbol.at)?;
     let flags = flags_at(live.flags.as_slice(), number.as_usize());
-    if !is_wanted(kind, number, symbol, flags) {
+    if !symbol.is_wanted(kind, number, flags) {
         return None;
     }
     Some(common)

@@ -11,16 +11,14 @@ ghost use Rattle.lk_link.specs.SectionSlots.{is_loaded};
 ghost use Rattle.lk_link.specs.WellFormed.{IsWellFormed};
 ghost use Rattle.lk_link.specs.Walks.{file_of};
 ghost use Rattle.lk_gc.specs.Slots.{live_slot};
-ghost use Rattle.lk_link.specs.SymbolPlacements.{is_undefined};
-ghost use Rattle.lk_reach.specs.Placements.{is_in_discarded};
-ghost use Rattle.lk_tables.specs.Copied.{can_resolve, copied_name, is_assembler_name, is_canonical, is_copied, is_copied_undefined, is_in_loaded, is_must, is_named, is_wanted, may_stay, stands_for_something, stays_by, undefined_name};
+ghost use Rattle.lk_tables.specs.Copied.{copied_name, is_assembler_name, is_copied, is_copied_undefined, is_in_loaded, is_must, may_stay, stands_for_something, stays_by, undefined_name};
 ghost use Rattle.lk_tables.specs.TableWords.{IsLookedAt};
 
 use lk_gc::Live;
 use lk_link::marks::is_marked;
 use lk_link::{
-    DiscardLocals, FileKind, FileRef, InputSection, InputSlot, InputSymbol, LinkInput, SymbolId,
-    SymbolPlacement, ValueFlags,
+    DiscardLocals, FileKind, FileRef, InputSlot, InputSymbol, LinkInput, SymbolId, SymbolPlacement,
+    ValueFlags,
 };
 use std::marker::Model;
 
@@ -98,34 +96,6 @@ fn info_if(is_copied: bool, symbol: &InputSymbol) -> Option<SymbolCopyInfo<'_>>
     }
 }
 
-/// Whether a symbol with its number stands for itself.
-pub(crate) fn is_canonical(number: SymbolId, symbol: &InputSymbol) -> bool
-    ensures { result ≡ is_canonical number symbol.now }
-{
-    symbol.def.unwrap_or(number).as_u32() == number.as_u32()
-}
-
-/// Whether a symbol has a name.
-pub(crate) fn is_named(symbol: &InputSymbol) -> bool
-    ensures { result ≡ is_named symbol.now }
-{
-    symbol.name.len() != 0
-}
-
-/// Whether files of a kind give such a symbol a resolution.
-fn can_resolve(kind: FileKind, symbol: &InputSymbol) -> bool
-    ensures { result ≡ can_resolve kind symbol.now }
-{
-    !kind.is_not_loaded() && (is_named(symbol) || !kind.is_internal())
-}
-
-/// Whether a symbol of a file of a kind, with its number and these flags, gets a resolution, whatever becomes of segments.
-pub fn is_wanted(kind: FileKind, number: SymbolId, symbol: &InputSymbol, flags: ValueFlags) -> bool
-    ensures { result ≡ is_wanted kind number symbol.now flags }
-{
-    is_canonical(number, symbol) && flags.has_resolution() && can_resolve(kind, symbol)
-}
-
 /// Whether a symbol names a section group.
 fn names_group(flags: ValueFlags) -> bool
     ensures { result ≡ has_flag flag.GROUP_SIGNATURE.0 flags.0 }
@@ -145,7 +115,7 @@ fn is_must(
     ensures { result ≡ is_must link.now kind number symbol.now flags }
 {
     names_group(flags)
-        || (link.options.output.is_partial() && is_wanted(kind, number, symbol, flags))
+        || (link.options.output.is_partial() && symbol.is_wanted(kind, number, flags))
 }
 
 /// Whether a name is one that assemblers give to local symbols.
@@ -163,29 +133,6 @@ fn stays_by(discard: DiscardLocals, symbol: &InputSymbol) -> bool
         DiscardLocals::All => !symbol.local,
         DiscardLocals::Default => !symbol.local || !is_assembler_name(symbol.name.as_str()),
         DiscardLocals::None => true,
-    }
-}
-
-/// Whether a placement leaves its symbol undefined.
-pub(crate) fn is_undefined(at: &SymbolPlacement) -> bool
-    ensures { result ≡ is_undefined at.now }
-{
-    matches!(
-        at,
-        SymbolPlacement::Undef | SymbolPlacement::Undefined | SymbolPlacement::ForceUndefined
-    )
-}
-
-/// Whether a placement is in a section that is discarded, of a file with these sections.
-fn is_in_discarded(sections: &[InputSection], at: &SymbolPlacement) -> bool
-    ensures { result ≡ is_in_discarded sections.now at.now }
-{
-    match at {
-        SymbolPlacement::Section { index, .. } => match sections.get(*index as usize) {
-            Some(section) => section.slot.is_discarded(),
-            None => false,
-        },
-        _ => false,
     }
 }
 
@@ -247,10 +194,10 @@ fn stands_for_something(
 ) -> bool
     ensures { result ≡ stands_for_something kind number symbol.now flags }
 {
-    is_canonical(number, symbol)
-        && !is_undefined(&symbol.at)
-        && is_named(symbol)
-        && (is_wanted(kind, number, symbol, flags) || !symbol.at.is_common())
+    symbol.is_canonical(number)
+        && !symbol.at.is_undefined()
+        && symbol.is_named()
+        && (symbol.is_wanted(kind, number, flags) || !symbol.at.is_common())
 }
 
 /// Whether the options let a symbol of an object stay.
@@ -288,7 +235,7 @@ pub(crate) fn is_copied(
             && may_stay(link, kind, number, symbol, flags)
             && is_in_loaded(live, file, first_input, &symbol.at)
     } else {
-        kind.is_internal() && is_named(symbol) && is_wanted(kind, number, symbol, flags)
+        kind.is_internal() && symbol.is_named() && symbol.is_wanted(kind, number, flags)
     }
 }
 
@@ -303,8 +250,8 @@ pub(crate) fn is_copied_undefined(
     ensures { result ≡ is_copied_undefined link.now (file_of file.entry) number symbol.now flags }
 {
     link.options.output.is_partial()
-        && is_named(symbol)
-        && is_wanted(file.file.kind, number, symbol, flags)
-        && (is_undefined(&symbol.at)
-            || (!symbol.local && is_in_discarded(file.file.sections.as_slice(), &symbol.at)))
+        && symbol.is_named()
+        && symbol.is_wanted(file.file.kind, number, flags)
+        && (symbol.at.is_undefined()
+            || (!symbol.local && symbol.at.is_in_discarded(file.file.sections.as_slice())))
 }

@@ -12,10 +12,9 @@ ghost use Rattle.lk_link.specs.Inputs.{numbered_files};
 ghost use Rattle.lk_link.specs.Walks.{file_of};
 ghost use Rattle.lk_link.specs.WellFormed.{IsWellFormed};
 ghost use Rattle.lk_tables.specs.Dynamic.{dynamic_table, exports, is_redirect};
-ghost use Rattle.lk_tables.specs.Copied.{is_wanted};
+ghost use Rattle.lk_link.specs.Symbols.{is_wanted};
 ghost use Rattle.lk_tables.specs.DynamicWords.{file_numbers, has_entry, numbers_of};
 
-use crate::copied::{is_canonical, is_wanted};
 use crate::header_info::HeaderInfo;
 use crate::symbol_table::{Given, flags_at, late_flags};
 use lk_gc::Live;
@@ -32,7 +31,7 @@ pub(crate) fn is_dynamic_symbol(
 ) -> bool
     ensures { result ≡ (is_wanted kind number symbol.now flags && has_flag flag.DYNAMIC.0 flags.0) }
 {
-    is_wanted(kind, number, symbol, flags) && flags.is_dynamic()
+    symbol.is_wanted(kind, number, flags) && flags.is_dynamic()
 }
 
 /// Whether a placement is an expression.
@@ -53,9 +52,9 @@ pub(crate) fn exports(
 {
     match kind {
         FileKind::Object | FileKind::LinkerScript => {
-            is_canonical(number, symbol) && flags.needs_export_dynamic()
+            symbol.is_canonical(number) && flags.needs_export_dynamic()
         }
-        FileKind::Prelude => is_canonical(number, symbol) && is_redirect(&symbol.at),
+        FileKind::Prelude => symbol.is_canonical(number) && is_redirect(&symbol.at),
         _ => false,
     }
 }

@@ -1,10 +1,10 @@
 //! What headers and the names of sections take: one pass over the events.
 
-ghost use Rattle.std.specs.Prelude.{◌≡◌, ◌+◌, ◌-◌, ◌^◌, false, if◌then◌else◌, length, min, sum_by};
-ghost use Rattle.lk_link.specs.OutputKinds.{is_partial};
+ghost use Rattle.std.specs.Prelude.{◌≡◌, ◌-◌, ◌^◌, length, min, sum_by};
 ghost use Rattle.lk_link.specs.PlanSections.{section_at};
-ghost use Rattle.lk_tables.specs.HeaderSteps.{event_header, event_name, no_headers};
-ghost use Rattle.lk_tables.specs.HeaderParts.{header_sizes, program_header_entries, section_header_entries, section_name_entries, told_sum};
+ghost use Rattle.lk_gc.specs.declared.live.Live.{Live};
+ghost use Rattle.lk_tables.specs.HeaderSteps.{event_name, no_headers};
+ghost use Rattle.lk_tables.specs.HeaderParts.{CountsSections, file_header_entries, header_sizes, program_header_entries, told_sum};
 ghost use Rattle.lk_tables.specs.SymbolTable.{entry_bytes};
 
 use crate::header_info::HeaderInfo;
@@ -17,9 +17,9 @@ pub struct HeaderSizes {
     pub file_header: u64,
     /// One for each active segment.
     pub program_headers: u128,
-    /// One for each emitted section.
+    /// One for each section that has one.
     pub section_headers: u128,
-    /// The names of the emitted sections, with a zero byte behind each.
+    /// The names of these sections, with a zero byte behind each.
     pub shstrtab: u128,
 }
 
@@ -37,26 +37,6 @@ impl HeaderSizes {
     }
 }
 
-/// Bytes of the headers and of the names of sections.
-#[derive(Clone, Copy)]
-struct SectionBytes {
-    headers: u128,
-    names: u128,
-}
-
-impl SectionBytes {
-    /// Those of both.
-    fn plus(self, more: SectionBytes) -> SectionBytes
-        ensures headers { result.headers ≡ min (self.headers + more.headers) (2 ^ 128 - 1) }
-        ensures names { result.names ≡ min (self.names + more.names) (2 ^ 128 - 1) }
-    {
-        SectionBytes {
-            headers: self.headers.saturating_add(more.headers),
-            names: self.names.saturating_add(more.names),
-        }
-    }
-}
-
 /// The length of a section's name; 0 where there is no such section.
 fn name_len(sections: &PlanSections, section: OutputSectionId) -> usize
     ensures { result ≡ length (section_at sections.now section).name }
@@ -67,40 +47,26 @@ fn name_len(sections: &PlanSections, section: OutputSectionId) -> usize
     }
 }
 
-/// What the section that an event places takes, if it is emitted, with a header of so many bytes.
-fn event_bytes(bytes: u64, link: &LinkInput, emitted: &[bool], event: &OrderEvent) -> SectionBytes
-    ensures headers { result.headers ≡ event_header bytes emitted.now event.now }
-    ensures names { result.names ≡ event_name link.now emitted.now event.now }
+/// The bytes of the name of the section that an event places, with a zero byte behind it, if it is emitted.
+fn event_name(link: &LinkInput, emitted: &[bool], event: &OrderEvent) -> u128
+    ensures { result ≡ event_name link.now emitted.now event.now }
 {
     match event {
-        OrderEvent::Section(section) if is_marked(emitted, section.as_usize()) => SectionBytes {
-            headers: u128::from(bytes),
-            names: name_len(&link.plan.sections, *section) as u128 + 1,
-        },
-        _ => SectionBytes {
-            headers: 0,
-            names: 0,
-        },
+        OrderEvent::Section(section) if is_marked(emitted, section.as_usize()) => {
+            name_len(&link.plan.sections, *section) as u128 + 1
+        }
+        _ => 0,
     }
 }
 
-/// What the emitted sections take, with headers of so many bytes.
+/// The bytes of the names of the emitted sections.
 #[tactic(auto, using(std::proofs::lemmas::List::Sums::sum_by_more))]
-fn sections_bytes(
-    bytes: u64,
-    link: &LinkInput,
-    emitted: &[bool],
-    events: &[OrderEvent],
-) -> SectionBytes
-    ensures headers { result.headers ≡ min (sum_by (event_header bytes emitted.now) events.now) (2 ^ 128 - 1) }
-    ensures names { result.names ≡ min (sum_by (event_name link.now emitted.now) events.now) (2 ^ 128 - 1) }
+fn names_bytes(link: &LinkInput, emitted: &[bool], events: &[OrderEvent]) -> u128
+    ensures { result ≡ min (sum_by (event_name link.now emitted.now) events.now) (2 ^ 128 - 1) }
 {
-    let mut sum = SectionBytes {
-        headers: 0,
-        names: 0,
-    };
+    let mut sum = 0u128;
     for event in events {
-        sum = sum.plus(event_bytes(bytes, link, emitted, event));
+        sum = sum.saturating_add(event_name(link, emitted, event));
     }
     sum
 }
@@ -112,30 +78,26 @@ fn segments_bytes(bytes: u64, segments: &[SegmentId]) -> u128
     u128::from(bytes).saturating_mul(segments.len() as u128)
 }
 
-/// What headers and the names of sections take, by which sections are emitted and which segments are active. Looks at each event
-/// once; takes no memory. In output that is linked again some input sections have headers and names of their own, which come with
-/// it (libwild: `PreludeLayoutState::determine_header_sizes`).
+/// What headers and the names of sections take, by which sections are emitted and how many have headers, and which segments are
+/// active. Looks at each event once; takes no memory (libwild: `PreludeLayoutState::determine_header_sizes`).
 pub fn header_sizes<P: Platform>(link: &LinkInput, platform: &P, header: &HeaderInfo) -> HeaderSizes
-    ensures all { is_partial link.now.options.output ≡ false
-        → result ≡ header_sizes (P.table_sizes platform.now) link.now header.now.emitted header.now.active_segment_ids }
-    ensures file { result.file_header
-        ≡ (header_sizes (P.table_sizes platform.now) link.now header.now.emitted header.now.active_segment_ids).file_header }
+    ensures all { (live : Live) → CountsSections link.now live header.now
+        → result ≡ header_sizes (P.table_sizes platform.now) link.now live header.now.emitted header.now.active_segment_ids }
+    ensures file { result.file_header ≡ entry_bytes (file_header_entries (P.table_sizes platform.now).file_header) }
     ensures segments { result.program_headers
-        ≡ (header_sizes (P.table_sizes platform.now) link.now header.now.emitted header.now.active_segment_ids).program_headers }
+        ≡ told_sum (entry_bytes (program_header_entries (P.table_sizes platform.now).program_header header.now.active_segment_ids)) }
 {
-    let sections = sections_bytes(
-        platform.section_header(),
-        link,
-        header.emitted.as_slice(),
-        link.plan.events.as_slice(),
-    );
+    let headers = u128::from(platform.section_header());
+    let names = names_bytes(link, header.emitted.as_slice(), link.plan.events.as_slice());
     HeaderSizes {
         file_header: platform.file_header(),
         program_headers: segments_bytes(
             platform.program_header(),
             header.active_segment_ids.as_slice(),
         ),
-        section_headers: sections.headers,
-        shstrtab: sections.names,
+        section_headers: headers.saturating_mul(u128::from(
+            header.num_output_sections_with_content,
+        )),
+        shstrtab: names.saturating_add(u128::from(header.partial_link_section_name_bytes)),
     }
 }

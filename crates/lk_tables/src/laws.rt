@@ -45,7 +45,7 @@ pub fn symbols_have_own_entries()
 {}
 
 /// A law: each entry of `got`, `plt`, the symbol tables, the dynamic one and their names is the table's own, or that of a symbol of the
-/// link that has one there, and has its bytes.
+/// link, or of a section of it, that has one there, and has its bytes.
 pub fn entries_are_owned()
     ensures { EntriesAreOwned }
 {}

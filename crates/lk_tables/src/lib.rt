@@ -9,15 +9,17 @@ pub mod headers;
 pub mod laws;
 pub mod numbers;
 pub mod shares;
+pub mod singletons;
 pub mod symbol_table;
 pub mod totals;
 
 pub use commons::Common;
-pub use copied::{SymbolCopyInfo, first_input_of, is_wanted};
+pub use copied::{SymbolCopyInfo, first_input_of};
 pub use dynamic::dynamic_table;
 pub use header_info::HeaderInfo;
 pub use headers::{HeaderSizes, header_sizes};
 pub use numbers::DynamicNumbers;
 pub use shares::{FileShare, SymbolShares, mark_prelude, symbol_shares};
+pub use singletons::singleton_sizes;
 pub use symbol_table::symbol_sizes;
 pub use totals::{TableTotals, bytes_in_part, first_totals, whole_totals};

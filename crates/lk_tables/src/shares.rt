@@ -6,21 +6,21 @@
 //! worked out by itself, when the marks are known. Names are measured, and not copied. The sums stand file by file, so that those
 //! of groups can be added up side by side.
 
-ghost use Rattle.std.specs.Prelude.{◌≡◌, ◌∷◌, [], ◌++◌, ℕ, ◌+◌, ◌<◌, ◌^◌, List, IfOk, OnOk, Some, false, if◌then◌else◌, length, map};
+ghost use Rattle.std.specs.Prelude.{◌≡◌, ◌∷◌, [], ◌++◌, ℕ, ◌+◌, ◌<◌, ◌^◌, List, IfOk, OnOk, Some, if◌then◌else◌, length, map};
 ghost use Rattle.std.specs.List.{enumerate_from, filter_map};
 ghost use Rattle.lk_link.specs.Files.{file_in};
-ghost use Rattle.lk_link.specs.OutputKinds.{is_partial};
 ghost use Rattle.lk_link.specs.Walks.{file_of};
 ghost use Rattle.lk_link.specs.WellFormed.{IsWellFormed};
 ghost use Rattle.lk_tables.specs.Commons.{all_commons, common_of, commons_of};
-ghost use Rattle.lk_tables.specs.ShareSteps.{all_brought_late, brought_late, dynamic_share, early_part, entry_share, file_share, late_part, no_share, plus, plus_dynamic, plus_entries, plus_symtab, sum_of, symbol_share, symtab_share, table_share, whole_symtab};
+ghost use Rattle.lk_tables.specs.ShareSteps.{all_brought_late, brought_late, dynamic_share, early_part, entry_share, file_share, late_part, no_share, own_locals, plus, plus_dynamic, plus_entries, plus_symtab, sum_of, symbol_share, symtab_share, table_share, whole_symtab};
 ghost use Rattle.lk_tables.specs.ShareWords.{first_share, first_shares, no_dynamic, no_entries, no_symtab, prelude_share};
 ghost use Rattle.lk_tables.specs.TableWords.{IsLookedAt};
 ghost use Rattle.lk_tables.specs.declared.shares.FileShare.{FileShare};
 
 use crate::commons::{Common, push_common};
-use crate::copied::{first_input_of, is_canonical, is_wanted};
+use crate::copied::first_input_of;
 use crate::dynamic::{exports, is_dynamic_symbol};
+use crate::singletons::{singleton_sizes, told_count};
 use crate::symbol_table::{Given, flags_at, has_entry_there, is_local_entry, late_flags};
 use lk_gc::Live;
 use lk_link::{Allocation, FileRef, InputSymbol, LinkInput, Platform, SymbolId};
@@ -265,7 +265,7 @@ fn with_own<P: Platform>(
     let kind = file.file.kind;
     let flags = flags_at(live.flags.as_slice(), number.as_usize());
     let late = late_flags(link, given.told, kind, number, symbol, flags);
-    let is_resolved = is_wanted(kind, number, symbol, flags);
+    let is_resolved = symbol.is_wanted(kind, number, flags);
     let is_there = has_entry_there(link, live, file, first_input, number, symbol, late);
     let is_local = is_local_entry(kind, symbol);
     let is_dynamic = is_dynamic_symbol(kind, number, symbol, late);
@@ -297,7 +297,7 @@ fn with_symbol<P: Platform>(
         ++ symbol_share (P.table_sizes platform.now) given.entry.link.now given.entry.live.now given.entry.told.now (file_of file.entry)
         (number, symbol.now) ∷ []) }
 {
-    if is_canonical(number, symbol) {
+    if symbol.is_canonical(number) {
         with_own(sum, platform, given, file, first_input, number, symbol)
     } else {
         sum
@@ -422,12 +422,33 @@ fn first_share<P: Platform>(
     Ok(early_if(file.file.kind.is_prelude(), share))
 }
 
-/// What the symbol table itself takes, where there is one.
-fn table_share(link: &LinkInput, entry: u64) -> FileShare
-    ensures { result ≡ table_share link.now entry }
+/// How many entries the table of local symbols has itself: an empty one, and in output that is linked again one for each output
+/// section whose edges are told and each singleton.
+fn own_locals(given: Given<'_>) -> u64
+    requires { IsWellFormed given.link.now }
+    ensures { result ≡ own_locals given.entry.link.now given.entry.live.now given.entry.told.now }
 {
+    if given.link.options.output.is_partial() {
+        let (singletons, _) = singleton_sizes(given.link, given.live);
+        1 + u64::from(told_count(given.link, given.told)) + u64::from(singletons)
+    } else {
+        1
+    }
+}
+
+/// What the symbol table itself takes, where there is one.
+fn table_share(given: Given<'_>, entry: u64) -> FileShare
+    requires { IsWellFormed given.link.now }
+    ensures { result ≡ table_share given.entry.link.now given.entry.live.now entry given.entry.told.now }
+{
+    let is_kept = !given.link.options.strip_all;
+    let local = u128::from(entry).saturating_mul(u128::from(own_locals(given)));
     FileShare {
-        symtab: symtab_share(!link.options.strip_all, true, entry, 0),
+        symtab: SymtabShare {
+            local: if_taken(is_kept, local),
+            global: 0,
+            names: if_taken(is_kept, 1),
+        },
         ..FileShare::nothing()
     }
 }
@@ -445,7 +466,7 @@ pub(crate) fn whole_symtab<P: Platform>(
 {
     let share = file_share(platform, given, file);
     if file.file.kind.is_prelude() {
-        let own = table_share(given.link, platform.symbol_entry());
+        let own = table_share(given, platform.symbol_entry());
         own.symtab.plus(share.symtab)
     } else {
         share.symtab
@@ -460,7 +481,7 @@ fn late_share<P: Platform>(platform: &P, given: Given<'_>, file: FileRef<'_>) ->
         (file_of file.entry) }
 {
     if file.file.kind.is_prelude() {
-        let own = table_share(given.link, platform.symbol_entry());
+        let own = table_share(given, platform.symbol_entry());
         own.plus(file_share(platform, given, file).late_part())
     } else {
         FileShare::nothing()
@@ -511,9 +532,8 @@ fn late_shares<P: Platform>(platform: &P, given: Given<'_>) -> FileShare
 }
 
 /// What the prelude takes behind that, by the output sections whose edges are told: its entries in the symbol table and among the
-/// dynamic symbols, late marks included, and the symbol table's own entry. Looks at each symbol of the prelude once; takes no
-/// memory. In output that is linked again sections have entries too, which come with it
-/// (libwild: `PreludeLayoutState::finalise_sizes`).
+/// dynamic symbols, late marks included, and what the symbol table has itself. Looks at each symbol of the prelude once, and in
+/// output that is linked again at each input section; takes no memory (libwild: `PreludeLayoutState::finalise_sizes`).
 pub fn mark_prelude<P: Platform>(
     link: &LinkInput,
     platform: &P,
@@ -521,8 +541,7 @@ pub fn mark_prelude<P: Platform>(
     told: &[bool],
 ) -> FileShare
     requires { IsWellFormed link.now }
-    ensures { is_partial link.now.options.output ≡ false
-        → result ≡ prelude_share (P.table_sizes platform.now) link.now live.now told.now }
+    ensures { result ≡ prelude_share (P.table_sizes platform.now) link.now live.now told.now }
 {
     late_shares(platform, Given { link, live, told })
 }

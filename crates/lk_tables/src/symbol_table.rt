@@ -3,9 +3,8 @@
 //! Each symbol that is copied takes an entry among the local symbols or the others, and the bytes of its name with a zero byte.
 //! Symbols of the prelude may be marked late, by the output sections that are emitted.
 
-ghost use Rattle.std.specs.Prelude.{◌≡◌, ℕ, ◌&&◌, ◌||◌, ◌<◌, ◌^◌, IfOk, Some, false, not};
+ghost use Rattle.std.specs.Prelude.{◌≡◌, ℕ, ◌&&◌, ◌||◌, ◌<◌, ◌^◌, IfOk, Some, not};
 ghost use Rattle.lk_link.specs.Files.{file_in};
-ghost use Rattle.lk_link.specs.OutputKinds.{is_partial};
 ghost use Rattle.lk_link.specs.WellFormed.{IsWellFormed};
 ghost use Rattle.lk_link.specs.Walks.{file_of};
 ghost use Rattle.lk_tables.specs.Copied.{is_copied, is_copied_undefined};
@@ -13,7 +12,7 @@ ghost use Rattle.lk_tables.specs.Late.{flags_at, is_late, is_late_place, late_fl
 ghost use Rattle.lk_tables.specs.SymbolTable.{file_symbol_sizes, is_local_entry, symbol_sizes};
 ghost use Rattle.lk_tables.specs.TableWords.{IsLookedAt};
 
-use crate::copied::{is_canonical, is_copied, is_copied_undefined, is_named};
+use crate::copied::{is_copied, is_copied_undefined};
 use crate::header_info::HeaderInfo;
 use crate::shares::{SymtabShare, whole_symtab};
 use lk_gc::Live;
@@ -70,8 +69,8 @@ fn is_late(
     ensures { result ≡ is_late link.now told.now kind number symbol.now flags }
 {
     kind.is_prelude()
-        && is_named(symbol)
-        && is_canonical(number, symbol)
+        && symbol.is_named()
+        && symbol.is_canonical(number)
         && !flags.has_resolution()
         && !link.options.strip_all
         && is_late_place(told, &symbol.at)
@@ -152,9 +151,8 @@ fn file_sizes<P: Platform>(
 }
 
 /// For each file, by group and index, its number and the bytes that its symbols take among the local ones of the symbol table,
-/// among the others, and in their names, by which output sections are emitted. Looks at each symbol once, and takes 40 bytes
-/// for each file. In output that is linked again sections have entries too, which come with it
-/// (libwild: `finalise_symbol_sizes`).
+/// among the others, and in their names, by the output sections whose edges are told; the prelude with what the table has itself.
+/// Looks at each symbol once, and takes 40 bytes for each file (libwild: `finalise_symbol_sizes`).
 pub fn symbol_sizes<P: Platform>(
     alloc: Global,
     link: &LinkInput,
@@ -163,10 +161,10 @@ pub fn symbol_sizes<P: Platform>(
     header: &HeaderInfo,
 ) -> Result<Vec<(FileId, u64, u64, u64)>, AllocError>
     requires { IsWellFormed link.now }
-    ensures { is_partial link.now.options.output ≡ false → IfOk result (λ sizes. sizes.items
-        ≡ symbol_sizes (P.table_sizes platform.now).symbol_entry link.now live.now header.now.emitted) }
+    ensures { IfOk result (λ sizes. sizes.items
+        ≡ symbol_sizes (P.table_sizes platform.now).symbol_entry link.now live.now header.now.told) }
 {
-    let told = header.emitted.as_slice();
+    let told = header.told.as_slice();
     let given = Given { link, live, told };
     let mut sizes = Vec::new(alloc);
     for file in link.groups.files() {

@@ -1,12 +1,11 @@
 //! The bytes of the tables, first and whole, by what files take.
 
-ghost use Rattle.std.specs.Prelude.{◌≡◌, ℕ, List, Bool, false, if◌then◌else◌, length, sum_by};
+ghost use Rattle.std.specs.Prelude.{◌≡◌, ℕ, List, Bool, if◌then◌else◌, length, sum_by};
 ghost use Rattle.std.specs.List.{zip};
-ghost use Rattle.lk_link.specs.OutputKinds.{is_partial};
 ghost use Rattle.lk_link.specs.PartRules.{is_part, table_parts};
 ghost use Rattle.lk_link.specs.TableSizes.{TableSizes};
 ghost use Rattle.lk_gc.specs.declared.live.Live.{Live};
-ghost use Rattle.lk_tables.specs.HeaderParts.{told_sum};
+ghost use Rattle.lk_tables.specs.HeaderParts.{CountsSections, told_sum};
 ghost use Rattle.lk_tables.specs.ShareSteps.{dynamic_share, sum_of};
 ghost use Rattle.lk_tables.specs.ShareWords.{first_shares, prelude_share};
 ghost use Rattle.lk_tables.specs.TableLists.{TableLists, first_tables, table_bytes, whole_tables};
@@ -76,8 +75,8 @@ pub fn first_totals(link: &LinkInput, shares: &[FileShare]) -> TableTotals
 }
 
 /// The bytes that the tables take, by what files take first, what the prelude takes behind that, and which sections and segments
-/// have headers. Looks at each event once; takes no memory. In output that is linked again sections have entries too, which come
-/// with it (libwild: `EpilogueLayoutState::apply_late_size_adjustments`, with `PreludeLayoutState::finalise_sizes`).
+/// have headers. Looks at each event once; takes no memory (libwild: `EpilogueLayoutState::apply_late_size_adjustments`, with
+/// `PreludeLayoutState::finalise_sizes`).
 pub fn whole_totals<P: Platform>(
     link: &LinkInput,
     platform: &P,
@@ -85,7 +84,8 @@ pub fn whole_totals<P: Platform>(
     prelude: FileShare,
     header: &HeaderInfo,
 ) -> TableTotals
-    ensures { is_partial link.now.options.output ≡ false → (live : Live) (told : List Bool) → shares.now ≡ first_shares (P.table_sizes platform.now) link.now live
+    ensures { (live : Live) (told : List Bool) → CountsSections link.now live header.now
+        → shares.now ≡ first_shares (P.table_sizes platform.now) link.now live
         → prelude ≡ prelude_share (P.table_sizes platform.now) link.now live told
         → result ≡ totals_of (whole_tables (P.table_sizes platform.now) link.now live told header.now.emitted header.now.active_segment_ids) }
 {
@@ -95,26 +95,7 @@ pub fn whole_totals<P: Platform>(
     totals_by(sum, dynamic, header_sizes(link, platform, header))
 }
 
-/// The parts of the tables, in the order in which the plan names them.
-fn table_parts(named: &NamedParts) -> [Option<PartId>; 11]
-    ensures { result ≡ table_parts named.now }
-{
-    [
-        named.got,
-        named.plt,
-        named.symtab_local,
-        named.symtab_global,
-        named.strtab,
-        named.dynsym,
-        named.dynstr,
-        named.file_header,
-        named.program_headers,
-        named.section_headers,
-        named.shstrtab,
-    ]
-}
-
-/// The bytes of the tables, in the same order.
+/// The bytes of the tables, in the order in which the plan names their parts.
 fn all_totals(totals: &TableTotals) -> [u128; 11]
     ensures { result ≡ all_totals totals.now }
 {
@@ -147,7 +128,7 @@ fn bytes_if(part: PartId, named: Option<PartId>, bytes: u128) -> u128
 pub fn bytes_in_part(named: &NamedParts, totals: &TableTotals, part: PartId) -> u128
     ensures { (lists : TableLists) → totals.now ≡ totals_of lists → result ≡ told_sum (table_bytes named.now lists part) }
 {
-    let parts = table_parts(named);
+    let parts = named.table_parts();
     let bytes = all_totals(totals);
     let mut sum = 0u128;
     for table in 0..11usize {

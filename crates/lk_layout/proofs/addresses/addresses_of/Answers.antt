@@ -11,9 +11,9 @@ use Rattle.lk_sizes.specs.Images.{image_addresses}
 use Rattle.lk_sizes.specs.Addresses.{common_addresses, section_addresses}
 use Rattle.lk_layout.specs.Tables.{AreRising}
 use Rattle.lk_layout.proofs.CommonsFound.{table_rises}
-use Rattle.lk_sizes.specs.Owners.{content_of}
+use Rattle.lk_sizes.specs.Owners.{content_of, Filling, plain_filling}
 use Rattle.lk_sizes.specs.PartOwners.{EndsFit}
-use Rattle.lk_layout.specs.OutputContent.{image_lens, output_content}
+use Rattle.lk_layout.specs.OutputContent.{image_lens, output_filling}
 use Rattle.lk_layout.specs.Defined.{starts_of}
 use Rattle.lk_layout.specs.Resolutions.{images_at, merged_value}
 use Rattle.lk_layout.specs.Entries.{entry_setting}
@@ -32,11 +32,11 @@ owner_addresses-requires-clause-room g c =
     let live : Live = c.args.live.now in
     let starts : List ℕ = c.in_ok-starts.starts.items in
     let lens : c.deref.result.now ≡ image_lens link = c.deref.ensures.value ∙ c.requires.images.lens in
-    let fit : EndsFit link (output_content tables link live) starts = ends_fit tables link live c.args.parts.now starts c.in_ok-starts.ensures.value c.in_ok-starts.ensures.fit c.requires.takes in (
+    let fit : EndsFit (output_filling tables link live) starts = ends_fit tables link live c.args.parts.now starts c.in_ok-starts.ensures.value c.in_ok-starts.ensures.fit c.requires.takes in (
       tables,
-      c.requires.contents ∙ ap (λ (ls : List ℕ). part_contents link (content_of tables live ls)) (sym lens),
-      subst (λ (ls : List ℕ). EndsFit link (content_of tables live ls) c.deref-2.result.now) (sym lens)
-          (subst (λ (ss : List ℕ). EndsFit link (output_content tables link live) ss) (sym c.deref-2.ensures.value) fit),
+      c.requires.contents ∙ ap (λ (ls : List ℕ). part_contents (plain_filling (content_of link tables live ls))) (sym lens),
+      subst (λ (ls : List ℕ). EndsFit (plain_filling (content_of link tables live ls)) c.deref-2.result.now) (sym lens)
+          (subst (λ (ss : List ℕ). EndsFit (output_filling tables link live) ss) (sym c.deref-2.ensures.value) fit),
     )
 
 pub image_addresses-requires-clause-count : goal.image_addresses-requires-clause-count
@@ -50,10 +50,10 @@ compute-requires g c =
     let link = c.args.link.now in
     let live : Live = c.args.live.now in
     let starts : List ℕ = c.in_ok-starts.starts.items in
-    let fit : EndsFit link (output_content tables link live) starts = ends_fit tables link live c.args.parts.now starts c.in_ok-starts.ensures.value c.in_ok-starts.ensures.fit c.requires.takes in
+    let fit : EndsFit (output_filling tables link live) starts = ends_fit tables link live c.args.parts.now starts c.in_ok-starts.ensures.value c.in_ok-starts.ensures.fit c.requires.takes in
     let count = starts_count link c.args.parts.now starts c.in_ok-starts.ensures.value c.requires.each in
-    let places : c.deref-4.result.now ≡ image_addresses link (output_content tables link live) starts
-    = c.deref-4.ensures.value ∙ c.in_ok-places.ensures (output_content tables link live) c.requires.contents ∙ ap (image_addresses link (output_content tables link live)) c.deref-3.ensures.value in
+    let places : c.deref-4.result.now ≡ image_addresses (output_filling tables link live) starts
+    = c.deref-4.ensures.value ∙ c.in_ok-places.ensures (output_filling tables link live) c.requires.contents ∙ ap (image_addresses (output_filling tables link live)) c.deref-3.ensures.value in
     let merged : c.as_slice-merged.result.now ≡ (link_inputs link).outputs = c.as_slice-merged.ensures ∙ c.requires.images.sections in
     subst (λ (m : List (List MergeInput)). ImagesFit m c.deref-4.result.now) (sym merged)
     (subst (λ (ss : List ℕ). ImagesFit (link_inputs link).outputs ss) (sym places) (images_fit tables link live starts c.requires.good count fit))
@@ -70,7 +70,7 @@ resolve_all-requires-clause-rising g c =
     let tables : TableSizes = g.P.Platform.table_sizes c.args.platform.now in
     let link = c.args.link.now in
     let commons = c.as_slice-3.ensures.value ∙ c.in_ok-owners.ensures.commons tables in
-    subst AreRising (sym commons) (table_rises link (content_of tables c.args.live.now c.deref.result.now) c.deref-2.result.now)
+    subst AreRising (sym commons) (table_rises (plain_filling (content_of link tables c.args.live.now c.deref.result.now)) c.deref-2.result.now)
 
 pub resolve_all-requires-clause-room : goal.resolve_all-requires-clause-room
 resolve_all-requires-clause-room g c =
@@ -80,8 +80,8 @@ resolve_all-requires-clause-room g c =
     let starts : List ℕ = c.in_ok-starts.starts.items in
     let lens : c.deref.result.now ≡ image_lens link = c.deref.ensures.value ∙ c.requires.images.lens in
     let read : c.as_slice-2.result.now ≡ table tables link live starts
-    = c.as_slice-2.ensures.value ∙ c.in_ok-owners.ensures.sections tables ∙ ap (λ (ls : List ℕ). section_addresses link (content_of tables live ls) c.deref-2.result.now) lens
-    ∙ ap (section_addresses link (output_content tables link live)) c.deref-2.ensures.value in
+    = c.as_slice-2.ensures.value ∙ c.in_ok-owners.ensures.sections tables ∙ ap (λ (ls : List ℕ). section_addresses (plain_filling (content_of link tables live ls)) c.deref-2.result.now) lens
+    ∙ ap (section_addresses (output_filling tables link live)) c.deref-2.ensures.value in
     room_by live.marks c.as_slice.result.now (table tables link live starts) c.as_slice-2.result.now link.groups c.as_slice.ensures read
     (have_room tables link live starts c.requires.good c.requires.live (starts_count link c.args.parts.now starts c.in_ok-starts.ensures.value c.requires.each)
     (ends_fit tables link live c.args.parts.now starts c.in_ok-starts.ensures.value c.in_ok-starts.ensures.fit c.requires.takes))
@@ -93,7 +93,7 @@ resolve_all-requires-clause-tables_fit g c =
     let live : Live = c.args.live.now in
     let starts : List ℕ = c.in_ok-starts.starts.items in
     let same : c.deref-5.result.now ≡ starts = c.deref-5.ensures.value in
-    let fit : EndsFit link (output_content tables link live) starts = ends_fit tables link live c.args.parts.now starts c.in_ok-starts.ensures.value c.in_ok-starts.ensures.fit c.requires.takes in
+    let fit : EndsFit (output_filling tables link live) starts = ends_fit tables link live c.args.parts.now starts c.in_ok-starts.ensures.value c.in_ok-starts.ensures.fit c.requires.takes in
     subst (λ (ss : List ℕ). TablesFit (entry_setting tables link live c.args.entries.told.now ss)) (sym same)
     (tables_fit tables link live c.args.entries.told.now starts c.requires.good (starts_count link c.args.parts.now starts c.in_ok-starts.ensures.value c.requires.each) fit)
 
@@ -103,16 +103,16 @@ returns-clause-sections g c =
     let link = c.args.link.now in
     let live : Live = c.args.live.now in
     let lens : c.deref.result.now ≡ image_lens link = c.deref.ensures.value ∙ c.requires.images.lens in
-    c.in_ok-owners.ensures.sections tables ∙ ap (λ (ls : List ℕ). section_addresses link (content_of tables live ls) c.deref-2.result.now) lens
-    ∙ ap (section_addresses link (output_content tables link live)) (c.deref-2.ensures.value ∙ c.in_ok-starts.ensures.value)
+    c.in_ok-owners.ensures.sections tables ∙ ap (λ (ls : List ℕ). section_addresses (plain_filling (content_of link tables live ls)) c.deref-2.result.now) lens
+    ∙ ap (section_addresses (output_filling tables link live)) (c.deref-2.ensures.value ∙ c.in_ok-starts.ensures.value)
 
 pub returns-clause-buckets : goal.returns-clause-buckets
 returns-clause-buckets g c =
     let tables : TableSizes = g.P.Platform.table_sizes c.args.platform.now in
     let link = c.args.link.now in
-    let content = output_content tables link c.args.live.now in
-    let places : c.deref-4.result.now ≡ image_addresses link content (starts_of c.args.parts.now)
-    = c.deref-4.ensures.value ∙ c.in_ok-places.ensures content c.requires.contents ∙ ap (image_addresses link content) (c.deref-3.ensures.value ∙ c.in_ok-starts.ensures.value) in
+    let filling : Filling = output_filling tables link c.args.live.now in
+    let places : c.deref-4.result.now ≡ image_addresses filling (starts_of c.args.parts.now)
+    = c.deref-4.ensures.value ∙ c.in_ok-places.ensures filling c.requires.contents ∙ ap (image_addresses filling) (c.deref-3.ensures.value ∙ c.in_ok-starts.ensures.value) in
     let merged : c.as_slice-merged.result.now ≡ (link_inputs link).outputs = c.as_slice-merged.ensures ∙ c.requires.images.sections in
     c.in_ok-buckets.ensures.addresses ∙ ap (λ (m : List (List MergeInput)). start_addresses fnv64 m c.deref-4.result.now) merged
     ∙ ap (start_addresses fnv64 (link_inputs link).outputs) places
@@ -129,19 +129,19 @@ returns-clause-resolutions g c =
     let tables : TableSizes = g.P.Platform.table_sizes c.args.platform.now in
     let link = c.args.link.now in
     let live : Live = c.args.live.now in
-    let content = output_content tables link live in
+    let filling : Filling = output_filling tables link live in
     let starts : List ℕ = c.in_ok-starts.starts.items in
     let wanted : List ℕ = starts_of c.args.parts.now in
     let lens : c.deref.result.now ≡ image_lens link = c.deref.ensures.value ∙ c.requires.images.lens in
     let read : c.as_slice-2.result.now ≡ table tables link live starts
-    = c.as_slice-2.ensures.value ∙ c.in_ok-owners.ensures.sections tables ∙ ap (λ (ls : List ℕ). section_addresses link (content_of tables live ls) c.deref-2.result.now) lens
-    ∙ ap (section_addresses link content) c.deref-2.ensures.value in
-    let places : c.deref-4.result.now ≡ image_addresses link content wanted
-    = c.deref-4.ensures.value ∙ c.in_ok-places.ensures content c.requires.contents ∙ ap (image_addresses link content) (c.deref-3.ensures.value ∙ c.in_ok-starts.ensures.value) in
+    = c.as_slice-2.ensures.value ∙ c.in_ok-owners.ensures.sections tables ∙ ap (λ (ls : List ℕ). section_addresses (plain_filling (content_of link tables live ls)) c.deref-2.result.now) lens
+    ∙ ap (section_addresses filling) c.deref-2.ensures.value in
+    let places : c.deref-4.result.now ≡ image_addresses filling wanted
+    = c.deref-4.ensures.value ∙ c.in_ok-places.ensures filling c.requires.contents ∙ ap (image_addresses filling) (c.deref-3.ensures.value ∙ c.in_ok-starts.ensures.value) in
     let merged : c.as_slice-merged.result.now ≡ (link_inputs link).outputs = c.as_slice-merged.ensures ∙ c.requires.images.sections in
-    let commons : c.as_slice-3.result.now ≡ common_addresses link content starts
-    = c.as_slice-3.ensures.value ∙ c.in_ok-owners.ensures.commons tables ∙ ap (λ (ls : List ℕ). common_addresses link (content_of tables live ls) c.deref-2.result.now) lens
-    ∙ ap (common_addresses link content) c.deref-2.ensures.value in
+    let commons : c.as_slice-3.result.now ≡ common_addresses filling starts
+    = c.as_slice-3.ensures.value ∙ c.in_ok-owners.ensures.commons tables ∙ ap (λ (ls : List ℕ). common_addresses (plain_filling (content_of link tables live ls)) c.deref-2.result.now) lens
+    ∙ ap (common_addresses filling) c.deref-2.ensures.value in
     let values : merged_value link (image_start c.in_ok-buckets.buckets) ≡ merged_value link (images_at tables link live wanted)
     = same_values link (image_start c.in_ok-buckets.buckets) (images_at tables link live wanted) c.requires.good (λ t below.
     c.in_ok-buckets.ensures.images t (omega (arith, below, outputs_count link, ap (λ (m : List (List MergeInput)). length m) merged)) ∙ ap (λ (ss : List ℕ). slice_index ss t) places) in

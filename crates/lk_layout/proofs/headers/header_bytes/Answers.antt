@@ -1,4 +1,4 @@
-use Rattle.std.proofs.Common.{◌≡◌, ap, arith}
+use Rattle.std.proofs.Common.{◌≡◌, arith}
 use Rattle.lk_link.specs.TableSizes.{AreLawful}
 use Rattle.lk_tables.specs.HeaderParts.{file_header_entries, program_header_entries, told_sum}
 use Rattle.lk_tables.specs.SymbolTable.{entry_bytes}
@@ -23,3 +23,6 @@ overflow_add-result g c =
     = c.header_sizes-sizes.ensures.segments in
     let file : c.header_sizes-sizes.result.file_header ≡ entry_bytes (file_header_entries sizes.file_header) = c.header_sizes-sizes.ensures.file in
     omega (arith, segments, file, few_segment_bytes sizes.program_header active lawful.program_header c.requires.few, few_file_bytes sizes.file_header lawful.file_header)
+
+pub returns : goal.returns
+returns g c live = omega (arith, c.header_sizes-sizes.ensures.file, c.header_sizes-sizes.ensures.segments)

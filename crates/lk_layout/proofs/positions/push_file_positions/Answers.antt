@@ -10,7 +10,7 @@ use Rattle.lk_reach.proofs.SymbolNumbers.{first_within, inputs_few}
 use Rattle.lk_gc.specs.declared.live.Live.{Live}
 use Rattle.lk_expressions.specs.declared.positions.SymbolPosition.{SymbolPosition}
 use Rattle.lk_sizes.specs.Addresses.{section_addresses}
-use Rattle.lk_layout.specs.OutputContent.{output_content}
+use Rattle.lk_layout.specs.OutputContent.{output_filling}
 use Rattle.lk_layout.specs.Positions.{no_starts, position_of}
 use Rattle.lk_layout.specs.Tables.{position_in}
 use Rattle.lk_layout.proofs.Positioned.{position_alike}
@@ -34,8 +34,8 @@ returns-in_ok-push_positions g c =
     let has : is_object f.file.kind ≡ true = sym c.is_object.ensures ∙ c.if-not-is_object.false in
     let made : List Bool → List ℕ → ℕ → List InputSection → List InputSymbol → List (Option SymbolPosition)
     = λ marks offsets first sections symbols. old ++ map (λ (x : InputSymbol). position_in marks offsets first sections x.at) symbols in
-    let place : InputSymbol → Option SymbolPosition = λ x. position_of link (output_content tables link live) f x.at in
-    let table : List ℕ = section_addresses link (output_content tables link live) (no_starts link) in
+    let place : InputSymbol → Option SymbolPosition = λ x. position_of (output_filling tables link live) f x.at in
+    let table : List ℕ = section_addresses (output_filling tables link live) (no_starts link) in
     let alike : (λ (x : InputSymbol). position_in live.marks table (first_input link.groups f.id) f.file.sections x.at) ≡ place
     = fun_ext (λ (x : InputSymbol). position_alike tables link live f x.at c.requires.there) in
     c.in_ok-push_positions.ensures

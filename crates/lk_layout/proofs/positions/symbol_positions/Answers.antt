@@ -8,9 +8,9 @@ use Rattle.lk_reach.proofs.WalkLemmas.{file_turn}
 use Rattle.lk_sizes.specs.Addresses.{section_addresses}
 use Rattle.lk_sizes.specs.Contents.{part_contents}
 use Rattle.lk_link.specs.TableSizes.{TableSizes}
-use Rattle.lk_sizes.specs.Owners.{content_of}
+use Rattle.lk_sizes.specs.Owners.{content_of, plain_filling}
 use Rattle.lk_sizes.specs.PartOwners.{EndsFit}
-use Rattle.lk_layout.specs.OutputContent.{image_lens, output_content}
+use Rattle.lk_layout.specs.OutputContent.{image_lens, output_filling}
 use Rattle.lk_layout.specs.Positions.{no_starts}
 use Rattle.lk_layout.proofs.Placing.{have_room, room_by, table}
 use Rattle.lk_layout.proofs.Positioned.{length-no_starts, no_starts_by_sizes, no_starts_fit}
@@ -31,11 +31,11 @@ owner_addresses-requires-clause-room g c =
     let live : Live = c.args.live.now in
     let lens : c.deref.result.now ≡ image_lens link = c.deref.ensures.value ∙ c.requires.images.lens in
     let zeros : c.in_ok-starts.starts.items ≡ no_starts link = c.in_ok-starts.ensures ∙ no_starts_by_sizes tables link live c.args.sizes.now c.requires.sizes in
-    let fit : EndsFit link (output_content tables link live) (no_starts link) = no_starts_fit tables link live c.args.sizes.now c.requires.sizes (λ p. Fits-lt-pow (c.type_inv.sizes p)) in (
+    let fit : EndsFit (output_filling tables link live) (no_starts link) = no_starts_fit tables link live c.args.sizes.now c.requires.sizes (λ p. Fits-lt-pow (c.type_inv.sizes p)) in (
       tables,
-      c.requires.contents ∙ ap (λ (ls : List ℕ). part_contents link (content_of tables live ls)) (sym lens),
-      subst (λ (ls : List ℕ). EndsFit link (content_of tables live ls) c.deref-2.result.now) (sym lens)
-          (subst (λ (ss : List ℕ). EndsFit link (output_content tables link live) ss) (sym (c.deref-2.ensures.value ∙ zeros)) fit),
+      c.requires.contents ∙ ap (λ (ls : List ℕ). part_contents (plain_filling (content_of link tables live ls))) (sym lens),
+      subst (λ (ls : List ℕ). EndsFit (plain_filling (content_of link tables live ls)) c.deref-2.result.now) (sym lens)
+          (subst (λ (ss : List ℕ). EndsFit (output_filling tables link live) ss) (sym (c.deref-2.ensures.value ∙ zeros)) fit),
     )
 
 pub files-file-items-requires : goal.files-file-items-requires
@@ -54,8 +54,8 @@ push_file_positions-requires-clause-offsets g c =
     let live : Live = c.args.live.now in
     let lens : c.deref.result.now ≡ image_lens link = c.deref.ensures.value ∙ c.requires.images.lens in
     let zeros : c.in_ok-starts.starts.items ≡ no_starts link = c.in_ok-starts.ensures ∙ no_starts_by_sizes tables link live c.args.sizes.now c.requires.sizes in
-    c.as_slice-offsets.ensures.value ∙ c.in_ok-owners.ensures.sections tables ∙ ap (λ (ls : List ℕ). section_addresses link (content_of tables live ls) c.deref-2.result.now) lens
-    ∙ ap (section_addresses link (output_content tables link live)) (c.deref-2.ensures.value ∙ zeros)
+    c.as_slice-offsets.ensures.value ∙ c.in_ok-owners.ensures.sections tables ∙ ap (λ (ls : List ℕ). section_addresses (plain_filling (content_of link tables live ls)) c.deref-2.result.now) lens
+    ∙ ap (section_addresses (output_filling tables link live)) (c.deref-2.ensures.value ∙ zeros)
 
 pub push_file_positions-requires-clause-room : goal.push_file_positions-requires-clause-room
 push_file_positions-requires-clause-room g c =
@@ -64,9 +64,9 @@ push_file_positions-requires-clause-room g c =
     let live : Live = c.args.live.now in
     let lens : c.deref.result.now ≡ image_lens link = c.deref.ensures.value ∙ c.requires.images.lens in
     let zeros : c.in_ok-starts.starts.items ≡ no_starts link = c.in_ok-starts.ensures ∙ no_starts_by_sizes tables link live c.args.sizes.now c.requires.sizes in
-    let fit : EndsFit link (output_content tables link live) (no_starts link) = no_starts_fit tables link live c.args.sizes.now c.requires.sizes (λ p. Fits-lt-pow (c.type_inv.sizes p)) in
+    let fit : EndsFit (output_filling tables link live) (no_starts link) = no_starts_fit tables link live c.args.sizes.now c.requires.sizes (λ p. Fits-lt-pow (c.type_inv.sizes p)) in
     let read : c.as_slice-offsets.result.now ≡ table tables link live (no_starts link)
-    = c.as_slice-offsets.ensures.value ∙ c.in_ok-owners.ensures.sections tables ∙ ap (λ (ls : List ℕ). section_addresses link (content_of tables live ls) c.deref-2.result.now) lens
-    ∙ ap (section_addresses link (output_content tables link live)) (c.deref-2.ensures.value ∙ zeros) in
+    = c.as_slice-offsets.ensures.value ∙ c.in_ok-owners.ensures.sections tables ∙ ap (λ (ls : List ℕ). section_addresses (plain_filling (content_of link tables live ls)) c.deref-2.result.now) lens
+    ∙ ap (section_addresses (output_filling tables link live)) (c.deref-2.ensures.value ∙ zeros) in
     room_by live.marks live.marks (table tables link live (no_starts link)) c.as_slice-offsets.result.now link.groups refl read
     (have_room tables link live (no_starts link) c.requires.good c.requires.live (length-no_starts link) fit)

@@ -8,7 +8,7 @@ use Rattle.lk_link.specs.Inputs.{NumberedFile}
 use Rattle.lk_link.specs.Walks.{file_of}
 use Rattle.lk_gc.specs.declared.live.Live.{Live}
 use Rattle.lk_tables.specs.declared.numbers.DynamicNumbers.{DynamicNumbers}
-use Rattle.lk_tables.specs.Copied.{is_wanted}
+use Rattle.lk_link.specs.Symbols.{is_wanted}
 use Rattle.lk_tables.specs.Dynamic.{dynamic_index, dynamic_table}
 use Rattle.lk_tables.specs.DynamicCounters.{AreNumbersAt}
 use Rattle.lk_tables.specs.Late.{flags_at}

@@ -9,7 +9,7 @@ use Rattle.lk_reach.proofs.WalkLemmas.{file_turn}
 use Rattle.lk_tables.specs.declared.commons.Common.{Common}
 use Rattle.lk_sizes.specs.declared.owners.PartContents.{PartContents}
 use Rattle.lk_sizes.specs.Contents.{contents_of}
-use Rattle.lk_sizes.specs.Owners.{common_taker, content_of}
+use Rattle.lk_sizes.specs.Owners.{Filling, common_taker, content_of, plain_filling}
 use Rattle.lk_sizes.specs.Tables.{ArePassed, CommonsGo, HaveSpace, behind_leading, common_places}
 use Rattle.lk_sizes.proofs.CommonOnes.{file_goes, next_left, still_left}
 use Rattle.lk_sizes.proofs.Made.{made_map}
@@ -19,13 +19,13 @@ use Rattle.lk_sizes.proofs.addresses.owner_addresses.Goals as goal
 
 pub behind_leading-requires-clause-images : goal.behind_leading-requires-clause-images
 behind_leading-requires-clause-images c =
-    let content = content_of c.requires.room.0 c.args.live.now c.args.merged_lens.now in
+    let filling : Filling = plain_filling (content_of c.args.link.now c.requires.room.0 c.args.live.now c.args.merged_lens.now) in
     ap (map (λ (p : PartContents). p.has_image)) c.requires.room.1
-    ∙ made_map (λ (p : PartContents). p.has_image) (contents_of c.args.link.now content) (all_parts c.args.link.now.plan.sections) 0
+    ∙ made_map (λ (p : PartContents). p.has_image) (contents_of filling) (all_parts c.args.link.now.plan.sections) 0
 
 pub behind_leading-requires-clause-fit : goal.behind_leading-requires-clause-fit
 behind_leading-requires-clause-fit c = λ p below.
-    omega (arith, all_fit c.args.link.now (content_of c.requires.room.0 c.args.live.now c.args.merged_lens.now) c.args.starts.now p c.requires.room.2 below)
+    omega (arith, all_fit (plain_filling (content_of c.args.link.now c.requires.room.0 c.args.live.now c.args.merged_lens.now)) c.args.starts.now p c.requires.room.2 below)
 
 pub files-file-items-requires : goal.files-file-items-requires
 files-file-items-requires c = are_numbered c.args.link.now c.requires.good
@@ -54,34 +54,34 @@ place_commons-requires-clause-goes c =
 
 pub place_sections-requires-clause-count : goal.place_sections-requires-clause-count
 place_sections-requires-clause-count c =
-    let content = content_of c.requires.room.0 c.args.live.now c.args.merged_lens.now in
+    let content = content_of c.args.link.now c.requires.room.0 c.args.live.now c.args.merged_lens.now in
     let ends : List ℕ = map (behind_leading c.args.link.now c.args.merged_lens.now c.args.starts.now) (range_with_len 0 (length c.args.starts.now)) in
-    omega (arith, ap length c.deref_mut.ensures.value, c.loop-file.invariant.0.passed.count, ends_count c.args.link.now content c.args.starts.now ends refl, c.requires.starts)
+    omega (arith, ap length c.deref_mut.ensures.value, c.loop-file.invariant.0.passed.count, ends_count content c.args.starts.now ends refl, c.requires.starts)
 
 pub place_sections-requires-clause-space : goal.place_sections-requires-clause-space
 place_sections-requires-clause-space c =
     let link = c.args.link.now in
-    let content = content_of c.requires.room.0 c.args.live.now c.args.merged_lens.now in
+    let content = content_of c.args.link.now c.requires.room.0 c.args.live.now c.args.merged_lens.now in
     let ends : List ℕ = map (behind_leading link c.args.merged_lens.now c.args.starts.now) (range_with_len 0 (length c.args.starts.now)) in
     let f : NumberedFile = file_of c.in-Some.file in
     let done : List NumberedFile = map file_of c.loop-file.yielded in
     let turn = turn_of file_of (numbered_files link.groups) c.into_iter-file-iterator.result c.loop-file.file-iterator c.next.new.self c.loop-file.yielded c.in-Some.file (cc) c.loop-file.yielded_by c.in-Some.ensures.steps in
     let next : IsNextFile link done f = record { rest = turn.0; splits = turn.1 } in
-    rw c.deref_mut.ensures.value (section_space link content c.args.starts.now ends done f c.loop-file.next.items next c.requires.room.2 refl c.loop-file.invariant.0.passed)
+    rw c.deref_mut.ensures.value (section_space content c.args.starts.now ends done f c.loop-file.next.items next c.requires.room.2 refl c.loop-file.invariant.0.passed)
 
 pub place_commons-requires-clause-count : goal.place_commons-requires-clause-count
 place_commons-requires-clause-count c =
-    let content = content_of c.requires.room.0 c.args.live.now c.args.merged_lens.now in
+    let content = content_of c.args.link.now c.requires.room.0 c.args.live.now c.args.merged_lens.now in
     let ends : List ℕ = map (behind_leading c.args.link.now c.args.merged_lens.now c.args.starts.now) (range_with_len 0 (length c.args.starts.now)) in
     let later : List ℕ = c.place_sections.new.next in
     let long : length later ≡ c.loop-file.next.len = search rules in
     let value = c.deref_mut-in-loop-file.ensures.value ∙ take_at later (drop (length later) c.loop-file.next.items) c.loop-file.next.len long in
-    omega (arith, ap length value, c.in_ok-place_sections.ensures.moved.count, ap length c.deref_mut.ensures.value, c.loop-file.invariant.0.passed.count, ends_count c.args.link.now content c.args.starts.now ends refl, c.requires.starts)
+    omega (arith, ap length value, c.in_ok-place_sections.ensures.moved.count, ap length c.deref_mut.ensures.value, c.loop-file.invariant.0.passed.count, ends_count content c.args.starts.now ends refl, c.requires.starts)
 
 pub place_commons-requires-clause-space : goal.place_commons-requires-clause-space
 place_commons-requires-clause-space c =
     let link = c.args.link.now in
-    let content = content_of c.requires.room.0 c.args.live.now c.args.merged_lens.now in
+    let content = content_of c.args.link.now c.requires.room.0 c.args.live.now c.args.merged_lens.now in
     let ends : List ℕ = map (behind_leading link c.args.merged_lens.now c.args.starts.now) (range_with_len 0 (length c.args.starts.now)) in
     let f : NumberedFile = file_of c.in-Some.file in
     let done : List NumberedFile = map file_of c.loop-file.yielded in
@@ -95,7 +95,7 @@ place_commons-requires-clause-space c =
     let left = next_left link live done f turn.0 c.loop-file.left.now turn.1 c.loop-file.invariant.1 in
     let own = c.split_commons.ensures.own live left in
     rw value (subst (λ (cs : List Common). HaveSpace link later (map common_taker cs)) (sym own)
-    (common_space link content c.args.starts.now ends done f c.loop-file.next.items later next c.requires.room.2 refl c.loop-file.invariant.0.passed moved))
+    (common_space content c.args.starts.now ends done f c.loop-file.next.items later next c.requires.room.2 refl c.loop-file.invariant.0.passed moved))
 
 pub loop-file-preserved : goal.loop-file-preserved
 loop-file-preserved c =

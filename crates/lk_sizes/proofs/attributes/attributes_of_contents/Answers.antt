@@ -1,6 +1,7 @@
 use Rattle.std.proofs.Common.{map, List, ap, ◌∙◌, arith}
 use Rattle.std.specs.List.{range_with_len}
 use Rattle.lk_sizes.specs.declared.owners.PartContents.{PartContents}
+use Rattle.lk_sizes.specs.Owners.{in_link}
 use Rattle.lk_sizes.proofs.Emitting.{all_attributes, all_joined, attributes_by}
 use Rattle.lk_sizes.proofs.Limited.{sections_fit}
 use Rattle.lk_sizes.proofs.Made.{one_pushed}
@@ -16,10 +17,11 @@ loop-number-preserved c =
     (c.section_attributes.ensures ∙ ap made c.from_u32-section.ensures)
 
 pub returns-clause-contents : goal.returns-clause-contents
-returns-clause-contents c = λ content is.
+returns-clause-contents c = λ given is.
+    let filling = in_link c.args.link.now given in
     c.loop-number.invariant
     ∙ ap (λ (contents : List PartContents). map (attributes_by c.args.link.now.plan contents) (range_with_len 0 c.loop-number.number)) is
-    ∙ all_attributes c.args.link.now content c.loop-number.number (omega arith)
+    ∙ all_attributes filling c.loop-number.number (omega arith)
 
 pub returns-clause-joined : goal.returns-clause-joined
 returns-clause-joined c = λ live is. c.loop-number.invariant ∙ all_joined c.args.link.now live c.args.contents.now c.loop-number.number is (omega arith)

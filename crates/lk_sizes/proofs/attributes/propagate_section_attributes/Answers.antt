@@ -1,6 +1,5 @@
 use Rattle.std.proofs.Common.{◌≡◌, ℕ, List, length, map, sym, ap, ◌∙◌}
 use Rattle.std.proofs.lemmas.List.{length-map}
-use Rattle.lk_link.specs.Parts.{all_parts}
 use Rattle.lk_sizes.specs.declared.owners.PartContents.{PartContents}
 use Rattle.lk_sizes.specs.declared.owners.PartTotal.{PartTotal}
 use Rattle.lk_sizes.specs.Attributes.{part_attributes}

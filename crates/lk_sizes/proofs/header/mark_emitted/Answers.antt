@@ -28,6 +28,6 @@ returns c =
       count = ap length left ∙ length-made (left_by plan c.in_ok-marks.marks.items) plan.sections 0;
       emitted = λ sizes lens first.
           left
-          ∙ emitted_are c.args.link.now (content_of sizes c.args.live.now lens) c.in_ok-kept.kept.items c.in_ok-marks.marks.items (c.in_ok-kept.ensures.kept sizes lens first)
+          ∙ emitted_are (content_of c.args.link.now sizes c.args.live.now lens) c.in_ok-kept.kept.items c.in_ok-marks.marks.items (c.in_ok-kept.ensures.kept sizes lens first)
           (rw c.deref-2.ensures.value at c.in_ok-marks.ensures.marks);
     }

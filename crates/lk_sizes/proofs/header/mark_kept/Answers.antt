@@ -15,5 +15,5 @@ returns c = record {
   count = ap length c.loop-number.invariant ∙ length-map-range_with_len (kept_by c.args.link.now.plan c.args.live.now.kept c.args.by_symbols.now c.args.first_sizes.now) 0 c.loop-number.number ∙ omega arith;
   kept = λ sizes lens first.
       c.loop-number.invariant
-      ∙ all_kept c.args.link.now (content_of sizes c.args.live.now lens) c.args.by_symbols.now c.args.first_sizes.now c.loop-number.number c.requires.symbols first (omega arith);
+      ∙ all_kept (content_of c.args.link.now sizes c.args.live.now lens) c.args.by_symbols.now c.args.first_sizes.now c.loop-number.number c.requires.symbols first (omega arith);
 }

@@ -3,6 +3,7 @@ use Rattle.std.specs.List.{range_with_len}
 use Rattle.lk_link.specs.declared.plan.PlanSection.{PlanSection}
 use Rattle.lk_link.specs.Parts.{first_part}
 use Rattle.lk_sizes.specs.declared.owners.PartContents.{PartContents}
+use Rattle.lk_sizes.specs.Owners.{in_link}
 use Rattle.lk_sizes.proofs.ImageStarts.{all_addresses, start_among, start_by}
 use Rattle.lk_sizes.proofs.Made.{one_pushed}
 use Rattle.lk_sizes.proofs.images.image_addresses.Goals as goal
@@ -20,7 +21,8 @@ loop-number-preserved c =
     one_pushed (start_by sections contents starts) n c.loop-number.addresses.items c.push.new.self.items c.image_start.result c.in_ok-push.ensures.items c.loop-number.invariant one
 
 pub returns : goal.returns
-returns c = λ content is.
+returns c = λ given is.
+    let filling = in_link c.args.link.now given in
     c.loop-number.invariant
     ∙ ap (λ (contents : List PartContents). map (start_by c.args.link.now.plan.sections contents c.args.starts.now) (range_with_len 0 c.loop-number.number)) is
-    ∙ all_addresses c.args.link.now content c.args.starts.now c.loop-number.number (omega arith) c.requires.starts
+    ∙ all_addresses filling c.args.starts.now c.loop-number.number (omega arith) c.requires.starts

@@ -1,12 +1,12 @@
-use Rattle.std.proofs.Common.{◌≡◌, ◌<◌, ℕ, List, false, length, set, Some, sym, subst, take, arith}
-use Rattle.std.specs.List.{slice_get, slice_index_or}
+use Rattle.std.proofs.Common.{◌<◌, ℕ, List, false, length, set, sym, subst, take, arith}
+use Rattle.std.specs.List.{slice_index_or}
 use Rattle.std.proofs.lemmas.List.{get_or_default}
 use Rattle.lk_link.specs.Parts.{all_parts}
 use Rattle.lk_tables.specs.declared.commons.Common.{Common}
 use Rattle.lk_sizes.specs.Tables.{AreAdded}
 use Rattle.lk_sizes.proofs.CommonAdding.{one_added}
 use Rattle.lk_sizes.proofs.LiveParts.{read_alignment, read_part}
-use Rattle.lk_sizes.proofs.Turns.{all_so_far, so_far, there}
+use Rattle.lk_sizes.proofs.Turns.{so_far, there}
 use Rattle.lk_sizes.proofs.owners.add_commons.Goals as goal
 
 pub bounds-parts-part : goal.bounds-parts-part

@@ -7,6 +7,7 @@ use Rattle.lk_link.specs.Parts.{all_parts}
 use Rattle.lk_sizes.specs.declared.owners.PartTotal.{PartTotal}
 use Rattle.lk_link.specs.Parts.{part_sections}
 use Rattle.lk_sizes.specs.Contents.{IsContentTotal}
+use Rattle.lk_sizes.specs.Owners.{Content, content_of, plain_filling}
 use Rattle.lk_sizes.proofs.ImageLemmas.{len_of_part, length-lens, section_of}
 use Rattle.lk_sizes.proofs.LiveParts.{read_alignment, read_part}
 use Rattle.lk_sizes.proofs.Wholes.{AreWhole, IsBrought, one_whole, with_leading}
@@ -30,9 +31,10 @@ with_identity-requires-clause-aligned c =
     (omega (arith, ap length c.parts-parts.ensures, c.in_ok-inputs.ensures.count))
 
 pub loop-number-preserved : goal.loop-number-preserved
-loop-number-preserved c =
+loop-number-preserved c = λ sizes.
     let link = c.args.link.now in
     let n : ℕ = c.loop-number.number in
+    let content : Content = content_of link sizes c.args.live.now c.args.merged_lens.now in
     let sections : List PlanSection = link.plan.sections in
     let merged_lens : List ℕ = c.args.merged_lens.now in
     let within : n < length (all_parts sections) = omega (arith, c.in_ok-inputs.ensures.count) in
@@ -51,12 +53,12 @@ loop-number-preserved c =
     = c.index-in-loop-number.ensures
     ∙ get_or_default_zero c.in_ok-lens.lens.items n len (omega (arith, length-lens link merged_lens c.in_ok-lens.lens.items lens))
     ∙ len_of_part link merged_lens c.in_ok-lens.lens.items n lens within in
-    let whole : IsContentTotal link c.args.live.now merged_lens n c.with_identity.result
-    = with_leading link c.args.live.now merged_lens n old c.with_image-total.result c.with_identity.result _ len c.identity_size.result brought part long
+    let whole : IsContentTotal (plain_filling content) n c.with_identity.result
+    = with_leading content n old c.with_image-total.result c.with_identity.result _ len c.identity_size.result brought part long
     c.identity_size.ensures.size c.with_image-total.ensures.bytes c.with_image-total.ensures.image c.with_image-total.ensures.attrs
     c.with_identity.ensures.bytes c.with_identity.ensures.image c.with_identity.ensures.attrs in
-    subst (AreWhole link c.args.live.now merged_lens (n + 1)) (sym c.in_ok-push.ensures.items)
-    (one_whole link c.args.live.now merged_lens n c.loop-number.totals.items c.with_identity.result c.loop-number.invariant whole)
+    subst (AreWhole content (n + 1)) (sym c.in_ok-push.ensures.items)
+    (one_whole content n c.loop-number.totals.items c.with_identity.result (c.loop-number.invariant sizes) whole)
 
 pub returns : goal.returns
-returns c = record { count = c.loop-number.invariant.count ∙ omega (arith, c.in_ok-inputs.ensures.count); each = c.loop-number.invariant.each }
+returns c = λ sizes. record { count = (c.loop-number.invariant sizes).count ∙ omega (arith, c.in_ok-inputs.ensures.count); each = (c.loop-number.invariant sizes).each }

@@ -3,18 +3,19 @@ use Rattle.std.specs.List.{sum_by}
 use Rattle.std.proofs.lemmas.List.{take_all, take_more, map-append}
 use Rattle.std.proofs.lemmas.List.Sums.{sum_by_more}
 use Rattle.lk_sizes.specs.declared.owners.PartTotal.{PartTotal}
+use Rattle.lk_sizes.specs.Owners.{in_link}
 use Rattle.lk_sizes.specs.PartOwners.{tables_of}
 use Rattle.lk_sizes.proofs.Fitting.{AreSums, are_sums, as_contents, fitting, refused}
 use Rattle.lk_sizes.proofs.owners.part_contents.Goals as goal
 
 pub returns-then-sum-from : goal.returns-then-sum-from
-returns-then-sum-from c = λ content added told.
+returns-then-sum-from c = λ given added told.
+    let filling = in_link c.args.link.now given in
     let totals = c.as_slice-total-items.result.now in
-    let link = c.args.link.now in
-    let whole = c.in_ok-whole.ensures (tables_of link content) told in
-    let sums = subst (AreSums link content) (sym c.as_slice-total-items.ensures.value) (subst (AreSums link content) (sym whole) (are_sums link content c.args.totals.now added)) in
+    let whole = c.in_ok-whole.ensures (tables_of filling.content) told in
+    let sums = subst (AreSums filling) (sym c.as_slice-total-items.ensures.value) (subst (AreSums filling) (sym whole) (are_sums filling c.args.totals.now added)) in
     let more = sum_by_more (λ (t : PartTotal). t.bytes) totals c.loop-part.part (record { bytes = 0; has_image = false; attrs = 0 }) c.loop-part-test.true in
-    refused link content totals c.loop-part.part sums c.loop-part-test.true (omega arith) (omega (arith, more))
+    refused filling totals c.loop-part.part sums c.loop-part-test.true (omega arith) (omega (arith, more))
 
 pub loop-part-preserved : goal.loop-part-preserved
 loop-part-preserved c =
@@ -33,11 +34,11 @@ loop-part-preserved c =
     }
 
 pub returns : goal.returns
-returns c = λ content added told.
+returns c = λ given added told.
+    let filling = in_link c.args.link.now given in
     let totals = c.as_slice-total-items.result.now in
-    let link = c.args.link.now in
-    let whole = c.in_ok-whole.ensures (tables_of link content) told in
-    let sums = subst (AreSums link content) (sym c.as_slice-total-items.ensures.value) (subst (AreSums link content) (sym whole) (are_sums link content c.args.totals.now added)) in
+    let whole = c.in_ok-whole.ensures (tables_of filling.content) told in
+    let sums = subst (AreSums filling) (sym c.as_slice-total-items.ensures.value) (subst (AreSums filling) (sym whole) (are_sums filling c.args.totals.now added)) in
     let all = take_all c.loop-part.part totals c.loop-part-test.false in
-    let fit = fitting link content totals sums (omega (arith, ap (sum_by (λ (t : PartTotal). t.bytes)) all)) in
+    let fit = fitting filling totals sums (omega (arith, ap (sum_by (λ (t : PartTotal). t.bytes)) all)) in
     (fit.0, c.from_vec.ensures ∙ c.loop-part.invariant.contents ∙ ap (map as_contents) all ∙ fit.1)

@@ -5,6 +5,6 @@ use Rattle.lk_sizes.proofs.Fitting.{contents_sizes}
 use Rattle.lk_sizes.proofs.owners.sizes_of_contents.Goals as goal
 
 pub returns-clause-sizes : goal.returns-clause-sizes
-returns-clause-sizes c = λ link content is.
+returns-clause-sizes c = λ filling is.
     let bytes : c.loop-part.sizes.items ≡ map (λ (x : PartContents). x.bytes) c.args.contents.now = grind (arith, common_steps) in
-    bytes ∙ ap (map (λ (x : PartContents). x.bytes)) is ∙ contents_sizes link content
+    bytes ∙ ap (map (λ (x : PartContents). x.bytes)) is ∙ contents_sizes filling

@@ -1,4 +1,4 @@
-use Rattle.std.proofs.Common.{ℕ, ◌+◌, Bool, List, ◌&&◌, ◌||◌, not, sym, ap, ◌∙◌}
+use Rattle.std.proofs.Common.{◌+◌, Bool, List, ◌&&◌, ◌||◌, not, sym, ap, ◌∙◌}
 use Rattle.lk_link.specs.InputSlots.{is_discarded, is_merge}
 use Rattle.lk_link.specs.Marks.{is_marked}
 use Rattle.lk_link.specs.Walks.{file_of}

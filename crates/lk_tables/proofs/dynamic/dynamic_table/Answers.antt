@@ -1,4 +1,4 @@
-use Rattle.std.proofs.Common.{◌≡◌, ◌≤◌, ℕ, length, ap, arith}
+use Rattle.std.proofs.Common.{◌≡◌, ◌≤◌, length, ap, arith}
 use Rattle.lk_tables.specs.Dynamic.{dynamic_table}
 use Rattle.lk_tables.proofs.TableLength.{few_entries}
 use Rattle.lk_tables.proofs.dynamic.dynamic_table.Goals as goal

@@ -1,4 +1,4 @@
-use Rattle.std.proofs.Common.{◌≡◌, ◌+◌, ◌∷◌, ◌++◌, [], ℕ, map, take, ap, ◌∙◌, sym}
+use Rattle.std.proofs.Common.{◌∷◌, ◌++◌, [], ℕ, map, take, ap, ◌∙◌}
 use Rattle.std.specs.List.{enumerate_from}
 use Rattle.lk_link.specs.Walks.{file_of}
 use Rattle.lk_tables.specs.ShareSteps.{sum_of, symbol_share}

@@ -1,12 +1,7 @@
-use Rattle.std.proofs.Common.{◌≡◌, ℕ, ◌++◌, length, map, ap, ◌∙◌, arith}
-use Rattle.std.specs.List.{enumerate_from, filter_map}
+use Rattle.std.proofs.Common.{◌≡◌, length, ap, ◌∙◌, arith}
 use Rattle.lk_link.specs.Symbols.{AreSymbolsOf, first_symbol}
-use Rattle.lk_link.specs.Walks.{file_of}
 use Rattle.lk_link.proofs.SymbolLemmas.{symbols_within}
 use Rattle.lk_reach.proofs.SymbolNumbers.{symbols_few}
-use Rattle.lk_tables.specs.Commons.{common_of}
-use Rattle.lk_tables.specs.ShareSteps.{sum_of, symbol_share}
-use Rattle.lk_tables.specs.SymbolTable.{symbols_by_number}
 use Rattle.lk_tables.proofs.shares.take_file.Goals as goal
 
 pub symbol_id_range-requires : goal.symbol_id_range-requires

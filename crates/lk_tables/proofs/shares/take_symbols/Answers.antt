@@ -1,4 +1,4 @@
-use Rattle.std.proofs.Common.{◌≡◌, ◌+◌, ◌∷◌, ◌++◌, [], ℕ, List, map, take, ap, ◌∙◌, sym}
+use Rattle.std.proofs.Common.{◌∷◌, ◌++◌, [], ℕ, List, map, take, ap, ◌∙◌}
 use Rattle.std.specs.List.{cons_option, enumerate_from, filter_map}
 use Rattle.lk_link.specs.Walks.{file_of}
 use Rattle.lk_tables.specs.declared.commons.Common.{Common}

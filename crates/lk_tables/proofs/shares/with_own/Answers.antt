@@ -4,7 +4,8 @@ use Rattle.lk_link.specs.declared.flags.ValueFlags.{ValueFlags}
 use Rattle.lk_link.specs.declared.symbol.InputSymbol.{InputSymbol}
 use Rattle.lk_link.specs.Flags.{has_flag}
 use Rattle.lk_link.specs.Walks.{file_of}
-use Rattle.lk_tables.specs.Copied.{is_copied, is_copied_undefined, is_wanted}
+use Rattle.lk_link.specs.Symbols.{is_wanted}
+use Rattle.lk_tables.specs.Copied.{is_copied, is_copied_undefined}
 use Rattle.lk_tables.specs.Dynamic.{exports, is_dynamic_symbol, is_export}
 use Rattle.lk_tables.specs.Late.{flags_at, late_flags}
 use Rattle.lk_tables.specs.ShareSteps.{dynamic_share, entry_share, plus, plus_dynamic, plus_entries, plus_symtab, symbol_share, symtab_share}

@@ -1,6 +1,6 @@
 use Rattle.std.proofs.Common.{sym, ap, ◌∙◌}
 use Rattle.lk_link.specs.Walks.{file_of}
-use Rattle.lk_tables.specs.ShareSteps.{plus, sum_of, symbol_share}
+use Rattle.lk_tables.specs.ShareSteps.{plus, symbol_share}
 use Rattle.lk_tables.proofs.NotCanonical.{brings_nothing}
 use Rattle.lk_tables.proofs.ShareSums.{nothing_pushed, sum_pushed}
 use Rattle.lk_tables.proofs.shares.with_symbol.Goals as goal

@@ -1,9 +1,7 @@
-use Rattle.std.proofs.Common.{◌≡◌, ℕ, ap, ◌∙◌, arith, subst, sym}
-use Rattle.lk_link.specs.declared.ids.FileId.{FileId}
+use Rattle.std.proofs.Common.{ap, ◌∙◌, arith}
 use Rattle.lk_link.specs.Walks.{file_of}
 use Rattle.lk_tables.specs.declared.shares.SymtabShare.{SymtabShare}
-use Rattle.lk_tables.specs.ShareSteps.{whole_symtab}
-use Rattle.lk_tables.proofs.SymtabTotals.{IsSymtab, same_sizes, symtab_is}
+use Rattle.lk_tables.proofs.SymtabTotals.{same_sizes, symtab_is}
 use Rattle.lk_tables.proofs.symbol_table.file_sizes.Goals as goal
 
 pub sizes_of-requires : goal.sizes_of-requires

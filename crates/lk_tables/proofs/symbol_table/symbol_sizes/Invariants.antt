@@ -6,4 +6,4 @@ use Rattle.lk_tables.proofs.symbol_table.symbol_sizes.Given as goal
 -- those of the files so far
 abbrev pub invariant-loop-file : goal.invariant-loop-file
 invariant-loop-file g l =
-    l.sizes.items ≡ map (file_symbol_sizes (g.P.Platform.table_sizes l.platform).symbol_entry l.link l.live l.header.emitted) (map file_of l.yielded)
+    l.sizes.items ≡ map (file_symbol_sizes (g.P.Platform.table_sizes l.platform).symbol_entry l.link l.live l.header.told) (map file_of l.yielded)

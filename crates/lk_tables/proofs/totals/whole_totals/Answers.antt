@@ -6,7 +6,7 @@ use Rattle.lk_tables.proofs.TotalLemmas.{whole_totals_are}
 use Rattle.lk_tables.proofs.totals.whole_totals.Goals as goal
 
 pub returns : goal.returns
-returns g c = λ whole live told h i.
+returns g c = λ live told counts h i.
     let sizes = g.P.Platform.table_sizes c.args.platform.now in
     let link = c.args.link.now in
     let sum = plus (sum_of c.args.shares.now) c.args.prelude in
@@ -18,6 +18,6 @@ returns g c = λ whole live told h i.
     c.totals_by.ensures
     ∙ ap (λ s. totals_by s c.dynamic_total-dynamic.result c.header_sizes.result) all
     ∙ ap (λ d. totals_by sum d c.header_sizes.result) dynamic
-    ∙ ap (totals_by sum (dynamic_total link (dynamic_share true sizes.symbol_entry 0) sum)) (c.header_sizes.ensures.all whole)
+    ∙ ap (totals_by sum (dynamic_total link (dynamic_share true sizes.symbol_entry 0) sum)) (c.header_sizes.ensures.all live counts)
     ∙ whole_totals_are sizes link live told c.args.header.now.emitted c.args.header.now.active_segment_ids
     (g.met.P.Platform.sizes_are_lawful c.args.platform.now).file_header c.args.shares.now c.args.prelude (h ∙ first_shares_are sizes link live) (i ∙ prelude_share_is sizes link live told)

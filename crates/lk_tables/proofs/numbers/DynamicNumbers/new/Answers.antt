@@ -1,7 +1,7 @@
-use Rattle.std.proofs.Common.{ap, ◌∙◌, refl, sym, arith}
+use Rattle.std.proofs.Common.{ap, ◌∙◌, refl, arith}
 use Rattle.lk_tables.specs.declared.shares.FileShare.{FileShare}
 use Rattle.lk_tables.specs.ShareSteps.{plus}
-use Rattle.lk_tables.proofs.NumberLemmas.{count_is, no_numbers, numbers_begin}
+use Rattle.lk_tables.proofs.NumberLemmas.{count_is, numbers_begin}
 use Rattle.lk_tables.proofs.ShareTies.{first_shares_are, prelude_share_is}
 use Rattle.lk_tables.proofs.numbers.DynamicNumbers.new.Goals as goal
 

@@ -4,7 +4,7 @@ use Rattle.lk_link.specs.declared.flags.ValueFlags.{ValueFlags}
 use Rattle.lk_link.specs.Files.{first_some}
 use Rattle.lk_link.specs.Flags.{has_flag}
 use Rattle.lk_link.specs.Walks.{file_of}
-use Rattle.lk_tables.specs.Copied.{is_wanted}
+use Rattle.lk_link.specs.Symbols.{is_wanted}
 use Rattle.lk_tables.specs.Dynamic.{exports, is_dynamic_symbol, is_export}
 use Rattle.lk_tables.specs.Late.{flags_at, late_flags}
 use Rattle.lk_tables.proofs.NumberLemmas.{number_is, numbers_few, numbers_move}

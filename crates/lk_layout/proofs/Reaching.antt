@@ -1,0 +1,67 @@
+-- How a stage leads back to the answer of the link: what is answered behind it is answered of the link.
+use Rattle.std.proofs.Common.{Result, Ok, Err, ap}
+use Rattle.std.specs.Prelude.{option_map}
+use Rattle.lk_link.specs.declared.link.LinkInput.{LinkInput}
+use Rattle.lk_layout.specs.Machines.{Machine}
+use Rattle.lk_gc.specs.declared.live.Live.{Live}
+use Rattle.lk_layout.specs.declared.error.LayoutError.{LayoutError}
+use Rattle.lk_layout.specs.declared.images.Images.{Images}
+use Rattle.lk_layout.specs.LayoutRecord.{LayoutRecord}
+use Rattle.lk_layout.specs.declared.stages.KeptLink.{KeptLink}
+use Rattle.lk_layout.specs.declared.stages.PlacedLink.{PlacedLink}
+use Rattle.lk_layout.specs.declared.stages.SizedLink.{SizedLink}
+use Rattle.lk_layout.specs.Defined.{Gives, IsCarriedAnswer, IsDefined, IsLiveAnswer, IsMergedAnswer, IsPlacedAnswer, IsSizedAnswer, WithMemory}
+use Rattle.lk_layout.specs.Defined.{fault_refusal, not_carried, references_error, references_refusal, sizes_refusal, uncarried_refusal, walk_refusal}
+use Rattle.lk_layout.specs.Errors.{fault_error, place_error, size_error}
+use Rattle.lk_layout.specs.Made.{Made, made_of}
+use Rattle.lk_layout.specs.Merging.{merging_refusal}
+use Rattle.lk_layout.specs.MergingWords.{GivesImages}
+use Rattle.lk_layout.specs.Stages.{IsChecked, IsKept, IsMerged, IsPlacedLink, IsSized, Reaches}
+use Rattle.lk_layout.proofs.Answering.{passed_on, unless_none, unless_some}
+
+pub from_checked : (machine : Machine) (link : LinkInput) (answer : Result LayoutRecord LayoutError) → IsChecked link
+    → WithMemory (IsCarriedAnswer machine link) answer → Gives machine link answer
+from_checked machine link answer is given =
+    passed_on (IsCarriedAnswer machine link) (IsDefined machine link) answer (λ a h.
+    unless_none (fault_refusal link) a _ (ap (option_map fault_error) is.faultless)
+    (unless_none (uncarried_refusal link) a _ (ap (option_map not_carried) is.carried) h)) given
+
+pub from_merged : (machine : Machine) (link : LinkInput) (images : Images) (answer : Result LayoutRecord LayoutError) → IsMerged link images
+    → WithMemory (IsMergedAnswer machine link) answer → Gives machine link answer
+from_merged machine link images answer is given =
+    from_checked machine link answer is.checked
+    (passed_on (IsMergedAnswer machine link) (IsCarriedAnswer machine link) answer (λ a h. unless_none (merging_refusal link) a _ is.unrefused h) given)
+
+pub from_kept : (machine : Machine) (link : LinkInput) (kept : KeptLink) (answer : Result LayoutRecord LayoutError) → IsKept link kept
+    → WithMemory (IsLiveAnswer machine link kept.live) answer → Gives machine link answer
+from_kept machine link kept answer is given =
+    from_merged machine link kept.images answer is.merged (passed_on (IsLiveAnswer machine link kept.live) (IsMergedAnswer machine link) answer (λ a h.
+    unless_none (references_refusal link) a _ (ap references_error is.met) (kept.live, is.live, h)) given)
+
+pub from_sized : (machine : Machine) (link : LinkInput) (sized : SizedLink) (answer : Result LayoutRecord LayoutError) → IsSized machine.sizes link sized
+    → WithMemory (IsSizedAnswer machine link sized.kept.live) answer → Gives machine link answer
+from_sized machine link sized answer is given =
+    let live : Live = sized.kept.live in
+    from_kept machine link sized.kept answer is.kept (passed_on (IsSizedAnswer machine link live) (IsLiveAnswer machine link live) answer (λ a h.
+    unless_none (sizes_refusal machine.sizes link live) a _ (ap (option_map size_error) is.fits) h) given)
+
+-- what it is made of, once it is placed
+abbrev pub made_placed : {machine : Machine} {link : LinkInput} {placed : PlacedLink} → IsPlacedLink machine link placed → Made
+made_placed {machine} {link} {placed} is = made_of machine link placed.sized.kept.live is.are.states placed.records.parts
+
+pub from_placed : (machine : Machine) (link : LinkInput) (placed : PlacedLink) (answer : Result LayoutRecord LayoutError) (is : IsPlacedLink machine link placed)
+    → WithMemory (IsPlacedAnswer (made_placed is)) answer → Gives machine link answer
+from_placed machine link placed answer is given =
+    let made : Made = made_placed is in
+    from_sized machine link placed.sized answer is.sized (passed_on (IsPlacedAnswer made) (IsSizedAnswer machine link made.live) answer (λ a h. (
+      made.states,
+      made.records,
+      is.are.is,
+      unless_none (walk_refusal made) a _ (ap (option_map place_error) is.are.unrefused) h,
+    )) given)
+
+-- what merging gives is the next stage, or the answer
+pub merged : (machine : Machine) (link : LinkInput) (result : Result Images LayoutError) → IsChecked link → GivesImages link result
+    → Reaches machine link (IsMerged link) result
+merged machine link (Ok images) is given = record { checked = is; unrefused = given.0; are = given.1 }
+merged machine link (Err e) is given = from_checked machine link (Err e) is (λ some. unless_some (merging_refusal link) e _ (given some))

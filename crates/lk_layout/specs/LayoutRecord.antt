@@ -1,0 +1,30 @@
+-- What a layout holds, as contracts see it: its link, and where everything of it stands.
+use Rattle.std.specs.Prelude.{ℕ, Bool, List, Option}
+use Rattle.lk_link.specs.declared.link.LinkInput.{LinkInput}
+use Rattle.lk_link.specs.declared.resolution.Resolution.{Resolution}
+use Rattle.lk_expressions.specs.Records.{Record}
+use Rattle.lk_merge.specs.Pieces.{MergeInput}
+use Rattle.lk_place.specs.declared.segments.SegmentLayout.{SegmentLayout}
+
+pub record LayoutRecord : Type 0 where
+  pub link : LinkInput
+  -- of each output section; of each with its secondaries, from its own start on; and of each part, numbered over all sections
+  pub section_layouts : List Record
+  pub merged_section_layouts : List Record
+  pub section_part_layouts : List Record
+  -- of each output section its attributes, and its index in the output, if it is emitted
+  pub section_attributes : List ℕ
+  pub output_section_indexes : List (Option ℕ)
+  -- of each active segment; and of the thread-local one
+  pub segment_layouts : List SegmentLayout
+  pub tls_layout : Option Record
+  -- of each input section, by its number over all files, whether it is live, and its address
+  pub live_marks : List Bool
+  pub section_addresses : List ℕ
+  -- of each output section what is merged there, and where the buckets stand
+  pub merged_strings : List (List MergeInput)
+  pub merged_string_start_addresses : List ℕ
+  -- of each symbol, by number, what it stands for
+  pub symbol_resolutions : List (Option Resolution)
+  -- the symbol that stands for the one where the program starts
+  pub entry_symbol_id : Option ℕ

@@ -1,0 +1,15 @@
+use Rattle.std.proofs.Common.{rules, Ok, Err}
+use Rattle.lk_layout.specs.Defined.{Gives}
+use Rattle.lk_layout.specs.Machines.{small64_machine}
+use Rattle.lk_run.proofs.Refusals.{refusal_is_defined}
+use Rattle.lk_run.proofs.top_call.answer_computed.Goals as goal
+
+pub report_text-requires : goal.report_text-requires
+report_text-requires c =
+    let given : Gives small64_machine c.args.link.now (Ok c.in-Ok.layout) = rw c.in-Ok.is at c.requires in
+    record { good = c.laid_out_links_are_well_formed.ensures small64_machine c.args.link.now c.in-Ok.layout given }
+
+pub returns-in_ok-fault_text-in-Err : goal.returns-in_ok-fault_text-in-Err
+returns-in_ok-fault_text-in-Err c =
+    let given : Gives small64_machine c.args.link.now (Err c.in-Err.fault) = rw c.in-Err.is at c.requires in
+    (Err c.in-Err.fault, refusal_is_defined small64_machine c.args.link.now c.in-Err.fault given (search rules), search rules)

@@ -1,0 +1,263 @@
+//! The top call: words and an input in, the report or a fault's text out.
+//!
+//! A run reads its source to the end, or up to one byte past the longest input, makes the whole text of the answer, and
+//! only then writes: so want of memory and a failing source leave the sink as it was.
+
+ghost use Rattle.std.specs.Prelude.{◌≡◌, ◌≢◌, ◌↔◌, ℕ, ◌≤◌, map, string_bytes, vec_len, IfOk, IsTrue, Ok};
+ghost use Rattle.lk_input.specs.Reading.{reading_of};
+ghost use Rattle.lk_layout.specs.Defined.{Gives};
+ghost use Rattle.lk_layout.specs.Machines.{small64_machine};
+ghost use Rattle.lk_run.specs.declared.words.Command.TheVariants as commands;
+ghost use Rattle.lk_run.specs.Run.{Longer, IsAnswerToReading, IsAnswerTo, IsRun};
+ghost use Rattle.lk_run.specs.RunAlone.{AsksForWorkers, IsRunAlone};
+ghost use Rattle.lk_run.specs.SoundRun.{IsSoundRun};
+ghost use Rattle.lk_run.specs.Steps.{GivesReading, IsReadAs, IsToldBy, IsLinkToldBy, IsLayoutRun, IsUsageRun};
+
+use crate::answer::Answer;
+use crate::fault_texts::{fault_text, input_fault_text, too_long_text};
+use crate::limit::LONGEST_INPUT;
+use crate::report::report_text;
+use crate::sink::Sink;
+use crate::source::Source;
+use crate::status::Status;
+use crate::transfer::{ReadAllError, read_all, write_all};
+use crate::words::{read_words, usage_text};
+use lk_input::{InputError, read_link};
+use lk_layout::laws::{defined_layouts_are_sound, laid_out_links_are_well_formed};
+use lk_layout::{Layout, LayoutError, Small64Arch, compute, compute_alone};
+use lk_link::gate::Gate;
+use lk_link::link::LinkInput;
+use lk_link::platform::Small64;
+use lk_link::text::Text;
+use std::alloc::{AllocError, Global};
+use std::sync::Wait;
+use std::thread::Threads;
+
+/// What was read of a source.
+#[derive(Drop)]
+enum Reading {
+    /// The link that it describes.
+    Link(LinkInput),
+    /// Why it describes none.
+    Fault(Answer),
+}
+
+/// The link that bytes describe, or the text that tells why they describe none.
+fn read_bytes(alloc: Global, bytes: &[u8]) -> Result<Reading, AllocError>
+    ensures { IfOk result (IsReadAs (reading_of bytes.now)) }
+{
+    match read_link(alloc, bytes) {
+        Ok(link) => Ok(Reading::Link(link)),
+        Err(InputError::NoMemory) => Err(AllocError),
+        Err(fault) => Ok(Reading::Fault(Answer {
+            status: Status::Unreadable,
+            text: Text::from_string(input_fault_text(alloc, &fault)?),
+        })),
+    }
+}
+
+/// The answer to an input that is too long.
+fn answer_too_long(alloc: Global) -> Result<Answer, AllocError>
+    ensures { IfOk result (λ answer. (workers : ℕ) → IsAnswerTo (commands.Layout workers) Longer answer) }
+{
+    Ok(Answer {
+        status: Status::Unreadable,
+        text: Text::from_string(too_long_text(alloc)?),
+    })
+}
+
+/// What is read of a source, or the status that tells why nothing is.
+fn read_source<S: Source>(alloc: Global, source: &mut S) -> Result<Reading, Status>
+    ensures { GivesReading result (S.state source.old) (S.state source.new) }
+{
+    match read_all(alloc, source, LONGEST_INPUT) {
+        Ok(bytes) => match read_bytes(alloc, &bytes) {
+            Ok(reading) => Ok(reading),
+            Err(_) => Err(Status::NoMemory),
+        },
+        Err(ReadAllError::TooLong) => match answer_too_long(alloc) {
+            Ok(answer) => Ok(Reading::Fault(answer)),
+            Err(_) => Err(Status::NoMemory),
+        },
+        Err(ReadAllError::Failed) => Err(Status::ReadFault),
+        Err(ReadAllError::NoMemory) => Err(Status::NoMemory),
+    }
+}
+
+/// The answer to a link of which this was computed: the report of its layout, or the text of its refusal.
+fn answer_computed(
+    alloc: Global,
+    link: &LinkInput,
+    computed: Result<Layout<'_>, LayoutError>,
+) -> Result<Answer, AllocError>
+    requires { Gives small64_machine link.now computed }
+    ensures { IfOk result (λ answer. IsAnswerToReading (Ok link.now) answer) }
+{
+    // A law, which does nothing: what has a layout is well formed.
+    laid_out_links_are_well_formed();
+    match computed {
+        Ok(layout) => Ok(Answer {
+            status: Status::LaidOut,
+            text: Text::from_string(report_text(alloc, link, &layout)?),
+        }),
+        Err(LayoutError::NoMemory) => Err(AllocError),
+        Err(fault) => Ok(Answer {
+            status: Status::Refused,
+            text: Text::from_string(fault_text(alloc, &fault)?),
+        }),
+    }
+}
+
+/// Writes the text of an answer: its status, or that the sink failed.
+fn tell<K: Sink>(sink: &mut K, answer: &Answer) -> Status
+    ensures { IsToldBy result answer.now (K.state sink.old) (K.state sink.new) }
+{
+    match write_all(sink, answer.text.as_str().as_bytes()) {
+        Ok(()) => answer.status,
+        Err(_) => Status::WriteFault,
+    }
+}
+
+/// Tells what was computed of a link.
+fn tell_computed<K: Sink>(
+    alloc: Global,
+    link: &LinkInput,
+    computed: Result<Layout<'_>, LayoutError>,
+    sink: &mut K,
+) -> Status
+    requires { Gives small64_machine link.now computed }
+    ensures { IsLinkToldBy result link.now (K.state sink.old) (K.state sink.new) }
+{
+    match answer_computed(alloc, link, computed) {
+        Ok(answer) => tell(sink, &answer),
+        Err(_) => Status::NoMemory,
+    }
+}
+
+/// The run of `layout N`, by the workers that it asks for.
+fn lay_out<R: Threads + Wait + Sync, S: Source, K: Sink, G: Gate + Sync>(
+    rt: &R,
+    alloc: Global,
+    workers: u8,
+    source: &mut S,
+    sink: &mut K,
+    gate: &G,
+) -> Status
+    requires gate { 2 ≤ workers → G.may_enter gate.now }
+    ensures { IsLayoutRun (S.state source.old) (S.state source.new) (K.state sink.old) (K.state sink.new) result }
+{
+    match read_source(alloc, source) {
+        Ok(Reading::Link(link)) => {
+            let workers = u32::from(workers);
+            let computed = compute(rt, alloc, &link, &Small64, &Small64Arch, workers, gate);
+            tell_computed(alloc, &link, computed, sink)
+        }
+        Ok(Reading::Fault(answer)) => tell(sink, &answer),
+        Err(status) => status,
+    }
+}
+
+/// The same on the caller's own thread.
+fn lay_out_alone<S: Source, K: Sink>(alloc: Global, source: &mut S, sink: &mut K) -> Status
+    ensures { IsLayoutRun (S.state source.old) (S.state source.new) (K.state sink.old) (K.state sink.new) result }
+{
+    match read_source(alloc, source) {
+        Ok(Reading::Link(link)) => {
+            let computed = compute_alone(alloc, &link, &Small64, &Small64Arch);
+            tell_computed(alloc, &link, computed, sink)
+        }
+        Ok(Reading::Fault(answer)) => tell(sink, &answer),
+        Err(status) => status,
+    }
+}
+
+/// The run of words that are no command: nothing is read, and the usage text is written.
+fn run_usage<K: Sink>(sink: &mut K) -> Status
+    ensures { IsUsageRun (K.state sink.old) (K.state sink.new) result }
+{
+    match write_all(sink, usage_text().as_bytes()) {
+        Ok(()) => Status::Usage,
+        Err(_) => Status::WriteFault,
+    }
+}
+
+/// What the words ask for.
+fn run_words<R: Threads + Wait + Sync, S: Source, K: Sink, G: Gate + Sync>(
+    rt: &R,
+    alloc: Global,
+    words: &[String],
+    source: &mut S,
+    sink: &mut K,
+    gate: &G,
+) -> Status
+    requires gate { AsksForWorkers (map string_bytes words.now) → G.may_enter gate.now }
+    ensures { IsRun (map string_bytes words.now) (S.state source.old) (S.state source.new) (K.state sink.old) (K.state sink.new) result }
+{
+    match read_words(words) {
+        Some(command) => lay_out(rt, alloc, command.workers(), source, sink, gate),
+        None => run_usage(sink),
+    }
+}
+
+/// The same on the caller's own thread, however many workers the words ask for.
+fn run_words_alone<S: Source, K: Sink>(
+    alloc: Global,
+    words: &[String],
+    source: &mut S,
+    sink: &mut K,
+) -> Status
+    ensures { IsRun (map string_bytes words.now) (S.state source.old) (S.state source.new) (K.state sink.old) (K.state sink.new) result }
+{
+    match read_words(words) {
+        Some(_) => lay_out_alone(alloc, source, sink),
+        None => run_usage(sink),
+    }
+}
+
+/// Whether the words ask for several workers.
+fn ask_for_workers(words: &[String]) -> bool
+    ensures { IsTrue result ↔ AsksForWorkers (map string_bytes words.now) }
+{
+    match read_words(words) {
+        Some(command) => command.workers() >= 2,
+        None => false,
+    }
+}
+
+/// Runs the program: does what the words ask for with what the source holds, and writes one text into the sink. It never
+/// calls the gate where they ask for 0 or 1 workers. What it writes doesn't depend on their number. The law that defined
+/// layouts are sound is called to be at hand, and does nothing.
+pub fn run<R: Threads + Wait + Sync, S: Source, K: Sink, G: Gate + Sync>(
+    rt: &R,
+    alloc: Global,
+    words: &[String],
+    source: &mut S,
+    sink: &mut K,
+    gate: &G,
+) -> Status
+    requires gate { AsksForWorkers (map string_bytes words.now) → G.may_enter gate.now }
+    ensures run_theorem { IsRun (map string_bytes words.now) (S.state source.old) (S.state source.new)
+        (K.state sink.old) (K.state sink.new) result }
+    ensures sound { IsSoundRun (map string_bytes words.now) (S.state source.old) (K.state sink.old) (K.state sink.new) result }
+{
+    defined_layouts_are_sound();
+    run_words(rt, alloc, words, source, sink, gate)
+}
+
+/// The same on the caller's own thread. It waits for nobody, and always returns. `None` tells that the words ask for
+/// several workers, which it hasn't: source and sink are then as they were.
+pub fn run_alone<S: Source, K: Sink>(
+    alloc: Global,
+    words: &[String],
+    source: &mut S,
+    sink: &mut K,
+) -> Option<Status>
+    ensures { IsRunAlone (map string_bytes words.now) (S.state source.old) (S.state source.new)
+        (K.state sink.old) (K.state sink.new) result }
+{
+    defined_layouts_are_sound();
+    if ask_for_workers(words) {
+        return None;
+    }
+    Some(run_words_alone(alloc, words, source, sink))
+}
