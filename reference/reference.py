@@ -26,12 +26,12 @@ LONGEST_INPUT = 1_073_741_824
 WORKERS = [str(number) for number in range(65)]
 
 
-def link_of(data, refused=NOT_CARRIED):
+def link_of(data):
     """The description, which keeps all limits and rules."""
     if len(data) > LONGEST_INPUT:
         raise Refusal(UNREADABLE, "input is longer than %d bytes" % LONGEST_INPUT)
     link = description(read_json(data))
-    check_link(link, refused)
+    check_link(link)
     return link
 
 
@@ -39,7 +39,7 @@ def report_lines(words, data, refused):
     """The lines of the report, unless the link has something of what is refused as not carried."""
     if len(words) != 2 or words[0] != "layout" or words[1] not in WORKERS:
         raise Refusal(USAGE, "usage: lk_program layout N | gen SEED SIZE")
-    link = link_of(data, refused)
+    link = link_of(data)
     check_carried(link, refused)
     return report(link)
 
@@ -70,7 +70,7 @@ def reach_answer(_, data):
 
 def placement_answer(_, data):
     """What placement answers beside the report."""
-    return answer_of(lambda: placement_lines(link_of(data, ())))
+    return answer_of(lambda: placement_lines(link_of(data)))
 
 
 # What is asked of the reference alone, by the first word.

@@ -348,13 +348,11 @@ RULES = (
 )
 
 
-def check_link(link, refused):
-    """Refuses the first list that is too long, or the first broken rule at its first place. The rule on singletons
-    comes with partial output."""
+def check_link(link):
+    """Refuses the first list that is too long, or the first broken rule at its first place."""
     check_limits(link)
     for check in RULES:
-        if check is not check_singletons or "partial" not in refused:
-            check(link)
+        check(link)
 
 
 # What isn't laid out yet
@@ -369,7 +367,7 @@ def uncarried(link):
     inputs = [entry for _, _, entry in inputs_of(link)]
     symbols = symbols_of(link)
     owners = {file.kind for file, _ in symbols}
-    yield "partial", output == "partial" or plan.singletons is not None
+    yield "partial", output == "partial"
     yield "sorted", any(entry.sorted for entry in inputs)
     yield "primary", plan.named["primary"] is not None
     yield "relax", link.options.relax
