@@ -4,6 +4,7 @@
 usage: run.py [--merges|--plans] [PROGRAM [MEGABYTES..]]
        run.py --long [PROGRAM]
        run.py --memory [PROGRAM]
+       run.py --generated [PROGRAM]
 
 PROGRAM is crates/lk_program/out/lk_program unless given, the sizes are 1, 10 and 100 MB. Each
 description is given to the program in three forms, several times: with a value of a wrong shape that is
@@ -20,6 +21,8 @@ where the program crashes, runs out of its stack of 8 MB or answers something el
 
 With --memory, glibc counts what the program holds of memory over some descriptions of 10 MB, or of as much of
 it as the limit of output sections lets there be.
+
+With --generated, the words `gen` are set against `layout 0` over the description of the same link.
 """
 
 import hashlib
@@ -30,9 +33,12 @@ import subprocess
 import sys
 import tempfile
 
+import against_serde
+import generated
 import long_lists
 import memory
 from merges import MERGES
+from named import NAMED
 from plans import PLANS
 
 HERE = os.path.dirname(os.path.abspath(__file__))
@@ -101,6 +107,18 @@ which reading and checking grow; peak, read peak: the peak memory of all, and of
 multiples of the size. Aim: check a small part of read.
 """
 
+
+GENERATED_COLUMNS = (("MB", 6), ("layout", 8), ("gen", 8), ("growth", 7), ("gen/layout", 11), ("peak MB", 8), ("peak/layout", 12))
+GENERATED_LEGEND = """\
+MB: of the description; layout, gen: seconds; growth: the power of the number of objects by which those of gen
+grow; peak: of gen. Aim: gen/layout at most 0.3 at 100,000 objects.
+"""
+
+BASELINE_COLUMNS = (("ours", 7), ("serde", 7), ("ratio", 6), ("peak MB", 8), ("serde MB", 9), ("ratio", 6))
+BASELINE_LEGEND = """\
+ours, serde: processor seconds of reading a description of 100 MB, ours with the answer that its last value has a
+wrong shape; then the peak memory. Aim: 1.1 times serde's, 1.15 on tabled.
+"""
 
 LONG_COLUMNS = (("items", 9), ("MB", 6), ("seconds", 8), ("ms/MB", 7), ("peak MB", 8), ("peak", 6))
 
@@ -354,8 +372,59 @@ def measure_memory(program, folder):
     print(MEMORY_LEGEND)
 
 
-SPECIAL_SHAPES = {"--merges": MERGES, "--plans": PLANS}
-OTHER_MEASURES = {"--long": measure_long_lists, "--memory": measure_memory}
+def measure_baseline(program, folder):
+    baseline = against_serde.build(folder)
+    if baseline is None:
+        sys.exit("cargo can't build the other program here; Debian's packages for it: " + against_serde.PACKAGES)
+    path, output = os.path.join(folder, "description"), os.path.join(folder, "output")
+    print_headings(BASELINE_COLUMNS)
+    for shape in against_serde.SHAPES:
+        generate(path, against_serde.MEGABYTES * 1_000_000, shape)
+        theirs = best([baseline], path, output, b"")
+        set_ending(path, os.path.getsize(path), READ_ENDING)
+        ours = best([program, "layout", "0"], path, output, READ_ANSWER)
+        line = (
+            *("%.2f" % run.seconds for run in (ours, theirs)),
+            "%.2f" % (ours.seconds / theirs.seconds),
+            *("%.0f" % (run.peak / 1e6) for run in (ours, theirs)),
+            "%.2f" % (ours.peak / theirs.peak),
+        )
+        print_line(BASELINE_COLUMNS, (shape, *line))
+    print(BASELINE_LEGEND)
+
+
+def measure_generated(program, folder):
+    path, nothing, output = (os.path.join(folder, name) for name in ("description", "nothing", "output"))
+    open(nothing, "wb").close()
+    print_headings(GENERATED_COLUMNS)
+    before = None
+    for size in generated.SIZES:
+        generated.put(path, size)
+        words = ["gen", str(generated.SEED), str(size)]
+        told = best([program, *words], nothing, output, " ".join(words).encode())
+        laid_out = best([program, "layout", "0"], path, output, b"layout\n")
+        growth = math.log(told.seconds / before[1], size / before[0]) if before else None
+        before = size, told.seconds
+        line = (
+            "%.1f" % (os.path.getsize(path) / 1e6),
+            "%.3f" % laid_out.seconds,
+            "%.3f" % told.seconds,
+            "" if growth is None else "%.2f" % growth,
+            "%.2f" % (told.seconds / laid_out.seconds),
+            "%.0f" % (told.peak / 1e6),
+            "%.2f" % (told.peak / laid_out.peak),
+        )
+        print_line(GENERATED_COLUMNS, ("%d objects" % size, *line))
+    print(GENERATED_LEGEND)
+
+
+SPECIAL_SHAPES = {"--merges": MERGES, "--named": NAMED, "--plans": PLANS}
+OTHER_MEASURES = {
+    "--long": measure_long_lists,
+    "--memory": measure_memory,
+    "--generated": measure_generated,
+    "--baseline": measure_baseline,
+}
 
 
 def main(words):

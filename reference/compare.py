@@ -5,6 +5,7 @@ usage: compare.py PROGRAM COUNT [SEED [FIRST]]
        compare.py PROGRAM --whole COUNT [SEED [FIRST]]
        compare.py PROGRAM --places
        compare.py PROGRAM --small
+       compare.py PROGRAM --generated COUNT
 
 Runs PROGRAM on the random descriptions of the numbers FIRST to FIRST + COUNT - 1, and where FIRST is
 0 on the fixed ones too, and shows each one on which status or bytes differ from the reference's. Ends
@@ -15,10 +16,12 @@ it doesn't carry it, as the reference does without --whole.
 
 With --places, the descriptions are some small ones, changed at every place of their text: cut there, with
 a stray byte there, with another number, with a member doubled, escaped, left out or moved. With --small, they
-are all links of two sections that may refer to each other and to what is undefined.
+are all links of two sections that may refer to each other and to what is undefined. With --generated, the
+words are `gen`, random seeds and numbers of objects up to 300, and there is no input.
 """
 
 import collections
+import random
 import re
 import sys
 
@@ -59,11 +62,11 @@ class Comparison:
         self.kinds = collections.Counter()
         self.mismatches = self.later = 0
 
-    def compare(self, name, data):
+    def compare(self, name, data, words=WORDS):
         give = reference.whole_answer if self.whole else reference.answer
-        wanted = give(WORDS, data)
+        wanted = give(words, data)
         try:
-            got = program_answer(self.program, WORDS, data)
+            got = program_answer(self.program, words, data)
         except BrokenPipeError:
             got = None, b"(input not read)"
         self.kinds[kind_of(*wanted)] += 1
@@ -90,9 +93,19 @@ def compare_listed(program, kind):
     return comparison
 
 
+def compare_generated(program, count):
+    comparison = Comparison(program)
+    numbers = random.Random(count)
+    for _ in range(count):
+        seed, size = numbers.getrandbits(numbers.randint(0, 64)), numbers.randint(1, 300)
+        comparison.compare("gen %d %d" % (seed, size), b"", ["gen", str(seed), str(size)])
+    return comparison
+
+
 def main(words):
-    if len(words) == 2 and words[1] in LISTED:
-        comparison = compare_listed(*words)
+    generated = len(words) == 3 and words[1] == "--generated" and words[2].isdigit()
+    if generated or (len(words) == 2 and words[1] in LISTED):
+        comparison = compare_generated(words[0], int(words[2])) if generated else compare_listed(*words)
         comparison.summary()
         sys.exit(1 if comparison.mismatches else 0)
     whole = words[1:2] == ["--whole"]
@@ -100,7 +113,7 @@ def main(words):
         del words[1]
         Made.widen()
     if not 2 <= len(words) <= 4 or not all(word.isdigit() for word in words[1:]):
-        sys.exit("usage: compare.py PROGRAM [--whole] COUNT [SEED [FIRST]], or compare.py PROGRAM --places|--small")
+        sys.exit("usage: compare.py PROGRAM [--whole] COUNT [SEED [FIRST]], or compare.py PROGRAM --places|--small|--generated COUNT")
     count, seed, first = (list(map(int, words[1:])) + [0, 0])[:3]
     comparison = Comparison(words[0], whole)
     if first == 0 and not whole:

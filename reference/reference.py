@@ -15,11 +15,12 @@ the headers, the counters, merged records, compacted segments, and the end of th
 import sys
 
 from rules.checking import NOT_CARRIED, check_carried, check_link
+from rules.generated import generated_description, seed_and_size, summary_line
 from rules.json_text import read_json
 from rules.layout import placement_lines, report
 from rules.reach import reach_lines
 from rules.reading import description
-from rules.refusal import LAID_OUT, UNREADABLE, USAGE, Refusal
+from rules.refusal import LAID_OUT, UNREADABLE, Refusal, usage
 
 LONGEST_INPUT = 1_073_741_824
 # the numbers of workers, as they are written; the answer doesn't depend on them
@@ -35,10 +36,20 @@ def link_of(data):
     return link
 
 
+def generated_lines(words):
+    """The line of the layout of a generated link, which has nothing that isn't carried."""
+    seed, size = seed_and_size(words)
+    link = description(generated_description(seed, size))
+    check_link(link)
+    yield summary_line(link, seed, size)
+
+
 def report_lines(words, data, refused):
     """The lines of the report, unless the link has something of what is refused as not carried."""
+    if words[:1] == ["gen"]:
+        return generated_lines(words)
     if len(words) != 2 or words[0] != "layout" or words[1] not in WORKERS:
-        raise Refusal(USAGE, "usage: lk_program layout N | gen SEED SIZE")
+        raise usage()
     link = link_of(data)
     check_carried(link, refused)
     return report(link)

@@ -358,18 +358,13 @@ def check_link(link):
 # What isn't laid out yet
 
 # The words of what the program doesn't carry yet.
-NOT_CARRIED = ("partial", "sorted", "primary", "relax", "symbol")
+NOT_CARRIED = ("primary", "relax", "symbol")
 
 
 def uncarried(link):
     """What may not be laid out yet, in the order in which it is looked for, with whether the link has it."""
-    plan, output = link.plan, link.options.output
-    inputs = [entry for _, _, entry in inputs_of(link)]
-    symbols = symbols_of(link)
-    owners = {file.kind for file, _ in symbols}
-    yield "partial", output == "partial"
-    yield "sorted", any(entry.sorted for entry in inputs)
-    yield "primary", plan.named["primary"] is not None
+    owners = {file.kind for file, _ in symbols_of(link)}
+    yield "primary", link.plan.named["primary"] is not None
     yield "relax", link.options.relax
     yield "symbol", owners.intersection(listed.OWN_FILES)
 

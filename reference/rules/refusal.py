@@ -12,6 +12,10 @@ class Refusal(Exception):
         self.lines = lines
 
 
+def usage():
+    return Refusal(USAGE, "usage: lk_program layout N | gen SEED SIZE")
+
+
 def not_json():
     return Refusal(UNREADABLE, "not JSON")
 

@@ -1,4 +1,4 @@
-use Rattle.std.proofs.Common.{◌≡◌, ◌<◌, ℕ, ◌+◌, ◌*◌, ◌/◌, ◌%◌, ◌^◌, ◌∙◌, ap, arith, min, refl, sym, add-one}
+use Rattle.std.proofs.Common.{◌≡◌, ◌<◌, ℕ, ◌+◌, ◌*◌, ◌/◌, ◌%◌, ◌∙◌, ap, arith, min, refl, sym, add-one}
 use Rattle.std.proofs.Math.Nat.{mod-add-mod}
 use Rattle.lk_generator.specs.Draws.{next_state, pick, state_behind}
 

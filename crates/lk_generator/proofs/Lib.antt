@@ -1,1 +1,4 @@
 mod DrawLemmas
+mod FileLists
+mod GoodFiles
+mod WellFormed

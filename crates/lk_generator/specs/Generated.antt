@@ -1,5 +1,5 @@
 -- The link that a seed and a number of objects give.
-use Rattle.std.specs.Prelude.{ℕ, ◌+◌, ◌*◌, ◌-◌, ◌/◌, List, [], ◌∷◌, ◌++◌, Option, Some, None, Bool, true, false, if◌then◌else◌, ◌==◌, codes, map, min, pos}
+use Rattle.std.specs.Prelude.{ℕ, ◌+◌, ◌*◌, ◌-◌, ◌/◌, List, [], ◌∷◌, ◌++◌, Option, Some, None, true, false, if◌then◌else◌, ◌==◌, codes, map, min, pos}
 use Rattle.std.specs.Fmt.{decimal}
 use Rattle.std.specs.List.{range_with_len}
 use Rattle.lk_link.specs.declared.file.FileKind.TheVariants as kind
@@ -10,12 +10,9 @@ use Rattle.lk_link.specs.declared.options.Options.{Options}
 use Rattle.lk_link.specs.declared.options.OutputKind.TheVariants as output
 use Rattle.lk_link.specs.declared.plan.Emit.TheVariants as emit
 use Rattle.lk_link.specs.declared.plan.NamedParts.{NamedParts}
-use Rattle.lk_link.specs.declared.plan.OrderEvent.{OrderEvent}
 use Rattle.lk_link.specs.declared.plan.OrderEvent.TheVariants as event
 use Rattle.lk_link.specs.declared.plan.Plan.{Plan}
-use Rattle.lk_link.specs.declared.plan.PlanPart.{PlanPart}
 use Rattle.lk_link.specs.declared.plan.PlanSection.{PlanSection}
-use Rattle.lk_link.specs.declared.plan.PlanSegment.{PlanSegment}
 use Rattle.lk_link.specs.declared.plan.SegmentKind.TheVariants as segment
 use Rattle.lk_link.specs.declared.relocation.Relocation.{Relocation}
 use Rattle.lk_link.specs.declared.relocation.RelocationKind.{RelocationKind}
@@ -26,7 +23,6 @@ use Rattle.lk_link.specs.declared.section.InputSlot.TheVariants as slot
 use Rattle.lk_link.specs.declared.symbol.InputSymbol.{InputSymbol}
 use Rattle.lk_link.specs.declared.symbol.SymbolPlacement.{SymbolPlacement}
 use Rattle.lk_link.specs.declared.symbol.SymbolPlacement.TheVariants as placed
-use Rattle.lk_link.specs.declared.plan.attributes.TheConstants as attributes
 use Rattle.lk_link.specs.Expressions.{number}
 use Rattle.lk_generator.specs.declared.objects.Drawn.{Drawn}
 use Rattle.lk_generator.specs.Draws.{pick}

@@ -1,4 +1,4 @@
--- The large members of sections, files and the whole description.
+-- The large members of files and of the whole description.
 use Rattle.std.proofs.Common.{◌≡◌, ℕ, List, [], true, false, Option, Some, None, option_map, unwrap_or, Result, Ok, Err, refl, sym, ap, ap₂, ◌∙◌}
 use Rattle.std.specs.Str.{bytes_eq}
 use Rattle.std.proofs.lemmas.Slice.Eq.{bytes_eq-Decides}
@@ -8,24 +8,18 @@ use Rattle.serde_json.proofs.Views.{get_member-put, get_member-put_other}
 use Rattle.lk_link.specs.declared.file.FileKind.{FileKind}
 use Rattle.lk_link.specs.declared.file.FileKind.TheVariants as kind
 use Rattle.lk_link.specs.declared.file.InputFile.{InputFile}
-use Rattle.lk_link.specs.declared.relocation.Relocation.{Relocation}
 use Rattle.lk_link.specs.declared.section.InputSection.{InputSection}
-use Rattle.lk_link.specs.declared.section.InputSlot.{InputSlot}
-use Rattle.lk_link.specs.declared.section.InputSlot.TheVariants as slot
 use Rattle.lk_link.specs.declared.symbol.InputSymbol.{InputSymbol}
 use Rattle.lk_input.specs.declared.read.LinkKey.TheVariants as link
 use Rattle.lk_input.specs.declared.read.LinkMembers.{LinkMembers}
 use Rattle.lk_input.specs.declared.read.file.FileKey.{FileKey}
 use Rattle.lk_input.specs.declared.read.file.FileKey.TheVariants as key
 use Rattle.lk_input.specs.declared.read.file.FileMembers.{FileMembers}
-use Rattle.lk_input.specs.declared.read.section.InputSectionKey.TheVariants as section
-use Rattle.lk_input.specs.declared.read.section.SectionMembers.{SectionMembers}
 use Rattle.lk_input.specs.Large.{IsSplit, kept_or}
-use Rattle.lk_input.specs.LargeMembers.{section_large, section_kept, section_from, file_large, file_kept, kept_sections, file_from, link_large, link_kept, link_from}
+use Rattle.lk_input.specs.LargeMembers.{file_large, file_kept, kept_sections, file_from, link_large, link_kept, link_from}
 use Rattle.lk_input.specs.Reading.{link_key_text, link_of}
 use Rattle.lk_input.specs.ReadingFiles.{file_key_text, file_kind_text, all_file_kinds, file_candidates_of, sections_by_kind, input_file_of, groups_of}
-use Rattle.lk_input.specs.ReadingRelocations.{relocation_of, relax_candidate_of}
-use Rattle.lk_input.specs.ReadingSections.{input_section_key_text, slot_text, all_slots, data_in, size_in, input_section_of, input_sections_of}
+use Rattle.lk_input.specs.ReadingSections.{input_sections_of}
 use Rattle.lk_input.specs.ReadingSteps.{Path, ◌>>=◌, number_of, index_of, truth_of, text_of, one_of, required, defaulted, optional, found_or, list_of}
 use Rattle.lk_input.specs.ReadingSymbols.{input_symbol_of}
 use Rattle.lk_input.proofs.Objects.{differ, WantsObject}
@@ -39,125 +33,6 @@ kept-found other f (Some d) = refl
 then_same : {A B : Type 0} (r : Result A Path) (f g : A → Result B Path) → ((x : A) → f x ≡ g x) → (r >>= f) ≡ (r >>= g)
 then_same (Ok x) f g same = same x
 then_same (Err path) f g same = refl
-
--- ---- sections
-
-pub section_wants_object : WantsObject input_section_of
-unfolding input_section_of
-section_wants_object d none = rw none refl
-
-name_is_small : section_large (input_section_key_text section.Name) ≡ false
-unfolding input_section_key_text
-name_is_small = refl
-
-slot_is_small : section_large (input_section_key_text section.Slot) ≡ false
-unfolding input_section_key_text
-slot_is_small = refl
-
-part_is_small : section_large (input_section_key_text section.Part) ≡ false
-unfolding input_section_key_text
-part_is_small = refl
-
-size_is_small : section_large (input_section_key_text section.Size) ≡ false
-unfolding input_section_key_text
-size_is_small = refl
-
-data_is_small : section_large (input_section_key_text section.Data) ≡ false
-unfolding input_section_key_text
-data_is_small = refl
-
-strings_is_small : section_large (input_section_key_text section.Strings) ≡ false
-unfolding input_section_key_text
-strings_is_small = refl
-
-sorted_is_small : section_large (input_section_key_text section.Sorted) ≡ false
-unfolding input_section_key_text
-sorted_is_small = refl
-
-attrs_is_small : section_large (input_section_key_text section.Attrs) ≡ false
-unfolding input_section_key_text
-attrs_is_small = refl
-
-group_is_small : section_large (input_section_key_text section.Group) ≡ false
-unfolding input_section_key_text
-group_is_small = refl
-
-relax_is_small : section_large (input_section_key_text section.Relax) ≡ false
-unfolding input_section_key_text
-relax_is_small = refl
-
-data_found : (k : InputSlot) (ms others : Members) → get_member (input_section_key_text section.Data) others ≡ get_member (input_section_key_text section.Data) ms → data_in k (object ms) ≡ data_in k (object others)
-data_found slot.Merge ms others e = rw e refl
-data_found slot.Discard ms others e = refl
-data_found slot.Unloaded ms others e = refl
-data_found slot.MustLoad ms others e = refl
-data_found slot.DebugInfo ms others e = refl
-data_found slot.MustLoadDebugInfo ms others e = refl
-
--- what is read of a section once its name and slot are known
-abbrev section_rest : (InputSlot → Result (List ℕ) Path) → Result (List Relocation) Path → Data → List ℕ → InputSlot → Result InputSection Path
-section_rest read_data read_relocs d name slot = do
-  part ← defaulted 0 index_of (input_section_key_text section.Part) d
-  size ← defaulted 0 number_of (input_section_key_text section.Size) d
-  bytes ← read_data slot
-  strings ← defaulted false truth_of (input_section_key_text section.Strings) d
-  sorted ← defaulted false truth_of (input_section_key_text section.Sorted) d
-  attrs ← defaulted 0 index_of (input_section_key_text section.Attrs) d
-  group ← optional index_of (input_section_key_text section.Group) d
-  relocs ← read_relocs
-  relax ← defaulted [] (list_of relax_candidate_of) (input_section_key_text section.Relax) d
-  Ok (record {
-    name = name;
-    slot = slot;
-    part = part;
-    size = size_in slot size bytes;
-    bytes = bytes;
-    strings = strings;
-    sorted = sorted;
-    attrs = attrs;
-    group = group;
-    relocs = relocs;
-    relax = relax;
-  })
-
--- a section is read of its large member and the others as of all
-pub section-split : (ms others : Members) (large : SectionMembers) → IsSplit section_large section_kept ms large others → input_section_of (object ms) ≡ section_from large (object others)
-unfolding input_section_of section_from
-section-split ms others large h =
-    let read_relocs : Result (List Relocation) Path = kept_or [] (input_section_key_text section.Relocs) (section_kept ms).relocs in
-    let read_slot = required (one_of slot_text all_slots) (input_section_key_text section.Slot) (object ms) in
-    let all = section_rest (λ k. data_in k (object ms)) read_relocs (object ms) in
-    let same = section_rest (λ k. data_in k (object others)) read_relocs (object ms) in
-    rw (
-      h.are_kept,
-      h.stay (input_section_key_text section.Name) name_is_small,
-      h.stay (input_section_key_text section.Slot) slot_is_small,
-      h.stay (input_section_key_text section.Part) part_is_small,
-      h.stay (input_section_key_text section.Size) size_is_small,
-      h.stay (input_section_key_text section.Strings) strings_is_small,
-      h.stay (input_section_key_text section.Sorted) sorted_is_small,
-      h.stay (input_section_key_text section.Attrs) attrs_is_small,
-      h.stay (input_section_key_text section.Group) group_is_small,
-      h.stay (input_section_key_text section.Relax) relax_is_small,
-      kept-found [] (list_of relocation_of) (get_member (input_section_key_text section.Relocs) ms),
-    )
-    (then_same (defaulted [] text_of (input_section_key_text section.Name) (object ms)) (λ name. read_slot >>= all name) (λ name. read_slot >>= same name)
-    (λ name. then_same read_slot (all name) (same name) (λ k. rw (data_found k ms others (h.stay (input_section_key_text section.Data) data_is_small)) refl)))
-
-abbrev section_with : Option (Result (List Relocation) Path) → SectionMembers
-section_with relocs = record { relocs = relocs }
-
--- the relocations were read
-pub section-relocs : (name : List ℕ) (d : Data) (ms : Members) (now : SectionMembers) → bytes_eq name (input_section_key_text section.Relocs) ≡ true → now.relocs ≡ Some (list_of relocation_of d) → now ≡ section_kept (put name d ms)
-section-relocs name d ms now e relocs =
-    let is : name ≡ input_section_key_text section.Relocs = (bytes_eq-Decides name (input_section_key_text section.Relocs)).0 e in
-    let here : get_member (input_section_key_text section.Relocs) (put name d ms) ≡ Some d = rw is (get_member-put (input_section_key_text section.Relocs) d ms) in
-    ap section_with (relocs ∙ ap (option_map (list_of relocation_of)) (sym here))
-
--- another member was read
-pub section-other : (name : List ℕ) (d : Data) (ms : Members) → bytes_eq name (input_section_key_text section.Relocs) ≡ false → section_kept (put name d ms) ≡ section_kept ms
-section-other name d ms e =
-    ap section_with (ap (option_map (list_of relocation_of)) (get_member-put_other (input_section_key_text section.Relocs) name d ms (λ same. differ name (input_section_key_text section.Relocs) e (sym same))))
 
 -- ---- files
 

@@ -1,7 +1,12 @@
 pub mod Expressions
+pub mod Fixed
+pub mod Known
+pub mod KnownSections
 pub mod LargeMembers
 pub mod Lists
 pub mod Objects
+pub mod Plain
+pub mod Relocations
 pub mod Steps
 pub mod Texts
 pub mod Tokens

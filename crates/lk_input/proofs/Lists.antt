@@ -7,8 +7,9 @@ use Rattle.json.specs.Reads.{token_of}
 use Rattle.json.specs.declared.token.Token.{Token as Taken}
 use Rattle.json.specs.declared.token.Token.TheVariants as taken
 use Rattle.serde_json.specs.Data.{Num, Data, number, array, object, Items, no_items, item, Members, no_members}
+use Rattle.serde_json.specs.Find.{as_array}
 use Rattle.serde_json.specs.Read.{number_of}
-use Rattle.lk_input.specs.ReadingSteps.{Path, ◌>>=◌, read_items, list_of}
+use Rattle.lk_input.specs.ReadingSteps.{Path, ◌>>=◌, read_items, list_of, wanted}
 use Rattle.lk_input.proofs.Steps.{with_front}
 use Rattle.lk_input.specs.Tokens.{data_at, items_at, members_at}
 use Rattle.lk_input.proofs.Tokens.{and_next, items_at-next, items_at-over, data_at-nothing, data_at-null, data_at-boolean, data_at-string, data_at-number, data_at-key, data_at-bad, data_at-end_array, data_at-end_object, data_at-array, data_at-object, data_at-deep_array, data_at-deep_object}
@@ -19,39 +20,57 @@ pub map_twice : {A B C : Type 0} (f : B → C) (g : A → B) (o : Option (A × L
 map_twice f g None = refl
 map_twice f g (Some p) = refl
 
+-- what reads a list by its items
+abbrev pub from_items : {B : Type 0} → (Items → Result B Path) → Data → Result B Path
+from_items g d = wanted (as_array d) >>= g
+
 -- the list that was opened is one of its items
-pub list-opened : {A : Type 0} (f : Data → Result A Path) (depth d : ℕ) (ts : List Token) → depth ≡ d + 1 → parse_map (list_of f) (data_at depth (Token.begin_array ∷ ts)) ≡ parse_map (read_items f 0) (items_at d ts)
-list-opened f depth d ts is = ap (parse_map (list_of f)) (data_at-array depth d ts is) ∙ map_twice (list_of f) array (items_at d ts)
+pub items-opened : {B : Type 0} (g : Items → Result B Path) (depth d : ℕ) (ts : List Token) → depth ≡ d + 1
+    → parse_map (from_items g) (data_at depth (Token.begin_array ∷ ts)) ≡ parse_map g (items_at d ts)
+items-opened g depth d ts is = ap (parse_map (from_items g)) (data_at-array depth d ts is) ∙ map_twice (from_items g) array (items_at d ts)
 
-pub list-too_deep : {A : Type 0} (f : Data → Result A Path) (depth : ℕ) (ts : List Token) → depth ≡ 0 → parse_map (list_of f) (data_at depth (Token.begin_array ∷ ts)) ≡ None
-list-too_deep f depth ts is = ap (parse_map (list_of f)) (data_at-deep_array depth ts is)
+pub items-too_deep : {B : Type 0} (g : Items → Result B Path) (depth : ℕ) (ts : List Token) → depth ≡ 0 → parse_map (from_items g) (data_at depth (Token.begin_array ∷ ts)) ≡ None
+items-too_deep g depth ts is = ap (parse_map (from_items g)) (data_at-deep_array depth ts is)
 
-not_opened : {A : Type 0} (f : Data → Result A Path) (o : Option (Members × List Token)) → parse_map (list_of f) (parse_map object o) ≡ parse_map (λ _. Err []) (parse_map object o)
-not_opened f None = refl
-not_opened f (Some p) = refl
+not_opened : {B : Type 0} (g : Items → Result B Path) (o : Option (Members × List Token)) → parse_map (from_items g) (parse_map object o) ≡ parse_map (λ _. Err []) (parse_map object o)
+not_opened g None = refl
+not_opened g (Some p) = refl
 
-not_number : {A : Type 0} (f : Data → Result A Path) (ts : List Token) (n : Option Num) → parse_map (list_of f) (option_map (λ x. (number x, ts)) n) ≡ parse_map (λ _. Err []) (option_map (λ x. (number x, ts)) n)
-not_number f ts None = refl
-not_number f ts (Some x) = refl
+not_number : {B : Type 0} (g : Items → Result B Path) (ts : List Token) (n : Option Num)
+    → parse_map (from_items g) (option_map (λ x. (number x, ts)) n) ≡ parse_map (λ _. Err []) (option_map (λ x. (number x, ts)) n)
+not_number g ts None = refl
+not_number g ts (Some x) = refl
 
 -- an object is no list, however deep it may nest
-no_object : {A : Type 0} (f : Data → Result A Path) (depth : ℕ) (ts : List Token) → parse_map (list_of f) (data_at depth (Token.begin_object ∷ ts)) ≡ parse_map (λ _. Err []) (data_at depth (Token.begin_object ∷ ts))
-no_object f zero ts = rw (data_at-deep_object zero ts refl) refl
-no_object f (suc d) ts = rw (data_at-object (suc d) d ts (omega arith)) (not_opened f (members_at no_members d ts))
+no_object : {B : Type 0} (g : Items → Result B Path) (depth : ℕ) (ts : List Token)
+    → parse_map (from_items g) (data_at depth (Token.begin_object ∷ ts)) ≡ parse_map (λ _. Err []) (data_at depth (Token.begin_object ∷ ts))
+no_object g zero ts = rw (data_at-deep_object zero ts refl) refl
+no_object g (suc d) ts = rw (data_at-object (suc d) d ts (omega arith)) (not_opened g (members_at no_members d ts))
 
 -- what begins with another token is no list
+pub no_items_there : {B : Type 0} (g : Items → Result B Path) (depth : ℕ) (t : Taken) (ts : List Token) → (t ≡ taken.BeginArray → ⊥)
+    → parse_map (from_items g) (data_at depth (token_of t ∷ ts)) ≡ parse_map (λ _. Err []) (data_at depth (token_of t ∷ ts))
+no_items_there g depth taken.BeginArray ts other = absurd (other refl)
+no_items_there g depth taken.BeginObject ts other = no_object g depth ts
+no_items_there g depth taken.EndObject ts other = rw (data_at-end_object depth ts) refl
+no_items_there g depth taken.EndArray ts other = rw (data_at-end_array depth ts) refl
+no_items_there g depth (taken.Key s) ts other = rw (data_at-key depth s.now ts) refl
+no_items_there g depth (taken.String s) ts other = rw (data_at-string depth s.now ts) refl
+no_items_there g depth (taken.Number s) ts other = rw (data_at-number depth s.now ts) (not_number g ts (number_of s.now))
+no_items_there g depth (taken.Bool b) ts other = rw (data_at-boolean depth b ts) refl
+no_items_there g depth taken.Null ts other = rw (data_at-null depth ts) refl
+no_items_there g depth taken.Bad ts other = rw (data_at-bad depth ts) refl
+
+-- the same of lists of values that are read alike
+pub list-opened : {A : Type 0} (f : Data → Result A Path) (depth d : ℕ) (ts : List Token) → depth ≡ d + 1 → parse_map (list_of f) (data_at depth (Token.begin_array ∷ ts)) ≡ parse_map (read_items f 0) (items_at d ts)
+list-opened f depth d ts is = items-opened (read_items f 0) depth d ts is
+
+pub list-too_deep : {A : Type 0} (f : Data → Result A Path) (depth : ℕ) (ts : List Token) → depth ≡ 0 → parse_map (list_of f) (data_at depth (Token.begin_array ∷ ts)) ≡ None
+list-too_deep f depth ts is = items-too_deep (read_items f 0) depth ts is
+
 pub no_list : {A : Type 0} (f : Data → Result A Path) (depth : ℕ) (t : Taken) (ts : List Token) → (t ≡ taken.BeginArray → ⊥)
     → parse_map (list_of f) (data_at depth (token_of t ∷ ts)) ≡ parse_map (λ _. Err []) (data_at depth (token_of t ∷ ts))
-no_list f depth taken.BeginArray ts other = absurd (other refl)
-no_list f depth taken.BeginObject ts other = no_object f depth ts
-no_list f depth taken.EndObject ts other = rw (data_at-end_object depth ts) refl
-no_list f depth taken.EndArray ts other = rw (data_at-end_array depth ts) refl
-no_list f depth (taken.Key s) ts other = rw (data_at-key depth s.now ts) refl
-no_list f depth (taken.String s) ts other = rw (data_at-string depth s.now ts) refl
-no_list f depth (taken.Number s) ts other = rw (data_at-number depth s.now ts) (not_number f ts (number_of s.now))
-no_list f depth (taken.Bool b) ts other = rw (data_at-boolean depth b ts) refl
-no_list f depth taken.Null ts other = rw (data_at-null depth ts) refl
-no_list f depth taken.Bad ts other = rw (data_at-bad depth ts) refl
+no_list f depth t ts other = no_items_there (read_items f 0) depth t ts other
 
 pub list-nothing : {A : Type 0} (f : Data → Result A Path) (depth : ℕ) → parse_map (list_of f) (data_at depth []) ≡ None
 list-nothing f depth = ap (parse_map (list_of f)) (data_at-nothing depth)

@@ -1,4 +1,4 @@
--- The large members of sections, files and the whole description: the words of private contracts.
+-- The large members of files and of the whole description: the words of private contracts.
 use Rattle.std.specs.Prelude.{ℕ, ◌||◌, List, [], Bool, Option, option_map, Result, Ok, false}
 use Rattle.std.specs.Str.{bytes_eq}
 use Rattle.serde_json.specs.Data.{Data, Members}
@@ -12,53 +12,14 @@ use Rattle.lk_input.specs.declared.read.LinkKey.TheVariants as link
 use Rattle.lk_input.specs.declared.read.LinkMembers.{LinkMembers}
 use Rattle.lk_input.specs.declared.read.file.FileKey.TheVariants as key
 use Rattle.lk_input.specs.declared.read.file.FileMembers.{FileMembers}
-use Rattle.lk_input.specs.declared.read.section.InputSectionKey.TheVariants as section
-use Rattle.lk_input.specs.declared.read.section.SectionMembers.{SectionMembers}
 use Rattle.lk_input.specs.Large.{kept_or}
 use Rattle.lk_input.specs.ReadingSteps.{Path, ◌>>=◌, number_of, index_of, truth_of, text_of, one_of, required, defaulted, optional, object_or_empty, list_of}
 use Rattle.lk_input.specs.ReadingSymbols.{input_symbol_of}
-use Rattle.lk_input.specs.ReadingRelocations.{relocation_of, relax_candidate_of}
-use Rattle.lk_input.specs.ReadingSections.{input_section_key_text, slot_text, all_slots, data_in, size_in, input_sections_of}
+use Rattle.lk_input.specs.ReadingSections.{input_sections_of}
 use Rattle.lk_input.specs.ReadingFiles.{file_key_text, file_kind_text, all_file_kinds, file_candidates_of, groups_of}
 use Rattle.lk_input.specs.ReadingOptions.{options_of}
 use Rattle.lk_input.specs.ReadingPlan.{plan_of}
 use Rattle.lk_input.specs.Reading.{link_key_text}
-
--- the large member of a section: its relocations
-abbrev pub section_large : List ℕ → Bool
-section_large k = bytes_eq k (input_section_key_text section.Relocs)
-
--- what is kept of it
-abbrev pub section_kept : Members → SectionMembers
-section_kept ms = record { relocs = option_map (list_of relocation_of) (get_member (input_section_key_text section.Relocs) ms) }
-
--- a section, of its large member and the object of the others
-unfoldable pub section_from : SectionMembers → Data → Result InputSection Path
-section_from large d = do
-  name ← defaulted [] text_of (input_section_key_text section.Name) d
-  slot ← required (one_of slot_text all_slots) (input_section_key_text section.Slot) d
-  part ← defaulted 0 index_of (input_section_key_text section.Part) d
-  size ← defaulted 0 number_of (input_section_key_text section.Size) d
-  bytes ← data_in slot d
-  strings ← defaulted false truth_of (input_section_key_text section.Strings) d
-  sorted ← defaulted false truth_of (input_section_key_text section.Sorted) d
-  attrs ← defaulted 0 index_of (input_section_key_text section.Attrs) d
-  group ← optional index_of (input_section_key_text section.Group) d
-  relocs ← kept_or [] (input_section_key_text section.Relocs) large.relocs
-  relax ← defaulted [] (list_of relax_candidate_of) (input_section_key_text section.Relax) d
-  Ok (record {
-    name = name;
-    slot = slot;
-    part = part;
-    size = size_in slot size bytes;
-    bytes = bytes;
-    strings = strings;
-    sorted = sorted;
-    attrs = attrs;
-    group = group;
-    relocs = relocs;
-    relax = relax;
-  })
 
 -- the large members of a file: its symbols and its sections
 abbrev pub file_large : List ℕ → Bool

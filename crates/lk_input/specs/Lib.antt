@@ -1,5 +1,8 @@
+pub mod Known
+pub mod KnownSections
 pub mod Large
 pub mod LargeMembers
+pub mod Plain
 pub mod Reading
 pub mod ReadingEvents
 pub mod ReadingExpressions

@@ -1,12 +1,13 @@
 //! A link description from JSON.
 //!
-//! The tokens of the text are read one after the other. What may be large (groups, files, sections and their parts) is
-//! made where it stands, so that no value of it is held beside it. The other members of an object are kept as one small JSON
-//! value, and that is then read type by type: each type says which members or items it has, in the order of the format,
-//! and reads them by a few common steps (a member that must be there, one with a default, an item of a fixed list, a list,
-//! one of these texts). The first value of a wrong shape, in that order, refuses the description, once the text is known
-//! to be JSON to its end. Its path is put together on the way out, one step at each level, so that a good description
-//! pays nothing for it.
+//! The tokens of the text are read one after the other. A symbol, a section and a relocation are read from their tokens into their
+//! records: each member that the format knows, or item, is read where it stands, and kept as what it gives, or as the path of the
+//! first wrong shape in it. What else may be large (groups, files and their lists) is made where it stands, too. The options, the
+//! plan and the small members of a file are kept as one small JSON value, and that is then read type by type: each type says which
+//! members or items it has, in the order of the format, and reads them by a few common steps (a member that must be there, one
+//! with a default, an item of a fixed list, a list, one of these texts). The first value of a wrong shape, in that order, refuses
+//! the description, once the text is known to be JSON to its end. Its path is put together on the way out, one step at each level,
+//! so that a good description pays nothing for it.
 
 ghost use Rattle.std.specs.Prelude.{◌≡◌, ◌∷◌};
 ghost use Rattle.json.specs.Json.{parse_map};
@@ -24,10 +25,13 @@ mod event;
 mod expression;
 mod fail;
 mod file;
+mod fixed;
+mod known;
 mod large;
 mod member;
 mod options;
 mod output_section;
+mod plain;
 mod plan;
 mod relocation;
 mod section;

@@ -15,8 +15,8 @@ use Rattle.lk_layout.specs.Carried.{first_uncarried}
 use Rattle.lk_layout.specs.Defined.{Gives, IsMergedAnswer, IsPlacedAnswer, Unless, WithMemory, fault_refusal, is_memory, joining_refusal, layout_of, made_sections, not_carried}
 use Rattle.lk_layout.specs.Defined.{offsets_refusal, references_error, references_refusal, segment_refusal, uncarried_refusal}
 use Rattle.lk_layout.specs.Errors.{fault_error, gc_error, offset_error, place_error}
-use Rattle.lk_layout.specs.declared.outside.MergeOffsetPlace.{MergeOffsetPlace}
-use Rattle.lk_layout.specs.Outside.{merge_offsets}
+use Rattle.lk_values.specs.declared.outside.MergeOffsetPlace.{MergeOffsetPlace}
+use Rattle.lk_values.specs.Outside.{merge_offsets}
 use Rattle.lk_gc.specs.declared.error.GcError.{GcError}
 use Rattle.lk_gc.specs.declared.error.GcError.TheVariants as gc
 use Rattle.lk_gc.specs.Reach.{GivesLive}
@@ -28,7 +28,9 @@ use Rattle.lk_place.specs.Secondaries.{merge_refusal}
 use Rattle.lk_place.specs.declared.error.PlaceError.{PlaceError}
 use Rattle.lk_place.specs.declared.error.PlaceError.TheVariants as place
 use Rattle.lk_place.specs.Segments.{Refuses, segments_refusal}
+use Rattle.lk_sizes.specs.declared.sorted.InputSortedSection.{InputSortedSection}
 use Rattle.lk_sizes.specs.Emitted.{active_segments, is_emitted}
+use Rattle.lk_tables.specs.declared.partial_link.PartialLinkPlan.{PartialLinkPlan}
 use Rattle.lk_layout.specs.Made.{Made, made_content}
 
 -- the exit of a `?`: what holds of each error that may come through it
@@ -141,8 +143,8 @@ refused made at e fit inside first is =
 
 -- layouts with the same lists are the same
 pub same_layout : (link : LinkInput) (s s' j j' r : List Record) (t t' : List ℕ) (i i' : List (Option ℕ)) (g g' : List SegmentLayout) (h h' : Option Record)
-    (m : List Bool) (l l' : List ℕ) (d d' : List (List MergeInput)) (b b' : List ℕ) (v v' : List (Option Resolution)) (e e' : Option ℕ)
-    → s ≡ s' → j ≡ j' → t ≡ t' → i ≡ i' → g ≡ g' → h ≡ h' → l ≡ l' → d ≡ d' → b ≡ b' → v ≡ v' → e ≡ e'
+    (m : List Bool) (l l' : List ℕ) (d d' : List (List MergeInput)) (b b' : List ℕ) (v v' : List (Option Resolution)) (e e' : Option ℕ) (o o' : List InputSortedSection) (p p' : Option PartialLinkPlan)
+    → s ≡ s' → j ≡ j' → t ≡ t' → i ≡ i' → g ≡ g' → h ≡ h' → l ≡ l' → d ≡ d' → b ≡ b' → v ≡ v' → e ≡ e' → o ≡ o' → p ≡ p'
     → ◌≡◌ {A = LayoutRecord} (record {
       link = link;
       section_layouts = s;
@@ -158,6 +160,8 @@ pub same_layout : (link : LinkInput) (s s' j j' r : List Record) (t t' : List �
       merged_string_start_addresses = b;
       symbol_resolutions = v;
       entry_symbol_id = e;
+      script_sorted_sections = o;
+      partial_link = p;
     })
     (record {
       link = link;
@@ -174,5 +178,7 @@ pub same_layout : (link : LinkInput) (s s' j j' r : List Record) (t t' : List �
       merged_string_start_addresses = b';
       symbol_resolutions = v';
       entry_symbol_id = e';
+      script_sorted_sections = o';
+      partial_link = p';
     })
-same_layout link s s' j j' r t t' i i' g g' h h' m l l' d d' b b' v v' e e' es ej et ei eg eh el ed eb ev ee = cc
+same_layout link s s' j j' r t t' i i' g g' h h' m l l' d d' b b' v v' e e' o o' p p' es ej et ei eg eh el ed eb ev ee eo ep = cc

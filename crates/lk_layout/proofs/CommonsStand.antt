@@ -28,16 +28,17 @@ use Rattle.lk_sizes.specs.Tiles.{HasByte, OwnersAreAligned, OwnersTileTheirPart}
 use Rattle.lk_sizes.proofs.CommonOnes.{common_is_placed, commons_are_owners}
 use Rattle.lk_layout.specs.LayoutRecord.{LayoutRecord}
 use Rattle.lk_link.specs.declared.resolution.Resolution.{Resolution}
-use Rattle.lk_layout.specs.Defined.{setting, starts_of}
-use Rattle.lk_layout.specs.OutputContent.{output_filling}
-use Rattle.lk_layout.specs.Entries.{EntrySetting}
-use Rattle.lk_layout.specs.Resolutions.{Places, entries_of, placed_value, places_of, resolution_at, resolution_of, symbol_resolutions}
+use Rattle.lk_layout.specs.Defined.{setting}
+use Rattle.lk_values.specs.Starts.{starts_of}
+use Rattle.lk_values.specs.OutputContent.{output_filling}
+use Rattle.lk_values.specs.Entries.{EntrySetting}
+use Rattle.lk_values.specs.Resolutions.{Places, entries_of, placed_value, places_of, resolution_at, resolution_of, symbol_resolutions}
 use Rattle.lk_layout.specs.Sound.{CommonsStand, part_record}
 use Rattle.lk_layout.proofs.LaidOut.{IsLaidOut, made_by}
 use Rattle.lk_layout.proofs.PartStarts.{part_starts}
-use Rattle.lk_layout.proofs.Placing.{size-le}
+use Rattle.lk_values.proofs.Placing.{size-le}
 use Rattle.lk_layout.proofs.Settings.{size_of}
-use Rattle.lk_layout.proofs.EntriesTaken.{own_value}
+use Rattle.lk_values.proofs.EntriesTaken.{own_value}
 use Rattle.lk_layout.proofs.Valued.{object_has, resolution_is}
 
 -- ---- its file
@@ -60,17 +61,17 @@ of_object link live p s size good c =
 
 -- what is told of its symbol, by where the parts start: its address
 value_told : (sizes : TableSizes) (link : LinkInput) (live : Live) (starts : List ℕ) (p s size : ℕ) (c : IsCommonIn link live p s size) → is_object c.file.file.kind ≡ true
-    → option_map (λ (r : Resolution). r.raw_value) (resolution_at (symbol_resolutions sizes link live starts) s) ≡ Some (common_address (output_filling sizes link live) starts p s)
+    → option_map (λ (r : Resolution). r.raw_value) (resolution_at (symbol_resolutions (output_filling sizes link live) starts) s) ≡ Some (common_address (output_filling sizes link live) starts p s)
 value_told sizes link live starts p s size c object =
     let x : InputSymbol = c.symbol in
     let file : InputFile = c.file.file in
     let first : ℕ = first_input link.groups c.file.id in
-    let places : Places = places_of sizes link live starts in
-    let by : EntrySetting = entries_of sizes link live starts in
+    let places : Places = places_of (output_filling sizes link live) starts in
+    let by : EntrySetting = entries_of (output_filling sizes link live) starts in
     let raw : Option Resolution → Option ℕ = option_map (λ (r : Resolution). r.raw_value) in
-    let read : resolution_at (symbol_resolutions sizes link live starts) s ≡ resolution_of places by file.kind first (s, x)
-    = ap (λ (n : ℕ). resolution_at (symbol_resolutions sizes link live starts) n) c.number
-    ∙ resolution_is sizes link live starts c.file.id file c.index x c.there c.stands
+    let read : resolution_at (symbol_resolutions (output_filling sizes link live) starts) s ≡ resolution_of places by file.kind first (s, x)
+    = ap (λ (n : ℕ). resolution_at (symbol_resolutions (output_filling sizes link live) starts) n) c.number
+    ∙ resolution_is (output_filling sizes link live) starts c.file.id file c.index x c.there c.stands
     ∙ ap (λ (n : ℕ). resolution_of places by file.kind first (n, x)) (sym c.number) in
     ap raw read ∙ own_value places by file.kind first (s, x) (object_has file.kind object) c.wanted ∙ ap (λ (n : ℕ). Some n) (ap (placed_value places first s) c.placed)
 
@@ -103,7 +104,7 @@ common_aligned tile aligned machine link layout laid p s size c some unpacked =
     dvd-add part.alignment (subst (λ n. part.alignment ∣ n) record_is begins) (aligned filling p k laid.good placed.1 unpacked)
 
 pub commons_stand : OwnersTileTheirPart → OwnersAreAligned → (machine : Machine) (link : LinkInput) (layout : LayoutRecord) (laid : IsLaidOut machine link layout)
-    → layout.symbol_resolutions ≡ symbol_resolutions machine.sizes link laid.live (starts_of layout.section_part_layouts) → CommonsStand (made_by laid) layout
+    → layout.symbol_resolutions ≡ symbol_resolutions (output_filling machine.sizes link laid.live) (starts_of layout.section_part_layouts) → CommonsStand (made_by laid) layout
 commons_stand tile aligned machine link layout laid resolved p s size c =
     let live : Live = laid.live in
     let filling : Filling = output_filling machine.sizes link live in

@@ -46,15 +46,15 @@ use Rattle.lk_sizes.specs.Emitted.{active_segments}
 use Rattle.lk_sizes.specs.Owners.{EntryOwner, Owner, bytes_of, Filling}
 use Rattle.lk_sizes.specs.PartOwners.{owners_of, tables_of}
 use Rattle.lk_layout.specs.LayoutRecord.{LayoutRecord}
-use Rattle.lk_layout.specs.Defined.{starts_of}
-use Rattle.lk_layout.specs.Entries.{EntrySetting, entry_in, got_table, plt_table, with_entries}
-use Rattle.lk_layout.specs.OutputContent.{output_filling}
-use Rattle.lk_layout.specs.Resolutions.{Places, entries_of, file_resolutions, has_resolutions, places_of, resolution_at, resolution_of, symbol_resolutions}
+use Rattle.lk_values.specs.Starts.{starts_of}
+use Rattle.lk_values.specs.Entries.{EntrySetting, entry_in, got_table, plt_table, with_entries}
+use Rattle.lk_values.specs.OutputContent.{output_filling}
+use Rattle.lk_values.specs.Resolutions.{Places, entries_of, file_resolutions, has_resolutions, places_of, resolution_at, resolution_of, symbol_resolutions}
 use Rattle.lk_layout.specs.Sound.{EntriesStand, IsEntryAt, TablesStandAlone, part_record}
 use Rattle.lk_layout.specs.Made.{Made, made_content, made_filling}
-use Rattle.lk_layout.proofs.EntriesTaken.{has_own, no_resolution, none_there, own_entries, with_own}
+use Rattle.lk_values.proofs.EntriesTaken.{has_own, no_resolution, none_there, own_entries, with_own}
 use Rattle.lk_layout.proofs.LaidOut.{IsLaidOut, made_by}
-use Rattle.lk_layout.proofs.Pushing.{first_is}
+use Rattle.lk_values.proofs.Pushing.{first_is}
 use Rattle.lk_layout.proofs.Valued.{as_many}
 
 -- ---- whose a resolution is
@@ -65,7 +65,7 @@ record HasSymbol (sizes : TableSizes) (link : LinkInput) (live : Live) (starts :
   symbol : InputSymbol
   there : slice_get (numbered_symbols link.groups) s ≡ Some (file, symbol)
   wanted : is_resolved live file.file.kind (s, symbol) ≡ true
-  is : r ≡ with_own (places_of sizes link live starts) (entries_of sizes link live starts) (first_input link.groups file.id) (s, symbol)
+  is : r ≡ with_own (places_of (output_filling sizes link live) starts) (entries_of (output_filling sizes link live) starts) (first_input link.groups file.id) (s, symbol)
 
 -- what is read at a number stands there
 read_at : {X : Type 0} (xs : List (Option X)) (s : ℕ) (x : X) → slice_index_or xs s None ≡ Some x → slice_get xs s ≡ Some (Some x)
@@ -91,15 +91,15 @@ own_one places by f first s x r h =
       | false ↦ λ has. absurd (let nothing : Some r ≡ None = sym h ∙ none_there places by f.file.kind first (s, x) has in cc)
     ]) refl
 
-symbol_of : (sizes : TableSizes) (link : LinkInput) (live : Live) (starts : List ℕ) (s : ℕ) (r : Resolution) → resolution_at (symbol_resolutions sizes link live starts) s ≡ Some r
+symbol_of : (sizes : TableSizes) (link : LinkInput) (live : Live) (starts : List ℕ) (s : ℕ) (r : Resolution) → resolution_at (symbol_resolutions (output_filling sizes link live) starts) s ≡ Some r
     → HasSymbol sizes link live starts s r
 symbol_of sizes link live starts s r h =
     let groups = link.groups in
-    let places : Places = places_of sizes link live starts in
-    let by : EntrySetting = entries_of sizes link live starts in
+    let places : Places = places_of (output_filling sizes link live) starts in
+    let by : EntrySetting = entries_of (output_filling sizes link live) starts in
     let files : List NumberedFile = numbered_files groups in
     let of_file : NumberedFile → List (Option Resolution) = file_resolutions places by in
-    let at = flat_map_at of_file files s (Some r) (read_at (symbol_resolutions sizes link live starts) s r h) in
+    let at = flat_map_at of_file files s (Some r) (read_at (symbol_resolutions (output_filling sizes link live) starts) s r h) in
     let f : NumberedFile = at.from in
     let first : ℕ = first_symbol groups f.id in
     let one : ℕ × InputSymbol → Option Resolution = resolution_of places by f.file.kind (first_input groups f.id) in
@@ -246,7 +246,7 @@ for_named named P p is h = λ x e.
 -- ---- all
 
 pub entries_stand : (machine : Machine) (link : LinkInput) (layout : LayoutRecord) (laid : IsLaidOut machine link layout) → TablesStandAlone machine.sizes link laid.live
-    → layout.symbol_resolutions ≡ symbol_resolutions machine.sizes link laid.live (starts_of layout.section_part_layouts) → EntriesStand (made_by laid) layout
+    → layout.symbol_resolutions ≡ symbol_resolutions (output_filling machine.sizes link laid.live) (starts_of layout.section_part_layouts) → EntriesStand (made_by laid) layout
 unfolding with_entries
 entries_stand machine link layout laid alone resolved s r told =
     let sizes : TableSizes = machine.sizes in
@@ -254,7 +254,7 @@ entries_stand machine link layout laid alone resolved s r told =
     let filling : Filling = output_filling sizes link live in
     let records : List Record = layout.section_part_layouts in
     let starts : List ℕ = starts_of records in
-    let by : EntrySetting = entries_of sizes link live starts in
+    let by : EntrySetting = entries_of (output_filling sizes link live) starts in
     let has = symbol_of sizes link live starts s r (ap (λ (rs : List (Option Resolution)). resolution_at rs s) (sym resolved) ∙ told) in
     let bytes : Allocation = sizes.allocation (flags_at live.flags s).0 in
     let start : (p : ℕ) → slice_index starts p ≡ (part_record layout p).mem_offset = λ p. lists.get_or-map (λ (x : Record). x.mem_offset) records p nowhere in

@@ -21,12 +21,13 @@ use Rattle.lk_place.specs.Setting.{Setting}
 use Rattle.lk_sizes.specs.Images.{image_addresses}
 use Rattle.lk_sizes.specs.PartOwners.{EndsFit}
 use Rattle.lk_layout.specs.LayoutRecord.{LayoutRecord}
-use Rattle.lk_layout.specs.Defined.{setting, starts_of}
-use Rattle.lk_layout.specs.OutputContent.{output_filling}
-use Rattle.lk_layout.proofs.Imaging.{images_fit}
+use Rattle.lk_layout.specs.Defined.{setting}
+use Rattle.lk_values.specs.Starts.{starts_of}
+use Rattle.lk_values.specs.OutputContent.{output_filling}
+use Rattle.lk_values.proofs.Imaging.{images_fit}
 use Rattle.lk_layout.proofs.LaidOut.{IsLaidOut}
 use Rattle.lk_layout.proofs.PartStarts.{section_in}
-use Rattle.lk_layout.proofs.Placing.{ends_fit, starts_count}
+use Rattle.lk_values.proofs.Placing.{ends_fit, starts_count}
 use Rattle.lk_layout.proofs.Settings.{ready, takes}
 
 no_refusal : (k : ℕ) (o : Option Refusal) → option_map (numbered k) o ≡ None → o ≡ None

@@ -21,22 +21,19 @@ use Rattle.lk_place.specs.Segments.{first_outside, outside_refusal, section_reco
 use Rattle.lk_sizes.specs.Emitted.{active_segments, is_emitted}
 use Rattle.lk_layout.specs.declared.error.LayoutError.{LayoutError}
 use Rattle.lk_layout.specs.LayoutRecord.{LayoutRecord}
-use Rattle.lk_layout.specs.Carried.{first_uncarried}
-use Rattle.lk_layout.specs.CarriedWords.{IsCarried}
-use Rattle.lk_layout.specs.Defined.{IsDefined, Unless, references_error, references_refusal, fault_refusal, joining_refusal, layout_of, not_carried, offsets_refusal, segment_refusal, setting, sizes_refusal, uncarried_refusal, walk_refusal}
+use Rattle.lk_layout.specs.Defined.{IsDefined, Unless, references_error, references_refusal, fault_refusal, joining_refusal, layout_of, offsets_refusal, segment_refusal, setting, sizes_refusal, uncarried_refusal, walk_refusal}
 use Rattle.lk_layout.specs.Errors.{merge_error, offset_error, place_error}
-use Rattle.lk_layout.specs.declared.outside.MergeOffsetPlace.{MergeOffsetPlace}
+use Rattle.lk_values.specs.declared.outside.MergeOffsetPlace.{MergeOffsetPlace}
 use Rattle.lk_layout.specs.Merging.{merging_refusal}
-use Rattle.lk_layout.specs.OutputContent.{output_content}
-use Rattle.lk_layout.specs.Outside.{merge_offsets}
+use Rattle.lk_values.specs.OutputContent.{output_content}
+use Rattle.lk_values.specs.Outside.{merge_offsets}
 use Rattle.lk_layout.specs.Laws.{LaidOutLinksAreWellFormed}
 use Rattle.lk_layout.specs.Made.{Made, made_of}
 use Rattle.lk_layout.proofs.OneAnswer.{none_of, unrefused}
 
--- a link that is well formed, of which all is laid out, with what is live, a whole placement and the layout of these
+-- a link that is well formed, with what is live, a whole placement and the layout of these
 pub record IsLaidOut (machine : Machine) (link : LinkInput) (layout : LayoutRecord) : Type 0 where
   pub good : IsWellFormed link
-  pub carried : IsCarried link
   pub live : Live
   pub are_live : AreLive link live
   pub merged : first_refusal fnv64 link.options.bucket_limit 0 (link_inputs link).outputs ≡ None
@@ -90,7 +87,6 @@ laid_out exactly machine link layout defined =
     let is : layout ≡ layout_of made = let given : Ok layout ≡ Ok (layout_of made) = offsets.1 in cc in
     record {
       good = unrefused exactly link fault.0;
-      carried = none_of not_carried (first_uncarried link) all.0;
       live = reached.0;
       are_live = reached.1;
       merged = none_of merge_error (first_refusal fnv64 link.options.bucket_limit 0 (link_inputs link).outputs) whole.0;

@@ -1,31 +1,22 @@
 mod Answering
-mod CarriedPlans
 mod CommonsStand
 mod EntriesStand
-mod EntriesTaken
 mod FewHeaders
 mod Fitting
 mod ImagesShow
-mod Imaging
-mod Keeping
 mod LaidOut
 mod NamedSymbols
-mod NothingAsked
-mod NothingMerged
 mod OneAnswer
 mod PartStarts
-mod Placing
 mod PlacingRefused
 mod Positioned
-mod Pushing
 mod Reaching
 mod ReferencesShow
 mod Resolved
 mod Settings
+mod SinglesBehind
+mod SortedLast
 mod Soundness
-mod Stopping
 mod TablesAlone
 mod Valued
 mod WithoutPositions
-pub mod CarriedLooks
-pub mod CommonsFound

@@ -37,17 +37,17 @@ use Rattle.lk_tables.specs.SymbolEntries.{is_resolved}
 use Rattle.lk_sizes.specs.Images.{image_addresses}
 use Rattle.lk_sizes.specs.PartOwners.{live_address}
 use Rattle.lk_layout.specs.LayoutRecord.{LayoutRecord}
-use Rattle.lk_layout.specs.declared.outside.MergeOffsetPlace.{MergeOffsetPlace}
-use Rattle.lk_layout.specs.declared.outside.MergeOffsetPlace.TheVariants.{OfSymbol}
+use Rattle.lk_values.specs.declared.outside.MergeOffsetPlace.{MergeOffsetPlace}
+use Rattle.lk_values.specs.declared.outside.MergeOffsetPlace.TheVariants.{OfSymbol}
 use Rattle.lk_link.specs.declared.resolution.Resolution.{Resolution}
-use Rattle.lk_layout.specs.Defined.{starts_of}
-use Rattle.lk_layout.specs.OutputContent.{output_filling}
-use Rattle.lk_layout.specs.Outside.{merge_offsets, relocations_outside, symbol_outside, symbols_outside}
-use Rattle.lk_layout.specs.Entries.{EntrySetting}
-use Rattle.lk_layout.specs.Resolutions.{Places, entries_of, found_or_0, images_at, places_of, resolution_at, resolution_of}
+use Rattle.lk_values.specs.Starts.{starts_of}
+use Rattle.lk_values.specs.OutputContent.{output_filling}
+use Rattle.lk_values.specs.Outside.{merge_offsets, relocations_outside, symbol_outside, symbols_outside}
+use Rattle.lk_values.specs.Entries.{EntrySetting}
+use Rattle.lk_values.specs.Resolutions.{Places, entries_of, found_or_0, images_at, places_of, resolution_at, resolution_of}
 use Rattle.lk_layout.specs.Sound.{NamedSymbolsShow}
 use Rattle.lk_layout.proofs.LaidOut.{IsLaidOut, made_by}
-use Rattle.lk_layout.proofs.Placing.{unmerged}
+use Rattle.lk_values.proofs.Placing.{unmerged}
 use Rattle.lk_layout.proofs.Resolved.{in_file}
 use Rattle.lk_layout.proofs.Valued.{resolution_is, value_of}
 
@@ -141,7 +141,7 @@ named_symbols_show machine link layout laid id file i offset section there r pla
     let input : Input = record { file = id; index = i; section = section } in
     let at_input : slice_get (all_inputs groups) place.number ≡ Some input = inputs_follow.at groups id file i section there at_i in
     let told : ℕ → ℕ = image_start layout.merged_string_start_addresses in
-    let images : ℕ → ℕ = images_at machine.sizes link live starts in
+    let images : ℕ → ℕ = images_at (output_filling machine.sizes link live) starts in
     let image_is : told t ≡ images t
     = ap (λ (l : LayoutRecord). image_start l.merged_string_start_addresses t) laid.same
     ∙ starts_at (link_inputs link).outputs (image_addresses (output_filling machine.sizes link live) starts) t (merge_inputs link t) at_t in
@@ -150,8 +150,8 @@ named_symbols_show machine link layout laid id file i offset section there r pla
     let answer : (ℕ → ℕ) → Bool → Result (Option ℕ) OffsetPastEnd = λ from zero_unnamed. place_address link from (pos 0) zero_unnamed (Some place) in
     let found : (from : ℕ → ℕ) (zero_unnamed : Bool) → answer from zero_unnamed ≡ Ok (Some (plus_addend (from t + n) (pos 0)))
     = λ from zero_unnamed. ap (λ b. option_map_or (λ a. Ok (Some (plus_addend a (pos 0)))) (cond b (Some (from t + n)) None) (Err past_end)) (lt-ltb offset (length section.bytes) inside) in
-    let places : Places = places_of machine.sizes link live starts in
-    let by : EntrySetting = entries_of machine.sizes link live starts in
+    let places : Places = places_of (output_filling machine.sizes link live) starts in
+    let by : EntrySetting = entries_of (output_filling machine.sizes link live) starts in
     let none : places.live (first + i) offset ≡ None
     = ap (λ b. if b then option_map (λ z. live_address (output_filling machine.sizes link live) starts z + offset) (slice_get (all_inputs groups) (first + i)) else None) (not_live link live (first + i) input laid.are_live at_input merged) in
     let value : unwrap_or (places.live (first + i) offset) (places.merged number) ≡ address
@@ -159,7 +159,7 @@ named_symbols_show machine link layout laid id file i offset section there r pla
     ∙ ap (λ (o : Option MergePlace). found_or_0 (place_address link images (pos 0) true o)) is
     ∙ ap found_or_0 (found images true) in
     let read : resolution_at layout.symbol_resolutions number ≡ resolution_of places by file.kind first (number, x)
-    = ap (λ (l : LayoutRecord). resolution_at l.symbol_resolutions number) laid.same ∙ resolution_is machine.sizes link live starts id file r.index x there r.there in
+    = ap (λ (l : LayoutRecord). resolution_at l.symbol_resolutions number) laid.same ∙ resolution_is (output_filling machine.sizes link live) starts id file r.index x there r.there in
     let referred : merged_address link told number (pos 0) false ≡ Ok (Some address)
     = ap (place_address link told (pos 0) false) is ∙ found told false ∙ ap (λ m. Ok (Some (plus_addend (m + n) (pos 0)))) image_is in (
       address,

@@ -26,7 +26,7 @@ use Rattle.lk_gc.specs.declared.live.Live.{Live}
 use Rattle.lk_layout.specs.Machines.{Machine}
 use Rattle.lk_sizes.specs.PartOwners.{part_sizes}
 use Rattle.lk_layout.specs.Defined.{setting}
-use Rattle.lk_layout.specs.OutputContent.{output_filling}
+use Rattle.lk_values.specs.OutputContent.{output_filling}
 
 -- ---- alignments
 

@@ -17,8 +17,8 @@ use Rattle.lk_layout.specs.Defined.{IsPlacedAnswer, IsSizedAnswer, WithMemory, s
 use Rattle.lk_layout.specs.Errors.{place_error}
 use Rattle.lk_layout.specs.Headers.{header_bytes}
 use Rattle.lk_layout.specs.Made.{Made, made_of}
-use Rattle.lk_layout.specs.OutputContent.{output_filling}
-use Rattle.lk_layout.specs.Tables.{asked_positions}
+use Rattle.lk_values.specs.OutputContent.{output_filling}
+use Rattle.lk_layout.specs.PositionWords.{asked_positions}
 use Rattle.lk_layout.proofs.Answering.{out_of_memory, unless_some}
 use Rattle.lk_layout.proofs.WithoutPositions.{by_asked}
 

@@ -20,10 +20,11 @@ use Rattle.lk_expressions.specs.declared.positions.SymbolPosition.{SymbolPositio
 use Rattle.lk_sizes.specs.Addresses.{section_addresses}
 use Rattle.lk_sizes.specs.PartOwners.{EndsFit, live_address, part_size, part_sizes}
 use Rattle.lk_sizes.proofs.Numbering.{table_at as address_by_number}
-use Rattle.lk_layout.specs.OutputContent.{output_filling}
+use Rattle.lk_values.specs.OutputContent.{output_filling}
 use Rattle.lk_layout.specs.Positions.{no_starts, position_of, section_of, section_position}
-use Rattle.lk_layout.specs.Tables.{position_in, section_position_in}
-use Rattle.lk_layout.proofs.Settings.{length-by_part, size_of}
+use Rattle.lk_layout.specs.PositionWords.{position_in, section_position_in}
+use Rattle.lk_layout.proofs.Settings.{size_of}
+use Rattle.lk_values.proofs.PartCounts.{length-by_part}
 
 -- ---- parts that start at 0
 

@@ -5,7 +5,7 @@ use Rattle.lk_link.specs.declared.link.LinkInput.{LinkInput}
 use Rattle.lk_layout.specs.Machines.{Machine}
 use Rattle.lk_gc.specs.declared.live.Live.{Live}
 use Rattle.lk_layout.specs.declared.error.LayoutError.{LayoutError}
-use Rattle.lk_layout.specs.declared.images.Images.{Images}
+use Rattle.lk_values.specs.declared.images.Images.{Images}
 use Rattle.lk_layout.specs.LayoutRecord.{LayoutRecord}
 use Rattle.lk_layout.specs.declared.stages.KeptLink.{KeptLink}
 use Rattle.lk_layout.specs.declared.stages.PlacedLink.{PlacedLink}

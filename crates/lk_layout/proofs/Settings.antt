@@ -20,23 +20,11 @@ use Rattle.lk_place.specs.PlacementLaws.{PartsTakeTheirBytes}
 use Rattle.lk_expressions.specs.Records.{Record, nowhere, record_at}
 use Rattle.lk_place.specs.Segments.{part_records, section_record, section_records}
 use Rattle.lk_place.specs.Setting.{IsReady}
-use Rattle.lk_sizes.specs.declared.owners.PartContents.{PartContents}
-use Rattle.lk_sizes.specs.Contents.{contents_of, part_contents}
 use Rattle.lk_sizes.specs.Emitted.{active_segments, is_active}
-use Rattle.lk_sizes.specs.Owners.{by_part}
 use Rattle.lk_sizes.specs.PartOwners.{part_size, part_sizes}
 use Rattle.lk_layout.specs.Defined.{setting}
-use Rattle.lk_layout.specs.OutputContent.{output_content, output_filling}
-
--- what is made by part, there is for each part
-pub length-by_part : {X : Type 0} (f : ℕ → X) (link : LinkInput) → length (by_part f link) ≡ length (all_parts link.plan.sections)
-length-by_part f link =
-    length-map (enumerate_from 0 (all_parts link.plan.sections)) (λ (q : ℕ × PlanPart). f q.0) ∙ length-enumerate_from 0 (all_parts link.plan.sections)
-
--- there are contents for each part
-pub contents_count : (sizes : TableSizes) (link : LinkInput) (live : Live) (contents : List PartContents) → contents ≡ part_contents (output_filling sizes link live)
-    → length contents ≡ length (all_parts link.plan.sections)
-contents_count sizes link live contents are = ap length are ∙ length-by_part (contents_of (output_filling sizes link live)) link
+use Rattle.lk_values.specs.OutputContent.{output_content, output_filling}
+use Rattle.lk_values.proofs.PartCounts.{length-by_part}
 
 -- there is a record for each section
 pub length-section_records : (sections : List PlanSection) (parts : List Record) → length (section_records sections parts) ≡ length sections

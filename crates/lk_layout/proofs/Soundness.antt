@@ -1,5 +1,5 @@
 -- A defined layout is sound.
-use Rattle.std.proofs.Common.{◌≡◌, ℕ, zero, suc, ◌%◌, ◌<◌, List, [], ◌∷◌, length, Some, refl, sym, ap, subst, ◌∙◌, inl, inr, arith}
+use Rattle.std.proofs.Common.{◌≡◌, ℕ, zero, suc, ◌%◌, ◌<◌, List, [], ◌∷◌, length, Some, None, refl, sym, ap, subst, ◌∙◌, inl, inr, arith}
 use Rattle.std.specs.Prelude.{slice_get, slice_index}
 use Rattle.std.specs.Int.{◌∣◌}
 use Rattle.std.specs.List.{AllByRecursion, slice_index_or}
@@ -20,21 +20,23 @@ use Rattle.lk_place.specs.PlacementLaws.{PartsTakeTheirBytes, RefusedExactlyPast
 use Rattle.lk_place.specs.Plain.{IsPlain}
 use Rattle.lk_place.specs.Ranges.{FileIsDisjoint, MemoryIsDisjoint}
 use Rattle.lk_expressions.specs.Records.{Record, nowhere, record_at}
-use Rattle.lk_place.specs.Segments.{alignment_inside}
+use Rattle.lk_place.specs.Segments.{alignment_inside, first_outside}
 use Rattle.lk_sizes.specs.declared.addresses.LiveSection.{LiveSection}
 use Rattle.lk_sizes.specs.Addresses.{live_section, live_sections}
+use Rattle.lk_sizes.specs.Emitted.{is_emitted}
 use Rattle.lk_sizes.specs.Owners.{Owner, SectionOwner, bytes_of, owner_address}
 use Rattle.lk_sizes.specs.PartOwners.{LiveSectionsAreOwners, owner_number, owners_of, part_size}
 use Rattle.lk_sizes.specs.Tiles.{HasByte, IsTiled, OwnersAreAligned, OwnersTileTheirPart}
 use Rattle.lk_sizes.proofs.Numbering.{table_tells_live_sections}
 use Rattle.lk_sizes.proofs.LiveOnes.{Differ, Pairwise, live_differ, live_goes, live_good}
 use Rattle.lk_layout.specs.LayoutRecord.{LayoutRecord}
-use Rattle.lk_layout.specs.Defined.{setting, starts_of}
+use Rattle.lk_layout.specs.Defined.{setting}
+use Rattle.lk_values.specs.Starts.{starts_of}
 use Rattle.lk_layout.specs.Machines.{IsLawfulMachine, Machine}
 use Rattle.lk_layout.specs.Layouts.{told_live}
 use Rattle.lk_layout.specs.Laws.{DefinedLayoutsAreSound, LaidOutMemoryIsDisjoint, LaidOutSectionsAreApart}
-use Rattle.lk_layout.specs.Resolutions.{symbol_resolutions}
-use Rattle.lk_layout.specs.Sound.{AreOutputsTold, OwnersAreApart, IsInSection, IsSharedOut, IsSound, IsTold, LiveSectionsAreAligned, LiveSectionsAreApart, MemoryIsCongruent, part_record}
+use Rattle.lk_values.specs.Resolutions.{symbol_resolutions}
+use Rattle.lk_layout.specs.Sound.{OwnersAreApart, IsInSection, IsSharedOut, IsSound, IsTold, LiveSectionsAreAligned, LiveSectionsAreApart, MemoryIsCongruent, part_record}
 use Rattle.lk_layout.proofs.CommonsStand.{commons_stand}
 use Rattle.lk_layout.proofs.EntriesStand.{entries_stand}
 use Rattle.lk_layout.proofs.TablesAlone.{tables_alone}
@@ -43,13 +45,15 @@ use Rattle.lk_layout.proofs.LaidOut.{IsLaidOut, made_by, laid_out}
 use Rattle.lk_layout.proofs.ImagesShow.{images_stand}
 use Rattle.lk_layout.proofs.NamedSymbols.{named_symbols_show}
 use Rattle.lk_layout.proofs.PartStarts.{part_starts}
+use Rattle.lk_layout.proofs.SinglesBehind.{singles_stand}
+use Rattle.lk_layout.proofs.SortedLast.{sorted_stand_last}
 use Rattle.lk_layout.proofs.ReferencesShow.{references_show}
-use Rattle.lk_layout.proofs.Placing.{size-le}
+use Rattle.lk_values.proofs.Placing.{size-le}
 use Rattle.lk_layout.proofs.Resolved.{resolved_sections_are_live}
 use Rattle.lk_layout.proofs.Settings.{ready, size_of, takes}
 use Rattle.lk_layout.proofs.Valued.{values_are_in_live_sections}
 use Rattle.lk_link.proofs.Elements.{contains_at, map_in}
-use Rattle.lk_layout.specs.OutputContent.{output_content, output_filling}
+use Rattle.lk_values.specs.OutputContent.{output_content, output_filling}
 use Rattle.lk_layout.specs.Made.{Made, made_content, made_filling, made_of}
 use Rattle.lk_sizes.proofs.OwnSizes.{live_own_size}
 
@@ -64,16 +68,16 @@ shown machine link layout laid =
     ∙ ap (λ (rs : List Record). live_sections (output_filling machine.sizes link laid.live) (starts_of rs)) (sym (parts_are machine link layout laid))
 
 resolved : (machine : Machine) (link : LinkInput) (layout : LayoutRecord) (laid : IsLaidOut machine link layout)
-    → layout.symbol_resolutions ≡ symbol_resolutions machine.sizes link laid.live (starts_of layout.section_part_layouts)
+    → layout.symbol_resolutions ≡ symbol_resolutions (output_filling machine.sizes link laid.live) (starts_of layout.section_part_layouts)
 resolved machine link layout laid =
     ap (λ (l : LayoutRecord). l.symbol_resolutions) laid.same
-    ∙ ap (λ (rs : List Record). symbol_resolutions machine.sizes link laid.live (starts_of rs)) (sym (parts_are machine link layout laid))
+    ∙ ap (λ (rs : List Record). symbol_resolutions (output_filling machine.sizes link laid.live) (starts_of rs)) (sym (parts_are machine link layout laid))
 
--- what is told of the outputs
-outputs_told : (machine : Machine) (link : LinkInput) (layout : LayoutRecord) (laid : IsLaidOut machine link layout) → AreOutputsTold (made_by laid) layout
-outputs_told machine link layout laid =
-    subst (AreOutputsTold (made_by laid)) (sym laid.same)
-    (record { sections = refl; joined = refl; attributes = refl; indexes = refl; segments = refl; thread_local = refl; covered = laid.covered })
+-- no section stands outside the segments
+covered : (machine : Machine) (link : LinkInput) (layout : LayoutRecord) (laid : IsLaidOut machine link layout)
+    → first_outside link layout.section_layouts (is_emitted (output_content machine.sizes link laid.live)) ≡ None
+covered machine link layout laid =
+    subst (λ (l : LayoutRecord). first_outside link l.section_layouts (is_emitted (output_content machine.sizes link laid.live)) ≡ None) (sym laid.same) laid.covered
 
 -- the owners of each part share it out
 shared_out : OwnersTileTheirPart → PartsTakeTheirBytes → (machine : Machine) (link : LinkInput) (layout : LayoutRecord) (laid : IsLaidOut machine link layout) (p : ℕ) → p < length (all_parts link.plan.sections)
@@ -234,25 +238,25 @@ is_sound : OwnersTileTheirPart → OwnersAreAligned → LiveSectionsAreOwners �
 is_sound tile aligned owners mass refused file memory in_step keep machine link layout laid lawful =
     let records : List Record = layout.section_part_layouts in
     record {
-      lent = ap (λ (l : LayoutRecord). l.link) laid.same;
+      is = laid.same;
+      stands = record { placed = laid.is; unrefused = laid.unrefused };
       met = laid.met;
       reached = laid.are_live;
       shown = shown machine link layout laid;
-      merged = ap (λ (l : LayoutRecord). l.merged_strings) laid.same;
       starts = buckets_start refused mass machine link layout laid;
       images = images_stand machine link layout laid;
       named = named_symbols_show machine link layout laid;
       references = references_show machine link layout laid;
       inside = laid.inside;
-      resolved = resolved machine link layout laid;
       placed = resolved_sections_are_live link laid.live laid.good laid.are_live laid.met;
       valued = λ unrelaxed. values_are_in_live_sections (made_by laid) layout (starts_of records) (shown machine link layout laid) (resolved machine link layout laid)
           (resolved_sections_are_live link laid.live laid.good laid.are_live laid.met);
       commons = commons_stand tile aligned machine link layout laid (resolved machine link layout laid);
       alone = tables_alone machine.sizes link laid.live laid.good laid.are_live;
       entries = entries_stand machine link layout laid (tables_alone machine.sizes link laid.live laid.good laid.are_live) (resolved machine link layout laid);
-      entered = ap (λ (l : LayoutRecord). l.entry_symbol_id) laid.same;
-      outputs = outputs_told machine link layout laid;
+      ordered = sorted_stand_last (made_by laid);
+      singles = singles_stand machine link layout laid;
+      covered = covered machine link layout laid;
       aligned = sections_aligned tile aligned owners machine link layout laid;
       shared = shared_out tile mass machine link layout laid;
       file = subst (λ rs. FileIsDisjoint rs) (sym (parts_are machine link layout laid))

@@ -11,7 +11,7 @@ use Rattle.lk_link.specs.WellFormed.{IsWellFormed}
 use Rattle.lk_gc.specs.declared.live.Live.{Live}
 use Rattle.lk_gc.specs.Reach.{AreLive}
 use Rattle.lk_sizes.proofs.TableParts.{table_parts_have_entries_alone}
-use Rattle.lk_layout.specs.OutputContent.{output_filling}
+use Rattle.lk_values.specs.OutputContent.{output_filling}
 use Rattle.lk_layout.specs.Sound.{TablesStandAlone}
 
 -- the part of a table is a table part

@@ -29,13 +29,12 @@ use Rattle.lk_sizes.specs.PartOwners.{live_address}
 use Rattle.lk_layout.specs.LayoutRecord.{LayoutRecord}
 use Rattle.lk_link.specs.declared.resolution.Resolution.{Resolution}
 use Rattle.lk_layout.specs.Layouts.{told_live}
-use Rattle.lk_layout.specs.Entries.{EntrySetting}
-use Rattle.lk_layout.specs.Resolutions.{Places, address_at, entries_of, places_of, file_resolutions, has_resolutions, placed_value, resolution_at, resolution_of, symbol_resolutions}
+use Rattle.lk_values.specs.Entries.{EntrySetting}
+use Rattle.lk_values.specs.Resolutions.{Places, address_at, entries_of, places_of, file_resolutions, has_resolutions, placed_value, resolution_at, resolution_of, symbol_resolutions}
 use Rattle.lk_layout.specs.Sound.{SymbolsStandInLiveSections, ValuesAreInLiveSections}
 use Rattle.lk_layout.specs.Made.{Made, made_filling}
-use Rattle.lk_layout.proofs.EntriesTaken.{own_value}
-use Rattle.lk_layout.proofs.Placing.{marked_in}
-use Rattle.lk_link.specs.TableSizes.{TableSizes}
+use Rattle.lk_values.proofs.EntriesTaken.{own_value}
+use Rattle.lk_values.proofs.Placing.{marked_in}
 use Rattle.lk_sizes.specs.Owners.{Filling}
 
 -- ---- the resolution of a file's symbol
@@ -47,13 +46,13 @@ as_many places by f =
     ∙ length-enumerate_from (first_symbol by.link.groups f.id) f.file.symbols
 
 -- it stands there behind those of the files before
-pub resolution_is : (sizes : TableSizes) (link : LinkInput) (live : Live) (starts : List ℕ) (id : FileId) (file : InputFile) (k : ℕ) (x : InputSymbol) → file_in link.groups id ≡ Some file
-    → slice_get file.symbols k ≡ Some x → resolution_at (symbol_resolutions sizes link live starts) (first_symbol link.groups id + k)
-    ≡ resolution_of (places_of sizes link live starts) (entries_of sizes link live starts) file.kind (first_input link.groups id) (first_symbol link.groups id + k, x)
-resolution_is sizes link live starts id file k x there at_k =
-    let groups = link.groups in
-    let place : Places = places_of sizes link live starts in
-    let by : EntrySetting = entries_of sizes link live starts in
+pub resolution_is : (filling : Filling) (starts : List ℕ) (id : FileId) (file : InputFile) (k : ℕ) (x : InputSymbol) → file_in filling.content.link.groups id ≡ Some file
+    → slice_get file.symbols k ≡ Some x → resolution_at (symbol_resolutions filling starts) (first_symbol filling.content.link.groups id + k)
+    ≡ resolution_of (places_of filling starts) (entries_of filling starts) file.kind (first_input filling.content.link.groups id) (first_symbol filling.content.link.groups id + k, x)
+resolution_is filling starts id file k x there at_k =
+    let groups = filling.content.link.groups in
+    let place : Places = places_of filling starts in
+    let by : EntrySetting = entries_of filling starts in
     let f : NumberedFile = record { id = id; file = file } in
     let n : ℕ = file_number groups id in
     let files : List NumberedFile = numbered_files groups in
@@ -70,7 +69,7 @@ resolution_is sizes link live starts id file k x there at_k =
     let within : k < length (of_file (get_or files n f)) = omega (arith, ap (λ (g : NumberedFile). length (of_file g)) is_f, as_many place by f, few) in
     let here : slice_get (of_file f) k ≡ Some (one (first + k, x))
     = map_in one (enumerate_from first file.symbols) k (first + k, x) (numbered_get first file.symbols k x at_k) in
-    ap (λ (m : ℕ). resolution_at (symbol_resolutions sizes link live starts) (m + k)) (sym before)
+    ap (λ (m : ℕ). resolution_at (symbol_resolutions filling starts) (m + k)) (sym before)
     ∙ get_or-flat_map of_file files n k f None (slice_get_within files n f at_f) within
     ∙ ap (λ (g : NumberedFile). get_or (of_file g) k None) is_f
     ∙ get_or_from_slice_get (of_file f) k (one (first + k, x)) None here
@@ -88,7 +87,7 @@ value_of places by k first s i offset address x object resolved stands is =
     own_value places by k first (s, x) (object_has k object) resolved ∙ ap (λ (n : ℕ). Some n) (ap (placed_value places first s) stands ∙ is)
 
 pub values_are_in_live_sections : (made : Made) (layout : LayoutRecord) (starts : List ℕ) → told_live made.link layout ≡ live_sections (made_filling made) starts
-    → layout.symbol_resolutions ≡ symbol_resolutions made.machine.sizes made.link made.live starts → SymbolsStandInLiveSections made.link made.live → ValuesAreInLiveSections made layout
+    → layout.symbol_resolutions ≡ symbol_resolutions (made_filling made) starts → SymbolsStandInLiveSections made.link made.live → ValuesAreInLiveSections made layout
 values_are_in_live_sections made layout starts shown resolved placed id file i offset section there s stands at_i unmerged =
     let filling : Filling = made_filling made in
     let x : Input = record { file = id; index = i; section = section } in
@@ -101,14 +100,14 @@ values_are_in_live_sections made layout starts shown resolved placed id file i o
     let told : slice_get (told_live made.link layout) among.0 ≡ Some (live_section filling starts x)
     = ap (λ (ls : List LiveSection). slice_get ls among.0) shown ∙ map_in (live_section filling starts) (live_inputs made.link made.live) among.0 x among.1 in
     let shift : Input → ℕ = λ y. live_address filling starts y + offset in
-    let address : address_at made.machine.sizes made.link made.live starts k offset ≡ Some (live_address filling starts x + offset)
+    let address : address_at (made_filling made) starts k offset ≡ Some (live_address filling starts x + offset)
     = ap (λ b. if b then option_map shift (slice_get (all_inputs made.link.groups) k) else None) set ∙ ap (option_map shift) at_k in
-    let places : Places = places_of made.machine.sizes made.link made.live starts in
-    let by : EntrySetting = entries_of made.machine.sizes made.link made.live starts in
+    let places : Places = places_of (made_filling made) starts in
+    let by : EntrySetting = entries_of (made_filling made) starts in
     let one : Option Resolution = resolution_of places by file.kind first (number, s.symbol) in
     let read : resolution_at layout.symbol_resolutions number ≡ one
     = ap (λ (rs : List (Option Resolution)). resolution_at rs number) resolved
-    ∙ resolution_is made.machine.sizes made.link made.live starts id file s.index s.symbol there s.there in (
+    ∙ resolution_is filling starts id file s.index s.symbol there s.there in (
       live_section filling starts x,
       record { number = among.0; told = told; file = refl; index = refl },
       ap (option_map (λ (r : Resolution). r.raw_value)) read

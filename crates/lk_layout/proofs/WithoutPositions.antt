@@ -36,10 +36,10 @@ use Rattle.lk_sizes.specs.Owners.{Filling}
 use Rattle.lk_sizes.specs.PartOwners.{part_sizes}
 use Rattle.lk_layout.specs.Defined.{setting}
 use Rattle.lk_layout.specs.Headers.{header_bytes}
-use Rattle.lk_layout.specs.OutputContent.{output_filling}
+use Rattle.lk_values.specs.OutputContent.{output_filling}
 use Rattle.lk_layout.specs.PositionLaws.{PlacementsGoWithoutPositions, with_positions}
 use Rattle.lk_layout.specs.Positions.{symbol_positions}
-use Rattle.lk_layout.specs.Tables.{asked_positions}
+use Rattle.lk_layout.specs.PositionWords.{asked_positions}
 
 -- ---- of all
 

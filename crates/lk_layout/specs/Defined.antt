@@ -24,6 +24,8 @@ use Rattle.lk_sizes.specs.Emitted.{active_segments, is_emitted, output_index}
 use Rattle.lk_sizes.specs.Images.{image_addresses}
 use Rattle.lk_sizes.specs.Addresses.{section_addresses}
 use Rattle.lk_sizes.specs.PartOwners.{part_sizes}
+use Rattle.lk_sizes.specs.Harvest.{sorted_sections}
+use Rattle.lk_tables.specs.Singletons.{partial_link_plan}
 use Rattle.lk_layout.specs.declared.error.LayoutError.{LayoutError}
 use Rattle.lk_layout.specs.declared.error.LayoutError.TheVariants.{NoMemory, NotCarried, References}
 use Rattle.lk_layout.specs.declared.error.Uncarried.{Uncarried}
@@ -32,11 +34,12 @@ use Rattle.lk_layout.specs.Carried.{first_uncarried}
 use Rattle.lk_layout.specs.Headers.{header_bytes}
 use Rattle.lk_layout.specs.Errors.{fault_error, offset_error, size_error, place_error}
 use Rattle.lk_layout.specs.Merging.{merging_refusal}
-use Rattle.lk_layout.specs.Outside.{merge_offsets}
-use Rattle.lk_layout.specs.Resolutions.{entry_symbol, symbol_resolutions}
+use Rattle.lk_values.specs.Outside.{merge_offsets}
+use Rattle.lk_values.specs.Resolutions.{entry_symbol, symbol_resolutions}
 use Rattle.lk_layout.specs.Made.{Made, made_content, made_filling, made_of}
-use Rattle.lk_layout.specs.OutputContent.{output_filling}
+use Rattle.lk_values.specs.OutputContent.{output_filling}
 use Rattle.lk_layout.specs.Positions.{symbol_positions}
+use Rattle.lk_values.specs.Starts.{starts_of}
 use Rattle.lk_sizes.specs.Owners.{Filling}
 
 -- the answer is this refusal, if there is one, else P holds of it
@@ -99,10 +102,6 @@ segment_refusal made =
 
 -- ---- the layout
 
--- where parts with these records start in memory
-abbrev pub starts_of : List Record → List ℕ
-starts_of records = map (λ r. r.mem_offset) records
-
 -- what is made of these
 abbrev pub layout_of : Made → LayoutRecord
 layout_of made =
@@ -123,8 +122,10 @@ layout_of made =
       section_addresses = section_addresses filling starts;
       merged_strings = (link_inputs link).outputs;
       merged_string_start_addresses = start_addresses fnv64 (link_inputs link).outputs (image_addresses filling starts);
-      symbol_resolutions = symbol_resolutions made.machine.sizes link made.live starts;
+      symbol_resolutions = symbol_resolutions filling starts;
       entry_symbol_id = entry_symbol link;
+      script_sorted_sections = sorted_sections link made.live filling.sizes;
+      partial_link = partial_link_plan link made.live;
     }
 
 -- ---- the answer

@@ -14,7 +14,7 @@ use Rattle.lk_layout.specs.declared.error.LayoutError.TheVariants.{NoMemory, Too
 use Rattle.lk_layout.specs.declared.error.LayoutError.TheVariants.{MergeNotTerminated, MergeOffset, MergeTooLarge}
 use Rattle.lk_layout.specs.declared.error.LayoutError.TheVariants.{AddressOverflow, BaseTooLow, Expression, LocationBackwards, OutsideRegion}
 use Rattle.lk_layout.specs.declared.error.LayoutError.TheVariants.{RegionDuplicate, RegionOverflow, RegionUnknown, SectionOutsideSegments}
-use Rattle.lk_layout.specs.declared.outside.MergeOffsetPlace.{MergeOffsetPlace}
+use Rattle.lk_values.specs.declared.outside.MergeOffsetPlace.{MergeOffsetPlace}
 
 -- for a fault of the link
 abbrev pub fault_error : LinkFault → LayoutError

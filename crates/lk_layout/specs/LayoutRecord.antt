@@ -5,6 +5,8 @@ use Rattle.lk_link.specs.declared.resolution.Resolution.{Resolution}
 use Rattle.lk_expressions.specs.Records.{Record}
 use Rattle.lk_merge.specs.Pieces.{MergeInput}
 use Rattle.lk_place.specs.declared.segments.SegmentLayout.{SegmentLayout}
+use Rattle.lk_sizes.specs.declared.sorted.InputSortedSection.{InputSortedSection}
+use Rattle.lk_tables.specs.declared.partial_link.PartialLinkPlan.{PartialLinkPlan}
 
 pub record LayoutRecord : Type 0 where
   pub link : LinkInput
@@ -28,3 +30,7 @@ pub record LayoutRecord : Type 0 where
   pub symbol_resolutions : List (Option Resolution)
   -- the symbol that stands for the one where the program starts
   pub entry_symbol_id : Option ℕ
+  -- the live sections that are put in order by their names, in that order
+  pub script_sorted_sections : List InputSortedSection
+  -- where output is linked again, how many input sections of each group stay output sections of their own, and the bytes of their names
+  pub partial_link : Option PartialLinkPlan

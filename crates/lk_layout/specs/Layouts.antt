@@ -1,15 +1,31 @@
 -- What a layout answers.
-use Rattle.std.specs.Prelude.{ℕ, List, Option, Result}
+use Rattle.std.specs.Prelude.{ℕ, ◌&&◌, Bool, List, Option, Result, filter, is_some, map}
+use Rattle.std.specs.List.{count_by, enumerate_from}
+use Rattle.lk_gc.specs.Slots.{is_singleton}
 use Rattle.lk_link.specs.declared.link.LinkInput.{LinkInput}
+use Rattle.lk_link.specs.Inputs.{Input, all_inputs}
+use Rattle.lk_link.specs.Marks.{is_marked}
 use Rattle.lk_sizes.specs.declared.addresses.LiveSection.{LiveSection}
 use Rattle.lk_sizes.specs.Addresses.{told_sections}
 use Rattle.lk_layout.specs.LayoutRecord.{LayoutRecord}
-use Rattle.lk_layout.specs.declared.resolution.EntryFault.{EntryFault}
-use Rattle.lk_layout.specs.Resolutions.{entry_address}
+use Rattle.lk_values.specs.declared.resolution.EntryFault.{EntryFault}
+use Rattle.lk_values.specs.Resolutions.{entry_address}
 
 -- the live sections with their addresses, by file and index
 abbrev pub told_live : LinkInput → LayoutRecord → List LiveSection
 told_live link layout = told_sections link layout.live_marks layout.section_addresses
+
+-- how many output sections are told with an index
+abbrev pub emitted_count : LayoutRecord → ℕ
+emitted_count layout = count_by is_some layout.output_section_indexes
+
+-- whether an input section, with its number over all files, is live and stays an output section of its own
+abbrev pub is_told_singleton : LinkInput → LayoutRecord → ℕ × Input → Bool
+is_told_singleton link layout q = is_marked layout.live_marks q.0 && is_singleton link q.1.section
+
+-- those that are, by file and index: their indexes in the output follow those of the emitted sections
+abbrev pub told_singletons : LinkInput → LayoutRecord → List Input
+told_singletons link layout = map (λ q. q.1) (filter (is_told_singleton link layout) (enumerate_from 0 (all_inputs link.groups)))
 
 -- where the program starts
 abbrev pub resolved_entry : LayoutRecord → Result (Option ℕ) EntryFault

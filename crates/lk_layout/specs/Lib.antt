@@ -1,11 +1,8 @@
 pub mod Carried
 pub mod CarriedWords
 pub mod Defined
-pub mod Entries
-pub mod EntryWords
 pub mod Errors
 pub mod Headers
-pub mod Kept
 pub mod Laws
 pub mod LayoutRecord
 pub mod Layouts
@@ -13,13 +10,9 @@ pub mod Machines
 pub mod Made
 pub mod Merging
 pub mod MergingWords
-pub mod OutputContent
-pub mod Outside
-pub mod OutsideWords
 pub mod PositionLaws
+pub mod PositionWords
 pub mod Positions
-pub mod Resolutions
 pub mod Sound
 pub mod Stages
-pub mod Tables
 pub mod Texts

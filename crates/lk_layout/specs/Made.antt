@@ -6,7 +6,7 @@ use Rattle.lk_link.specs.declared.link.LinkInput.{LinkInput}
 use Rattle.lk_place.specs.declared.cursors.Cursors.{Cursors}
 use Rattle.lk_sizes.specs.Owners.{Content, Filling}
 use Rattle.lk_layout.specs.Machines.{Machine}
-use Rattle.lk_layout.specs.OutputContent.{output_content, output_filling}
+use Rattle.lk_values.specs.OutputContent.{output_content, output_filling}
 
 -- a link, for a machine, what is live of it, and its placement: the states round the events, and the records of all parts
 pub record Made : Type 0 where

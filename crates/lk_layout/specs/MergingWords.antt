@@ -1,17 +1,11 @@
 -- Words of private contracts: what merging gives.
 use Rattle.std.specs.Prelude.{◌≡◌, false, Some, None, Result, Ok, Err}
 use Rattle.lk_link.specs.declared.link.LinkInput.{LinkInput}
-use Rattle.lk_merge.specs.LinkInputs.{link_inputs}
 use Rattle.lk_layout.specs.declared.error.LayoutError.{LayoutError}
-use Rattle.lk_layout.specs.declared.images.Images.{Images}
+use Rattle.lk_values.specs.declared.images.Images.{Images}
 use Rattle.lk_layout.specs.Defined.{is_memory}
 use Rattle.lk_layout.specs.Merging.{merging_refusal}
-use Rattle.lk_layout.specs.OutputContent.{image_lens}
-
--- the merged sections of a link, and the bytes of their images
-pub record AreImages (link : LinkInput) (images : Images) : Type 0 where
-  pub sections : images.sections ≡ (link_inputs link).outputs
-  pub lens : images.lens.items ≡ image_lens link
+use Rattle.lk_values.specs.Images.{AreImages}
 
 -- what merging answers: these, or the refusal; nothing is said for want of memory
 abbrev pub GivesImages : LinkInput → Result Images LayoutError → Type 0

@@ -1,5 +1,5 @@
 -- What a layout keeps apart, and what it keeps in step.
-use Rattle.std.specs.Prelude.{◌≡◌, ◌≢◌, ◌⊎◌, [], List, ℕ, ◌+◌, ◌%◌, ◌<◌, ◌≤◌, ◌==◌, true, false, Some, None, Ok, length, map, option_map, pos, slice_get, slice_index}
+use Rattle.std.specs.Prelude.{◌≡◌, ◌≢◌, ◌⊎◌, [], List, ℕ, ◌+◌, ◌%◌, ◌<◌, ◌≤◌, ◌==◌, Bool, true, false, Some, None, Ok, length, map, option_map, pos, slice_get, slice_index}
 use Rattle.std.specs.Int.{◌∣◌}
 use Rattle.std.specs.Option.{ForSome}
 use Rattle.lk_link.specs.declared.file.InputFile.{InputFile}
@@ -27,34 +27,34 @@ use Rattle.lk_reach.specs.Units.{local_definition, section_of}
 use Rattle.lk_merge.specs.Addresses.{AreStartsOf, image_start}
 use Rattle.lk_merge.specs.Hash.{fnv64}
 use Rattle.lk_merge.specs.Image.{all_pieces, image, image_place, is_among}
-use Rattle.lk_merge.specs.LinkInputs.{link_inputs}
 use Rattle.lk_merge.specs.MergedReferences.{IsShownAt}
 use Rattle.lk_merge.specs.OutputAddresses.{MergePlace, Shows, merged_address, offset_place, symbol_place}
 use Rattle.lk_merge.specs.Pieces.{Piece, MergeInput}
 use Rattle.lk_place.specs.Plain.{IsPlain, PlacesInLoad}
 use Rattle.lk_place.specs.Ranges.{FileIsDisjoint, HasPart, MemoryIsDisjoint, TakesMemory}
 use Rattle.lk_expressions.specs.Records.{Record, record_at}
-use Rattle.lk_place.specs.declared.segments.SegmentFileLayout.TheVariants.{FromSections}
-use Rattle.lk_place.specs.Secondaries.{merged_records}
-use Rattle.lk_place.specs.Segments.{alignment_inside, first_outside, section_records, segment_layouts, thread_local_one}
+use Rattle.lk_place.specs.Placement.{IsPlaced, placement_refusal}
+use Rattle.lk_place.specs.Segments.{alignment_inside, first_outside}
 use Rattle.lk_sizes.specs.declared.addresses.LiveSection.{LiveSection}
-use Rattle.lk_sizes.specs.Attributes.{all_section_attributes, by_section}
-use Rattle.lk_sizes.specs.Emitted.{active_segments, is_emitted, output_index}
+use Rattle.lk_sizes.specs.Emitted.{is_emitted}
 use Rattle.lk_sizes.specs.Addresses.{live_sections}
-use Rattle.lk_sizes.specs.Owners.{CommonOwner, EntryOwner, ImageOwner, IsCommonIn, bytes_of, owner_address}
+use Rattle.lk_sizes.specs.Owners.{CommonOwner, EntryOwner, ImageOwner, IsCommonIn, Owner, SectionOwner, bytes_of, owner_address}
 use Rattle.lk_sizes.specs.PartOwners.{owners_of, tables_of}
+use Rattle.lk_tables.specs.Singletons.{singletons}
 use Rattle.lk_tables.specs.SymbolTable.{SymbolEntry}
 use Rattle.lk_tables.specs.TableLaws.{HasLastEntry}
 use Rattle.lk_tables.specs.TableLists.{table_of}
+use Rattle.lk_sizes.specs.Sorted.{before}
 use Rattle.lk_sizes.specs.Tiles.{HasByte, IsTiled}
 use Rattle.lk_tables.specs.SymbolEntries.{is_resolved}
 use Rattle.lk_layout.specs.LayoutRecord.{LayoutRecord}
-use Rattle.lk_layout.specs.Defined.{starts_of}
-use Rattle.lk_layout.specs.Layouts.{told_live}
-use Rattle.lk_layout.specs.Outside.{merge_offsets}
-use Rattle.lk_layout.specs.Resolutions.{entry_symbol, resolution_at, symbol_resolutions}
+use Rattle.lk_values.specs.Starts.{starts_of}
+use Rattle.lk_layout.specs.Defined.{layout_of, setting}
+use Rattle.lk_layout.specs.Layouts.{emitted_count, told_live, told_singletons}
+use Rattle.lk_values.specs.Outside.{merge_offsets}
+use Rattle.lk_values.specs.Resolutions.{resolution_at}
 use Rattle.lk_layout.specs.Made.{Made, made_content, made_filling}
-use Rattle.lk_layout.specs.OutputContent.{output_content, output_filling}
+use Rattle.lk_values.specs.OutputContent.{output_content, output_filling}
 use Rattle.lk_link.specs.TableSizes.{TableSizes}
 
 -- the record of the part with this number over all sections
@@ -232,21 +232,32 @@ OwnersAreApart made layout = (p q j k address : ℕ) → p < length (all_parts m
     → HasByte (part_record layout q).mem_offset (part_at made.link.plan.sections q) (owners_of (made_filling made) q) k address
     → (p ≡ q) × (j ≡ k)
 
--- ---- outputs
+-- ---- sorted sections
 
--- what is told of output sections and segments: each section spans its parts, and a primary its
--- secondaries besides; it has the attributes of the plan and of what went into it, and
--- its place among the emitted ones as its index; the active segments are told, each with what it spans, and the thread-local one by itself; and no section that is allocated
--- stands outside them where it may not
-pub record AreOutputsTold (made : Made) (layout : LayoutRecord) : Type 0 where
-  pub sections : layout.section_layouts ≡ section_records made.link.plan.sections layout.section_part_layouts
-  pub joined : layout.merged_section_layouts ≡ merged_records made.link.plan.sections layout.section_layouts
-  pub attributes : layout.section_attributes ≡ all_section_attributes made.link made.live
-  pub indexes : layout.output_section_indexes ≡ by_section (output_index (made_content made)) made.link
-  pub segments : layout.segment_layouts ≡ segment_layouts FromSections made.link.plan made.link.options.stack layout.section_layouts
-      (is_emitted (made_content made)) (active_segments (made_content made))
-  pub thread_local : layout.tls_layout ≡ option_map (λ l. l.sizes) (thread_local_one made.link.plan layout.segment_layouts)
-  pub covered : first_outside made.link layout.section_layouts (is_emitted (made_content made)) ≡ None
+-- an owner is a sorted section
+abbrev pub is_sorted_owner : Owner → Bool
+is_sorted_owner (SectionOwner x size) = x.section.sorted
+is_sorted_owner _ = false
+
+-- an owner is an entry of a table
+abbrev pub is_table_owner : Owner → Bool
+is_table_owner (EntryOwner e) = true
+is_table_owner _ = false
+
+-- among the owners of each part sorted sections stand behind all others but entries of tables, and among themselves by the bytes of their
+-- names, then by file and index
+pub record SortedStandLast (made : Made) : Type 0 where
+  pub behind : (p j k : ℕ) (o q : Owner) → slice_get (owners_of (made_filling made) p) j ≡ Some o → slice_get (owners_of (made_filling made) p) k ≡ Some q
+      → is_sorted_owner o ≡ false → is_table_owner o ≡ false → is_sorted_owner q ≡ true → j < k
+  pub by_name : (p j k : ℕ) (x y : Input) (n m : ℕ) → slice_get (owners_of (made_filling made) p) j ≡ Some (SectionOwner x n)
+      → slice_get (owners_of (made_filling made) p) k ≡ Some (SectionOwner y m) → x.section.sorted ≡ true → y.section.sorted ≡ true → before x y ≡ true → j < k
+
+-- ---- singletons
+
+-- the input sections that stay output sections of their own are told as they are, and no emitted section has the index of one
+pub record SinglesStandBehind (made : Made) (layout : LayoutRecord) : Type 0 where
+  pub told : told_singletons made.link layout ≡ singletons made.link made.live
+  pub behind : (s k : ℕ) → slice_get layout.output_section_indexes s ≡ Some (Some k) → k < emitted_count layout
 
 -- ---- all
 
@@ -258,30 +269,37 @@ pub record IsSoundInMemory (made : Made) (layout : LayoutRecord) : Type 0 where
   pub owners : OwnersAreApart made layout
   pub congruent : MemoryIsCongruent made.link layout
 
--- a sound layout of what it is made of: it lends the link; all references are met; the live sections are those that are reached, each where its part's owners let it
--- stand, aligned; what is merged is all that the link has to merge, with the starts of its buckets, each image stands in a part, with its
--- pieces apart, and shows its inputs, nothing refers outside their data, and references into it have addresses that show what they choose; each symbol that is asked for stands for a place in a live section, at its address where nothing is relaxed, or
--- in merged data, or for a number, or is a common, at the address of its bytes in a part; tables stand alone in their parts, and what a resolution tells of entries is its symbol's own; output sections, their indexes and attributes, and segments are told as they are; each byte of a part
--- has one owner; no two parts share a byte of the file; and under a plain plan the same holds of memory
+-- the placement is one of the link, and nothing of it is refused
+pub record PlacementStands (made : Made) : Type 0 where
+  pub placed : IsPlaced (setting made.machine made.link made.live) made.states made.records
+  pub unrefused : placement_refusal (setting made.machine made.link made.live) made.states made.records ≡ None
+
+-- a sound layout of what it is made of: it is all that is made of it, and the placement stands; all references are met; the live sections are those
+-- that are reached, each where its part's owners let it stand, aligned; there are the starts of the buckets of what is merged, each image stands
+-- in a part, with its pieces apart, and shows its inputs, nothing refers outside their data, and references into it have addresses that show what
+-- they choose; each symbol that is asked for stands for a place in a live section, at its address where nothing is relaxed, or in merged data, or for
+-- a number, or is a common, at the address of its bytes in a part; tables stand alone in their parts, and what a resolution tells of entries is its
+-- symbol's own; sorted sections stand last in their parts, by name; singletons stand behind the emitted sections; no section that is allocated stands outside the segments where it may not; each byte of a part has one owner; no two parts share a
+-- byte of the file; and under a plain plan the same holds of memory
 pub record IsSound (made : Made) (layout : LayoutRecord) : Type 0 where
-  pub lent : layout.link ≡ made.link
+  pub is : layout ≡ layout_of made
+  pub stands : PlacementStands made
   pub met : reference_faults made.link ≡ []
   pub reached : AreLive made.link made.live
   pub shown : told_live made.link layout ≡ live_sections (made_filling made) (starts_of layout.section_part_layouts)
-  pub merged : layout.merged_strings ≡ (link_inputs made.link).outputs
   pub starts : AreStartsOf layout.merged_strings layout.merged_string_start_addresses
   pub images : ImagesStand made layout
   pub named : NamedSymbolsShow made layout
   pub references : ReferencesShow made layout
   pub inside : merge_offsets made.link made.live ≡ []
-  pub resolved : layout.symbol_resolutions ≡ symbol_resolutions made.machine.sizes made.link made.live (starts_of layout.section_part_layouts)
   pub placed : SymbolsStandInLiveSections made.link made.live
   pub valued : made.link.options.relax ≡ false → ValuesAreInLiveSections made layout
   pub commons : CommonsStand made layout
   pub alone : TablesStandAlone made.machine.sizes made.link made.live
   pub entries : EntriesStand made layout
-  pub entered : layout.entry_symbol_id ≡ entry_symbol made.link
-  pub outputs : AreOutputsTold made layout
+  pub ordered : SortedStandLast made
+  pub singles : SinglesStandBehind made layout
+  pub covered : first_outside made.link layout.section_layouts (is_emitted (made_content made)) ≡ None
   pub aligned : LiveSectionsAreAligned made layout
   pub shared : (p : ℕ) → p < length (all_parts made.link.plan.sections) → IsSharedOut made layout p
   pub file : FileIsDisjoint layout.section_part_layouts

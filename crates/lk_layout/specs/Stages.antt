@@ -13,15 +13,15 @@ use Rattle.lk_sizes.specs.Emitted.{is_emitted}
 use Rattle.lk_sizes.specs.Contents.{size_refusal}
 use Rattle.lk_sizes.specs.Sizing.{AreFilled}
 use Rattle.lk_layout.specs.declared.error.LayoutError.{LayoutError}
-use Rattle.lk_layout.specs.declared.images.Images.{Images}
+use Rattle.lk_values.specs.declared.images.Images.{Images}
 use Rattle.lk_layout.specs.declared.stages.KeptLink.{KeptLink}
 use Rattle.lk_layout.specs.declared.stages.PlacedLink.{PlacedLink}
 use Rattle.lk_layout.specs.declared.stages.SizedLink.{SizedLink}
 use Rattle.lk_layout.specs.CarriedWords.{IsCarried}
 use Rattle.lk_layout.specs.Defined.{Gives, setting}
 use Rattle.lk_layout.specs.Merging.{merging_refusal}
-use Rattle.lk_layout.specs.MergingWords.{AreImages}
-use Rattle.lk_layout.specs.OutputContent.{output_content, output_filling}
+use Rattle.lk_values.specs.Images.{AreImages}
+use Rattle.lk_values.specs.OutputContent.{output_content, output_filling}
 
 -- the stage is reached, or the error is the answer of the link, unless memory ran out
 abbrev pub Reaches : {S : Type 0} → Machine → LinkInput → (S → Type 0) → Result S LayoutError → Type 0

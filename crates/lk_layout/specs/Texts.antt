@@ -3,7 +3,7 @@ use Rattle.std.specs.Prelude.{ℕ, false, List, [], ◌∷◌, ◌++◌, codes}
 use Rattle.std.specs.Fmt.{decimal, digits}
 use Rattle.std.specs.List.{flat_map}
 use Rattle.lk_gc.specs.declared.error.ReferenceFault.{ReferenceFault}
-use Rattle.lk_gc.specs.Texts.{input_text, reference_text}
+use Rattle.lk_gc.specs.Texts.{reference_text}
 use Rattle.lk_link.specs.declared.fault.LinkFault.TheVariants as fault
 use Rattle.lk_link.specs.Texts.{joined, link_fault_text, place_text}
 use Rattle.lk_expressions.specs.ExpressionTexts.{cause_text}
@@ -11,13 +11,10 @@ use Rattle.lk_layout.specs.declared.error.LayoutError.{LayoutError}
 use Rattle.lk_layout.specs.declared.error.LayoutError.TheVariants as layout
 use Rattle.lk_layout.specs.declared.error.Uncarried.{Uncarried}
 use Rattle.lk_layout.specs.declared.error.Uncarried.TheVariants as uncarried
-use Rattle.lk_layout.specs.declared.outside.MergeOffsetPlace.{MergeOffsetPlace}
-use Rattle.lk_layout.specs.declared.outside.MergeOffsetPlace.TheVariants.{OfRelocation, OfSymbol}
+use Rattle.lk_values.specs.Texts.{merge_offset_text}
 
 -- what isn't laid out yet, in a word
 unfoldable pub uncarried_text : Uncarried → List ℕ
-uncarried_text uncarried.Partial = codes "partial"
-uncarried_text uncarried.Sorted = codes "sorted"
 uncarried_text uncarried.Primary = codes "primary"
 uncarried_text uncarried.Relax = codes "relax"
 uncarried_text uncarried.Symbol = codes "symbol"
@@ -41,12 +38,6 @@ unfoldable pub full_bucket_text : ℕ → ℕ → ℕ → ℕ → List ℕ
 full_bucket_text section bucket offset len =
     joined (codes "Merge-string bucket too large: section " ∷ decimal section ∷ codes ", bucket " ∷ decimal bucket
     ∷ codes ", offset " ∷ decimal offset ∷ codes ", length " ∷ decimal len ∷ [])
-
--- what chooses an offset outside the data of a merged section
-abbrev pub merge_offset_text : MergeOffsetPlace → List ℕ
-merge_offset_text (OfSymbol symbol) = joined (codes "merge offset: symbol " ∷ decimal symbol ∷ [])
-merge_offset_text (OfRelocation id section relocation) =
-    joined (codes "merge offset: " ∷ input_text id section ∷ codes " relocation " ∷ decimal relocation ∷ [])
 
 -- a region whose sections take more bytes than it has
 unfoldable pub full_region_text : ℕ → ℕ → List ℕ

@@ -10,16 +10,13 @@ ghost use Rattle.lk_layout.specs.Defined.{Gives};
 ghost use Rattle.lk_layout.specs.Machines.{platform_machine};
 ghost use Rattle.lk_layout.specs.Stages.{IsChecked, IsKept, IsMerged, IsPlacedLink, IsSized, Reaches};
 
-use crate::addresses::{Entries, addresses_of};
 use crate::arch::Arch;
 use crate::carried::first_uncarried;
 use crate::error::LayoutError;
 use crate::headers::header_bytes;
-use crate::images::{Images, merge_images};
+use crate::images::merge_images;
 use crate::layout::Layout;
-use crate::outside::check_offsets;
 use crate::positions::asked_positions;
-use crate::resolution::entry_symbol;
 use crate::stages::{KeptLink, PlacedLink, SizedLink};
 use lk_check::check_link;
 use lk_gc::traverse_alone;
@@ -31,8 +28,9 @@ use lk_place::laws::parts_take_their_bytes;
 use lk_place::{
     SegmentFileLayout, compute_layout_sections, compute_segment_layout, merge_secondary_parts,
 };
-use lk_sizes::part_owners::owners;
-use lk_sizes::{attributes_of_contents, part_sizes};
+use lk_sizes::part_owners::plain_owners;
+use lk_sizes::{PartialLinkPlan, attributes_of_contents, part_sizes};
+use lk_values::{Images, addresses_of, check_offsets, entry_symbol};
 use std::alloc::Global;
 use std::sync::Wait;
 use std::thread::Threads;
@@ -103,7 +101,7 @@ fn size<'data, P: Platform>(
     ensures { Reaches (platform_machine (P.segment_start platform.now) (P.table_sizes platform.now)) link.now
         (IsSized (P.table_sizes platform.now) link.now) result }
 {
-    let owners = owners(alloc, link, platform, &kept.live, &kept.images.lens)?;
+    let owners = plain_owners(alloc, link, platform, &kept.live, &kept.images.lens)?;
     Ok(SizedLink { kept, owners })
 }
 
@@ -121,10 +119,8 @@ fn place<'data, P: Platform>(
     let owners = &sized.owners;
     let sizes = part_sizes(alloc, owners)?;
     let headers = header_bytes(link, platform, owners.header());
-    let commons = owners.commons();
-    let parts = owners.contents();
-    let (live, images) = (&sized.kept.live, &sized.kept.images);
-    let positions = asked_positions(alloc, link, live, images, commons, parts, &sizes, platform)?;
+    let live = &sized.kept.live;
+    let positions = asked_positions(alloc, link, live, owners, &sizes, platform)?;
     let records = compute_layout_sections(alloc, link, &sizes, &positions, headers, platform)?;
     Ok(PlacedLink { sized, records })
 }
@@ -145,29 +141,26 @@ fn lay_out<'data, P: Platform>(
     let sections = records.sections.as_slice();
     let joined = merge_secondary_parts(alloc, link, sections)?;
     let header = owners.header();
-    let told = header.emitted.as_slice();
+    let emitted = header.emitted.as_slice();
     let active = header.active_segment_ids.as_slice();
     let kind = SegmentFileLayout::FromSections;
-    let segments = compute_segment_layout(alloc, link, sections, told, active, kind)?;
-    let contents = owners.contents();
-    let attributes = attributes_of_contents(alloc, link, contents)?;
-    let numbers = owners.numbers();
-    let entries = Entries { told, numbers };
+    let segments = compute_segment_layout(alloc, link, sections, emitted, active, kind)?;
+    let attributes = attributes_of_contents(alloc, link, owners.contents())?;
     // A law, which does nothing: the parts end where their owners do.
     parts_take_their_bytes();
     let parts = records.parts.as_slice();
-    let commons = owners.commons();
-    let addresses = addresses_of(
-        alloc, link, &live, &images, commons, contents, parts, entries, platform,
-    )?;
-    check_offsets(link, &live, images.sections.as_slice())?;
+    let merged = images.sections.as_slice();
+    let addresses = addresses_of(alloc, link, &live, merged, &owners, parts, platform)?;
+    check_offsets(link, &live, merged)?;
+    let partial_link = PartialLinkPlan::build(alloc, link, &live)?;
+    let (header, sorted) = owners.into_told();
     Ok(Layout {
         link,
         section_layouts: records.sections,
         merged_section_layouts: List::from_vec(joined),
         section_part_layouts: records.parts,
         section_attributes: List::from_vec(attributes),
-        output_section_indexes: owners.into_header().output_section_indexes,
+        output_section_indexes: header.output_section_indexes,
         segment_layouts: segments.segments,
         tls_layout: segments.tls_layout,
         live_marks: live.marks,
@@ -176,6 +169,8 @@ fn lay_out<'data, P: Platform>(
         merged_string_start_addresses: addresses.buckets,
         symbol_resolutions: addresses.resolutions,
         entry_symbol_id: entry_symbol(link),
+        script_sorted_sections: sorted,
+        partial_link,
     })
 }
 

@@ -7,7 +7,6 @@ ghost use Rattle.lk_link.specs.Texts.{link_fault_text};
 ghost use Rattle.lk_layout.specs.Texts.{backwards_text, full_bucket_text, full_region_text, low_base_text, outside_text, references_text};
 ghost use Rattle.lk_layout.specs.Texts.{uncarried_text, unterminated_text};
 
-use crate::outside::MergeOffsetPlace;
 use crate::references::FurtherLines;
 use lk_gc::{GcError, ReferenceFault};
 use lk_link::fault::{Limited, LinkFault, Place, Rule};
@@ -16,16 +15,13 @@ use lk_link::list::List;
 use lk_merge::MergeError;
 use lk_place::{NoValue, PlaceError};
 use lk_sizes::SizeError;
+use lk_values::MergeOffsetPlace;
 use std::alloc::{AllocError, AllocFailed};
 use std::fmt;
 
 /// What a description may have that isn't laid out yet, in the order in which it is looked for.
 #[derive(Clone, Copy, Debug, PartialEq, Eq)]
 pub enum Uncarried {
-    /// Partial output, or a section for singletons.
-    Partial,
-    /// A section that is put in order by its name.
-    Sorted,
     /// A part of code that thunks are made for.
     Primary,
     /// Code that is shortened where its targets are near.
@@ -118,8 +114,6 @@ impl Uncarried {
         ensures { result.now ≡ uncarried_text self }
     {
         match self {
-            Uncarried::Partial => "partial",
-            Uncarried::Sorted => "sorted",
             Uncarried::Primary => "primary",
             Uncarried::Relax => "relax",
             Uncarried::Symbol => "symbol",

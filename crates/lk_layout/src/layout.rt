@@ -1,15 +1,15 @@
 //! The layout of a link.
 
-ghost use Rattle.std.specs.Prelude.{◌≡◌};
+ghost use Rattle.std.specs.Prelude.{◌≡◌, option_map};
 ghost use Rattle.lk_layout.specs.Layouts.{resolved_entry};
 
-use crate::resolution::{EntryFault, entry_value};
-use crate::symbol_resolutions::SymbolResolutions;
 use lk_link::ids::SymbolId;
 use lk_link::link::LinkInput;
 use lk_link::list::List;
 use lk_merge::{MergedStringStartAddresses, MergedStringsSection};
 use lk_place::{OutputRecordLayout, SegmentLayout};
+use lk_sizes::{InputSortedSection, PartialLinkPlan};
+use lk_values::{EntryFault, SymbolResolutions, entry_value};
 use std::marker::Model;
 
 /// Where everything stands (libwild: `Layout`). Contracts see a record of all that it lends.
@@ -29,6 +29,8 @@ pub struct Layout<'data> {
     pub(crate) merged_string_start_addresses: MergedStringStartAddresses,
     pub(crate) symbol_resolutions: SymbolResolutions,
     pub(crate) entry_symbol_id: Option<SymbolId>,
+    pub(crate) script_sorted_sections: List<InputSortedSection>,
+    pub(crate) partial_link: Option<PartialLinkPlan>,
 }
 
 impl<'data> Model for Layout<'data> {
@@ -55,6 +57,8 @@ impl<'data> Model for Layout<'data> {
       merged_string_start_addresses = a.merged_string_start_addresses;
       symbol_resolutions = a.symbol_resolutions;
       entry_symbol_id = a.entry_symbol_id;
+      script_sorted_sections = a.script_sorted_sections;
+      partial_link = a.partial_link;
     } };
 }
 
@@ -156,6 +160,20 @@ impl<'data> Layout<'data> {
         ensures { result ≡ self.now.entry_symbol_id }
     {
         self.entry_symbol_id
+    }
+
+    /// The live sections that are put in order by their names, in that order: by the bytes of these, then by file and index.
+    pub fn script_sorted_sections(&self) -> &[InputSortedSection]
+        ensures { result.now ≡ self.now.script_sorted_sections }
+    {
+        self.script_sorted_sections.as_slice()
+    }
+
+    /// What is known of output that is linked again; none exactly where output isn't.
+    pub fn partial_link(&self) -> Option<&PartialLinkPlan>
+        ensures { option_map (λ plan. plan.now) result ≡ self.now.partial_link }
+    {
+        self.partial_link.as_ref()
     }
 
     /// The address where the program starts; none where no entry is named. Refused where the entry's symbol has no resolution, and

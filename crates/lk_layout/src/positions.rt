@@ -13,22 +13,20 @@ ghost use Rattle.lk_link.specs.Marks.{is_marked};
 ghost use Rattle.lk_link.specs.Walks.{file_of};
 ghost use Rattle.lk_link.specs.WellFormed.{IsWellFormed};
 ghost use Rattle.lk_sizes.specs.Addresses.{section_addresses};
-ghost use Rattle.lk_sizes.specs.Contents.{part_contents};
 ghost use Rattle.lk_sizes.specs.PartOwners.{part_sizes};
-ghost use Rattle.lk_tables.specs.Commons.{all_commons};
-ghost use Rattle.lk_layout.specs.MergingWords.{AreImages};
-ghost use Rattle.lk_layout.specs.OutputContent.{output_content, output_filling};
+ghost use Rattle.lk_sizes.specs.Sizing.{AreFilled};
+ghost use Rattle.lk_values.specs.OutputContent.{output_content, output_filling};
 ghost use Rattle.lk_layout.specs.Positions.{file_positions, no_starts, symbol_positions};
-ghost use Rattle.lk_layout.specs.Tables.{HasRoom, HaveRoom, asked_positions, position_in, section_position_in};
+ghost use Rattle.lk_values.specs.Tables.{HasRoom, HaveRoom};
+ghost use Rattle.lk_layout.specs.PositionWords.{asked_positions, position_in, section_position_in};
 
-use crate::images::Images;
 use lk_gc::Live;
 use lk_link::list::List;
 use lk_link::marks::is_marked;
 use lk_link::{FileRef, InputSection, InputSymbol, LinkInput, Platform, SymbolPlacement};
 use lk_place::{SymbolPosition, SymbolPositions, names_no_symbol};
-use lk_sizes::{PartContents, owner_addresses};
-use lk_tables::Common;
+use lk_sizes::PartOwners;
+use lk_sizes::part_owners::owner_addresses;
 use std::alloc::{AllocError, Global};
 
 /// The places of symbols in parts, if an expression of the walk names one; else none is told, which takes no memory.
@@ -36,26 +34,20 @@ pub(crate) fn asked_positions<P: Platform>(
     alloc: Global,
     link: &LinkInput,
     live: &Live,
-    images: &Images<'_>,
-    commons: &[Common],
-    contents: &[PartContents],
+    owners: &PartOwners,
     sizes: &[u64],
     platform: &P,
 ) -> Result<SymbolPositions, AllocError>
     requires good { IsWellFormed link.now }
     requires live { AreLive link.now live.now }
-    requires images { AreImages link.now images.now }
-    requires commons { commons.now ≡ all_commons link.now live.now }
-    requires contents { contents.now ≡ part_contents (output_filling (P.table_sizes platform.now) link.now live.now) }
+    requires filled { AreFilled (output_filling (P.table_sizes platform.now) link.now live.now) owners.now }
     requires sizes { sizes.now ≡ part_sizes (output_filling (P.table_sizes platform.now) link.now live.now) }
     ensures { IfOk result (λ positions. positions ≡ asked_positions (output_filling (P.table_sizes platform.now) link.now live.now)) }
 {
     if names_no_symbol(&link.plan) {
         return Ok(SymbolPositions::new(List::new(alloc)));
     }
-    symbol_positions(
-        alloc, link, live, images, commons, contents, sizes, platform,
-    )
+    symbol_positions(alloc, link, live, owners, sizes, platform)
 }
 
 /// The place of each symbol in its part, if it has one. Looks at each input section and each symbol once, and takes 8 bytes for
@@ -64,24 +56,19 @@ fn symbol_positions<P: Platform>(
     alloc: Global,
     link: &LinkInput,
     live: &Live,
-    images: &Images<'_>,
-    commons: &[Common],
-    contents: &[PartContents],
+    owners: &PartOwners,
     sizes: &[u64],
     platform: &P,
 ) -> Result<SymbolPositions, AllocError>
     requires good { IsWellFormed link.now }
     requires live { AreLive link.now live.now }
-    requires images { AreImages link.now images.now }
-    requires commons { commons.now ≡ all_commons link.now live.now }
-    requires contents { contents.now ≡ part_contents (output_filling (P.table_sizes platform.now) link.now live.now) }
+    requires filled { AreFilled (output_filling (P.table_sizes platform.now) link.now live.now) owners.now }
     requires sizes { sizes.now ≡ part_sizes (output_filling (P.table_sizes platform.now) link.now live.now) }
     ensures { IfOk result (λ positions. positions ≡ symbol_positions (output_filling (P.table_sizes platform.now) link.now live.now)) }
 {
     let starts = no_starts(alloc, sizes)?;
-    let lens = &images.lens;
-    let owners = owner_addresses(alloc, link, live, lens, commons, contents, &starts)?;
-    let offsets = owners.sections.as_slice();
+    let found = owner_addresses(alloc, link, live, owners, &starts)?;
+    let offsets = found.sections.as_slice();
     let count = link.groups.symbol_count() as usize;
     let mut positions = Vec::with_capacity(alloc, count)?;
     for file in link.groups.files() {

@@ -1,9 +1,9 @@
 //! How far a link is laid out: what each stage of the computation hands on to the next, with what came before.
 
-use crate::images::Images;
 use lk_gc::Live;
 use lk_place::Placed;
 use lk_sizes::PartOwners;
+use lk_values::Images;
 
 /// A link that is merged, with what is live of it.
 #[derive(Drop)]

@@ -290,11 +290,10 @@ const REFUSED: &str = r#"
 # What is not carried: from the options to the symbols of the prelude,
 @ {"plan":{"page":16,"sections":[{"parts":[[1,false]]}],"events":[["sec",0]]},"options":{...]}]]}
 "output":"shared","relax":true},"groups":[[{"kind":"prelude","symbols":[ => 1 not carried: relax
-"output":"partial"},"groups":[[{"kind":"prelude","symbols":[ => 1 not carried: partial
 "relax":true},"groups":[[{"kind":"prelude","symbols":[ => 1 not carried: relax
 },"groups":[[{"kind":"prelude","symbols":[{"name":"x","at":["undefined"]} => 1 not carried: symbol
 "relax":true},"groups":[[{"kind":"prelude","symbols":[{"name":"x","at":["undefined"]} => 1 not carried: relax
-"output":"partial","relax":true},"groups":[[{"kind":"prelude","symbols":[{"name":"x","at":["undefined"]} => 1 not carried: partial
+"output":"partial","relax":true},"groups":[[{"kind":"prelude","symbols":[{"name":"x","at":["undefined"]} => 1 not carried: relax
 # in a plan, behind its sections and events,
 @ {"plan":{"page":16,"sections":[{"parts":[[1,false]]}],"events":[["sec",0]]...},"groups":[[{"kind":"prelude"}]]}
 ,"custom_base":true => 1 base address (0x0) is less than the size of headers (0x40)
@@ -303,7 +302,6 @@ const REFUSED: &str = r#"
 ,"primary":0,"comment":0},"options":{"branch_range":2097153 => 1 not carried: primary
 ,"primary":0 => 1 bad link: rule 4, part field 12
 ,"base":["sym",0] => 1 bad link: rule 8, plan
-,"singletons":0},"options":{"output":"partial" => 1 not carried: partial
 # in the first of two output sections,
 @ {"plan":{"page":16,"sections":[{"parts":[[1,false]],...},{"parts":[[1,false]]}],"events":[["sec",0],["sec",1]]},"groups":[[{"kind":"prelude"}]]}
 "region":"r" => 1 region of section 0 not declared
@@ -311,9 +309,7 @@ const REFUSED: &str = r#"
 @ {"plan":{"page":16,"sections":[{"parts":[[1,false]]}],"events":[["sec",0]]},"groups":[[{"kind":"prelude"},{"kind":"object","symbols":[{"at":["undef"]}],"sections":[...]}]]}
 {"slot":"must","size":1,"relocs":[[0,"GotTpOff",0,0,false]]} => 1 bad link: rule 12, input 0 1 0
 {"slot":"discard","relocs":[[9,"PltRelative",5,0,false]]} => 1 bad link: rule 12, input 0 1 0
-{"slot":"must","sorted":true} => 1 not carried: sorted
-{"slot":"discard","sorted":true} => 1 not carried: sorted
-{"slot":"must","sorted":true},{"slot":"merge","strings":true,"data":"61"} => 1 not carried: sorted
+{"slot":"must","sorted":true},{"slot":"merge","strings":true,"data":"61"} => 1 String in merge-string section is not null-terminated: section 0, input 0
 {"slot":"must","group":7},{"slot":"merge","strings":true,"data":"61"} => 1 String in merge-string section is not null-terminated: section 0, input 0
 # Relocations that want entries of tables, and a candidate that is no section.
 @ {"plan":{"page":16,"sections":[{"parts":[[2,false],[1,false]]}],"events":[["sec",0]],"got":0},"groups":[[{"kind":"prelude"},{"kind":"object","symbols":[{"at":["undef"]}],"sections":[{"slot":"must","part":1,"size":1,"relocs":[...]}]}]]}

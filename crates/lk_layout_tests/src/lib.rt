@@ -12,6 +12,8 @@ mod layout;
 #[cfg(test)]
 mod merged_links;
 #[cfg(test)]
+mod partial;
+#[cfg(test)]
 mod placements;
 #[cfg(test)]
 mod reach;

@@ -3,7 +3,7 @@
 use crate::devices::{add_calls, add_held, add_reads, add_run, add_whole, add_writes};
 use crate::layout::add_workers;
 use crate::runs::{add_end, add_words};
-use crate::words::add_both_runs;
+use crate::words::{add_both_runs, add_generated};
 use lk_input::{InputError, read_link};
 use lk_layout::first_uncarried;
 use lk_link::LinkInput;
@@ -27,6 +27,8 @@ pub enum Asked {
     Words,
     /// How runs with its words end, alone and by workers.
     BothRuns,
+    /// What a run with its words tells of a generated link.
+    Generated,
     /// What reads of a source give.
     Reads,
     /// What is read of a whole source.
@@ -81,6 +83,7 @@ fn add_answer(
         Asked::Run => add_end(alloc, line, text),
         Asked::Words => add_words(alloc, line, text),
         Asked::BothRuns => add_both_runs(rt, alloc, line, text),
+        Asked::Generated => add_generated(alloc, line, text),
         Asked::Reads => add_reads(alloc, line, text),
         Asked::Whole => add_whole(alloc, line, text),
         Asked::Held => add_held(alloc, line, text),

@@ -39,7 +39,7 @@ fn told_end(
 
 /// The status with which the words end over an input that is read by 100 bytes, and the text that the sink has taken, seven
 /// bytes at a time, without the end of its last line.
-fn told(alloc: Global, words: &[String], input: &str) -> Result<String, AllocError> {
+pub fn told(alloc: Global, words: &[String], input: &str) -> Result<String, AllocError> {
     let mut source = MemorySource::new(input.as_bytes().to_vec(alloc)?, 100, Vec::new(alloc));
     let mut sink = MemorySink::new(alloc, ROOM, 7, Vec::new(alloc))?;
     let status = run_alone(alloc, words, &mut source, &mut sink);

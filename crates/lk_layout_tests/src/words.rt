@@ -1,7 +1,7 @@
 //! Words, statuses, and runs whose words or input are no good.
 
 use crate::rows::{Asked, expect_rows, expect_text};
-use crate::runs::{told_by_workers, words_of};
+use crate::runs::{told, told_by_workers, words_of};
 use lk_run::{Status, SureSink, SureSource, run_alone};
 use lk_test_rows::add;
 use std::alloc::{AllocError, Global};
@@ -32,7 +32,7 @@ fn statuses_have_their_numbers(rt: HostRuntime) -> Result<(), Fail> {
     Ok(())
 }
 
-/// Lines of words; of these only the first is a command.
+/// Lines of words; of these only the first and the last two are commands.
 const WORDS: &str = r#"
 layout 0 => command Some(Layout(0)) ends "3 not a link description: /plan"
 layout 07 => command None ends "2 usage: lk_program layout N | gen SEED SIZE"
@@ -46,9 +46,23 @@ layout 256 => command None ends "2 usage: lk_program layout N | gen SEED SIZE"
 layout => command None ends "2 usage: lk_program layout N | gen SEED SIZE"
 layout 0 0 => command None ends "2 usage: lk_program layout N | gen SEED SIZE"
 Layout 0 => command None ends "2 usage: lk_program layout N | gen SEED SIZE"
-gen 1 1 => command None ends "2 usage: lk_program layout N | gen SEED SIZE"
+gen => command None ends "2 usage: lk_program layout N | gen SEED SIZE"
+gen 1 => command None ends "2 usage: lk_program layout N | gen SEED SIZE"
+gen 0 0 => command None ends "2 usage: lk_program layout N | gen SEED SIZE"
+gen 01 1 => command None ends "2 usage: lk_program layout N | gen SEED SIZE"
+gen 1 01 => command None ends "2 usage: lk_program layout N | gen SEED SIZE"
+gen +1 1 => command None ends "2 usage: lk_program layout N | gen SEED SIZE"
+gen 1 -1 => command None ends "2 usage: lk_program layout N | gen SEED SIZE"
+gen 0 100001 => command None ends "2 usage: lk_program layout N | gen SEED SIZE"
+gen 0 4294967297 => command None ends "2 usage: lk_program layout N | gen SEED SIZE"
+gen 18446744073709551616 1 => command None ends "2 usage: lk_program layout N | gen SEED SIZE"
+gen 1 1 1 => command None ends "2 usage: lk_program layout N | gen SEED SIZE"
+Gen 1 1 => command None ends "2 usage: lk_program layout N | gen SEED SIZE"
+layout 1 1 => command None ends "2 usage: lk_program layout N | gen SEED SIZE"
  => command None ends "2 usage: lk_program layout N | gen SEED SIZE"
 layout 0 gen => command None ends "2 usage: lk_program layout N | gen SEED SIZE"
+gen 1 1 => command Some(Gen { seed: 1, size: 1 }) ends "0 gen 1 1 live 2 of 2 merged 5 end 0x4000b8"
+gen 18446744073709551615 3 => command Some(Gen { seed: 18446744073709551615, size: 3 }) ends "0 gen 18446744073709551615 3 live 2 of 6 merged 15 end 0x4000c0"
 "#;
 
 #[test]
@@ -59,7 +73,7 @@ fn other_words_are_no_command(rt: HostRuntime) -> Result<(), Fail> {
 /// The smallest description.
 const SMALLEST: &str = r#"{"plan":{"page":4096},"groups":[[{"kind":"prelude"}]]}"#;
 
-/// How many workers are asked for, and how a run over the smallest description ends: on the caller's own thread, with the
+/// How many workers are asked for, or what link, and how a run over the smallest description ends: on the caller's own thread, with the
 /// bytes that its source has left and its sink took; and by workers.
 const WORKERS: &str = r#"
 layout 0 => alone (Some(LaidOut), 0, 19) workers "0 layout\nentry -\nend"
@@ -67,6 +81,7 @@ layout 1 => alone (Some(LaidOut), 0, 19) workers "0 layout\nentry -\nend"
 layout 2 => alone (None, 54, 0) workers "0 layout\nentry -\nend"
 layout 10 => alone (None, 54, 0) workers "0 layout\nentry -\nend"
 layout 64 => alone (None, 54, 0) workers "0 layout\nentry -\nend"
+gen 0 1 => alone (Some(LaidOut), 54, 42) workers "0 gen 0 1 live 2 of 2 merged 5 end 0x400058"
 "#;
 
 /// Adds how a run on the caller's own thread ends.
@@ -96,6 +111,68 @@ pub fn add_both_runs(
 #[test]
 fn the_number_of_workers_changes_nothing(rt: HostRuntime) -> Result<(), Fail> {
     expect_rows(&rt, rt.alloc(), Asked::BothRuns, WORKERS)
+}
+
+/// Adds how a run with the words of a row ends, whose source is empty.
+pub fn add_generated(alloc: Global, line: &mut String, row: &str) -> Result<(), AllocError> {
+    line.push_str(told(alloc, &words_of(alloc, row)?, "")?.as_str())
+}
+
+/// Words of generated links, and the lines that are told of these.
+const GENERATED: &str = r#"
+gen 0 1 => 0 gen 0 1 live 2 of 2 merged 5 end 0x400058
+gen 0 9 => 0 gen 0 9 live 6 of 18 merged 40 end 0x4001f0
+gen 0 200 => 0 gen 0 200 live 30 of 400 merged 130 end 0x400d18
+gen 1 1 => 0 gen 1 1 live 2 of 2 merged 5 end 0x4000b8
+gen 1 9 => 0 gen 1 9 live 2 of 18 merged 43 end 0x400110
+gen 1 200 => 0 gen 1 200 live 24 of 400 merged 130 end 0x400800
+gen 2 1 => 0 gen 2 1 live 2 of 2 merged 5 end 0x400138
+gen 2 9 => 0 gen 2 9 live 7 of 18 merged 32 end 0x400300
+gen 2 200 => 0 gen 2 200 live 22 of 400 merged 130 end 0x400990
+gen 3 1 => 0 gen 3 1 live 2 of 2 merged 5 end 0x400100
+gen 3 9 => 0 gen 3 9 live 7 of 18 merged 40 end 0x400418
+gen 3 200 => 0 gen 3 200 live 22 of 400 merged 130 end 0x400940
+gen 4 1 => 0 gen 4 1 live 2 of 2 merged 5 end 0x400058
+gen 4 9 => 0 gen 4 9 live 8 of 18 merged 37 end 0x400340
+gen 4 200 => 0 gen 4 200 live 21 of 400 merged 130 end 0x400850
+gen 5 1 => 0 gen 5 1 live 2 of 2 merged 5 end 0x4000c8
+gen 5 9 => 0 gen 5 9 live 6 of 18 merged 45 end 0x400290
+gen 5 200 => 0 gen 5 200 live 12 of 400 merged 130 end 0x400620
+gen 6 1 => 0 gen 6 1 live 2 of 2 merged 5 end 0x4000a0
+gen 6 9 => 0 gen 6 9 live 7 of 18 merged 37 end 0x4002b0
+gen 6 200 => 0 gen 6 200 live 14 of 400 merged 130 end 0x4004f0
+gen 7 1 => 0 gen 7 1 live 2 of 2 merged 5 end 0x4000e8
+gen 7 9 => 0 gen 7 9 live 7 of 18 merged 43 end 0x400328
+gen 7 200 => 0 gen 7 200 live 10 of 400 merged 130 end 0x4003a8
+gen 8 1 => 0 gen 8 1 live 2 of 2 merged 5 end 0x400040
+gen 8 9 => 0 gen 8 9 live 4 of 18 merged 37 end 0x400140
+gen 8 200 => 0 gen 8 200 live 20 of 400 merged 130 end 0x400738
+gen 9 1 => 0 gen 9 1 live 2 of 2 merged 5 end 0x400100
+gen 9 9 => 0 gen 9 9 live 12 of 18 merged 36 end 0x400568
+gen 9 200 => 0 gen 9 200 live 30 of 400 merged 130 end 0x400c30
+gen 10 1 => 0 gen 10 1 live 2 of 2 merged 5 end 0x400090
+gen 10 9 => 0 gen 10 9 live 7 of 18 merged 40 end 0x400318
+gen 10 200 => 0 gen 10 200 live 8 of 400 merged 130 end 0x400360
+gen 11 1 => 0 gen 11 1 live 2 of 2 merged 5 end 0x4000d8
+gen 11 9 => 0 gen 11 9 live 8 of 18 merged 43 end 0x400328
+gen 11 200 => 0 gen 11 200 live 35 of 400 merged 130 end 0x400ea0
+gen 12 1 => 0 gen 12 1 live 2 of 2 merged 5 end 0x4000a0
+gen 12 9 => 0 gen 12 9 live 2 of 18 merged 45 end 0x4000c8
+gen 12 200 => 0 gen 12 200 live 4 of 400 merged 130 end 0x4001b0
+gen 13 1 => 0 gen 13 1 live 2 of 2 merged 5 end 0x4000e8
+gen 13 9 => 0 gen 13 9 live 11 of 18 merged 36 end 0x400470
+gen 13 200 => 0 gen 13 200 live 47 of 400 merged 130 end 0x401248
+gen 14 1 => 0 gen 14 1 live 2 of 2 merged 5 end 0x400078
+gen 14 9 => 0 gen 14 9 live 6 of 18 merged 40 end 0x400188
+gen 14 200 => 0 gen 14 200 live 31 of 400 merged 130 end 0x400c10
+gen 15 1 => 0 gen 15 1 live 2 of 2 merged 5 end 0x400130
+gen 15 9 => 0 gen 15 9 live 12 of 18 merged 40 end 0x400678
+gen 15 200 => 0 gen 15 200 live 44 of 400 merged 130 end 0x401100
+"#;
+
+#[test]
+fn generated_links_are_laid_out(rt: HostRuntime) -> Result<(), Fail> {
+    expect_rows(&rt, rt.alloc(), Asked::Generated, GENERATED)
 }
 
 /// Inputs that can't be read, and how runs over them end.

@@ -14,6 +14,8 @@ mod merging;
 #[cfg(test)]
 mod owned;
 #[cfg(test)]
+mod partial;
+#[cfg(test)]
 mod placed;
 #[cfg(test)]
 mod rows;

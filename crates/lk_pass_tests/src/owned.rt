@@ -8,7 +8,7 @@ use crate::shown::Shown;
 use lk_check::check_link;
 use lk_gc::{Live, traverse_alone};
 use lk_link::{FileId, LinkInput, PartId, Small64};
-use lk_sizes::part_owners::owners;
+use lk_sizes::part_owners::plain_owners;
 use lk_sizes::{PartOwners, SizeError, part_sizes};
 use lk_tables::{FileShare, TableTotals, bytes_in_part, mark_prelude, symbol_shares};
 use std::alloc::{AllocError, Global};
@@ -204,10 +204,10 @@ fn add_live_owned(
     requires good { IsWellFormed link.now }
     requires live { AreLive link.now live.now }
 {
-    match &owners(alloc, link, &Small64, live, IMAGE_LENS) {
+    match &plain_owners(alloc, link, &Small64, live, IMAGE_LENS) {
         Ok(owners) => {
             let shares = &symbol_shares(alloc, link, &Small64, live)?.files;
-            let late = mark_prelude(link, &Small64, live, owners.header().emitted.as_slice());
+            let late = mark_prelude(link, &Small64, live, owners.header().told.as_slice());
             let owned = Owned {
                 link,
                 live,

@@ -4,6 +4,7 @@ use crate::expressions::{add_beginning, add_plain, add_values};
 use crate::kept::{add_exports, add_states};
 use crate::merging::{Merging, add_merging};
 use crate::owned::add_owned;
+use crate::partial::add_partial;
 use crate::sizes::{add_live, add_sizes, add_sums};
 use crate::tables::add_tables;
 use crate::traversal::{add_asks, add_reached};
@@ -28,6 +29,8 @@ pub enum Shown {
     Sums,
     /// What symbols and headers take in tables.
     Tables,
+    /// What is known of output that is linked again.
+    Partial,
     /// What the base is worth, and what is evaluated before the first event.
     Values,
     Beginning,
@@ -54,6 +57,7 @@ pub fn add_shown(
         Shown::Owned => add_owned(alloc, line, link),
         Shown::Sums => add_sums(alloc, line, link),
         Shown::Tables => add_tables(alloc, line, link),
+        Shown::Partial => add_partial(alloc, line, link),
         Shown::Values => add_values(alloc, line, link),
         Shown::Beginning => add_beginning(alloc, line, link),
         Shown::Plain => add_plain(line, link),

@@ -1,7 +1,6 @@
 //! What is live, what that brings to the parts, and which sections and segments are told.
 
 ghost use Rattle.std.specs.Prelude.{◌≡◌, false, length};
-ghost use Rattle.lk_link.specs.OutputKinds.{is_partial};
 ghost use Rattle.lk_link.specs.Parts.{all_parts};
 ghost use Rattle.lk_link.specs.WellFormed.{IsWellFormed};
 ghost use Rattle.lk_gc.specs.Reach.{AreLive};
@@ -11,7 +10,7 @@ use crate::shown::Shown;
 use lk_check::check_link;
 use lk_gc::{Live, traverse_alone};
 use lk_link::{LinkInput, Small64};
-use lk_sizes::part_owners::owners;
+use lk_sizes::part_owners::plain_owners;
 use lk_sizes::{
     HeaderInfo, PartContents, PartOwners, SizeError, image_addresses, part_sizes,
     propagate_section_attributes,
@@ -56,6 +55,10 @@ const SIZES: &str = r#"
 
 /// The bytes of three parts, which together are at most 2^64 - 1; or the first part at which they pass it.
 const SUMS: &str = r#"
+# Output that is linked again: a table of local symbols has one for itself and one for a section with a part that is no table. A sorted
+# section takes what others do.
+{"options":{"output":"partial"},"plan":{"page":16,"sections":[{"parts":[[8,false]],"emit":"always"},{"parts":[[1,false]]}],"events":[["sec",0],["sec",1]],"symtab_local":0},"groups":[[{"kind":"prelude"}],[{"kind":"object","sections":[{"slot":"must","part":1,"size":4}]}]]} => sizes [48, 4]
+{"plan":{"page":16,"sections":[{"attrs":1,"parts":[[8,false]]}],"segments":[{"kind":"load"}],"events":[["seg",0],["sec",0],["endseg",0]]},"groups":[[{"kind":"prelude"}],[{"kind":"object","sections":[{"slot":"must","size":3,"name":"a","sorted":true},{"slot":"must","size":9}]}]]} => sizes [24]
 @ {"plan":{"page":16,"sections":[{"attrs":1,"parts":[[1,false]]},{"attrs":1,"parts":[[8,false],[1,false]]}],"segments":[{"kind":"load"}],"events":[["seg",0],["sec",0],["sec",1],["endseg",0]]},"groups":[[{"kind":"prelude"}],[{"kind":"object",...}]]}
 # Sections of one part and of several, with the bytes up to the alignment.
 "sections":[{"slot":"must","size":18446744073709551615}] => sizes [18446744073709551615, 0, 0]
@@ -132,6 +135,9 @@ const SUMS: &str = r#"
 0},"groups":[[{"kind":"prelude"}],[{"kind":"object","sections":[{"slot":"must","part":1,"size":18446744073709551504 => refused AddressOverflow { place: Part(1) }
 1},"groups":[[{"kind":"prelude"}],[{"kind":"object","sections":[{"slot":"must","part":0,"size":18446744073709551503 => sizes [18446744073709551503, 112]
 1},"groups":[[{"kind":"prelude"}],[{"kind":"object","sections":[{"slot":"must","part":0,"size":18446744073709551504 => refused AddressOverflow { place: Part(1) }
+# Where output is linked again, a table counts the sections whose edges are told: one that is a table alone isn't, though it is emitted.
+@ {"options":{"output":"partial"},"plan":{"page":16,"sections":[{"parts":[[8,false]],"emit":"always"},{"parts":[[1,false]]}],"events":[["sec",0],["sec",1]],"symtab_local":0},"groups":[[{"kind":"prelude"}],[{"kind":"object",...}]]}
+"sections":[{"slot":"must","part":1,"size":4}] => sizes [48, 4]
 "#;
 
 /// The lengths of the images of the first two output sections, where something is merged there.
@@ -252,17 +258,14 @@ fn add_brought(
     requires good { IsWellFormed link.now }
     requires live { AreLive link.now live.now }
 {
-    if link.options.output.is_partial() {
-        return Ok(());
-    }
-    match owners(alloc, link, &Small64, live, MERGED_LENS) {
+    match plain_owners(alloc, link, &Small64, live, MERGED_LENS) {
         Ok(owners) => add_owners(alloc, line, link, live, &owners),
         Err(_) => Ok(()),
     }
 }
 
-/// Adds what comes into each part, and what that makes of images, sections and segments, of a link that is well formed, whose
-/// output isn't partial, and whose sizes aren't refused.
+/// Adds what comes into each part, and what that makes of images, sections and segments, of a link that is well formed, and
+/// whose sizes aren't refused.
 pub fn add_sizes(alloc: Global, line: &mut String, link: &LinkInput) -> Result<(), AllocError> {
     if check_link(link).is_err() {
         return Ok(());
@@ -283,10 +286,7 @@ fn add_sums_of(
     requires good { IsWellFormed link.now }
     requires live { AreLive link.now live.now }
 {
-    if link.options.output.is_partial() {
-        return Ok(());
-    }
-    match owners(alloc, link, &Small64, live, MERGED_LENS) {
+    match plain_owners(alloc, link, &Small64, live, MERGED_LENS) {
         Ok(owners) => add(line, "sizes", &part_sizes(alloc, &owners)?),
         Err(SizeError::NoMemory) => Err(AllocError),
         Err(error) => add(line, "refused", &error),

@@ -47,7 +47,7 @@ use Rattle.lk_reach.proofs.ReachLemmas.{reach_more, reach_root}
 
 -- ---- marks set one flag, which is none of these
 
-abbrev IsPlainAsk : Ask → Type 0
+abbrev pub IsPlainAsk : Ask → Type 0
 IsPlainAsk (Reference s f) = Unit {0}
 IsPlainAsk (Section id i) = Unit {0}
 IsPlainAsk (Mark s f) = f.0 ≡ 2 ^ 14
@@ -169,7 +169,8 @@ filed_member_plain : (id : FileId) (i : ℕ) (o : Option InputFile) (k : ℕ) (a
 filed_member_plain id i None k a h = absurd (cc)
 filed_member_plain id i (Some f) k a h = member_plain id f.sections i (slice_get f.sections i) k a h
 
-follows_plain : (link : LinkInput) (u : LinkUnit) (k : ℕ) (a : Ask) → slice_get (follows link u) k ≡ Some a → IsPlainAsk a
+-- what units ask for is plain
+pub follows_plain : (link : LinkInput) (u : LinkUnit) (k : ℕ) (a : Ask) → slice_get (follows link u) k ≡ Some a → IsPlainAsk a
 follows_plain link (Sym s) k a h = symbol_plain link.groups s (slice_get (numbered_symbols link.groups) s) k a h
 follows_plain link (Sec id i) k a h = elim (append_at (asked_members link id i) (asked_references link id i) k a h) [
   | inl member ↦ filed_member_plain id i (file_in link.groups id) k a member
@@ -266,7 +267,8 @@ kind_plain link f kind.LinkerScript k a h = elim (append_at (wanted_symbol_asks 
       event_plain link.groups at.from at.inner a at.gives
 ]
 
-roots_plain : (link : LinkInput) (k : ℕ) (a : Ask) → slice_get (roots link) k ≡ Some a → IsPlainAsk a
+-- what roots ask for is plain
+pub roots_plain : (link : LinkInput) (k : ℕ) (a : Ask) → slice_get (roots link) k ≡ Some a → IsPlainAsk a
 roots_plain link k a h =
     let at = flat_map_at (file_roots link) (numbered_files link.groups) k a h in
     kind_plain link at.from at.from.file.kind at.inner a at.gives

@@ -190,7 +190,8 @@ reach_is_closed link wf =
       by_units = λ u is k d lt. (closed.by_units u is k d lt, joined_by_units link u wf is k d lt);
     }
 
-handed_meant : (link : LinkInput) (n i : ℕ) → HasBit (handed_in link) n i → (s : ℕ) → word_of s ≡ n → HasFlag link s i
+-- a bit that is handed in is a flag
+pub handed_meant : (link : LinkInput) (n i : ℕ) → HasBit (handed_in link) n i → (s : ℕ) → word_of s ≡ n → HasFlag link s i
 handed_meant link n i bit s e =
     let symbols = all_symbols link.groups in
     let flags : InputSymbol → ℕ = flags_handed_in in

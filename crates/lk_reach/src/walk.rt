@@ -389,7 +389,7 @@ fn files_of_inputs(alloc: Global, link: &LinkInput) -> Result<Vec<FileId>, Alloc
 }
 
 /// The flags that are handed in, behind a spare word.
-fn handed_in(alloc: Global, link: &LinkInput) -> Result<Vec<u64>, AllocError>
+pub fn handed_in(alloc: Global, link: &LinkInput) -> Result<Vec<u64>, AllocError>
     requires { IsWellFormed link.now }
     ensures { IfOk result (λ words. words.items ≡ handed_in link.now) }
 {

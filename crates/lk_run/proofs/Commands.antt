@@ -1,5 +1,5 @@
 -- Which words are a command.
-use Rattle.std.proofs.Common.{◌≡◌, inl, inr, cond, ◌==◌, length-drop, ℕ, zero, suc, ◌<◌, ◌≤◌, List, [], ◌∷◌, length, drop, Bool, true, false, true≢false, ◌&&◌, Option, None, Some, Result, Ok, refl, sym, ap, subst, ◌∙◌, arith, if◌then◌else◌}
+use Rattle.std.proofs.Common.{◌≡◌, ◌-◌, ◌^◌, inl, inr, cond, ◌==◌, length-drop, ℕ, zero, suc, ◌<◌, ◌≤◌, List, [], ◌∷◌, length, drop, Bool, true, false, true≢false, ◌&&◌, Option, None, Some, Result, Ok, refl, sym, ap, subst, ◌∙◌, arith, if◌then◌else◌}
 use Rattle.std.specs.Fmt.{decimal}
 use Rattle.std.specs.Prelude.{◌↔◌, IsTrue, bytes_eq, codes, nat_le, slice_index}
 use Rattle.std.specs.Str.Parse.{digits_value, IsNumeral, ParsesUnsigned, without_leading_plus}
@@ -9,62 +9,70 @@ use Rattle.std.proofs.lemmas.Str.Parse.{numerals_by_value, tells_digits}
 use Rattle.std.proofs.lemmas.Slice.Eq.{bytes_eq-Decides}
 use Rattle.lk_run.specs.RunAlone.{AsksForWorkers}
 use Rattle.lk_run.specs.Steps.{IsPadded}
-use Rattle.lk_run.specs.Words.{IsCommand, command_of, workers_of, layout_with, workers_for}
+use Rattle.lk_run.specs.Words.{IsCommand, command_of, number_in, workers_of, seed_of, size_of, layout_with, gen_with, workers_for}
 use Rattle.lk_run.specs.declared.words.Command.{Command}
-use Rattle.lk_run.specs.declared.words.Command.TheVariants.{Layout}
-use Rattle.lk_run.specs.declared.words.TheConstants.{MOST_WORKERS}
+use Rattle.lk_run.specs.declared.words.Command.TheVariants.{Layout, Gen}
+use Rattle.lk_run.specs.declared.words.TheConstants.{MOST_WORKERS, MOST_OBJECTS}
 
--- both tests hold where there is a number
-both : (is_few is_written : Bool) (m n : ℕ) → (if is_few && is_written then Some m else None) ≡ Some n →
-    (is_few ≡ true) × (is_written ≡ true) × (m ≡ n)
-both true true m n read = (refl, refl, cc)
-both true false m n read = absurd (cc)
-both false is_written m n read = absurd (cc)
+-- all tests hold where there is a number
+both : (is_least is_most is_written : Bool) (m n : ℕ) → (if (is_least && is_most) && is_written then Some m else None) ≡ Some n →
+    (is_least ≡ true) × (is_most ≡ true) × (is_written ≡ true) × (m ≡ n)
+both true true true m n read = (refl, refl, refl, cc)
+both true true false m n read = absurd (cc)
+both true false is_written m n read = absurd (cc)
+both false is_most is_written m n read = absurd (cc)
 
 -- and where they hold there is one
-given : (is_few is_written : Bool) (m n : ℕ) → is_few ≡ true → is_written ≡ true → m ≡ n → (if is_few && is_written then Some m else None) ≡ Some n
-given true true m n few written same = ap Some same
-given true false m n few written same = absurd (cc)
-given false is_written m n few written same = absurd (cc)
+given : (is_least is_most is_written : Bool) (m n : ℕ) → is_least ≡ true → is_most ≡ true → is_written ≡ true → m ≡ n
+    → (if (is_least && is_most) && is_written then Some m else None) ≡ Some n
+given true true true m n least most written same = ap Some same
+given true true false m n least most written same = absurd (cc)
+given true false is_written m n least most written same = absurd (cc)
+given false is_most is_written m n least most written same = absurd (cc)
 
--- what is read as a number of workers writes it
-pub workers_are_written : (word : List ℕ) (n : ℕ) → workers_of word ≡ Some n → (n ≤ MOST_WORKERS) × (word ≡ decimal n)
-unfolding workers_of
-workers_are_written word n read =
+-- what is read as a number writes it
+pub numbers_are_written : (least most : ℕ) (word : List ℕ) (n : ℕ) → number_in least most word ≡ Some n → (least ≤ n) × (n ≤ most) × (word ≡ decimal n)
+unfolding number_in
+numbers_are_written least most word n read =
     let m : ℕ = digits_value 10 word in
-    let tests = both (nat_le m MOST_WORKERS) (bytes_eq word (decimal m)) m n read in
-    let few : m ≤ MOST_WORKERS = leb-true m MOST_WORKERS tests.0 in
-    (subst (λ k. k ≤ MOST_WORKERS) tests.2 few, (bytes_eq-Decides word (decimal m)).0 tests.1 ∙ ap decimal tests.2)
+    let tests = both (nat_le least m) (nat_le m most) (bytes_eq word (decimal m)) m n read in (
+      subst (λ k. least ≤ k) tests.3 (leb-true least m tests.0),
+      subst (λ k. k ≤ most) tests.3 (leb-true m most tests.1),
+      (bytes_eq-Decides word (decimal m)).0 tests.2 ∙ ap decimal tests.3,
+    )
 
--- what writes a number of workers is read as it
-pub written_workers : (word : List ℕ) (n : ℕ) → n ≤ MOST_WORKERS → word ≡ decimal n → workers_of word ≡ Some n
-unfolding workers_of
-written_workers word n few is =
-    let same : digits_value 10 word ≡ n = ap (digits_value 10) is ∙ (decimal_is_IsNumeral n (omega (arith, few))).1 in
-    let few' : digits_value 10 word ≤ MOST_WORKERS = subst (λ k. k ≤ MOST_WORKERS) (sym same) few in
-    given (nat_le (digits_value 10 word) MOST_WORKERS) (bytes_eq word (decimal (digits_value 10 word))) (digits_value 10 word) n
-    (le-leb (digits_value 10 word) MOST_WORKERS few') ((bytes_eq-Decides word (decimal (digits_value 10 word))).1 (is ∙ ap decimal (sym same))) same
+-- what writes a number is read as it
+pub written_numbers : (least most : ℕ) (word : List ℕ) (n : ℕ) → least ≤ n → n ≤ most → n < 2 ^ 64 → word ≡ decimal n → number_in least most word ≡ Some n
+unfolding number_in
+written_numbers least most word n some few small is =
+    let m : ℕ = digits_value 10 word in
+    let same : m ≡ n = ap (digits_value 10) is ∙ (decimal_is_IsNumeral n small).1 in
+    given (nat_le least m) (nat_le m most) (bytes_eq word (decimal m)) m n
+    (le-leb least m (subst (λ k. least ≤ k) (sym same) some)) (le-leb m most (subst (λ k. k ≤ most) (sym same) few))
+    ((bytes_eq-Decides word (decimal m)).1 (is ∙ ap decimal (sym same))) same
 
--- a word that writes no number of workers is read as none
-pub no_workers : (word : List ℕ) → ((n : ℕ) → n ≤ MOST_WORKERS → word ≡ decimal n → ⊥) → workers_of word ≡ None
-no_workers word never = none_unless (workers_of word) (λ n read. let is = workers_are_written word n read in never n is.0 is.1)
+-- a word that writes no number is read as none
+pub no_numbers : (least most : ℕ) (word : List ℕ) → ((n : ℕ) → least ≤ n → n ≤ most → word ≡ decimal n → ⊥) → number_in least most word ≡ None
+no_numbers least most word never = none_unless (number_in least most word) (λ n read.
+    let is = numbers_are_written least most word n read in
+    never n is.0 is.1 is.2)
   where
     none_unless : (o : Option ℕ) → ((n : ℕ) → o ≡ Some n → ⊥) → o ≡ None
     none_unless None never = refl
     none_unless (Some n) never = absurd (never n refl)
 
-unpadded : (n : ℕ) → n ≤ MOST_WORKERS → IsPadded (decimal n) → ⊥
-unpadded zero few padded = absurd (omega (arith, padded.0, ap length (decimal_digit 0 (omega arith))))
-unpadded (suc n) few padded =
-    let first = first_decimal (suc n) (omega arith) (omega (arith, few)) in
+unpadded : (n : ℕ) → n < 2 ^ 64 → IsPadded (decimal n) → ⊥
+unpadded zero small padded = absurd (omega (arith, padded.0, ap length (decimal_digit 0 (omega arith))))
+unpadded (suc n) small padded =
+    let first = first_decimal (suc n) (omega arith) small in
     elim padded.1 [
       | inl nought ↦ absurd (omega (arith, first, nought))
       | inr plus ↦ absurd (omega (arith, first, plus))
     ]
 
--- in front of a number of workers nothing stands
-pub padded_is_none : (word : List ℕ) → IsPadded word → workers_of word ≡ None
-padded_is_none word padded = no_workers word (λ n few is. unpadded n few (subst IsPadded is padded))
+-- in front of a number nothing stands
+pub padded_is_none : (least most : ℕ) (word : List ℕ) → most < 2 ^ 64 → IsPadded word → number_in least most word ≡ None
+padded_is_none least most word small padded = no_numbers least most word (λ n some few is. unpadded n (omega (arith, few, small)) (subst IsPadded is padded))
 
 without_plus : (word : List ℕ) (is_plus : Bool) → (is_plus ≡ true → slice_index word 0 ≡ 43) → ¬ (IsPadded word) → 0 < length (drop (cond is_plus 1 0) word)
     → drop (cond is_plus 1 0) word ≡ word
@@ -82,51 +90,82 @@ lone word plain some nought = elim (cases_lt 1 (length word)) [
 ]
 
 -- a number that is read of such a word
-pub few_are_read : {E : Type 0} (word : List ℕ) (r : Result ℕ E) (n : ℕ) → ¬ (IsPadded word) → ParsesUnsigned 8 10 word r → r ≡ Ok n → n ≤ MOST_WORKERS
-    → workers_of word ≡ Some n
-few_are_read word r n plain parsed is few =
-    let read = subst (ParsesUnsigned 8 10 word) is parsed in
+pub numbers_are_read : {E : Type 0} (least most : ℕ) (word : List ℕ) (r : Result ℕ E) (n : ℕ) → ¬ (IsPadded word) → ParsesUnsigned 64 10 word r → r ≡ Ok n
+    → least ≤ n → n ≤ most → most < 2 ^ 64 → number_in least most word ≡ Some n
+numbers_are_read least most word r n plain parsed is some few small =
+    let read = subst (ParsesUnsigned 64 10 word) is parsed in
     let same = whole_word word plain read.0.0.0 in
     let numeral : IsNumeral 10 word = subst (IsNumeral 10) same read.0.0 in
     let value : digits_value 10 word ≡ n = ap (digits_value 10) (sym same) ∙ sym read.1 in
-    let written = decimal-digits_value (numerals_by_value _ tells_digits) word numeral.1 numeral.0 (lone word plain numeral.0) (omega (arith, value, few)) in
-    written_workers word n few (sym written ∙ ap decimal value)
+    let written = decimal-digits_value (numerals_by_value _ tells_digits) word numeral.1 numeral.0 (lone word plain numeral.0) (omega (arith, value, few, small)) in
+    written_numbers least most word n some few (omega (arith, few, small)) (sym written ∙ ap decimal value)
 
--- where no number is read, or one that is too great, the word writes none
-pub others_are_none : {E : Type 0} (word : List ℕ) (r : Result ℕ E) → ParsesUnsigned 8 10 word r → ((n : ℕ) → r ≡ Ok n → n ≤ MOST_WORKERS → ⊥)
-    → workers_of word ≡ None
-others_are_none word r parsed never =
-    no_workers word (λ n few is. never n (parse-decimal 8 n word r (omega (arith, few)) (omega (arith, few)) is parsed) few)
+-- where no number is read, or one out of range, the word writes none
+pub others_are_none : {E : Type 0} (least most : ℕ) (word : List ℕ) (r : Result ℕ E) → ParsesUnsigned 64 10 word r → most < 2 ^ 64
+    → ((n : ℕ) → r ≡ Ok n → least ≤ n → n ≤ most → ⊥) → number_in least most word ≡ None
+others_are_none least most word r parsed small never =
+    no_numbers least most word (λ n some few is. never n (parse-decimal 64 n word r (omega (arith, few, small)) (omega (arith, few, small)) is parsed) some few)
 
 -- the words of a command are read as that command
 pub reads_command : (words : List (List ℕ)) (command : Command) → IsCommand words command → command_of words ≡ Some command
 unfolding command_of
-reads_command words (Layout n) is = rw is.1 (ap layout_with (written_workers (decimal n) n is.0 refl))
+reads_command words (Layout n) is =
+    rw is.1 (ap layout_with (written_numbers 0 MOST_WORKERS (decimal n) n (omega arith) is.0 (omega (arith, is.0)) refl))
+reads_command words (Gen seed size) is =
+    let first : seed_of (decimal seed) ≡ Some seed = written_numbers 0 (2 ^ 64 - 1) (decimal seed) seed (omega arith) (omega (arith, is.0)) is.0 refl in
+    let second : size_of (decimal size) ≡ Some size = written_numbers 1 MOST_OBJECTS (decimal size) size is.1 is.2 (omega (arith, is.2)) refl in
+    rw is.3 (ap (λ (o : Option ℕ). gen_with o (size_of (decimal size))) first ∙ ap (gen_with (Some seed)) second)
 
 -- a number that a word behind `layout` was read as
-layout_read : (is_verb : Bool) (workers : Option ℕ) (n : ℕ) → (if is_verb then layout_with workers else None) ≡ Some (Layout n) → (is_verb ≡ true) × (workers ≡ Some n)
-layout_read true (Some m) n read = (refl, cc)
-layout_read true None n read = absurd (cc)
-layout_read false workers n read = absurd (cc)
+layout_read : (is_verb : Bool) (workers : Option ℕ) (command : Command) → (if is_verb then layout_with workers else None) ≡ Some command
+    → (is_verb ≡ true) × ((n : ℕ) × (workers ≡ Some n) × (command ≡ Layout n))
+layout_read true (Some m) command read = (refl, (m, refl, cc))
+layout_read true None command read = absurd (cc)
+layout_read false workers command read = absurd (cc)
+
+-- the numbers that two words behind `gen` were read as
+gen_read : (is_verb : Bool) (seed size : Option ℕ) (command : Command) → (if is_verb then gen_with seed size else None) ≡ Some command
+    → (is_verb ≡ true) × ((n m : ℕ) × (seed ≡ Some n) × (size ≡ Some m) × (command ≡ Gen n m))
+gen_read true (Some n) (Some m) command read = (refl, (n, m, refl, refl, cc))
+gen_read true (Some n) None command read = absurd (cc)
+gen_read true None size command read = absurd (cc)
+gen_read false seed size command read = absurd (cc)
 
 -- what is read as a command are its words
 pub command_is_read : (words : List (List ℕ)) (command : Command) → command_of words ≡ Some command → IsCommand words command
 unfolding command_of
-command_is_read [] (Layout n) read = absurd (cc)
-command_is_read (verb ∷ []) (Layout n) read = absurd (cc)
-command_is_read (verb ∷ workers ∷ []) (Layout n) read =
-    let tests = layout_read (bytes_eq verb (codes "layout")) (workers_of workers) n read in
+command_is_read [] command read = absurd (cc)
+command_is_read (verb ∷ []) command read = absurd (cc)
+command_is_read (verb ∷ workers ∷ []) command read =
+    let tests = layout_read (bytes_eq verb (codes "layout")) (workers_of workers) command read in
     let is_verb = (bytes_eq-Decides verb (codes "layout")).0 tests.0 in
-    let written = workers_are_written workers n tests.1 in
-    (written.0, rw (is_verb, written.1) refl)
-command_is_read (verb ∷ workers ∷ more ∷ others) (Layout n) read = absurd (cc)
+    let n : ℕ = tests.1.0 in
+    let written = numbers_are_written 0 MOST_WORKERS workers n tests.1.1 in
+    subst (IsCommand (verb ∷ workers ∷ [])) (sym tests.1.2)
+    (written.1, ap (λ v. v ∷ workers ∷ []) is_verb ∙ ap (λ w. codes "layout" ∷ w ∷ []) written.2)
+command_is_read (verb ∷ seed ∷ size ∷ []) command read =
+    let tests = gen_read (bytes_eq verb (codes "gen")) (seed_of seed) (size_of size) command read in
+    let is_verb = (bytes_eq-Decides verb (codes "gen")).0 tests.0 in
+    let n : ℕ = tests.1.0 in
+    let m : ℕ = tests.1.1 in
+    let first = numbers_are_written 0 (2 ^ 64 - 1) seed n tests.1.2 in
+    let second = numbers_are_written 1 MOST_OBJECTS size m tests.1.3 in
+    subst (IsCommand (verb ∷ seed ∷ size ∷ [])) (sym tests.1.4) (
+      omega (arith, first.1),
+      second.0,
+      second.1,
+      ap (λ v. v ∷ seed ∷ size ∷ []) is_verb ∙ ap (λ w. codes "gen" ∷ w ∷ size ∷ []) first.2 ∙ ap (λ w. codes "gen" ∷ decimal n ∷ w ∷ []) second.2,
+    )
+command_is_read (verb ∷ seed ∷ size ∷ more ∷ others) command read = absurd (cc)
 
 -- a command that asks for several workers
 pub asks : (words : List (List ℕ)) (command : Command) (n : ℕ) → command_of words ≡ Some command → n ≡ workers_for command → 2 ≤ n → AsksForWorkers words
 asks words (Layout m) n read same several = record { workers = m; several = subst (λ k. 2 ≤ k) same several; asked = command_is_read words (Layout m) read }
+asks words (Gen seed size) n read same several = absurd (omega (arith, same, several))
 
 asked_is : (command : Command) (m : ℕ) → Some command ≡ Some (Layout m) → workers_for command ≡ m
 asked_is (Layout n) m same = cc
+asked_is (Gen seed size) m same = absurd (cc)
 
 -- words that are a command ask for several workers exactly where it does
 pub asks_as_told : (words : List (List ℕ)) (command : Command) (n : ℕ) → command_of words ≡ Some command → n ≡ workers_for command → IsTrue (nat_le 2 n) ↔ AsksForWorkers words
@@ -145,3 +184,7 @@ asks_for_none words none = (
       let read : None ≡ Some (Layout asked.workers) = sym none ∙ reads_command words (Layout asked.workers) asked.asked in
       absurd (cc),
 )
+
+-- the numbers of `gen` are in range
+pub gen_in_range : (words : List (List ℕ)) (seed size : ℕ) → command_of words ≡ Some (Gen seed size) → (1 ≤ size) × (size ≤ MOST_OBJECTS)
+gen_in_range words seed size read = let is = command_is_read words (Gen seed size) read in (is.1, is.2)

@@ -1,9 +1,10 @@
 -- What the words and the input define is what a run tells.
-use Rattle.std.proofs.Common.{◌≡◌, ◌⊎◌, inl, inr, ℕ, List, length, Option, Some, None, Result, Ok, Err, sym, subst, ap, ◌∙◌, refl, arith}
+use Rattle.std.proofs.Common.{◌≡◌, ◌⊎◌, inl, inr, true, false, ℕ, List, length, Option, Some, None, Result, Ok, Err, sym, subst, ap, ◌∙◌, refl, arith}
 use Rattle.std.proofs.lemmas.Bool.{cases_lt}
 use Rattle.std.specs.Prelude.{MatchOption}
 use Rattle.lk_input.specs.declared.read.error.InputError.{InputError}
 use Rattle.lk_input.specs.Reading.{reading_of}
+use Rattle.lk_generator.specs.Generated.{generated_link}
 use Rattle.lk_link.specs.declared.link.LinkInput.{LinkInput}
 use Rattle.lk_layout.specs.Machines.{small64_machine}
 use Rattle.lk_layout.specs.declared.error.LayoutError.{LayoutError}
@@ -19,9 +20,10 @@ use Rattle.lk_run.specs.declared.words.Command.TheVariants as commands
 use Rattle.lk_run.specs.Complete.{IsFaultless, Tells, DescribesLayout}
 use Rattle.lk_run.specs.Device.{SourceState, SinkState}
 use Rattle.lk_run.specs.FaultText.{input_fault_text_of, too_long_text}
-use Rattle.lk_run.specs.Run.{Held, Whole, Longer, Holds, Takes, IsAnswerTo, IsAnswerToReading, Commanded, Uncommanded, Finished, IsRun, told_of}
-use Rattle.lk_run.specs.Words.{IsCommand, command_of, usage}
+use Rattle.lk_run.specs.Run.{Held, Whole, Longer, Holds, Takes, IsAnswerTo, IsAnswerToReading, IsAnswered, IsGeneratedAnswer, Commanded, Uncommanded, Finished, IsRun, Unread, summed_up, told_of}
+use Rattle.lk_run.specs.Words.{IsCommand, command_of, reads, usage}
 use Rattle.lk_run.proofs.Commands.{reads_command}
+use Rattle.lk_run.proofs.RunLaws.{answered}
 
 -- ---- there is an answer
 
@@ -29,9 +31,12 @@ reading_answer : DefinedAnswerExists → (reading : Result LinkInput InputError)
 reading_answer law (Ok link) = let found = law small64_machine link in (told_of link found.0, (found.0, found.1, refl))
 reading_answer law (Err e) = (record { status = Unreadable; text = input_fault_text_of e }, refl)
 
-held_answer : DefinedAnswerExists → (command : Command) (held : Held) → (answer : Answer) × IsAnswerTo command held answer
-held_answer law (commands.Layout workers) (Whole bytes) = reading_answer law (reading_of bytes)
-held_answer law (commands.Layout workers) Longer = (record { status = Unreadable; text = too_long_text }, refl)
+held_answer : DefinedAnswerExists → (workers : ℕ) (held : Held) → (answer : Answer) × IsAnswerTo (commands.Layout workers) held answer
+held_answer law workers (Whole bytes) = reading_answer law (reading_of bytes)
+held_answer law workers Longer = (record { status = Unreadable; text = too_long_text }, refl)
+
+generated_answer : DefinedAnswerExists → (seed size : ℕ) → (answer : Answer) × IsGeneratedAnswer seed size answer
+generated_answer law seed size = let found = law small64_machine (generated_link seed size) in (summed_up seed size found.0, (found.0, found.1, refl))
 
 -- what bytes are held as
 held_of : (bytes : List ℕ) → (held : Held) × Holds (Some bytes) held
@@ -46,9 +51,13 @@ one_of_reading : DefinedAnswerIsOne → (reading : Result LinkInput InputError) 
 one_of_reading law (Ok link) a b p q = p.2 ∙ ap (told_of link) (law small64_machine link p.0 q.0 p.1 q.1) ∙ sym q.2
 one_of_reading law (Err e) a b p q = p ∙ sym q
 
-one_of_held : DefinedAnswerIsOne → (command : Command) (held : Held) (a b : Answer) → IsAnswerTo command held a → IsAnswerTo command held b → a ≡ b
-one_of_held law (commands.Layout workers) (Whole bytes) a b p q = one_of_reading law (reading_of bytes) a b p q
-one_of_held law (commands.Layout workers) Longer a b p q = p ∙ sym q
+one_of_held : DefinedAnswerIsOne → (workers : ℕ) (held : Held) (a b : Answer) → IsAnswerTo (commands.Layout workers) held a
+    → IsAnswerTo (commands.Layout workers) held b → a ≡ b
+one_of_held law workers (Whole bytes) a b p q = one_of_reading law (reading_of bytes) a b p q
+one_of_held law workers Longer a b p q = p ∙ sym q
+
+one_generated : DefinedAnswerIsOne → (seed size : ℕ) (a b : Answer) → IsGeneratedAnswer seed size a → IsGeneratedAnswer seed size b → a ≡ b
+one_generated law seed size a b p q = p.2 ∙ ap (summed_up seed size) (law small64_machine (generated_link seed size) p.0 q.0 p.1 q.1) ∙ sym q.2
 
 one_held : (bytes : List ℕ) (h k : Held) → Holds (Some bytes) h → Holds (Some bytes) k → h ≡ k
 one_held bytes (Whole b) (Whole c) p q = ap Whole (sym p.1 ∙ q.1)
@@ -58,19 +67,22 @@ one_held bytes Longer Longer p q = refl
 
 -- the answer that each run of these words over these bytes tells
 abbrev IsTheAnswer : SourceState → Option Command → Answer → Type 0
-IsTheAnswer from command answer = (to : SourceState) (told : Answer) → MatchOption command (Uncommanded from to told) (λ c. Commanded c from to told) → told ≡ answer
+IsTheAnswer from command answer = (to : SourceState) (told : Answer) → MatchOption command (Uncommanded from to told) (λ c. IsAnswered c from to told) → told ≡ answer
 
 the_answer : DefinedAnswerExists → DefinedAnswerIsOne → (from : SourceState) (bytes : List ℕ) → from.left ≡ Some bytes → (command : Option Command)
     → (answer : Answer) × IsTheAnswer from command answer
 the_answer every one from bytes left None = (record { status = Usage; text = usage }, λ to told is. is.answers)
-the_answer every one from bytes left (Some command) =
+the_answer every one from bytes left (Some (commands.Gen seed size)) =
+    let found = generated_answer every seed size in
+    (found.0, λ to told is. one_generated one seed size told found.0 is.answers found.1)
+the_answer every one from bytes left (Some (commands.Layout workers)) =
     let held = held_of bytes in
-    let found = held_answer every command held.0 in (
+    let found = held_answer every workers held.0 in (
       found.0,
       λ to told is.
           let holds : Holds (Some bytes) is.held = subst (λ o. Holds o is.held) left is.holds in
           let same : is.held ≡ held.0 = one_held bytes is.held held.0 holds held.1 in
-          one_of_held one command held.0 told found.0 (subst (λ h. IsAnswerTo command h told) same is.answers) found.1,
+          one_of_held one workers held.0 told found.0 (subst (λ h. IsAnswerTo (commands.Layout workers) h told) same is.answers) found.1,
     )
 
 -- a run whose devices didn't fail told it
@@ -107,22 +119,22 @@ told_result : (link : LinkInput) (result : Result LayoutRecord LayoutError) (ans
 told_result link (Ok layout) answer unrefused defined is = ap (λ (a : Answer). a.status) is
 told_result link (Err e) answer unrefused defined is = absurd (unrefused e defined)
 
-told_laid_out : (command : Command) (bytes : List ℕ) (held : Held) (answer : Answer) → DescribesLayout bytes → Holds (Some bytes) held → IsAnswerTo command held answer
-    → answer.status ≡ LaidOut
-told_laid_out (commands.Layout workers) bytes (Whole b) answer good holds is =
+told_laid_out : (workers : ℕ) (bytes : List ℕ) (held : Held) (answer : Answer) → DescribesLayout bytes → Holds (Some bytes) held
+    → IsAnswerTo (commands.Layout workers) held answer → answer.status ≡ LaidOut
+told_laid_out workers bytes (Whole b) answer good holds is =
     let described : reading_of b ≡ Ok good.link = ap reading_of (sym holds.1) ∙ good.described in
     let answers : IsAnswerToReading (Ok good.link) answer = subst (λ r. IsAnswerToReading r answer) described is in
     told_result good.link answers.0 answer good.unrefused answers.1 answers.2
-told_laid_out (commands.Layout workers) bytes Longer answer good holds is = absurd (omega (arith, good.fits, holds))
+told_laid_out workers bytes Longer answer good holds is = absurd (omega (arith, good.fits, holds))
 
 finished_laid_out : (words : List (List ℕ)) (workers : ℕ) (from to : SourceState) (before after : SinkState) (status : Status) (bytes : List ℕ)
     → IsCommand words (commands.Layout workers) → from.left ≡ Some bytes → DescribesLayout bytes → Finished words from to before after status → status ≡ LaidOut
 finished_laid_out words workers from to before after status bytes asked left good run =
     let command = reads_command words (commands.Layout workers) asked in
     let given : Commanded (commands.Layout workers) from to run.answer =
-    subst (λ o. MatchOption o (Uncommanded from to run.answer) (λ c. Commanded c from to run.answer)) command run.defined in
+    subst (λ o. MatchOption o (Uncommanded from to run.answer) (λ c. IsAnswered c from to run.answer)) command run.defined in
     let holds : Holds (Some bytes) given.held = subst (λ o. Holds o given.held) left given.holds in
-    run.same ∙ told_laid_out (commands.Layout workers) bytes given.held run.answer good holds given.answers
+    run.same ∙ told_laid_out workers bytes given.held run.answer good holds given.answers
 
 pub complete : (words : List (List ℕ)) (workers : ℕ) (bytes : List ℕ) (from to : SourceState) (before after : SinkState) (status : Status)
     → IsCommand words (commands.Layout workers) → from.left ≡ Some bytes → DescribesLayout bytes
@@ -137,3 +149,42 @@ complete words workers bytes from to before after Unreadable asked left good run
     inl (finished_laid_out words workers from to before after Unreadable bytes asked left good run)
 complete words workers bytes from to before after ReadFault asked left good run faultless = absurd (omega (arith, run.faulty, faultless.source))
 complete words workers bytes from to before after WriteFault asked left good run faultless = absurd (omega (arith, run.written.faulty, faultless.sink))
+
+-- ---- a generated link that meets no refusal
+
+summed_up_laid_out : (seed size : ℕ) (result : Result LayoutRecord LayoutError) (answer : Answer)
+    → ((e : LayoutError) → IsDefined small64_machine (generated_link seed size) (Err e) → ⊥)
+    → IsDefined small64_machine (generated_link seed size) result → answer ≡ summed_up seed size result → answer.status ≡ LaidOut
+summed_up_laid_out seed size (Ok layout) answer unrefused defined is = ap (λ (a : Answer). a.status) is
+summed_up_laid_out seed size (Err e) answer unrefused defined is = absurd (unrefused e defined)
+
+generated_laid_out : (words : List (List ℕ)) (seed size : ℕ) (from to : SourceState) (before after : SinkState) (status : Status)
+    → IsCommand words (commands.Gen seed size) → ((e : LayoutError) → IsDefined small64_machine (generated_link seed size) (Err e) → ⊥)
+    → Finished words from to before after status → status ≡ LaidOut
+generated_laid_out words seed size from to before after status asked unrefused run =
+    let given = answered words (commands.Gen seed size) from to run.answer (reads_command words (commands.Gen seed size) asked) run.defined in
+    run.same ∙ summed_up_laid_out seed size given.answers.0 run.answer unrefused given.answers.1 given.answers.2
+
+-- what reads nothing meets no fault of the source
+never_unread : (words : List (List ℕ)) (seed size : ℕ) (from to : SourceState) (before after : SinkState) → IsCommand words (commands.Gen seed size)
+    → Unread words from to before after → ⊥
+never_unread words seed size from to before after asked run =
+    let same : Some run.command ≡ Some (commands.Gen seed size) = sym run.asked ∙ reads_command words (commands.Gen seed size) asked in
+    let command : run.command ≡ commands.Gen seed size = cc in
+    let reading : false ≡ true = subst (λ c. reads c ≡ true) command run.reading in
+    absurd (cc)
+
+pub generated_complete : (words : List (List ℕ)) (seed size : ℕ) (from to : SourceState) (before after : SinkState) (status : Status)
+    → IsCommand words (commands.Gen seed size) → ((e : LayoutError) → IsDefined small64_machine (generated_link seed size) (Err e) → ⊥)
+    → IsRun words from to before after status → after.faults ≡ before.faults → (status ≡ LaidOut) ⊎ (status ≡ NoMemory)
+generated_complete words seed size from to before after LaidOut asked unrefused run faultless = inl refl
+generated_complete words seed size from to before after NoMemory asked unrefused run faultless = inr refl
+generated_complete words seed size from to before after Refused asked unrefused run faultless =
+    inl (generated_laid_out words seed size from to before after Refused asked unrefused run)
+generated_complete words seed size from to before after Usage asked unrefused run faultless =
+    inl (generated_laid_out words seed size from to before after Usage asked unrefused run)
+generated_complete words seed size from to before after Unreadable asked unrefused run faultless =
+    inl (generated_laid_out words seed size from to before after Unreadable asked unrefused run)
+generated_complete words seed size from to before after ReadFault asked unrefused run faultless =
+    absurd (never_unread words seed size from to before after asked run)
+generated_complete words seed size from to before after WriteFault asked unrefused run faultless = absurd (omega (arith, run.written.faulty, faultless))

@@ -7,5 +7,6 @@ pub mod Past
 pub mod PieceLines
 pub mod Refusals
 pub mod RunLaws
+pub mod SingleLines
 pub mod SoundRuns
 pub mod Written

@@ -1,6 +1,6 @@
 -- The steps of a run make the run that is promised.
 use Rattle.std.proofs.Common.{◌≡◌, ◌⊎◌, inl, inr, ℕ, List, Some, None, Result, Ok, Err, sym, subst, ap, ◌∙◌, refl}
-use Rattle.std.specs.Prelude.{IsSome, MatchOption}
+use Rattle.std.specs.Prelude.{MatchOption}
 use Rattle.lk_input.specs.declared.read.error.InputError.{InputError}
 use Rattle.lk_input.specs.Reading.{reading_of}
 use Rattle.lk_link.specs.declared.link.LinkInput.{LinkInput}
@@ -14,8 +14,8 @@ use Rattle.lk_run.specs.declared.words.Command.TheVariants as commands
 use Rattle.lk_run.specs.Device.{SourceState, SinkState}
 use Rattle.lk_run.specs.declared.top_call.Reading.{Reading}
 use Rattle.lk_run.specs.declared.top_call.Reading.TheVariants.{Link, Fault}
-use Rattle.lk_run.specs.Run.{Held, Whole, Longer, Holds, IsReadUp, IsKept, IsAnswerTo, IsAnswerToReading, IsDefinedFor, Commanded, Uncommanded, IsRun, told_of}
-use Rattle.lk_run.specs.Steps.{IsReadAs, IsReadingOf, IsLinkToldBy, IsCommandRun, IsLayoutRun, IsUsageRun, IsFailure}
+use Rattle.lk_run.specs.Run.{Held, Whole, Longer, Holds, IsReadUp, IsKept, IsAnswerTo, IsAnswerToReading, IsAnswered, IsDefinedFor, Generated, Uncommanded, IsRun, summed_up, told_of}
+use Rattle.lk_run.specs.Steps.{IsReadAs, IsReadingOf, IsLinkToldBy, IsLayoutRunBy, IsLayoutRun, IsGeneratedRun, IsToldBy, IsUsageRun, IsFailure}
 use Rattle.lk_run.specs.Words.{command_of, usage}
 
 -- what an answer's status may be
@@ -30,9 +30,13 @@ told_reading : (reading : Result LinkInput InputError) (answer : Answer) → IsA
 told_reading (Ok link) answer is = subst (λ (a : Answer). IsTold a.status) (sym is.2) (told_link link is.0)
 told_reading (Err e) answer is = inr (inr (ap (λ (a : Answer). a.status) is))
 
-pub told_held : (command : Command) (held : Held) (answer : Answer) → IsAnswerTo command held answer → IsTold answer.status
-told_held (commands.Layout workers) (Whole bytes) answer is = told_reading (reading_of bytes) answer is
-told_held (commands.Layout workers) Longer answer is = inr (inr (ap (λ (a : Answer). a.status) is))
+told_held : (workers : ℕ) (held : Held) (answer : Answer) → IsAnswerTo (commands.Layout workers) held answer → IsTold answer.status
+told_held workers (Whole bytes) answer is = told_reading (reading_of bytes) answer is
+told_held workers Longer answer is = inr (inr (ap (λ (a : Answer). a.status) is))
+
+told_summed_up : (seed size : ℕ) (result : Result LayoutRecord LayoutError) → IsTold (summed_up seed size result).status
+told_summed_up seed size (Ok layout) = inl refl
+told_summed_up seed size (Err e) = inr (inl refl)
 
 -- what was read of all that the source held
 pub read_whole : (bytes : List ℕ) (reading : Reading) (from to : SourceState) → Holds from.left (Whole bytes) → IsReadUp (Whole bytes) from.left to.left
@@ -50,34 +54,34 @@ pub link_run : (link : LinkInput) (from to : SourceState) (before after : SinkSt
 link_run link from to before after status read (inl told) = λ workers. inl (told.0, read.0 workers told.0 told.1, told.2)
 link_run link from to before after status read (inr failed) = λ workers. inr (subst (λ s. IsFailure s from to) (sym failed.0) read.1, failed.1)
 
-defined : (words : List (List ℕ)) (command : Command) (from to : SourceState) (answer : Answer) → command_of words ≡ Some command → Commanded command from to answer
+defined : (words : List (List ℕ)) (command : Command) (from to : SourceState) (answer : Answer) → command_of words ≡ Some command → IsAnswered command from to answer
     → IsDefinedFor words from to answer
-defined words command from to answer is given = subst (λ o. MatchOption o (Uncommanded from to answer) (λ c. Commanded c from to answer)) (sym is) given
+defined words command from to answer is given = subst (λ o. MatchOption o (Uncommanded from to answer) (λ c. IsAnswered c from to answer)) (sym is) given
 
-is_command : (words : List (List ℕ)) (command : Command) → command_of words ≡ Some command → IsSome (command_of words)
-is_command words command is = subst IsSome (sym is) refl
+-- the answer of words that are a command
+pub answered : (words : List (List ℕ)) (command : Command) (from to : SourceState) (answer : Answer) → command_of words ≡ Some command → IsDefinedFor words from to answer
+    → IsAnswered command from to answer
+answered words command from to answer is given = subst (λ o. MatchOption o (Uncommanded from to answer) (λ c. IsAnswered c from to answer)) is given
 
-failed_run : (words : List (List ℕ)) (from to : SourceState) (before after : SinkState) (status : Status) → IsSome (command_of words) → IsFailure status from to
-    → IsKept before after → IsRun words from to before after status
-failed_run words from to before after ReadFault command why kept = record { command = command; faulty = why; kept = kept }
-failed_run words from to before after NoMemory command why kept = record { command = command; faultless = why; kept = kept }
-failed_run words from to before after LaidOut command why kept = absurd why
-failed_run words from to before after Refused command why kept = absurd why
-failed_run words from to before after Usage command why kept = absurd why
-failed_run words from to before after Unreadable command why kept = absurd why
-failed_run words from to before after WriteFault command why kept = absurd why
+failed_run : (words : List (List ℕ)) (workers : ℕ) (from to : SourceState) (before after : SinkState) (status : Status)
+    → command_of words ≡ Some (commands.Layout workers) → IsFailure status from to → IsKept before after → IsRun words from to before after status
+failed_run words workers from to before after ReadFault is why kept =
+    record { command = commands.Layout workers; asked = is; reading = refl; faulty = why; kept = kept }
+failed_run words workers from to before after NoMemory is why kept = record { command = commands.Layout workers; asked = is; faultless = why; kept = kept }
+failed_run words workers from to before after LaidOut is why kept = absurd why
+failed_run words workers from to before after Refused is why kept = absurd why
+failed_run words workers from to before after Usage is why kept = absurd why
+failed_run words workers from to before after Unreadable is why kept = absurd why
+failed_run words workers from to before after WriteFault is why kept = absurd why
 
--- a command that was run
-command_run : (words : List (List ℕ)) (command : Command) (from to : SourceState) (before after : SinkState) (status : Status) → command_of words ≡ Some command
-    → IsCommandRun command from to before after status → IsRun words from to before after status
-command_run words command from to before after status is (inr failed) = failed_run words from to before after status (is_command words command is) failed.0 failed.1
-command_run words command from to before after status is (inl told) =
-    let answer : Answer = told.0 in
-    let is_defined : IsDefinedFor words from to answer = defined words command from to answer is told.1 in
+-- an answer that was told
+told_run : (words : List (List ℕ)) (from to : SourceState) (before after : SinkState) (status : Status) (answer : Answer) → IsDefinedFor words from to answer
+    → IsTold answer.status → IsToldBy status answer before after → IsRun words from to before after status
+told_run words from to before after status answer is_defined is_told told =
     let run : Status → Type 0 = λ s. IsRun words from to before after s in
-    elim told.2 [
+    elim told [
       | inr cut ↦ subst run (sym cut.0) (record { answer = answer; defined = is_defined; written = cut.1 })
-      | inl whole ↦ elim (told_held command told.1.held answer told.1.answers) [
+      | inl whole ↦ elim is_told [
         | inl laid ↦ subst run (sym (whole.0 ∙ laid)) (record { answer = answer; defined = is_defined; same = sym laid; written = whole.1 })
         | inr other ↦ elim other [
           | inl refused ↦ subst run (sym (whole.0 ∙ refused)) (record { answer = answer; defined = is_defined; same = sym refused; written = whole.1 })
@@ -86,11 +90,28 @@ command_run words command from to before after status is (inl told) =
       ]
     ]
 
+layout_run_by : (words : List (List ℕ)) (workers : ℕ) (from to : SourceState) (before after : SinkState) (status : Status)
+    → command_of words ≡ Some (commands.Layout workers) → IsLayoutRunBy workers from to before after status → IsRun words from to before after status
+layout_run_by words workers from to before after status is (inr failed) = failed_run words workers from to before after status is failed.0 failed.1
+layout_run_by words workers from to before after status is (inl told) =
+    told_run words from to before after status told.0 (defined words (commands.Layout workers) from to told.0 is told.1)
+    (told_held workers told.1.held told.0 told.1.answers) told.2
+
 -- `layout N` that was run
-pub layout_run : (words : List (List ℕ)) (command : Command) (from to : SourceState) (before after : SinkState) (status : Status) → command_of words ≡ Some command
-    → IsLayoutRun from to before after status → IsRun words from to before after status
-layout_run words (commands.Layout workers) from to before after status is run =
-    command_run words (commands.Layout workers) from to before after status is (run workers)
+pub layout_run : (words : List (List ℕ)) (workers : ℕ) (from to : SourceState) (before after : SinkState) (status : Status)
+    → command_of words ≡ Some (commands.Layout workers) → IsLayoutRun from to before after status → IsRun words from to before after status
+layout_run words workers from to before after status is run = layout_run_by words workers from to before after status is (run workers)
+
+-- `gen SEED SIZE` that was run
+pub generated_run : (words : List (List ℕ)) (seed size : ℕ) (from : SourceState) (before after : SinkState) (status : Status)
+    → command_of words ≡ Some (commands.Gen seed size) → IsGeneratedRun seed size before after status → IsRun words from from before after status
+generated_run words seed size from before after status is (inr failed) =
+    let out : IsRun words from from before after NoMemory = record { command = commands.Gen seed size; asked = is; faultless = refl; kept = failed.1 } in
+    subst (IsRun words from from before after) (sym failed.0) out
+generated_run words seed size from before after status is (inl told) =
+    let given : Generated seed size from from told.0 = record { untouched = refl; answers = told.1 } in
+    told_run words from from before after status told.0 (defined words (commands.Gen seed size) from from told.0 is given)
+    (subst (λ (a : Answer). IsTold a.status) (sym told.1.2) (told_summed_up seed size told.1.0)) told.2
 
 -- words that are no command
 pub usage_run : (words : List (List ℕ)) (from : SourceState) (before after : SinkState) (status : Status) → command_of words ≡ None → IsUsageRun before after status
@@ -98,7 +119,7 @@ pub usage_run : (words : List (List ℕ)) (from : SourceState) (before after : S
 usage_run words from before after status none told =
     let answer : Answer = record { status = Usage; text = usage } in
     let given : Uncommanded from from answer = record { untouched = refl; answers = refl } in
-    let is_defined : IsDefinedFor words from from answer = subst (λ o. MatchOption o (Uncommanded from from answer) (λ c. Commanded c from from answer)) (sym none) given in
+    let is_defined : IsDefinedFor words from from answer = subst (λ o. MatchOption o (Uncommanded from from answer) (λ c. IsAnswered c from from answer)) (sym none) given in
     let run : Status → Type 0 = λ s. IsRun words from from before after s in
     elim told [
       | inl whole ↦ subst run (sym whole.0) (record { answer = answer; defined = is_defined; same = refl; written = whole.1 })

@@ -1,6 +1,6 @@
 -- A run that laid out a link has told a sound layout.
-use Rattle.std.proofs.Common.{◌≡◌, ℕ, List, Option, Some, None, Result, Ok, Err, refl, subst, ap, ◌∙◌}
-use Rattle.std.specs.Prelude.{MatchOption}
+use Rattle.std.proofs.Common.{◌≡◌, ℕ, List, Result, Ok, Err, refl, subst, ap, ◌∙◌}
+use Rattle.lk_generator.specs.Generated.{generated_link}
 use Rattle.lk_input.specs.declared.read.error.InputError.{InputError}
 use Rattle.lk_input.specs.Reading.{reading_of}
 use Rattle.lk_link.specs.declared.link.LinkInput.{LinkInput}
@@ -12,13 +12,14 @@ use Rattle.lk_layout.specs.Defined.{IsDefined}
 use Rattle.lk_layout.specs.Laws.{DefinedLayoutsAreSound}
 use Rattle.lk_run.specs.declared.answer.Answer.{Answer}
 use Rattle.lk_run.specs.declared.status.Status.{Status}
-use Rattle.lk_run.specs.declared.status.Status.TheVariants.{LaidOut, Refused, Usage, Unreadable}
-use Rattle.lk_run.specs.declared.words.Command.{Command}
+use Rattle.lk_run.specs.declared.status.Status.TheVariants.{LaidOut, Refused, Unreadable}
 use Rattle.lk_run.specs.declared.words.Command.TheVariants as commands
 use Rattle.lk_run.specs.Device.{SourceState, SinkState}
-use Rattle.lk_run.specs.Run.{Held, Whole, Longer, Holds, Takes, IsAnswerTo, IsAnswerToReading, Commanded, Uncommanded, IsRun, told_of}
-use Rattle.lk_run.specs.SoundRun.{TellsSoundLayout, IsSoundRun}
-use Rattle.lk_run.specs.Words.{command_of}
+use Rattle.lk_run.specs.Run.{Held, Whole, Longer, Holds, Takes, IsAnswerTo, IsAnswerToReading, Finished, IsRun, summed_up, told_of}
+use Rattle.lk_run.specs.SoundRun.{TellsSoundLayout, TellsSoundSummary, IsSoundRun}
+use Rattle.lk_run.specs.Words.{IsCommand}
+use Rattle.lk_run.proofs.Commands.{reads_command}
+use Rattle.lk_run.proofs.RunLaws.{answered}
 
 -- an answer with the status of a layout is its report
 told_layout : DefinedLayoutsAreSound → (from : SourceState) (before after : SinkState) (bytes : List ℕ) (link : LinkInput) (result : Result LayoutRecord LayoutError) (answer : Answer)
@@ -49,23 +50,51 @@ told_reading law from before after bytes (Err e) answer holds described is statu
     let unreadable : LaidOut ≡ Unreadable = status ∙ ap (λ (a : Answer). a.status) is in
     absurd (cc)
 
-told_held : DefinedLayoutsAreSound → (from : SourceState) (before after : SinkState) (command : Command) (held : Held) (answer : Answer)
-    → Holds from.left held → IsAnswerTo command held answer → LaidOut ≡ answer.status → Takes before after answer.text → TellsSoundLayout from before after
-told_held law from before after (commands.Layout workers) (Whole bytes) answer holds is status written =
+told_held : DefinedLayoutsAreSound → (from : SourceState) (before after : SinkState) (workers : ℕ) (held : Held) (answer : Answer)
+    → Holds from.left held → IsAnswerTo (commands.Layout workers) held answer → LaidOut ≡ answer.status → Takes before after answer.text
+    → TellsSoundLayout from before after
+told_held law from before after workers (Whole bytes) answer holds is status written =
     told_reading law from before after bytes (reading_of bytes) answer holds refl is status written
-told_held law from before after (commands.Layout workers) Longer answer holds is status written =
+told_held law from before after workers Longer answer holds is status written =
     let unreadable : LaidOut ≡ Unreadable = status ∙ ap (λ (a : Answer). a.status) is in
     absurd (cc)
 
-told_words : DefinedLayoutsAreSound → (from to : SourceState) (before after : SinkState) (answer : Answer) (command : Option Command)
-    → MatchOption command (Uncommanded from to answer) (λ c. Commanded c from to answer) → LaidOut ≡ answer.status → Takes before after answer.text → TellsSoundLayout from before after
-told_words law from to before after answer None is status written =
-    let usage : LaidOut ≡ Usage = status ∙ ap (λ (a : Answer). a.status) is.answers in
+-- an answer to a seed and a number of objects, with the status of a layout, is its line
+told_summary : DefinedLayoutsAreSound → (seed size : ℕ) (before after : SinkState) (result : Result LayoutRecord LayoutError) (answer : Answer)
+    → IsDefined small64_machine (generated_link seed size) result → answer ≡ summed_up seed size result → LaidOut ≡ answer.status → Takes before after answer.text
+    → TellsSoundSummary seed size before after
+told_summary law seed size before after (Ok layout) answer defined is status written =
+    let sound = law small64_machine (generated_link seed size) layout small64_machine_is_lawful defined in
+    record {
+      made = made_of small64_machine (generated_link seed size) sound.0 sound.1 sound.2;
+      generated = refl;
+      machine = refl;
+      layout = layout;
+      defined = defined;
+      sound = sound.3;
+      written = subst (Takes before after) (ap (λ (a : Answer). a.text) is) written;
+    }
+told_summary law seed size before after (Err e) answer defined is status written =
+    let refused : LaidOut ≡ Refused = status ∙ ap (λ (a : Answer). a.status) is in
     absurd (cc)
-told_words law from to before after answer (Some c) is status written = told_held law from before after c is.held answer is.holds is.answers status written
+
+read_run : DefinedLayoutsAreSound → (words : List (List ℕ)) (workers : ℕ) (from to : SourceState) (before after : SinkState)
+    → IsCommand words (commands.Layout workers) → Finished words from to before after LaidOut → TellsSoundLayout from before after
+read_run law words workers from to before after asked run =
+    let read = reads_command words (commands.Layout workers) asked in
+    let given = answered words (commands.Layout workers) from to run.answer read run.defined in
+    told_held law from before after workers given.held run.answer given.holds given.answers run.same run.written
+
+gen_run : DefinedLayoutsAreSound → (words : List (List ℕ)) (seed size : ℕ) (from to : SourceState) (before after : SinkState)
+    → IsCommand words (commands.Gen seed size) → Finished words from to before after LaidOut → TellsSoundSummary seed size before after
+gen_run law words seed size from to before after asked run =
+    let read = reads_command words (commands.Gen seed size) asked in
+    let given = answered words (commands.Gen seed size) from to run.answer read run.defined in
+    told_summary law seed size before after given.answers.0 run.answer given.answers.1 given.answers.2 run.same run.written
 
 pub sound_run : DefinedLayoutsAreSound → (words : List (List ℕ)) (from to : SourceState) (before after : SinkState) (status : Status) → IsRun words from to before after status
     → IsSoundRun words from before after status
-sound_run law words from to before after status run = λ workers asked laid.
-    let finished = subst (IsRun words from to before after) laid run in
-    told_words law from to before after finished.answer (command_of words) finished.defined finished.same finished.written
+sound_run law words from to before after status run = record {
+  read = λ workers asked laid. read_run law words workers from to before after asked (subst (IsRun words from to before after) laid run);
+  generated = λ seed size asked laid. gen_run law words seed size from to before after asked (subst (IsRun words from to before after) laid run);
+}

@@ -1,5 +1,6 @@
 -- Laws: what the words and the input define is what a run tells, unless a device fails or memory runs out.
 use Rattle.std.specs.Prelude.{◌≡◌, ℕ, ◌≤◌, List, length, Ok, Err, Some, ◌⊎◌}
+use Rattle.lk_generator.specs.Generated.{generated_link}
 use Rattle.lk_input.specs.Reading.{reading_of}
 use Rattle.lk_link.specs.declared.link.LinkInput.{LinkInput}
 use Rattle.lk_layout.specs.declared.error.LayoutError.{LayoutError}
@@ -43,3 +44,10 @@ RunsAreComplete =
     (words : List (List ℕ)) (workers : ℕ) (bytes : List ℕ) (from to : SourceState) (before after : SinkState) (status : Status)
     → IsCommand words (commands.Layout workers) → from.left ≡ Some bytes → DescribesLayout bytes
     → IsRun words from to before after status → IsFaultless from to before after → (status ≡ LaidOut) ⊎ (status ≡ NoMemory)
+
+-- a run of `gen SEED SIZE`, in which the sink didn't fail, laid out the link that these give, if that meets no refusal, unless memory ran out
+abbrev pub GeneratedRunsAreComplete : Type 0
+GeneratedRunsAreComplete =
+    (words : List (List ℕ)) (seed size : ℕ) (from to : SourceState) (before after : SinkState) (status : Status)
+    → IsCommand words (commands.Gen seed size) → ((e : LayoutError) → IsDefined small64_machine (generated_link seed size) (Err e) → ⊥)
+    → IsRun words from to before after status → after.faults ≡ before.faults → (status ≡ LaidOut) ⊎ (status ≡ NoMemory)

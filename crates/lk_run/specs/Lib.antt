@@ -12,4 +12,5 @@ pub mod SoundRun
 pub mod Standard
 pub mod Status
 pub mod Steps
+pub mod Summary
 pub mod Words

@@ -10,10 +10,10 @@ use Rattle.lk_link.specs.Marks.{is_marked}
 use Rattle.lk_link.specs.Parts.{first_part}
 use Rattle.lk_link.specs.Texts.{joined}
 use Rattle.lk_layout.specs.LayoutRecord.{LayoutRecord}
-use Rattle.lk_layout.specs.declared.resolution.EntryFault.{EntryFault}
-use Rattle.lk_layout.specs.declared.resolution.EntryFault.TheVariants.{NotAnAddress, NotLoaded}
+use Rattle.lk_values.specs.declared.resolution.EntryFault.{EntryFault}
+use Rattle.lk_values.specs.declared.resolution.EntryFault.TheVariants.{NotAnAddress, NotLoaded}
 use Rattle.lk_link.specs.declared.resolution.Resolution.{Resolution}
-use Rattle.lk_layout.specs.Layouts.{resolved_entry, told_live}
+use Rattle.lk_layout.specs.Layouts.{emitted_count, is_told_singleton, resolved_entry, told_live, told_singletons}
 use Rattle.lk_merge.specs.Addresses.{image_start}
 use Rattle.lk_merge.specs.Hash.{fnv64}
 use Rattle.lk_merge.specs.Image.{all_pieces, image, image_pieces, image_place}
@@ -128,6 +128,30 @@ abbrev pub input_text : LayoutRecord → ℕ × Input → List ℕ
 input_text layout q =
     if is_marked layout.live_marks q.0 then live_line (told_at q.1 (slice_index layout.section_addresses q.0)) else []
 
+-- ---- singletons
+
+-- the line of a singleton, with its index in the output
+unfoldable pub single_line : ℕ → Input → List ℕ
+single_line index x = joined (
+    codes "single " ∷ decimal x.file.group ∷ codes " " ∷ decimal x.file.file ∷ codes " " ∷ decimal x.index ∷
+    codes " " ∷ decimal index ∷ codes "\n" ∷ [])
+
+-- the same of an input section with its number, where it is one that is told; else nothing
+abbrev pub single_text : LinkInput → LayoutRecord → ℕ → ℕ × Input → List ℕ
+single_text link layout index q = if is_told_singleton link layout q then single_line index q.1 else []
+
+-- the index that is free behind it
+abbrev pub index_behind : LinkInput → LayoutRecord → ℕ → ℕ × Input → ℕ
+index_behind link layout index q = if is_told_singleton link layout q then index + 1 else index
+
+-- the lines of all singletons, whose indexes follow those of the emitted sections
+abbrev pub single_lines : LinkInput → LayoutRecord → List ℕ
+single_lines link layout = each single_line (emitted_count layout) (told_singletons link layout)
+
+-- the lines on live sections: of all of them, and then of the singletons
+abbrev pub live_report : LinkInput → LayoutRecord → List ℕ
+live_report link layout = live_lines (told_live link layout) ++ single_lines link layout
+
 -- ---- merged strings
 
 -- the line of an output section into which these inputs are merged, and whose image starts at an address: the bytes and the number of
@@ -206,7 +230,7 @@ abbrev pub report : LinkInput → LayoutRecord → List ℕ
 report link layout = joined (
     codes "layout\n" ∷
     record_lines link layout ∷
-    live_lines (told_live link layout) ∷
+    live_report link layout ∷
     merged_report layout.merged_strings layout.merged_string_start_addresses ∷
     symbol_lines layout.symbol_resolutions ∷
     entry_line (resolved_entry layout) ∷

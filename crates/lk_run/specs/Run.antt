@@ -1,8 +1,9 @@
 -- What a run does: the one answer that its words and its input define, or the fault that kept it from that.
-use Rattle.std.specs.Prelude.{◌≡◌, ℕ, ◌+◌, ◌≤◌, ◌<◌, List, [], length, drop, Option, Some, Result, Ok, Err, IfSome, IsSome}
+use Rattle.std.specs.Prelude.{◌≡◌, ℕ, ◌+◌, ◌≤◌, ◌<◌, true, List, [], length, drop, Option, Some, Result, Ok, Err, IfSome}
 use Rattle.std.specs.Prelude.{MatchOption}
 use Rattle.lk_input.specs.declared.read.error.InputError.{InputError}
 use Rattle.lk_input.specs.Reading.{reading_of}
+use Rattle.lk_generator.specs.Generated.{generated_link}
 use Rattle.lk_link.specs.declared.link.LinkInput.{LinkInput}
 use Rattle.lk_layout.specs.declared.error.LayoutError.{LayoutError}
 use Rattle.lk_layout.specs.LayoutRecord.{LayoutRecord}
@@ -17,7 +18,8 @@ use Rattle.lk_run.specs.declared.words.Command.TheVariants as commands
 use Rattle.lk_run.specs.Device.{SourceState, SinkState, Appends, AppendsPrefix, Keeps}
 use Rattle.lk_run.specs.FaultText.{fault_text_of, input_fault_text_of, too_long_text}
 use Rattle.lk_run.specs.Report.{report}
-use Rattle.lk_run.specs.Words.{command_of, usage}
+use Rattle.lk_run.specs.Summary.{summary}
+use Rattle.lk_run.specs.Words.{command_of, reads, usage}
 
 -- ---- the answer
 
@@ -41,10 +43,21 @@ abbrev pub Holds : Option (List ℕ) → Held → Type 0
 Holds left (Whole bytes) = (length bytes ≤ LONGEST_INPUT) × IfSome left (λ held. held ≡ bytes)
 Holds left Longer = IfSome left (λ held. LONGEST_INPUT < length held)
 
--- the answer of a command to it
+-- the answer of a command to it; one that reads nothing has none
 abbrev pub IsAnswerTo : Command → Held → Answer → Type 0
 IsAnswerTo (commands.Layout workers) (Whole bytes) answer = IsAnswerToReading (reading_of bytes) answer
 IsAnswerTo (commands.Layout workers) Longer answer = answer ≡ record { status = Unreadable; text = too_long_text }
+IsAnswerTo (commands.Gen seed size) _ answer = ⊥
+
+-- what is told of a generated link's layout, or of why it has none
+abbrev pub summed_up : ℕ → ℕ → Result LayoutRecord LayoutError → Answer
+summed_up seed size (Ok layout) = record { status = LaidOut; text = summary seed size layout }
+summed_up seed size (Err e) = record { status = Refused; text = fault_text_of e }
+
+-- the answer to a seed and a number of objects: what is told of the defined answer of the link that they give, on the small platform
+abbrev pub IsGeneratedAnswer : ℕ → ℕ → Answer → Type 0
+IsGeneratedAnswer seed size answer =
+    (result : Result LayoutRecord LayoutError) × IsDefined small64_machine (generated_link seed size) result × (answer ≡ summed_up seed size result)
 
 -- ---- the devices
 
@@ -71,13 +84,23 @@ pub record TakesPrefix (before after : SinkState) (text : List ℕ) : Type 0 whe
 
 -- ---- the run
 
--- the answer to a command: to what the source holds, which is read without a fault
+-- the answer to a command that reads: to what the source holds, which is read without a fault
 pub record Commanded (command : Command) (from to : SourceState) (answer : Answer) : Type 0 where
   pub held : Held
   pub holds : Holds from.left held
   pub answers : IsAnswerTo command held answer
   pub read : IsReadUp held from.left to.left
   pub faultless : to.faults ≡ from.faults
+
+-- the answer to a seed and a number of objects: nothing is read
+pub record Generated (seed size : ℕ) (from to : SourceState) (answer : Answer) : Type 0 where
+  pub untouched : to ≡ from
+  pub answers : IsGeneratedAnswer seed size answer
+
+-- the answer to a command
+abbrev pub IsAnswered : Command → SourceState → SourceState → Answer → Type 0
+IsAnswered (commands.Layout workers) from to answer = Commanded (commands.Layout workers) from to answer
+IsAnswered (commands.Gen seed size) from to answer = Generated seed size from to answer
 
 -- the answer to words that are no command: nothing is read
 pub record Uncommanded (from to : SourceState) (answer : Answer) : Type 0 where
@@ -87,7 +110,7 @@ pub record Uncommanded (from to : SourceState) (answer : Answer) : Type 0 where
 -- the answer to the words and the input
 abbrev pub IsDefinedFor : List (List ℕ) → SourceState → SourceState → Answer → Type 0
 IsDefinedFor words from to answer =
-    MatchOption (command_of words) (Uncommanded from to answer) (λ command. Commanded command from to answer)
+    MatchOption (command_of words) (Uncommanded from to answer) (λ command. IsAnswered command from to answer)
 
 -- the sink took the text of the answer, whose status this is
 pub record Finished (words : List (List ℕ)) (from to : SourceState) (before after : SinkState) (status : Status) : Type 0 where
@@ -102,16 +125,24 @@ pub record CutOff (words : List (List ℕ)) (from to : SourceState) (before afte
   pub defined : IsDefinedFor words from to answer
   pub written : TakesPrefix before after answer.text
 
--- the source failed on a command, and nothing was written
+-- the source failed on a command that reads it, and nothing was written
 pub record Unread (words : List (List ℕ)) (from to : SourceState) (before after : SinkState) : Type 0 where
-  pub command : IsSome (command_of words)
+  pub command : Command
+  pub asked : command_of words ≡ Some command
+  pub reading : reads command ≡ true
   pub faulty : from.faults < to.faults
   pub kept : IsKept before after
 
+-- the source had no fault on a command; where the command reads nothing, it is as it was
+abbrev pub IsUnfailed : Command → SourceState → SourceState → Type 0
+IsUnfailed (commands.Layout workers) from to = to.faults ≡ from.faults
+IsUnfailed (commands.Gen seed size) from to = to ≡ from
+
 -- memory ran out on a command, and nothing was written
 pub record OutOfMemory (words : List (List ℕ)) (from to : SourceState) (before after : SinkState) : Type 0 where
-  pub command : IsSome (command_of words)
-  pub faultless : to.faults ≡ from.faults
+  pub command : Command
+  pub asked : command_of words ≡ Some command
+  pub faultless : IsUnfailed command from to
   pub kept : IsKept before after
 
 -- The run theorem: a run that ends has written exactly the text of the one answer that its words and its input define,

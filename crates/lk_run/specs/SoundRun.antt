@@ -1,5 +1,7 @@
--- What a run that laid out a link has told: the report of a sound layout of the link that its source held.
+-- What a run that laid out a link has told: the report of a sound layout of the link that its source held, or the line of a sound layout
+-- of the link that its words give.
 use Rattle.std.specs.Prelude.{◌≡◌, ℕ, List, Ok}
+use Rattle.lk_generator.specs.Generated.{generated_link}
 use Rattle.lk_input.specs.Reading.{reading_of}
 use Rattle.lk_layout.specs.LayoutRecord.{LayoutRecord}
 use Rattle.lk_layout.specs.Defined.{IsDefined}
@@ -12,6 +14,7 @@ use Rattle.lk_run.specs.declared.words.Command.TheVariants as commands
 use Rattle.lk_run.specs.Device.{SourceState, SinkState}
 use Rattle.lk_run.specs.Report.{report}
 use Rattle.lk_run.specs.Run.{Whole, Holds, Takes}
+use Rattle.lk_run.specs.Summary.{summary}
 use Rattle.lk_run.specs.Words.{IsCommand}
 
 -- the source held bytes that describe a link; the link's defined layout is sound; and the sink took its report
@@ -26,7 +29,17 @@ pub record TellsSoundLayout (from : SourceState) (before after : SinkState) : Ty
   pub sound : IsSound made layout
   pub written : Takes before after (report made.link layout)
 
--- a run of the words `layout N` that ends with the status of a layout has told a sound one
-abbrev pub IsSoundRun : List (List ℕ) → SourceState → SinkState → SinkState → Status → Type 0
-IsSoundRun words from before after status =
-    (workers : ℕ) → IsCommand words (commands.Layout workers) → status ≡ LaidOut → TellsSoundLayout from before after
+-- the defined layout of the link that a seed and a number of objects give is sound; and the sink took its line
+pub record TellsSoundSummary (seed size : ℕ) (before after : SinkState) : Type 0 where
+  pub made : Made
+  pub generated : made.link ≡ generated_link seed size
+  pub machine : made.machine ≡ small64_machine
+  pub layout : LayoutRecord
+  pub defined : IsDefined small64_machine made.link (Ok layout)
+  pub sound : IsSound made layout
+  pub written : Takes before after (summary seed size layout)
+
+-- a run that ends with the status of a layout has told a sound one
+pub record IsSoundRun (words : List (List ℕ)) (from : SourceState) (before after : SinkState) (status : Status) : Type 0 where
+  pub read : (workers : ℕ) → IsCommand words (commands.Layout workers) → status ≡ LaidOut → TellsSoundLayout from before after
+  pub generated : (seed size : ℕ) → IsCommand words (commands.Gen seed size) → status ≡ LaidOut → TellsSoundSummary seed size before after

@@ -7,13 +7,12 @@ use Rattle.lk_run.specs.declared.top_call.Reading.{Reading}
 use Rattle.lk_run.specs.declared.top_call.Reading.TheVariants.{Link, Fault}
 use Rattle.lk_run.specs.declared.status.Status.{Status}
 use Rattle.lk_run.specs.declared.status.Status.TheVariants.{LaidOut, Refused, Usage, Unreadable, ReadFault, WriteFault, NoMemory}
-use Rattle.lk_run.specs.declared.words.Command.{Command}
 use Rattle.lk_run.specs.declared.words.Command.TheVariants as commands
 use Rattle.lk_run.specs.Device.{SourceState, SinkState}
-use Rattle.lk_run.specs.Run.{IsAnswerToReading, Commanded, IsKept, Takes, TakesPrefix}
+use Rattle.lk_run.specs.Run.{IsAnswerToReading, IsGeneratedAnswer, Commanded, IsKept, Takes, TakesPrefix}
 use Rattle.lk_run.specs.Words.{usage}
 
--- why a command has no answer: the source failed, or memory ran out
+-- why a command that reads has no answer: the source failed, or memory ran out
 abbrev pub IsFailure : Status → SourceState → SourceState → Type 0
 IsFailure ReadFault from to = from.faults < to.faults
 IsFailure NoMemory from to = to.faults ≡ from.faults
@@ -52,15 +51,21 @@ IsLinkToldBy status link before after =
     ((answer : Answer) × IsAnswerToReading (Ok link) answer × IsToldBy status answer before after)
     ⊎ ((status ≡ NoMemory) × IsKept before after)
 
--- a command was run
-abbrev pub IsCommandRun : Command → SourceState → SourceState → SinkState → SinkState → Status → Type 0
-IsCommandRun command from to before after status =
-    ((answer : Answer) × Commanded command from to answer × IsToldBy status answer before after)
+-- `layout N` was run by so many workers
+abbrev pub IsLayoutRunBy : ℕ → SourceState → SourceState → SinkState → SinkState → Status → Type 0
+IsLayoutRunBy workers from to before after status =
+    ((answer : Answer) × Commanded (commands.Layout workers) from to answer × IsToldBy status answer before after)
     ⊎ (IsFailure status from to × IsKept before after)
 
--- `layout N` was run: the same run for every number of workers
+-- the same run for every number of workers
 abbrev pub IsLayoutRun : SourceState → SourceState → SinkState → SinkState → Status → Type 0
-IsLayoutRun from to before after status = (workers : ℕ) → IsCommandRun (commands.Layout workers) from to before after status
+IsLayoutRun from to before after status = (workers : ℕ) → IsLayoutRunBy workers from to before after status
+
+-- `gen` was run: the answer to a seed and a number of objects was told, or memory ran out
+abbrev pub IsGeneratedRun : ℕ → ℕ → SinkState → SinkState → Status → Type 0
+IsGeneratedRun seed size before after status =
+    ((answer : Answer) × IsGeneratedAnswer seed size answer × IsToldBy status answer before after)
+    ⊎ ((status ≡ NoMemory) × IsKept before after)
 
 -- the usage was told
 abbrev pub IsUsageRun : SinkState → SinkState → Status → Type 0

@@ -1,6 +1,6 @@
 //! Laws of the definitions, each proved as the contract of a function that does nothing.
 
-ghost use Rattle.lk_run.specs.Complete.{RunsAreComplete, RunsTellOneAnswer};
+ghost use Rattle.lk_run.specs.Complete.{GeneratedRunsAreComplete, RunsAreComplete, RunsTellOneAnswer};
 
 use lk_layout::laws::{defined_answer_exists, defined_answer_is_one};
 
@@ -15,4 +15,10 @@ pub fn runs_tell_one_answer()
 /// A law: a description that meets no refusal is laid out by each run in which no device failed, unless memory ran out.
 pub fn runs_are_complete()
     ensures { RunsAreComplete }
+{}
+
+/// A law: a generated link that meets no refusal is laid out by each run of its words in which the sink didn't fail, unless memory ran
+/// out.
+pub fn generated_runs_are_complete()
+    ensures { GeneratedRunsAreComplete }
 {}

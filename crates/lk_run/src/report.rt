@@ -8,13 +8,14 @@ ghost use Rattle.lk_link.specs.WellFormed.{IsWellFormed};
 ghost use Rattle.lk_run.specs.declared.line.TheConstants.{ROOM};
 ghost use Rattle.lk_run.specs.Report.{report, address_text, range_text, index_text, section_line, section_text, laid_out_text, section_lines};
 ghost use Rattle.lk_run.specs.Report.{takes_memory, part_line, part_text, told_lines, section_part_lines, part_lines};
-ghost use Rattle.lk_run.specs.Report.{segment_line, segment_lines, record_lines, input_text, live_line, live_lines, told_at};
+ghost use Rattle.lk_run.specs.Report.{segment_line, segment_lines, record_lines, input_text, live_line, live_lines, live_report, told_at};
 ghost use Rattle.lk_run.specs.Report.{symbol_line, symbol_text, symbol_lines, entry_line};
 
 use crate::line::{Line, ROOM};
 use crate::merged::{merged_room, write_merged};
-use lk_layout::resolution::EntryFault;
-use lk_layout::{Layout, SymbolResolutions};
+use crate::singles::write_singles;
+use crate::summary::count_live;
+use lk_layout::{EntryFault, Layout, SymbolResolutions};
 use lk_link::link::LinkInput;
 use lk_link::marks::is_marked;
 use lk_link::plan::{PlanSection, PlanSections};
@@ -82,8 +83,8 @@ impl fmt::Display for IndexText {
 }
 
 /// The report of a link's layout: a line for each output section, each part that has bytes or is the first of a section
-/// without bytes, each active segment, each live section, each output section into which something is merged, each distinct piece
-/// and each symbol with a resolution, and one for the entry. What the layout has no record of is left out.
+/// without bytes, each active segment, each live section, each singleton, each output section into which something is merged, each distinct
+/// piece and each symbol with a resolution, and one for the entry. What the layout has no record of is left out.
 pub fn report_text(
     alloc: Global,
     link: &LinkInput,
@@ -95,7 +96,7 @@ pub fn report_text(
     let mut text = String::with_capacity(alloc, room_of(layout))?;
     text.push_str("layout\n")?;
     write_records(&mut text, link, layout)?;
-    write_live_sections(&mut text, link, layout)?;
+    write_live(&mut text, link, layout)?;
     write_merged(
         &mut text,
         layout.merged_strings(),
@@ -120,12 +121,6 @@ fn room_of(layout: &Layout<'_>) -> usize {
         .saturating_add(count_live(layout).saturating_mul(LIVE_LINE))
         .saturating_add(merged_room(layout.merged_strings()))
         .saturating_add(symbols_room(layout.symbol_resolutions()))
-}
-
-/// How many input sections are live.
-fn count_live(layout: &Layout<'_>) -> usize {
-    let marks = layout.live_marks();
-    marks.iter().filter(|mark| **mark).count()
 }
 
 /// How many bytes the lines of symbols mostly have.
@@ -328,6 +323,15 @@ fn write_segment(text: &mut String, segment: &SegmentLayout) -> Result<(), Alloc
         range: segment.sizes,
     };
     write!(text, "segment {number} {place}\n")
+}
+
+/// The lines of the live sections, and then of the singletons.
+fn write_live(text: &mut String, link: &LinkInput, layout: &Layout<'_>) -> Result<(), AllocError>
+    requires good { IsWellFormed link.now }
+    ensures { IfOk result (λ _. string_bytes text.new ≡ string_bytes text.old ++ live_report link.now layout.now) }
+{
+    write_live_sections(text, link, layout)?;
+    write_singles(text, link, layout)
 }
 
 /// The lines of the live sections. Looks at each input section once.

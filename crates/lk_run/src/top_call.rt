@@ -1,7 +1,7 @@
 //! The top call: words and an input in, the report or a fault's text out.
 //!
-//! A run reads its source to the end, or up to one byte past the longest input, makes the whole text of the answer, and
-//! only then writes: so want of memory and a failing source leave the sink as it was.
+//! A command that reads its source reads it to the end, or up to one byte past the longest input. A run makes the whole text of the
+//! answer, and only then writes: so want of memory and a failing source leave the sink as it was.
 
 ghost use Rattle.std.specs.Prelude.{◌≡◌, ◌≢◌, ◌↔◌, ℕ, ◌≤◌, map, string_bytes, vec_len, IfOk, IsTrue, Ok};
 ghost use Rattle.lk_input.specs.Reading.{reading_of};
@@ -15,13 +15,14 @@ ghost use Rattle.lk_run.specs.Steps.{GivesReading, IsReadAs, IsToldBy, IsLinkTol
 
 use crate::answer::Answer;
 use crate::fault_texts::{fault_text, input_fault_text, too_long_text};
+use crate::generated::run_gen;
 use crate::limit::LONGEST_INPUT;
 use crate::report::report_text;
 use crate::sink::Sink;
 use crate::source::Source;
 use crate::status::Status;
 use crate::transfer::{ReadAllError, read_all, write_all};
-use crate::words::{read_words, usage_text};
+use crate::words::{Command, read_words, usage_text};
 use lk_input::{InputError, read_link};
 use lk_layout::laws::{defined_layouts_are_sound, laid_out_links_are_well_formed};
 use lk_layout::{Layout, LayoutError, Small64Arch, compute, compute_alone};
@@ -109,7 +110,7 @@ fn answer_computed(
 }
 
 /// Writes the text of an answer: its status, or that the sink failed.
-fn tell<K: Sink>(sink: &mut K, answer: &Answer) -> Status
+pub(crate) fn tell<K: Sink>(sink: &mut K, answer: &Answer) -> Status
     ensures { IsToldBy result answer.now (K.state sink.old) (K.state sink.new) }
 {
     match write_all(sink, answer.text.as_str().as_bytes()) {
@@ -194,7 +195,8 @@ fn run_words<R: Threads + Wait + Sync, S: Source, K: Sink, G: Gate + Sync>(
     ensures { IsRun (map string_bytes words.now) (S.state source.old) (S.state source.new) (K.state sink.old) (K.state sink.new) result }
 {
     match read_words(words) {
-        Some(command) => lay_out(rt, alloc, command.workers(), source, sink, gate),
+        Some(Command::Layout(workers)) => lay_out(rt, alloc, workers, source, sink, gate),
+        Some(Command::Gen { seed, size }) => run_gen(alloc, seed, size, sink),
         None => run_usage(sink),
     }
 }
@@ -209,7 +211,8 @@ fn run_words_alone<S: Source, K: Sink>(
     ensures { IsRun (map string_bytes words.now) (S.state source.old) (S.state source.new) (K.state sink.old) (K.state sink.new) result }
 {
     match read_words(words) {
-        Some(_) => lay_out_alone(alloc, source, sink),
+        Some(Command::Layout(_)) => lay_out_alone(alloc, source, sink),
+        Some(Command::Gen { seed, size }) => run_gen(alloc, seed, size, sink),
         None => run_usage(sink),
     }
 }
@@ -224,8 +227,8 @@ fn ask_for_workers(words: &[String]) -> bool
     }
 }
 
-/// Runs the program: does what the words ask for with what the source holds, and writes one text into the sink. It never
-/// calls the gate where they ask for 0 or 1 workers. What it writes doesn't depend on their number. The law that defined
+/// Runs the program: does what the words ask for, with what the source holds where they are a command that reads, and writes one text
+/// into the sink. It never calls the gate where they ask for 0 or 1 workers. What it writes doesn't depend on their number. The law that defined
 /// layouts are sound is called to be at hand, and does nothing.
 pub fn run<R: Threads + Wait + Sync, S: Source, K: Sink, G: Gate + Sync>(
     rt: &R,

@@ -1,9 +1,9 @@
 //! The words of the command line.
 
-ghost use Rattle.std.specs.Prelude.{◌≡◌, ℕ, ◌↔◌, List, drop, map, string_bytes, IfOk, IsTrue};
+ghost use Rattle.std.specs.Prelude.{◌≡◌, ℕ, ◌≤◌, ◌↔◌, List, drop, map, string_bytes, IfOk, IfSome, IsTrue};
 ghost use Rattle.std.specs.Vec.Iter.{into_iter_items};
 ghost use Rattle.lk_run.specs.Steps.{IsPadded};
-ghost use Rattle.lk_run.specs.Words.{IsCommand, command_of, workers_of, workers_for, usage};
+ghost use Rattle.lk_run.specs.Words.{IsCommand, command_of, gen_with, number_in, seed_of, size_of, workers_of, workers_for, usage};
 ghost use Rattle.lk_run.specs.declared.words.Command.{Command};
 
 use std::alloc::{AllocError, Global};
@@ -12,20 +12,27 @@ use std::env::Args;
 /// The most workers that can be asked for.
 pub const MOST_WORKERS: u8 = 64;
 
+/// The most objects that a generated link can be asked for.
+pub const MOST_OBJECTS: u32 = 100_000;
+
 /// What the program is asked to do.
 #[derive(Clone, Copy, Debug, PartialEq, Eq)]
 pub enum Command {
     /// Lay out the link that the source holds, with so many workers.
     Layout(u8),
+    /// Lay out the link that a seed and a number of objects give. Nothing is read.
+    Gen { seed: u64, size: u32 },
 }
 
 impl Command {
-    /// The number of workers that it asks for.
+    /// The number of workers that it asks for; 0 where it leaves no choice.
     pub fn workers(self) -> u8
         ensures { result ≡ workers_for self }
     {
-        let Command::Layout(workers) = self;
-        workers
+        match self {
+            Command::Layout(workers) => workers,
+            Command::Gen { .. } => 0,
+        }
     }
 }
 
@@ -49,17 +56,48 @@ fn is_padded(word: &str) -> bool
     bytes.len() > 1 && (bytes[0] == b'0' || bytes[0] == b'+')
 }
 
-/// The number of workers that a word writes: 0 to `MOST_WORKERS`, in decimal, with no sign and no leading zero.
-fn read_workers(word: &str) -> Option<u8>
-    ensures { result ≡ workers_of word.now }
+/// The number that a word writes, from the least to the most, in decimal, with no sign and no leading zero.
+fn read_number(word: &str, least: u64, most: u64) -> Option<u64>
+    ensures number { result ≡ number_in least most word.now }
+    ensures least { IfSome result (λ number. least ≤ number) }
+    ensures most { IfSome result (λ number. number ≤ most) }
 {
     if is_padded(word) {
         return None;
     }
-    match word.parse::<u8>() {
-        Ok(workers) if workers <= MOST_WORKERS => Some(workers),
+    match word.parse::<u64>() {
+        Ok(number) if least <= number && number <= most => Some(number),
         _ => None,
     }
+}
+
+/// The number of workers that a word writes: 0 to `MOST_WORKERS`.
+fn read_workers(word: &str) -> Option<u8>
+    ensures { result ≡ workers_of word.now }
+{
+    match read_number(word, 0, u64::from(MOST_WORKERS)) {
+        Some(workers) => Some(workers as u8),
+        None => None,
+    }
+}
+
+/// The number of objects that a word writes: 1 to `MOST_OBJECTS`.
+fn read_size(word: &str) -> Option<u32>
+    ensures { result ≡ size_of word.now }
+{
+    match read_number(word, 1, u64::from(MOST_OBJECTS)) {
+        Some(size) => Some(size as u32),
+        None => None,
+    }
+}
+
+/// The command `gen` with the seed and the number of objects that two words write.
+fn read_gen(seed: &str, size: &str) -> Option<Command>
+    ensures { result ≡ gen_with (seed_of seed.now) (size_of size.now) }
+{
+    let seed = read_number(seed, 0, u64::MAX)?;
+    let size = read_size(size)?;
+    Some(Command::Gen { seed, size })
 }
 
 /// The command that these words are; `None` where they are no command.
@@ -71,6 +109,7 @@ pub fn read_words(words: &[String]) -> Option<Command>
         [verb, workers] if verb.as_str() == "layout" => {
             read_workers(workers.as_str()).map(Command::Layout)
         }
+        [verb, seed, size] if verb.as_str() == "gen" => read_gen(seed.as_str(), size.as_str()),
         _ => None,
     }
 }

@@ -1,27 +1,27 @@
 -- Where live sections and commons stand among the owners of their parts.
-use Rattle.std.proofs.Common.{◌≡◌, ℕ, suc, ◌+◌, Bool, cond, List, [], ◌∷◌, ◌++◌, length, map, filter, take, Option, Some, refl, ap, ◌∙◌, arith, sym, append_assoc}
-use Rattle.std.specs.List.{filter_map, flat_map, position_or_len, slice_get, slice_index}
-use Rattle.std.proofs.lemmas.List.Elements.{filter-append}
+use Rattle.std.proofs.Common.{◌≡◌, ℕ, ◌+◌, true, false, not, List, [], ◌∷◌, ◌++◌, length, map, take, Option, Some, refl, ap, ◌∙◌, arith, sym, append_assoc}
+use Rattle.std.specs.List.{filter_map, position_or_len, slice_get, slice_index}
 use Rattle.std.proofs.lemmas.List.Sums.{sum_by-append}
 use Rattle.std.proofs.Math.Seq.{take-append_seam}
 use Rattle.lk_link.specs.declared.link.LinkInput.{LinkInput}
 use Rattle.lk_link.specs.declared.plan.PlanPart.{PlanPart}
-use Rattle.lk_link.specs.Inputs.{Input, NumberedFile, all_inputs, input_number, numbered_files}
-use Rattle.lk_link.specs.Marks.{is_marked}
+use Rattle.lk_link.specs.Inputs.{Input, NumberedFile, numbered_files}
 use Rattle.lk_link.specs.Parts.{part_at}
-use Rattle.lk_link.proofs.Elements.{append_left, at_contained, flat_map_at, flat_map_in, map_in}
-use Rattle.lk_link.proofs.InputLemmas.{inputs_follow}
+use Rattle.lk_link.proofs.Elements.{append_left, append_right, at_contained, filter_in, flat_map_at, flat_map_in, map_in}
 use Rattle.lk_gc.specs.declared.live.Live.{Live}
-use Rattle.lk_gc.specs.Reach.{live_inputs, marked}
+use Rattle.lk_gc.specs.Reach.{live_inputs}
 use Rattle.lk_reach.proofs.LiveWalk.{split_at}
-use Rattle.lk_reach.proofs.Numbered.{file_of_input, one_place, sections_of}
-use Rattle.lk_sizes.specs.Owners.{Content, EntryOwner, Filling, Owner, Taker, bytes_of, common_taker, commons_of, file_takers, leading_of, live_of, owner_address, owner_bytes, owners_in, section_taker, takers, thunk_takers}
+use Rattle.lk_sizes.specs.Owners.{Content, EntryOwner, Filling, Owner, Taker, all_file_takers, bytes_of, common_taker, commons_of, file_takers, leading_of, live_of, owner_address, owner_bytes, owners_in, section_taker, sorted_takers, takers, thunk_takers}
+use Rattle.lk_sizes.specs.Sorted.{sorted_inputs}
 use Rattle.lk_sizes.specs.PartOwners.{LiveSectionsAreOwners, has_key, live_address, owners_of, section_key, tables_of}
 use Rattle.lk_tables.specs.TableLists.{table_of}
 use Rattle.lk_sizes.specs.Tables.{behind_leading, bytes_in}
 pub use Rattle.lk_sizes.proofs.Keys.{same_number}
 use Rattle.lk_sizes.proofs.Keys.{NoneTwice, found_there}
+pub use Rattle.lk_sizes.proofs.LiveByFiles.{number_of}
+use Rattle.lk_sizes.proofs.LiveByFiles.{unsorted_by_files}
 use Rattle.lk_sizes.proofs.OwnerKeys.{number_in, sections_once}
+use Rattle.lk_sizes.proofs.SortedOnes.{sorted_in}
 use Rattle.lk_sizes.proofs.Takers.{owners_in-append, owners_in_here}
 
 -- the owners of a part in front: what leads, and what takers bring
@@ -85,33 +85,6 @@ stands_there key n filling front t at =
     ∙ ap (slice_get (before ++ t.owner ∷ at.rest)) at.number
     ∙ owner_there before t.owner at.rest
 
--- ---- the live sections of files
-
-pub filter_flat : {X Y : Type 0} (p : Y → Bool) (f : X → List Y) (xs : List X) → flat_map (λ x. filter p (f x)) xs ≡ filter p (flat_map f xs)
-filter_flat p f [] = refl
-filter_flat p f (x ∷ xs) = ap (λ (ys : List _). filter p (f x) ++ ys) (filter_flat p f xs) ∙ sym (filter-append p (f x) (flat_map f xs))
-
--- those that pass are those that have a mark
-filter_marked : {X : Type 0} (p : X → Bool) (marks : List Bool) (xs : List X) → ((k : ℕ) (x : X) → slice_get xs k ≡ Some x → p x ≡ is_marked marks k) → filter p xs ≡ marked marks xs
-filter_marked p [] [] h = refl
-filter_marked p [] (x ∷ xs) h = ap (λ b. cond b (x ∷ filter p xs) (filter p xs)) (h 0 x refl) ∙ filter_marked p [] xs (λ k y at. h (suc k) y at)
-filter_marked p (m ∷ marks) [] h = refl
-filter_marked p (m ∷ marks) (x ∷ xs) h =
-    ap (λ b. cond b (x ∷ filter p xs) (filter p xs)) (h 0 x refl) ∙ ap (λ (ys : List _). cond m (x ∷ ys) ys) (filter_marked p marks xs (λ k y at. h (suc k) y at))
-
--- the number of an input section
-pub number_of : (link : LinkInput) (k : ℕ) (x : Input) → slice_get (all_inputs link.groups) k ≡ Some x → input_number link.groups x.file x.index ≡ k
-number_of link k x there =
-    let file = file_of_input link.groups k x there in
-    one_place link.groups (input_number link.groups x.file x.index) k x x (inputs_follow.at link.groups x.file file.0 x.index x.section file.1 file.2) there refl refl
-
--- the live sections of all files are those of the link
-pub live_by_files : (link : LinkInput) (live : Live) → flat_map (live_of link live) (numbered_files link.groups) ≡ live_inputs link live
-live_by_files link live =
-    let p : Input → Bool = λ x. is_marked live.marks (input_number link.groups x.file x.index) in
-    filter_flat p sections_of (numbered_files link.groups)
-    ∙ filter_marked p live.marks (all_inputs link.groups) (λ k x there. ap (is_marked live.marks) (number_of link k x there))
-
 -- ---- a live section among the owners of its part
 
 pub section_stands : (filling : Filling) (front : List Taker) (x : Input) (rest : List Taker) → takers filling ≡ front ++ section_taker filling x ∷ rest
@@ -136,28 +109,47 @@ pub record IsAmong (ts : List Taker) (t : Taker) : Type 0 where
 pub among : (ts : List Taker) (k : ℕ) (t : Taker) → slice_get ts k ≡ Some t → IsAmong ts t
 among ts k t there = let split = split_at ts k t there in record { front = take k ts; rest = split.0; splits = split.1 }
 
--- a live section is one of its file's
-pub record IsLiveOf (link : LinkInput) (live : Live) (x : Input) : Type 0 where
-  pub place : ℕ
-  pub file : NumberedFile
-  pub there : slice_get (numbered_files link.groups) place ≡ Some file
-  pub index : ℕ
-  pub lives : slice_get (live_of link live file) index ≡ Some x
+-- where a live section that isn't sorted stands in its file
+record IsLiveOf (link : LinkInput) (live : Live) (x : Input) : Type 0 where
+  place : ℕ
+  file : NumberedFile
+  there : slice_get (numbered_files link.groups) place ≡ Some file
+  index : ℕ
+  lives : slice_get (live_of link live file) index ≡ Some x
 
-pub live_in_file : (link : LinkInput) (live : Live) (k : ℕ) (x : Input) → slice_get (live_inputs link live) k ≡ Some x → IsLiveOf link live x
-live_in_file link live k x there =
-    let at = flat_map_at (live_of link live) (numbered_files link.groups) k x (ap (λ (xs : List Input). slice_get xs k) (live_by_files link live) ∙ there) in
+live_in_file : (link : LinkInput) (live : Live) (k : ℕ) (x : Input) → slice_get (live_inputs link live) k ≡ Some x → x.section.sorted ≡ false → IsLiveOf link live x
+live_in_file link live k x there unsorted =
+    let one = filter_in (λ (y : Input). not y.section.sorted) (live_inputs link live) k x there (ap not unsorted) in
+    let at = flat_map_at (live_of link live) (numbered_files link.groups) one.0 x (ap (λ (xs : List Input). slice_get xs one.0) (unsorted_by_files link live) ∙ one.1) in
     record { place = at.outer; file = at.from; there = at.there; index = at.inner; lives = at.gives }
+
+unsorted_among : (filling : Filling) (k : ℕ) (x : Input) → slice_get (live_inputs filling.content.link filling.content.live) k ≡ Some x → x.section.sorted ≡ false
+    → IsAmong (takers filling) (section_taker filling x)
+unsorted_among filling k x there unsorted =
+    let link : LinkInput = filling.content.link in
+    let live : Live = filling.content.live in
+    let at = live_in_file link live k x there unsorted in
+    let t : Taker = section_taker filling x in
+    let mapped = map_in (section_taker filling) (live_of link live at.file) at.index x at.lives in
+    let in_file = append_left (map (section_taker filling) (live_of link live at.file)) (map common_taker (commons_of link live at.file) ++ thunk_takers filling at.file) at.index t mapped in
+    let files = flat_map_in (file_takers filling) (numbered_files link.groups) at.place at.index at.file t at.there in_file in
+    among (takers filling) files.0 t (append_left (all_file_takers filling) (sorted_takers filling) files.0 t files.1)
+
+sorted_among : (filling : Filling) (k : ℕ) (x : Input) → slice_get (live_inputs filling.content.link filling.content.live) k ≡ Some x → x.section.sorted ≡ true
+    → IsAmong (takers filling) (section_taker filling x)
+sorted_among filling k x there sorted =
+    let at = sorted_in filling.content.link filling.content.live k x there sorted in
+    let files : List Taker = all_file_takers filling in
+    let t : Taker = section_taker filling x in
+    let mapped = map_in (section_taker filling) (sorted_inputs filling.content.link filling.content.live) at.0 x at.1 in
+    among (takers filling) (length files + at.0) t (append_right files (sorted_takers filling) at.0 (length files + at.0) t refl mapped)
 
 pub live_among : (filling : Filling) (k : ℕ) (x : Input) → slice_get (live_inputs filling.content.link filling.content.live) k ≡ Some x → IsAmong (takers filling) (section_taker filling x)
 live_among filling k x there =
-    let link : LinkInput = filling.content.link in
-    let live : Live = filling.content.live in
-    let at = live_in_file link live k x there in
-    let mapped = map_in (section_taker filling) (live_of link live at.file) at.index x at.lives in
-    let in_file = append_left (map (section_taker filling) (live_of link live at.file)) (map common_taker (commons_of link live at.file) ++ thunk_takers filling at.file) at.index (section_taker filling x) mapped in
-    let whole = flat_map_in (file_takers filling) (numbered_files link.groups) at.place at.index at.file (section_taker filling x) at.there in_file in
-    among (takers filling) whole.0 (section_taker filling x) whole.1
+    (elim x.section.sorted as (λ b. x.section.sorted ≡ b → IsAmong (takers filling) (section_taker filling x)) [
+      | true ↦ λ is. sorted_among filling k x there is
+      | false ↦ λ is. unsorted_among filling k x there is
+    ]) refl
 
 pub live_sections_are_owners : LiveSectionsAreOwners
 live_sections_are_owners filling x h =

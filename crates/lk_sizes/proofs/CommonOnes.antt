@@ -35,7 +35,7 @@ use Rattle.lk_tables.specs.declared.commons.Common.{Common}
 use Rattle.lk_sizes.specs.Addresses.{CommonsRise}
 use Rattle.lk_tables.specs.Copied.{is_wanted}
 use Rattle.lk_tables.specs.Late.{flags_at}
-use Rattle.lk_sizes.specs.Owners.{Filling, IsCommonIn, Taker, all_commons, common_at, common_of, common_taker, commons_of, file_takers, live_of, section_taker, takers, thunk_takers}
+use Rattle.lk_sizes.specs.Owners.{Filling, IsCommonIn, Taker, all_commons, all_file_takers, common_at, common_of, common_taker, commons_of, file_takers, live_of, section_taker, sorted_takers, takers, thunk_takers}
 use Rattle.lk_sizes.specs.PartOwners.{CommonsAreOwners, common_address, common_key, owners_of}
 use Rattle.lk_sizes.specs.Tables.{AreLeft, CommonsGo, behind_leading, bytes_in, reach_from}
 use Rattle.lk_sizes.proofs.Addressing.{IsAmong, StandsBehind, address_behind, among, stands_behind, stands_there}
@@ -140,7 +140,7 @@ commons_once filling p =
     let live : Live = filling.content.live in
     let all : List InputFile = all_files link.groups in
     once_in_part common_key filling p (record { image = λ section len. refl; identity = λ size. refl; entry = λ e. refl })
-    (keys_once common_key filling symbols_in (λ k f at.
+    (keys_once common_key filling symbols_in (λ x n. refl) (λ k f at.
     subst (λ (ns : List ℕ). IsRising (symbols_before k all) ns (symbols_before k all + length f.file.symbols)) (sym (commons_told filling f)) (one_rising link live k f at)))
 
 pub common_stands : (filling : Filling) (front : List Taker) (c : Common) (rest : List Taker) → takers filling ≡ front ++ common_taker c ∷ rest
@@ -189,7 +189,7 @@ common_among filling p s size h =
     let in_file = append_right sections (map common_taker cs ++ thunk_takers filling h.file) at.0 (length sections + at.0) (common_taker c) refl own in
     let there : slice_get (numbered_files filling.content.link.groups) (file_number filling.content.link.groups h.file.id) ≡ Some h.file = file_stands filling.content.link.groups h.file.id h.file.file h.there in
     let whole = flat_map_in (file_takers filling) (numbered_files filling.content.link.groups) (file_number filling.content.link.groups h.file.id) (length sections + at.0) h.file (common_taker c) there in_file in
-    among (takers filling) whole.0 (common_taker c) whole.1
+    among (takers filling) whole.0 (common_taker c) (append_left (all_file_takers filling) (sorted_takers filling) whole.0 (common_taker c) whole.1)
 
 pub commons_are_owners : CommonsAreOwners
 commons_are_owners filling p s size h =

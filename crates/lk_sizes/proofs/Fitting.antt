@@ -24,7 +24,7 @@ use Rattle.lk_sizes.specs.declared.error.SizeError.TheVariants.{AddressOverflow}
 use Rattle.lk_sizes.specs.declared.owners.PartContents.{PartContents}
 use Rattle.lk_sizes.specs.declared.owners.PartTotal.{PartTotal}
 use Rattle.lk_sizes.specs.Attributes.{part_attributes}
-use Rattle.lk_sizes.specs.Contents.{AreContentTotals, contents_of, part_contents, sum_refusal}
+use Rattle.lk_sizes.specs.Contents.{AreContentTotals, AreSums, contents_of, part_contents, sum_refusal}
 use Rattle.lk_sizes.specs.Owners.{AreFirstSizes, EntryOwner, Filling, bytes_of, content_of, content_owners, content_size, first_size, has_image, owner_bytes, plain_filling}
 use Rattle.lk_sizes.specs.PartOwners.{overflowing_part, part_size, part_sizes, tables_of}
 use Rattle.lk_sizes.specs.Tables.{with_table, with_tables}
@@ -37,13 +37,6 @@ as_contents t = record { bytes = t.bytes; has_image = t.has_image; attrs = t.att
 
 abbrev pub sums : List PartTotal → List ℕ
 sums totals = map (λ t. t.bytes) totals
-
--- what adding up gives
-pub record AreSums (filling : Filling) (totals : List PartTotal) : Type 0 where
-  pub count : length totals ≡ length (all_parts filling.content.link.plan.sections)
-  pub bytes : (p : ℕ) (total : PartTotal) → slice_get totals p ≡ Some total → min total.bytes (2 ^ 64) ≡ min (part_size filling p) (2 ^ 64)
-  pub image : (p : ℕ) (total : PartTotal) → slice_get totals p ≡ Some total → total.has_image ≡ has_image filling.content.link p
-  pub attrs : (p : ℕ) (total : PartTotal) → slice_get totals p ≡ Some total → total.attrs ≡ part_attributes filling.content.link filling.content.live p
 
 agree : (filling : Filling) (totals : List PartTotal) → AreSums filling totals → (p : ℕ) → p < length (sums totals) → min (slice_index (sums totals) p) (2 ^ 64) ≡ min (slice_index (part_sizes filling) p) (2 ^ 64)
 agree filling totals h p below =

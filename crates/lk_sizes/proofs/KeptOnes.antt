@@ -50,7 +50,7 @@ merged_good link k x good there merged =
 
 -- ---- where kept ones come from
 
-abbrev IsFrom : List Bool → List Input → Input → Type 0
+abbrev pub IsFrom : List Bool → List Input → Input → Type 0
 IsFrom marks xs x = (k : ℕ) × (slice_get xs k ≡ Some x) × ((slice_index_or marks k false || is_merged x) ≡ true)
 
 kept_step : (marks : List Bool) (m : Bool) (y : Input) (xs : List Input) (x : Input) (b : Bool) → (m || is_merged y) ≡ b
@@ -60,7 +60,7 @@ kept_step marks m y xs x true e rest zero h = let same : y ≡ x = cc in (0, h, 
 kept_step marks m y xs x true e rest (suc j) h = let r = rest j h in (suc r.0, r.1, r.2)
 kept_step marks m y xs x false e rest j h = let r = rest j h in (suc r.0, r.1, r.2)
 
-kept_at : (marks : List Bool) (xs : List Input) (x : Input) (j : ℕ) → slice_get (kept_of marks xs) j ≡ Some x → IsFrom marks xs x
+pub kept_at : (marks : List Bool) (xs : List Input) (x : Input) (j : ℕ) → slice_get (kept_of marks xs) j ≡ Some x → IsFrom marks xs x
 kept_at [] xs x j h = absurd (cc)
 kept_at (m ∷ marks) [] x j h = absurd (cc)
 kept_at (m ∷ marks) (y ∷ xs) x j h = kept_step marks m y xs x (m || is_merged y) refl (kept_at marks xs x) j h

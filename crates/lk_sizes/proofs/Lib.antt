@@ -10,6 +10,9 @@ pub mod ImageStarts
 pub mod KeptOnes
 pub mod Keys
 pub mod Limited
+pub mod Lists
+pub mod LiveByFiles
+pub mod LiveNumbers
 pub mod LiveOnes
 pub mod LiveParts
 pub mod Made
@@ -22,9 +25,14 @@ pub mod OwnSizes
 pub mod OwnersLive
 pub mod OwnersOnce
 pub mod Placed
+pub mod SortedFits
+pub mod SortedOnes
+pub mod SortedPlaces
 pub mod SymbolsKeep
 pub mod TableParts
 pub mod Takers
+pub mod Tallies
+pub mod ThunkBytes
 pub mod ThunkTakers
 pub mod Tiling
 pub mod Turns

@@ -16,7 +16,7 @@ use Rattle.lk_reach.proofs.Numbered.{file_of_input, one_place}
 
 -- ---- each is one of the link's
 
-marked_at : {X : Type 0} (marks : List Bool) (xs : List X) (j : ℕ) (x : X) → slice_get (marked marks xs) j ≡ Some x
+pub marked_at : {X : Type 0} (marks : List Bool) (xs : List X) (j : ℕ) (x : X) → slice_get (marked marks xs) j ≡ Some x
     → (k : ℕ) × (slice_get xs k ≡ Some x) × (slice_index_or marks k false ≡ true)
 marked_at [] xs j x h = absurd (cc)
 marked_at (m ∷ marks) [] j x h = absurd (cc)

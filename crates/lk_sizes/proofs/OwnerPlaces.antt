@@ -3,12 +3,15 @@ use Rattle.std.proofs.Common.{◌≡◌, ℕ, zero, suc, ◌+◌, ◌==◌, Bool
 use Rattle.std.specs.Prelude.{option_map}
 use Rattle.std.specs.List.{slice_get, slice_index}
 use Rattle.std.specs.Option.{option_to_list}
+use Rattle.lk_link.specs.declared.link.LinkInput.{LinkInput}
 use Rattle.lk_link.specs.Inputs.{numbered_files}
 use Rattle.lk_link.specs.Parts.{part_sections}
 use Rattle.lk_link.proofs.Elements.{append_at, append_left, append_right, filter_at, flat_map_at, map_at, map_in}
+use Rattle.lk_gc.specs.declared.live.Live.{Live}
 use Rattle.lk_tables.specs.SymbolTable.{TableEntry}
 use Rattle.lk_tables.specs.TableLists.{table_of}
-use Rattle.lk_sizes.specs.Owners.{CommonOwner, EntryOwner, Filling, IdentityOwner, ImageOwner, Owner, SectionOwner, Taker, ThunkOwner, common_taker, commons_of, content_owners, file_takers, has_image, identity_of, identity_size, images_of, leading_of, live_of, owners_in, section_taker, takers, thunk_takers}
+use Rattle.lk_sizes.specs.Owners.{CommonOwner, EntryOwner, Filling, IdentityOwner, ImageOwner, Owner, SectionOwner, Taker, ThunkOwner, all_file_takers, common_taker, commons_of, content_owners, file_takers, has_image, identity_of, identity_size, images_of, leading_of, live_of, owners_in, section_taker, sorted_takers, takers, thunk_takers}
+use Rattle.lk_sizes.specs.Sorted.{sorted_inputs}
 use Rattle.lk_sizes.specs.PartOwners.{EntriesAreOwners, IdentityIsOwner, owners_of, tables_of}
 use Rattle.lk_sizes.proofs.ThunkTakers.{one_block}
 
@@ -53,23 +56,32 @@ identity_place filling p k o j place there = by_size (identity_size filling.cont
 
 -- ---- what files bring
 
+taken_place : (filling : Filling) (p k j : ℕ) (t : Taker) → slice_get (takers filling) j ≡ Some t → HasPlace filling p k t.owner
+taken_place filling p k j t there =
+    let link : LinkInput = filling.content.link in
+    let live : Live = filling.content.live in
+    let of_taker : Taker → Type 0 = λ u. HasPlace filling p k u.owner in
+    elim (append_at (all_file_takers filling) (sorted_takers filling) j t there) [
+      | inl files ↦
+          let at = flat_map_at (file_takers filling) (numbered_files link.groups) j t files in
+          let sections : List Taker = map (section_taker filling) (live_of link live at.from) in
+          let commons : List Taker = map common_taker (commons_of link live at.from) in
+          elim (append_at sections (commons ++ thunk_takers filling at.from) at.inner t at.gives) [
+            | inl section ↦ let from = map_at (section_taker filling) (live_of link live at.from) at.inner t section in subst of_taker from.2 tt
+            | inr behind ↦ elim (append_at commons (thunk_takers filling at.from) behind.0 t behind.2) [
+              | inl common ↦ let from = map_at common_taker (commons_of link live at.from) behind.0 t common in subst of_taker from.2 tt
+              | inr thunk ↦ let is = one_block filling at.from thunk.0 t thunk.2 in subst (HasPlace filling p k) (sym is.owner) tt
+            ]
+          ]
+      | inr sorted ↦ let from = map_at (section_taker filling) (sorted_inputs link live) sorted.0 t sorted.2 in subst of_taker from.2 tt
+    ]
+
 brought_place : (filling : Filling) (p k i : ℕ) (o : Owner) → slice_get (owners_in p (takers filling)) i ≡ Some o → HasPlace filling p k o
 brought_place filling p k i o there =
     let goes : Taker → Bool = λ t. t.part == p in
     let taker = map_at (λ (t : Taker). t.owner) (filter goes (takers filling)) i o there in
     let some = filter_at goes (takers filling) i taker.0 taker.1 in
-    let at = flat_map_at (file_takers filling) (numbered_files filling.content.link.groups) some.0 taker.0 some.1 in
-    let of_taker : Taker → Type 0 = λ (t : Taker). HasPlace filling p k t.owner in
-    let sections : List Taker = map (section_taker filling) (live_of filling.content.link filling.content.live at.from) in
-    let commons : List Taker = map common_taker (commons_of filling.content.link filling.content.live at.from) in
-    let here : of_taker taker.0 = elim (append_at sections (commons ++ thunk_takers filling at.from) at.inner taker.0 at.gives) [
-      | inl section ↦ let from = map_at (section_taker filling) (live_of filling.content.link filling.content.live at.from) at.inner taker.0 section in subst of_taker from.2 tt
-      | inr behind ↦ elim (append_at commons (thunk_takers filling at.from) behind.0 taker.0 behind.2) [
-        | inl common ↦ let from = map_at common_taker (commons_of filling.content.link filling.content.live at.from) behind.0 taker.0 common in subst of_taker from.2 tt
-        | inr thunk ↦ let is = one_block filling at.from thunk.0 taker.0 thunk.2 in subst (HasPlace filling p k) (sym is.owner) tt
-      ]
-    ] in
-    subst (HasPlace filling p k) taker.2 here
+    subst (HasPlace filling p k) taker.2 (taken_place filling p k some.0 taker.0 some.1)
 
 -- ---- all
 

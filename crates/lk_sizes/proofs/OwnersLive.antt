@@ -1,22 +1,24 @@
 -- Each owner of a part is an image, a live section or a common.
-use Rattle.std.proofs.Common.{◌≡◌, ℕ, zero, suc, ◌==◌, true, false, cond, List, [], ◌∷◌, ◌++◌, map, filter, None, Some, refl, sym, ap, ◌∙◌, subst, inl, inr}
+use Rattle.std.proofs.Common.{◌≡◌, ℕ, zero, suc, ◌==◌, true, false, cond, List, [], ◌∷◌, ◌++◌, map, filter, None, Some, refl, sym, subst, inl, inr}
 use Rattle.std.specs.Prelude.{option_map}
 use Rattle.std.specs.List.{slice_get, slice_index}
 use Rattle.std.specs.Option.{option_to_list}
 use Rattle.std.proofs.lemmas.Bool.{eqb-true}
 use Rattle.lk_link.specs.declared.link.LinkInput.{LinkInput}
-use Rattle.lk_link.specs.Inputs.{Input, NumberedFile, numbered_files}
-use Rattle.lk_link.proofs.Elements.{append_at, contains_at, filter_at, flat_map_at, flat_map_in, map_at}
+use Rattle.lk_link.specs.Inputs.{NumberedFile, numbered_files}
+use Rattle.lk_link.proofs.Elements.{append_at, contains_at, filter_at, flat_map_at, map_at}
 use Rattle.lk_gc.specs.declared.live.Live.{Live}
 use Rattle.lk_gc.specs.Reach.{live_inputs}
 use Rattle.lk_reach.proofs.Numbered.{file_at}
-use Rattle.lk_sizes.specs.Owners.{EntryOwner, Filling, IdentityOwner, ImageOwner, Owner, Taker, common_taker, commons_of, content_owners, file_takers, has_image, identity_of, identity_size, images_of, leading_of, live_of, owners_in, section_taker, takers, thunk_takers}
+use Rattle.lk_sizes.specs.Owners.{EntryOwner, Filling, IdentityOwner, ImageOwner, Owner, Taker, all_file_takers, common_taker, commons_of, content_owners, file_takers, has_image, identity_of, identity_size, images_of, leading_of, live_of, owners_in, section_taker, sorted_takers, takers, thunk_takers}
 use Rattle.lk_sizes.specs.PartOwners.{IsOwnerOf, OwnersAreLive, tables_of}
+use Rattle.lk_sizes.specs.Sorted.{sorted_inputs}
 use Rattle.lk_tables.specs.SymbolTable.{TableEntry}
 use Rattle.lk_tables.specs.TableLists.{table_of}
 use Rattle.lk_link.specs.Parts.{part_sections}
-use Rattle.lk_sizes.proofs.Addressing.{live_by_files}
 use Rattle.lk_sizes.proofs.CommonOnes.{is_common_in}
+use Rattle.lk_sizes.proofs.LiveByFiles.{unsorted_is_live}
+use Rattle.lk_sizes.proofs.SortedOnes.{sorted_at}
 use Rattle.lk_sizes.proofs.ThunkTakers.{one_block}
 
 -- an image is that of the part's section
@@ -47,9 +49,8 @@ brought filling i f k t at_f at_t =
     elim (append_at (map (section_taker filling) (live_of link live f)) (map common_taker (commons_of link live f) ++ thunk_takers filling f) k t at_t) [
       | inl section ↦
           let from = map_at (section_taker filling) (live_of filling.content.link filling.content.live f) k t section in
-          let whole = flat_map_in (live_of filling.content.link filling.content.live) (numbered_files filling.content.link.groups) i k f from.0 at_f from.1 in
-          let lives : slice_get (live_inputs filling.content.link filling.content.live) whole.0 ≡ Some from.0 = ap (λ (xs : List Input). slice_get xs whole.0) (sym (live_by_files filling.content.link filling.content.live)) ∙ whole.1 in
-          subst (λ (u : Taker). IsOwnerOf filling u.part u.owner) from.2 (contains_at (live_inputs filling.content.link filling.content.live) whole.0 from.0 lives, refl, refl)
+          let lives = unsorted_is_live link live i f k from.0 at_f from.1 in
+          subst (λ (u : Taker). IsOwnerOf filling u.part u.owner) from.2 (contains_at (live_inputs link live) lives.0 from.0 lives.1, refl, refl)
       | inr behind ↦ elim (append_at (map common_taker (commons_of link live f)) (thunk_takers filling f) behind.0 t behind.2) [
         | inl common ↦
             let from = map_at common_taker (commons_of link live f) behind.0 t common in
@@ -58,6 +59,21 @@ brought filling i f k t at_f at_t =
             let is = one_block filling f thunk.0 t thunk.2 in
             subst (IsOwnerOf filling t.part) (sym is.owner) (is.primary, is.bytes)
       ]
+    ]
+
+-- so is all that takes bytes
+taken_is : (filling : Filling) (k : ℕ) (t : Taker) → slice_get (takers filling) k ≡ Some t → IsOwnerOf filling t.part t.owner
+taken_is filling k t there =
+    let link : LinkInput = filling.content.link in
+    let live : Live = filling.content.live in
+    elim (append_at (all_file_takers filling) (sorted_takers filling) k t there) [
+      | inl files ↦
+          let at = flat_map_at (file_takers filling) (numbered_files link.groups) k t files in
+          brought filling at.outer at.from at.inner t at.there at.gives
+      | inr sorted ↦
+          let from = map_at (section_taker filling) (sorted_inputs link live) sorted.0 t sorted.2 in
+          let lives = sorted_at link live sorted.0 from.0 from.1 in
+          subst (λ (u : Taker). IsOwnerOf filling u.part u.owner) from.2 (contains_at (live_inputs link live) lives.place from.0 lives.there, refl, refl)
     ]
 
 -- the identity is that of the part
@@ -90,10 +106,8 @@ own filling p k o there =
           let from = map_at (λ (t : Taker). t.owner) here taken.0 o taken.2 in
           let t : Taker = from.0 in
           let among = filter_at (λ (u : Taker). u.part == p) (takers filling) taken.0 t from.1 in
-          let at = flat_map_at (file_takers filling) (numbered_files filling.content.link.groups) among.0 t among.1 in
           let goes : t.part ≡ p = eqb-true t.part p among.2 in
-          subst (λ (q : ℕ). IsOwnerOf filling q o) goes
-          (subst (λ (u : Owner). IsOwnerOf filling t.part u) from.2 (brought filling at.outer at.from at.inner t at.there at.gives))
+          subst (λ (q : ℕ). IsOwnerOf filling q o) goes (subst (λ (u : Owner). IsOwnerOf filling t.part u) from.2 (taken_is filling among.0 t among.1))
     ]
 
 pub owners_are_live : OwnersAreLive

@@ -4,9 +4,9 @@ use Rattle.std.specs.List.{position_or_len, slice_get}
 use Rattle.lk_link.specs.declared.link.LinkInput.{LinkInput}
 use Rattle.lk_link.specs.Inputs.{NumberedFile, numbered_files}
 use Rattle.lk_link.specs.Symbols.{file_number}
-use Rattle.lk_link.proofs.Elements.{append_right, flat_map_in}
+use Rattle.lk_link.proofs.Elements.{append_left, append_right, flat_map_in}
 use Rattle.lk_link.proofs.InputLemmas.{file_stands}
-use Rattle.lk_sizes.specs.Owners.{CommonOwner, EntryOwner, Filling, IdentityOwner, ImageOwner, Owner, SectionOwner, Taker, ThunkOwner, common_taker, commons_of, file_takers, live_of, section_taker, takers, thunk_taker, thunk_takers}
+use Rattle.lk_sizes.specs.Owners.{CommonOwner, EntryOwner, Filling, IdentityOwner, ImageOwner, Owner, SectionOwner, Taker, ThunkOwner, all_file_takers, common_taker, commons_of, file_takers, live_of, section_taker, sorted_takers, takers, thunk_taker, thunk_takers}
 use Rattle.lk_sizes.specs.PartOwners.{HasItsNumber, OwnersStandOnce, ThunksAreOwners, common_key, has_key, owners_of, section_key, thunk_key}
 use Rattle.lk_sizes.proofs.Addressing.{among, stands_behind, stands_there}
 use Rattle.lk_sizes.proofs.CommonOnes.{commons_once}
@@ -46,6 +46,6 @@ thunks_are_owners filling id file p size there is of =
     let in_file = append_right sections (commons ++ thunk_takers filling f) (length commons + 0) (length sections + (length commons + 0)) t refl behind in
     let whole = flat_map_in (file_takers filling) (numbered_files link.groups) (file_number link.groups id) (length sections + (length commons + 0)) f t
     (file_stands link.groups id file there) in_file in
-    let split = among (takers filling) whole.0 t whole.1 in
+    let split = among (takers filling) whole.0 t (append_left (all_file_takers filling) (sorted_takers filling) whole.0 t whole.1) in
     stands_there (thunk_key link) (file_number link.groups id) filling split.front t
     (stands_behind (thunk_key link) (file_number link.groups id) filling split.front t split.rest split.splits refl (blocks_once filling p))

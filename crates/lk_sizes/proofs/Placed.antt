@@ -1,6 +1,7 @@
 -- Live sections and commons get their addresses, file by file.
-use Rattle.std.proofs.Common.{◌≡◌, ℕ, suc, ◌+◌, ◌<◌, ◌^◌, Bool, true, false, if◌then◌else◌, List, [], ◌∷◌, ◌++◌, length, map, filter, take, Some, refl, sym, ap, ◌∙◌, subst, arith, append_assoc, get_or, length-append, set}
+use Rattle.std.proofs.Common.{◌≡◌, ℕ, suc, ◌+◌, ◌<◌, ◌^◌, Bool, true, false, not, ◌&&◌, if◌then◌else◌, List, [], ◌∷◌, ◌++◌, length, map, filter, take, Option, None, Some, Bor, refl, sym, ap, ◌∙◌, subst, arith, append_assoc, get_or, length-append, set}
 use Rattle.std.specs.List.{enumerate_from, flat_map, range_with_len, slice_get, slice_index}
+use Rattle.std.specs.Option.{option_map_or}
 use Rattle.std.proofs.lemmas.Grind.{flat_map-append}
 use Rattle.std.proofs.lemmas.List.{append-nil, length-map, map-append, map_push, take_more}
 use Rattle.std.proofs.lemmas.List.Elements.{filter-append}
@@ -24,23 +25,24 @@ use Rattle.lk_reach.proofs.LiveWalk.{split_at}
 use Rattle.lk_reach.proofs.SymbolNumbers.{inputs_few}
 use Rattle.lk_sizes.specs.declared.addresses.CommonAddress.{CommonAddress}
 use Rattle.lk_tables.specs.declared.commons.Common.{Common}
-use Rattle.lk_sizes.specs.Addresses.{section_address, told_common}
-use Rattle.lk_sizes.specs.Owners.{Content, EntryOwner, Filling, IsCommonIn, Taker, common_taker, commons_of, content_of, content_owners, leading_of, live_of, owner_bytes, owners_in, plain_filling, section_taker, takers}
+use Rattle.lk_sizes.specs.Addresses.{told_common}
+use Rattle.lk_sizes.specs.Owners.{Content, EntryOwner, Filling, IsCommonIn, Taker, common_taker, commons_of, content_of, content_owners, leading_of, live_of, own_sizes, owner_bytes, owners_in, plain_filling, section_taker, size_in, sized_filling, stands_in_file, takers}
+use Rattle.lk_sizes.specs.Sorted.{sorted_inputs}
 use Rattle.lk_sizes.specs.PartOwners.{EndsFit, common_address, live_address, tables_of}
 use Rattle.lk_tables.specs.TableLists.{table_of}
-use Rattle.lk_sizes.specs.Tables.{ArePassed, HaveSpace, behind_leading, bytes_in, common_place, common_places, live_below, next_behind, own_file_takers, own_taker, section_place, section_places}
+use Rattle.lk_sizes.specs.Tables.{ArePassed, HaveSpace, behind_leading, bytes_in, common_place, common_places, live_below, next_behind, file_takers_by, section_place, section_places, taker_by, IsInput}
 use Rattle.lk_sizes.proofs.Addressing.{live_among, number_of, section_behind}
 use Rattle.lk_sizes.proofs.CommonOnes.{common_among, common_behind, common_goes}
 use Rattle.lk_sizes.proofs.LiveOnes.{live_goes_at}
-use Rattle.lk_sizes.proofs.OwnSizes.{live_own_size, own_taker_is, own_takers}
+use Rattle.lk_sizes.proofs.OwnSizes.{live_own_size, own_size_at, sized_takers}
 use Rattle.std.proofs.Math.Seq.{take-append_seam}
 use Rattle.lk_sizes.proofs.Takers.{bytes_in-append, bytes_in_here, one_passed, passed_both, room_for}
 
 -- ---- the sections of a file, one after the other
 
--- those of its sections that are live
-abbrev pub lives : LinkInput → Live → Input → Bool
-lives link live x = is_marked live.marks (input_number link.groups x.file x.index)
+and_left : (a b : Bool) → (a && b) ≡ true → a ≡ true
+and_left true b h = refl
+and_left false b h = absurd (cc)
 
 abbrev pub sections_of_file : NumberedFile → List Input
 sections_of_file f = inputs_from f.id 0 f.file.sections
@@ -57,48 +59,48 @@ taken_more xs k x there =
     take_more xs k x (slice_get_within xs k x there) ∙ ap (λ y. take k xs ++ y ∷ []) (get_or_from_slice_get xs k x x there)
 
 -- the live ones among them, with one more
-below_live : (link : LinkInput) (live : Live) (f : NumberedFile) (k : ℕ) (x : Input) → slice_get (sections_of_file f) k ≡ Some x → lives link live x ≡ true
+below_live : (link : LinkInput) (live : Live) (f : NumberedFile) (k : ℕ) (x : Input) → slice_get (sections_of_file f) k ≡ Some x → stands_in_file link live x ≡ true
     → live_below link live f (k + 1) ≡ live_below link live f k ++ x ∷ []
 below_live link live f k x there set =
     let xs : List Input = sections_of_file f in
-    ap (filter (lives link live)) (taken_more xs k x there)
-    ∙ filter-append (lives link live) (take k xs) (x ∷ [])
+    ap (filter (stands_in_file link live)) (taken_more xs k x there)
+    ∙ filter-append (stands_in_file link live) (take k xs) (x ∷ [])
     ∙ ap (λ b. live_below link live f k ++ (if b then x ∷ [] else [])) set
 
-below_other : (link : LinkInput) (live : Live) (f : NumberedFile) (k : ℕ) (x : Input) → slice_get (sections_of_file f) k ≡ Some x → lives link live x ≡ false
+below_other : (link : LinkInput) (live : Live) (f : NumberedFile) (k : ℕ) (x : Input) → slice_get (sections_of_file f) k ≡ Some x → stands_in_file link live x ≡ false
     → live_below link live f (k + 1) ≡ live_below link live f k
 below_other link live f k x there set =
     let xs : List Input = sections_of_file f in
-    ap (filter (lives link live)) (taken_more xs k x there)
-    ∙ filter-append (lives link live) (take k xs) (x ∷ [])
+    ap (filter (stands_in_file link live)) (taken_more xs k x there)
+    ∙ filter-append (stands_in_file link live) (take k xs) (x ∷ [])
     ∙ ap (λ b. live_below link live f k ++ (if b then x ∷ [] else [])) set
     ∙ append-nil (live_below link live f k)
 
 -- all of them, around one
-pub live_split : (link : LinkInput) (live : Live) (f : NumberedFile) (k : ℕ) (x : Input) → slice_get (sections_of_file f) k ≡ Some x → lives link live x ≡ true
+pub live_split : (link : LinkInput) (live : Live) (f : NumberedFile) (k : ℕ) (x : Input) → slice_get (sections_of_file f) k ≡ Some x → stands_in_file link live x ≡ true
     → (rest : List Input) × (live_of link live f ≡ live_below link live f k ++ x ∷ rest)
 live_split link live f k x there set =
     let xs : List Input = sections_of_file f in
     let split = split_at xs k x there in (
-      filter (lives link live) split.0,
-      ap (filter (lives link live)) split.1
-          ∙ filter-append (lives link live) (take k xs) (x ∷ split.0)
-          ∙ ap (λ b. live_below link live f k ++ (if b then x ∷ filter (lives link live) split.0 else filter (lives link live) split.0)) set,
+      filter (stands_in_file link live) split.0,
+      ap (filter (stands_in_file link live)) split.1
+          ∙ filter-append (stands_in_file link live) (take k xs) (x ∷ split.0)
+          ∙ ap (λ b. live_below link live f k ++ (if b then x ∷ filter (stands_in_file link live) split.0 else filter (stands_in_file link live) split.0)) set,
     )
 
 -- the next addresses are behind the first sections of a file, which have theirs
-pub record AreReached (link : LinkInput) (live : Live) (f : NumberedFile) (old : List ℕ) (k : ℕ) (next : List ℕ) (front addresses : List ℕ) : Type 0 where
-  pub passed : ArePassed link old (map own_taker (live_below link live f k)) next
-  pub told : addresses ≡ front ++ map (section_place link live old f) (take k (enumerate_from 0 (sections_of_file f)))
+pub record AreReached (size : Input → ℕ) (link : LinkInput) (live : Live) (f : NumberedFile) (old : List ℕ) (k : ℕ) (next : List ℕ) (front addresses : List ℕ) : Type 0 where
+  pub passed : ArePassed link old (map (taker_by size) (live_below link live f k)) next
+  pub told : addresses ≡ front ++ map (section_place size link live old f) (take k (enumerate_from 0 (sections_of_file f)))
 
-pub none_reached : (link : LinkInput) (live : Live) (f : NumberedFile) (old front : List ℕ) → AreReached link live f old 0 old front front
-none_reached link live f old front = record { passed = record { count = refl; moved = λ p h. omega arith }; told = sym (append-nil front) }
+pub none_reached : (size : Input → ℕ) (link : LinkInput) (live : Live) (f : NumberedFile) (old front : List ℕ) → AreReached size link live f old 0 old front front
+none_reached size link live f old front = record { passed = record { count = refl; moved = λ p h. omega arith }; told = sym (append-nil front) }
 
-told_more : (link : LinkInput) (live : Live) (f : NumberedFile) (old front addresses : List ℕ) (k : ℕ) (x : Input) (address : ℕ) → slice_get (sections_of_file f) k ≡ Some x
-    → addresses ≡ front ++ map (section_place link live old f) (take k (enumerate_from 0 (sections_of_file f))) → address ≡ section_place link live old f (k, x)
-    → addresses ++ address ∷ [] ≡ front ++ map (section_place link live old f) (take (k + 1) (enumerate_from 0 (sections_of_file f)))
-told_more link live f old front addresses k x address there before is =
-    let g : ℕ × Input → ℕ = section_place link live old f in
+told_more : (size : Input → ℕ) (link : LinkInput) (live : Live) (f : NumberedFile) (old front addresses : List ℕ) (k : ℕ) (x : Input) (address : ℕ) → slice_get (sections_of_file f) k ≡ Some x
+    → addresses ≡ front ++ map (section_place size link live old f) (take k (enumerate_from 0 (sections_of_file f))) → address ≡ section_place size link live old f (k, x)
+    → addresses ++ address ∷ [] ≡ front ++ map (section_place size link live old f) (take (k + 1) (enumerate_from 0 (sections_of_file f)))
+told_more size link live f old front addresses k x address there before is =
+    let g : ℕ × Input → ℕ = section_place size link live old f in
     let all : List (ℕ × Input) = enumerate_from 0 (sections_of_file f) in
     let number : 0 + k ≡ k = omega arith in
     let numbered : slice_get all k ≡ Some (k, x) = numbered_get 0 (sections_of_file f) k x there ∙ ap (λ (n : ℕ). Some (n, x)) number in
@@ -109,54 +111,54 @@ told_more link live f old front addresses k x address there before is =
     ∙ ap (λ (qs : List (ℕ × Input)). front ++ map g qs) (sym (taken_more all k (k, x) numbered))
 
 -- a live one gets the next address of its part
-pub live_reached : (link : LinkInput) (live : Live) (f : NumberedFile) (old : List ℕ) (k : ℕ) (next front addresses : List ℕ) (x : Input) (at moved : ℕ) → slice_get (sections_of_file f) k ≡ Some x
-    → lives link live x ≡ true → AreReached link live f old k next front addresses → at ≡ x.section.part → at < length old
-    → moved ≡ slice_index next at + capacity (part_at link.plan.sections at) x.section.size
-    → AreReached link live f old (k + 1) (set next at moved) front (addresses ++ slice_index next at ∷ [])
-live_reached link live f old k next front addresses x at moved there lit h here within is =
-    let before : List Taker = map own_taker (live_below link live f k) in
-    let more : map own_taker (live_below link live f (k + 1)) ≡ before ++ own_taker x ∷ []
-    = ap (map own_taker) (below_live link live f k x there lit) ∙ map-append own_taker (live_below link live f k) (x ∷ []) in
-    let place : slice_index next at ≡ section_place link live old f (k, x)
+pub live_reached : (size : Input → ℕ) (link : LinkInput) (live : Live) (f : NumberedFile) (old : List ℕ) (k : ℕ) (next front addresses : List ℕ) (x : Input) (at moved : ℕ) → slice_get (sections_of_file f) k ≡ Some x
+    → stands_in_file link live x ≡ true → AreReached size link live f old k next front addresses → at ≡ x.section.part → at < length old
+    → moved ≡ slice_index next at + capacity (part_at link.plan.sections at) (size x)
+    → AreReached size link live f old (k + 1) (set next at moved) front (addresses ++ slice_index next at ∷ [])
+live_reached size link live f old k next front addresses x at moved there lit h here within is =
+    let before : List Taker = map (taker_by size) (live_below link live f k) in
+    let more : map (taker_by size) (live_below link live f (k + 1)) ≡ before ++ taker_by size x ∷ []
+    = ap (map (taker_by size)) (below_live link live f k x there lit) ∙ map-append (taker_by size) (live_below link live f k) (x ∷ []) in
+    let place : slice_index next at ≡ section_place size link live old f (k, x)
     = h.passed.moved at within
     ∙ ap (next_behind link old before) here
     ∙ ap (λ b. if b then next_behind link old before x.section.part else 0) (sym lit) in
     record {
-      passed = subst (λ (ts : List Taker). ArePassed link old ts (set next at moved)) (sym more) (one_passed link old before (own_taker x) next at moved h.passed here within is);
-      told = told_more link live f old front addresses k x (slice_index next at) there h.told place;
+      passed = subst (λ (ts : List Taker). ArePassed link old ts (set next at moved)) (sym more) (one_passed link old before (taker_by size x) next at moved h.passed here within is);
+      told = told_more size link live f old front addresses k x (slice_index next at) there h.told place;
     }
 
 -- any other gets 0
-pub other_reached : (link : LinkInput) (live : Live) (f : NumberedFile) (old : List ℕ) (k : ℕ) (next front addresses : List ℕ) (x : Input) → slice_get (sections_of_file f) k ≡ Some x
-    → lives link live x ≡ false → AreReached link live f old k next front addresses → AreReached link live f old (k + 1) next front (addresses ++ 0 ∷ [])
-other_reached link live f old k next front addresses x there set h =
-    let before : List Taker = map own_taker (live_below link live f k) in
+pub other_reached : (size : Input → ℕ) (link : LinkInput) (live : Live) (f : NumberedFile) (old : List ℕ) (k : ℕ) (next front addresses : List ℕ) (x : Input) → slice_get (sections_of_file f) k ≡ Some x
+    → stands_in_file link live x ≡ false → AreReached size link live f old k next front addresses → AreReached size link live f old (k + 1) next front (addresses ++ 0 ∷ [])
+other_reached size link live f old k next front addresses x there set h =
+    let before : List Taker = map (taker_by size) (live_below link live f k) in
     record {
-      passed = subst (λ (xs : List Input). ArePassed link old (map own_taker xs) next) (sym (below_other link live f k x there set)) h.passed;
-      told = told_more link live f old front addresses k x 0 there h.told (ap (λ b. if b then next_behind link old before x.section.part else 0) (sym set));
+      passed = subst (λ (xs : List Input). ArePassed link old (map (taker_by size) xs) next) (sym (below_other link live f k x there set)) h.passed;
+      told = told_more size link live f old front addresses k x 0 there h.told (ap (λ b. if b then next_behind link old before x.section.part else 0) (sym set));
     }
 
 -- there is room for a live one
-pub live_room : (link : LinkInput) (live : Live) (f : NumberedFile) (old : List ℕ) (k : ℕ) (next : List ℕ) (x : Input) (at : ℕ) → slice_get (sections_of_file f) k ≡ Some x
-    → lives link live x ≡ true → HaveSpace link old (map own_taker (live_of link live f)) → ArePassed link old (map own_taker (live_below link live f k)) next → at ≡ x.section.part → at < length old
-    → slice_index next at + capacity (part_at link.plan.sections at) x.section.size < 2 ^ 64
-live_room link live f old k next x at there set space h here within =
+pub live_room : (size : Input → ℕ) (link : LinkInput) (live : Live) (f : NumberedFile) (old : List ℕ) (k : ℕ) (next : List ℕ) (x : Input) (at : ℕ) → slice_get (sections_of_file f) k ≡ Some x
+    → stands_in_file link live x ≡ true → HaveSpace link old (map (taker_by size) (live_of link live f)) → ArePassed link old (map (taker_by size) (live_below link live f k)) next → at ≡ x.section.part → at < length old
+    → slice_index next at + capacity (part_at link.plan.sections at) (size x) < 2 ^ 64
+live_room size link live f old k next x at there set space h here within =
     let split = live_split link live f k x there set in
-    let before : List Taker = map own_taker (live_below link live f k) in
-    let all : map own_taker (live_of link live f) ≡ before ++ own_taker x ∷ map own_taker split.0
-    = ap (map own_taker) split.1 ∙ map-append own_taker (live_below link live f k) (x ∷ split.0) in
-    room_for link old before (own_taker x) (map own_taker split.0) next at (subst (HaveSpace link old) all space) h here within
+    let before : List Taker = map (taker_by size) (live_below link live f k) in
+    let all : map (taker_by size) (live_of link live f) ≡ before ++ taker_by size x ∷ map (taker_by size) split.0
+    = ap (map (taker_by size)) split.1 ∙ map-append (taker_by size) (live_below link live f k) (x ∷ split.0) in
+    room_for link old before (taker_by size x) (map (taker_by size) split.0) next at (subst (HaveSpace link old) all space) h here within
 
 -- at the end all have their addresses
-pub all_reached : (link : LinkInput) (live : Live) (f : NumberedFile) (old : List ℕ) (k : ℕ) (next front addresses : List ℕ) → k ≡ length f.file.sections → AreReached link live f old k next front addresses
-    → ArePassed link old (map own_taker (live_of link live f)) next × (addresses ≡ front ++ section_places link live old f)
-all_reached link live f old k next front addresses all h =
+pub all_reached : (size : Input → ℕ) (link : LinkInput) (live : Live) (f : NumberedFile) (old : List ℕ) (k : ℕ) (next front addresses : List ℕ) → k ≡ length f.file.sections → AreReached size link live f old k next front addresses
+    → ArePassed link old (map (taker_by size) (live_of link live f)) next × (addresses ≡ front ++ section_places size link live old f)
+all_reached size link live f old k next front addresses all h =
     let xs : List Input = sections_of_file f in
     let count : length xs ≡ k = length-map (enumerate_from 0 f.file.sections) (numbered_section f.id) ∙ length-enumerate_from 0 f.file.sections ∙ sym all in
     let whole : take k xs ≡ xs = ap (λ (n : ℕ). take n xs) (sym count) ∙ take_whole xs in
     let numbers : take k (enumerate_from 0 xs) ≡ enumerate_from 0 xs = ap (λ (n : ℕ). take n (enumerate_from 0 xs)) (sym (length-enumerate_from 0 xs ∙ count)) ∙ take_whole (enumerate_from 0 xs) in (
-      subst (λ (ys : List Input). ArePassed link old (map own_taker (filter (lives link live) ys)) next) whole h.passed,
-      h.told ∙ ap (λ (qs : List (ℕ × Input)). front ++ map (section_place link live old f) qs) numbers,
+      subst (λ (ys : List Input). ArePassed link old (map (taker_by size) (filter (stands_in_file link live) ys)) next) whole h.passed,
+      h.told ∙ ap (λ (qs : List (ℕ × Input)). front ++ map (section_place size link live old f) qs) numbers,
     )
   where
     take_whole : {X : Type 0} (ys : List X) → take (length ys) ys ≡ ys
@@ -229,7 +231,7 @@ made_alike {X} {Y} g h m n (x ∷ xs) same =
 abbrev pub AreEnds : LinkInput → List ℕ → List ℕ → List ℕ → Type 0
 AreEnds link merged_lens starts ends = ends ≡ map (behind_leading link merged_lens starts) (range_with_len 0 (length starts))
 
-end_at : (content : Content) (starts ends : List ℕ) (p : ℕ) → AreEnds content.link content.merged_lens starts ends → p < length starts → slice_index ends p ≡ behind_leading content.link content.merged_lens starts p
+pub end_at : (content : Content) (starts ends : List ℕ) (p : ℕ) → AreEnds content.link content.merged_lens starts ends → p < length starts → slice_index ends p ≡ behind_leading content.link content.merged_lens starts p
 end_at content starts ends p is below =
     ap (λ (ns : List ℕ). slice_index ns p) is
     ∙ get_or-map-range_with_len (behind_leading content.link content.merged_lens starts) 0 (length starts) p p 0 below (omega arith)
@@ -249,14 +251,19 @@ all_fit filling starts p fit below =
       sum_by-append (owner_bytes (part_at filling.content.link.plan.sections p)) (leading_of filling.content.link filling.content.merged_lens p) (owners_in p (takers filling)),
     )
 
--- the files so far have their addresses, and the next ones are behind them
-pub record AreDone (link : LinkInput) (live : Live) (merged_lens starts ends : List ℕ) (done : List NumberedFile) (next sections : List ℕ) (commons : List CommonAddress) : Type 0 where
-  pub passed : ArePassed link ends (flat_map (own_file_takers link live) done) next
-  pub addresses : (sizes : TableSizes) → sections ≡ map (section_address (plain_filling (content_of link sizes live merged_lens)) starts) (enumerate_from 0 (inputs_of done))
-  pub told : (sizes : TableSizes) → commons ≡ map (told_common (plain_filling (content_of link sizes live merged_lens)) starts) (flat_map (commons_of link live) done)
+-- the address that is known of an input section, with its number, when the files are done: sorted ones wait
+abbrev pub early_address : Filling → List ℕ → ℕ × Input → ℕ
+early_address filling starts q =
+    if is_marked filling.content.live.marks q.0 && not q.1.section.sorted then live_address filling starts q.1 else 0
 
-pub none_done : (link : LinkInput) (live : Live) (merged_lens starts ends : List ℕ) → AreDone link live merged_lens starts ends [] ends [] []
-none_done link live merged_lens starts ends =
+-- the files so far have their addresses, and the next ones are behind them
+pub record AreDone (given : List ℕ) (link : LinkInput) (live : Live) (merged_lens starts ends : List ℕ) (done : List NumberedFile) (next sections : List ℕ) (commons : List CommonAddress) : Type 0 where
+  pub passed : ArePassed link ends (flat_map (file_takers_by (size_in link given) link live) done) next
+  pub addresses : (sizes : TableSizes) → sections ≡ map (early_address (sized_filling (content_of link sizes live merged_lens) given) starts) (enumerate_from 0 (inputs_of done))
+  pub told : (sizes : TableSizes) → commons ≡ map (told_common (sized_filling (content_of link sizes live merged_lens) given) starts) (flat_map (commons_of link live) done)
+
+pub none_done : (given : List ℕ) (link : LinkInput) (live : Live) (merged_lens starts ends : List ℕ) → AreDone given link live merged_lens starts ends [] ends [] []
+none_done given link live merged_lens starts ends =
     record { passed = record { count = refl; moved = λ p h. omega arith }; addresses = λ sizes. refl; told = λ sizes. refl }
 
 -- ---- one file more
@@ -266,13 +273,20 @@ pub record IsNextFile (link : LinkInput) (done : List NumberedFile) (f : Numbere
   pub rest : List NumberedFile
   pub splits : numbered_files link.groups ≡ done ++ f ∷ rest
 
-takers_split : (content : Content) (done : List NumberedFile) (f : NumberedFile) (h : IsNextFile content.link done f)
-    → takers (plain_filling content)
-    ≡ flat_map (own_file_takers content.link content.live) done ++ (own_file_takers content.link content.live f ++ flat_map (own_file_takers content.link content.live) h.rest)
-takers_split content done f h =
-    own_takers content
-    ∙ ap (flat_map (own_file_takers content.link content.live)) h.splits
-    ∙ flat_map-append (own_file_takers content.link content.live) done (f ∷ h.rest)
+-- what takes bytes behind some files: these ones, and the sorted sections
+abbrev after_files : Content → List ℕ → List NumberedFile → List Taker
+after_files content sizes rest = flat_map (file_takers_by (size_in content.link sizes) content.link content.live) rest ++ map (taker_by (size_in content.link sizes)) (sorted_inputs content.link content.live)
+
+takers_split : (content : Content) (sizes : List ℕ) (done : List NumberedFile) (f : NumberedFile) (h : IsNextFile content.link done f)
+    → takers (sized_filling content sizes)
+    ≡ flat_map (file_takers_by (size_in content.link sizes) content.link content.live) done ++ (file_takers_by (size_in content.link sizes) content.link content.live f ++ after_files content sizes h.rest)
+takers_split content sizes done f h =
+    let own : NumberedFile → List Taker = file_takers_by (size_in content.link sizes) content.link content.live in
+    let sorted : List Taker = map (taker_by (size_in content.link sizes)) (sorted_inputs content.link content.live) in
+    sized_takers content sizes
+    ∙ ap (λ (ts : List Taker). ts ++ sorted) (ap (flat_map own) h.splits ∙ flat_map-append own done (f ∷ h.rest))
+    ∙ append_assoc (flat_map own done) (own f ++ flat_map own h.rest) sorted
+    ∙ ap (λ (ts : List Taker). flat_map own done ++ ts) (append_assoc (own f) (flat_map own h.rest) sorted)
 
 -- a part of a list around an element
 around : {X : Type 0} (before front rest after : List X) (x : X) → before ++ ((front ++ x ∷ rest) ++ after) ≡ (before ++ front) ++ x ∷ (rest ++ after)
@@ -280,28 +294,28 @@ around before front rest after x =
     ap (λ (zs : List _). before ++ zs) (append_assoc front (x ∷ rest) after) ∙ sym (append_assoc before front (x ∷ (rest ++ after)))
 
 -- space for the sections of a file, and for its commons behind them
-pub section_space : (content : Content) (starts ends : List ℕ) (done : List NumberedFile) (f : NumberedFile) (next : List ℕ) (h : IsNextFile content.link done f) → EndsFit (plain_filling content) starts
-    → AreEnds content.link content.merged_lens starts ends → ArePassed content.link ends (flat_map (own_file_takers content.link content.live) done) next → HaveSpace content.link next (map own_taker (live_of content.link content.live f))
-section_space content starts ends done f next h fit is passed = λ p below.
-    let before : List Taker = flat_map (own_file_takers content.link content.live) done in
+pub section_space : (content : Content) (sizes : List ℕ) (starts ends : List ℕ) (done : List NumberedFile) (f : NumberedFile) (next : List ℕ) (h : IsNextFile content.link done f) → EndsFit (sized_filling content sizes) starts
+    → AreEnds content.link content.merged_lens starts ends → ArePassed content.link ends (flat_map (file_takers_by (size_in content.link sizes) content.link content.live) done) next → HaveSpace content.link next (map (taker_by (size_in content.link sizes)) (live_of content.link content.live f))
+section_space content sizes starts ends done f next h fit is passed = λ p below.
+    let before : List Taker = flat_map (file_takers_by (size_in content.link sizes) content.link content.live) done in
     let count = ends_count content starts ends is in
     let inside : p < length starts = omega (arith, below, passed.count, count) in
     omega (
       arith,
       passed.moved p (omega (arith, below, passed.count)),
       end_at content starts ends p is inside,
-      all_fit (plain_filling content) starts p fit inside,
-      ap (bytes_in content.link p) (takers_split content done f h),
-      bytes_in-append content.link p before (own_file_takers content.link content.live f ++ flat_map (own_file_takers content.link content.live) h.rest),
-      bytes_in-append content.link p (own_file_takers content.link content.live f) (flat_map (own_file_takers content.link content.live) h.rest),
-      bytes_in-append content.link p (map own_taker (live_of content.link content.live f)) (map common_taker (commons_of content.link content.live f)),
+      all_fit (sized_filling content sizes) starts p fit inside,
+      ap (bytes_in content.link p) (takers_split content sizes done f h),
+      bytes_in-append content.link p before (file_takers_by (size_in content.link sizes) content.link content.live f ++ after_files content sizes h.rest),
+      bytes_in-append content.link p (file_takers_by (size_in content.link sizes) content.link content.live f) (after_files content sizes h.rest),
+      bytes_in-append content.link p (map (taker_by (size_in content.link sizes)) (live_of content.link content.live f)) (map common_taker (commons_of content.link content.live f)),
     )
 
-pub common_space : (content : Content) (starts ends : List ℕ) (done : List NumberedFile) (f : NumberedFile) (next later : List ℕ) (h : IsNextFile content.link done f) → EndsFit (plain_filling content) starts
-    → AreEnds content.link content.merged_lens starts ends → ArePassed content.link ends (flat_map (own_file_takers content.link content.live) done) next → ArePassed content.link next (map own_taker (live_of content.link content.live f)) later
+pub common_space : (content : Content) (sizes : List ℕ) (starts ends : List ℕ) (done : List NumberedFile) (f : NumberedFile) (next later : List ℕ) (h : IsNextFile content.link done f) → EndsFit (sized_filling content sizes) starts
+    → AreEnds content.link content.merged_lens starts ends → ArePassed content.link ends (flat_map (file_takers_by (size_in content.link sizes) content.link content.live) done) next → ArePassed content.link next (map (taker_by (size_in content.link sizes)) (live_of content.link content.live f)) later
     → HaveSpace content.link later (map common_taker (commons_of content.link content.live f))
-common_space content starts ends done f next later h fit is passed sections = λ p below.
-    let before : List Taker = flat_map (own_file_takers content.link content.live) done in
+common_space content sizes starts ends done f next later h fit is passed sections = λ p below.
+    let before : List Taker = flat_map (file_takers_by (size_in content.link sizes) content.link content.live) done in
     let count = ends_count content starts ends is in
     let inside : p < length starts = omega (arith, below, sections.count, passed.count, count) in
     omega (
@@ -309,85 +323,85 @@ common_space content starts ends done f next later h fit is passed sections = λ
       sections.moved p (omega (arith, below, sections.count)),
       passed.moved p (omega (arith, below, sections.count, passed.count)),
       end_at content starts ends p is inside,
-      all_fit (plain_filling content) starts p fit inside,
-      ap (bytes_in content.link p) (takers_split content done f h),
-      bytes_in-append content.link p before (own_file_takers content.link content.live f ++ flat_map (own_file_takers content.link content.live) h.rest),
-      bytes_in-append content.link p (own_file_takers content.link content.live f) (flat_map (own_file_takers content.link content.live) h.rest),
-      bytes_in-append content.link p (map own_taker (live_of content.link content.live f)) (map common_taker (commons_of content.link content.live f)),
+      all_fit (sized_filling content sizes) starts p fit inside,
+      ap (bytes_in content.link p) (takers_split content sizes done f h),
+      bytes_in-append content.link p before (file_takers_by (size_in content.link sizes) content.link content.live f ++ after_files content sizes h.rest),
+      bytes_in-append content.link p (file_takers_by (size_in content.link sizes) content.link content.live f) (after_files content sizes h.rest),
+      bytes_in-append content.link p (map (taker_by (size_in content.link sizes)) (live_of content.link content.live f)) (map common_taker (commons_of content.link content.live f)),
     )
 
 -- the sections of the next file have the addresses of the link's
-section_is : (content : Content) (starts ends : List ℕ) (done : List NumberedFile) (f : NumberedFile) (next : List ℕ) (h : IsNextFile content.link done f)
+section_is : (content : Content) (sizes : List ℕ) (starts ends : List ℕ) (done : List NumberedFile) (f : NumberedFile) (next : List ℕ) (h : IsNextFile content.link done f)
     → IsWellFormed content.link → AreLive content.link content.live → length starts ≡ length (all_parts content.link.plan.sections) → AreEnds content.link content.merged_lens starts ends
-    → ArePassed content.link ends (flat_map (own_file_takers content.link content.live) done) next → (k : ℕ) (x : Input) → slice_get (sections_of_file f) k ≡ Some x
-    → section_place content.link content.live next f (k, x) ≡ section_address (plain_filling content) starts (length (inputs_of done) + k, x)
-section_is content starts ends done f next h good are parts is passed k x there =
-    let before : List Taker = flat_map (own_file_takers content.link content.live) done in
+    → ArePassed content.link ends (flat_map (file_takers_by (size_in content.link sizes) content.link content.live) done) next → (k : ℕ) (x : Input) → slice_get (sections_of_file f) k ≡ Some x
+    → section_place (size_in content.link sizes) content.link content.live next f (k, x) ≡ early_address (sized_filling content sizes) starts (length (inputs_of done) + k, x)
+section_is content sizes starts ends done f next h good are parts is passed k x there =
+    let before : List Taker = flat_map (file_takers_by (size_in content.link sizes) content.link content.live) done in
     let inputs : List Input = all_inputs content.link.groups in
     let split : inputs ≡ inputs_of done ++ (sections_of_file f ++ inputs_of h.rest) = ap inputs_of h.splits ∙ flat_map-append sections_of_file done (f ∷ h.rest) in
     let here = append_left (sections_of_file f) (inputs_of h.rest) k x there in
     let place = append_right (inputs_of done) (sections_of_file f ++ inputs_of h.rest) k (length (inputs_of done) + k) x refl here in
     let at : slice_get inputs (length (inputs_of done) + k) ≡ Some x = ap (λ (xs : List Input). slice_get xs (length (inputs_of done) + k)) split ∙ place in
     let number : input_number content.link.groups x.file x.index ≡ length (inputs_of done) + k = number_of content.link (length (inputs_of done) + k) x at in
-    let mark : is_marked content.live.marks (length (inputs_of done) + k) ≡ lives content.link content.live x = ap (is_marked content.live.marks) (sym number) in
-    let front : List Taker = map own_taker (live_below content.link content.live f k) in
-    (elim (lives content.link content.live x) as (λ b. lives content.link content.live x ≡ b → (if b then next_behind content.link next front x.section.part else 0) ≡ (if b then live_address (plain_filling content) starts x else 0)) [
+    let mark : (is_marked content.live.marks (length (inputs_of done) + k) && not x.section.sorted) ≡ stands_in_file content.link content.live x
+    = ap (λ (n : ℕ). is_marked content.live.marks n && not x.section.sorted) (sym number) in
+    let front : List Taker = map (taker_by (size_in content.link sizes)) (live_below content.link content.live f k) in
+    (elim (stands_in_file content.link content.live x) as (λ b. stands_in_file content.link content.live x ≡ b → (if b then next_behind content.link next front x.section.part else 0) ≡ (if b then live_address (sized_filling content sizes) starts x else 0)) [
       | true ↦ λ set.
           let in_file = live_split content.link content.live f k x there set in
           let commons : List Taker = map common_taker (commons_of content.link content.live f) in
-          let later : List Taker = flat_map (own_file_takers content.link content.live) h.rest in
-          let mapped : map own_taker (live_of content.link content.live f) ≡ front ++ own_taker x ∷ map own_taker in_file.0
-          = ap (map own_taker) in_file.1 ∙ map-append own_taker (live_below content.link content.live f k) (x ∷ in_file.0) in
-          let whole : takers (plain_filling content) ≡ (before ++ front) ++ own_taker x ∷ (map own_taker in_file.0 ++ (commons ++ later))
-          = takers_split content done f h
-          ∙ ap (λ (ts : List Taker). before ++ ts) (append_assoc (map own_taker (live_of content.link content.live f)) commons later)
+          let later : List Taker = after_files content sizes h.rest in
+          let mapped : map (taker_by (size_in content.link sizes)) (live_of content.link content.live f) ≡ front ++ taker_by (size_in content.link sizes) x ∷ map (taker_by (size_in content.link sizes)) in_file.0
+          = ap (map (taker_by (size_in content.link sizes))) in_file.1 ∙ map-append (taker_by (size_in content.link sizes)) (live_below content.link content.live f k) (x ∷ in_file.0) in
+          let whole : takers (sized_filling content sizes) ≡ (before ++ front) ++ taker_by (size_in content.link sizes) x ∷ (map (taker_by (size_in content.link sizes)) in_file.0 ++ (commons ++ later))
+          = takers_split content sizes done f h
+          ∙ ap (λ (ts : List Taker). before ++ ts) (append_assoc (map (taker_by (size_in content.link sizes)) (live_of content.link content.live f)) commons later)
           ∙ ap (λ (ts : List Taker). before ++ (ts ++ (commons ++ later))) mapped
-          ∙ around before front (map own_taker in_file.0) (commons ++ later) (own_taker x) in
-          let goes : x.section.part < length starts = omega (arith, parts, live_goes_at content.link content.live (length (inputs_of done) + k) x good are at (mark ∙ set)) in
+          ∙ around before front (map (taker_by (size_in content.link sizes)) in_file.0) (commons ++ later) (taker_by (size_in content.link sizes) x) in
+          let goes : x.section.part < length starts = omega (arith, parts, live_goes_at content.link content.live (length (inputs_of done) + k) x good are at (and_left _ _ (mark ∙ set))) in
           omega (
             arith,
             passed.moved x.section.part (omega (arith, goes, ends_count content starts ends is)),
             end_at content starts ends x.section.part is goes,
             bytes_in-append content.link x.section.part before front,
-            section_behind (plain_filling content) starts (before ++ front) x (map own_taker in_file.0 ++ (commons ++ later))
-                (whole ∙ ap (λ (t : Taker). (before ++ front) ++ t ∷ (map own_taker in_file.0 ++ (commons ++ later))) (sym (own_taker_is content (length (inputs_of done) + k) x at))),
+            section_behind (sized_filling content sizes) starts (before ++ front) x (map (taker_by (size_in content.link sizes)) in_file.0 ++ (commons ++ later)) whole,
           )
       | false ↦ λ set. refl
     ]) refl
-    ∙ ap (λ b. if b then live_address (plain_filling content) starts x else 0) (sym mark)
+    ∙ ap (λ b. if b then live_address (sized_filling content sizes) starts x else 0) (sym mark)
 
-sections_are_placed : (content : Content) (starts ends : List ℕ) (done : List NumberedFile) (f : NumberedFile) (next : List ℕ) (h : IsNextFile content.link done f)
+sections_are_placed : (content : Content) (sizes : List ℕ) (starts ends : List ℕ) (done : List NumberedFile) (f : NumberedFile) (next : List ℕ) (h : IsNextFile content.link done f)
     → IsWellFormed content.link → AreLive content.link content.live → length starts ≡ length (all_parts content.link.plan.sections) → AreEnds content.link content.merged_lens starts ends
-    → ArePassed content.link ends (flat_map (own_file_takers content.link content.live) done) next
-    → section_places content.link content.live next f ≡ map (section_address (plain_filling content) starts) (enumerate_from (length (inputs_of done)) (sections_of_file f))
-sections_are_placed content starts ends done f next h good are parts is passed =
-    made_alike (section_place content.link content.live next f) (section_address (plain_filling content) starts) 0 (length (inputs_of done)) (sections_of_file f) (λ k x there.
+    → ArePassed content.link ends (flat_map (file_takers_by (size_in content.link sizes) content.link content.live) done) next
+    → section_places (size_in content.link sizes) content.link content.live next f ≡ map (early_address (sized_filling content sizes) starts) (enumerate_from (length (inputs_of done)) (sections_of_file f))
+sections_are_placed content sizes starts ends done f next h good are parts is passed =
+    made_alike (section_place (size_in content.link sizes) content.link content.live next f) (early_address (sized_filling content sizes) starts) 0 (length (inputs_of done)) (sections_of_file f) (λ k x there.
     let number : 0 + k ≡ k = omega arith in
-    ap (λ (n : ℕ). section_place content.link content.live next f (n, x)) number ∙ section_is content starts ends done f next h good are parts is passed k x there)
+    ap (λ (n : ℕ). section_place (size_in content.link sizes) content.link content.live next f (n, x)) number ∙ section_is content sizes starts ends done f next h good are parts is passed k x there)
 
 -- so have its commons
-common_is : (content : Content) (starts ends : List ℕ) (done : List NumberedFile) (f : NumberedFile) (next later : List ℕ) (h : IsNextFile content.link done f)
+common_is : (content : Content) (sizes : List ℕ) (starts ends : List ℕ) (done : List NumberedFile) (f : NumberedFile) (next later : List ℕ) (h : IsNextFile content.link done f)
     → IsWellFormed content.link → file_in content.link.groups f.id ≡ Some f.file → length starts ≡ length (all_parts content.link.plan.sections) → AreEnds content.link content.merged_lens starts ends
-    → ArePassed content.link ends (flat_map (own_file_takers content.link content.live) done) next → ArePassed content.link next (map own_taker (live_of content.link content.live f)) later
+    → ArePassed content.link ends (flat_map (file_takers_by (size_in content.link sizes) content.link content.live) done) next → ArePassed content.link next (map (taker_by (size_in content.link sizes)) (live_of content.link content.live f)) later
     → (k : ℕ) (c : Common) → slice_get (commons_of content.link content.live f) k ≡ Some c
-    → common_place content.link later (commons_of content.link content.live f) (k, c) ≡ told_common (plain_filling content) starts c
-common_is content starts ends done f next later h good in_link parts is passed sections k c there =
-    let before : List Taker = flat_map (own_file_takers content.link content.live) done in
+    → common_place content.link later (commons_of content.link content.live f) (k, c) ≡ told_common (sized_filling content sizes) starts c
+common_is content sizes starts ends done f next later h good in_link parts is passed sections k c there =
+    let before : List Taker = flat_map (file_takers_by (size_in content.link sizes) content.link content.live) done in
     let cs : List Common = commons_of content.link content.live f in
     let split = split_at cs k c there in
-    let own : List Taker = map own_taker (live_of content.link content.live f) in
+    let own : List Taker = map (taker_by (size_in content.link sizes)) (live_of content.link content.live f) in
     let front : List Taker = map common_taker (take k cs) in
     let rest : List Taker = map common_taker split.0 in
-    let behind : List Taker = flat_map (own_file_takers content.link content.live) h.rest in
+    let behind : List Taker = after_files content sizes h.rest in
     let mapped : map common_taker cs ≡ front ++ common_taker c ∷ rest = ap (map common_taker) split.1 ∙ map-append common_taker (take k cs) (c ∷ split.0) in
-    let in_file : own_file_takers content.link content.live f ≡ (own ++ front) ++ common_taker c ∷ rest
+    let in_file : file_takers_by (size_in content.link sizes) content.link content.live f ≡ (own ++ front) ++ common_taker c ∷ rest
     = ap (λ (ts : List Taker). own ++ ts) mapped ∙ sym (append_assoc own front (common_taker c ∷ rest)) in
-    let whole : takers (plain_filling content) ≡ (before ++ (own ++ front)) ++ common_taker c ∷ (rest ++ behind)
-    = takers_split content done f h
+    let whole : takers (sized_filling content sizes) ≡ (before ++ (own ++ front)) ++ common_taker c ∷ (rest ++ behind)
+    = takers_split content sizes done f h
     ∙ ap (λ (ts : List Taker). before ++ (ts ++ behind)) in_file
     ∙ around before (own ++ front) rest behind (common_taker c) in
     let goes : c.part < length starts = omega (arith, parts, common_goes content.link content.live f (take k cs) c split.0 good in_link split.1) in
-    let address : next_behind content.link later front c.part ≡ common_address (plain_filling content) starts c.part c.symbol
+    let address : next_behind content.link later front c.part ≡ common_address (sized_filling content sizes) starts c.part c.symbol
     = omega (
       arith,
       sections.moved c.part (omega (arith, goes, ends_count content starts ends is, passed.count)),
@@ -395,7 +409,7 @@ common_is content starts ends done f next later h good in_link parts is passed s
       end_at content starts ends c.part is goes,
       bytes_in-append content.link c.part before (own ++ front),
       bytes_in-append content.link c.part own front,
-      common_behind (plain_filling content) starts (before ++ (own ++ front)) c (rest ++ behind) whole,
+      common_behind (sized_filling content sizes) starts (before ++ (own ++ front)) c (rest ++ behind) whole,
     ) in
     let tell : ℕ → CommonAddress = λ a. record { symbol = c.symbol; address = a } in
     ap tell address
@@ -404,16 +418,16 @@ without_number : {X Y : Type 0} (g : X → Y) (n : ℕ) (xs : List X) → map (�
 without_number g n [] = refl
 without_number g n (x ∷ xs) = ap (λ (ys : List _). g x ∷ ys) (without_number g (n + 1) xs)
 
-commons_are_placed : (content : Content) (starts ends : List ℕ) (done : List NumberedFile) (f : NumberedFile) (next later : List ℕ) (h : IsNextFile content.link done f)
+commons_are_placed : (content : Content) (sizes : List ℕ) (starts ends : List ℕ) (done : List NumberedFile) (f : NumberedFile) (next later : List ℕ) (h : IsNextFile content.link done f)
     → IsWellFormed content.link → file_in content.link.groups f.id ≡ Some f.file → length starts ≡ length (all_parts content.link.plan.sections) → AreEnds content.link content.merged_lens starts ends
-    → ArePassed content.link ends (flat_map (own_file_takers content.link content.live) done) next → ArePassed content.link next (map own_taker (live_of content.link content.live f)) later
-    → common_places content.link later (commons_of content.link content.live f) ≡ map (told_common (plain_filling content) starts) (commons_of content.link content.live f)
-commons_are_placed content starts ends done f next later h good in_link parts is passed sections =
-    made_alike (common_place content.link later (commons_of content.link content.live f)) (λ (q : ℕ × Common). told_common (plain_filling content) starts q.1) 0 0 (commons_of content.link content.live f) (λ k c there.
+    → ArePassed content.link ends (flat_map (file_takers_by (size_in content.link sizes) content.link content.live) done) next → ArePassed content.link next (map (taker_by (size_in content.link sizes)) (live_of content.link content.live f)) later
+    → common_places content.link later (commons_of content.link content.live f) ≡ map (told_common (sized_filling content sizes) starts) (commons_of content.link content.live f)
+commons_are_placed content sizes starts ends done f next later h good in_link parts is passed sections =
+    made_alike (common_place content.link later (commons_of content.link content.live f)) (λ (q : ℕ × Common). told_common (sized_filling content sizes) starts q.1) 0 0 (commons_of content.link content.live f) (λ k c there.
     let number : 0 + k ≡ k = omega arith in
     ap (λ (n : ℕ). common_place content.link later (commons_of content.link content.live f) (n, c)) number
-    ∙ common_is content starts ends done f next later h good in_link parts is passed sections k c there)
-    ∙ without_number (told_common (plain_filling content) starts) 0 (commons_of content.link content.live f)
+    ∙ common_is content sizes starts ends done f next later h good in_link parts is passed sections k c there)
+    ∙ without_number (told_common (sized_filling content sizes) starts) 0 (commons_of content.link content.live f)
 
 -- numbers go on behind those of a first list
 numbered_append : {X : Type 0} (n : ℕ) (xs ys : List X) → enumerate_from n (xs ++ ys) ≡ enumerate_from n xs ++ enumerate_from (n + length xs) ys
@@ -423,45 +437,45 @@ numbered_append n (x ∷ xs) ys =
     ap (λ zs. (n, x) ∷ zs) (numbered_append (n + 1) xs ys ∙ ap (λ m. enumerate_from (n + 1) xs ++ enumerate_from m ys) e)
 
 -- with the next file
-pub file_done : (link : LinkInput) (live : Live) (merged_lens starts ends : List ℕ) (done : List NumberedFile) (f : NumberedFile) (next later last sections new_sections : List ℕ)
+pub file_done : (given : List ℕ) (link : LinkInput) (live : Live) (merged_lens starts ends : List ℕ) (done : List NumberedFile) (f : NumberedFile) (next later last sections new_sections : List ℕ)
     (commons new_commons : List CommonAddress) (h : IsNextFile link done f)
     → IsWellFormed link → AreLive link live → file_in link.groups f.id ≡ Some f.file → length starts ≡ length (all_parts link.plan.sections) → AreEnds link merged_lens starts ends
-    → AreDone link live merged_lens starts ends done next sections commons
-    → ArePassed link next (map own_taker (live_of link live f)) later → new_sections ≡ sections ++ section_places link live next f
+    → AreDone given link live merged_lens starts ends done next sections commons
+    → ArePassed link next (map (taker_by (size_in link given)) (live_of link live f)) later → new_sections ≡ sections ++ section_places (size_in link given) link live next f
     → ArePassed link later (map common_taker (commons_of link live f)) last → new_commons ≡ commons ++ common_places link later (commons_of link live f)
-    → AreDone link live merged_lens starts ends (done ++ f ∷ []) last new_sections new_commons
-file_done link live merged_lens starts ends done f next later last sections new_sections commons new_commons h good are in_link parts is so_far by_sections told_sections by_commons told_commons =
-    let before : List Taker = flat_map (own_file_takers link live) done in
+    → AreDone given link live merged_lens starts ends (done ++ f ∷ []) last new_sections new_commons
+file_done given link live merged_lens starts ends done f next later last sections new_sections commons new_commons h good are in_link parts is so_far by_sections told_sections by_commons told_commons =
+    let before : List Taker = flat_map (file_takers_by (size_in link given) link live) done in
     let n : ℕ = length (inputs_of done) in
     let zero_more : 0 + n ≡ n = omega arith in
     let inputs : inputs_of (done ++ f ∷ []) ≡ inputs_of done ++ sections_of_file f
     = flat_map-append sections_of_file done (f ∷ []) ∙ ap (λ (xs : List Input). inputs_of done ++ xs) (append-nil (sections_of_file f)) in
-    let takes : flat_map (own_file_takers link live) (done ++ f ∷ []) ≡ before ++ own_file_takers link live f
-    = flat_map-append (own_file_takers link live) done (f ∷ []) ∙ ap (λ (ts : List Taker). before ++ ts) (append-nil (own_file_takers link live f)) in
+    let takes : flat_map (file_takers_by (size_in link given) link live) (done ++ f ∷ []) ≡ before ++ file_takers_by (size_in link given) link live f
+    = flat_map-append (file_takers_by (size_in link given) link live) done (f ∷ []) ∙ ap (λ (ts : List Taker). before ++ ts) (append-nil (file_takers_by (size_in link given) link live f)) in
     let cs : flat_map (commons_of link live) (done ++ f ∷ []) ≡ flat_map (commons_of link live) done ++ commons_of link live f
     = flat_map-append (commons_of link live) done (f ∷ []) ∙ ap (λ (c : List Common). flat_map (commons_of link live) done ++ c) (append-nil (commons_of link live f)) in
     record {
       passed = subst (λ (ts : List Taker). ArePassed link ends ts last) (sym takes)
-          (passed_both link ends next last before (own_file_takers link live f) so_far.passed
-          (passed_both link next later last (map own_taker (live_of link live f)) (map common_taker (commons_of link live f)) by_sections by_commons));
+          (passed_both link ends next last before (file_takers_by (size_in link given) link live f) so_far.passed
+          (passed_both link next later last (map (taker_by (size_in link given)) (live_of link live f)) (map common_taker (commons_of link live f)) by_sections by_commons));
       addresses = λ sizes.
           let content : Content = content_of link sizes live merged_lens in
-          let filling : Filling = plain_filling content in
-          let g : ℕ × Input → ℕ = section_address filling starts in
+          let filling : Filling = sized_filling content given in
+          let g : ℕ × Input → ℕ = early_address filling starts in
           told_sections
-          ∙ ap (λ (ns : List ℕ). ns ++ section_places link live next f) (so_far.addresses sizes)
-          ∙ ap (λ (ns : List ℕ). map g (enumerate_from 0 (inputs_of done)) ++ ns) (sections_are_placed content starts ends done f next h good are parts is so_far.passed)
+          ∙ ap (λ (ns : List ℕ). ns ++ section_places (size_in link given) link live next f) (so_far.addresses sizes)
+          ∙ ap (λ (ns : List ℕ). map g (enumerate_from 0 (inputs_of done)) ++ ns) (sections_are_placed content given starts ends done f next h good are parts is so_far.passed)
           ∙ sym (ap (λ (xs : List Input). map g (enumerate_from 0 xs)) inputs
           ∙ ap (map g) (numbered_append 0 (inputs_of done) (sections_of_file f))
           ∙ map-append g (enumerate_from 0 (inputs_of done)) (enumerate_from (0 + n) (sections_of_file f))
           ∙ ap (λ (m : ℕ). map g (enumerate_from 0 (inputs_of done)) ++ map g (enumerate_from m (sections_of_file f))) zero_more);
       told = λ sizes.
           let content : Content = content_of link sizes live merged_lens in
-          let filling : Filling = plain_filling content in
+          let filling : Filling = sized_filling content given in
           let tell : Common → CommonAddress = told_common filling starts in
           told_commons
           ∙ ap (λ (c : List CommonAddress). c ++ common_places link later (commons_of link live f)) (so_far.told sizes)
-          ∙ ap (λ (c : List CommonAddress). map tell (flat_map (commons_of link live) done) ++ c) (commons_are_placed content starts ends done f next later h good in_link parts is so_far.passed by_sections)
+          ∙ ap (λ (c : List CommonAddress). map tell (flat_map (commons_of link live) done) ++ c) (commons_are_placed content given starts ends done f next later h good in_link parts is so_far.passed by_sections)
           ∙ sym (ap (map tell) cs ∙ map-append tell (flat_map (commons_of link live) done) (commons_of link live f));
     }
 
@@ -478,8 +492,9 @@ number_fits link f k first good in_link below is =
 -- the next section, with its number and its mark
 pub record IsSectionTurn (link : LinkInput) (live : Live) (f : NumberedFile) (marks : List Bool) (k : ℕ) (section : InputSection) (number : ℕ) : Type 0 where
   pub there : slice_get (sections_of_file f) k ≡ Some (record { file = f.id; index = k; section = section })
-  pub mark : lives link live (record { file = f.id; index = k; section = section }) ≡ is_marked marks number
-  pub goes : is_marked marks number ≡ true → section.part < length (all_parts link.plan.sections)
+  pub input : IsInput link (record { file = f.id; index = k; section = section })
+  pub mark : stands_in_file link live (record { file = f.id; index = k; section = section }) ≡ (is_marked marks number && not section.sorted)
+  pub goes : (is_marked marks number && not section.sorted) ≡ true → section.part < length (all_parts link.plan.sections)
 
 pub section_turn : (link : LinkInput) (live : Live) (f : NumberedFile) (sections : List InputSection) (marks : List Bool) (k : ℕ) (section : InputSection) (number : ℕ) → IsWellFormed link → AreLive link live
     → file_in link.groups f.id ≡ Some f.file → sections ≡ f.file.sections → marks ≡ live.marks → k < length sections → section ≡ get_or sections k section → number ≡ input_number link.groups f.id k
@@ -488,12 +503,21 @@ section_turn link live f sections marks k section number good are in_link all re
     let at : slice_get sections k ≡ Some section = slice_get-get_or sections k section below ∙ ap Some (sym is) in
     let there : slice_get f.file.sections k ≡ Some section = ap (λ (ss : List InputSection). slice_get ss k) (sym all) ∙ at in
     let x : Input = record { file = f.id; index = k; section = section } in
-    let mark : lives link live x ≡ is_marked marks number = ap (is_marked live.marks) (sym numbered) ∙ ap (λ (ms : List Bool). is_marked ms number) (sym read) in
+    let set : is_marked live.marks (input_number link.groups f.id k) ≡ is_marked marks number
+    = ap (is_marked live.marks) (sym numbered) ∙ ap (λ (ms : List Bool). is_marked ms number) (sym read) in
+    let mark : stands_in_file link live x ≡ (is_marked marks number && not section.sorted) = ap (λ b. b && not section.sorted) set in
     record {
       there = input_there f k section there;
+      input = inputs_follow.at link.groups f.id f.file k section in_link there;
       mark = mark;
-      goes = λ set. live_goes_at link live (input_number link.groups f.id k) x good are (inputs_follow.at link.groups f.id f.file k section in_link there) (mark ∙ set);
+      goes = λ stands. live_goes_at link live (input_number link.groups f.id k) x good are (inputs_follow.at link.groups f.id f.file k section in_link there) (set ∙ and_left _ _ stands);
     }
+
+-- the size that is told of it
+pub told_size : (link : LinkInput) (o : Option (Bor (List ℕ))) (n : ℕ) (x : Input) → IsInput link x → n ≡ input_number link.groups x.file x.index
+    → option_map_or (λ s. slice_index s.now n) o x.section.size ≡ size_in link (option_map_or (λ s. s.now) o (own_sizes link)) x
+told_size link None n x there is = sym (own_size_at link (input_number link.groups x.file x.index) x there)
+told_size link (Some s) n x there is = ap (slice_index s.now) is
 
 -- ---- ends
 

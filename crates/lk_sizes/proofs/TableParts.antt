@@ -11,15 +11,17 @@ use Rattle.lk_link.specs.PartRules.{is_part, is_table_part}
 use Rattle.lk_link.specs.Parts.{part_sections}
 use Rattle.lk_link.specs.WellFormed.{IsWellFormed}
 use Rattle.lk_link.proofs.GoodPartFields.{good_part_fields}
-use Rattle.lk_link.proofs.Elements.{append_at, filter_at, flat_map_at, flat_map_in, map_at}
+use Rattle.lk_link.proofs.Elements.{append_at, filter_at, flat_map_at, map_at}
 use Rattle.lk_gc.specs.declared.live.Live.{Live}
-use Rattle.lk_gc.specs.Reach.{AreLive, live_inputs}
+use Rattle.lk_gc.specs.Reach.{AreLive}
 use Rattle.lk_reach.proofs.Numbered.{file_at}
 use Rattle.lk_tables.specs.declared.commons.Common.{Common}
-use Rattle.lk_sizes.specs.Owners.{EntryOwner, Filling, IdentityOwner, ImageOwner, Owner, Taker, common_taker, commons_of, file_takers, has_image, identity_of, images_of, into, is_merged, live_of, owners_in, section_taker, takers, thunk_takers}
+use Rattle.lk_sizes.specs.Owners.{EntryOwner, Filling, IdentityOwner, ImageOwner, Owner, Taker, all_file_takers, common_taker, commons_of, file_takers, has_image, identity_of, images_of, into, is_merged, live_of, owners_in, section_taker, sorted_takers, takers, thunk_takers}
+use Rattle.lk_sizes.specs.Sorted.{sorted_inputs}
 use Rattle.lk_sizes.specs.PartOwners.{TablePartsHaveEntriesAlone, tables_of}
 use Rattle.lk_tables.specs.TableLists.{table_of}
-use Rattle.lk_sizes.proofs.Addressing.{live_by_files}
+use Rattle.lk_sizes.proofs.LiveByFiles.{unsorted_is_live}
+use Rattle.lk_sizes.proofs.SortedOnes.{sorted_at}
 use Rattle.lk_sizes.proofs.CommonOnes.{common_is_placed, is_common_in}
 use Rattle.lk_sizes.proofs.ImagePlaces.{any_at}
 use Rattle.lk_sizes.proofs.KeptOnes.{merged_good}
@@ -68,18 +70,17 @@ none_brought p (t ∷ ts) h = owners_in_other p t ts (h 0 t refl) ∙ none_broug
 primary_is_free : (link : LinkInput) (p : ℕ) → IsWellFormed link → link.plan.named.primary ≡ Some p → is_table_part link.plan.named p ≡ false
 primary_is_free link p good is = ((good_part_fields link good).primary p is).0.no_table
 
-goes_elsewhere : (filling : Filling) (p k : ℕ) (t : Taker) → IsWellFormed filling.content.link → AreLive filling.content.link filling.content.live
-    → is_table_part filling.content.link.plan.named p ≡ true → slice_get (takers filling) k ≡ Some t → t.part ≡ p → ⊥
-goes_elsewhere filling p k t good are table there same =
+file_goes_elsewhere : (filling : Filling) (p k : ℕ) (t : Taker) → IsWellFormed filling.content.link → AreLive filling.content.link filling.content.live
+    → is_table_part filling.content.link.plan.named p ≡ true → slice_get (all_file_takers filling) k ≡ Some t → t.part ≡ p → ⊥
+file_goes_elsewhere filling p k t good are table there same =
     let link : LinkInput = filling.content.link in
     let live : Live = filling.content.live in
     let at = flat_map_at (file_takers filling) (numbered_files link.groups) k t there in
     elim (append_at (map (section_taker filling) (live_of link live at.from)) (map common_taker (commons_of link live at.from) ++ thunk_takers filling at.from) at.inner t at.gives) [
       | inl section ↦
           let from = map_at (section_taker filling) (live_of link live at.from) at.inner t section in
-          let whole = flat_map_in (live_of link live) (numbered_files link.groups) at.outer at.inner at.from from.0 at.there from.1 in
-          let lives : slice_get (live_inputs link live) whole.0 ≡ Some from.0 = ap (λ (xs : List Input). slice_get xs whole.0) (sym (live_by_files link live)) ∙ whole.1 in
-          elsewhere link.plan.named p from.0.section.part table (live_good link live whole.0 from.0 good are lives).1.to_no_table (ap (λ (u : Taker). u.part) from.2 ∙ same)
+          let lives = unsorted_is_live link live at.outer at.from at.inner from.0 at.there from.1 in
+          elsewhere link.plan.named p from.0.section.part table (live_good link live lives.0 from.0 good are lives.1).1.to_no_table (ap (λ (u : Taker). u.part) from.2 ∙ same)
       | inr behind ↦ elim (append_at (map common_taker (commons_of link live at.from)) (thunk_takers filling at.from) behind.0 t behind.2) [
         | inl common ↦
             let from = map_at common_taker (commons_of link live at.from) behind.0 t common in
@@ -90,6 +91,19 @@ goes_elsewhere filling p k t good are table there same =
             let is = one_block filling at.from thunk.0 t thunk.2 in
             elsewhere link.plan.named p t.part table (primary_is_free link t.part good is.primary) same
       ]
+    ]
+
+goes_elsewhere : (filling : Filling) (p k : ℕ) (t : Taker) → IsWellFormed filling.content.link → AreLive filling.content.link filling.content.live
+    → is_table_part filling.content.link.plan.named p ≡ true → slice_get (takers filling) k ≡ Some t → t.part ≡ p → ⊥
+goes_elsewhere filling p k t good are table there same =
+    let link : LinkInput = filling.content.link in
+    let live : Live = filling.content.live in
+    elim (append_at (all_file_takers filling) (sorted_takers filling) k t there) [
+      | inl files ↦ file_goes_elsewhere filling p k t good are table files same
+      | inr sorted ↦
+          let from = map_at (section_taker filling) (sorted_inputs link live) sorted.0 t sorted.2 in
+          let lives = sorted_at link live sorted.0 from.0 from.1 in
+          elsewhere link.plan.named p from.0.section.part table (live_good link live lives.place from.0 good are lives.there).1.to_no_table (ap (λ (u : Taker). u.part) from.2 ∙ same)
     ]
 
 pub table_parts_have_entries_alone : TablePartsHaveEntriesAlone

@@ -14,7 +14,7 @@ use Rattle.lk_link.specs.Inputs.{Input, NumberedFile}
 use Rattle.lk_link.specs.Parts.{part_at}
 use Rattle.lk_reach.proofs.LiveWalk.{split_at}
 use Rattle.lk_sizes.specs.Owners.{Owner, SectionOwner, Taker, bytes_of, into, owner_bytes, owners_in}
-use Rattle.lk_sizes.specs.Tables.{ArePassed, HaveSpace, bytes_in, next_behind, own_taker}
+use Rattle.lk_sizes.specs.Tables.{ArePassed, HaveSpace, bytes_in, next_behind, taker_by}
 
 pub owners_in-append : (p : ℕ) (ts us : List Taker) → owners_in p (ts ++ us) ≡ owners_in p ts ++ owners_in p us
 owners_in-append p ts us =
@@ -145,15 +145,15 @@ finish_of {X} {Y} f all s t u done begins yielded next =
 
 -- ---- sections as takers
 
--- a section with the size of the description
-abbrev pub section_owner : Input → Owner
-section_owner x = SectionOwner x x.section.size
+-- a section with its size
+abbrev pub sized_owner : (Input → ℕ) → Input → Owner
+sized_owner size x = SectionOwner x (size x)
 
-pub owners_in_sections : (p : ℕ) (xs : List Input) → owners_in p (map own_taker xs) ≡ map section_owner (into p xs)
-owners_in_sections p [] = refl
-owners_in_sections p (x ∷ xs) =
-    let rest : List Taker = filter (λ (u : Taker). u.part == p) (map own_taker xs) in
-    elim (x.section.part == p) as (λ b. map (λ (u : Taker). u.owner) (cond b (own_taker x ∷ rest) rest) ≡ map section_owner (cond b (x ∷ into p xs) (into p xs))) [
-      | true ↦ ap (λ (os : List Owner). section_owner x ∷ os) (owners_in_sections p xs)
-      | false ↦ owners_in_sections p xs
+pub owners_in_sections : (size : Input → ℕ) (p : ℕ) (xs : List Input) → owners_in p (map (taker_by size) xs) ≡ map (sized_owner size) (into p xs)
+owners_in_sections size p [] = refl
+owners_in_sections size p (x ∷ xs) =
+    let rest : List Taker = filter (λ (u : Taker). u.part == p) (map (taker_by size) xs) in
+    elim (x.section.part == p) as (λ b. map (λ (u : Taker). u.owner) (cond b (taker_by size x ∷ rest) rest) ≡ map (sized_owner size) (cond b (x ∷ into p xs) (into p xs))) [
+      | true ↦ ap (λ (os : List Owner). sized_owner size x ∷ os) (owners_in_sections size p xs)
+      | false ↦ owners_in_sections size p xs
     ]

@@ -1,10 +1,10 @@
 -- The blocks of thunks that files own: one of a file at most, in the primary part.
-use Rattle.std.proofs.Common.{◌≡◌, ℕ, zero, suc, [], ◌∷◌, Option, None, Some, refl, subst, ap, ◌∙◌}
+use Rattle.std.proofs.Common.{◌≡◌, ℕ, zero, suc, List, [], ◌∷◌, Option, None, Some, refl, subst, ap, ◌∙◌}
 use Rattle.std.specs.Prelude.{option_and_then, option_map}
 use Rattle.std.specs.List.{cons_option, filter_map, slice_get}
 use Rattle.std.specs.Option.{option_to_list}
 use Rattle.lk_link.specs.Inputs.{NumberedFile}
-use Rattle.lk_sizes.specs.Owners.{Content, Filling, Taker, ThunkOwner, plain_filling, thunk_bytes, thunk_taker, thunk_takers}
+use Rattle.lk_sizes.specs.Owners.{Content, Filling, Taker, ThunkOwner, sized_filling, thunk_bytes, thunk_taker, thunk_takers}
 
 -- what a taker is where it is a file's block
 pub record IsBlock (filling : Filling) (f : NumberedFile) (t : Taker) : Type 0 where
@@ -33,8 +33,8 @@ block_there filling f p size is of =
     ∙ ap (λ (bytes : Option ℕ). option_to_list (option_map (thunk_taker f.id p) bytes)) of
 
 -- without thunks there is none
-pub no_blocks : (content : Content) (f : NumberedFile) → thunk_takers (plain_filling content) f ≡ []
-no_blocks content f =
+pub no_blocks : (content : Content) (sizes : List ℕ) (f : NumberedFile) → thunk_takers (sized_filling content sizes) f ≡ []
+no_blocks content sizes f =
     elim content.link.plan.named.primary as (λ part. option_to_list (option_and_then (λ p. option_map (thunk_taker f.id p) None) part) ≡ []) [
       | None ↦ refl
       | Some p ↦ refl

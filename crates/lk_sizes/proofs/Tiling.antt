@@ -19,7 +19,8 @@ use Rattle.lk_link.proofs.Powers.{alignment-pos}
 use Rattle.lk_link.specs.Sizes.{capacity}
 use Rattle.lk_link.proofs.Starts.{next_multiple_is_least}
 use Rattle.lk_link.specs.WellFormed.{IsWellFormed}
-use Rattle.lk_sizes.specs.Owners.{EntryOwner, Filling, IdentityOwner, ImageOwner, Owner, Taker, bytes_of, common_taker, commons_of, content_owners, file_takers, has_image, identity_of, identity_size, images_of, leading_of, live_of, owner_address, owner_bytes, owners_in, section_taker, size_of, takers, thunk_bytes, thunk_taker, thunk_takers}
+use Rattle.lk_sizes.specs.Owners.{EntryOwner, Filling, IdentityOwner, ImageOwner, Owner, Taker, all_file_takers, bytes_of, common_taker, commons_of, content_owners, file_takers, has_image, identity_of, identity_size, images_of, leading_of, live_of, owner_address, owner_bytes, owners_in, section_taker, size_of, sorted_takers, takers, thunk_bytes, thunk_taker, thunk_takers}
+use Rattle.lk_sizes.specs.Sorted.{sorted_inputs}
 use Rattle.lk_sizes.specs.PartOwners.{owners_of, tables_of}
 use Rattle.lk_tables.specs.declared.commons.Common.{Common}
 use Rattle.lk_gc.specs.declared.live.Live.{Live}
@@ -205,5 +206,7 @@ owners_are_aligned filling p k good free unpacked =
     = all_joined (IsRounded part) (leading_of filling.content.link filling.content.merged_lens p) brought
     (of_leading (IsRounded part) filling.content.link filling.content.merged_lens p
     (record { image = λ section len. rounded part len unpacked above; identity = λ size. rounded part size unpacked above }))
-    (of_takers (IsRounded part) p (takers filling) (rounded_takers part filling (numbered_files filling.content.link.groups) unpacked above)) in
+    (of_takers (IsRounded part) p (takers filling) (all_joined (λ (t : Taker). IsRounded part t.owner) (all_file_takers filling) (sorted_takers filling)
+    (rounded_takers part filling (numbered_files filling.content.link.groups) unpacked above)
+    (rounded_sections part filling (sorted_inputs filling.content.link filling.content.live) unpacked above))) in
     subst (λ (os : List Owner). part.alignment ∣ bytes_of part (take k os)) (sym none) (aligned part own k all)

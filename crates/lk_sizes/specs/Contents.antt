@@ -34,6 +34,13 @@ pub record AreContentTotals (filling : Filling) (totals : List PartTotal) : Type
   pub count : length totals ≡ length (all_parts filling.content.link.plan.sections)
   pub each : (p : ℕ) (total : PartTotal) → slice_get totals p ≡ Some total → IsContentTotal filling p total
 
+-- these are the sizes of the parts, with what else comes into them; sums are told apart below 2^64
+pub record AreSums (filling : Filling) (totals : List PartTotal) : Type 0 where
+  pub count : length totals ≡ length (all_parts filling.content.link.plan.sections)
+  pub bytes : (p : ℕ) (total : PartTotal) → slice_get totals p ≡ Some total → min total.bytes (2 ^ 64) ≡ min (part_size filling p) (2 ^ 64)
+  pub image : (p : ℕ) (total : PartTotal) → slice_get totals p ≡ Some total → total.has_image ≡ has_image filling.content.link p
+  pub attrs : (p : ℕ) (total : PartTotal) → slice_get totals p ≡ Some total → total.attrs ≡ part_attributes filling.content.link filling.content.live p
+
 -- the first part at which the sizes pass 2^64 - 1 together is refused
 abbrev pub sum_refusal : Filling → Option SizeError
 sum_refusal filling = option_map (λ p. AddressOverflow (Part p)) (overflowing_part (part_sizes filling))

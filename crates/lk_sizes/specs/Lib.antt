@@ -2,6 +2,7 @@ pub mod Addresses
 pub mod Attributes
 pub mod Contents
 pub mod Emitted
+pub mod Harvest
 pub mod Header
 pub mod Images
 pub mod Kept
@@ -9,5 +10,7 @@ pub mod Owners
 pub mod OwnersRecord
 pub mod PartOwners
 pub mod Sizing
+pub mod Sorted
 pub mod Tables
+pub mod ThunkSums
 pub mod Tiles

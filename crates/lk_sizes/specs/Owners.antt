@@ -1,6 +1,6 @@
 -- What goes into the output, and who takes the bytes of a part, but for entries of tables that wait for the emitted sections.
 use Rattle.std.specs.Prelude.{◌≡◌, ℕ, ◌+◌, ◌<◌, ◌==◌, ◌&&◌, Bool, if◌then◌else◌, List, length, take, map, filter}
-use Rattle.std.specs.Prelude.{[], ◌∷◌, ◌++◌, true, sum_by, slice_index, Option, Some, None, find, nat_lt, option_and_then, option_map}
+use Rattle.std.specs.Prelude.{[], ◌∷◌, ◌++◌, true, not, sum_by, slice_index, Option, Some, None, IsSome, find, nat_lt, option_and_then, option_map}
 use Rattle.std.specs.List.{enumerate_from, flat_map, list_any, slice_get}
 use Rattle.std.specs.Option.{option_to_list}
 use Rattle.lk_link.specs.declared.ids.FileId.{FileId}
@@ -15,7 +15,7 @@ use Rattle.lk_link.specs.Marks.{is_marked}
 use Rattle.lk_link.specs.PartRules.{is_part}
 use Rattle.lk_link.specs.Parts.{all_parts, part_at, part_sections}
 use Rattle.lk_link.specs.Sizes.{capacity}
-use Rattle.lk_link.specs.Symbols.{first_symbol}
+use Rattle.lk_link.specs.Symbols.{file_number, first_symbol}
 use Rattle.lk_link.specs.TableSizes.{TableSizes}
 use Rattle.lk_gc.specs.declared.live.Live.{Live}
 use Rattle.lk_gc.specs.Reach.{live_inputs}
@@ -25,6 +25,7 @@ use Rattle.lk_tables.specs.Copied.{is_wanted}
 use Rattle.lk_tables.specs.Late.{flags_at}
 use Rattle.lk_tables.specs.SymbolTable.{TableEntry}
 use Rattle.lk_tables.specs.TableLists.{first_tables, table_of}
+use Rattle.lk_sizes.specs.Sorted.{sorted_inputs}
 
 -- what goes into the output of a link: what tables take on a machine, the live sections, and the merged images of output
 -- sections, by their lengths
@@ -49,13 +50,21 @@ pub record Filling : Type 0 where
 unfoldable pub own_sizes : LinkInput → List ℕ
 own_sizes link = map (λ x. x.section.size) (all_inputs link.groups)
 
--- with these, and without thunks
+-- without thunks, with these sizes
+abbrev pub sized_filling : Content → List ℕ → Filling
+sized_filling content sizes = record { content = content; thunks = []; sizes = sizes }
+
+-- and with those of the description
 abbrev pub plain_filling : Content → Filling
-plain_filling content = record { content = content; thunks = []; sizes = own_sizes content.link }
+plain_filling content = sized_filling content (own_sizes content.link)
 
 -- one without its thunks
 abbrev pub without_thunks : Filling → Filling
 without_thunks filling = record filling { thunks = [] }
+
+-- and with these
+abbrev pub with_thunks : Filling → List (FileId × ℕ) → Filling
+with_thunks filling thunks = record filling { thunks = thunks }
 
 -- the same for this link
 abbrev pub in_link : LinkInput → Filling → Filling
@@ -68,6 +77,12 @@ into p inputs = filter (λ x. x.section.part == p) inputs
 -- the live sections that go to a part, by file and index
 abbrev pub live_into : LinkInput → Live → ℕ → List Input
 live_into link live p = into p (live_inputs link live)
+
+-- these are the bytes of blocks of thunks: each of a file of the link that owns it, in the order of files
+pub record AreThunkOwners (link : LinkInput) (thunks : List (FileId × ℕ)) : Type 0 where
+  pub there : (k : ℕ) (q : FileId × ℕ) → slice_get thunks k ≡ Some q → IsSome (file_in link.groups q.0)
+  pub rising : (j k : ℕ) (q r : FileId × ℕ) → j < k → slice_get thunks j ≡ Some q → slice_get thunks k ≡ Some r
+      → file_number link.groups q.0 < file_number link.groups r.0
 
 -- ---- images
 
@@ -120,7 +135,7 @@ identity_of link p = option_to_list (option_map IdentityOwner (identity_size lin
 abbrev pub leading_of : LinkInput → List ℕ → ℕ → List Owner
 leading_of link merged_lens p = images_of link merged_lens p ++ identity_of link p
 
--- ---- what files bring
+-- ---- what files bring, and sorted sections
 
 -- one that takes bytes behind what leads in a part
 pub record Taker : Type 0 where
@@ -128,16 +143,24 @@ pub record Taker : Type 0 where
   pub owner : Owner
 
 -- the size of an input section, by those of all
+abbrev pub size_in : LinkInput → List ℕ → Input → ℕ
+size_in link sizes x = slice_index sizes (input_number link.groups x.file x.index)
+
+-- that in a filling
 abbrev pub size_of : Filling → Input → ℕ
-size_of filling x = slice_index filling.sizes (input_number filling.content.link.groups x.file x.index)
+size_of filling x = size_in filling.content.link filling.sizes x
 
 -- a section with its size, in the part that it goes to
 abbrev pub section_taker : Filling → Input → Taker
 section_taker filling x = record { part = x.section.part; owner = SectionOwner x (size_of filling x) }
 
--- the live sections of a file, by index
+-- whether an input section stands with its file: it is live, and isn't sorted
+abbrev pub stands_in_file : LinkInput → Live → Input → Bool
+stands_in_file link live x = is_marked live.marks (input_number link.groups x.file x.index) && not x.section.sorted
+
+-- those sections of a file, by index
 abbrev pub live_of : LinkInput → Live → NumberedFile → List Input
-live_of link live f = filter (λ x. is_marked live.marks (input_number link.groups x.file x.index)) (inputs_from f.id 0 f.file.sections)
+live_of link live f = filter (stands_in_file link live) (inputs_from f.id 0 f.file.sections)
 
 -- a common with its size, in its part
 abbrev pub common_taker : Common → Taker
@@ -157,21 +180,29 @@ thunk_takers filling f =
     let primary = filling.content.link.plan.named.primary in
     option_to_list (option_and_then (λ p. option_map (thunk_taker f.id p) (thunk_bytes filling f.id)) primary)
 
--- what takes bytes for a file: its live sections, then its commons, then the block of thunks that it owns
+-- what takes bytes for a file: its live sections that aren't sorted, then its commons, then the block of thunks that it owns
 abbrev pub file_takers : Filling → NumberedFile → List Taker
 file_takers filling f =
     map (section_taker filling) (live_of filling.content.link filling.content.live f)
     ++ (map common_taker (commons_of filling.content.link filling.content.live f) ++ thunk_takers filling f)
 
 -- file by file
+abbrev pub all_file_takers : Filling → List Taker
+all_file_takers filling = flat_map (file_takers filling) (numbered_files filling.content.link.groups)
+
+-- the live sorted sections, in the order of their names
+abbrev pub sorted_takers : Filling → List Taker
+sorted_takers filling = map (section_taker filling) (sorted_inputs filling.content.link filling.content.live)
+
+-- all that takes bytes behind what leads: what files bring, and the sorted sections behind that
 abbrev pub takers : Filling → List Taker
-takers filling = flat_map (file_takers filling) (numbered_files filling.content.link.groups)
+takers filling = all_file_takers filling ++ sorted_takers filling
 
 -- those that take bytes of this part
 abbrev pub owners_in : ℕ → List Taker → List Owner
 owners_in p ts = map (λ t. t.owner) (filter (λ t. t.part == p) ts)
 
--- the owners of a part that are no entries of tables, in order: what leads, then what files bring
+-- the owners of a part that are no entries of tables, in order: what leads, what files bring, then the sorted sections
 abbrev pub content_owners : Filling → ℕ → List Owner
 content_owners filling p = leading_of filling.content.link filling.content.merged_lens p ++ owners_in p (takers filling)
 

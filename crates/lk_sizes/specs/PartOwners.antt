@@ -15,13 +15,13 @@ use Rattle.lk_link.specs.WellFormed.{IsWellFormed}
 use Rattle.lk_gc.specs.Reach.{AreLive, live_inputs}
 use Rattle.lk_tables.specs.SymbolTable.{TableEntry}
 use Rattle.lk_tables.specs.TableLists.{TableLists, table_of, whole_tables}
-use Rattle.lk_sizes.specs.Emitted.{active_segments, emitted_marks}
+use Rattle.lk_sizes.specs.Emitted.{active_segments, emitted_marks, told_marks}
 use Rattle.lk_sizes.specs.Owners.{CommonOwner, Content, EntryOwner, Filling, IdentityOwner, ImageOwner, IsCommonIn, Owner, SectionOwner, ThunkOwner, by_part, bytes_of, content_owners, has_image, identity_size, images_of, owner_address, size_of, thunk_bytes}
 
--- the tables of the output, by which sections are emitted and which segments are active
+-- the tables of the output, by the sections whose edges are told, those that are emitted and the active segments
 abbrev pub tables_of : Content → TableLists
 tables_of content =
-    whole_tables content.sizes content.link content.live (emitted_marks content) (emitted_marks content) (active_segments content)
+    whole_tables content.sizes content.link content.live (told_marks content) (emitted_marks content) (active_segments content)
 
 -- the owners of a part, in order: those of its content, then the entries of tables there
 abbrev pub owners_of : Filling → ℕ → List Owner

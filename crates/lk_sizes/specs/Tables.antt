@@ -1,12 +1,13 @@
 -- What the code goes by: lists by part, and marks of sections. Contracts of private functions speak of these.
-use Rattle.std.specs.Prelude.{◌≡◌, ℕ, ◌+◌, ◌-◌, ◌^◌, ◌<◌, ◌&&◌, ◌||◌, not, Bool, if◌then◌else◌, List, ◌∷◌, ◌++◌, Some, filter, length, map, min, nat_le, position, slice_get, slice_index, slice_range, take, unwrap_or}
-use Rattle.std.specs.List.{enumerate_from, flat_map, slice_index_or}
+use Rattle.std.specs.Prelude.{◌≡◌, ℕ, ◌+◌, ◌-◌, ◌^◌, ◌<◌, ◌==◌, ◌&&◌, ◌||◌, not, Bool, if◌then◌else◌, List, ◌∷◌, ◌++◌, Some, IsSome, filter, length, map, min, nat_le, position, slice_get, slice_index, slice_range, sum_by, take, unwrap_or}
+use Rattle.std.specs.List.{enumerate_from, flat_map, list_any, slice_index_or}
 use Rattle.std.specs.Option.{option_map_or}
 use Rattle.lk_link.specs.declared.link.LinkInput.{LinkInput}
 use Rattle.lk_link.specs.declared.plan.NamedParts.{NamedParts}
 use Rattle.lk_link.specs.declared.plan.OrderEvent.{OrderEvent}
 use Rattle.lk_link.specs.declared.plan.PlanSection.{PlanSection}
-use Rattle.lk_link.specs.Inputs.{Input, NumberedFile, input_number, inputs_from, numbered_files}
+use Rattle.lk_link.specs.Files.{file_in}
+use Rattle.lk_link.specs.Inputs.{Input, NumberedFile, all_inputs, input_number, inputs_from, numbered_files}
 use Rattle.lk_link.specs.Inside.{placed_section}
 use Rattle.lk_link.specs.Marks.{is_marked}
 use Rattle.lk_link.specs.OutputKinds.{is_partial}
@@ -19,7 +20,8 @@ use Rattle.lk_sizes.specs.declared.addresses.CommonAddress.{CommonAddress}
 use Rattle.lk_tables.specs.declared.commons.Common.{Common}
 use Rattle.lk_sizes.specs.declared.owners.PartTotal.{PartTotal}
 use Rattle.lk_sizes.specs.Emitted.{has_content, is_told}
-use Rattle.lk_sizes.specs.Owners.{SectionOwner, Taker, bytes_of, common_taker, commons_of, leading_of, live_of, owners_in}
+use Rattle.lk_sizes.specs.declared.sorted.InputSortedSection.{InputSortedSection}
+use Rattle.lk_sizes.specs.Owners.{SectionOwner, Taker, bytes_of, common_taker, commons_of, leading_of, live_of, owners_in, stands_in_file}
 
 -- of what is listed by part, that of a section's parts
 abbrev pub in_section : {X : Type 0} → List PlanSection → ℕ → List X → List X
@@ -33,21 +35,25 @@ edges_by link emitted s = is_marked emitted s && (not (is_partial link.options.o
 abbrev pub placed_count : List Bool → OrderEvent → ℕ
 placed_count emitted e = option_map_or (λ s. if is_marked emitted s then 1 else 0) (placed_section e) 0
 
+-- it is one of the link's input sections
+abbrev pub IsInput : LinkInput → Input → Type 0
+IsInput link x = slice_get (all_inputs link.groups) (input_number link.groups x.file x.index) ≡ Some x
+
 -- the bytes that some takers bring to a part
 abbrev pub bytes_in : LinkInput → ℕ → List Taker → ℕ
 bytes_in link p ts = bytes_of (part_at link.plan.sections p) (owners_in p ts)
 
--- a section with the size that it has in the description, in the part that it goes to
-abbrev pub own_taker : Input → Taker
-own_taker x = record { part = x.section.part; owner = SectionOwner x x.section.size }
+-- a section with its size, in the part that it goes to
+abbrev pub taker_by : (Input → ℕ) → Input → Taker
+taker_by size x = record { part = x.section.part; owner = SectionOwner x (size x) }
 
--- what takes bytes for a file where sections have such sizes
-abbrev pub own_file_takers : LinkInput → Live → NumberedFile → List Taker
-own_file_takers link live f = map own_taker (live_of link live f) ++ map common_taker (commons_of link live f)
+-- what takes bytes for a file where sections have such sizes, and it owns no block of thunks
+abbrev pub file_takers_by : (Input → ℕ) → LinkInput → Live → NumberedFile → List Taker
+file_takers_by size link live f = map (taker_by size) (live_of link live f) ++ map common_taker (commons_of link live f)
 
--- the bytes that live sections of such sizes bring to a part
-abbrev pub live_size : LinkInput → Live → ℕ → ℕ
-live_size link live p = bytes_in link p (map own_taker (live_inputs link live))
+-- the bytes that live sections of these sizes bring to a part
+abbrev pub live_size : (Input → ℕ) → LinkInput → Live → ℕ → ℕ
+live_size size link live p = bytes_in link p (map (taker_by size) (live_inputs link live))
 
 -- the bytes that commons bring to a part
 abbrev pub commons_size : LinkInput → ℕ → List Common → ℕ
@@ -90,20 +96,56 @@ pub record ArePassed (link : LinkInput) (old : List ℕ) (ts : List Taker) (new 
   pub count : length new ≡ length old
   pub moved : (p : ℕ) → p < length old → slice_index new p ≡ next_behind link old ts p
 
--- the sections of a file with the first numbers that are live
+-- those of the first sections of a file that are live and aren't sorted
 abbrev pub live_below : LinkInput → Live → NumberedFile → ℕ → List Input
-live_below link live f k =
-    filter (λ x. is_marked live.marks (input_number link.groups x.file x.index)) (take k (inputs_from f.id 0 f.file.sections))
+live_below link live f k = filter (stands_in_file link live) (take k (inputs_from f.id 0 f.file.sections))
 
--- the next address for each section of a file that is live; 0 for others
-abbrev pub section_place : LinkInput → Live → List ℕ → NumberedFile → ℕ × Input → ℕ
-section_place link live next f q =
-    if is_marked live.marks (input_number link.groups q.1.file q.1.index)
-    then next_behind link next (map own_taker (live_below link live f q.0)) q.1.section.part
+-- the next address for each section of a file that is live and isn't sorted; 0 for others
+abbrev pub section_place : (Input → ℕ) → LinkInput → Live → List ℕ → NumberedFile → ℕ × Input → ℕ
+section_place size link live next f q =
+    if stands_in_file link live q.1
+    then next_behind link next (map (taker_by size) (live_below link live f q.0)) q.1.section.part
     else 0
 
-abbrev pub section_places : LinkInput → Live → List ℕ → NumberedFile → List ℕ
-section_places link live next f = map (section_place link live next f) (enumerate_from 0 (inputs_from f.id 0 f.file.sections))
+abbrev pub section_places : (Input → ℕ) → LinkInput → Live → List ℕ → NumberedFile → List ℕ
+section_places size link live next f = map (section_place size link live next f) (enumerate_from 0 (inputs_from f.id 0 f.file.sections))
+
+-- the number of a sorted section over all files
+abbrev pub sorted_number : LinkInput → InputSortedSection → ℕ
+sorted_number link s = input_number link.groups s.file_id s.section_index
+
+-- the bytes that some of them take in a part
+abbrev pub sorted_bytes : ℕ → List InputSortedSection → ℕ
+sorted_bytes p ss = sum_by (λ s. s.size) (filter (λ s. s.part_id == p) ss)
+
+-- each is one of the link's sections, and goes to one of so many parts
+pub record IsSortedThere (link : LinkInput) (parts : ℕ) (s : InputSortedSection) : Type 0 where
+  pub file : IsSome (file_in link.groups s.file_id)
+  pub number : sorted_number link s < length (all_inputs link.groups)
+  pub part : s.part_id < parts
+
+abbrev pub AreSortedThere : LinkInput → ℕ → List InputSortedSection → Type 0
+AreSortedThere link parts ss = (k : ℕ) (s : InputSortedSection) → slice_get ss k ≡ Some s → IsSortedThere link parts s
+
+-- there is space for them in each part
+abbrev pub HaveSortedSpace : List ℕ → List InputSortedSection → Type 0
+HaveSortedSpace next ss = (p : ℕ) → p < length next → slice_index next p + sorted_bytes p ss < 2 ^ 64
+
+-- each gets the next address of its part, and that is what a table has for it
+abbrev pub AreTheirs : LinkInput → (ℕ → ℕ) → List ℕ → List InputSortedSection → Type 0
+AreTheirs link table next ss = (k : ℕ) (s : InputSortedSection) → slice_get ss k ≡ Some s
+    → table (sorted_number link s) ≡ slice_index next s.part_id + sorted_bytes s.part_id (take k ss)
+
+-- what that table has for them was written into another, and nothing else
+pub record AreWritten (link : LinkInput) (table : ℕ → ℕ) (ss : List InputSortedSection) (old new : List ℕ) : Type 0 where
+  pub count : length new ≡ length old
+  pub each : (n : ℕ) → n < length old
+      → slice_index new n ≡ (if list_any (λ s. sorted_number link s == n) ss then table n else slice_index old n)
+
+-- the next addresses are behind these sorted sections
+pub record AreBehind (old : List ℕ) (ss : List InputSortedSection) (new : List ℕ) : Type 0 where
+  pub count : length new ≡ length old
+  pub moved : (p : ℕ) → p < length old → slice_index new p ≡ slice_index old p + sorted_bytes p ss
 
 -- the next address for each of these commons
 abbrev pub common_place : LinkInput → List ℕ → List Common → ℕ × Common → CommonAddress

@@ -1,15 +1,17 @@
 //! The addresses of live sections and commons.
 //!
 //! The owners of a part stand one behind the other from the part's start: its merged image and the identity, then file by file the
-//! live sections and the commons. A table holds the next address of each part, at first the end of what leads; one pass over the files gives
-//! each live section and each common the next address of its part, which moves on by the bytes that it takes.
+//! live sections that aren't sorted and the commons, last the sorted sections. A table holds the next address of each part, at first the end
+//! of what leads; one pass over the files gives each of these sections and each common the next address of its part, which moves on by the
+//! bytes that it takes, and a pass over the sorted sections does the same.
 
-ghost use Rattle.std.specs.Prelude.{◌≡◌, ◌+◌, ◌-◌, ◌^◌, ◌<◌, ◌++◌, ℕ, if◌then◌else◌, IfOk, IfSome, IsTrue, OnOk, Some, length, map, slice_index};
+ghost use Rattle.std.specs.Prelude.{◌≡◌, ◌+◌, ◌-◌, ◌^◌, ◌<◌, ◌++◌, ◌&&◌, not, ℕ, if◌then◌else◌, IfOk, IfSome, IsTrue, OnOk, Some, length, map, slice_index};
 ghost use Rattle.std.specs.List.{enumerate_from, filter_map, range_with_len};
 ghost use Rattle.std.specs.Option.{option_map_or};
 ghost use Rattle.lk_link.specs.Alignments.{is_alignment};
 ghost use Rattle.lk_link.specs.Files.{file_in};
-ghost use Rattle.lk_link.specs.Inputs.{first_input};
+ghost use Rattle.lk_link.specs.Inputs.{all_inputs, first_input};
+ghost use Rattle.lk_link.specs.Marks.{is_marked};
 ghost use Rattle.lk_link.specs.Parts.{all_parts};
 ghost use Rattle.lk_link.specs.Sizes.{capacity};
 ghost use Rattle.lk_link.specs.TableSizes.{TableSizes};
@@ -18,15 +20,17 @@ ghost use Rattle.lk_link.specs.WellFormed.{IsWellFormed};
 ghost use Rattle.lk_gc.specs.Reach.{AreLive};
 ghost use Rattle.lk_sizes.specs.Addresses.{common_addresses, section_addresses};
 ghost use Rattle.lk_sizes.specs.Contents.{part_contents};
-ghost use Rattle.lk_sizes.specs.Owners.{all_commons, by_part, common_taker, content_of, has_image, live_of, plain_filling};
+ghost use Rattle.lk_sizes.specs.Harvest.{sorted_sections};
+ghost use Rattle.lk_sizes.specs.Owners.{all_commons, by_part, common_taker, content_of, has_image, live_of, own_sizes, plain_filling, size_in, sized_filling};
 ghost use Rattle.lk_sizes.specs.PartOwners.{EndsFit};
-ghost use Rattle.lk_sizes.specs.Tables.{ArePassed, CommonsGo, HaveSpace, behind_leading, common_places, own_taker, section_places};
+ghost use Rattle.lk_sizes.specs.Tables.{ArePassed, AreSortedThere, AreTheirs, AreWritten, CommonsGo, HaveSortedSpace, HaveSpace, behind_leading, common_places, section_places, taker_by};
 
 use crate::commons::split_commons;
-use crate::owners::{PartContents, identity_bytes, identity_size, image_bytes, image_lens};
+use crate::owners::{PartContents, identity_bytes, identity_size, image_bytes, image_lens, len_at};
+use crate::sorted::{InputSortedSection, number_of};
 use lk_gc::Live;
 use lk_link::marks::is_marked;
-use lk_link::{FileId, FileRef, LinkInput, PlanPart, Section, SymbolId};
+use lk_link::{FileId, FileRef, InputSection, LinkInput, PlanPart, Section, SymbolId};
 use lk_tables::Common;
 use std::alloc::{AllocError, Global};
 
@@ -59,21 +63,23 @@ pub struct OwnerAddresses {
     pub commons: Vec<CommonAddress>,
 }
 
-/// The addresses of live sections and of these commons, by the lengths of merged images, what comes into the parts, and where the
-/// parts start in memory. Looks at each input section and each common once, and takes 8 bytes for each section and 16 for each
-/// common (libwild: `ObjectLayoutState::finalise_layout`).
+/// The addresses of live sections and of these commons, by the lengths of merged images, the sorted sections, what comes into the
+/// parts, and where the parts start in memory. Looks at each input section and each common once, and takes 8 bytes for each section and
+/// 16 for each common (libwild: `ObjectLayoutState::finalise_layout`).
 pub fn owner_addresses(
     alloc: Global,
     link: &LinkInput,
     live: &Live,
     merged_lens: &[u64],
     listed: &[Common],
+    sorted: &[InputSortedSection],
     contents: &[PartContents],
     starts: &[u64],
 ) -> Result<OwnerAddresses, AllocError>
     requires good { IsWellFormed link.now }
     requires live { AreLive link.now live.now }
     requires commons { listed.now ≡ all_commons link.now live.now }
+    requires sorted { sorted.now ≡ sorted_sections link.now live.now (own_sizes link.now) }
     requires starts { length starts.now ≡ length (all_parts link.now.plan.sections) }
     requires room { (sizes : TableSizes) × (contents.now ≡ part_contents (plain_filling (content_of link.now sizes live.now merged_lens.now)))
         × EndsFit (plain_filling (content_of link.now sizes live.now merged_lens.now)) starts.now }
@@ -82,23 +88,63 @@ pub fn owner_addresses(
     ensures commons { (sizes : TableSizes) → IfOk result (λ told. told.commons.items
         ≡ common_addresses (plain_filling (content_of link.now sizes live.now merged_lens.now)) starts.now) }
 {
+    sized_addresses(
+        alloc,
+        link,
+        live,
+        merged_lens,
+        listed,
+        sorted,
+        contents,
+        starts,
+        None,
+    )
+}
+
+/// The same where input sections have these sizes, by their numbers, or those that the description gives.
+pub(crate) fn sized_addresses(
+    alloc: Global,
+    link: &LinkInput,
+    live: &Live,
+    merged_lens: &[u64],
+    listed: &[Common],
+    sorted: &[InputSortedSection],
+    contents: &[PartContents],
+    starts: &[u64],
+    sizes: Option<&[u64]>,
+) -> Result<OwnerAddresses, AllocError>
+    requires good { IsWellFormed link.now }
+    requires live { AreLive link.now live.now }
+    requires commons { listed.now ≡ all_commons link.now live.now }
+    requires sorted { sorted.now ≡ sorted_sections link.now live.now (option_map_or (λ s. s.now) sizes (own_sizes link.now)) }
+    requires starts { length starts.now ≡ length (all_parts link.now.plan.sections) }
+    requires room { (tables : TableSizes)
+        × (contents.now ≡ part_contents (sized_filling (content_of link.now tables live.now merged_lens.now) (option_map_or (λ s. s.now) sizes (own_sizes link.now))))
+        × EndsFit (sized_filling (content_of link.now tables live.now merged_lens.now) (option_map_or (λ s. s.now) sizes (own_sizes link.now))) starts.now }
+    ensures sections { (tables : TableSizes) → IfOk result (λ told. told.sections.items
+        ≡ section_addresses (sized_filling (content_of link.now tables live.now merged_lens.now) (option_map_or (λ s. s.now) sizes.entry (own_sizes link.now))) starts.now) }
+    ensures commons { (tables : TableSizes) → IfOk result (λ told. told.commons.items
+        ≡ common_addresses (sized_filling (content_of link.now tables live.now merged_lens.now) (option_map_or (λ s. s.now) sizes.entry (own_sizes link.now))) starts.now) }
+{
     let mut next = behind_leading(alloc, link, merged_lens, contents, starts)?;
     let mut sections = Vec::with_capacity(alloc, live.marks.len())?;
     let mut commons = Vec::with_capacity(alloc, listed.len())?;
     let mut left = listed;
     for file in link.groups.files() {
         let (own, behind) = split_commons(link, file, left);
-        place_sections(link, live, file, &mut next, &mut sections)?;
+        place_sections(link, live, sizes, file, &mut next, &mut sections)?;
         place_commons(link, own, &mut next, &mut commons)?;
         left = behind;
     }
+    let sections = with_sorted(link, sorted, next, sections);
     Ok(OwnerAddresses { sections, commons })
 }
 
-/// Adds the addresses of a file's sections; those that are live get the next ones of their parts.
+/// Adds the addresses of a file's sections; those that are live and aren't sorted get the next ones of their parts.
 fn place_sections(
     link: &LinkInput,
     live: &Live,
+    sizes: Option<&[u64]>,
     file: FileRef<'_>,
     next: &mut [u64],
     addresses: &mut Vec<u64>,
@@ -107,24 +153,44 @@ fn place_sections(
     requires live { AreLive link.now live.now }
     requires there { file_in link.now.groups file.id ≡ Some file.file.now }
     requires count { length next.old ≡ length (all_parts link.now.plan.sections) }
-    requires space { HaveSpace link.now next.old (map own_taker (live_of link.now live.now (file_of file))) }
-    ensures moved { OnOk result (ArePassed link.now next.old (map own_taker (live_of link.now live.now (file_of file.entry))) next.new) }
+    requires space { HaveSpace link.now next.old (map (taker_by (size_in link.now (option_map_or (λ s. s.now) sizes (own_sizes link.now)))) (live_of link.now live.now (file_of file))) }
+    ensures moved { OnOk result (ArePassed link.now next.old
+        (map (taker_by (size_in link.now (option_map_or (λ s. s.now) sizes.entry (own_sizes link.now)))) (live_of link.now live.now (file_of file.entry))) next.new) }
     ensures told { OnOk result (addresses.new.items
-        ≡ addresses.old.items ++ section_places link.now live.now next.old (file_of file.entry)) }
+        ≡ addresses.old.items ++ section_places (size_in link.now (option_map_or (λ s. s.now) sizes.entry (own_sizes link.now))) link.now live.now next.old (file_of file.entry)) }
 {
     let parts = link.plan.sections.parts();
     let marks = live.marks.as_slice();
     let first = first_number(link, file);
     for (index, section) in file.file.sections.as_slice().iter().enumerate() {
-        let is_live = is_marked(marks, first + index);
+        let number = first + index;
+        let stands = stands_in_file(marks, number, section);
         let mut address = 0u64;
-        if is_live {
+        if stands {
             let part = section.part.as_usize();
-            address = take_next(&mut next[part], &parts[part], section.size);
+            let size = size_at(sizes, number, section.size);
+            address = take_next(&mut next[part], &parts[part], size);
         }
         addresses.push(address)?;
     }
     Ok(())
+}
+
+/// The size with this number, or the section's own where none are given.
+fn size_at(sizes: Option<&[u64]>, number: usize, own: u64) -> u64
+    ensures { result ≡ option_map_or (λ s. slice_index s.now number) sizes.entry own }
+{
+    match sizes {
+        Some(sizes) => len_at(sizes, number),
+        None => own,
+    }
+}
+
+/// Whether an input section with this number is live and isn't sorted.
+fn stands_in_file(marks: &[bool], number: usize, section: &InputSection) -> bool
+    ensures { result ≡ (is_marked marks.now number && not section.now.sorted) }
+{
+    is_marked(marks, number) && !section.sorted
 }
 
 /// The number of a file's first section over all files.
@@ -161,6 +227,32 @@ fn place_commons(
         addresses.push(CommonAddress { symbol, address })?;
     }
     Ok(())
+}
+
+/// The addresses of input sections with those of sorted ones, the next ones of their parts, at their numbers.
+fn with_sorted(
+    link: &LinkInput,
+    sorted: &[InputSortedSection],
+    next: Vec<u64>,
+    addresses: Vec<u64>,
+) -> Vec<u64>
+    requires good { IsWellFormed link.now }
+    requires there { AreSortedThere link.now (length next.items) sorted.now }
+    requires count { length addresses.items ≡ length (all_inputs link.now.groups) }
+    requires space { HaveSortedSpace next.items sorted.now }
+    ensures { (table : ℕ → ℕ) → AreTheirs link.now table next.items sorted.now
+        → AreWritten link.now table sorted.now addresses.items result.items }
+{
+    let mut next = next;
+    let mut addresses = addresses;
+    for section in sorted {
+        let part = section.part_id.as_usize();
+        let address = next[part];
+        next[part] = address + section.size;
+        let number = number_of(link, section.file_id, section.section_index);
+        addresses[number] = address;
+    }
+    addresses
 }
 
 /// For each part where what leads in it ends, the image and the identity; where nothing does, where it starts.

@@ -91,7 +91,7 @@ pub fn propagate_section_attributes(
     requires live { AreLive link.now live.now }
     ensures { IfOk result (λ all. all.items ≡ all_section_attributes link.now live.now) }
 {
-    let totals = add_inputs(alloc, link, live)?;
+    let totals = add_inputs(alloc, link, live, None)?;
     let contents = without_bytes(alloc, &totals)?;
     let all = attributes_of_contents(alloc, link, &contents)?;
     Ok(all)

@@ -3,6 +3,7 @@
 ghost use Rattle.lk_sizes.specs.Addresses.{CommonsRise, TableTellsLiveSections};
 ghost use Rattle.lk_sizes.specs.Images.{ImagesAreOwners, ImagesStandWhereInputsGo};
 ghost use Rattle.lk_sizes.specs.PartOwners.{CommonsAreOwners, EntriesAreOwners, IdentityIsOwner, LiveSectionsAreOwners, OwnersAreLive, OwnersStandOnce, TablePartsHaveEntriesAlone, ThunksAreOwners};
+ghost use Rattle.lk_sizes.specs.Sorted.{NoOtherOrder, SortedStandByName};
 ghost use Rattle.lk_sizes.specs.Tiles.{OwnersTileTheirPart, OwnersAreAligned};
 
 /// A law: the owners of a part tile it. Each byte of the part has one owner, and no owner reaches out of the part.
@@ -74,4 +75,14 @@ pub fn identity_is_owner()
 /// A law: each entry of the tables for which the plan names a part stands among its owners, behind all that is no entry.
 pub fn entries_are_owners()
     ensures { EntriesAreOwners }
+{}
+
+/// A law: the live sorted sections stand in the order of their names, then of files and indexes, each strictly before the next.
+pub fn sorted_stand_by_name()
+    ensures { SortedStandByName }
+{}
+
+/// A law: they stand so in no other list.
+pub fn no_other_order()
+    ensures { NoOtherOrder }
 {}

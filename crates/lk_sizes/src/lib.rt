@@ -3,6 +3,7 @@
 
 pub mod addresses;
 pub mod attributes;
+mod blocks;
 mod commons;
 pub mod error;
 pub mod header;
@@ -12,6 +13,7 @@ mod kept_symbols;
 pub mod laws;
 pub mod owners;
 pub mod part_owners;
+pub mod sorted;
 
 pub use addresses::{CommonAddress, LiveSection, OwnerAddresses, owner_addresses};
 pub use attributes::{attributes_of_contents, propagate_section_attributes};
@@ -21,8 +23,9 @@ pub use images::image_addresses;
 pub use lk_gc::Live;
 pub use lk_link::{FileId, LinkInput, List, Place, Platform, SymbolId};
 pub use lk_tables::{
-    Common, DynamicNumbers, FileShare, HeaderInfo, HeaderSizes, SymbolCopyInfo, TableTotals,
-    dynamic_table, header_sizes, symbol_sizes,
+    Common, DynamicNumbers, FileShare, HeaderInfo, HeaderSizes, PartialLinkPlan,
+    PartialLinkSingletons, SymbolCopyInfo, TableTotals, dynamic_table, header_sizes, symbol_sizes,
 };
 pub use owners::{PartContents, PartTotal, content_totals, first_sizes, part_contents};
-pub use part_owners::{PartOwners, part_sizes};
+pub use part_owners::{PartOwners, add_thunks, part_sizes, plain_owners};
+pub use sorted::{InputSortedSection, harvest_and_sort_script_sections};

@@ -20,14 +20,15 @@ ghost use Rattle.lk_tables.specs.ShareWords.{first_shares};
 ghost use Rattle.lk_tables.specs.TableLists.{TableLists};
 ghost use Rattle.lk_tables.specs.Totals.{totals_of};
 ghost use Rattle.lk_sizes.specs.Attributes.{part_attributes};
-ghost use Rattle.lk_sizes.specs.Contents.{AreContentTotals, GivesContents, part_contents};
-ghost use Rattle.lk_sizes.specs.Owners.{AreFirstSizes, Filling, all_commons, content_of, has_image, identity_size, in_link, plain_filling};
+ghost use Rattle.lk_sizes.specs.Contents.{AreContentTotals, AreSums, GivesContents, part_contents};
+ghost use Rattle.lk_sizes.specs.Owners.{AreFirstSizes, Filling, all_commons, content_of, has_image, identity_size, in_link, own_sizes, plain_filling, size_in, sized_filling};
 ghost use Rattle.lk_sizes.specs.PartOwners.{part_sizes, tables_of};
 ghost use Rattle.lk_sizes.specs.Tables.{AreAdded, CommonsGo, commons_size, live_size, with_entries, with_tables};
 ghost use Rattle.lk_sizes.specs.declared.owners.PartTotal.{PartTotal};
 
 use crate::error::SizeError;
 use crate::kept::KeptInputs;
+use crate::sorted::size_of;
 use lk_gc::Live;
 use lk_link::{InputSection, LinkInput, List, PartId, Place, PlanPart, PlanSection, Section};
 use lk_tables::{Common, FileShare, TableTotals, bytes_in_part, first_totals};
@@ -56,16 +57,15 @@ pub struct PartTotal {
 }
 
 impl PartTotal {
-    /// With what one more section brings: a merged one has its bytes in the image.
-    fn with(self, part: &PlanPart, section: &InputSection) -> PartTotal
+    /// With what one more section of this size brings: a merged one has its bytes in the image.
+    fn with(self, part: &PlanPart, section: &InputSection, size: u64) -> PartTotal
         requires { IsTrue (is_alignment part.now.alignment) }
         ensures bytes { result.bytes ≡ (if is_merge section.now.slot then self.bytes
-            else min (self.bytes + capacity part.now section.now.size) (2 ^ 128 - 1)) }
+            else min (self.bytes + capacity part.now size) (2 ^ 128 - 1)) }
         ensures image { result.has_image ≡ (self.has_image || is_merge section.now.slot) }
         ensures attrs { result.attrs ≡ bit_or self.attrs section.now.attrs }
     {
         let merged = section.slot.is_merge();
-        let size = section.size;
         let bytes = if merged {
             self.bytes
         } else {
@@ -138,7 +138,7 @@ impl PartTotal {
     }
 
     /// With so many bytes of entries.
-    fn with_entries(&self, more: u128) -> PartTotal
+    pub(crate) fn with_entries(&self, more: u128) -> PartTotal
         ensures { result ≡ with_entries self.now more }
     {
         PartTotal {
@@ -218,9 +218,16 @@ pub fn part_contents(
         → tables.now ≡ totals_of (tables_of (in_link link.now filling).content) → GivesContents (in_link link.now filling) result }
 {
     let whole = add_tables(alloc, link, totals, tables)?;
-    let mut contents = Vec::with_capacity(alloc, whole.len())?;
+    sum_up(alloc, &whole)
+}
+
+/// What comes into each part, by what was added up. Refuses the first part at which the sizes so far pass 2^64 - 1 together.
+pub(crate) fn sum_up(alloc: Global, totals: &[PartTotal]) -> Result<List<PartContents>, SizeError>
+    ensures { (filling : Filling) → AreSums filling totals.now → GivesContents filling result }
+{
+    let mut contents = Vec::with_capacity(alloc, totals.len())?;
     let mut sum = 0u128;
-    for (part, total) in whole.as_slice().iter().enumerate() {
+    for (part, total) in totals.iter().enumerate() {
         sum = sum.saturating_add(total.bytes);
         if sum > u128::from(u64::MAX) {
             let place = Place::Part(part);
@@ -303,9 +310,27 @@ pub fn content_totals(
     ensures { (sizes : TableSizes)
         → IfOk result (λ totals. AreContentTotals (plain_filling (content_of link.now sizes live.now merged_lens.now)) totals.items) }
 {
+    sized_totals(alloc, link, live, merged_lens, commons, None)
+}
+
+/// The same where input sections have these sizes, by their numbers, or those that the description gives.
+pub(crate) fn sized_totals(
+    alloc: Global,
+    link: &LinkInput,
+    live: &Live,
+    merged_lens: &[u64],
+    commons: &[Common],
+    sizes: Option<&[u64]>,
+) -> Result<Vec<PartTotal>, AllocError>
+    requires good { IsWellFormed link.now }
+    requires live { AreLive link.now live.now }
+    requires commons { commons.now ≡ all_commons link.now live.now }
+    ensures { (tables : TableSizes) → IfOk result (λ totals. AreContentTotals
+        (sized_filling (content_of link.now tables live.now merged_lens.now) (option_map_or (λ s. s.now) sizes.entry (own_sizes link.now))) totals.items) }
+{
     let parts = link.plan.sections.parts();
     let lens = image_lens(alloc, link.plan.sections.as_slice(), merged_lens)?;
-    let inputs = add_takers(alloc, link, live, commons)?;
+    let inputs = add_takers(alloc, link, live, commons, sizes)?;
     let mut totals = Vec::with_capacity(alloc, inputs.len())?;
     for number in 0..inputs.len() {
         let part = &parts[number];
@@ -321,19 +346,21 @@ fn add_takers(
     link: &LinkInput,
     live: &Live,
     commons: &[Common],
+    sizes: Option<&[u64]>,
 ) -> Result<Vec<PartTotal>, AllocError>
     requires good { IsWellFormed link.now }
     requires live { AreLive link.now live.now }
     requires commons { commons.now ≡ all_commons link.now live.now }
     ensures count { IfOk result (λ totals. length totals.items ≡ length (all_parts link.now.plan.sections)) }
     ensures bytes { IfOk result (λ totals. (p : ℕ) (total : PartTotal) → slice_get totals.items p ≡ Some total → min total.bytes (2 ^ 64)
-        ≡ min (live_size link.now live.now p + commons_size link.now p (all_commons link.now live.now)) (2 ^ 64)) }
+        ≡ min (live_size (size_in link.now (option_map_or (λ s. s.now) sizes.entry (own_sizes link.now))) link.now live.now p
+        + commons_size link.now p (all_commons link.now live.now)) (2 ^ 64)) }
     ensures image { IfOk result (λ totals. (p : ℕ) (total : PartTotal) → slice_get totals.items p ≡ Some total
         → total.has_image ≡ has_image link.now p) }
     ensures attrs { IfOk result (λ totals. (p : ℕ) (total : PartTotal) → slice_get totals.items p ≡ Some total
         → total.attrs ≡ part_attributes link.now live.now p) }
 {
-    let mut totals = add_inputs(alloc, link, live)?;
+    let mut totals = add_inputs(alloc, link, live, sizes)?;
     add_commons(link, commons, &mut totals);
     Ok(totals)
 }
@@ -357,12 +384,14 @@ pub(crate) fn add_inputs(
     alloc: Global,
     link: &LinkInput,
     live: &Live,
+    sizes: Option<&[u64]>,
 ) -> Result<Vec<PartTotal>, AllocError>
     requires good { IsWellFormed link.now }
     requires live { AreLive link.now live.now }
     ensures count { IfOk result (λ totals. length totals.items ≡ length (all_parts link.now.plan.sections)) }
     ensures bytes { IfOk result (λ totals. (p : ℕ) (total : PartTotal) → slice_get totals.items p ≡ Some total
-        → min total.bytes (2 ^ 64) ≡ min (live_size link.now live.now p) (2 ^ 64)) }
+        → min total.bytes (2 ^ 64)
+        ≡ min (live_size (size_in link.now (option_map_or (λ s. s.now) sizes.entry (own_sizes link.now))) link.now live.now p) (2 ^ 64)) }
     ensures image { IfOk result (λ totals. (p : ℕ) (total : PartTotal) → slice_get totals.items p ≡ Some total
         → total.has_image ≡ has_image link.now p) }
     ensures attrs { IfOk result (λ totals. (p : ℕ) (total : PartTotal) → slice_get totals.items p ≡ Some total
@@ -377,7 +406,8 @@ pub(crate) fn add_inputs(
     let mut totals = vec![in alloc; nothing; parts.len()]?;
     for input in KeptInputs::new(link, live) {
         let part = input.section.part.as_usize();
-        totals[part] = totals[part].with(&parts[part], input.section);
+        let size = size_of(link, sizes, input);
+        totals[part] = totals[part].with(&parts[part], input.section, size);
     }
     Ok(totals)
 }
@@ -402,7 +432,7 @@ pub(crate) fn image_lens(
 }
 
 /// The length with this number, or 0.
-fn len_at(lens: &[u64], number: usize) -> u64
+pub(crate) fn len_at(lens: &[u64], number: usize) -> u64
     ensures { result ≡ slice_index lens.now number }
 {
     match lens.get(number) {

@@ -5,27 +5,31 @@
 //! which sections are emitted, and so which symbols of the prelude are marked late and how many headers there are. Then the
 //! tables are whole, and the sums of all parts are looked at.
 
-ghost use Rattle.std.specs.Prelude.{◌≡◌, false, IfOk, length, map};
+ghost use Rattle.std.specs.Prelude.{◌≡◌, IfOk, length, map, option_map, unwrap_or};
+ghost use Rattle.std.specs.Option.{option_map_or};
 ghost use Rattle.lk_link.specs.Marks.{is_marked};
-ghost use Rattle.lk_link.specs.OutputKinds.{is_partial};
 ghost use Rattle.lk_link.specs.Parts.{all_parts};
 ghost use Rattle.lk_link.specs.TableSizes.{TableSizes};
 ghost use Rattle.lk_link.specs.WellFormed.{IsWellFormed};
 ghost use Rattle.lk_gc.specs.Reach.{AreLive};
 ghost use Rattle.lk_sizes.specs.Addresses.{common_addresses, section_addresses};
 ghost use Rattle.lk_sizes.specs.Emitted.{is_emitted};
-ghost use Rattle.lk_sizes.specs.Contents.{part_contents};
-ghost use Rattle.lk_sizes.specs.Owners.{Filling, content_of, plain_filling};
+ghost use Rattle.lk_sizes.specs.Contents.{AreContentTotals, part_contents};
+ghost use Rattle.lk_sizes.specs.Owners.{AreThunkOwners, Filling, all_commons, content_of, in_link, own_sizes, plain_filling, sized_filling, with_thunks, without_thunks};
 ghost use Rattle.lk_sizes.specs.PartOwners.{EndsFit, part_sizes};
-ghost use Rattle.lk_sizes.specs.Sizing.{AreFilled, GivesOwners};
+ghost use Rattle.lk_sizes.specs.Sizing.{AreFilled, GivesAdded, GivesOwners};
 
-use crate::addresses;
-use crate::addresses::OwnerAddresses;
+use crate::addresses::{OwnerAddresses, sized_addresses};
+use crate::blocks::add_blocks;
 use crate::error::SizeError;
 use crate::header::determine_header_sizes;
-use crate::owners::{PartContents, content_totals, first_sizes, part_contents, sizes_of_contents};
+use crate::owners::{
+    PartContents, PartTotal, content_totals, first_sizes, part_contents, sized_totals,
+    sizes_of_contents,
+};
+use crate::sorted::{InputSortedSection, tell_sorted};
 use lk_gc::Live;
-use lk_link::{LinkInput, List, Platform};
+use lk_link::{FileId, LinkInput, List, Platform};
 use lk_tables::{Common, DynamicNumbers, HeaderInfo, mark_prelude, symbol_shares, whole_totals};
 use std::alloc::{AllocError, Global};
 use std::marker::Model;
@@ -41,8 +45,14 @@ pub struct PartOwners {
     numbers: DynamicNumbers,
     /// The commons that take bytes, in the order of their symbols.
     commons: List<Common>,
+    /// The sorted sections, in the order in which they stand in their parts.
+    sorted: List<InputSortedSection>,
     /// The lengths of merged images, by output section.
     lens: List<u64>,
+    /// The bytes of the blocks of thunks, by the files that own them.
+    thunks: List<(FileId, u64)>,
+    /// The sizes of input sections, by number, where they aren't those of the description.
+    sizes: Option<List<u64>>,
 }
 
 impl Model for PartOwners {
@@ -55,7 +65,10 @@ impl Model for PartOwners {
       header = a.header;
       numbers = a.numbers;
       commons = a.commons;
+      sorted = a.sorted;
       lens = a.lens;
+      thunks = a.thunks;
+      sizes = a.sizes;
     } };
 }
 
@@ -74,11 +87,12 @@ impl PartOwners {
         &self.header
     }
 
-    /// The same, and nothing else is kept.
-    pub fn into_header(self) -> HeaderInfo
-        ensures { result ≡ self.header }
+    /// The same with the sorted sections, and nothing else is kept.
+    pub fn into_told(self) -> (HeaderInfo, List<InputSortedSection>)
+        ensures header { result.0 ≡ self.header }
+        ensures sorted { result.1 ≡ self.sorted }
     {
-        self.header
+        (self.header, self.sorted)
     }
 
     /// The numbers of dynamic symbols at the first symbol.
@@ -95,6 +109,30 @@ impl PartOwners {
         self.commons.as_slice()
     }
 
+    /// The live sorted sections, in the order in which they stand in their parts.
+    pub fn sorted(&self) -> &[InputSortedSection]
+        ensures { result.now ≡ self.now.sorted }
+    {
+        self.sorted.as_slice()
+    }
+
+    /// The bytes of the blocks of thunks, by the files that own them, in the order of files.
+    pub fn thunks(&self) -> &[(FileId, u64)]
+        ensures { result.now ≡ self.now.thunks }
+    {
+        self.thunks.as_slice()
+    }
+
+    /// The sizes of input sections, by number; none where they are those of the description.
+    pub fn sizes(&self) -> Option<&[u64]>
+        ensures { option_map (λ s. s.now) result ≡ self.now.sizes }
+    {
+        match &self.sizes {
+            Some(sizes) => Some(sizes.as_slice()),
+            None => None,
+        }
+    }
+
     /// The lengths of merged images, by output section; where none is given, nothing is merged.
     pub fn lens(&self) -> &[u64]
         ensures { result.now ≡ self.now.lens }
@@ -103,11 +141,32 @@ impl PartOwners {
     }
 }
 
-/// What comes into the parts where the merged images of output sections are so many bytes long, and what is told by that.
-/// Looks at each input section a few times, at each symbol once, and at each of the prelude once more. Refuses the first part at
-/// which the sizes so far pass 2^64 - 1 together. In output that is linked again sections have entries, headers and names too,
-/// which come with it.
+/// What comes into the parts where the merged images of output sections and the blocks of thunks that files own are so many bytes
+/// long, and input sections have these sizes, by their numbers; and what is told by that, which goes by the sizes that the
+/// description gives. Looks at each input section a few times, at each symbol once, and at each of the prelude once more. Refuses
+/// the first part at which the sizes so far pass 2^64 - 1 together, without the blocks if they do so without them. In output that
+/// is linked again sections have entries, headers and names too, which come with it.
 pub fn owners<P: Platform>(
+    alloc: Global,
+    link: &LinkInput,
+    platform: &P,
+    live: &Live,
+    merged_lens: &[u64],
+    thunk_owners: &[(FileId, u64)],
+    sizes: &[u64],
+) -> Result<PartOwners, SizeError>
+    requires good { IsWellFormed link.now }
+    requires live { AreLive link.now live.now }
+    requires thunks { AreThunkOwners link.now thunk_owners.now }
+    ensures { GivesOwners (with_thunks (sized_filling (content_of link.now (P.table_sizes platform.now) live.now merged_lens.now) sizes.now)
+        thunk_owners.now) result }
+{
+    let owners = sized_owners(alloc, link, platform, live, merged_lens, Some(sizes))?;
+    add_thunks(alloc, link, owners, thunk_owners)
+}
+
+/// The same with the sizes that the description gives, and without thunks: each input section is looked at once less.
+pub fn plain_owners<P: Platform>(
     alloc: Global,
     link: &LinkInput,
     platform: &P,
@@ -116,8 +175,54 @@ pub fn owners<P: Platform>(
 ) -> Result<PartOwners, SizeError>
     requires good { IsWellFormed link.now }
     requires live { AreLive link.now live.now }
-    ensures owners { is_partial link.now.options.output ≡ false
-        → GivesOwners (plain_filling (content_of link.now (P.table_sizes platform.now) live.now merged_lens.now)) result }
+    ensures owners { GivesOwners (plain_filling (content_of link.now (P.table_sizes platform.now) live.now merged_lens.now)) result }
+    ensures marks { IfOk result (λ owners. is_marked owners.header.emitted
+        ≡ is_emitted (content_of link.now (P.table_sizes platform.now) live.now merged_lens.now)) }
+{
+    sized_owners(alloc, link, platform, live, merged_lens, None)
+}
+
+/// What was found without thunks, with the blocks that these files own, so many bytes long. Looks at each part and each block once.
+/// Refuses the first part at which the sizes so far pass 2^64 - 1 together.
+pub fn add_thunks(
+    alloc: Global,
+    link: &LinkInput,
+    owners: PartOwners,
+    thunk_owners: &[(FileId, u64)],
+) -> Result<PartOwners, SizeError>
+    requires good { IsWellFormed link.now }
+    requires thunks { AreThunkOwners link.now thunk_owners.now }
+    requires count { length owners.contents ≡ length (all_parts link.now.plan.sections) }
+    ensures { (filling : Filling) → AreFilled (without_thunks (in_link link.now filling)) owners
+        → GivesAdded (with_thunks (in_link link.now filling) thunk_owners.now) result }
+{
+    let contents = add_blocks(alloc, link, owners.contents.as_slice(), thunk_owners)?;
+    let thunks = List::from_vec(Vec::from_slice(alloc, thunk_owners)?);
+    Ok(PartOwners {
+        contents,
+        header: owners.header,
+        numbers: owners.numbers,
+        commons: owners.commons,
+        sorted: owners.sorted,
+        lens: owners.lens,
+        thunks,
+        sizes: owners.sizes,
+    })
+}
+
+/// What comes into the parts without thunks, where input sections have these sizes, or those that the description gives.
+fn sized_owners<P: Platform>(
+    alloc: Global,
+    link: &LinkInput,
+    platform: &P,
+    live: &Live,
+    merged_lens: &[u64],
+    sizes: Option<&[u64]>,
+) -> Result<PartOwners, SizeError>
+    requires good { IsWellFormed link.now }
+    requires live { AreLive link.now live.now }
+    ensures owners { GivesOwners (sized_filling (content_of link.now (P.table_sizes platform.now) live.now merged_lens.now)
+        (option_map_or (λ s. s.now) sizes.entry (own_sizes link.now))) result }
     ensures marks { IfOk result (λ owners. is_marked owners.header.emitted
         ≡ is_emitted (content_of link.now (P.table_sizes platform.now) live.now merged_lens.now)) }
 {
@@ -125,18 +230,66 @@ pub fn owners<P: Platform>(
     let totals = content_totals(alloc, link, live, merged_lens, &brought.commons)?;
     let first = first_sizes(alloc, link, &totals, &brought.files)?;
     let header = determine_header_sizes(alloc, link, live, &first)?;
-    let prelude = mark_prelude(link, platform, live, header.emitted.as_slice());
+    let prelude = mark_prelude(link, platform, live, header.told.as_slice());
     let tables = whole_totals(link, platform, &brought.files, prelude, &header);
-    let contents = part_contents(alloc, link, &totals, &tables)?;
+    let whole = resized(
+        alloc,
+        link,
+        live,
+        merged_lens,
+        &brought.commons,
+        totals,
+        sizes,
+    )?;
+    let contents = part_contents(alloc, link, &whole, &tables)?;
     let numbers = DynamicNumbers::new(link, &brought.files, prelude);
+    let sorted = List::from_vec(tell_sorted(alloc, link, live, sizes)?);
     let lens = List::from_vec(Vec::from_slice(alloc, merged_lens)?);
+    let sizes = keep_sizes(alloc, sizes)?;
     Ok(PartOwners {
         contents,
         header,
         numbers,
         commons: List::from_vec(brought.commons),
+        sorted,
         lens,
+        thunks: List::new(alloc),
+        sizes,
     })
+}
+
+/// What was added up for the parts, by these sizes, or as it is where none are given.
+fn resized(
+    alloc: Global,
+    link: &LinkInput,
+    live: &Live,
+    merged_lens: &[u64],
+    commons: &[Common],
+    own: Vec<PartTotal>,
+    sizes: Option<&[u64]>,
+) -> Result<Vec<PartTotal>, AllocError>
+    requires good { IsWellFormed link.now }
+    requires live { AreLive link.now live.now }
+    requires commons { commons.now ≡ all_commons link.now live.now }
+    requires own { (tables : TableSizes)
+        → AreContentTotals (plain_filling (content_of link.now tables live.now merged_lens.now)) own.items }
+    ensures { (tables : TableSizes) → IfOk result (λ totals. AreContentTotals
+        (sized_filling (content_of link.now tables live.now merged_lens.now) (option_map_or (λ s. s.now) sizes.entry (own_sizes link.now))) totals.items) }
+{
+    match sizes {
+        Some(_) => sized_totals(alloc, link, live, merged_lens, commons, sizes),
+        None => Ok(own),
+    }
+}
+
+/// The sizes, if they are given, to keep.
+fn keep_sizes(alloc: Global, sizes: Option<&[u64]>) -> Result<Option<List<u64>>, AllocError>
+    ensures { IfOk result (λ kept. kept ≡ option_map (λ s. s.now) sizes.entry) }
+{
+    match sizes {
+        Some(sizes) => Ok(Some(List::from_vec(Vec::from_slice(alloc, sizes)?))),
+        None => Ok(None),
+    }
 }
 
 /// The bytes of each part, by who takes them.
@@ -148,9 +301,9 @@ pub fn part_sizes(alloc: Global, owners: &PartOwners) -> Result<Vec<u64>, AllocE
     sizes_of_contents(alloc, owners.contents.as_slice())
 }
 
-/// The addresses of live sections and of the commons that take bytes, by what was found of the parts, and where they start in memory.
-/// Looks at each input section and each common once, and takes 8 bytes for each section and 16 for each common (libwild:
-/// `ObjectLayoutState::finalise_layout`).
+/// The addresses of live sections and of the commons that take bytes, by what was found of the parts without blocks of thunks, and
+/// where they start in memory. Looks at each input section and each common once, and takes 8 bytes for each section and 16 for each
+/// common (libwild: `ObjectLayoutState::finalise_layout`).
 pub fn owner_addresses(
     alloc: Global,
     link: &LinkInput,
@@ -161,15 +314,20 @@ pub fn owner_addresses(
     requires good { IsWellFormed link.now }
     requires live { AreLive link.now live.now }
     requires starts { length starts.now ≡ length (all_parts link.now.plan.sections) }
-    requires room { (sizes : TableSizes) × AreFilled (plain_filling (content_of link.now sizes live.now owners.now.lens)) owners.now
-        × EndsFit (plain_filling (content_of link.now sizes live.now owners.now.lens)) starts.now }
-    ensures sections { (sizes : TableSizes) → IfOk result (λ told. told.sections.items
-        ≡ section_addresses (plain_filling (content_of link.now sizes live.now owners.now.lens)) starts.now) }
-    ensures commons { (sizes : TableSizes) → IfOk result (λ told. told.commons.items
-        ≡ common_addresses (plain_filling (content_of link.now sizes live.now owners.now.lens)) starts.now) }
+    requires room { (tables : TableSizes)
+        × AreFilled (sized_filling (content_of link.now tables live.now owners.now.lens) (unwrap_or owners.now.sizes (own_sizes link.now))) owners.now
+        × EndsFit (sized_filling (content_of link.now tables live.now owners.now.lens) (unwrap_or owners.now.sizes (own_sizes link.now))) starts.now }
+    ensures sections { (tables : TableSizes) → IfOk result (λ told. told.sections.items ≡ section_addresses
+        (sized_filling (content_of link.now tables live.now owners.now.lens) (unwrap_or owners.now.sizes (own_sizes link.now))) starts.now) }
+    ensures commons { (tables : TableSizes) → IfOk result (λ told. told.commons.items ≡ common_addresses
+        (sized_filling (content_of link.now tables live.now owners.now.lens) (unwrap_or owners.now.sizes (own_sizes link.now))) starts.now) }
 {
     let lens = owners.lens.as_slice();
     let commons = owners.commons.as_slice();
+    let sorted = owners.sorted.as_slice();
     let contents = owners.contents.as_slice();
-    addresses::owner_addresses(alloc, link, live, lens, commons, contents, starts)
+    let sizes = owners.sizes();
+    sized_addresses(
+        alloc, link, live, lens, commons, sorted, contents, starts, sizes,
+    )
 }

@@ -8,7 +8,7 @@ use Rattle.lk_link.specs.Inputs.{Input}
 use Rattle.lk_link.specs.Inside.{placed_section}
 use Rattle.lk_link.specs.Marks.{is_marked}
 use Rattle.lk_gc.specs.declared.live.Live.{Live}
-use Rattle.lk_tables.specs.HeaderParts.{emitted_sections, section_count, section_header_entries, section_name_bytes, section_name_entries, told_sum}
+use Rattle.lk_tables.specs.HeaderParts.{emitted_name_bytes, emitted_sections, section_count, section_header_entries, section_name_bytes, section_name_entries, told_sum}
 use Rattle.lk_tables.specs.HeaderSteps.{event_name}
 use Rattle.lk_tables.specs.Singletons.{input_name_bytes, singleton_name_bytes, singletons}
 use Rattle.lk_tables.specs.SymbolTable.{TableEntry, entry_bytes, section_entry, singleton_entry}
@@ -56,15 +56,23 @@ sum_entries n g [] h = refl
 sum_entries n g (x ∷ xs) h =
     omega (arith, h x, sum_entries n g xs h, sum_by-cons (λ (e : TableEntry). e.bytes) (g x) (map g xs), sum_by-cons n x xs)
 
--- the names of those that events place, and of singletons
+-- the names of those that events place
+pub emitted_names_are : (link : LinkInput) (emitted : List Bool)
+    → emitted_name_bytes link emitted ≡ sum_by (event_name link emitted) link.plan.events
+emitted_names_are link emitted =
+    let named : ℕ → TableEntry = λ s. section_entry (section_name_bytes link s) s in
+    sym (sum_entries (section_name_bytes link) named (emitted_sections link emitted) (λ s. refl))
+    ∙ entries_told (is_marked emitted) named placed_section link.plan.events
+
+-- with those of singletons
 pub names_are : (link : LinkInput) (live : Live) (emitted : List Bool)
-    → told_sum (told_sum (sum_by (event_name link emitted) link.plan.events) + singleton_name_bytes link live) ≡ told_sum (entry_bytes (section_name_entries link live emitted))
+    → told_sum (emitted_name_bytes link emitted + singleton_name_bytes link live) ≡ told_sum (entry_bytes (section_name_entries link live emitted))
 names_are link live emitted =
     let named : ℕ → TableEntry = λ s. section_entry (section_name_bytes link s) s in
     let single : Input → TableEntry = λ x. singleton_entry (input_name_bytes x) x in
     omega (
       arith,
       sum_by-append (λ (e : TableEntry). e.bytes) (map named (emitted_sections link emitted)) (map single (singletons link live)),
-      entries_told (is_marked emitted) named placed_section link.plan.events,
+      sum_entries (section_name_bytes link) named (emitted_sections link emitted) (λ s. refl),
       sum_entries input_name_bytes single (singletons link live) (λ x. refl),
     )

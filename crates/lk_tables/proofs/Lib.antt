@@ -3,6 +3,7 @@ pub mod Columns
 pub mod CommonLists
 pub mod DynamicLemmas
 pub mod EntryOwning
+pub mod GroupLemmas
 pub mod HeaderLemmas
 pub mod IndexLemmas
 pub mod Loaded

@@ -71,7 +71,7 @@ length_marked (true ∷ marks) (x ∷ xs) = omega (arith, length_marked marks xs
 length_marked (false ∷ marks) (x ∷ xs) = omega (arith, length_marked marks xs)
 
 -- what passes too
-sum_passes : {X : Type 0} (p : X → Bool) (f : X → ℕ) (xs : List X) → sum_by f (filter p xs) ≤ sum_by f xs
+pub sum_passes : {X : Type 0} (p : X → Bool) (f : X → ℕ) (xs : List X) → sum_by f (filter p xs) ≤ sum_by f xs
 sum_passes p f xs = omega (arith, sum_by-filter_both p (λ x. not (p x)) (λ x. refl) f xs)
 
 none_pass : {X : Type 0} (xs : List X) → filter (λ _. false) xs ≡ []

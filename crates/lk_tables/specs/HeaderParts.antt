@@ -1,5 +1,5 @@
 -- What headers and the names of sections take.
-use Rattle.std.specs.Prelude.{◌≡◌, ℕ, ◌+◌, ◌-◌, ◌^◌, Bool, List, [], ◌∷◌, ◌++◌, filter, length, map, min}
+use Rattle.std.specs.Prelude.{◌≡◌, ℕ, ◌+◌, ◌-◌, ◌^◌, Bool, List, [], ◌∷◌, ◌++◌, filter, length, map, min, sum_by}
 use Rattle.std.specs.List.{filter_map}
 use Rattle.lk_link.specs.declared.link.LinkInput.{LinkInput}
 use Rattle.lk_link.specs.declared.plan.OrderEvent.{OrderEvent}
@@ -47,6 +47,10 @@ abbrev pub section_name_entries : LinkInput → Live → List Bool → List Tabl
 section_name_entries link live emitted =
     map (λ s. section_entry (section_name_bytes link s) s) (emitted_sections link emitted)
     ++ map (λ x. singleton_entry (input_name_bytes x) x) (singletons link live)
+
+-- the bytes of the names of emitted sections
+abbrev pub emitted_name_bytes : LinkInput → List Bool → ℕ
+emitted_name_bytes link emitted = sum_by (section_name_bytes link) (emitted_sections link emitted)
 
 -- a sum as it is told: one past 2^128 - 1 as that
 abbrev pub told_sum : ℕ → ℕ

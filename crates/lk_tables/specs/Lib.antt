@@ -11,6 +11,7 @@ pub mod OwnEntries
 pub mod OwnTables
 pub mod ShareSteps
 pub mod ShareWords
+pub mod SingletonCounts
 pub mod Singletons
 pub mod SymbolEntries
 pub mod SymbolTable

@@ -58,10 +58,12 @@ impl<'a> SymbolCopyInfo<'a> {
     }
 
     /// The same where it is copied though it has no place: in partial output one with a name and a resolution that is
-    /// undefined, or that isn't local and stands in a discarded section (libwild: `SymbolCopyInfo::for_undefined`).
+    /// undefined, or that isn't local and stands in a discarded section, whatever else is live (libwild:
+    /// `SymbolCopyInfo::for_undefined`).
     pub fn for_undefined(
         link: &'a LinkInput,
         symbol: SymbolId,
+        _live: &Live,
         flags: ValueFlags,
     ) -> Option<SymbolCopyInfo<'a>>
         requires { IsWellFormed link.now }

@@ -1,10 +1,10 @@
 //! What headers and the names of sections take: one pass over the events.
 
-ghost use Rattle.std.specs.Prelude.{◌≡◌, ◌-◌, ◌^◌, length, min, sum_by};
+ghost use Rattle.std.specs.Prelude.{◌≡◌, ◌+◌, ◌*◌, ◌-◌, ◌^◌, length, min, sum_by};
 ghost use Rattle.lk_link.specs.PlanSections.{section_at};
 ghost use Rattle.lk_gc.specs.declared.live.Live.{Live};
 ghost use Rattle.lk_tables.specs.HeaderSteps.{event_name, no_headers};
-ghost use Rattle.lk_tables.specs.HeaderParts.{CountsSections, file_header_entries, header_sizes, program_header_entries, told_sum};
+ghost use Rattle.lk_tables.specs.HeaderParts.{CountsSections, emitted_name_bytes, file_header_entries, header_sizes, program_header_entries, told_sum};
 ghost use Rattle.lk_tables.specs.SymbolTable.{entry_bytes};
 
 use crate::header_info::HeaderInfo;
@@ -86,6 +86,10 @@ pub fn header_sizes<P: Platform>(link: &LinkInput, platform: &P, header: &Header
     ensures file { result.file_header ≡ entry_bytes (file_header_entries (P.table_sizes platform.now).file_header) }
     ensures segments { result.program_headers
         ≡ told_sum (entry_bytes (program_header_entries (P.table_sizes platform.now).program_header header.now.active_segment_ids)) }
+    ensures headers { result.section_headers
+        ≡ told_sum ((P.table_sizes platform.now).section_header * header.now.num_output_sections_with_content) }
+    ensures names { result.shstrtab
+        ≡ told_sum (emitted_name_bytes link.now header.now.emitted + header.now.partial_link_section_name_bytes) }
 {
     let headers = u128::from(platform.section_header());
     let names = names_bytes(link, header.emitted.as_slice(), link.plan.events.as_slice());

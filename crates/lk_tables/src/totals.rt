@@ -1,11 +1,11 @@
 //! The bytes of the tables, first and whole, by what files take.
 
-ghost use Rattle.std.specs.Prelude.{◌≡◌, ℕ, List, Bool, if◌then◌else◌, length, sum_by};
+ghost use Rattle.std.specs.Prelude.{◌≡◌, ℕ, ◌+◌, ◌*◌, List, Bool, if◌then◌else◌, length, sum_by};
 ghost use Rattle.std.specs.List.{zip};
 ghost use Rattle.lk_link.specs.PartRules.{is_part, table_parts};
 ghost use Rattle.lk_link.specs.TableSizes.{TableSizes};
 ghost use Rattle.lk_gc.specs.declared.live.Live.{Live};
-ghost use Rattle.lk_tables.specs.HeaderParts.{CountsSections, told_sum};
+ghost use Rattle.lk_tables.specs.HeaderParts.{CountsSections, emitted_name_bytes, told_sum};
 ghost use Rattle.lk_tables.specs.ShareSteps.{dynamic_share, sum_of};
 ghost use Rattle.lk_tables.specs.ShareWords.{first_shares, prelude_share};
 ghost use Rattle.lk_tables.specs.TableLists.{TableLists, first_tables, table_bytes, whole_tables};
@@ -84,7 +84,11 @@ pub fn whole_totals<P: Platform>(
     prelude: FileShare,
     header: &HeaderInfo,
 ) -> TableTotals
-    ensures { (live : Live) (told : List Bool) → CountsSections link.now live header.now
+    ensures headers { result.section_headers
+        ≡ told_sum ((P.table_sizes platform.now).section_header * header.now.num_output_sections_with_content) }
+    ensures names { result.shstrtab
+        ≡ told_sum (emitted_name_bytes link.now header.now.emitted + header.now.partial_link_section_name_bytes) }
+    ensures all { (live : Live) (told : List Bool) → CountsSections link.now live header.now
         → shares.now ≡ first_shares (P.table_sizes platform.now) link.now live
         → prelude ≡ prelude_share (P.table_sizes platform.now) link.now live told
         → result ≡ totals_of (whole_tables (P.table_sizes platform.now) link.now live told header.now.emitted header.now.active_segment_ids) }

@@ -175,7 +175,7 @@ pub(crate) fn one_of<W: Word>(alloc: Global, value: &Value, words: &[W]) -> Resu
     wanted(alloc, word_of(text, words))
 }
 
-fn word_of<W: Word>(text: &str, words: &[W]) -> Option<W>
+pub(crate) fn word_of<W: Word>(text: &str, words: &[W]) -> Option<W>
     ensures { result ≡ word_of W.spelling words.now text.now }
 {
     words.iter().copied().find(|word| text == word.text())

@@ -7,10 +7,11 @@ ghost use Rattle.lk_input.specs.ReadingSteps.{one_of};
 use crate::read::described::{Described, one_of};
 use crate::read::error::InputError;
 use crate::read::fail::Fail;
-use crate::read::member::{at_most, element, fixed_list};
-use crate::read::stream::{Streamed, stream_value};
+use crate::read::fixed::stream_fixed;
+use crate::read::plain::{Plain, plain_word, stream_plain};
+use crate::read::stream::Streamed;
 use crate::read::word::Word;
-use json::Reader;
+use json::{Reader, Token};
 use lk_link::relocation::{RelaxCandidate, Relocation, RelocationKind};
 use lk_link::text::Text;
 use serde_json::Value;
@@ -134,27 +135,26 @@ impl Described for RelocationKind {
     }
 }
 
-#[tactic(auto, unfolding(crate::specs::ReadingRelocations::relocation_of))]
-impl Described for Relocation {
-    ghost described = { relocation_of };
-
-    fn read(alloc: Global, value: &Value) -> Result<Relocation, InputError> {
-        fixed_list(alloc, value)?;
-        let offset = element(alloc, value, 0)?;
-        let kind = element(alloc, value, 1)?;
-        let symbol = element(alloc, value, 2)?;
-        let addend = element(alloc, value, 3)?;
-        let thunkable = element(alloc, value, 4)?;
-        at_most(alloc, value, 5)?;
-        Ok(Relocation {
-            offset,
-            addend,
-            symbol,
-            kind,
-            thunkable,
-        })
+impl Plain for RelocationKind {
+    fn plain(token: Token<'_>) -> Option<RelocationKind> {
+        plain_word(token, &KINDS)
     }
 }
+
+impl Streamed for RelocationKind {
+    ghost streamed = { one_of kind_text all_kinds };
+
+    fn stream(
+        alloc: Global,
+        reader: &mut Reader<'_>,
+        depth: usize,
+    ) -> Result<Result<RelocationKind, Text>, Fail> {
+        stream_plain(alloc, reader, depth)
+    }
+}
+
+/// The items of a relocation.
+type RelocationItems = (u64, (RelocationKind, (u32, (i64, (bool, ())))));
 
 impl Streamed for Relocation {
     ghost streamed = { relocation_of };
@@ -164,26 +164,38 @@ impl Streamed for Relocation {
         reader: &mut Reader<'_>,
         depth: usize,
     ) -> Result<Result<Relocation, Text>, Fail> {
-        stream_value(alloc, reader, depth)
+        match stream_fixed::<RelocationItems>(alloc, reader, depth)? {
+            Ok((offset, (kind, (symbol, (addend, (thunkable, ())))))) => Ok(Ok(Relocation {
+                offset,
+                addend,
+                symbol,
+                kind,
+                thunkable,
+            })),
+            Err(path) => Ok(Err(path)),
+        }
     }
 }
 
-#[tactic(auto, unfolding(crate::specs::ReadingRelocations::relax_candidate_of))]
-impl Described for RelaxCandidate {
-    ghost described = { relax_candidate_of };
+/// The items of a relaxation candidate.
+type RelaxItems = (u64, (u32, (u64, (u64, ()))));
 
-    fn read(alloc: Global, value: &Value) -> Result<RelaxCandidate, InputError> {
-        fixed_list(alloc, value)?;
-        let at = element(alloc, value, 0)?;
-        let symbol = element(alloc, value, 1)?;
-        let limit = element(alloc, value, 2)?;
-        let del = element(alloc, value, 3)?;
-        at_most(alloc, value, 4)?;
-        Ok(RelaxCandidate {
-            at,
-            limit,
-            del,
-            symbol,
-        })
+impl Streamed for RelaxCandidate {
+    ghost streamed = { relax_candidate_of };
+
+    fn stream(
+        alloc: Global,
+        reader: &mut Reader<'_>,
+        depth: usize,
+    ) -> Result<Result<RelaxCandidate, Text>, Fail> {
+        match stream_fixed::<RelaxItems>(alloc, reader, depth)? {
+            Ok((at, (symbol, (limit, (del, ()))))) => Ok(Ok(RelaxCandidate {
+                at,
+                limit,
+                del,
+                symbol,
+            })),
+            Err(path) => Ok(Err(path)),
+        }
     }
 }

@@ -1,20 +1,22 @@
 //! The sections of objects from JSON.
 
 ghost use Rattle.std.specs.Prelude.{◌≡◌, ◌∷◌};
+ghost use Rattle.std.specs.Result.{result_ok};
 ghost use Rattle.json.specs.Json.{parse_map};
 ghost use Rattle.json.specs.Reads.{token_of};
-ghost use Rattle.serde_json.specs.View.{view};
-ghost use Rattle.lk_input.specs.LargeMembers.{section_large, section_kept, section_from};
+ghost use Rattle.hex.specs.Hex.{decode_of};
+ghost use Rattle.lk_input.specs.KnownSections.{data_kept, section_from, section_kept};
 ghost use Rattle.lk_input.specs.ReadingSections.{input_section_key_text, slot_text, all_slots, hex_bytes};
-ghost use Rattle.lk_input.specs.ReadingSections.{data_in, size_in, input_section_of, input_sections_of};
-ghost use Rattle.lk_input.specs.ReadingSteps.{Reads, one_of};
+ghost use Rattle.lk_input.specs.ReadingSections.{size_in, input_section_of, input_sections_of};
+ghost use Rattle.lk_input.specs.ReadingSteps.{Reads, one_of, wanted};
 ghost use Rattle.lk_input.specs.Tokens.{data_at, Stands, as_is};
 
 use crate::read::described::{Described, one_of, wanted};
 use crate::read::error::InputError;
 use crate::read::fail::Fail;
-use crate::read::large::{Large, kept_or, reread, stream_members};
-use crate::read::member::{defaulted, optional, required};
+use crate::read::known::{Known, kept_needed, kept_optional, pass_value, stream_known};
+use crate::read::large::{kept_or, reread};
+use crate::read::plain::{Plain, described_from, plain_word, stream_plain};
 use crate::read::stream::{Streamed, misfit_from, settled};
 use crate::read::tokens::deeper;
 use crate::read::word::Word;
@@ -23,7 +25,7 @@ use json::{Reader, Token};
 use lk_link::file::InputSections;
 use lk_link::ids::PartId;
 use lk_link::list::List;
-use lk_link::relocation::Relocation;
+use lk_link::relocation::{RelaxCandidate, Relocation};
 use lk_link::section::{InputSection, InputSlot};
 use lk_link::text::Text;
 use serde_json::Value;
@@ -83,22 +85,39 @@ impl Word for InputSlot {
     }
 }
 
+/// All slots.
+const SLOTS: [InputSlot; 6] = [
+    InputSlot::Discard,
+    InputSlot::Unloaded,
+    InputSlot::MustLoad,
+    InputSlot::DebugInfo,
+    InputSlot::MustLoadDebugInfo,
+    InputSlot::Merge,
+];
+
 impl Described for InputSlot {
     ghost described = { one_of slot_text all_slots };
 
     fn read(alloc: Global, value: &Value) -> Result<InputSlot, InputError> {
-        one_of(
-            alloc,
-            value,
-            &[
-                InputSlot::Discard,
-                InputSlot::Unloaded,
-                InputSlot::MustLoad,
-                InputSlot::DebugInfo,
-                InputSlot::MustLoadDebugInfo,
-                InputSlot::Merge,
-            ],
-        )
+        one_of(alloc, value, &SLOTS)
+    }
+}
+
+impl Plain for InputSlot {
+    fn plain(token: Token<'_>) -> Option<InputSlot> {
+        plain_word(token, &SLOTS)
+    }
+}
+
+impl Streamed for InputSlot {
+    ghost streamed = { one_of slot_text all_slots };
+
+    fn stream(
+        alloc: Global,
+        reader: &mut Reader<'_>,
+        depth: usize,
+    ) -> Result<Result<InputSlot, Text>, Fail> {
+        stream_plain(alloc, reader, depth)
     }
 }
 
@@ -128,6 +147,19 @@ impl Hexadecimal {
         }
     }
 
+    /// Those that a text writes.
+    fn decoded(alloc: Global, text: &str) -> Result<Hexadecimal, InputError>
+        ensures { Reads result (wanted (result_ok (decode_of text.now))) }
+    {
+        match hex::decode(alloc, text) {
+            Ok(bytes) => Ok(Hexadecimal {
+                bytes: List::from_vec(bytes),
+            }),
+            Err(FromHexError::OutOfMemory) => Err(InputError::NoMemory),
+            Err(_) => Err(InputError::misfit(alloc)),
+        }
+    }
+
     /// The bytes.
     fn into_bytes(self) -> List<u8>
         ensures { result ≡ self }
@@ -140,25 +172,53 @@ impl Described for Hexadecimal {
     ghost described = { hex_bytes };
 
     fn read(alloc: Global, value: &Value) -> Result<Hexadecimal, InputError> {
-        let text = wanted(alloc, value.as_str())?;
-        match hex::decode(alloc, text) {
-            Ok(bytes) => Ok(Hexadecimal {
-                bytes: List::from_vec(bytes),
-            }),
-            Err(FromHexError::OutOfMemory) => Err(InputError::NoMemory),
-            Err(_) => Err(InputError::misfit(alloc)),
+        Hexadecimal::decoded(alloc, wanted(alloc, value.as_str())?)
+    }
+}
+
+/// The bytes that begin with this token, if it is a text.
+fn hexadecimal_from(
+    alloc: Global,
+    token: Token<'_>,
+    reader: &mut Reader<'_>,
+    depth: usize,
+) -> Result<Result<Hexadecimal, Text>, Fail>
+    ensures { Stands as_is result (parse_map hex_bytes (data_at depth (token_of token.entry ∷ reader.old))) reader.new }
+{
+    match token {
+        Token::String(text) => settled(Hexadecimal::decoded(alloc, text)),
+        token => described_from(alloc, token, reader, depth),
+    }
+}
+
+#[tactic(auto, using(crate::proofs::Objects::objects))]
+impl Streamed for Hexadecimal {
+    ghost streamed = { hex_bytes };
+
+    fn stream(
+        alloc: Global,
+        reader: &mut Reader<'_>,
+        depth: usize,
+    ) -> Result<Result<Hexadecimal, Text>, Fail> {
+        match reader.next() {
+            Some(token) => hexadecimal_from(alloc, token, reader, depth),
+            None => Err(Fail::NotJson),
         }
     }
 }
 
 /// What a section in this slot holds: the data of a merge section, and nothing of others.
-fn data_in(alloc: Global, value: &Value, slot: InputSlot) -> Result<List<u8>, InputError>
-    ensures { Reads result (data_in slot (view value.now)) }
+fn data_kept(
+    alloc: Global,
+    kept: Option<Result<Hexadecimal, Text>>,
+    slot: InputSlot,
+) -> Result<List<u8>, InputError>
+    ensures { Reads result (data_kept slot kept) }
 {
     match slot {
         InputSlot::Merge => {
             let none = Hexadecimal::empty(alloc);
-            let bytes = defaulted(alloc, value, InputSectionKey::Data, none)?;
+            let bytes = kept_or(alloc, kept, InputSectionKey::Data, none)?;
             Ok(bytes.into_bytes())
         }
         _ => Ok(List::new(alloc)),
@@ -175,19 +235,39 @@ fn size_in(slot: InputSlot, size: u64, bytes: &List<u8>) -> u64
     }
 }
 
-/// The large member of a section.
+/// The members of a section, each as what is read of it.
 #[derive(Drop)]
 pub(crate) struct SectionMembers {
+    name: Option<Result<Text, Text>>,
+    slot: Option<Result<InputSlot, Text>>,
+    part: Option<Result<PartId, Text>>,
+    size: Option<Result<u64, Text>>,
+    bytes: Option<Result<Hexadecimal, Text>>,
+    strings: Option<Result<bool, Text>>,
+    sorted: Option<Result<bool, Text>>,
+    attrs: Option<Result<u32, Text>>,
+    group: Option<Result<u32, Text>>,
     relocs: Option<Result<List<Relocation>, Text>>,
+    relax: Option<Result<List<RelaxCandidate>, Text>>,
 }
 
-impl Large for SectionMembers {
-    ghost is_large = { section_large };
-
+impl Known for SectionMembers {
     ghost kept = { section_kept };
 
     fn none() -> SectionMembers {
-        SectionMembers { relocs: None }
+        SectionMembers {
+            name: None,
+            slot: None,
+            part: None,
+            size: None,
+            bytes: None,
+            strings: None,
+            sorted: None,
+            attrs: None,
+            group: None,
+            relocs: None,
+            relax: None,
+        }
     }
 
     fn take(
@@ -196,37 +276,54 @@ impl Large for SectionMembers {
         key: &str,
         reader: &mut Reader<'_>,
         depth: usize,
-    ) -> Result<bool, Fail> {
-        if key == InputSectionKey::Relocs.text() {
-            reread(alloc, &mut self.relocs, reader, depth)?;
-            Ok(true)
+    ) -> Result<(), Fail> {
+        if key == InputSectionKey::Name.text() {
+            reread(alloc, &mut self.name, reader, depth)
+        } else if key == InputSectionKey::Slot.text() {
+            reread(alloc, &mut self.slot, reader, depth)
+        } else if key == InputSectionKey::Part.text() {
+            reread(alloc, &mut self.part, reader, depth)
+        } else if key == InputSectionKey::Size.text() {
+            reread(alloc, &mut self.size, reader, depth)
+        } else if key == InputSectionKey::Data.text() {
+            reread(alloc, &mut self.bytes, reader, depth)
+        } else if key == InputSectionKey::Strings.text() {
+            reread(alloc, &mut self.strings, reader, depth)
+        } else if key == InputSectionKey::Sorted.text() {
+            reread(alloc, &mut self.sorted, reader, depth)
+        } else if key == InputSectionKey::Attrs.text() {
+            reread(alloc, &mut self.attrs, reader, depth)
+        } else if key == InputSectionKey::Group.text() {
+            reread(alloc, &mut self.group, reader, depth)
+        } else if key == InputSectionKey::Relocs.text() {
+            reread(alloc, &mut self.relocs, reader, depth)
+        } else if key == InputSectionKey::Relax.text() {
+            reread(alloc, &mut self.relax, reader, depth)
         } else {
-            Ok(false)
+            pass_value(alloc, reader, depth)
         }
     }
 }
 
-/// A section, of its large member and the object of the others.
-#[tactic(auto, unfolding(crate::specs::LargeMembers::section_from))]
-fn section_from(
-    alloc: Global,
-    large: SectionMembers,
-    others: &Value,
-) -> Result<InputSection, InputError>
-    ensures { Reads result (section_from large (view others.now)) }
+/// A section, of what was kept of its members.
+#[tactic(auto, unfolding(crate::specs::KnownSections::section_from))]
+fn section_from(alloc: Global, known: SectionMembers) -> Result<InputSection, InputError>
+    ensures { Reads result (section_from known) }
 {
-    let name = defaulted(alloc, others, InputSectionKey::Name, Text::new(alloc))?;
-    let slot = required(alloc, others, InputSectionKey::Slot)?;
-    let part = defaulted(alloc, others, InputSectionKey::Part, PartId::from_u32(0))?;
-    let size = defaulted(alloc, others, InputSectionKey::Size, 0)?;
-    let bytes = data_in(alloc, others, slot)?;
-    let strings = defaulted(alloc, others, InputSectionKey::Strings, false)?;
-    let sorted = defaulted(alloc, others, InputSectionKey::Sorted, false)?;
-    let attrs = defaulted(alloc, others, InputSectionKey::Attrs, 0)?;
-    let group = optional(alloc, others, InputSectionKey::Group)?;
+    let name = kept_or(alloc, known.name, InputSectionKey::Name, Text::new(alloc))?;
+    let slot = kept_needed(alloc, known.slot, InputSectionKey::Slot)?;
+    let first = PartId::from_u32(0);
+    let part = kept_or(alloc, known.part, InputSectionKey::Part, first)?;
+    let size = kept_or(alloc, known.size, InputSectionKey::Size, 0)?;
+    let bytes = data_kept(alloc, known.bytes, slot)?;
+    let strings = kept_or(alloc, known.strings, InputSectionKey::Strings, false)?;
+    let sorted = kept_or(alloc, known.sorted, InputSectionKey::Sorted, false)?;
+    let attrs = kept_or(alloc, known.attrs, InputSectionKey::Attrs, 0)?;
+    let group = kept_optional(alloc, known.group, InputSectionKey::Group)?;
     let no_relocs = List::new(alloc);
-    let relocs = kept_or(alloc, large.relocs, InputSectionKey::Relocs, no_relocs)?;
-    let relax = defaulted(alloc, others, InputSectionKey::Relax, List::new(alloc))?;
+    let relocs = kept_or(alloc, known.relocs, InputSectionKey::Relocs, no_relocs)?;
+    let no_relax = List::new(alloc);
+    let relax = kept_or(alloc, known.relax, InputSectionKey::Relax, no_relax)?;
     Ok(InputSection {
         name,
         slot,
@@ -255,8 +352,8 @@ fn stream_section(
     match token {
         Token::BeginObject => {
             let depth = deeper(depth)?;
-            let (large, others) = stream_members::<SectionMembers>(alloc, reader, depth)?;
-            settled(section_from(alloc, large, &Value::Object(others)))
+            let known = stream_known::<SectionMembers>(alloc, reader, depth)?;
+            settled(section_from(alloc, known))
         }
         token => misfit_from(alloc, token, reader, depth),
     }

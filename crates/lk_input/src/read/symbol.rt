@@ -1,21 +1,27 @@
 //! The symbols of input files from JSON.
 
-ghost use Rattle.std.specs.Prelude.{◌≡◌};
+ghost use Rattle.std.specs.Prelude.{◌≡◌, ◌∷◌};
+ghost use Rattle.json.specs.Json.{parse_map};
+ghost use Rattle.json.specs.Reads.{token_of};
 ghost use Rattle.serde_json.specs.View.{view};
 ghost use Rattle.lk_input.specs.ReadingSymbols.{symbol_key_text, loc_text, all_locs, loc_in, symbol_loc_of, placement_text, all_placements};
+ghost use Rattle.lk_input.specs.Known.{symbol_from, symbol_kept};
 ghost use Rattle.lk_input.specs.ReadingSymbols.{redirect_of, placement_in, symbol_placement_of, input_symbol_of};
 ghost use Rattle.lk_input.specs.ReadingSteps.{Reads, one_of};
+ghost use Rattle.lk_input.specs.Tokens.{Stands, as_is, data_at};
 
 use crate::read::described::{Described, one_of};
 use crate::read::error::InputError;
 use crate::read::fail::Fail;
-use crate::read::member::{
-    alone, at_most, defaulted, double, element, fixed_list, object, optional, required, single,
-};
-use crate::read::stream::{Streamed, stream_value};
+use crate::read::known::{Known, kept_needed, kept_optional, pass_value, stream_known};
+use crate::read::large::{kept_or, reread};
+use crate::read::member::{alone, at_most, double, element, fixed_list, single};
+use crate::read::stream::{Streamed, misfit_from, settled, stream_value};
+use crate::read::tokens::deeper;
 use crate::read::word::Word;
-use json::Reader;
+use json::{Reader, Token};
 use lk_link::flags::ValueFlags;
+use lk_link::ids::SymbolId;
 use lk_link::symbol::{InputSymbol, SymbolLoc, SymbolPlacement};
 use lk_link::text::Text;
 use serde_json::Value;
@@ -239,31 +245,116 @@ impl Word for SymbolKey {
     }
 }
 
-#[tactic(auto, unfolding(crate::specs::ReadingSymbols::input_symbol_of))]
-impl Described for InputSymbol {
-    ghost described = { input_symbol_of };
+/// The members of a symbol, each as what is read of it.
+#[derive(Drop)]
+pub(crate) struct SymbolMembers {
+    name: Option<Result<Text, Text>>,
+    at: Option<Result<SymbolPlacement, Text>>,
+    def: Option<Result<SymbolId, Text>>,
+    flags: Option<Result<u32, Text>>,
+    local: Option<Result<bool, Text>>,
+    weak: Option<Result<bool, Text>>,
+    hidden: Option<Result<bool, Text>>,
+}
 
-    fn read(alloc: Global, value: &Value) -> Result<InputSymbol, InputError> {
-        object(alloc, value)?;
-        let name = defaulted(alloc, value, SymbolKey::Name, Text::new(alloc))?;
-        let at = required(alloc, value, SymbolKey::At)?;
-        let def = optional(alloc, value, SymbolKey::Def)?;
-        let flags = defaulted(alloc, value, SymbolKey::Flags, 0)?;
-        let local = defaulted(alloc, value, SymbolKey::Local, false)?;
-        let weak = defaulted(alloc, value, SymbolKey::Weak, false)?;
-        let hidden = defaulted(alloc, value, SymbolKey::Hidden, false)?;
-        Ok(InputSymbol {
-            name,
-            at,
-            def,
-            flags: ValueFlags(flags),
-            local,
-            weak,
-            hidden,
-        })
+impl Known for SymbolMembers {
+    ghost kept = { symbol_kept };
+
+    fn none() -> SymbolMembers {
+        SymbolMembers {
+            name: None,
+            at: None,
+            def: None,
+            flags: None,
+            local: None,
+            weak: None,
+            hidden: None,
+        }
+    }
+
+    fn take(
+        &mut self,
+        alloc: Global,
+        key: &str,
+        reader: &mut Reader<'_>,
+        depth: usize,
+    ) -> Result<(), Fail> {
+        if key == SymbolKey::Name.text() {
+            reread(alloc, &mut self.name, reader, depth)
+        } else if key == SymbolKey::At.text() {
+            reread(alloc, &mut self.at, reader, depth)
+        } else if key == SymbolKey::Def.text() {
+            reread(alloc, &mut self.def, reader, depth)
+        } else if key == SymbolKey::Flags.text() {
+            reread(alloc, &mut self.flags, reader, depth)
+        } else if key == SymbolKey::Local.text() {
+            reread(alloc, &mut self.local, reader, depth)
+        } else if key == SymbolKey::Weak.text() {
+            reread(alloc, &mut self.weak, reader, depth)
+        } else if key == SymbolKey::Hidden.text() {
+            reread(alloc, &mut self.hidden, reader, depth)
+        } else {
+            pass_value(alloc, reader, depth)
+        }
     }
 }
 
+/// A symbol, of what was kept of its members.
+#[tactic(auto, unfolding(crate::specs::Known::symbol_from))]
+fn symbol_from(alloc: Global, known: SymbolMembers) -> Result<InputSymbol, InputError>
+    ensures { Reads result (symbol_from known) }
+{
+    let name = kept_or(alloc, known.name, SymbolKey::Name, Text::new(alloc))?;
+    let at = kept_needed(alloc, known.at, SymbolKey::At)?;
+    let def = kept_optional(alloc, known.def, SymbolKey::Def)?;
+    let flags = kept_or(alloc, known.flags, SymbolKey::Flags, 0)?;
+    let local = kept_or(alloc, known.local, SymbolKey::Local, false)?;
+    let weak = kept_or(alloc, known.weak, SymbolKey::Weak, false)?;
+    let hidden = kept_or(alloc, known.hidden, SymbolKey::Hidden, false)?;
+    Ok(InputSymbol {
+        name,
+        at,
+        def,
+        flags: ValueFlags(flags),
+        local,
+        weak,
+        hidden,
+    })
+}
+
+impl Streamed for SymbolPlacement {
+    ghost streamed = { symbol_placement_of };
+
+    fn stream(
+        alloc: Global,
+        reader: &mut Reader<'_>,
+        depth: usize,
+    ) -> Result<Result<SymbolPlacement, Text>, Fail> {
+        stream_value(alloc, reader, depth)
+    }
+}
+
+/// The symbol that begins with this token, if it begins an object.
+#[tactic(auto, using(crate::proofs::Objects::objects))]
+fn stream_symbol(
+    alloc: Global,
+    token: Token<'_>,
+    reader: &mut Reader<'_>,
+    depth: usize,
+) -> Result<Result<InputSymbol, Text>, Fail>
+    ensures { Stands as_is result (parse_map input_symbol_of (data_at depth (token_of token.entry ∷ reader.old))) reader.new }
+{
+    match token {
+        Token::BeginObject => {
+            let depth = deeper(depth)?;
+            let known = stream_known::<SymbolMembers>(alloc, reader, depth)?;
+            settled(symbol_from(alloc, known))
+        }
+        token => misfit_from(alloc, token, reader, depth),
+    }
+}
+
+#[tactic(auto, using(crate::proofs::Objects::objects))]
 impl Streamed for InputSymbol {
     ghost streamed = { input_symbol_of };
 
@@ -272,6 +363,9 @@ impl Streamed for InputSymbol {
         reader: &mut Reader<'_>,
         depth: usize,
     ) -> Result<Result<InputSymbol, Text>, Fail> {
-        stream_value(alloc, reader, depth)
+        match reader.next() {
+            Some(token) => stream_symbol(alloc, token, reader, depth),
+            None => Err(Fail::NotJson),
+        }
     }
 }

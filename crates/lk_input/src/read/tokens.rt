@@ -46,7 +46,7 @@ fn signed_number(negative: bool, digits: &[u8]) -> Option<Number>
 
 /// The number that a token writes.
 #[tactic(auto, unfolding(serde_json::specs::Read::number_of))]
-fn number_in(text: &str) -> Option<Number>
+pub(crate) fn number_in(text: &str) -> Option<Number>
     ensures { option_map number_view result ≡ number_of text.now }
 {
     match text.as_bytes() {
@@ -124,7 +124,11 @@ fn next_item(alloc: Global, reader: &mut Reader<'_>, depth: usize) -> Result<Opt
 
 /// The items up to the end of a list.
 #[cycle(value)]
-fn items_from(alloc: Global, reader: &mut Reader<'_>, depth: usize) -> Result<Vec<Value>, Fail>
+pub(crate) fn items_from(
+    alloc: Global,
+    reader: &mut Reader<'_>,
+    depth: usize,
+) -> Result<Vec<Value>, Fail>
     ensures { Stands (λ v. items_view v.items) result (items_at depth reader.old) reader.new }
 {
     let mut items = Vec::new(alloc);

@@ -1,6 +1,5 @@
-use Rattle.std.proofs.Common.{◌≡◌, ℕ, ◌+◌, ◌*◌, ◌/◌, ◌<◌, ◌∙◌, ◌∷◌, [], ◌++◌, ap, arith, sym, refl, min}
+use Rattle.std.proofs.Common.{◌*◌, ◌<◌, ◌∷◌, [], ap, arith, sym, refl}
 use Rattle.std.proofs.lemmas.List.FromFn.{map-range_with_len_more}
-use Rattle.lk_generator.specs.Draws.{state_behind}
 use Rattle.lk_generator.specs.Generated.{empty_prelude, object_group}
 use Rattle.lk_generator.proofs.DrawLemmas.{group_drawn, group_starts, groups_full}
 use Rattle.lk_generator.proofs.link.groups.Goals as goal

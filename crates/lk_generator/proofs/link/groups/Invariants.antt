@@ -1,4 +1,4 @@
-use Rattle.std.proofs.Common.{◌≡◌, ℕ, ◌+◌, ◌*◌, ◌∷◌, [], map, min}
+use Rattle.std.proofs.Common.{◌≡◌, ◌*◌, ◌∷◌, [], map, min}
 use Rattle.std.specs.List.{range_with_len}
 use Rattle.lk_generator.specs.Draws.{state_behind}
 use Rattle.lk_generator.specs.Generated.{empty_prelude, object_group}

@@ -1,5 +1,5 @@
-use Rattle.std.proofs.Common.{◌≡◌, ℕ, ◌+◌, ◌*◌, ap, refl, arith, ◌∙◌}
-use Rattle.lk_generator.specs.Draws.{pick, state_behind}
+use Rattle.std.proofs.Common.{◌≡◌, ◌+◌, ◌*◌, ap, refl, arith, ◌∙◌}
+use Rattle.lk_generator.specs.Draws.{state_behind}
 use Rattle.lk_generator.proofs.DrawLemmas.{pick_on, state_on}
 use Rattle.lk_generator.proofs.objects.draw_object.Goals as goal
 

@@ -17,18 +17,20 @@ use Rattle.lk_tables.specs.declared.header_info.HeaderInfo.{HeaderInfo}
 use Rattle.lk_tables.specs.declared.numbers.DynamicNumbers.{DynamicNumbers}
 use Rattle.lk_sizes.specs.Addresses.{section_addresses}
 use Rattle.lk_sizes.specs.Contents.{contents_of}
-use Rattle.lk_sizes.specs.Emitted.{active_segments, emitted_marks, is_emitted}
+use Rattle.lk_sizes.specs.Emitted.{active_segments, told_marks, is_emitted}
 use Rattle.lk_sizes.specs.Images.{image_addresses}
 use Rattle.lk_sizes.specs.Owners.{Filling}
 use Rattle.lk_sizes.specs.PartOwners.{part_size}
-use Rattle.lk_layout.specs.Defined.{Gives, made_sections, starts_of}
+use Rattle.lk_layout.specs.Defined.{Gives, made_sections}
+use Rattle.lk_values.specs.Starts.{starts_of}
 use Rattle.lk_layout.specs.Machines.{platform_machine}
 use Rattle.lk_layout.specs.Made.{Made, made_content, made_filling}
-use Rattle.lk_layout.specs.OutputContent.{output_content, output_filling}
-use Rattle.lk_layout.specs.Resolutions.{symbol_resolutions}
+use Rattle.lk_values.specs.OutputContent.{output_content, output_filling}
+use Rattle.lk_values.specs.Resolutions.{symbol_resolutions}
 use Rattle.lk_layout.proofs.Answering.{err_exit, outside_segments, refused, same_layout, segments_of, told, unjoined}
 use Rattle.lk_layout.proofs.Reaching.{from_placed, made_placed}
-use Rattle.lk_layout.proofs.Settings.{active_there, length-by_part, length-section_records, takes}
+use Rattle.lk_layout.proofs.Settings.{active_there, length-section_records, takes}
+use Rattle.lk_values.proofs.PartCounts.{length-by_part}
 use Rattle.lk_layout.proofs.computation.lay_out.Goals as goal
 
 pub merge_secondary_parts-requires-clause-each : goal.merge_secondary_parts-requires-clause-each
@@ -52,26 +54,10 @@ pub attributes_of_contents-requires-clause-count : goal.attributes_of_contents-r
 attributes_of_contents-requires-clause-count g c =
     let tables : TableSizes = g.P.Platform.table_sizes c.args.platform.now in
     let link : LinkInput = c.args.link.now in
-    ap length (c.contents-contents.ensures ∙ c.requires.placed.sized.owners.contents) ∙ length-by_part (contents_of (output_filling tables link c.args.placed.sized.kept.live)) link
+    ap length (c.contents.ensures ∙ c.requires.placed.sized.owners.contents) ∙ length-by_part (contents_of (output_filling tables link c.args.placed.sized.kept.live)) link
 
-pub addresses_of-requires-clause-commons : goal.addresses_of-requires-clause-commons
-addresses_of-requires-clause-commons g c = c.commons-commons.ensures ∙ c.requires.placed.sized.owners.commons
-
-pub addresses_of-requires-clause-contents : goal.addresses_of-requires-clause-contents
-addresses_of-requires-clause-contents g c = c.contents-contents.ensures ∙ c.requires.placed.sized.owners.contents
-
-pub addresses_of-requires-clause-told : goal.addresses_of-requires-clause-told
-addresses_of-requires-clause-told g c = c.as_slice-told.ensures ∙ ap (λ (h : HeaderInfo). h.emitted) (c.header-header.ensures ∙ c.requires.placed.sized.owners.header)
-
-pub addresses_of-requires-clause-numbers : goal.addresses_of-requires-clause-numbers
-addresses_of-requires-clause-numbers g c =
-    let tables : TableSizes = g.P.Platform.table_sizes c.args.platform.now in
-    let link : LinkInput = c.args.link.now in
-    let live : Live = c.args.placed.sized.kept.live in
-    let told : List Bool = emitted_marks (output_content tables link live) in
-    let at : AreNumbersAt link live told 0 c.numbers-numbers.result = subst (λ (ns : DynamicNumbers). AreNumbersAt link live told 0 ns) (sym c.numbers-numbers.ensures) c.requires.placed.sized.owners.numbers in
-    let marks : c.as_slice-told.result.now ≡ told = c.as_slice-told.ensures ∙ ap (λ (h : HeaderInfo). h.emitted) (c.header-header.ensures ∙ c.requires.placed.sized.owners.header) in
-    subst (λ (ms : List Bool). AreNumbersAt link live ms 0 c.numbers-numbers.result) (sym marks) at
+pub addresses_of-requires-clause-merged : goal.addresses_of-requires-clause-merged
+addresses_of-requires-clause-merged g c = c.as_slice-merged.ensures ∙ c.requires.placed.sized.kept.merged.are.sections
 
 pub addresses_of-requires-clause-each : goal.addresses_of-requires-clause-each
 addresses_of-requires-clause-each g c = ap length c.as_slice-parts.ensures ∙ c.requires.placed.are.is.each
@@ -101,7 +87,7 @@ returns-in_err-segments g c =
     let made : Made = made_placed c.requires.placed in
     let spans : c.as_slice-sections.result.now ≡ made_sections made = c.as_slice-sections.ensures ∙ c.requires.placed.are.sections in
     let fit : merge_refusal made.link.plan.sections (made_sections made) ≡ None = rw spans at c.in_ok-joined.ensures.fits in
-    let marks : is_marked c.as_slice-told.result.now ≡ is_emitted (made_content made) = ap is_marked (c.as_slice-told.ensures ∙ ap (λ (h : HeaderInfo). h.emitted) c.header-header.ensures) ∙ c.requires.placed.sized.marks in
+    let marks : is_marked c.as_slice-emitted.result.now ≡ is_emitted (made_content made) = ap is_marked (c.as_slice-emitted.ensures ∙ ap (λ (h : HeaderInfo). h.emitted) c.header-header.ensures) ∙ c.requires.placed.sized.marks in
     let active : c.as_slice-active.result.now ≡ active_segments (made_content made)
     = c.as_slice-active.ensures ∙ ap (λ (h : HeaderInfo). h.active_segment_ids) (c.header-header.ensures ∙ c.requires.placed.sized.owners.header) in
     err_exit (Gives machine c.args.link.now) _ c.from_residual-in_err-segments.result c.from_residual-in_err-segments.ensures.1 (λ e is.
@@ -114,7 +100,7 @@ returns-in_err-check_offsets g c =
     let made : Made = made_placed c.requires.placed in
     let spans : c.as_slice-sections.result.now ≡ made_sections made = c.as_slice-sections.ensures ∙ c.requires.placed.are.sections in
     let fit : merge_refusal made.link.plan.sections (made_sections made) ≡ None = rw spans at c.in_ok-joined.ensures.fits in
-    let marks : is_marked c.as_slice-told.result.now ≡ is_emitted (made_content made) = ap is_marked (c.as_slice-told.ensures ∙ ap (λ (h : HeaderInfo). h.emitted) c.header-header.ensures) ∙ c.requires.placed.sized.marks in
+    let marks : is_marked c.as_slice-emitted.result.now ≡ is_emitted (made_content made) = ap is_marked (c.as_slice-emitted.ensures ∙ ap (λ (h : HeaderInfo). h.emitted) c.header-header.ensures) ∙ c.requires.placed.sized.marks in
     let active : c.as_slice-active.result.now ≡ active_segments (made_content made)
     = c.as_slice-active.ensures ∙ ap (λ (h : HeaderInfo). h.active_segment_ids) (c.header-header.ensures ∙ c.requires.placed.sized.owners.header) in
     let inside : segments_of made ≡ None = rw (spans, marks, active) at c.in_ok-segments.ensures.refuses_none in
@@ -132,7 +118,7 @@ returns g c =
     let filling : Filling = made_filling made in
     let spans : c.as_slice-sections.result.now ≡ made_sections made = c.as_slice-sections.ensures ∙ c.requires.placed.are.sections in
     let fit : merge_refusal link.plan.sections (made_sections made) ≡ None = rw spans at c.in_ok-joined.ensures.fits in
-    let marks : is_marked c.as_slice-told.result.now ≡ is_emitted filling.content = ap is_marked (c.as_slice-told.ensures ∙ ap (λ (h : HeaderInfo). h.emitted) c.header-header.ensures) ∙ c.requires.placed.sized.marks in
+    let marks : is_marked c.as_slice-emitted.result.now ≡ is_emitted filling.content = ap is_marked (c.as_slice-emitted.ensures ∙ ap (λ (h : HeaderInfo). h.emitted) c.header-header.ensures) ∙ c.requires.placed.sized.marks in
     let active : c.as_slice-active.result.now ≡ active_segments filling.content
     = c.as_slice-active.ensures ∙ ap (λ (h : HeaderInfo). h.active_segment_ids) (c.header-header.ensures ∙ c.requires.placed.sized.owners.header) in
     let read : c.as_slice-parts.result.now ≡ made.records = c.as_slice-parts.ensures in
@@ -141,14 +127,16 @@ returns g c =
     = rw (spans, marks, active) at c.in_ok-segments.ensures.layouts in
     from_placed machine link c.args.placed (Ok _) c.requires.placed
     (told made _ fit (rw (spans, marks, active) at c.in_ok-segments.ensures.refuses_none) c.in_ok-check_offsets.ensures
-    (same_layout link _ _ _ _ made.records _ _ _ _ _ _ _ _ _ _ _ _ _ _ _ _ _ _ _ c.requires.placed.are.sections
+    (same_layout link _ _ _ _ made.records _ _ _ _ _ _ _ _ _ _ _ _ _ _ _ _ _ _ _ _ _ _ _ c.requires.placed.are.sections
     (c.from_vec.ensures ∙ c.in_ok-joined.ensures.merged ∙ ap (merged_records link.plan.sections) spans)
-    (c.from_vec-2.ensures ∙ c.in_ok-attributes.ensures.contents filling (c.contents-contents.ensures ∙ c.requires.placed.sized.owners.contents))
-    (ap (λ (h : HeaderInfo). h.output_section_indexes) (c.into_header.ensures ∙ c.requires.placed.sized.owners.header))
+    (c.from_vec-2.ensures ∙ c.in_ok-attributes.ensures.contents filling (c.contents.ensures ∙ c.requires.placed.sized.owners.contents))
+    (ap (λ (h : HeaderInfo). h.output_section_indexes) (c.into_told-header.ensures.header ∙ c.requires.placed.sized.owners.header))
     layouts
     (c.in_ok-segments.ensures.thread_local ∙ ap (λ (ls : List SegmentLayout). option_map (λ l. l.sizes) (thread_local_one link.plan ls)) layouts)
     (c.from_vec-3.ensures ∙ c.in_ok-addresses.ensures.sections ∙ ap (λ (rs : List Record). section_addresses filling (starts_of rs)) read)
     c.requires.placed.sized.kept.merged.are.sections
     (c.in_ok-addresses.ensures.buckets ∙ ap (λ (rs : List Record). start_addresses fnv64 (link_inputs link).outputs (image_addresses filling (starts_of rs))) read)
-    (c.in_ok-addresses.ensures.resolutions ∙ ap (λ (rs : List Record). symbol_resolutions tables link live (starts_of rs)) read)
-    c.entry_symbol.ensures))
+    (c.in_ok-addresses.ensures.resolutions ∙ ap (λ (rs : List Record). symbol_resolutions (output_filling tables link live) (starts_of rs)) read)
+    c.entry_symbol.ensures
+    (c.into_told-header.ensures.sorted ∙ c.requires.placed.sized.owners.sorted)
+    c.in_ok-partial_link.ensures))

@@ -11,12 +11,12 @@ use Rattle.lk_layout.specs.Defined.{setting}
 use Rattle.lk_layout.specs.Stages.{IsPlacedLink, Reaches}
 use Rattle.lk_layout.specs.Headers.{header_bytes, leading_bytes}
 use Rattle.lk_layout.specs.Machines.{platform_machine}
-use Rattle.lk_layout.specs.OutputContent.{output_content, output_filling}
+use Rattle.lk_values.specs.OutputContent.{output_content, output_filling}
 use Rattle.lk_layout.proofs.Answering.{err_exit}
 use Rattle.lk_layout.proofs.FewHeaders.{few_active}
 use Rattle.lk_layout.proofs.PlacingRefused.{placing_refused}
 use Rattle.lk_layout.proofs.Reaching.{from_sized}
-use Rattle.lk_layout.proofs.Settings.{length-by_part}
+use Rattle.lk_values.proofs.PartCounts.{length-by_part}
 use Rattle.lk_layout.proofs.WithoutPositions.{by_asked}
 use Rattle.lk_layout.proofs.computation.place.Goals as goal
 
@@ -28,12 +28,6 @@ header_bytes-headers-requires g c =
     let count : length c.header.result.now.active_segment_ids ≡ length (header_info (output_content tables link live)).active_segment_ids = ap (λ (h : HeaderInfo). length h.active_segment_ids) (c.header.ensures ∙ c.requires.sized.owners.header) in
     let few = few_active tables link live c.requires.sized.kept.merged.checked.good in
     omega (arith, count, few)
-
-pub asked_positions-requires-clause-commons : goal.asked_positions-requires-clause-commons
-asked_positions-requires-clause-commons g c = c.commons-commons.ensures ∙ c.requires.sized.owners.commons
-
-pub asked_positions-requires-clause-contents : goal.asked_positions-requires-clause-contents
-asked_positions-requires-clause-contents g c = c.contents-parts.ensures ∙ c.requires.sized.owners.contents
 
 pub asked_positions-requires-clause-sizes : goal.asked_positions-requires-clause-sizes
 asked_positions-requires-clause-sizes g c =

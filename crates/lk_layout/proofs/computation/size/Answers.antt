@@ -13,10 +13,9 @@ use Rattle.lk_layout.specs.declared.error.LayoutError.{LayoutError}
 use Rattle.lk_layout.specs.Defined.{IsLiveAnswer, WithMemory, sizes_refusal}
 use Rattle.lk_layout.specs.Errors.{size_error}
 use Rattle.lk_layout.specs.Machines.{Machine, platform_machine}
-use Rattle.lk_layout.specs.OutputContent.{image_lens, output_filling}
+use Rattle.lk_values.specs.OutputContent.{image_lens, output_filling}
 use Rattle.lk_layout.specs.Stages.{IsSized, Reaches}
 use Rattle.lk_layout.proofs.Answering.{err_exit, out_of_memory, unless_some}
-use Rattle.lk_layout.proofs.CarriedPlans.{whole_output}
 use Rattle.lk_layout.proofs.Reaching.{from_kept}
 use Rattle.lk_layout.proofs.computation.size.Goals as goal
 
@@ -35,7 +34,7 @@ returns-in_err-owners g c =
     let live : Live = c.args.kept.live in
     let error : SizeError = c.in_err-owners.field-0.0 in
     let lens : c.deref.result.now ≡ image_lens link = c.deref.ensures.value ∙ c.requires.kept.merged.are.lens in
-    let given : GivesOwners (plain_filling (content_of link tables live c.deref.result.now)) (Err error) = c.in_err-owners.ensures.owners (whole_output link c.requires.kept.merged.checked.carried) in
+    let given : GivesOwners (plain_filling (content_of link tables live c.deref.result.now)) (Err error) = c.in_err-owners.ensures.owners in
     let here : GivesOwners (output_filling tables link live) (Err error) = subst (λ (ls : List ℕ). GivesOwners (plain_filling (content_of link tables live ls)) (Err error)) lens given in
     err_exit (Reaches machine link (IsSized tables link)) _ c.from_residual.result c.from_residual.ensures.1 (λ e is. from_kept machine link c.args.kept (Err e) c.requires.kept (unsized machine link live error e here is))
 
@@ -45,7 +44,7 @@ returns g c =
     let link = c.args.link.now in
     let live : Live = c.args.kept.live in
     let lens : c.deref.result.now ≡ image_lens link = c.deref.ensures.value ∙ c.requires.kept.merged.are.lens in
-    let gives = c.in_ok-owners.ensures.owners (whole_output link c.requires.kept.merged.checked.carried) in
+    let gives = c.in_ok-owners.ensures.owners in
     record {
       kept = c.requires.kept;
       fits = subst (λ (ls : List ℕ). size_refusal (plain_filling (content_of link tables live ls)) ≡ None) lens gives.0;

@@ -10,9 +10,9 @@ use Rattle.lk_reach.proofs.SymbolNumbers.{first_within, inputs_few}
 use Rattle.lk_gc.specs.declared.live.Live.{Live}
 use Rattle.lk_expressions.specs.declared.positions.SymbolPosition.{SymbolPosition}
 use Rattle.lk_sizes.specs.Addresses.{section_addresses}
-use Rattle.lk_layout.specs.OutputContent.{output_filling}
+use Rattle.lk_values.specs.OutputContent.{output_filling}
 use Rattle.lk_layout.specs.Positions.{no_starts, position_of}
-use Rattle.lk_layout.specs.Tables.{position_in}
+use Rattle.lk_layout.specs.PositionWords.{position_in}
 use Rattle.lk_layout.proofs.Positioned.{position_alike}
 use Rattle.lk_layout.proofs.positions.push_file_positions.Goals as goal
 

@@ -1,6 +1,6 @@
 use Rattle.std.proofs.Common.{◌≡◌, ◌++◌, drop, map}
 use Rattle.lk_link.specs.declared.symbol.InputSymbol.{InputSymbol}
-use Rattle.lk_layout.specs.Tables.{position_in}
+use Rattle.lk_layout.specs.PositionWords.{position_in}
 use Rattle.lk_layout.proofs.positions.push_positions.Given as goal
 
 -- those so far, followed by those of the symbols that are left, are all

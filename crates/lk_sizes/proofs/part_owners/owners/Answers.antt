@@ -1,139 +1,61 @@
-use Rattle.std.proofs.Common.{◌≡◌, ℕ, Bool, List, Option, None, Some, Result, Ok, Err, length, refl, ap, sym, subst, ◌∙◌}
-use Rattle.lk_gc.specs.declared.live.Live.{Live}
-use Rattle.lk_link.specs.declared.link.LinkInput.{LinkInput}
-use Rattle.lk_link.specs.Files.{first_some}
-use Rattle.lk_link.specs.TableSizes.{TableSizes}
-use Rattle.lk_tables.specs.declared.header_info.HeaderInfo.{HeaderInfo}
-use Rattle.lk_tables.specs.declared.shares.FileShare.{FileShare}
-use Rattle.lk_tables.specs.declared.totals.TableTotals.{TableTotals}
-use Rattle.lk_tables.specs.HeaderParts.{CountsSections, section_count}
-use Rattle.lk_tables.specs.ShareWords.{first_shares, prelude_share}
-use Rattle.lk_tables.specs.TableLists.{whole_tables}
-use Rattle.lk_tables.specs.Totals.{totals_of}
+use Rattle.std.proofs.Common.{◌≡◌, Option, None, Some, Result, Ok, Err, length, refl, ap, sym, subst, ◌∙◌}
 use Rattle.std.specs.Result.{IsErrAnd}
+use Rattle.lk_link.specs.Files.{first_some}
+use Rattle.lk_link.specs.Parts.{all_parts}
+use Rattle.lk_link.specs.TableSizes.{TableSizes}
+use Rattle.lk_link.proofs.Numbers.{length-made}
 use Rattle.lk_sizes.specs.declared.error.SizeError.{SizeError}
 use Rattle.lk_sizes.specs.declared.error.SizeError.TheVariants.{AddressOverflow, NoMemory}
-use Rattle.lk_sizes.specs.Contents.{AreContentTotals, GivesContents, size_refusal, sum_refusal}
-use Rattle.lk_sizes.specs.Sizing.{GivesOwners}
-use Rattle.lk_sizes.specs.Header.{header_info}
-use Rattle.lk_sizes.specs.Owners.{AreFirstSizes, Content, Filling, content_of, plain_filling}
+use Rattle.lk_sizes.specs.Contents.{contents_of, size_refusal, sum_refusal}
+use Rattle.lk_sizes.specs.Owners.{Filling, content_of, sized_filling, with_thunks, without_thunks}
 use Rattle.lk_sizes.specs.OwnersRecord.{OwnersRecord}
-use Rattle.lk_sizes.specs.PartOwners.{tables_of}
+use Rattle.lk_sizes.specs.Sizing.{GivesAdded, GivesOwners}
 use Rattle.lk_sizes.proofs.part_owners.owners.Goals as goal
 
--- the tables are whole, by the header
-whole_are : (sizes : TableSizes) (link : LinkInput) (live : Live) (lens : List ℕ) (header : HeaderInfo) (told : List Bool) (shares : List FileShare) (prelude : FileShare) (tables : TableTotals)
-    → header ≡ header_info (content_of link sizes live lens) → told ≡ header.emitted → prelude ≡ prelude_share sizes link live told
-    → tables ≡ totals_of (whole_tables sizes link live told header.emitted header.active_segment_ids) → tables ≡ totals_of (tables_of (content_of link sizes live lens))
-whole_are sizes link live lens header told shares prelude tables is by marked whole =
-    whole
-    ∙ ap (λ (ms : List Bool). totals_of (whole_tables sizes link live ms header.emitted header.active_segment_ids)) by
-    ∙ ap (λ (h : HeaderInfo). totals_of (whole_tables sizes link live h.emitted h.emitted h.active_segment_ids)) is
+-- what the first sum refuses is refused
+earlier : {X : Type 0} (o p : Option X) (x : X) → first_some o o ≡ Some x → first_some o p ≡ Some x
+unfolding first_some
+earlier None p x h = absurd (cc)
+earlier (Some y) p x h = h
 
--- what headers tell counts the link's sections
-counted : (content : Content) (header : HeaderInfo) → header ≡ header_info content → CountsSections content.link content.live header
-counted content header is = record {
-  sections = ap (λ (h : HeaderInfo). h.num_output_sections_with_content) is ∙ sym (ap (λ (h : HeaderInfo). section_count content.link content.live h.emitted) is);
-  names = ap (λ (h : HeaderInfo). h.partial_link_section_name_bytes) is;
-}
+-- where it refuses nothing, the second one speaks
+later : {X : Type 0} (o p : Option X) → first_some o o ≡ None → first_some o p ≡ p
+unfolding first_some
+later None p h = refl
+later (Some y) p h = absurd (cc)
 
--- the exit of a `?`
+refused : (filling : Filling) (e : SizeError) → GivesOwners (without_thunks filling) (Err e) → GivesOwners filling (Err e)
+refused filling (AddressOverflow place) h = earlier (sum_refusal (without_thunks filling)) (sum_refusal filling) (AddressOverflow place) h
+refused filling NoMemory h = tt
+
+given : (filling : Filling) (answer : Result OwnersRecord SizeError) → size_refusal (without_thunks filling) ≡ None → GivesAdded filling answer → GivesOwners filling answer
+given filling (Ok owners) none h = (later (sum_refusal (without_thunks filling)) (sum_refusal filling) none ∙ h.0, h.1)
+given filling (Err (AddressOverflow place)) none h = later (sum_refusal (without_thunks filling)) (sum_refusal filling) none ∙ h
+given filling (Err NoMemory) none h = tt
+
+-- the exit of the `?`
 exit : (filling : Filling) (P : SizeError → Type 0) (answer : Result OwnersRecord SizeError) → IsErrAnd answer P → ((e : SizeError) → P e → GivesOwners filling (Err e))
     → GivesOwners filling answer
 exit filling P (Ok owners) h f = absurd h
 exit filling P (Err e) h f = f e h
 
--- without thunks, both sums are one
-twice : {X : Type 0} (o : Option X) → first_some o o ≡ o
-unfolding first_some
-twice None = refl
-twice (Some x) = refl
+pub returns-in_err-owners : goal.returns-in_err-owners
+returns-in_err-owners g c =
+    let tables : TableSizes = g.P.Platform.table_sizes c.args.platform.now in
+    let filling : Filling = with_thunks (sized_filling (content_of c.args.link.now tables c.args.live.now c.args.merged_lens.now) c.args.sizes.now) c.args.thunk_owners.now in
+    exit filling _ c.from_residual.result c.from_residual.ensures.1
+    (λ e is. subst (λ (x : SizeError). GivesOwners filling (Err x)) (sym is) (refused filling c.in_err-owners.field-0.0 c.in_err-owners.ensures.owners))
 
-one_sum : (content : Content) → size_refusal (plain_filling content) ≡ sum_refusal (plain_filling content)
-one_sum content = twice (sum_refusal (plain_filling content))
-
-same_refusal : (content : Content) (e : SizeError) → GivesContents (plain_filling content) (Err e) → GivesOwners (plain_filling content) (Err e)
-same_refusal content (AddressOverflow place) h = one_sum content ∙ h
-same_refusal content NoMemory h = tt
-
-refused : (content : Content) (e told : SizeError) → told ≡ e → GivesContents (plain_filling content) (Err e) → GivesOwners (plain_filling content) (Err told)
-refused content e told is h = subst (λ (x : SizeError). GivesOwners (plain_filling content) (Err x)) (sym is) (same_refusal content e h)
-
-pub content_totals-requires-clause-commons : goal.content_totals-requires-clause-commons
-content_totals-requires-clause-commons g c = c.deref.ensures.value ∙ c.in_ok-brought.ensures.commons
-
-pub first_sizes-requires-clause-count : goal.first_sizes-requires-clause-count
-first_sizes-requires-clause-count g c = ap length c.deref-2.ensures.value ∙ (c.in_ok-totals.ensures (g.P.Platform.table_sizes c.args.platform.now)).count
-
-pub determine_header_sizes-requires-clause-sizes : goal.determine_header_sizes-requires-clause-sizes
-determine_header_sizes-requires-clause-sizes g c =
+pub add_thunks-requires-clause-count : goal.add_thunks-requires-clause-count
+add_thunks-requires-clause-count g c =
     let link = c.args.link.now in
-    let live : Live = c.args.live.now in
-    let lens : List ℕ = c.args.merged_lens.now in
-    let sizes : TableSizes = g.P.Platform.table_sizes c.args.platform.now in
-    let added : AreContentTotals (plain_filling (content_of link sizes live lens)) c.deref-2.result.now = subst (AreContentTotals (plain_filling (content_of link sizes live lens))) (sym c.deref-2.ensures.value) (c.in_ok-totals.ensures sizes) in
-    let shared : c.deref-3.result.now ≡ first_shares sizes link live = c.deref-3.ensures.value ∙ c.in_ok-brought.ensures.files in
-    ap length c.deref-4.ensures.value ∙ (c.in_ok-first.ensures sizes live lens added shared).count
+    let tables : TableSizes = g.P.Platform.table_sizes c.args.platform.now in
+    let filling : Filling = sized_filling (content_of link tables c.args.live.now c.args.merged_lens.now) c.args.sizes.now in
+    ap length (c.in_ok-owners.ensures.owners).1.contents ∙ length-made (contents_of filling) (all_parts link.plan.sections) 0
 
-pub part_contents-requires-clause-count : goal.part_contents-requires-clause-count
-part_contents-requires-clause-count g c = ap length c.deref-6.ensures.value ∙ (c.in_ok-totals.ensures (g.P.Platform.table_sizes c.args.platform.now)).count
-
-pub returns-clause-owners : goal.returns-clause-owners
-returns-clause-owners g c = λ whole.
-    let link = c.args.link.now in
-    let live : Live = c.args.live.now in
-    let lens : List ℕ = c.args.merged_lens.now in
-    let sizes : TableSizes = g.P.Platform.table_sizes c.args.platform.now in
-    let content : Content = content_of link sizes live lens in
-    let added : AreContentTotals (plain_filling (content_of link sizes live lens)) c.deref-2.result.now = subst (AreContentTotals (plain_filling (content_of link sizes live lens))) (sym c.deref-2.ensures.value) (c.in_ok-totals.ensures sizes) in
-    let again : AreContentTotals (plain_filling (content_of link sizes live lens)) c.deref-6.result.now = subst (AreContentTotals (plain_filling (content_of link sizes live lens))) (sym c.deref-6.ensures.value) (c.in_ok-totals.ensures sizes) in
-    let shared : c.deref-3.result.now ≡ first_shares sizes link live = c.deref-3.ensures.value ∙ c.in_ok-brought.ensures.files in
-    let later : c.deref-5.result.now ≡ first_shares sizes link live = c.deref-5.ensures.value ∙ c.in_ok-brought.ensures.files in
-    let first : AreFirstSizes content c.deref-4.result.now = subst (AreFirstSizes content) (sym c.deref-4.ensures.value) (c.in_ok-first.ensures sizes live lens added shared) in
-    let header : c.in_ok-header.header ≡ header_info content = c.in_ok-header.ensures.header sizes lens first in
-    let told : c.whole_totals-tables.result ≡ totals_of (tables_of content)
-    = whole_are sizes link live lens c.in_ok-header.header c.as_slice.result.now c.deref-5.result.now c.mark_prelude-prelude.result c.whole_totals-tables.result
-    header c.as_slice.ensures c.mark_prelude-prelude.ensures (c.whole_totals-tables.ensures live c.as_slice.result.now (counted (content_of link sizes live lens) c.in_ok-header.header header) later c.mark_prelude-prelude.ensures) in
-    let gives = c.in_ok-contents.ensures (plain_filling content) again told in
-    let marked : c.mark_prelude-prelude.result ≡ prelude_share sizes link live (header_info content).emitted
-    = c.mark_prelude-prelude.ensures ∙ ap (prelude_share sizes link live) (c.as_slice.ensures ∙ ap (λ (h : HeaderInfo). h.emitted) header) in (
-      one_sum content ∙ gives.0,
-      record {
-        contents = gives.1;
-        header = header;
-        numbers = c.new-numbers.ensures sizes live (header_info content).emitted c.requires.good (c.deref-7.ensures.value ∙ c.in_ok-brought.ensures.files) marked;
-        commons = c.from_vec.ensures ∙ c.in_ok-brought.ensures.commons;
-        lens = c.from_vec-lens.ensures ∙ c.in_ok-from_slice.ensures.items;
-      },
-    )
-
-pub returns-clause-marks : goal.returns-clause-marks
-returns-clause-marks g c =
-    let link = c.args.link.now in
-    let live : Live = c.args.live.now in
-    let lens : List ℕ = c.args.merged_lens.now in
-    let sizes : TableSizes = g.P.Platform.table_sizes c.args.platform.now in
-    let added : AreContentTotals (plain_filling (content_of link sizes live lens)) c.deref-2.result.now = subst (AreContentTotals (plain_filling (content_of link sizes live lens))) (sym c.deref-2.ensures.value) (c.in_ok-totals.ensures sizes) in
-    let shared : c.deref-3.result.now ≡ first_shares sizes link live = c.deref-3.ensures.value ∙ c.in_ok-brought.ensures.files in
-    let first : AreFirstSizes (content_of link sizes live lens) c.deref-4.result.now
-    = subst (AreFirstSizes (content_of link sizes live lens)) (sym c.deref-4.ensures.value) (c.in_ok-first.ensures sizes live lens added shared) in
-    c.in_ok-header.ensures.marks sizes lens first
-
-pub returns-in_err-contents-clause-owners : goal.returns-in_err-contents-clause-owners
-returns-in_err-contents-clause-owners g c = λ whole.
-    let link = c.args.link.now in
-    let live : Live = c.args.live.now in
-    let lens : List ℕ = c.args.merged_lens.now in
-    let sizes : TableSizes = g.P.Platform.table_sizes c.args.platform.now in
-    let filling : Filling = plain_filling (content_of link sizes live lens) in
-    let added : AreContentTotals (plain_filling (content_of link sizes live lens)) c.deref-2.result.now = subst (AreContentTotals (plain_filling (content_of link sizes live lens))) (sym c.deref-2.ensures.value) (c.in_ok-totals.ensures sizes) in
-    let again : AreContentTotals (plain_filling (content_of link sizes live lens)) c.deref-6.result.now = subst (AreContentTotals (plain_filling (content_of link sizes live lens))) (sym c.deref-6.ensures.value) (c.in_ok-totals.ensures sizes) in
-    let shared : c.deref-3.result.now ≡ first_shares sizes link live = c.deref-3.ensures.value ∙ c.in_ok-brought.ensures.files in
-    let later : c.deref-5.result.now ≡ first_shares sizes link live = c.deref-5.ensures.value ∙ c.in_ok-brought.ensures.files in
-    let first : AreFirstSizes filling.content c.deref-4.result.now = subst (AreFirstSizes filling.content) (sym c.deref-4.ensures.value) (c.in_ok-first.ensures sizes live lens added shared) in
-    let header : c.in_ok-header.header ≡ header_info filling.content = c.in_ok-header.ensures.header sizes lens first in
-    let told : c.whole_totals-tables.result ≡ totals_of (tables_of filling.content)
-    = whole_are sizes link live lens c.in_ok-header.header c.as_slice.result.now c.deref-5.result.now c.mark_prelude-prelude.result c.whole_totals-tables.result
-    header c.as_slice.ensures c.mark_prelude-prelude.ensures (c.whole_totals-tables.ensures live c.as_slice.result.now (counted (content_of link sizes live lens) c.in_ok-header.header header) later c.mark_prelude-prelude.ensures) in
-    exit filling _ c.from_residual-in_err-contents.result c.from_residual-in_err-contents.ensures.1
-    (λ e is. refused (content_of link sizes live lens) c.in_err-contents.field-0.0 e is (c.in_err-contents.ensures filling again told))
+pub returns : goal.returns
+returns g c =
+    let tables : TableSizes = g.P.Platform.table_sizes c.args.platform.now in
+    let sized : Filling = sized_filling (content_of c.args.link.now tables c.args.live.now c.args.merged_lens.now) c.args.sizes.now in
+    let filling : Filling = with_thunks sized c.args.thunk_owners.now in
+    given filling c.add_thunks.result c.in_ok-owners.ensures.owners.0 (c.add_thunks.ensures sized c.in_ok-owners.ensures.owners.1)

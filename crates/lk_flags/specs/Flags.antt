@@ -1,0 +1,35 @@
+-- Words of flags that threads share: what each may hold, and what a thread knows of them.
+use Rattle.std.specs.Prelude.{◌≡◌, ℕ, List, All, length, slice_index}
+use Rattle.std.specs.Int.{bit_at}
+use Rattle.lk_flags.specs.declared.flags.FlagSet.{FlagSet}
+pub use Rattle.atomic_table.specs.Seated.{TableId}
+
+-- each bit of the first is one of the second
+abbrev pub Within : ℕ → ℕ → Type 0
+Within a b = (i : ℕ) → bit_at a i ≡ 1 → bit_at b i ≡ 1
+
+-- each word of the first list is within the word of the second at its place
+abbrev pub AllWithin : List ℕ → List ℕ → Type 0
+AllWithin vs ws = (n : ℕ) → Within (slice_index vs n) (slice_index ws n)
+
+-- what was set is still there
+abbrev pub AreIn : List FlagSet → List ℕ → Type 0
+AreIn sets words = All (λ x. Within x.bits (slice_index words x.word)) sets
+
+-- what a pass knows: the table that it is of, and what it set there, in order
+pub record Pass : Type 0 where
+  pub table : TableId
+  pub sets : List FlagSet
+
+-- a word as it is found: it has what was handed in and what was set before, and nothing beyond its bound
+pub record IsFound (handed words : List ℕ) (sets : List FlagSet) (word found : ℕ) : Type 0 where
+  pub handed_in : Within (slice_index handed word) found
+  pub bounded : Within found (slice_index words word)
+  pub own : All (λ x. x.word ≡ word → Within x.bits found) sets
+
+-- all words at the end
+pub record AreLeft (handed words : List ℕ) (sets : List FlagSet) (left : List ℕ) : Type 0 where
+  pub count : length left ≡ length words
+  pub handed_in : AllWithin handed left
+  pub bounded : AllWithin left words
+  pub own : AreIn sets left

@@ -1,0 +1,159 @@
+//! A table of flag words, and the passes by which threads set flags in it.
+
+ghost use Rattle.std.specs.Prelude.{◌≡◌, ◌<◌, [], ◌∷◌, ◌++◌, IfOk, length, slice_index};
+ghost use Rattle.lk_flags.specs.Flags.{AllWithin, AreLeft, IsFound, Within};
+ghost use Rattle.lk_flags.specs.Rule.{IsKeptBy, SetsFlags, view_of};
+
+use crate::lists::Reach;
+use atomic_table::{Join, Play, Seat, Split, Table, TableRule};
+use std::alloc::{AllocError, Global};
+use std::collections::LinkedList;
+use std::marker::{Model, PhantomData};
+
+/// Flags that were set in a word.
+pub struct FlagSet {
+    pub word: usize,
+    pub bits: u64,
+}
+
+/// What a thread knows: the flags that it set. No value of it is made.
+pub struct View {
+    sets: LinkedList<FlagSet>,
+}
+
+/// The rule of a table: every word has what was handed in and what is known to be set, and is within its bound.
+pub struct Flags<J: Reach> {
+    of: PhantomData<J>,
+}
+
+impl<J: Reach> TableRule<u8, View, ()> for Flags<J> {
+    ghost holds = { λ _ s. IsKeptBy J.lists.handed J.lists.words s };
+
+    ghost first = { λ _. view_of [] };
+}
+
+struct SetFlags<J: Reach> {
+    of: PhantomData<J>,
+}
+
+impl<J: Reach> Play<u8, View> for SetFlags<J> {
+    ghost then = { SetsFlags J.lists.handed J.lists.words };
+}
+
+struct Cut;
+
+impl Split<View> for Cut {
+    ghost left = { λ v. v };
+
+    ghost right = { λ _. view_of [] };
+}
+
+impl Join<View> for Cut {
+    ghost both = { λ v w. view_of (v.sets ++ w.sets) };
+
+    ghost spent = { view_of [] };
+}
+
+/// Words of flags, the first of them spare. Contracts see which table it is (libwild: `AtomicPerSymbolFlags`).
+#[derive(Drop)]
+pub struct FlagTable<J: Reach> {
+    table: Table<u8, View, (), Flags<J>, Global>,
+    /// As many words, to which those of the table are moved at the end.
+    room: Vec<u64>,
+}
+
+impl<J: Reach> Model for FlagTable<J> {
+    ghost use Rattle.std.specs.Prelude.{◌≡◌, ◌<◌, length};
+    ghost use Rattle.lk_flags.specs.Flags.{TableId};
+
+    ghost Value = { TableId };
+
+    ghost view = { λ t. t.table.shared.table_id };
+
+    ghost invariant = { λ t. (t.table.shared.table_id.words ≡ length J.lists.words) × (t.table.shared.table_id.slots ≡ 0) × (0 < length J.lists.words) × (length t.room.items ≡ length J.lists.words) };
+}
+
+/// The right to set flags in a table. Contracts see which table, and what was set. It takes no bytes.
+#[derive(Drop)]
+pub struct FlagPass {
+    seat: Seat<u8, View>,
+}
+
+impl Model for FlagPass {
+    ghost use Rattle.std.specs.Prelude.{◌≡◌, []};
+    ghost use Rattle.lk_flags.specs.Flags.{Pass};
+
+    ghost Value = { Pass };
+
+    ghost view = { λ p. record { table = p.seat.table_id; sets = p.seat.me.0.sets } };
+
+    ghost invariant = { λ p. p.seat.me.1 ≡ [] };
+}
+
+impl<J: Reach> FlagTable<J> {
+    /// A table of these words, the flags that are handed in, with the first pass for it. Takes room for the words twice.
+    pub fn new(alloc: Global, words: &[u64]) -> Result<(FlagTable<J>, FlagPass), AllocError>
+        requires handed { words.now ≡ J.lists.handed }
+        requires count { length J.lists.handed ≡ length J.lists.words }
+        requires spare { 0 < length J.lists.handed }
+        requires bounded { AllWithin J.lists.handed J.lists.words }
+        ensures table { IfOk result (λ t. t.1.table ≡ t.0) }
+        ensures sets { IfOk result (λ t. t.1.sets ≡ []) }
+    {
+        let room = Vec::from_elem(alloc, 0u64, words.len())?;
+        let (table, seat) = Table::of_words(alloc, words, &())?;
+        Ok((FlagTable { table, room }, FlagPass { seat }))
+    }
+
+    /// Sets flags in a word, and answers the word as it was.
+    pub fn set(&self, pass: &mut FlagPass, word: usize, bits: u64) -> u64
+        requires own { pass.old.table ≡ self.now }
+        requires place { word < length J.lists.words }
+        requires bounded { Within bits (slice_index J.lists.words word) }
+        ensures table { pass.new.table ≡ pass.old.table }
+        ensures sets { pass.new.sets ≡ pass.old.sets ++ record { word = word; bits = bits } ∷ [] }
+        ensures found { IsFound J.lists.handed J.lists.words pass.old.sets word result }
+    {
+        self.table
+            .shared
+            .fetch_or::<SetFlags<J>>(&mut pass.seat, word, bits)
+    }
+
+    /// A further pass, which has set nothing.
+    pub fn split(&self, pass: &mut FlagPass) -> FlagPass
+        requires own { pass.old.table ≡ self.now }
+        ensures same { pass.new ≡ pass.old }
+        ensures table { result.table ≡ pass.old.table }
+        ensures sets { result.sets ≡ [] }
+    {
+        FlagPass {
+            seat: self.table.shared.split_seat::<Cut>(&mut pass.seat),
+        }
+    }
+
+    /// Joins a pass to another, which has then set what both had.
+    pub fn join(&self, pass: &mut FlagPass, other: FlagPass)
+        requires own { pass.old.table ≡ self.now }
+        requires same { other.table ≡ self.now }
+        ensures table { pass.new.table ≡ pass.old.table }
+        ensures sets { pass.new.sets ≡ pass.old.sets ++ other.sets }
+    {
+        let FlagPass { seat } = other;
+        self.table.shared.join_seat::<Cut>(&mut pass.seat, seat);
+    }
+
+    /// The words at the end, which have all that the pass set. Takes no memory.
+    pub fn close(self, pass: FlagPass) -> Vec<u64>
+        requires own { pass.table ≡ self }
+        ensures { AreLeft J.lists.handed J.lists.words pass.sets result.items }
+    {
+        let FlagTable { table, mut room } = self;
+        let FlagPass { seat } = pass;
+        let closed = table.close_with(seat);
+        for place in 0..room.len() {
+            room[place] = closed.word(place);
+        }
+        closed.free();
+        room
+    }
+}

@@ -1,0 +1,13 @@
+use Rattle.std.proofs.Common.{◌≡◌, Some, ap, sym, arith}
+use Rattle.serde_json.specs.Read.{number_of as written}
+use Rattle.serde_json.specs.View.{number_view}
+use Rattle.lk_input.specs.ReadingSteps.{signed_of, wanted}
+use Rattle.lk_input.proofs.Plain.{plain-number-by}
+use Rattle.lk_input.proofs.read.plain.I64Plain.plain.Goals as goal
+
+pub returns-in_ok-number_in-in-Number : goal.returns-in_ok-number_in-in-Number
+returns-in_ok-number_in-in-Number c =
+    let text = c.in-Number.text.now in
+    let n = number_view c.in_ok-number_in-in-Number.field-0 in
+    let read : written text ≡ Some n = grind arith in
+    rw c.in-Number.is (plain-number-by signed_of text n c.as_i64.result read (ap wanted (sym c.as_i64.ensures)))

@@ -1,0 +1,157 @@
+//! Sorted sections: the live ones stand last in their parts, in the order of their names' bytes, then by file and index.
+
+ghost use Rattle.std.specs.Prelude.{◌≡◌, ◌^◌, ◌<◌, IfOk, IsSome, length, map, slice_index};
+ghost use Rattle.std.specs.Option.{option_map_or};
+ghost use Rattle.lk_link.specs.Files.{file_in};
+ghost use Rattle.lk_link.specs.Inputs.{all_inputs, input_number};
+ghost use Rattle.lk_link.specs.Parts.{all_parts};
+ghost use Rattle.lk_link.specs.Walks.{input_of};
+ghost use Rattle.lk_link.specs.WellFormed.{IsWellFormed};
+ghost use Rattle.lk_gc.specs.Reach.{AreLive};
+ghost use Rattle.lk_sizes.specs.Harvest.{SortedFit, capacity_by, sorted_section, sorted_sections};
+ghost use Rattle.lk_sizes.specs.Sorted.{name_cmp, sorted_inputs, sorted_ones};
+ghost use Rattle.lk_sizes.specs.Owners.{own_sizes};
+ghost use Rattle.lk_sizes.specs.Tables.{IsInput};
+
+use crate::owners::len_at;
+use lk_gc::Live;
+use lk_link::{FileId, InputRef, LinkInput, PartId, Section};
+use std::alloc::{AllocError, Global};
+use std::cmp::Ordering;
+
+/// A sorted section that is live, in its part (libwild: `InputSortedSection`).
+#[derive(Clone, Copy, Debug, PartialEq, Eq)]
+pub struct InputSortedSection {
+    pub file_id: FileId,
+    /// Its index in the file.
+    pub section_index: usize,
+    pub part_id: PartId,
+    /// The bytes that it takes in the part, the padding behind it among them.
+    pub size: u64,
+    /// That of the part, in bytes.
+    pub alignment: u64,
+}
+
+/// The sorted sections that are live, in the order in which they stand in their parts: by the bytes of their names, then by file
+/// and index. The sizes are those of all input sections, by number; what a sorted one takes with its padding is at most
+/// 2^64 - 1. Looks at each input section once, and takes time n log n in those that are sorted (libwild:
+/// `harvest_and_sort_script_sections`).
+pub fn harvest_and_sort_script_sections(
+    alloc: Global,
+    link: &LinkInput,
+    live: &Live,
+    sizes: &[u64],
+) -> Result<Vec<InputSortedSection>, AllocError>
+    requires good { IsWellFormed link.now }
+    requires live { AreLive link.now live.now }
+    requires fit { SortedFit link.now live.now sizes.now }
+    ensures { IfOk result (λ told. told.items ≡ sorted_sections link.now live.now sizes.now) }
+{
+    tell_sorted(alloc, link, live, Some(sizes))
+}
+
+/// Those by these sizes, or by the ones that the description gives.
+pub(crate) fn tell_sorted(
+    alloc: Global,
+    link: &LinkInput,
+    live: &Live,
+    sizes: Option<&[u64]>,
+) -> Result<Vec<InputSortedSection>, AllocError>
+    requires good { IsWellFormed link.now }
+    requires live { AreLive link.now live.now }
+    requires fit { SortedFit link.now live.now (option_map_or (λ s. s.now) sizes (own_sizes link.now)) }
+    ensures { IfOk result (λ told. told.items ≡ sorted_sections link.now live.now (option_map_or (λ s. s.now) sizes.entry (own_sizes link.now))) }
+{
+    let found = sorted_refs(alloc, link, live)?;
+    let mut told = Vec::with_capacity(alloc, found.len())?;
+    for input in found.as_slice() {
+        told.push(tell(link, sizes, *input))?;
+    }
+    Ok(told)
+}
+
+/// An input section with what it takes in its part.
+fn tell(link: &LinkInput, sizes: Option<&[u64]>, input: InputRef<'_>) -> InputSortedSection
+    requires good { IsWellFormed link.now }
+    requires there { IsInput link.now (input_of input) }
+    requires part { input.section.now.part < length (all_parts link.now.plan.sections) }
+    requires fits { capacity_by link.now (option_map_or (λ s. s.now) sizes (own_sizes link.now)) (input_of input) < 2 ^ 64 }
+    ensures { result ≡ sorted_section link.now (option_map_or (λ s. s.now) sizes.entry (own_sizes link.now)) (input_of input.entry) }
+{
+    let size = size_of(link, sizes, input);
+    let parts = link.plan.sections.parts();
+    let part = &parts[input.section.part.as_usize()];
+    InputSortedSection {
+        file_id: input.file,
+        section_index: input.index,
+        part_id: input.section.part,
+        size: Section { size }.exact_capacity(part) as u64,
+        alignment: part.alignment,
+    }
+}
+
+/// The size of an input section, by those of all, or by the description.
+pub(crate) fn size_of(link: &LinkInput, sizes: Option<&[u64]>, input: InputRef<'_>) -> u64
+    requires good { IsWellFormed link.now }
+    requires there { IsInput link.now (input_of input) }
+    ensures { result ≡ slice_index (option_map_or (λ s. s.now) sizes.entry (own_sizes link.now)) (input_number link.now.groups input.entry.file input.entry.index) }
+{
+    match sizes {
+        Some(sizes) => len_at(sizes, number_of(link, input.file, input.index)),
+        None => input.section.size,
+    }
+}
+
+/// The number of an input section over all files.
+pub(crate) fn number_of(link: &LinkInput, file: FileId, index: usize) -> usize
+    requires good { IsWellFormed link.now }
+    requires file { IsSome (file_in link.now.groups file) }
+    requires there { input_number link.now.groups file index < length (all_inputs link.now.groups) }
+    ensures { result ≡ input_number link.now.groups file index }
+{
+    match link.groups.input_start(file) {
+        Some(first) => first + index,
+        None => 0,
+    }
+}
+
+/// The sorted sections that are live, in the order of their names.
+fn sorted_refs<'a>(
+    alloc: Global,
+    link: &'a LinkInput,
+    live: &'a Live,
+) -> Result<Vec<InputRef<'a>>, AllocError>
+    requires good { IsWellFormed link.now }
+    ensures { IfOk result (λ found. map input_of found.items ≡ sorted_inputs link.now live.now) }
+{
+    let mut found = find_sorted(alloc, link, live)?;
+    found.sort_unstable_by(|a, b| compare(a, b));
+    Ok(found)
+}
+
+/// Those by file and index.
+fn find_sorted<'a>(
+    alloc: Global,
+    link: &'a LinkInput,
+    live: &'a Live,
+) -> Result<Vec<InputRef<'a>>, AllocError>
+    requires good { IsWellFormed link.now }
+    ensures { IfOk result (λ found. map input_of found.items ≡ sorted_ones link.now live.now) }
+{
+    let mut found = Vec::new(alloc);
+    for input in live.inputs(link) {
+        if input.section.sorted {
+            found.push(input)?;
+        }
+    }
+    Ok(found)
+}
+
+/// How two input sections compare: by the bytes of their names, then by file, then by index.
+fn compare(a: &InputRef<'_>, b: &InputRef<'_>) -> Ordering
+    ensures { result ≡ name_cmp (input_of a.now) (input_of b.now) }
+{
+    let names = a.section.name.as_str().cmp(b.section.name.as_str());
+    let places = a.file.cmp(&b.file).then(a.index.cmp(&b.index));
+    names.then(places)
+}

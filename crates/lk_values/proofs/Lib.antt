@@ -1,0 +1,10 @@
+mod Keeping
+mod NothingAsked
+mod NothingMerged
+mod Stopping
+pub mod CommonsFound
+pub mod EntriesTaken
+pub mod Imaging
+pub mod PartCounts
+pub mod Placing
+pub mod Pushing

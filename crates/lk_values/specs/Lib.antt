@@ -1,0 +1,11 @@
+pub mod Entries
+pub mod EntryWords
+pub mod Images
+pub mod Kept
+pub mod OutputContent
+pub mod Outside
+pub mod OutsideWords
+pub mod Resolutions
+pub mod Starts
+pub mod Tables
+pub mod Texts

@@ -1,0 +1,19 @@
+//! Where what a link brings stands in memory, once its parts are placed, and what symbols stand for: the addresses of live sections, of
+//! merged data and of commons, the value and the entries of each symbol, and the first offset that is chosen outside merged data.
+#![tactic(auto)]
+
+pub mod addresses;
+mod entries;
+pub mod images;
+mod kept;
+mod merged;
+pub mod outside;
+pub mod resolution;
+pub mod symbol_resolutions;
+
+pub use crate::addresses::{Addresses, addresses_of};
+pub use crate::images::{Images, image_lens};
+pub use crate::outside::{MergeOffsetPlace, check_offsets};
+pub use crate::resolution::{EntryFault, entry_symbol, entry_value};
+pub use crate::symbol_resolutions::SymbolResolutions;
+pub use lk_link::Resolution;

@@ -1,0 +1,73 @@
+//! What symbols stand for, by number.
+
+ghost use Rattle.std.specs.Prelude.{◌≡◌, ◌++◌, ◌∷◌, [], IfOk, OnOk, length};
+ghost use Rattle.lk_values.specs.Resolutions.{resolution_at};
+
+use crate::kept::{Kept, keep};
+use lk_link::{Resolution, SymbolId};
+use std::alloc::{AllocError, Global};
+use std::marker::Model;
+
+/// Of each symbol, by number, what it stands for in the output; none where it has no resolution (libwild: `SymbolResolutions`).
+/// Takes 16 bytes a symbol, and 56 more for each that has an entry in `got` or `plt`. Contracts see a list of options.
+#[derive(Drop)]
+pub struct SymbolResolutions {
+    /// By symbol number.
+    kept: Vec<Kept>,
+    /// Those that are kept whole, in the order of their symbols.
+    wholes: Vec<Resolution>,
+}
+
+impl Model for SymbolResolutions {
+    ghost use Rattle.std.specs.Prelude.{All, List, Option, map};
+    ghost use Rattle.lk_link.specs.declared.resolution.Resolution.{Resolution};
+    ghost use Rattle.lk_values.specs.Kept.{IsWithin, told_of};
+
+    ghost Value = { List (Option Resolution) };
+
+    ghost view = { λ a. map (told_of a.wholes.items) a.kept.items };
+
+    ghost invariant = { λ a. All (IsWithin a.wholes.items) a.kept.items };
+}
+
+impl SymbolResolutions {
+    /// None, with room for those of so many symbols.
+    pub fn with_capacity(alloc: Global, count: usize) -> Result<SymbolResolutions, AllocError>
+        ensures { IfOk result (λ made. made ≡ []) }
+    {
+        let kept = Vec::with_capacity(alloc, count)?;
+        let wholes = Vec::new(alloc);
+        Ok(SymbolResolutions { kept, wholes })
+    }
+
+    /// Adds that of the next symbol, if it has one.
+    pub fn push(&mut self, resolution: Option<Resolution>) -> Result<(), AllocError>
+        ensures { OnOk result (self.new ≡ self.old ++ resolution ∷ []) }
+    {
+        let kept = keep(&mut self.wholes, resolution)?;
+        self.kept.push(kept)?;
+        Ok(())
+    }
+
+    /// How many symbols there are.
+    pub fn len(&self) -> usize
+        ensures { result ≡ length self.now }
+    {
+        self.kept.len()
+    }
+
+    /// The resolution of a symbol, if it has one. Takes constant time.
+    pub fn get(&self, symbol: SymbolId) -> Option<Resolution>
+        ensures { result ≡ resolution_at self.now symbol }
+    {
+        self.nth(symbol.as_usize())
+    }
+
+    /// That of the symbol with this number, if it has one.
+    pub fn nth(&self, number: usize) -> Option<Resolution>
+        ensures { result ≡ resolution_at self.now number }
+    {
+        let kept = self.kept.as_slice().get(number).copied()?;
+        kept.told(self.wholes.as_slice())
+    }
+}

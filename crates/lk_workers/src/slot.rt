@@ -1,0 +1,87 @@
+//! What others leave for a group.
+
+ghost use Rattle.std.specs.Prelude.{◌≡◌, [], false, IfErr, IfOk, MatchBool};
+ghost use Rattle.lk_slots.specs.Machine.{Parks, Receives, Swaps};
+ghost use Rattle.lk_workers.specs.Items.{AreOwn, IsOwn, machine_item, machine_items, slot_of};
+
+use crate::work::{LocalWorkQueue, WorkItem};
+use lk_flags::Reach;
+use std::alloc::{AllocError, AllocFailed, Global};
+use std::marker::{Model, PhantomData};
+use std::mem;
+
+/// A group's slot: whether the group is parked, and what others left for it. A parked group has nothing waiting, and all that waits is
+/// the group's own and there is reason for it. It lies behind a lock (libwild: `WorkerSlot`).
+#[derive(Drop)]
+pub struct WorkerSlot<J: Reach> {
+    group: u32,
+    parked: bool,
+    work: Vec<WorkItem>,
+    of: PhantomData<J>,
+}
+
+impl<J: Reach> Model for WorkerSlot<J> {
+    ghost use Rattle.std.specs.Prelude.{◌≡◌, true, []};
+    ghost use Rattle.lk_workers.specs.Items.{AreOwn, SlotValue};
+
+    ghost Value = { SlotValue };
+
+    ghost view = { λ a. record { group = a.group; parked = a.parked; work = a.work.items } };
+
+    ghost invariant = { λ a. (a.parked ≡ true → a.work.items ≡ []) × AreOwn J.lists a.group a.work.items };
+}
+
+impl<J: Reach> WorkerSlot<J> {
+    /// The slot of a group that isn't parked, in which nothing waits; takes no memory.
+    pub fn new(alloc: Global, group: u32) -> WorkerSlot<J>
+        ensures { result ≡ record { group = group; parked = false; work = [] } }
+    {
+        WorkerSlot {
+            group,
+            parked: false,
+            work: Vec::new(alloc),
+            of: PhantomData,
+        }
+    }
+
+    /// The group whose slot it is.
+    pub fn group(&self) -> u32
+        ensures { result ≡ self.now.group }
+    {
+        self.group
+    }
+
+    /// Leaves an item for the group, which isn't parked any more, and answers whether it was. Without memory the item comes back, and
+    /// the slot stays as it is (libwild: `send_work`).
+    pub fn send_work(&mut self, item: WorkItem) -> Result<bool, (WorkItem, AllocError)>
+        requires own { IsOwn J.lists self.old.group item }
+        ensures sent { IfOk result (λ was. (was ≡ self.old.parked) × Receives (machine_item J.lists.groups item) (slot_of J.lists.groups self.old) (slot_of J.lists.groups self.new)) }
+        ensures kept { IfErr result (λ e. (e.0 ≡ item) × (self.new ≡ self.old)) }
+        ensures group { self.new.group ≡ self.old.group }
+    {
+        if let Err(failed) = self.work.push(item) {
+            let AllocFailed { value } = failed;
+            return Err((value, AllocError));
+        }
+        let was_parked = self.parked;
+        self.parked = false;
+        Ok(was_parked)
+    }
+
+    /// Parks the group where nothing waits for it; else what waits becomes its own list. Takes no memory.
+    pub fn park_or_swap(&mut self, items: &mut LocalWorkQueue) -> bool
+        requires empty { items.old ≡ [] }
+        ensures goes { MatchBool result
+            (Parks (slot_of J.lists.groups self.old) (slot_of J.lists.groups self.new) × (items.new ≡ []))
+            (Swaps (machine_items J.lists.groups items.old) (machine_items J.lists.groups items.new) (slot_of J.lists.groups self.old) (slot_of J.lists.groups self.new)) }
+        ensures own { AreOwn J.lists self.old.group items.new }
+        ensures group { self.new.group ≡ self.old.group }
+    {
+        if self.work.is_empty() {
+            self.parked = true;
+            return true;
+        }
+        mem::swap(&mut self.work, &mut items.items);
+        false
+    }
+}

@@ -1,0 +1,420 @@
+//! What workers share: the slots and the states of all groups, each behind a lock of its own, the words of flags, and the groups that
+//! can run. Locks are taken in this order: a state, then a slot, then the groups that can run.
+
+ghost use Rattle.std.specs.Prelude.{◌≡◌, ◌<◌, ◌++◌, ◌∷◌, [], IfNone, IfOk, IfSome, OnOk, map, None, Some, length, slice_get, slice_index};
+ghost use Rattle.lk_flags.specs.Flags.{AreIn, IsFound, Within};
+ghost use Rattle.lk_reach.specs.Marks.{IsMarked, IsUnit, all_units, symbols_in_all, unit_number, word_of};
+ghost use Rattle.lk_link.specs.NumberedSymbols.{symbols_of};
+ghost use Rattle.lk_link.specs.Walks.{file_of};
+ghost use Rattle.lk_link.specs.WellFormed.{IsWellFormed};
+ghost use Rattle.lk_slot_link.specs.LinkGraphs.{files_of_group, unit_group};
+ghost use Rattle.lk_reach.specs.Units.{follows};
+ghost use Rattle.lk_workers.specs.Asked.{AreListsOf, AreMet, AreReached, IsRootsOf, symbol_groups};
+ghost use Rattle.lk_workers.specs.Items.{IsOwn};
+ghost use Rattle.lk_workers.specs.Steps.{flags_set};
+
+use crate::closed::Closed;
+use crate::marks::Marks;
+use crate::slot::WorkerSlot;
+use crate::state::GroupState;
+use crate::work::WorkItem;
+use lk_flags::{FlagPass, FlagTable, Reach};
+use lk_link::{FileId, FileRef, Gate, InputFile, LinkInput, SymbolId, ValueFlags};
+use lk_reach::walk::{handed_in, unmarked};
+use lk_reach::{Successors, Unit, file_roots, section_number, successors};
+use std::alloc::{AllocError, Global};
+use std::marker::{Model, PhantomData};
+use std::sync::{Condvar, Mutex, Wait};
+
+/// Groups that can run, and how many workers run one.
+#[derive(Drop)]
+struct Turns {
+    runnable: Vec<u32>,
+    running: u32,
+}
+
+/// A traversal of a link by workers (libwild: `GraphResources`).
+#[derive(Drop)]
+pub struct Traversal<'l, J: Reach> {
+    link: &'l LinkInput,
+    slots: Vec<Mutex<WorkerSlot<J>>>,
+    states: Vec<Mutex<GroupState<J>>>,
+    table: FlagTable<J>,
+    /// The group of each symbol.
+    symbol_groups: Vec<u32>,
+    turns: Mutex<Turns>,
+    changed: Condvar,
+    /// A mark for each unit, to which those of the states are moved at the end.
+    room: Vec<bool>,
+}
+
+impl<'l, J: Reach> Model for Traversal<'l, J> {
+    ghost use Rattle.lk_link.specs.contracts.link.LinkInput as link_input;
+    ghost use Rattle.std.specs.Coded.{codes};
+    ghost use Rattle.lk_workers.specs.Traversals.{TraversalValue};
+
+    ghost Value = { TraversalValue };
+
+    ghost coded = { Prim.hlevel (codes, link_input.the_row.coded) };
+
+    ghost use Rattle.std.specs.Prelude.{◌≡◌};
+    ghost use Rattle.lk_workers.specs.Asked.{AreListsOf, AreReached, symbol_groups as groups_of_symbols};
+
+    ghost view = { λ t. record { link = t.link.now; table = t.table } };
+
+    ghost invariant = { λ t. AreListsOf J.lists t.link.now × (t.symbol_groups.items ≡ groups_of_symbols J.lists.groups) × AreReached J.lists t.room.items };
+}
+
+impl<'l, J: Reach> Traversal<'l, J> {
+    /// A traversal in which no group is activated, and the first pass for its flags. Takes a slot and a state for each group, twice a
+    /// mark for each unit, twice a word and once a number for each symbol.
+    pub fn new(
+        alloc: Global,
+        link: &'l LinkInput,
+    ) -> Result<(Traversal<'l, J>, FlagPass), AllocError>
+        requires { AreListsOf J.lists link.now }
+        ensures link { IfOk result (λ t. t.0.link ≡ link.now) }
+        ensures pass { IfOk result (λ t. (t.1.table ≡ t.0.table) × (t.1.sets ≡ [])) }
+    {
+        let (table, pass) = flag_table::<J>(alloc, link)?;
+        let traversal = Traversal {
+            link,
+            slots: slots_of(alloc, link)?,
+            states: states_of(alloc, link)?,
+            table,
+            symbol_groups: symbol_groups(alloc, link)?,
+            turns: Mutex::new(turns_of(alloc, link)?),
+            changed: Condvar::new(),
+            room: room_of::<J>(alloc, link)?,
+        };
+        Ok((traversal, pass))
+    }
+
+    /// What the traversal came to: the units that states have as done, and the words of flags, which have all that the pass set. Takes
+    /// no memory.
+    pub fn close(self, pass: FlagPass) -> Closed<J>
+        requires { pass.table ≡ self.table }
+        ensures { AreIn pass.sets result.words }
+    {
+        let Traversal {
+            link: _,
+            slots: _,
+            states,
+            table,
+            symbol_groups: _,
+            turns: _,
+            changed: _,
+            mut room,
+        } = self;
+        gather(states, &mut room);
+        Closed {
+            done: room,
+            words: table.close(pass),
+            of: PhantomData,
+        }
+    }
+}
+
+/// Moves what is done in states to the marks of all units.
+fn gather<J: Reach>(states: Vec<Mutex<GroupState<J>>>, room: &mut Vec<bool>)
+    requires { AreReached J.lists room.old.items }
+    ensures { AreReached J.lists room.new.items }
+{
+    for state in states {
+        state.into_inner().gather(room);
+    }
+}
+
+/// The table of the flags that are handed in.
+fn flag_table<J: Reach>(
+    alloc: Global,
+    link: &LinkInput,
+) -> Result<(FlagTable<J>, FlagPass), AllocError>
+    requires { AreListsOf J.lists link.now }
+    ensures { IfOk result (λ t. (t.1.table ≡ t.0) × (t.1.sets ≡ [])) }
+{
+    let words = handed_in(alloc, link)?;
+    FlagTable::new(alloc, words.as_slice())
+}
+
+/// A mark for each unit, none of them set.
+fn room_of<J: Reach>(alloc: Global, link: &LinkInput) -> Result<Vec<bool>, AllocError>
+    requires { AreListsOf J.lists link.now }
+    ensures { IfOk result (λ room. AreReached J.lists room.items) }
+{
+    let room = unmarked(alloc, unit_count(link))?;
+    Ok(room)
+}
+
+/// How many units a link has.
+fn unit_count(link: &LinkInput) -> usize
+    requires { IsWellFormed link.now }
+    ensures { result ≡ length (all_units link.now.groups) }
+{
+    link.groups.symbol_count() as usize + link.groups.input_count() as usize
+}
+
+/// The group of each symbol.
+fn symbol_groups(alloc: Global, link: &LinkInput) -> Result<Vec<u32>, AllocError>
+    requires { IsWellFormed link.now }
+    ensures { IfOk result (λ groups. groups.items ≡ symbol_groups link.now.groups) }
+{
+    let mut groups = Vec::with_capacity(alloc, link.groups.symbol_count() as usize)?;
+    for file in link.groups.files() {
+        push_group(&mut groups, file)?;
+    }
+    Ok(groups)
+}
+
+/// Adds the group of a file, for each of its symbols.
+fn push_group(groups: &mut Vec<u32>, file: FileRef<'_>) -> Result<(), AllocError>
+    ensures { OnOk result (groups.new.items ≡ groups.old.items ++ map (λ q. q.0.id.group) (symbols_of (file_of file.entry))) }
+{
+    for _ in file.file.symbols.as_slice() {
+        groups.push(file.id.group)?;
+    }
+    Ok(())
+}
+
+/// A slot for each group.
+fn slots_of<J: Reach>(
+    alloc: Global,
+    link: &LinkInput,
+) -> Result<Vec<Mutex<WorkerSlot<J>>>, AllocError> {
+    let mut slots = Vec::with_capacity(alloc, link.groups.len())?;
+    let mut group = 0u32;
+    for _ in link.groups.as_slice() {
+        slots.push(Mutex::new(WorkerSlot::new(alloc, group)))?;
+        group = group.saturating_add(1);
+    }
+    Ok(slots)
+}
+
+/// A state for each group.
+fn states_of<J: Reach>(
+    alloc: Global,
+    link: &LinkInput,
+) -> Result<Vec<Mutex<GroupState<J>>>, AllocError> {
+    let mut states = Vec::with_capacity(alloc, link.groups.len())?;
+    let mut group = 0u32;
+    let mut first_symbol = 0usize;
+    let mut first_section = link.groups.symbol_count() as usize;
+    for files in link.groups.as_slice() {
+        let symbols = symbols_in(files.as_slice());
+        let sections = sections_in(files.as_slice());
+        let state = GroupState::new(
+            alloc,
+            group,
+            Marks::new(alloc, first_symbol, symbols)?,
+            Marks::new(alloc, first_section, sections)?,
+        );
+        states.push(Mutex::new(state))?;
+        group = group.saturating_add(1);
+        first_symbol = first_symbol.saturating_add(symbols);
+        first_section = first_section.saturating_add(sections);
+    }
+    Ok(states)
+}
+
+/// How many symbols files have.
+fn symbols_in(files: &[InputFile]) -> usize {
+    let mut count = 0usize;
+    for file in files {
+        count = count.saturating_add(file.symbols.len());
+    }
+    count
+}
+
+/// How many sections files have.
+fn sections_in(files: &[InputFile]) -> usize {
+    let mut count = 0usize;
+    for file in files {
+        count = count.saturating_add(file.sections.len());
+    }
+    count
+}
+
+/// Every group can run, and no worker runs one.
+fn turns_of(alloc: Global, link: &LinkInput) -> Result<Turns, AllocError> {
+    let mut runnable = Vec::with_capacity(alloc, link.groups.len())?;
+    let mut group = 0u32;
+    for _ in link.groups.as_slice() {
+        runnable.push(group)?;
+        group = group.saturating_add(1);
+    }
+    Ok(Turns {
+        runnable,
+        running: 0,
+    })
+}
+
+impl<J: Reach> Traversal<'_, J> {
+    /// The link, lent.
+    pub fn link(&self) -> &LinkInput
+        ensures { result.now ≡ self.now.link }
+    {
+        self.link
+    }
+
+    /// The group of a unit: that of its file.
+    pub fn group_of(&self, unit: Unit) -> u32
+        ensures { result ≡ unit_group J.lists.groups (Some unit) }
+    {
+        match unit {
+            Unit::Sym(symbol) => match self.symbol_groups.get(symbol.as_usize()) {
+                Some(group) => *group,
+                None => 0,
+            },
+            Unit::Sec(file, _) => file.group,
+        }
+    }
+
+    /// The number of a unit, if its file is there.
+    pub fn number_of(&self, unit: &Unit) -> Option<usize>
+        ensures { IfSome result (λ n. n ≡ unit_number J.lists.groups unit.now) }
+    {
+        match *unit {
+            Unit::Sym(symbol) => Some(symbol.as_usize()),
+            Unit::Sec(file, index) => section_number(self.link, file, index),
+        }
+    }
+
+    /// What a unit asks for.
+    pub fn follows(&self, unit: Unit) -> Successors<'_>
+        requires there { IsUnit J.lists.groups unit }
+        requires reached { IsMarked J.lists.units (unit_number J.lists.groups unit) }
+        ensures asks { result ≡ follows self.now.link unit }
+        ensures met { AreMet J.lists (follows self.now.link unit) }
+    {
+        successors(self.link, unit)
+    }
+
+    /// What a file of a group asks for by itself, by its index there; none where there is no such file.
+    pub fn roots_of(&self, group: u32, index: u32) -> Option<Successors<'_>>
+        ensures some { IfSome result (λ asks. IsRootsOf self.now.link group index asks × AreMet J.lists asks) }
+        ensures none { IfNone result (slice_get (files_of_group self.now.link.groups group) index ≡ None) }
+    {
+        let id = FileId { group, file: index };
+        match self.link.groups.file(id) {
+            Some(file) => Some(file_roots(self.link, FileRef { id, file })),
+            None => None,
+        }
+    }
+
+    /// Sets flags of a symbol, and answers the word as it was.
+    pub fn set(&self, pass: &mut FlagPass, symbol: SymbolId, flags: ValueFlags) -> u64
+        requires own { pass.old.table ≡ self.now.table }
+        requires there { symbol < symbols_in_all J.lists.groups }
+        requires bounded { Within flags.0 (slice_index J.lists.words (word_of symbol)) }
+        ensures table { pass.new.table ≡ pass.old.table }
+        ensures sets { pass.new.sets ≡ pass.old.sets ++ flags_set symbol flags ∷ [] }
+        ensures found { IsFound J.lists.handed J.lists.words pass.old.sets (word_of symbol) result }
+    {
+        self.table
+            .set(pass, symbol.as_usize() + 1, u64::from(flags.0))
+    }
+
+    /// Leaves an item in the slot of its group, which can run from then on. Without memory the item is given up.
+    pub fn send<R: Wait>(&self, rt: &R, group: u32, item: WorkItem) -> Result<(), AllocError>
+        requires { IsOwn J.lists group item }
+    {
+        let Some(slot) = self.slots.get(group as usize) else {
+            return Err(AllocError);
+        };
+        let mut slot = slot.lock(rt);
+        let slot = &mut *slot;
+        if slot.group() != group {
+            return Err(AllocError);
+        }
+        match slot.send_work(item) {
+            Ok(true) => self.wake(rt, group),
+            Ok(false) => Ok(()),
+            Err((_item, error)) => Err(error),
+        }
+    }
+
+    /// A group can run.
+    fn wake<R: Wait>(&self, rt: &R, group: u32) -> Result<(), AllocError> {
+        let mut turns = self.turns.lock(rt);
+        turns.runnable.push(group)?;
+        self.changed.notify_one();
+        Ok(())
+    }
+
+    /// Parks a group that has nothing left to do, and answers whether it is to stop; else what waits for it becomes its own list.
+    fn park<R: Wait>(&self, rt: &R, state: &mut GroupState<J>) -> bool
+        requires { state.old.items ≡ [] }
+    {
+        let group = state.group();
+        let Some(slot) = self.slots.get(group as usize) else {
+            return true;
+        };
+        let mut slot = slot.lock(rt);
+        let slot = &mut *slot;
+        if slot.group() != group {
+            return true;
+        }
+        state.rest(slot)
+    }
+
+    /// Runs a group, step by step, until it has nothing left to do and nothing waits for it. The gate is entered before each step.
+    /// What is given up for want of memory stays undone, and the group goes on (libwild: `do_pending_work`).
+    pub fn run_group<R: Wait, G: Gate>(&self, rt: &R, pass: &mut FlagPass, gate: &G, group: u32)
+        requires own { pass.old.table ≡ self.now.table }
+        requires gate { G.may_enter gate.now }
+        ensures table { pass.new.table ≡ pass.old.table }
+    {
+        let Some(state) = self.states.get(group as usize) else {
+            return;
+        };
+        let mut state = state.lock(rt);
+        let state = &mut *state;
+        for _ in rt.forever() {
+            gate.enter(group);
+            if let Ok(false) = state.step(self, rt, pass) {
+                if self.park(rt, state) {
+                    return;
+                }
+            }
+        }
+    }
+
+    /// A further pass, which has set nothing.
+    pub fn split(&self, pass: &mut FlagPass) -> FlagPass
+        requires { pass.old.table ≡ self.now.table }
+        ensures same { pass.new ≡ pass.old }
+        ensures table { result.table ≡ self.now.table }
+    {
+        self.table.split(pass)
+    }
+
+    /// Joins a pass to another, which has then set what both had.
+    pub fn join(&self, pass: &mut FlagPass, other: FlagPass)
+        requires own { pass.old.table ≡ self.now.table }
+        requires same { other.table ≡ self.now.table }
+        ensures table { pass.new.table ≡ pass.old.table }
+        ensures sets { pass.new.sets ≡ pass.old.sets ++ other.sets }
+    {
+        self.table.join(pass, other);
+    }
+
+    /// A group that can run, which a worker then runs; none once no group can run and no worker runs one. Waits until then.
+    pub(crate) fn next<R: Wait>(&self, rt: &R) -> Option<u32> {
+        let turns = self.turns.lock(rt);
+        let mut turns = self.changed.wait_while(rt, turns, |turns: &mut Turns| {
+            turns.runnable.is_empty() && turns.running != 0
+        });
+        let turns = &mut *turns;
+        let group = turns.runnable.pop()?;
+        turns.running = turns.running.wrapping_add(1);
+        Some(group)
+    }
+
+    /// A worker doesn't run its group any more.
+    pub(crate) fn finish<R: Wait>(&self, rt: &R) {
+        let mut turns = self.turns.lock(rt);
+        let turns = &mut *turns;
+        turns.running = turns.running.wrapping_sub(1);
+        self.changed.notify_all();
+    }
+}
