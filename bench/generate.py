@@ -25,6 +25,8 @@ file of it is held at a time. SHAPE says what the bytes go to:
     whole     the same with a script, and symbols of the linker, but without commons
     sorted    sections that are sorted by their names, of which there are 20,000
     singles   output that is linked again, of which a fifth of the sections stay output sections of their own
+    branches  4 GiB of code, and branches that reach 128 MiB: mostly in their own file
+    far       the same, each branch to a function of another file
     candidates  symbols at the start of one output section, and as many sections that each of them asks for
     moves     output sections, up to the limit, each at a location of an expression of depth 50
     regions   output sections in 64 regions, each with a load address
@@ -42,6 +44,7 @@ from forms import GROUPED, LINKED, TABLED, WHOLE
 from merges import MERGES, put_merges
 from named import NAMED, put_named
 from plans import PLANS, put_plans
+from thunked import THUNKED, put_thunked
 from ways import put_candidates, put_exports, put_ways
 from whole import put_whole_link
 
@@ -52,7 +55,7 @@ MOST_OUTPUT_SECTIONS = 65_000
 MOST_SEGMENTS = 8
 FORMS = {"linked": LINKED, "grouped": GROUPED, "tabled": TABLED, "whole": WHOLE}
 WAYS = ("chain", "star")
-SHAPES = ("objects", "plan", "files", "single", *WAYS, "exports", "candidates", *MERGES, *NAMED, *FORMS, *PLANS)
+SHAPES = ("objects", "plan", "files", "single", *WAYS, "exports", "candidates", *MERGES, *NAMED, *THUNKED, *FORMS, *PLANS)
 
 # Share of the output sections, attributes, name, and alignments to choose from. The order is the
 # order in memory: within a segment nothing with file bytes follows a zero-filled section.
@@ -204,6 +207,9 @@ def generate(stream, total, seed, shape):
         return
     if shape in NAMED:
         put_named(writer, rng, total, files_of_group(total, shape), PAGE, BASE, shape)
+        return
+    if shape in THUNKED:
+        put_thunked(writer, rng, total, files_of_group(total, shape), PAGE, BASE, shape)
         return
     if shape in PLANS:
         put_plans(writer, total, PAGE, shape)

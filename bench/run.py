@@ -40,6 +40,7 @@ import memory
 from merges import MERGES
 from named import NAMED
 from plans import PLANS
+from thunked import THUNKED
 
 HERE = os.path.dirname(os.path.abspath(__file__))
 DEFAULT_PROGRAM = os.path.join(HERE, "..", "crates", "lk_program", "out", "lk_program")
@@ -418,7 +419,7 @@ def measure_generated(program, folder):
     print(GENERATED_LEGEND)
 
 
-SPECIAL_SHAPES = {"--merges": MERGES, "--named": NAMED, "--plans": PLANS}
+SPECIAL_SHAPES = {"--merges": MERGES, "--named": NAMED, "--plans": PLANS, "--thunks": THUNKED}
 OTHER_MEASURES = {
     "--long": measure_long_lists,
     "--memory": measure_memory,

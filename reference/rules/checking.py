@@ -358,13 +358,12 @@ def check_link(link):
 # What isn't laid out yet
 
 # The words of what the program doesn't carry yet.
-NOT_CARRIED = ("primary", "relax", "symbol")
+NOT_CARRIED = ("relax", "symbol")
 
 
 def uncarried(link):
     """What may not be laid out yet, in the order in which it is looked for, with whether the link has it."""
     owners = {file.kind for file, _ in symbols_of(link)}
-    yield "primary", link.plan.named["primary"] is not None
     yield "relax", link.options.relax
     yield "symbol", owners.intersection(listed.OWN_FILES)
 

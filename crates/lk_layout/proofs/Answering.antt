@@ -4,6 +4,7 @@ use Rattle.std.specs.Prelude.{option_map, slice_get}
 use Rattle.std.specs.Result.{IsErrAnd}
 use Rattle.lk_check.specs.FirstFault.{check_of, first_fault}
 use Rattle.lk_link.specs.declared.fault.LinkFault.{LinkFault}
+use Rattle.lk_link.specs.declared.ids.FileId.{FileId}
 use Rattle.lk_link.specs.declared.link.LinkInput.{LinkInput}
 use Rattle.lk_layout.specs.Machines.{Machine}
 use Rattle.lk_layout.specs.declared.error.LayoutError.{LayoutError}
@@ -12,9 +13,9 @@ use Rattle.lk_layout.specs.declared.error.Uncarried.{Uncarried}
 use Rattle.lk_layout.specs.LayoutRecord.{LayoutRecord}
 use Rattle.lk_link.specs.declared.resolution.Resolution.{Resolution}
 use Rattle.lk_layout.specs.Carried.{first_uncarried}
-use Rattle.lk_layout.specs.Defined.{Gives, IsMergedAnswer, IsPlacedAnswer, Unless, WithMemory, fault_refusal, is_memory, joining_refusal, layout_of, made_sections, not_carried}
-use Rattle.lk_layout.specs.Defined.{offsets_refusal, references_error, references_refusal, segment_refusal, uncarried_refusal}
-use Rattle.lk_layout.specs.Errors.{fault_error, gc_error, offset_error, place_error}
+use Rattle.lk_layout.specs.Defined.{Gives, IsMergedAnswer, IsPlacedAnswer, IsSpannedAnswer, Unless, WithMemory, fault_refusal, is_memory, joining_refusal, made_sections, not_carried}
+use Rattle.lk_layout.specs.Defined.{branch_refusal, offsets_refusal, references_error, references_refusal, segment_refusal, uncarried_refusal}
+use Rattle.lk_layout.specs.Errors.{branch_error, fault_error, gc_error, offset_error, place_error}
 use Rattle.lk_values.specs.declared.outside.MergeOffsetPlace.{MergeOffsetPlace}
 use Rattle.lk_values.specs.Outside.{merge_offsets}
 use Rattle.lk_gc.specs.declared.error.GcError.{GcError}
@@ -32,6 +33,10 @@ use Rattle.lk_sizes.specs.declared.sorted.InputSortedSection.{InputSortedSection
 use Rattle.lk_sizes.specs.Emitted.{active_segments, is_emitted}
 use Rattle.lk_tables.specs.declared.partial_link.PartialLinkPlan.{PartialLinkPlan}
 use Rattle.lk_layout.specs.Made.{Made, made_content}
+use Rattle.lk_layout.specs.Stages.{Reaches}
+use Rattle.lk_layout.specs.Thunks.{made_branching}
+use Rattle.lk_branches.specs.declared.check.BranchPlace.{BranchPlace}
+use Rattle.lk_branches.specs.Branches.{unreached}
 
 -- the exit of a `?`: what holds of each error that may come through it
 pub err_exit : {X : Type 0} (Q : Result X LayoutError → Type 0) (P : LayoutError → Type 0) (r : Result X LayoutError) → IsErrAnd r P → ((e : LayoutError) → P e → Q (Err e)) → Q r
@@ -64,6 +69,12 @@ pub handed_on : (machine : Machine) (link : LinkInput) (e : LayoutError) (r : Re
     → Gives machine link (Err e) → Gives machine link r
 handed_on machine link e (Ok layout) h given = absurd h
 handed_on machine link e (Err x) h given = subst (λ (y : LayoutError). Gives machine link (Err y)) (sym h) given
+
+-- and so it is where a stage could be reached
+pub reached_on : {S : Type 0} (machine : Machine) (link : LinkInput) (Is : S → Type 0) (e : LayoutError) (r : Result S LayoutError) → IsErrAnd r (λ x. x ≡ e)
+    → Gives machine link (Err e) → Reaches machine link Is r
+reached_on machine link Is e (Ok stage) h given = absurd h
+reached_on machine link Is e (Err x) h given = subst (λ (y : LayoutError). Gives machine link (Err y)) (sym h) given
 
 -- ---- the whole
 
@@ -118,33 +129,36 @@ segments_of made =
     segments_refusal FromSections made.link (made_sections made) (is_emitted (made_content made)) (active_segments (made_content made))
 
 -- a section outside the segments is refused
-pub outside_segments : (made : Made) (e : PlaceError) (x : LayoutError) → merge_refusal made.link.plan.sections (made_sections made) ≡ None
-    → Refuses e (segments_of made) → x ≡ place_error e → WithMemory (IsPlacedAnswer made) (Err x)
+pub outside_segments : (made : Made) (e : PlaceError) (x : LayoutError) → joining_refusal made ≡ None → Refuses e (segments_of made) → x ≡ place_error e
+    → WithMemory (IsPlacedAnswer made) (Err x)
 outside_segments made e x fit refuses is = λ some.
-    unless_none (joining_refusal made) (Err x) _ (ap (option_map place_error) fit)
-    (unless_some (segment_refusal made) x _ (refuses_some e x _ refuses is some))
+    unless_none (joining_refusal made) (Err x) _ fit (unless_some (segment_refusal made) x _ (refuses_some e x _ refuses is some))
 
--- what is told, where no section stands outside the segments
-pub told : (made : Made) (layout : LayoutRecord) → merge_refusal made.link.plan.sections (made_sections made) ≡ None → segments_of made ≡ None
-    → merge_offsets made.link made.live ≡ [] → layout ≡ layout_of made → IsPlacedAnswer made (Ok layout)
-told made layout fit inside none is =
-    unless_none (joining_refusal made) (Ok layout) _ (ap (option_map place_error) fit)
-    (unless_none (segment_refusal made) (Ok layout) _ (ap (option_map place_error) inside)
-    (unless_none (offsets_refusal made) (Ok layout) _ (ap (λ (places : List MergeOffsetPlace). option_map offset_error (slice_get places 0)) none)
-    (ap (λ (x : LayoutRecord). Ok x) is)))
+-- where no offset is chosen outside, none is refused
+pub none_chosen : (made : Made) → merge_offsets made.link made.live ≡ [] → offsets_refusal made ≡ None
+none_chosen made none = ap (λ (places : List MergeOffsetPlace). option_map offset_error (slice_get places 0)) none
 
 -- the first offset that is chosen outside is refused
-pub refused : (made : Made) (at : MergeOffsetPlace) (e : LayoutError) → merge_refusal made.link.plan.sections (made_sections made) ≡ None → segments_of made ≡ None
-    → slice_get (merge_offsets made.link made.live) 0 ≡ Some at → e ≡ offset_error at → IsPlacedAnswer made (Err e)
-refused made at e fit inside first is =
-    unless_none (joining_refusal made) (Err e) _ (ap (option_map place_error) fit)
-    (unless_none (segment_refusal made) (Err e) _ (ap (option_map place_error) inside)
-    (unless_some (offsets_refusal made) e _ (ap (option_map offset_error) first ∙ ap (λ (x : LayoutError). Some x) (sym is))))
+pub refused : (made : Made) (at : MergeOffsetPlace) (e : LayoutError) → slice_get (merge_offsets made.link made.live) 0 ≡ Some at → e ≡ offset_error at
+    → IsSpannedAnswer made (Err e)
+refused made at e first is =
+    unless_some (offsets_refusal made) e _ (ap (option_map offset_error) first ∙ ap (λ (x : LayoutError). Some x) (sym is))
+
+-- where all branches reach, none is refused
+pub none_unreached : (made : Made) → unreached (made_branching made) ≡ [] → branch_refusal made ≡ None
+none_unreached made none = ap (λ (places : List BranchPlace). option_map branch_error (slice_get places 0)) none
+
+-- the first branch that doesn't reach is refused
+pub unreached_refused : (made : Made) (at : BranchPlace) (e : LayoutError) → merge_offsets made.link made.live ≡ [] → slice_get (unreached (made_branching made)) 0 ≡ Some at → e ≡ branch_error at
+    → IsSpannedAnswer made (Err e)
+unreached_refused made at e inside first is =
+    unless_none (offsets_refusal made) (Err e) _ (none_chosen made inside)
+    (unless_some (branch_refusal made) e _ (ap (option_map branch_error) first ∙ ap (λ (x : LayoutError). Some x) (sym is)))
 
 -- layouts with the same lists are the same
 pub same_layout : (link : LinkInput) (s s' j j' r : List Record) (t t' : List ℕ) (i i' : List (Option ℕ)) (g g' : List SegmentLayout) (h h' : Option Record)
-    (m : List Bool) (l l' : List ℕ) (d d' : List (List MergeInput)) (b b' : List ℕ) (v v' : List (Option Resolution)) (e e' : Option ℕ) (o o' : List InputSortedSection) (p p' : Option PartialLinkPlan)
-    → s ≡ s' → j ≡ j' → t ≡ t' → i ≡ i' → g ≡ g' → h ≡ h' → l ≡ l' → d ≡ d' → b ≡ b' → v ≡ v' → e ≡ e' → o ≡ o' → p ≡ p'
+    (m : List Bool) (l l' : List ℕ) (d d' : List (List MergeInput)) (b b' : List ℕ) (v v' : List (Option Resolution)) (e e' : Option ℕ) (o o' : List InputSortedSection) (p p' : Option PartialLinkPlan) (k k' : List (List ℕ)) (n n' : List (Option FileId)) (a a' : List (Option ℕ)) (z z' : ℕ)
+    → s ≡ s' → j ≡ j' → t ≡ t' → i ≡ i' → g ≡ g' → h ≡ h' → l ≡ l' → d ≡ d' → b ≡ b' → v ≡ v' → e ≡ e' → o ≡ o' → p ≡ p' → k ≡ k' → n ≡ n' → a ≡ a' → z ≡ z'
     → ◌≡◌ {A = LayoutRecord} (record {
       link = link;
       section_layouts = s;
@@ -162,6 +176,10 @@ pub same_layout : (link : LinkInput) (s s' j j' r : List Record) (t t' : List �
       entry_symbol_id = e;
       script_sorted_sections = o;
       partial_link = p;
+      thunk_blocks = k;
+      thunk_block_owners = n;
+      thunk_block_addresses = a;
+      thunk_size = z;
     })
     (record {
       link = link;
@@ -180,5 +198,9 @@ pub same_layout : (link : LinkInput) (s s' j j' r : List Record) (t t' : List �
       entry_symbol_id = e';
       script_sorted_sections = o';
       partial_link = p';
+      thunk_blocks = k';
+      thunk_block_owners = n';
+      thunk_block_addresses = a';
+      thunk_size = z';
     })
-same_layout link s s' j j' r t t' i i' g g' h h' m l l' d d' b b' v v' e e' o o' p p' es ej et ei eg eh el ed eb ev ee eo ep = cc
+same_layout link s s' j j' r t t' i i' g g' h h' m l l' d d' b b' v v' e e' o o' p p' k k' n n' a a' z z' es ej et ei eg eh el ed eb ev ee eo ep ek en ea ez = cc

@@ -16,7 +16,7 @@ use Rattle.lk_link.specs.FileKinds.{is_object}
 use Rattle.lk_link.specs.Inputs.{first_input}
 use Rattle.lk_link.specs.Parts.{part_at}
 use Rattle.lk_link.specs.SymbolRules.{is_placement_in}
-use Rattle.lk_link.specs.TableSizes.{TableSizes}
+use Rattle.lk_layout.specs.Made.{filling_for}
 use Rattle.lk_layout.specs.Machines.{Machine}
 use Rattle.lk_link.specs.WellFormed.{IsWellFormed}
 use Rattle.lk_link.proofs.GoodSymbols.{symbol_of}
@@ -30,7 +30,6 @@ use Rattle.lk_layout.specs.LayoutRecord.{LayoutRecord}
 use Rattle.lk_link.specs.declared.resolution.Resolution.{Resolution}
 use Rattle.lk_layout.specs.Defined.{setting}
 use Rattle.lk_values.specs.Starts.{starts_of}
-use Rattle.lk_values.specs.OutputContent.{output_filling}
 use Rattle.lk_values.specs.Entries.{EntrySetting}
 use Rattle.lk_values.specs.Resolutions.{Places, entries_of, placed_value, places_of, resolution_at, resolution_of, symbol_resolutions}
 use Rattle.lk_layout.specs.Sound.{CommonsStand, part_record}
@@ -60,18 +59,19 @@ of_object link live p s size good c =
 -- ---- its value
 
 -- what is told of its symbol, by where the parts start: its address
-value_told : (sizes : TableSizes) (link : LinkInput) (live : Live) (starts : List ℕ) (p s size : ℕ) (c : IsCommonIn link live p s size) → is_object c.file.file.kind ≡ true
-    → option_map (λ (r : Resolution). r.raw_value) (resolution_at (symbol_resolutions (output_filling sizes link live) starts) s) ≡ Some (common_address (output_filling sizes link live) starts p s)
-value_told sizes link live starts p s size c object =
+value_told : (filling : Filling) (starts : List ℕ) (p s size : ℕ) (c : IsCommonIn filling.content.link filling.content.live p s size) → is_object c.file.file.kind ≡ true
+    → option_map (λ (r : Resolution). r.raw_value) (resolution_at (symbol_resolutions filling starts) s) ≡ Some (common_address filling starts p s)
+value_told filling starts p s size c object =
+    let link : LinkInput = filling.content.link in
     let x : InputSymbol = c.symbol in
     let file : InputFile = c.file.file in
     let first : ℕ = first_input link.groups c.file.id in
-    let places : Places = places_of (output_filling sizes link live) starts in
-    let by : EntrySetting = entries_of (output_filling sizes link live) starts in
+    let places : Places = places_of filling starts in
+    let by : EntrySetting = entries_of filling starts in
     let raw : Option Resolution → Option ℕ = option_map (λ (r : Resolution). r.raw_value) in
-    let read : resolution_at (symbol_resolutions (output_filling sizes link live) starts) s ≡ resolution_of places by file.kind first (s, x)
-    = ap (λ (n : ℕ). resolution_at (symbol_resolutions (output_filling sizes link live) starts) n) c.number
-    ∙ resolution_is (output_filling sizes link live) starts c.file.id file c.index x c.there c.stands
+    let read : resolution_at (symbol_resolutions filling starts) s ≡ resolution_of places by file.kind first (s, x)
+    = ap (λ (n : ℕ). resolution_at (symbol_resolutions filling starts) n) c.number
+    ∙ resolution_is filling starts c.file.id file c.index x c.there c.stands
     ∙ ap (λ (n : ℕ). resolution_of places by file.kind first (n, x)) (sym c.number) in
     ap raw read ∙ own_value places by file.kind first (s, x) (object_has file.kind object) c.wanted ∙ ap (λ (n : ℕ). Some n) (ap (placed_value places first s) c.placed)
 
@@ -80,10 +80,10 @@ value_told sizes link live starts p s size c object =
 -- an owner of bytes starts at a multiple of its part's alignment, where the part is no table part and isn't packed
 common_aligned : OwnersTileTheirPart → OwnersAreAligned → (machine : Machine) (link : LinkInput) (layout : LayoutRecord) (laid : IsLaidOut machine link layout) (p s size : ℕ)
     → IsCommonIn link laid.live p s size → 0 < size → (part_at link.plan.sections p).packed ≡ false
-    → (part_at link.plan.sections p).alignment ∣ owner_address (part_record layout p).mem_offset (part_at link.plan.sections p) (owners_of (output_filling machine.sizes link laid.live) p) (common_number (output_filling machine.sizes link laid.live) p s)
+    → (part_at link.plan.sections p).alignment ∣ owner_address (part_record layout p).mem_offset (part_at link.plan.sections p) (owners_of (filling_for machine link laid.live) p) (common_number (filling_for machine link laid.live) p s)
 common_aligned tile aligned machine link layout laid p s size c some unpacked =
     let live : Live = laid.live in
-    let filling : Filling = output_filling machine.sizes link live in
+    let filling : Filling = filling_for machine link live in
     let part : PlanPart = part_at link.plan.sections p in
     let owners : List Owner = owners_of filling p in
     let k : ℕ = common_number filling p s in
@@ -97,17 +97,17 @@ common_aligned tile aligned machine link layout laid p s size c some unpacked =
     } in
     let inside = (tile filling p start).inside k (owner_address start part owners k) byte in
     let bytes : 0 < part_size filling p = omega (arith, inside.0, inside.1) in
-    let size_is : slice_index_or (setting machine link live).sizes p 0 ≡ part_size filling p = size_of machine.sizes link live p placed.0 in
+    let size_is : slice_index_or (setting machine link live).sizes p 0 ≡ part_size filling p = size_of filling p placed.0 in
     let begins : part.alignment ∣ (record_at laid.records p).mem_offset
     = part_starts machine link live laid.states laid.records p laid.good laid.is laid.unrefused placed.0 (omega (arith, bytes, size_is)) in
     let record_is : (record_at laid.records p).mem_offset ≡ start = ap (λ (l : LayoutRecord). (record_at l.section_part_layouts p).mem_offset) (sym laid.same) in
     dvd-add part.alignment (subst (λ n. part.alignment ∣ n) record_is begins) (aligned filling p k laid.good placed.1 unpacked)
 
 pub commons_stand : OwnersTileTheirPart → OwnersAreAligned → (machine : Machine) (link : LinkInput) (layout : LayoutRecord) (laid : IsLaidOut machine link layout)
-    → layout.symbol_resolutions ≡ symbol_resolutions (output_filling machine.sizes link laid.live) (starts_of layout.section_part_layouts) → CommonsStand (made_by laid) layout
+    → layout.symbol_resolutions ≡ symbol_resolutions (filling_for machine link laid.live) (starts_of layout.section_part_layouts) → CommonsStand (made_by laid) layout
 commons_stand tile aligned machine link layout laid resolved p s size c =
     let live : Live = laid.live in
-    let filling : Filling = output_filling machine.sizes link live in
+    let filling : Filling = filling_for machine link live in
     let records : List Record = layout.section_part_layouts in
     let part : PlanPart = part_at link.plan.sections p in
     let k : ℕ = common_number filling p s in
@@ -121,7 +121,7 @@ commons_stand tile aligned machine link layout laid resolved p s size c =
       address = at_start (part_record layout p).mem_offset;
       at = refl;
       valued = ap (λ (rs : List (Option Resolution)). raw (resolution_at rs s)) resolved
-          ∙ value_told machine.sizes link live (starts_of records) p s size c (of_object link live p s size laid.good c)
+          ∙ value_told filling (starts_of records) p s size c (of_object link live p s size laid.good c)
           ∙ ap (λ (n : ℕ). Some (at_start n)) start;
       aligned = common_aligned tile aligned machine link layout laid p s size c;
     }

@@ -48,10 +48,9 @@ use Rattle.lk_sizes.specs.PartOwners.{owners_of, tables_of}
 use Rattle.lk_layout.specs.LayoutRecord.{LayoutRecord}
 use Rattle.lk_values.specs.Starts.{starts_of}
 use Rattle.lk_values.specs.Entries.{EntrySetting, entry_in, got_table, plt_table, with_entries}
-use Rattle.lk_values.specs.OutputContent.{output_filling}
 use Rattle.lk_values.specs.Resolutions.{Places, entries_of, file_resolutions, has_resolutions, places_of, resolution_at, resolution_of, symbol_resolutions}
 use Rattle.lk_layout.specs.Sound.{EntriesStand, IsEntryAt, TablesStandAlone, part_record}
-use Rattle.lk_layout.specs.Made.{Made, made_content, made_filling}
+use Rattle.lk_layout.specs.Made.{Made, filling_for, made_content, made_filling}
 use Rattle.lk_values.proofs.EntriesTaken.{has_own, no_resolution, none_there, own_entries, with_own}
 use Rattle.lk_layout.proofs.LaidOut.{IsLaidOut, made_by}
 use Rattle.lk_values.proofs.Pushing.{first_is}
@@ -60,12 +59,12 @@ use Rattle.lk_layout.proofs.Valued.{as_many}
 -- ---- whose a resolution is
 
 -- it is that of the symbol with this number, with its file
-record HasSymbol (sizes : TableSizes) (link : LinkInput) (live : Live) (starts : List ℕ) (s : ℕ) (r : Resolution) : Type 0 where
+record HasSymbol (filling : Filling) (starts : List ℕ) (s : ℕ) (r : Resolution) : Type 0 where
   file : NumberedFile
   symbol : InputSymbol
-  there : slice_get (numbered_symbols link.groups) s ≡ Some (file, symbol)
-  wanted : is_resolved live file.file.kind (s, symbol) ≡ true
-  is : r ≡ with_own (places_of (output_filling sizes link live) starts) (entries_of (output_filling sizes link live) starts) (first_input link.groups file.id) (s, symbol)
+  there : slice_get (numbered_symbols filling.content.link.groups) s ≡ Some (file, symbol)
+  wanted : is_resolved filling.content.live file.file.kind (s, symbol) ≡ true
+  is : r ≡ with_own (places_of filling starts) (entries_of filling starts) (first_input filling.content.link.groups file.id) (s, symbol)
 
 -- what is read at a number stands there
 read_at : {X : Type 0} (xs : List (Option X)) (s : ℕ) (x : X) → slice_index_or xs s None ≡ Some x → slice_get xs s ≡ Some (Some x)
@@ -91,19 +90,19 @@ own_one places by f first s x r h =
       | false ↦ λ has. absurd (let nothing : Some r ≡ None = sym h ∙ none_there places by f.file.kind first (s, x) has in cc)
     ]) refl
 
-symbol_of : (sizes : TableSizes) (link : LinkInput) (live : Live) (starts : List ℕ) (s : ℕ) (r : Resolution) → resolution_at (symbol_resolutions (output_filling sizes link live) starts) s ≡ Some r
-    → HasSymbol sizes link live starts s r
-symbol_of sizes link live starts s r h =
-    let groups = link.groups in
-    let places : Places = places_of (output_filling sizes link live) starts in
-    let by : EntrySetting = entries_of (output_filling sizes link live) starts in
+symbol_of : (filling : Filling) (starts : List ℕ) (s : ℕ) (r : Resolution) → resolution_at (symbol_resolutions filling starts) s ≡ Some r
+    → HasSymbol filling starts s r
+symbol_of filling starts s r h =
+    let groups = filling.content.link.groups in
+    let places : Places = places_of filling starts in
+    let by : EntrySetting = entries_of filling starts in
     let files : List NumberedFile = numbered_files groups in
     let of_file : NumberedFile → List (Option Resolution) = file_resolutions places by in
-    let at = flat_map_at of_file files s (Some r) (read_at (symbol_resolutions (output_filling sizes link live) starts) s r h) in
+    let at = flat_map_at of_file files s (Some r) (read_at (symbol_resolutions filling starts) s r h) in
     let f : NumberedFile = at.from in
     let first : ℕ = first_symbol groups f.id in
     let one : ℕ × InputSymbol → Option Resolution = resolution_of places by f.file.kind (first_input groups f.id) in
-    let from = map_at one (symbols_by_number link f) at.inner (Some r) at.gives in
+    let from = map_at one (symbols_by_number filling.content.link f) at.inner (Some r) at.gives in
     let q : ℕ × InputSymbol = from.0 in
     let number = numbered_at first f.file.symbols at.inner q from.1 in
     let before : length (flat_map of_file (take at.outer files)) ≡ first
@@ -140,7 +139,7 @@ told_entry (Some p) starts table s bytes address h =
 
 -- in the part of a table, where nothing else is, an entry has the address that it has in the table
 entry_stands : (made : Made) (layout : LayoutRecord) (starts : List ℕ) (k p s bytes address : ℕ) (table : List TableEntry) → IsWellFormed made.link
-    → TablesStandAlone made.machine.sizes made.link made.live → slice_get (table_parts made.link.plan.named) k ≡ Some (Some p) → slice_get (all_lists (tables_of (made_content made))) k ≡ Some table
+    → TablesStandAlone (made_filling made) → slice_get (table_parts made.link.plan.named) k ≡ Some (Some p) → slice_get (all_lists (tables_of (made_content made))) k ≡ Some table
     → slice_index starts p ≡ (part_record layout p).mem_offset → 0 < bytes → slice_get table (own_place s table) ≡ Some (record { owner = SymbolEntry s; bytes = bytes })
     → address ≡ own_address (slice_index starts p) table s → IsEntryAt made layout p s address
 entry_stands made layout starts k p s bytes address table good alone named there start some own at =
@@ -194,7 +193,7 @@ same_entry s bytes more h = ap (λ (e : TableEntry). e.bytes) h
 
 -- an entry with bytes that stands in the part of a table is told
 entry_told : (made : Made) (layout : LayoutRecord) (starts : List ℕ) (k p s bytes address : ℕ) (table : List TableEntry) → IsWellFormed made.link
-    → TablesStandAlone made.machine.sizes made.link made.live → slice_get (table_parts made.link.plan.named) k ≡ Some (Some p) → slice_get (all_lists (tables_of (made_content made))) k ≡ Some table
+    → TablesStandAlone (made_filling made) → slice_get (table_parts made.link.plan.named) k ≡ Some (Some p) → slice_get (all_lists (tables_of (made_content made))) k ≡ Some table
     → slice_index starts p ≡ (part_record layout p).mem_offset → count_by (is_of s) table ≡ 1
     → slice_get table (own_place s table) ≡ Some (record { owner = SymbolEntry s; bytes = bytes }) → IsEntryAt made layout p s address
     → entry_in (Some p) starts table s bytes ≡ Some address
@@ -245,17 +244,17 @@ for_named named P p is h = λ x e.
 
 -- ---- all
 
-pub entries_stand : (machine : Machine) (link : LinkInput) (layout : LayoutRecord) (laid : IsLaidOut machine link layout) → TablesStandAlone machine.sizes link laid.live
-    → layout.symbol_resolutions ≡ symbol_resolutions (output_filling machine.sizes link laid.live) (starts_of layout.section_part_layouts) → EntriesStand (made_by laid) layout
+pub entries_stand : (machine : Machine) (link : LinkInput) (layout : LayoutRecord) (laid : IsLaidOut machine link layout) → TablesStandAlone (filling_for machine link laid.live)
+    → layout.symbol_resolutions ≡ symbol_resolutions (filling_for machine link laid.live) (starts_of layout.section_part_layouts) → EntriesStand (made_by laid) layout
 unfolding with_entries
 entries_stand machine link layout laid alone resolved s r told =
     let sizes : TableSizes = machine.sizes in
     let live : Live = laid.live in
-    let filling : Filling = output_filling sizes link live in
+    let filling : Filling = filling_for machine link live in
     let records : List Record = layout.section_part_layouts in
     let starts : List ℕ = starts_of records in
-    let by : EntrySetting = entries_of (output_filling sizes link live) starts in
-    let has = symbol_of sizes link live starts s r (ap (λ (rs : List (Option Resolution)). resolution_at rs s) (sym resolved) ∙ told) in
+    let by : EntrySetting = entries_of filling starts in
+    let has = symbol_of filling starts s r (ap (λ (rs : List (Option Resolution)). resolution_at rs s) (sym resolved) ∙ told) in
     let bytes : Allocation = sizes.allocation (flags_at live.flags s).0 in
     let start : (p : ℕ) → slice_index starts p ≡ (part_record layout p).mem_offset = λ p. lists.get_or-map (λ (x : Record). x.mem_offset) records p nowhere in
     let indexes = indexes_name_entries sizes link live by.told by.told (active_segments filling.content) s in

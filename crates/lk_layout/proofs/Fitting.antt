@@ -7,6 +7,7 @@ use Rattle.std.proofs.lemmas.Option.{slice_get_within}
 use Rattle.lk_link.specs.declared.link.LinkInput.{LinkInput}
 use Rattle.lk_link.specs.declared.plan.OrderEvent.TheVariants.{Section}
 use Rattle.lk_link.specs.Parts.{all_parts}
+use Rattle.lk_layout.specs.Made.{filling_for, thunks_for}
 use Rattle.lk_layout.specs.Machines.{Machine}
 use Rattle.lk_merge.specs.Addresses.{AreStartsOf}
 use Rattle.lk_merge.specs.LinkInputs.{link_inputs}
@@ -23,7 +24,6 @@ use Rattle.lk_sizes.specs.PartOwners.{EndsFit}
 use Rattle.lk_layout.specs.LayoutRecord.{LayoutRecord}
 use Rattle.lk_layout.specs.Defined.{setting}
 use Rattle.lk_values.specs.Starts.{starts_of}
-use Rattle.lk_values.specs.OutputContent.{output_filling}
 use Rattle.lk_values.proofs.Imaging.{images_fit}
 use Rattle.lk_layout.proofs.LaidOut.{IsLaidOut}
 use Rattle.lk_layout.proofs.PartStarts.{section_in}
@@ -57,9 +57,9 @@ part_fits refused machine link layout laid p within =
     (first_none (section_overflow s t step.steps.entered) (load_refusal (load_given s standing t step.steps.entered)) placing) at.place at.within in
     subst (λ q. mem_end (record_at laid.records q) < 2 ^ 64) (sym at.is) fit.mem
 
-owners_fit : RefusedExactlyPast → PartsTakeTheirBytes → (machine : Machine) (link : LinkInput) (layout : LayoutRecord) (laid : IsLaidOut machine link layout) → EndsFit (output_filling machine.sizes link laid.live) (starts_of laid.records)
+owners_fit : RefusedExactlyPast → PartsTakeTheirBytes → (machine : Machine) (link : LinkInput) (layout : LayoutRecord) (laid : IsLaidOut machine link layout) → EndsFit (filling_for machine link laid.live) (starts_of laid.records)
 owners_fit refused mass machine link layout laid =
-    ends_fit machine.sizes link laid.live laid.records (starts_of laid.records) refl
+    ends_fit machine.sizes link laid.live (thunks_for machine link laid.live) laid.records (starts_of laid.records) refl
     (λ p below.
     let start : slice_index (starts_of laid.records) p ≡ (record_at laid.records p).mem_offset = lists.get_or-map (λ (r : Record). r.mem_offset) laid.records p nowhere in
     omega (arith, start, part_fits refused machine link layout laid p (omega (arith, below, laid.is.each))))
@@ -69,6 +69,6 @@ owners_fit refused mass machine link layout laid =
 pub buckets_start : RefusedExactlyPast → PartsTakeTheirBytes → (machine : Machine) (link : LinkInput) (layout : LayoutRecord) (laid : IsLaidOut machine link layout) → AreStartsOf layout.merged_strings layout.merged_string_start_addresses
 buckets_start refused mass machine link layout laid =
     let starts : List ℕ = starts_of laid.records in
-    let addresses : List ℕ = image_addresses (output_filling machine.sizes link laid.live) starts in
-    let fit = images_fit machine.sizes link laid.live starts laid.good (starts_count link laid.records starts refl laid.is.each) (owners_fit refused mass machine link layout laid) in
+    let addresses : List ℕ = image_addresses (filling_for machine link laid.live) starts in
+    let fit = images_fit machine.sizes link laid.live (thunks_for machine link laid.live) starts laid.good (starts_count link laid.records starts refl laid.is.each) (owners_fit refused mass machine link layout laid) in
     subst (λ (l : LayoutRecord). AreStartsOf l.merged_strings l.merged_string_start_addresses) (sym laid.same) (are_starts (link_inputs link).outputs addresses fit)

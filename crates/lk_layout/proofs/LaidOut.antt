@@ -21,9 +21,10 @@ use Rattle.lk_place.specs.Segments.{first_outside, outside_refusal, section_reco
 use Rattle.lk_sizes.specs.Emitted.{active_segments, is_emitted}
 use Rattle.lk_layout.specs.declared.error.LayoutError.{LayoutError}
 use Rattle.lk_layout.specs.LayoutRecord.{LayoutRecord}
-use Rattle.lk_layout.specs.Defined.{IsDefined, Unless, references_error, references_refusal, fault_refusal, joining_refusal, layout_of, offsets_refusal, segment_refusal, setting, sizes_refusal, uncarried_refusal, walk_refusal}
-use Rattle.lk_layout.specs.Errors.{merge_error, offset_error, place_error}
-use Rattle.lk_values.specs.declared.outside.MergeOffsetPlace.{MergeOffsetPlace}
+use Rattle.lk_layout.specs.Defined.{IsDefined, Unless, branch_refusal, references_error, references_refusal, fault_refusal, joining_refusal, layout_of, offsets_refusal, segment_refusal, setting, sizes_refusal, uncarried_refusal, walk_refusal}
+use Rattle.lk_layout.specs.Errors.{branch_error, merge_error, offset_error, place_error}
+use Rattle.lk_layout.specs.Thunks.{made_branching}
+use Rattle.lk_branches.specs.Branches.{unreached}
 use Rattle.lk_layout.specs.Merging.{merging_refusal}
 use Rattle.lk_values.specs.OutputContent.{output_content}
 use Rattle.lk_values.specs.Outside.{merge_offsets}
@@ -44,6 +45,7 @@ pub record IsLaidOut (machine : Machine) (link : LinkInput) (layout : LayoutReco
   pub unrefused : placement_refusal (setting machine link live) states records ≡ None
   pub covered : first_outside link (section_records link.plan.sections records) (is_emitted (output_content machine.sizes link live)) ≡ None
   pub inside : merge_offsets link live ≡ []
+  pub reaching : unreached (made_branching (made_of machine link live states records)) ≡ []
   pub same : layout ≡ layout_of (made_of machine link live states records)
 
 -- what it is made of
@@ -66,7 +68,7 @@ none_outside None more h = refl
 none_outside (Some s) more h = absurd (cc)
 
 -- a list without a first has none
-none_first : (places : List MergeOffsetPlace) → slice_get places 0 ≡ None → places ≡ []
+none_first : {X : Type 0} (places : List X) → slice_get places 0 ≡ None → places ≡ []
 none_first [] h = refl
 none_first (place ∷ places) h = absurd (cc)
 
@@ -77,14 +79,15 @@ laid_out exactly machine link layout defined =
     let whole = passed (merging_refusal link) layout _ all.1 in
     let met = passed (references_refusal link) layout _ whole.1 in
     let reached = met.1 in
-    let sizes = passed (sizes_refusal machine.sizes link reached.0) layout _ reached.2 in
+    let sizes = passed (sizes_refusal machine link reached.0) layout _ reached.2 in
     let placed = sizes.1 in
     let made : Made = made_of machine link reached.0 placed.0 placed.1 in
     let walk = passed (walk_refusal made) layout _ placed.3 in
     let joined = passed (joining_refusal made) layout _ walk.1 in
     let segments = passed (segment_refusal made) layout _ joined.1 in
     let offsets = passed (offsets_refusal made) layout _ segments.1 in
-    let is : layout ≡ layout_of made = let given : Ok layout ≡ Ok (layout_of made) = offsets.1 in cc in
+    let branches = passed (branch_refusal made) layout _ offsets.1 in
+    let is : layout ≡ layout_of made = let given : Ok layout ≡ Ok (layout_of made) = branches.1 in cc in
     record {
       good = unrefused exactly link fault.0;
       live = reached.0;
@@ -98,6 +101,7 @@ laid_out exactly machine link layout defined =
       covered = none_outside (first_outside link (section_records link.plan.sections placed.1) (is_emitted (output_content machine.sizes link reached.0))) _
           (none_of place_error (segments_refusal FromSections link (section_records link.plan.sections placed.1) (is_emitted (output_content machine.sizes link reached.0)) (active_segments (output_content machine.sizes link reached.0))) segments.0);
       inside = none_first (merge_offsets link reached.0) (none_of offset_error (slice_get (merge_offsets link reached.0) 0) offsets.0);
+      reaching = none_first (unreached (made_branching made)) (none_of branch_error (slice_get (unreached (made_branching made)) 0) branches.0);
       same = is;
     }
 

@@ -1,4 +1,6 @@
 mod Answering
+mod BlockOwners
+mod Branching
 mod CommonsStand
 mod EntriesStand
 mod FewHeaders
@@ -18,5 +20,6 @@ mod SinglesBehind
 mod SortedLast
 mod Soundness
 mod TablesAlone
+mod ThunksTold
 mod Valued
 mod WithoutPositions

@@ -11,7 +11,7 @@ use Rattle.lk_link.specs.WellFormed.{IsWellFormed}
 use Rattle.lk_place.specs.PlacementLaws.{PlacementExists, PlacementIsOne}
 use Rattle.lk_layout.specs.declared.error.LayoutError.{LayoutError}
 use Rattle.lk_layout.specs.LayoutRecord.{LayoutRecord}
-use Rattle.lk_layout.specs.Defined.{IsCarriedAnswer, IsLiveAnswer, IsMadeAnswer, IsMergedAnswer, IsPlacedAnswer, IsSizedAnswer, Unless, fault_refusal}
+use Rattle.lk_layout.specs.Defined.{IsCarriedAnswer, IsLiveAnswer, IsMadeAnswer, IsMergedAnswer, IsPlacedAnswer, IsSizedAnswer, IsSpannedAnswer, Unless, branch_refusal, fault_refusal}
 use Rattle.lk_layout.specs.Defined.{joining_refusal, layout_of, offsets_refusal, references_refusal, segment_refusal, setting, sizes_refusal, uncarried_refusal}
 use Rattle.lk_layout.specs.Defined.{walk_refusal}
 use Rattle.lk_layout.specs.Made.{Made, made_of}
@@ -39,9 +39,10 @@ unless_exists (Some e) P rest = (Err e, refl)
 
 placed_exists : (made : Made) → (answer : Result LayoutRecord LayoutError) × IsPlacedAnswer made answer
 placed_exists made =
-    unless_exists (joining_refusal made) (λ a. Unless (segment_refusal made) a (Unless (offsets_refusal made) a (a ≡ Ok (layout_of made)))) (λ fit.
-    unless_exists (segment_refusal made) (λ a. Unless (offsets_refusal made) a (a ≡ Ok (layout_of made))) (λ none.
-    unless_exists (offsets_refusal made) (λ a. a ≡ Ok (layout_of made)) (λ inside. (Ok (layout_of made), refl))))
+    unless_exists (joining_refusal made) (λ a. Unless (segment_refusal made) a (IsSpannedAnswer made a)) (λ fit.
+    unless_exists (segment_refusal made) (IsSpannedAnswer made) (λ none.
+    unless_exists (offsets_refusal made) (λ a. Unless (branch_refusal made) a (a ≡ Ok (layout_of made))) (λ inside.
+    unless_exists (branch_refusal made) (λ a. a ≡ Ok (layout_of made)) (λ reach. (Ok (layout_of made), refl)))))
 
 sized_exists : PlacementExists → (machine : Machine) (link : LinkInput) (live : Live) → IsWellFormed link
     → (answer : Result LayoutRecord LayoutError) × IsSizedAnswer machine link live answer
@@ -55,7 +56,7 @@ merged_exists : LiveExists → PlacementExists → (machine : Machine) (link : L
 merged_exists live placement machine link good =
     unless_exists (references_refusal link) (λ a. (l : Live) × AreLive link l × IsLiveAnswer machine link l a) (λ none.
     let l = live link good in
-    let rest = unless_exists (sizes_refusal machine.sizes link l.0) (IsSizedAnswer machine link l.0) (λ none. sized_exists placement machine link l.0 good) in
+    let rest = unless_exists (sizes_refusal machine link l.0) (IsSizedAnswer machine link l.0) (λ none. sized_exists placement machine link l.0 good) in
     (rest.0, (l.0, l.1, rest.1)))
 
 carried_exists : LiveExists → PlacementExists → (machine : Machine) (link : LinkInput) → IsWellFormed link → (answer : Result LayoutRecord LayoutError) × IsCarriedAnswer machine link answer
@@ -79,7 +80,8 @@ placed_one : (made : Made) (a b : Result LayoutRecord LayoutError) → IsPlacedA
 placed_one made a b h g =
     unless_one (joining_refusal made) a b _ _ h g (λ fit s t.
     unless_one (segment_refusal made) a b _ _ s t (λ none x y.
-    unless_one (offsets_refusal made) a b _ _ x y (λ inside u v. u ∙ sym v)))
+    unless_one (offsets_refusal made) a b _ _ x y (λ inside q r.
+    unless_one (branch_refusal made) a b _ _ q r (λ reach u v. u ∙ sym v))))
 
 sized_one : PlacementIsOne → (machine : Machine) (link : LinkInput) (live : Live) (a b : Result LayoutRecord LayoutError) → IsWellFormed link
     → IsSizedAnswer machine link live a → IsSizedAnswer machine link live b → a ≡ b
@@ -96,7 +98,7 @@ merged_one live placement machine link a b good h g =
     unless_one (references_refusal link) a b _ _ h g (λ met x y.
     let one : x.0 ≡ y.0 = live link x.0 y.0 x.1 y.1 in
     let there : IsLiveAnswer machine link y.0 a = subst (λ l. IsLiveAnswer machine link l a) one x.2 in
-    unless_one (sizes_refusal machine.sizes link y.0) a b _ _ there y.2 (λ none u v. sized_one placement machine link y.0 a b good u v))
+    unless_one (sizes_refusal machine link y.0) a b _ _ there y.2 (λ none u v. sized_one placement machine link y.0 a b good u v))
 
 carried_one : LiveIsOne → PlacementIsOne → (machine : Machine) (link : LinkInput) (a b : Result LayoutRecord LayoutError) → IsWellFormed link
     → IsCarriedAnswer machine link a → IsCarriedAnswer machine link b → a ≡ b

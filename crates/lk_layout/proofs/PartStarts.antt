@@ -23,10 +23,10 @@ use Rattle.lk_sizes.proofs.Tiling.{part_is_aligned}
 use Rattle.lk_link.proofs.Powers.{alignment_divides}
 use Rattle.lk_place.proofs.AlignmentLaws.{greatest_of-least, section_aligned}
 use Rattle.lk_gc.specs.declared.live.Live.{Live}
+use Rattle.lk_layout.specs.Made.{filling_for}
 use Rattle.lk_layout.specs.Machines.{Machine}
 use Rattle.lk_sizes.specs.PartOwners.{part_sizes}
 use Rattle.lk_layout.specs.Defined.{setting}
-use Rattle.lk_values.specs.OutputContent.{output_filling}
 
 -- ---- alignments
 
@@ -73,7 +73,7 @@ section_in (x ∷ xs) p h =
 
 pub part_starts : (machine : Machine) (link : LinkInput) (live : Live) (states : List Cursors) (records : List Record) (p : ℕ) → IsWellFormed link
     → IsPlaced (setting machine link live) states records → placement_refusal (setting machine link live) states records ≡ None
-    → p < length (all_parts link.plan.sections) → 0 < size_at (part_sizes (output_filling machine.sizes link live)) p
+    → p < length (all_parts link.plan.sections) → 0 < size_at (part_sizes (filling_for machine link live)) p
     → (part_at link.plan.sections p).alignment ∣ (record_at records p).mem_offset
 part_starts machine link live states records p good is unrefused within some =
     let s : Setting = setting machine link live in

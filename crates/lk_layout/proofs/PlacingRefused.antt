@@ -16,8 +16,7 @@ use Rattle.lk_layout.specs.LayoutRecord.{LayoutRecord}
 use Rattle.lk_layout.specs.Defined.{IsPlacedAnswer, IsSizedAnswer, WithMemory, setting, walk_refusal}
 use Rattle.lk_layout.specs.Errors.{place_error}
 use Rattle.lk_layout.specs.Headers.{header_bytes}
-use Rattle.lk_layout.specs.Made.{Made, made_of}
-use Rattle.lk_values.specs.OutputContent.{output_filling}
+use Rattle.lk_layout.specs.Made.{Made, filling_for, made_of}
 use Rattle.lk_layout.specs.PositionWords.{asked_positions}
 use Rattle.lk_layout.proofs.Answering.{out_of_memory, unless_some}
 use Rattle.lk_layout.proofs.WithoutPositions.{by_asked}
@@ -43,10 +42,10 @@ told machine link live (place.SectionOutsideSegments s) h = λ some. refused mac
 
 -- the same where it is handed on, told of the sizes, the bytes of headers and the places of symbols that are
 pub placing_refused : (machine : Machine) (link : LinkInput) (live : Live) (sizes : List ℕ) (headers : ℕ) (positions : List (Option SymbolPosition)) (e : PlaceError) (x : LayoutError)
-    → sizes ≡ part_sizes (output_filling machine.sizes link live) → headers ≡ header_bytes machine link live → positions ≡ asked_positions (output_filling machine.sizes link live)
+    → sizes ≡ part_sizes (filling_for machine link live) → headers ≡ header_bytes machine link live → positions ≡ asked_positions (filling_for machine link live)
     → GivesPlaced (setting_of link machine.target sizes headers positions) (Err e) → x ≡ place_error e → WithMemory (IsSizedAnswer machine link live) (Err x)
 placing_refused machine link live sizes headers positions e x same leading asked gives h =
-    let all : List ℕ = part_sizes (output_filling machine.sizes link live) in
+    let all : List ℕ = part_sizes (filling_for machine link live) in
     let sized : GivesPlaced (setting_of link machine.target all headers positions) (Err e) = subst (λ ns. GivesPlaced (setting_of link machine.target ns headers positions) (Err e)) same gives in
     let led : GivesPlaced (setting_of link machine.target all (header_bytes machine link live) positions) (Err e) = subst (λ n. GivesPlaced (setting_of link machine.target all n positions) (Err e)) leading sized in
     let there : GivesPlaced (setting machine link live) (Err e)

@@ -1,5 +1,5 @@
 -- How a stage leads back to the answer of the link: what is answered behind it is answered of the link.
-use Rattle.std.proofs.Common.{Result, Ok, Err, ap}
+use Rattle.std.proofs.Common.{◌≡◌, Result, Ok, Err, ap}
 use Rattle.std.specs.Prelude.{option_map}
 use Rattle.lk_link.specs.declared.link.LinkInput.{LinkInput}
 use Rattle.lk_layout.specs.Machines.{Machine}
@@ -10,14 +10,16 @@ use Rattle.lk_layout.specs.LayoutRecord.{LayoutRecord}
 use Rattle.lk_layout.specs.declared.stages.KeptLink.{KeptLink}
 use Rattle.lk_layout.specs.declared.stages.PlacedLink.{PlacedLink}
 use Rattle.lk_layout.specs.declared.stages.SizedLink.{SizedLink}
-use Rattle.lk_layout.specs.Defined.{Gives, IsCarriedAnswer, IsDefined, IsLiveAnswer, IsMergedAnswer, IsPlacedAnswer, IsSizedAnswer, WithMemory}
-use Rattle.lk_layout.specs.Defined.{fault_refusal, not_carried, references_error, references_refusal, sizes_refusal, uncarried_refusal, walk_refusal}
+use Rattle.lk_layout.specs.declared.stages.SpannedLink.{SpannedLink}
+use Rattle.lk_layout.specs.declared.stages.ToldLink.{ToldLink}
+use Rattle.lk_layout.specs.Defined.{Gives, IsCarriedAnswer, IsDefined, IsLiveAnswer, IsMergedAnswer, IsPlacedAnswer, IsSizedAnswer, IsSpannedAnswer, WithMemory}
+use Rattle.lk_layout.specs.Defined.{branch_refusal, fault_refusal, joining_refusal, layout_of, not_carried, offsets_refusal, references_error, references_refusal, segment_refusal, sizes_refusal, uncarried_refusal, walk_refusal}
 use Rattle.lk_layout.specs.Errors.{fault_error, place_error, size_error}
-use Rattle.lk_layout.specs.Made.{Made, made_of}
+use Rattle.lk_layout.specs.Made.{Made}
 use Rattle.lk_layout.specs.Merging.{merging_refusal}
 use Rattle.lk_layout.specs.MergingWords.{GivesImages}
-use Rattle.lk_layout.specs.Stages.{IsChecked, IsKept, IsMerged, IsPlacedLink, IsSized, Reaches}
-use Rattle.lk_layout.proofs.Answering.{passed_on, unless_none, unless_some}
+use Rattle.lk_layout.specs.Stages.{IsChecked, IsKept, IsMerged, IsPlacedLink, IsSized, IsSpannedLink, IsToldLink, Reaches, made_placed, made_spanned, made_told}
+use Rattle.lk_layout.proofs.Answering.{none_chosen, none_unreached, passed_on, unless_none, unless_some}
 
 pub from_checked : (machine : Machine) (link : LinkInput) (answer : Result LayoutRecord LayoutError) → IsChecked link
     → WithMemory (IsCarriedAnswer machine link) answer → Gives machine link answer
@@ -38,16 +40,12 @@ from_kept machine link kept answer is given =
     from_merged machine link kept.images answer is.merged (passed_on (IsLiveAnswer machine link kept.live) (IsMergedAnswer machine link) answer (λ a h.
     unless_none (references_refusal link) a _ (ap references_error is.met) (kept.live, is.live, h)) given)
 
-pub from_sized : (machine : Machine) (link : LinkInput) (sized : SizedLink) (answer : Result LayoutRecord LayoutError) → IsSized machine.sizes link sized
+pub from_sized : (machine : Machine) (link : LinkInput) (sized : SizedLink) (answer : Result LayoutRecord LayoutError) → IsSized machine link sized
     → WithMemory (IsSizedAnswer machine link sized.kept.live) answer → Gives machine link answer
 from_sized machine link sized answer is given =
     let live : Live = sized.kept.live in
     from_kept machine link sized.kept answer is.kept (passed_on (IsSizedAnswer machine link live) (IsLiveAnswer machine link live) answer (λ a h.
-    unless_none (sizes_refusal machine.sizes link live) a _ (ap (option_map size_error) is.fits) h) given)
-
--- what it is made of, once it is placed
-abbrev pub made_placed : {machine : Machine} {link : LinkInput} {placed : PlacedLink} → IsPlacedLink machine link placed → Made
-made_placed {machine} {link} {placed} is = made_of machine link placed.sized.kept.live is.are.states placed.records.parts
+    unless_none (sizes_refusal machine link live) a _ (ap (option_map size_error) is.fits) h) given)
 
 pub from_placed : (machine : Machine) (link : LinkInput) (placed : PlacedLink) (answer : Result LayoutRecord LayoutError) (is : IsPlacedLink machine link placed)
     → WithMemory (IsPlacedAnswer (made_placed is)) answer → Gives machine link answer
@@ -59,6 +57,23 @@ from_placed machine link placed answer is given =
       is.are.is,
       unless_none (walk_refusal made) a _ (ap (option_map place_error) is.are.unrefused) h,
     )) given)
+
+pub from_spanned : (machine : Machine) (link : LinkInput) (spanned : SpannedLink) (answer : Result LayoutRecord LayoutError) (is : IsSpannedLink machine link spanned)
+    → WithMemory (IsSpannedAnswer (made_spanned is)) answer → Gives machine link answer
+from_spanned machine link spanned answer is given =
+    let made : Made = made_spanned is in
+    from_placed machine link spanned.placed answer is.placed (passed_on (IsSpannedAnswer made) (IsPlacedAnswer made) answer (λ a h.
+    unless_none (joining_refusal made) a _ is.fits (unless_none (segment_refusal made) a _ is.covered h)) given)
+
+-- what is told is the layout
+pub from_told : (machine : Machine) (link : LinkInput) (told : ToldLink) (layout : LayoutRecord) (is : IsToldLink machine link told) → layout ≡ layout_of (made_told is)
+    → Gives machine link (Ok layout)
+from_told machine link told layout is same =
+    let made : Made = made_told is in
+    let addressed = is.reaching.addressed in
+    from_spanned machine link told.reaching.addressed.spanned (Ok layout) addressed.spanned
+    (unless_none (offsets_refusal made) (Ok layout) _ (none_chosen made addressed.inside)
+    (unless_none (branch_refusal made) (Ok layout) _ (none_unreached made is.reaching.reach) (ap (λ (l : LayoutRecord). Ok l) same)))
 
 -- what merging gives is the next stage, or the answer
 pub merged : (machine : Machine) (link : LinkInput) (result : Result Images LayoutError) → IsChecked link → GivesImages link result

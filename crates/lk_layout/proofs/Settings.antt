@@ -12,6 +12,8 @@ use Rattle.lk_link.specs.declared.plan.PlanSection.{PlanSection}
 use Rattle.lk_link.specs.declared.plan.PlanSegment.{PlanSegment}
 use Rattle.lk_link.specs.Parts.{all_parts}
 use Rattle.lk_link.specs.TableSizes.{TableSizes}
+use Rattle.lk_sizes.specs.Owners.{Filling}
+use Rattle.lk_layout.specs.Made.{filling_for}
 use Rattle.lk_layout.specs.Machines.{Machine}
 use Rattle.lk_link.specs.WellFormed.{IsWellFormed}
 use Rattle.lk_place.specs.declared.cursors.Cursors.{Cursors}
@@ -23,7 +25,7 @@ use Rattle.lk_place.specs.Setting.{IsReady}
 use Rattle.lk_sizes.specs.Emitted.{active_segments, is_active}
 use Rattle.lk_sizes.specs.PartOwners.{part_size, part_sizes}
 use Rattle.lk_layout.specs.Defined.{setting}
-use Rattle.lk_values.specs.OutputContent.{output_content, output_filling}
+use Rattle.lk_values.specs.OutputContent.{output_content}
 use Rattle.lk_values.proofs.PartCounts.{length-by_part}
 
 -- there is a record for each section
@@ -33,27 +35,27 @@ length-section_records sections parts =
 
 -- its plan can be walked
 pub ready : (machine : Machine) (link : LinkInput) (live : Live) → IsWellFormed link → IsReady (setting machine link live)
-ready machine link live good = record { events = good.events; sections = good.sections; sizes = length-by_part (part_size (output_filling machine.sizes link live)) link }
+ready machine link live good = record { events = good.events; sections = good.sections; sizes = length-by_part (part_size (filling_for machine link live)) link }
 
 -- the size of a part, by its number
-pub size_of : (sizes : TableSizes) (link : LinkInput) (live : Live) (p : ℕ) → p < length (all_parts link.plan.sections) → slice_index_or (part_sizes (output_filling sizes link live)) p 0 ≡ part_size (output_filling sizes link live) p
-size_of sizes link live p within =
-    let parts : List PlanPart = all_parts link.plan.sections in
+pub size_of : (filling : Filling) (p : ℕ) → p < length (all_parts filling.content.link.plan.sections) → slice_index_or (part_sizes filling) p 0 ≡ part_size filling p
+size_of filling p within =
+    let parts : List PlanPart = all_parts filling.content.link.plan.sections in
     let none : PlanPart = record { alignment = 1; packed = false } in
-    let size : ℕ × PlanPart → ℕ = λ q. part_size (output_filling sizes link live) q.0 in
+    let size : ℕ × PlanPart → ℕ = λ q. part_size filling q.0 in
     get_or-map size (enumerate_from 0 parts) p (0, none) 0 (omega (arith, within, length-enumerate_from 0 parts))
     ∙ ap size (get_or-enumerate_from 0 parts p (0, none) within)
-    ∙ ap (part_size (output_filling sizes link live)) (zero-add p)
+    ∙ ap (part_size filling) (zero-add p)
 
 -- each part that is placed takes the bytes of its owners
 pub takes : PartsTakeTheirBytes → (machine : Machine) (link : LinkInput) (live : Live) (states : List Cursors) (records : List Record) → IsWellFormed link
     → IsPlaced (setting machine link live) states records → placement_refusal (setting machine link live) states records ≡ None
-    → (p : ℕ) → p < length records → (record_at records p).mem_size ≡ part_size (output_filling machine.sizes link live) p
+    → (p : ℕ) → p < length records → (record_at records p).mem_size ≡ part_size (filling_for machine link live) p
 takes law machine link live states records good is unrefused p below =
-    let all : map (λ r. r.mem_size) records ≡ part_sizes (output_filling machine.sizes link live) = law (setting machine link live) states records (ready machine link live good) is unrefused in
+    let all : map (λ r. r.mem_size) records ≡ part_sizes (filling_for machine link live) = law (setting machine link live) states records (ready machine link live good) is unrefused in
     sym (get_or-map (λ (r : Record). r.mem_size) records p nowhere 0 below)
     ∙ ap (λ (sizes : List ℕ). slice_index_or sizes p 0) all
-    ∙ size_of machine.sizes link live p (omega (arith, is.each))
+    ∙ size_of (filling_for machine link live) p (omega (arith, is.each))
 
 -- ---- active segments
 

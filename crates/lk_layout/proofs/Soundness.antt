@@ -40,6 +40,8 @@ use Rattle.lk_layout.specs.Sound.{OwnersAreApart, IsInSection, IsSharedOut, IsSo
 use Rattle.lk_layout.proofs.CommonsStand.{commons_stand}
 use Rattle.lk_layout.proofs.EntriesStand.{entries_stand}
 use Rattle.lk_layout.proofs.TablesAlone.{tables_alone}
+use Rattle.lk_layout.proofs.ThunksTold.{branches_reach, thunks_stand}
+use Rattle.lk_branches.specs.BranchLaws.{BranchesReach, ThunksHaveRanges}
 use Rattle.lk_layout.proofs.Fitting.{buckets_start}
 use Rattle.lk_layout.proofs.LaidOut.{IsLaidOut, made_by, laid_out}
 use Rattle.lk_layout.proofs.ImagesShow.{images_stand}
@@ -53,8 +55,8 @@ use Rattle.lk_layout.proofs.Resolved.{resolved_sections_are_live}
 use Rattle.lk_layout.proofs.Settings.{ready, size_of, takes}
 use Rattle.lk_layout.proofs.Valued.{values_are_in_live_sections}
 use Rattle.lk_link.proofs.Elements.{contains_at, map_in}
-use Rattle.lk_values.specs.OutputContent.{output_content, output_filling}
-use Rattle.lk_layout.specs.Made.{Made, made_content, made_filling, made_of}
+use Rattle.lk_values.specs.OutputContent.{output_content}
+use Rattle.lk_layout.specs.Made.{Made, filling_for, made_content, made_filling, made_of}
 use Rattle.lk_sizes.proofs.OwnSizes.{live_own_size}
 
 -- ---- the layout and its records
@@ -62,16 +64,16 @@ use Rattle.lk_sizes.proofs.OwnSizes.{live_own_size}
 parts_are : (machine : Machine) (link : LinkInput) (layout : LayoutRecord) (laid : IsLaidOut machine link layout) → layout.section_part_layouts ≡ laid.records
 parts_are machine link layout laid = ap (λ (l : LayoutRecord). l.section_part_layouts) laid.same
 
-shown : (machine : Machine) (link : LinkInput) (layout : LayoutRecord) (laid : IsLaidOut machine link layout) → told_live link layout ≡ live_sections (output_filling machine.sizes link laid.live) (starts_of layout.section_part_layouts)
+shown : (machine : Machine) (link : LinkInput) (layout : LayoutRecord) (laid : IsLaidOut machine link layout) → told_live link layout ≡ live_sections (filling_for machine link laid.live) (starts_of layout.section_part_layouts)
 shown machine link layout laid =
-    ap (told_live link) laid.same ∙ table_tells_live_sections (output_content machine.sizes link laid.live) (starts_of laid.records)
-    ∙ ap (λ (rs : List Record). live_sections (output_filling machine.sizes link laid.live) (starts_of rs)) (sym (parts_are machine link layout laid))
+    ap (told_live link) laid.same ∙ table_tells_live_sections (filling_for machine link laid.live) (starts_of laid.records) refl
+    ∙ ap (λ (rs : List Record). live_sections (filling_for machine link laid.live) (starts_of rs)) (sym (parts_are machine link layout laid))
 
 resolved : (machine : Machine) (link : LinkInput) (layout : LayoutRecord) (laid : IsLaidOut machine link layout)
-    → layout.symbol_resolutions ≡ symbol_resolutions (output_filling machine.sizes link laid.live) (starts_of layout.section_part_layouts)
+    → layout.symbol_resolutions ≡ symbol_resolutions (filling_for machine link laid.live) (starts_of layout.section_part_layouts)
 resolved machine link layout laid =
     ap (λ (l : LayoutRecord). l.symbol_resolutions) laid.same
-    ∙ ap (λ (rs : List Record). symbol_resolutions (output_filling machine.sizes link laid.live) (starts_of rs)) (sym (parts_are machine link layout laid))
+    ∙ ap (λ (rs : List Record). symbol_resolutions (filling_for machine link laid.live) (starts_of rs)) (sym (parts_are machine link layout laid))
 
 -- no section stands outside the segments
 covered : (machine : Machine) (link : LinkInput) (layout : LayoutRecord) (laid : IsLaidOut machine link layout)
@@ -85,7 +87,7 @@ shared_out : OwnersTileTheirPart → PartsTakeTheirBytes → (machine : Machine)
 shared_out tile mass machine link layout laid p within = record {
   whole = ap (λ rs. (record_at rs p).mem_size) (parts_are machine link layout laid)
       ∙ takes mass machine link laid.live laid.states laid.records laid.good laid.is laid.unrefused p (omega (arith, within, laid.is.each));
-  tiled = tile (output_filling machine.sizes link laid.live) p (part_record layout p).mem_offset;
+  tiled = tile (filling_for machine link laid.live) p (part_record layout p).mem_offset;
 }
 
 -- ---- one live section
@@ -204,13 +206,13 @@ sections_aligned tile aligned owners machine link layout laid a x l told some un
     let s : Stands (made_by laid) layout x l = stands owners (made_by laid) layout a x l (shown machine link layout laid) told in
     let within : p < length (all_parts link.plan.sections) = live_goes link live a x laid.good laid.are_live told.there in
     let byte = has_byte (made_by laid) layout x l l.address s (record { begins = omega arith; ends = omega (arith, some) }) in
-    let bytes : 0 < part_size (output_filling machine.sizes link live) p = owner_within (part_at link.plan.sections p) (part_record layout p).mem_offset (owners_of (output_filling machine.sizes link live) p) (owner_number (output_filling machine.sizes link live) x) l.address (tile (output_filling machine.sizes link live) p (part_record layout p).mem_offset) byte in
-    let size : slice_index_or (setting machine link live).sizes p 0 ≡ part_size (output_filling machine.sizes link live) p = size_of machine.sizes link live p within in
+    let bytes : 0 < part_size (filling_for machine link live) p = owner_within (part_at link.plan.sections p) (part_record layout p).mem_offset (owners_of (filling_for machine link live) p) (owner_number (filling_for machine link live) x) l.address (tile (filling_for machine link live) p (part_record layout p).mem_offset) byte in
+    let size : slice_index_or (setting machine link live).sizes p 0 ≡ part_size (filling_for machine link live) p = size_of (filling_for machine link live) p within in
     let begins : (part_at link.plan.sections p).alignment ∣ (record_at laid.records p).mem_offset
     = part_starts machine link live laid.states laid.records p laid.good laid.is laid.unrefused within (omega (arith, bytes, size)) in
     let record_is : (record_at laid.records p).mem_offset ≡ (part_record layout p).mem_offset = ap (λ rs. (record_at rs p).mem_offset) (sym (parts_are machine link layout laid)) in
     subst (λ n. (part_at link.plan.sections p).alignment ∣ n) (sym s.address)
-    (dvd-add (part_at link.plan.sections p).alignment (subst (λ n. (part_at link.plan.sections p).alignment ∣ n) record_is begins) (aligned (output_filling machine.sizes link live) p (owner_number (output_filling machine.sizes link live) x) laid.good (live_good link live a x laid.good laid.are_live told.there).1.to_no_table unpacked))
+    (dvd-add (part_at link.plan.sections p).alignment (subst (λ n. (part_at link.plan.sections p).alignment ∣ n) record_is begins) (aligned (filling_for machine link live) p (owner_number (filling_for machine link live) x) laid.good (live_good link live a x laid.good laid.are_live told.there).1.to_no_table unpacked))
 
 -- ---- the laws
 
@@ -233,9 +235,9 @@ congruent in_step keep machine link layout laid lawful plain i s k p places back
     subst (λ (l : LayoutRecord). IsCongruentAt link l i p) (sym laid.same) there
 
 -- what is laid out is sound
-is_sound : OwnersTileTheirPart → OwnersAreAligned → LiveSectionsAreOwners → PartsTakeTheirBytes → RefusedExactlyPast → FileRangesAreDisjoint → PlainMemoryIsDisjoint → PlainMemoryIsCongruent → RecordsKeepAlignments
+is_sound : OwnersTileTheirPart → OwnersAreAligned → LiveSectionsAreOwners → PartsTakeTheirBytes → RefusedExactlyPast → FileRangesAreDisjoint → PlainMemoryIsDisjoint → PlainMemoryIsCongruent → RecordsKeepAlignments → ThunksHaveRanges → BranchesReach
     → (machine : Machine) (link : LinkInput) (layout : LayoutRecord) (laid : IsLaidOut machine link layout) → IsLawfulMachine machine → IsSound (made_by laid) layout
-is_sound tile aligned owners mass refused file memory in_step keep machine link layout laid lawful =
+is_sound tile aligned owners mass refused file memory in_step keep ranges reach machine link layout laid lawful =
     let records : List Record = layout.section_part_layouts in
     record {
       is = laid.same;
@@ -252,8 +254,10 @@ is_sound tile aligned owners mass refused file memory in_step keep machine link 
       valued = λ unrelaxed. values_are_in_live_sections (made_by laid) layout (starts_of records) (shown machine link layout laid) (resolved machine link layout laid)
           (resolved_sections_are_live link laid.live laid.good laid.are_live laid.met);
       commons = commons_stand tile aligned machine link layout laid (resolved machine link layout laid);
-      alone = tables_alone machine.sizes link laid.live laid.good laid.are_live;
-      entries = entries_stand machine link layout laid (tables_alone machine.sizes link laid.live laid.good laid.are_live) (resolved machine link layout laid);
+      alone = tables_alone (filling_for machine link laid.live) laid.good laid.are_live;
+      entries = entries_stand machine link layout laid (tables_alone (filling_for machine link laid.live) laid.good laid.are_live) (resolved machine link layout laid);
+      thunks = thunks_stand ranges machine link layout laid lawful;
+      reaching = branches_reach reach machine link layout laid;
       ordered = sorted_stand_last (made_by laid);
       singles = singles_stand machine link layout laid;
       covered = covered machine link layout laid;
@@ -272,11 +276,11 @@ is_sound tile aligned owners mass refused file memory in_step keep machine link 
           };
     }
 
-pub sound : WellFormedExactlyUnfaulted → OwnersTileTheirPart → OwnersAreAligned → LiveSectionsAreOwners → PartsTakeTheirBytes → RefusedExactlyPast → FileRangesAreDisjoint → PlainMemoryIsDisjoint → PlainMemoryIsCongruent → RecordsKeepAlignments
+pub sound : WellFormedExactlyUnfaulted → OwnersTileTheirPart → OwnersAreAligned → LiveSectionsAreOwners → PartsTakeTheirBytes → RefusedExactlyPast → FileRangesAreDisjoint → PlainMemoryIsDisjoint → PlainMemoryIsCongruent → RecordsKeepAlignments → ThunksHaveRanges → BranchesReach
     → DefinedLayoutsAreSound
-sound exactly tile aligned owners mass refused file memory in_step keep machine link layout lawful defined =
+sound exactly tile aligned owners mass refused file memory in_step keep ranges reach machine link layout lawful defined =
     let laid = laid_out exactly machine link layout defined in
-    (laid.live, laid.states, laid.records, is_sound tile aligned owners mass refused file memory in_step keep machine link layout laid lawful)
+    (laid.live, laid.states, laid.records, is_sound tile aligned owners mass refused file memory in_step keep ranges reach machine link layout laid lawful)
 
 -- under a plan in which nothing moves, the memory of a layout is disjoint
 pub memory_disjoint : WellFormedExactlyUnfaulted → MemoryRangesAreDisjoint → LaidOutMemoryIsDisjoint

@@ -6,12 +6,10 @@ use Rattle.std.proofs.lemmas.List.Folds.{list_any_at}
 use Rattle.std.proofs.lemmas.Option.{get_or_from_slice_get, slice_get_within}
 use Rattle.lk_link.specs.declared.link.LinkInput.{LinkInput}
 use Rattle.lk_link.specs.PartRules.{is_part, is_table_part, table_parts}
-use Rattle.lk_link.specs.TableSizes.{TableSizes}
 use Rattle.lk_link.specs.WellFormed.{IsWellFormed}
-use Rattle.lk_gc.specs.declared.live.Live.{Live}
 use Rattle.lk_gc.specs.Reach.{AreLive}
 use Rattle.lk_sizes.proofs.TableParts.{table_parts_have_entries_alone}
-use Rattle.lk_values.specs.OutputContent.{output_filling}
+use Rattle.lk_sizes.specs.Owners.{Filling}
 use Rattle.lk_layout.specs.Sound.{TablesStandAlone}
 
 -- the part of a table is a table part
@@ -20,5 +18,5 @@ named_is_table link k p named =
     let parts : List (Option ℕ) = table_parts link.plan.named in
     list_any_at (is_part p) parts k (Some p) (slice_get_within parts k (Some p) named) (ap (is_part p) (get_or_from_slice_get parts k (Some p) (Some p) named) ∙ eq-eqb p p refl)
 
-pub tables_alone : (sizes : TableSizes) (link : LinkInput) (live : Live) → IsWellFormed link → AreLive link live → TablesStandAlone sizes link live
-tables_alone sizes link live good are k p named = table_parts_have_entries_alone (output_filling sizes link live) p good are (named_is_table link k p named)
+pub tables_alone : (filling : Filling) → IsWellFormed filling.content.link → AreLive filling.content.link filling.content.live → TablesStandAlone filling
+tables_alone filling good are k p named = table_parts_have_entries_alone filling p good are (named_is_table filling.content.link k p named)

@@ -9,7 +9,6 @@ use Rattle.std.proofs.lemmas.Option.{get_or_from_slice_get, slice_get_within}
 use Rattle.lk_link.specs.declared.file.FileKind.{FileKind}
 use Rattle.lk_link.specs.declared.file.InputFile.{InputFile}
 use Rattle.lk_link.specs.declared.ids.FileId.{FileId}
-use Rattle.lk_link.specs.declared.link.LinkInput.{LinkInput}
 use Rattle.lk_link.specs.declared.symbol.InputSymbol.{InputSymbol}
 use Rattle.lk_link.specs.declared.symbol.SymbolPlacement.TheVariants as at
 use Rattle.lk_link.specs.Files.{file_in}
@@ -19,7 +18,6 @@ use Rattle.lk_link.specs.Marks.{is_marked}
 use Rattle.lk_link.specs.Symbols.{file_number, first_symbol, symbols_in}
 use Rattle.lk_link.proofs.Elements.{map_in}
 use Rattle.lk_link.proofs.InputLemmas.{file_stands, files_from_are, inputs_follow, numbered_get, sum_taken}
-use Rattle.lk_gc.specs.declared.live.Live.{Live}
 use Rattle.lk_gc.specs.Reach.{live_inputs}
 use Rattle.lk_tables.specs.SymbolEntries.{is_resolved}
 use Rattle.lk_tables.specs.SymbolTable.{symbols_by_number}

@@ -11,6 +11,7 @@ use Rattle.lk_link.specs.declared.plan.PlanSection.{PlanSection}
 use Rattle.lk_link.specs.Expressions.{Term}
 use Rattle.lk_link.specs.Inside.{placed_section}
 use Rattle.lk_link.specs.PlanSections.{no_section, primary_of, section_at}
+use Rattle.lk_layout.specs.Made.{filling_for}
 use Rattle.lk_layout.specs.Machines.{Machine}
 use Rattle.lk_link.proofs.Places.{all_at}
 use Rattle.lk_expressions.proofs.Unnamed.{unnamed_read_no_symbols}
@@ -36,7 +37,6 @@ use Rattle.lk_sizes.specs.Owners.{Filling}
 use Rattle.lk_sizes.specs.PartOwners.{part_sizes}
 use Rattle.lk_layout.specs.Defined.{setting}
 use Rattle.lk_layout.specs.Headers.{header_bytes}
-use Rattle.lk_values.specs.OutputContent.{output_filling}
 use Rattle.lk_layout.specs.PositionLaws.{PlacementsGoWithoutPositions, with_positions}
 use Rattle.lk_layout.specs.Positions.{symbol_positions}
 use Rattle.lk_layout.specs.PositionWords.{asked_positions}
@@ -215,10 +215,10 @@ gives_alike setting positions (Err (place.SectionOutsideSegments s)) none h = re
 
 -- what a placement answers by the places that expressions ask for is what it answers by all
 pub by_asked : (machine : Machine) (link : LinkInput) (live : Live) (answer : Result Placed PlaceError)
-    → GivesPlaced (setting_of link machine.target (part_sizes (output_filling machine.sizes link live)) (header_bytes machine link live) (asked_positions (output_filling machine.sizes link live))) answer
+    → GivesPlaced (setting_of link machine.target (part_sizes (filling_for machine link live)) (header_bytes machine link live) (asked_positions (filling_for machine link live))) answer
     → GivesPlaced (setting machine link live) answer
 by_asked machine link live answer h =
-    let filling : Filling = output_filling machine.sizes link live in
+    let filling : Filling = filling_for machine link live in
     let all : List (Option SymbolPosition) = symbol_positions filling in
     let by : List (Option SymbolPosition) → Setting = λ ps. setting_of link machine.target (part_sizes filling) (header_bytes machine link live) ps in
     elim (names_no_symbol link.plan) as (λ b. names_no_symbol link.plan ≡ b → GivesPlaced (by (if b then [] else all)) answer → GivesPlaced (by all) answer) [

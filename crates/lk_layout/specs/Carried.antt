@@ -1,5 +1,5 @@
 -- What a description may have that isn't laid out yet.
-use Rattle.std.specs.Prelude.{◌==◌, ◌&&◌, not, Bool, List, [], ◌∷◌, Option, is_some, find, length}
+use Rattle.std.specs.Prelude.{◌==◌, ◌&&◌, not, Bool, List, [], ◌∷◌, Option, find, length}
 use Rattle.std.specs.List.{list_any}
 use Rattle.lk_link.specs.declared.file.InputFile.{InputFile}
 use Rattle.lk_link.specs.declared.link.LinkInput.{LinkInput}
@@ -17,13 +17,12 @@ has_own_symbols f = is_internal f.kind && not (length f.symbols == 0)
 
 -- the description has it
 unfoldable pub has : LinkInput → Uncarried → Bool
-has link uncarried.Primary = is_some link.plan.named.primary
 has link uncarried.Relax = link.options.relax
 has link uncarried.Symbol = any_file has_own_symbols link
 
 -- the order in which it is looked for
 abbrev pub all_uncarried : List Uncarried
-all_uncarried = uncarried.Primary ∷ uncarried.Relax ∷ uncarried.Symbol ∷ []
+all_uncarried = uncarried.Relax ∷ uncarried.Symbol ∷ []
 
 -- what is found first
 unfoldable pub first_uncarried : LinkInput → Option Uncarried

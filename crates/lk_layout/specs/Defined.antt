@@ -1,8 +1,9 @@
 -- The one answer of a link: the first refusal, in the order in which they are looked for, else the layout.
-use Rattle.std.specs.Prelude.{◌≡◌, ℕ, Bool, true, false, List, [], ◌∷◌, Option, Some, None, map, option_map, slice_get, Result, Ok, Err}
+use Rattle.std.specs.Prelude.{◌≡◌, Bool, true, false, List, [], ◌∷◌, Option, Some, None, option_map, slice_get, Result, Ok, Err}
 use Rattle.lk_link.specs.declared.link.LinkInput.{LinkInput}
-use Rattle.lk_link.specs.TableSizes.{TableSizes}
 use Rattle.lk_layout.specs.Machines.{Machine}
+use Rattle.lk_branches.specs.Branches.{unreached}
+use Rattle.lk_branches.specs.ThunkPlans.{config_for, thunk_size}
 use Rattle.lk_check.specs.FirstFault.{first_fault}
 use Rattle.lk_gc.specs.declared.error.ReferenceFault.{ReferenceFault}
 use Rattle.lk_gc.specs.declared.live.Live.{Live}
@@ -15,6 +16,7 @@ use Rattle.lk_place.specs.declared.cursors.Cursors.{Cursors}
 use Rattle.lk_place.specs.Placement.{IsPlaced, placement_refusal}
 use Rattle.lk_expressions.specs.Records.{Record}
 use Rattle.lk_place.specs.declared.segments.SegmentFileLayout.TheVariants.{FromSections}
+use Rattle.lk_place.specs.declared.segments.SegmentLayout.{SegmentLayout}
 use Rattle.lk_place.specs.Secondaries.{merge_refusal, merged_records}
 use Rattle.lk_place.specs.Segments.{section_records, segment_layouts, segments_refusal, thread_local_one}
 use Rattle.lk_place.specs.Setting.{Setting, setting_of}
@@ -32,12 +34,12 @@ use Rattle.lk_layout.specs.declared.error.Uncarried.{Uncarried}
 use Rattle.lk_layout.specs.LayoutRecord.{LayoutRecord}
 use Rattle.lk_layout.specs.Carried.{first_uncarried}
 use Rattle.lk_layout.specs.Headers.{header_bytes}
-use Rattle.lk_layout.specs.Errors.{fault_error, offset_error, size_error, place_error}
+use Rattle.lk_layout.specs.Errors.{branch_error, fault_error, offset_error, size_error, place_error}
 use Rattle.lk_layout.specs.Merging.{merging_refusal}
 use Rattle.lk_values.specs.Outside.{merge_offsets}
 use Rattle.lk_values.specs.Resolutions.{entry_symbol, symbol_resolutions}
-use Rattle.lk_layout.specs.Made.{Made, made_content, made_filling, made_of}
-use Rattle.lk_values.specs.OutputContent.{output_filling}
+use Rattle.lk_layout.specs.Made.{Made, filling_for, made_content, made_filling, made_of}
+use Rattle.lk_layout.specs.Thunks.{made_branching, made_owners, made_places, made_sets}
 use Rattle.lk_layout.specs.Positions.{symbol_positions}
 use Rattle.lk_values.specs.Starts.{starts_of}
 use Rattle.lk_sizes.specs.Owners.{Filling}
@@ -73,14 +75,18 @@ abbrev pub offsets_refusal : Made → Option LayoutError
 offsets_refusal made = option_map offset_error (slice_get (merge_offsets made.link made.live) 0)
 
 -- sizes past 64 bits
-abbrev pub sizes_refusal : TableSizes → LinkInput → Live → Option LayoutError
-sizes_refusal sizes link live = option_map size_error (size_refusal (output_filling sizes link live))
+abbrev pub sizes_refusal : Machine → LinkInput → Live → Option LayoutError
+sizes_refusal machine link live = option_map size_error (size_refusal (filling_for machine link live))
 
 -- what is placed, for which machine, with the bytes of the parts and of the headers, and the places of symbols
 abbrev pub setting : Machine → LinkInput → Live → Setting
 setting machine link live =
-    let filling : Filling = output_filling machine.sizes link live in
+    let filling : Filling = filling_for machine link live in
     setting_of link machine.target (part_sizes filling) (header_bytes machine link live) (symbol_positions filling)
+
+-- the first branch that reaches neither its target nor a thunk
+abbrev pub branch_refusal : Made → Option LayoutError
+branch_refusal made = option_map branch_error (slice_get (unreached (made_branching made)) 0)
 
 -- an event that can't be carried out
 abbrev pub walk_refusal : Made → Option LayoutError
@@ -102,13 +108,18 @@ segment_refusal made =
 
 -- ---- the layout
 
+-- what the active segments span
+abbrev pub made_segments : Made → List SegmentLayout
+made_segments made =
+    let content = made_content made in
+    segment_layouts FromSections made.link.plan made.link.options.stack (made_sections made) (is_emitted content) (active_segments content)
+
 -- what is made of these
 abbrev pub layout_of : Made → LayoutRecord
 layout_of made =
     let link = made.link in
     let filling : Filling = made_filling made in
     let starts = starts_of made.records in
-    let segments = segment_layouts FromSections link.plan link.options.stack (made_sections made) (is_emitted filling.content) (active_segments filling.content) in
     record {
       link = link;
       section_layouts = made_sections made;
@@ -116,8 +127,8 @@ layout_of made =
       section_part_layouts = made.records;
       section_attributes = all_section_attributes link made.live;
       output_section_indexes = by_section (output_index filling.content) link;
-      segment_layouts = segments;
-      tls_layout = option_map (λ l. l.sizes) (thread_local_one link.plan segments);
+      segment_layouts = made_segments made;
+      tls_layout = option_map (λ l. l.sizes) (thread_local_one link.plan (made_segments made));
       live_marks = made.live.marks;
       section_addresses = section_addresses filling starts;
       merged_strings = (link_inputs link).outputs;
@@ -126,17 +137,21 @@ layout_of made =
       entry_symbol_id = entry_symbol link;
       script_sorted_sections = sorted_sections link made.live filling.sizes;
       partial_link = partial_link_plan link made.live;
+      thunk_blocks = made_sets made;
+      thunk_block_owners = made_owners made;
+      thunk_block_addresses = made_places made;
+      thunk_size = thunk_size (config_for made.machine.thunks made.link);
     }
 
 -- ---- the answer
 
--- behind the placement: the refusal of secondaries, else that of the segments, else that of offsets into merged data, else the layout
+-- behind what sections and segments span: the refusal of offsets into merged data, else that of branches, else the layout
+abbrev pub IsSpannedAnswer : Made → Result LayoutRecord LayoutError → Type 0
+IsSpannedAnswer made answer = Unless (offsets_refusal made) answer (Unless (branch_refusal made) answer (answer ≡ Ok (layout_of made)))
+
+-- behind the placement: the refusal of secondaries, else that of the segments, and then
 abbrev pub IsPlacedAnswer : Made → Result LayoutRecord LayoutError → Type 0
-IsPlacedAnswer made answer =
-    Unless (joining_refusal made) answer
-    (Unless (segment_refusal made) answer
-    (Unless (offsets_refusal made) answer
-    (answer ≡ Ok (layout_of made))))
+IsPlacedAnswer made answer = Unless (joining_refusal made) answer (Unless (segment_refusal made) answer (IsSpannedAnswer made answer))
 
 -- of a placement: its first refusal, and then
 abbrev pub IsMadeAnswer : Made → Result LayoutRecord LayoutError → Type 0
@@ -150,7 +165,7 @@ IsSizedAnswer machine link live answer =
 
 -- of what is live: the part that overflows, and then
 abbrev pub IsLiveAnswer : Machine → LinkInput → Live → Result LayoutRecord LayoutError → Type 0
-IsLiveAnswer machine link live answer = Unless (sizes_refusal machine.sizes link live) answer (IsSizedAnswer machine link live answer)
+IsLiveAnswer machine link live answer = Unless (sizes_refusal machine link live) answer (IsSizedAnswer machine link live answer)
 
 -- of a link that is merged: all references that can't be met, and then
 abbrev pub IsMergedAnswer : Machine → LinkInput → Result LayoutRecord LayoutError → Type 0

@@ -1,4 +1,5 @@
 -- What a layout answers for the errors of its steps.
+use Rattle.lk_branches.specs.declared.check.BranchPlace.{BranchPlace}
 use Rattle.lk_gc.specs.declared.error.GcError.{GcError}
 use Rattle.lk_gc.specs.declared.error.GcError.TheVariants as gc
 use Rattle.lk_link.specs.declared.fault.LinkFault.{LinkFault}
@@ -11,7 +12,8 @@ use Rattle.lk_sizes.specs.declared.error.SizeError.{SizeError}
 use Rattle.lk_sizes.specs.declared.error.SizeError.TheVariants as size
 use Rattle.lk_layout.specs.declared.error.LayoutError.{LayoutError}
 use Rattle.lk_layout.specs.declared.error.LayoutError.TheVariants.{NoMemory, TooMany, BadLink, References}
-use Rattle.lk_layout.specs.declared.error.LayoutError.TheVariants.{MergeNotTerminated, MergeOffset, MergeTooLarge}
+use Rattle.lk_layout.specs.declared.error.LayoutError.TheVariants.{MergeNotTerminated, MergeOffset, MergeTooLarge, OutOfReach}
+use Rattle.lk_layout.specs.declared.error.ReachKind.TheVariants.{Branch}
 use Rattle.lk_layout.specs.declared.error.LayoutError.TheVariants.{AddressOverflow, BaseTooLow, Expression, LocationBackwards, OutsideRegion}
 use Rattle.lk_layout.specs.declared.error.LayoutError.TheVariants.{RegionDuplicate, RegionOverflow, RegionUnknown, SectionOutsideSegments}
 use Rattle.lk_values.specs.declared.outside.MergeOffsetPlace.{MergeOffsetPlace}
@@ -30,6 +32,10 @@ merge_error merge.NoMemory = NoMemory
 -- for an offset outside the data of a merged section
 abbrev pub offset_error : MergeOffsetPlace → LayoutError
 offset_error place = MergeOffset place
+
+-- for a branch that reaches neither its target nor a thunk
+abbrev pub branch_error : BranchPlace → LayoutError
+branch_error place = OutOfReach Branch place.file place.section place.relocation
 
 -- for what the traversal refuses
 abbrev pub gc_error : GcError → LayoutError

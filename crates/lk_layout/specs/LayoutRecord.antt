@@ -1,5 +1,6 @@
 -- What a layout holds, as contracts see it: its link, and where everything of it stands.
 use Rattle.std.specs.Prelude.{ℕ, Bool, List, Option}
+use Rattle.lk_link.specs.declared.ids.FileId.{FileId}
 use Rattle.lk_link.specs.declared.link.LinkInput.{LinkInput}
 use Rattle.lk_link.specs.declared.resolution.Resolution.{Resolution}
 use Rattle.lk_expressions.specs.Records.{Record}
@@ -34,3 +35,10 @@ pub record LayoutRecord : Type 0 where
   pub script_sorted_sections : List InputSortedSection
   -- where output is linked again, how many input sections of each group stay output sections of their own, and the bytes of their names
   pub partial_link : Option PartialLinkPlan
+  -- of each block of thunks the definitions that it has some for, in rising order; the object that owns it, if one does; and where its
+  -- thunks begin
+  pub thunk_blocks : List (List ℕ)
+  pub thunk_block_owners : List (Option FileId)
+  pub thunk_block_addresses : List (Option ℕ)
+  -- the bytes of a thunk
+  pub thunk_size : ℕ

@@ -1,5 +1,5 @@
 -- What a layout answers.
-use Rattle.std.specs.Prelude.{ℕ, ◌&&◌, Bool, List, Option, Result, filter, is_some, map}
+use Rattle.std.specs.Prelude.{ℕ, ◌&&◌, Bool, List, Option, Result, filter, is_some, length, map, sum_by}
 use Rattle.std.specs.List.{count_by, enumerate_from}
 use Rattle.lk_gc.specs.Slots.{is_singleton}
 use Rattle.lk_link.specs.declared.link.LinkInput.{LinkInput}
@@ -26,6 +26,10 @@ is_told_singleton link layout q = is_marked layout.live_marks q.0 && is_singleto
 -- those that are, by file and index: their indexes in the output follow those of the emitted sections
 abbrev pub told_singletons : LinkInput → LayoutRecord → List Input
 told_singletons link layout = map (λ q. q.1) (filter (is_told_singleton link layout) (enumerate_from 0 (all_inputs link.groups)))
+
+-- the thunks of all blocks together
+abbrev pub thunk_count : LayoutRecord → ℕ
+thunk_count layout = sum_by length layout.thunk_blocks
 
 -- where the program starts
 abbrev pub resolved_entry : LayoutRecord → Result (Option ℕ) EntryFault

@@ -16,3 +16,4 @@ pub mod Positions
 pub mod Sound
 pub mod Stages
 pub mod Texts
+pub mod Thunks

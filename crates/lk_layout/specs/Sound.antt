@@ -38,8 +38,8 @@ use Rattle.lk_place.specs.Segments.{alignment_inside, first_outside}
 use Rattle.lk_sizes.specs.declared.addresses.LiveSection.{LiveSection}
 use Rattle.lk_sizes.specs.Emitted.{is_emitted}
 use Rattle.lk_sizes.specs.Addresses.{live_sections}
-use Rattle.lk_sizes.specs.Owners.{CommonOwner, EntryOwner, ImageOwner, IsCommonIn, Owner, SectionOwner, bytes_of, owner_address}
-use Rattle.lk_sizes.specs.PartOwners.{owners_of, tables_of}
+use Rattle.lk_sizes.specs.Owners.{CommonOwner, EntryOwner, Filling, ImageOwner, IsCommonIn, Owner, SectionOwner, bytes_of, owner_address}
+use Rattle.lk_sizes.specs.PartOwners.{owners_of, tables_of, thunk_number}
 use Rattle.lk_tables.specs.Singletons.{singletons}
 use Rattle.lk_tables.specs.SymbolTable.{SymbolEntry}
 use Rattle.lk_tables.specs.TableLaws.{HasLastEntry}
@@ -54,8 +54,10 @@ use Rattle.lk_layout.specs.Layouts.{emitted_count, told_live, told_singletons}
 use Rattle.lk_values.specs.Outside.{merge_offsets}
 use Rattle.lk_values.specs.Resolutions.{resolution_at}
 use Rattle.lk_layout.specs.Made.{Made, made_content, made_filling}
-use Rattle.lk_values.specs.OutputContent.{output_content, output_filling}
-use Rattle.lk_link.specs.TableSizes.{TableSizes}
+use Rattle.lk_layout.specs.Thunks.{made_users}
+use Rattle.lk_branches.specs.BranchLaws.{HaveRanges, LiveBranchesReach}
+use Rattle.lk_branches.specs.Branches.{Branching}
+use Rattle.lk_branches.specs.ThunkPlans.{config_for, thunk_size}
 
 -- the record of the part with this number over all sections
 abbrev pub part_record : LayoutRecord → ℕ → Record
@@ -168,9 +170,9 @@ abbrev pub EntriesStand : Made → LayoutRecord → Type 0
 EntriesStand made layout = (s : ℕ) (r : Resolution) → resolution_at layout.symbol_resolutions s ≡ Some r → AreOwnEntries made layout s r
 
 -- the part that the plan names for a table has its entries, and nothing else
-abbrev pub TablesStandAlone : TableSizes → LinkInput → Live → Type 0
-TablesStandAlone sizes link live = (k p : ℕ) → slice_get (table_parts link.plan.named) k ≡ Some (Some p)
-    → owners_of (output_filling sizes link live) p ≡ map EntryOwner (table_of link.plan.named (tables_of (output_content sizes link live)) p)
+abbrev pub TablesStandAlone : Filling → Type 0
+TablesStandAlone filling = (k p : ℕ) → slice_get (table_parts filling.content.link.plan.named) k ≡ Some (Some p)
+    → owners_of filling p ≡ map EntryOwner (table_of filling.content.link.plan.named (tables_of filling.content) p)
 
 -- ---- merged data
 
@@ -232,6 +234,35 @@ OwnersAreApart made layout = (p q j k address : ℕ) → p < length (all_parts m
     → HasByte (part_record layout q).mem_offset (part_at made.link.plan.sections q) (owners_of (made_filling made) q) k address
     → (p ≡ q) × (j ≡ k)
 
+-- ---- thunks
+
+-- the thunks of a block, by its number, that an object owns: they are an owner of the primary part with all their bytes, where the layout
+-- tells it; and each definition that the block has one for, in rising order, has a range of its own inside
+pub record AreThunksAt (made : Made) (layout : LayoutRecord) (k : ℕ) (id : FileId) (set : List ℕ) : Type 0 where
+  pub part : ℕ
+  pub primary : made.link.plan.named.primary ≡ Some part
+  pub ranges : HaveRanges (made_filling made) part id (thunk_size (config_for made.machine.thunks made.link)) set
+  pub told : slice_get layout.thunk_block_addresses k ≡ Some (Some (owner_address (part_record layout part).mem_offset (part_at made.link.plan.sections part)
+      (owners_of (made_filling made) part) (thunk_number (made_filling made) part id)))
+
+-- so stand those of each block that has an owner
+abbrev pub ThunksStand : Made → LayoutRecord → Type 0
+ThunksStand made layout = (k : ℕ) (id : FileId) (set : List ℕ) → slice_get layout.thunk_block_owners k ≡ Some (Some id)
+    → slice_get layout.thunk_blocks k ≡ Some set → AreThunksAt made layout k id set
+
+-- what branches go by, as it is told
+abbrev pub told_branching : Made → LayoutRecord → Branching
+told_branching made layout = record {
+  link = made.link;
+  live = made.live;
+  config = config_for made.machine.thunks made.link;
+  sets = layout.thunk_blocks;
+  users = made_users made;
+  places = layout.thunk_block_addresses;
+  addresses = layout.section_addresses;
+  resolutions = layout.symbol_resolutions;
+}
+
 -- ---- sorted sections
 
 -- an owner is a sorted section
@@ -279,7 +310,8 @@ pub record PlacementStands (made : Made) : Type 0 where
 -- in a part, with its pieces apart, and shows its inputs, nothing refers outside their data, and references into it have addresses that show what
 -- they choose; each symbol that is asked for stands for a place in a live section, at its address where nothing is relaxed, or in merged data, or for
 -- a number, or is a common, at the address of its bytes in a part; tables stand alone in their parts, and what a resolution tells of entries is its
--- symbol's own; sorted sections stand last in their parts, by name; singletons stand behind the emitted sections; no section that is allocated stands outside the segments where it may not; each byte of a part has one owner; no two parts share a
+-- symbol's own; the thunks of each block that has an owner stand with it in the primary part, with a range for each definition, and each live branch
+-- whose target is known is near it or the thunk by which it may go; sorted sections stand last in their parts, by name; singletons stand behind the emitted sections; no section that is allocated stands outside the segments where it may not; each byte of a part has one owner; no two parts share a
 -- byte of the file; and under a plain plan the same holds of memory
 pub record IsSound (made : Made) (layout : LayoutRecord) : Type 0 where
   pub is : layout ≡ layout_of made
@@ -295,8 +327,10 @@ pub record IsSound (made : Made) (layout : LayoutRecord) : Type 0 where
   pub placed : SymbolsStandInLiveSections made.link made.live
   pub valued : made.link.options.relax ≡ false → ValuesAreInLiveSections made layout
   pub commons : CommonsStand made layout
-  pub alone : TablesStandAlone made.machine.sizes made.link made.live
+  pub alone : TablesStandAlone (made_filling made)
   pub entries : EntriesStand made layout
+  pub thunks : ThunksStand made layout
+  pub reaching : LiveBranchesReach (told_branching made layout)
   pub ordered : SortedStandLast made
   pub singles : SinglesStandBehind made layout
   pub covered : first_outside made.link layout.section_layouts (is_emitted (made_content made)) ≡ None

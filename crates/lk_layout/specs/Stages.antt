@@ -1,27 +1,48 @@
 -- Words of private contracts: how far a link is laid out, stage by stage. What is known of a stage holds what was known before.
-use Rattle.std.specs.Prelude.{◌≡◌, [], None, Result, Ok, Err}
+use Rattle.std.specs.Prelude.{◌≡◌, [], None, Result, Ok, Err, option_map}
+use Rattle.lk_branches.specs.Branches.{unreached}
+use Rattle.lk_branches.specs.Orders.{IsInOrder}
+use Rattle.lk_branches.specs.ThunkPlans.{IsThunkPlan}
 use Rattle.lk_check.specs.FirstFault.{first_fault}
 use Rattle.lk_gc.specs.Faults.{reference_faults}
 use Rattle.lk_gc.specs.Reach.{AreLive}
 use Rattle.lk_link.specs.declared.link.LinkInput.{LinkInput}
 use Rattle.lk_link.specs.Marks.{is_marked}
-use Rattle.lk_link.specs.TableSizes.{TableSizes}
 use Rattle.lk_layout.specs.Machines.{Machine}
 use Rattle.lk_link.specs.WellFormed.{IsWellFormed}
+use Rattle.lk_merge.specs.Addresses.{start_addresses}
+use Rattle.lk_merge.specs.Hash.{fnv64}
+use Rattle.lk_merge.specs.LinkInputs.{link_inputs}
 use Rattle.lk_place.specs.Answers.{ArePlaced}
+use Rattle.lk_place.specs.Secondaries.{merged_records}
+use Rattle.lk_place.specs.Segments.{thread_local_one}
+use Rattle.lk_sizes.specs.Addresses.{block_addresses, section_addresses}
+use Rattle.lk_sizes.specs.Attributes.{all_section_attributes}
+use Rattle.lk_sizes.specs.Images.{image_addresses}
+use Rattle.lk_tables.specs.Singletons.{partial_link_plan}
 use Rattle.lk_sizes.specs.Emitted.{is_emitted}
 use Rattle.lk_sizes.specs.Contents.{size_refusal}
+use Rattle.lk_sizes.specs.Owners.{AreThunkOwners}
 use Rattle.lk_sizes.specs.Sizing.{AreFilled}
 use Rattle.lk_layout.specs.declared.error.LayoutError.{LayoutError}
 use Rattle.lk_values.specs.declared.images.Images.{Images}
+use Rattle.lk_layout.specs.declared.stages.AddressedLink.{AddressedLink}
 use Rattle.lk_layout.specs.declared.stages.KeptLink.{KeptLink}
 use Rattle.lk_layout.specs.declared.stages.PlacedLink.{PlacedLink}
+use Rattle.lk_layout.specs.declared.stages.ReachingLink.{ReachingLink}
 use Rattle.lk_layout.specs.declared.stages.SizedLink.{SizedLink}
+use Rattle.lk_layout.specs.declared.stages.SpannedLink.{SpannedLink}
+use Rattle.lk_layout.specs.declared.stages.ToldLink.{ToldLink}
 use Rattle.lk_layout.specs.CarriedWords.{IsCarried}
-use Rattle.lk_layout.specs.Defined.{Gives, setting}
+use Rattle.lk_layout.specs.Defined.{Gives, joining_refusal, made_sections, made_segments, segment_refusal, setting}
+use Rattle.lk_layout.specs.Made.{Made, filling_for, made_filling, made_of}
+use Rattle.lk_layout.specs.Thunks.{made_branching, made_owners, made_places}
 use Rattle.lk_layout.specs.Merging.{merging_refusal}
 use Rattle.lk_values.specs.Images.{AreImages}
+use Rattle.lk_values.specs.Outside.{merge_offsets}
 use Rattle.lk_values.specs.OutputContent.{output_content, output_filling}
+use Rattle.lk_values.specs.Resolutions.{symbol_resolutions}
+use Rattle.lk_values.specs.Starts.{starts_of}
 
 -- the stage is reached, or the error is the answer of the link, unless memory ran out
 abbrev pub Reaches : {S : Type 0} → Machine → LinkInput → (S → Type 0) → Result S LayoutError → Type 0
@@ -46,14 +67,65 @@ pub record IsKept (link : LinkInput) (kept : KeptLink) : Type 0 where
   pub met : reference_faults link ≡ []
   pub live : AreLive link kept.live
 
--- and this comes into its parts, and is told of its headers
-pub record IsSized (sizes : TableSizes) (link : LinkInput) (sized : SizedLink) : Type 0 where
+-- and this comes into its parts, is told of its headers, and is the plan of its thunks
+pub record IsSized (machine : Machine) (link : LinkInput) (sized : SizedLink) : Type 0 where
   pub kept : IsKept link sized.kept
-  pub fits : size_refusal (output_filling sizes link sized.kept.live) ≡ None
-  pub owners : AreFilled (output_filling sizes link sized.kept.live) sized.owners
-  pub marks : is_marked sized.owners.header.emitted ≡ is_emitted (output_content sizes link sized.kept.live)
+  pub fits : size_refusal (filling_for machine link sized.kept.live) ≡ None
+  pub owners : AreFilled (filling_for machine link sized.kept.live) sized.owners
+  pub marks : is_marked sized.owners.header.emitted ≡ is_emitted (output_content machine.sizes link sized.kept.live)
+  pub thunks : IsThunkPlan machine.thunks (output_filling machine.sizes link sized.kept.live) sized.thunks
+  pub order : IsInOrder link sized.thunks
+  pub listed : AreThunkOwners link sized.owners.thunks
 
 -- and here its parts stand
 pub record IsPlacedLink (machine : Machine) (link : LinkInput) (placed : PlacedLink) : Type 0 where
-  pub sized : IsSized machine.sizes link placed.sized
+  pub sized : IsSized machine link placed.sized
   pub are : ArePlaced (setting machine link placed.sized.kept.live) placed.records
+
+-- what it is made of, once it is placed
+abbrev pub made_placed : {machine : Machine} {link : LinkInput} {placed : PlacedLink} → IsPlacedLink machine link placed → Made
+made_placed {machine} {link} {placed} is = made_of machine link placed.sized.kept.live is.are.states placed.records.parts
+
+-- and this is what its output sections and segments span
+pub record IsSpannedLink (machine : Machine) (link : LinkInput) (spanned : SpannedLink) : Type 0 where
+  pub placed : IsPlacedLink machine link spanned.placed
+  pub fits : joining_refusal (made_placed placed) ≡ None
+  pub covered : segment_refusal (made_placed placed) ≡ None
+  pub joined : spanned.joined ≡ merged_records link.plan.sections (made_sections (made_placed placed))
+  pub segments : spanned.segments.segments ≡ made_segments (made_placed placed)
+  pub thread_local : spanned.segments.tls_layout ≡ option_map (λ l. l.sizes) (thread_local_one link.plan (made_segments (made_placed placed)))
+
+abbrev pub made_spanned : {machine : Machine} {link : LinkInput} {spanned : SpannedLink} → IsSpannedLink machine link spanned → Made
+made_spanned is = made_placed is.placed
+
+-- and here stands what is in its parts
+pub record IsAddressedLink (machine : Machine) (link : LinkInput) (addressed : AddressedLink) : Type 0 where
+  pub spanned : IsSpannedLink machine link addressed.spanned
+  pub inside : merge_offsets link addressed.spanned.placed.sized.kept.live ≡ []
+  pub sections : addressed.addresses.sections.items ≡ section_addresses (made_filling (made_spanned spanned)) (starts_of addressed.spanned.placed.records.parts)
+  pub blocks : addressed.addresses.blocks.items ≡ block_addresses (made_filling (made_spanned spanned)) (starts_of addressed.spanned.placed.records.parts)
+  pub buckets : addressed.addresses.buckets ≡ start_addresses fnv64 (link_inputs link).outputs
+      (image_addresses (made_filling (made_spanned spanned)) (starts_of addressed.spanned.placed.records.parts))
+  pub resolutions : addressed.addresses.resolutions ≡ symbol_resolutions (made_filling (made_spanned spanned)) (starts_of addressed.spanned.placed.records.parts)
+
+abbrev pub made_addressed : {machine : Machine} {link : LinkInput} {addressed : AddressedLink} → IsAddressedLink machine link addressed → Made
+made_addressed is = made_spanned is.spanned
+
+-- and here the thunks of each block begin, by which all branches reach
+pub record IsReachingLink (machine : Machine) (link : LinkInput) (reaching : ReachingLink) : Type 0 where
+  pub addressed : IsAddressedLink machine link reaching.addressed
+  pub places : reaching.places ≡ made_places (made_addressed addressed)
+  pub reach : unreached (made_branching (made_addressed addressed)) ≡ []
+
+abbrev pub made_reaching : {machine : Machine} {link : LinkInput} {reaching : ReachingLink} → IsReachingLink machine link reaching → Made
+made_reaching is = made_addressed is.addressed
+
+-- and this is told beside
+pub record IsToldLink (machine : Machine) (link : LinkInput) (told : ToldLink) : Type 0 where
+  pub reaching : IsReachingLink machine link told.reaching
+  pub attributes : told.attributes ≡ all_section_attributes link told.reaching.addressed.spanned.placed.sized.kept.live
+  pub partial : told.partial_link ≡ partial_link_plan link told.reaching.addressed.spanned.placed.sized.kept.live
+  pub owners : told.block_owners ≡ made_owners (made_reaching reaching)
+
+abbrev pub made_told : {machine : Machine} {link : LinkInput} {told : ToldLink} → IsToldLink machine link told → Made
+made_told is = made_reaching is.reaching

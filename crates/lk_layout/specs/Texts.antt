@@ -3,19 +3,21 @@ use Rattle.std.specs.Prelude.{ℕ, false, List, [], ◌∷◌, ◌++◌, codes}
 use Rattle.std.specs.Fmt.{decimal, digits}
 use Rattle.std.specs.List.{flat_map}
 use Rattle.lk_gc.specs.declared.error.ReferenceFault.{ReferenceFault}
-use Rattle.lk_gc.specs.Texts.{reference_text}
+use Rattle.lk_gc.specs.Texts.{input_text, reference_text}
 use Rattle.lk_link.specs.declared.fault.LinkFault.TheVariants as fault
+use Rattle.lk_link.specs.declared.ids.FileId.{FileId}
 use Rattle.lk_link.specs.Texts.{joined, link_fault_text, place_text}
 use Rattle.lk_expressions.specs.ExpressionTexts.{cause_text}
 use Rattle.lk_layout.specs.declared.error.LayoutError.{LayoutError}
 use Rattle.lk_layout.specs.declared.error.LayoutError.TheVariants as layout
+use Rattle.lk_layout.specs.declared.error.ReachKind.{ReachKind}
+use Rattle.lk_layout.specs.declared.error.ReachKind.TheVariants as reach
 use Rattle.lk_layout.specs.declared.error.Uncarried.{Uncarried}
 use Rattle.lk_layout.specs.declared.error.Uncarried.TheVariants as uncarried
 use Rattle.lk_values.specs.Texts.{merge_offset_text}
 
 -- what isn't laid out yet, in a word
 unfoldable pub uncarried_text : Uncarried → List ℕ
-uncarried_text uncarried.Primary = codes "primary"
 uncarried_text uncarried.Relax = codes "relax"
 uncarried_text uncarried.Symbol = codes "symbol"
 
@@ -39,6 +41,14 @@ full_bucket_text section bucket offset len =
     joined (codes "Merge-string bucket too large: section " ∷ decimal section ∷ codes ", bucket " ∷ decimal bucket
     ∷ codes ", offset " ∷ decimal offset ∷ codes ", length " ∷ decimal len ∷ [])
 
+-- a region with the name of an earlier one
+unfoldable pub duplicate_text : ℕ → List ℕ
+duplicate_text region = joined (codes "region " ∷ decimal region ∷ codes " already defined" ∷ [])
+
+-- a section whose region isn't there
+unfoldable pub undeclared_text : ℕ → List ℕ
+undeclared_text section = joined (codes "region of section " ∷ decimal section ∷ codes " not declared" ∷ [])
+
 -- a region whose sections take more bytes than it has
 unfoldable pub full_region_text : ℕ → ℕ → List ℕ
 full_region_text region by = joined (codes "region " ∷ decimal region ∷ codes " overflowed by " ∷ decimal by ∷ codes " bytes" ∷ [])
@@ -51,6 +61,15 @@ outside_text event address = joined (codes "address 0x" ∷ hexadecimal address 
 unfoldable pub backwards_text : ℕ → ℕ → List ℕ
 backwards_text from to =
     joined (codes "Cannot move location counter backwards (from 0x" ∷ hexadecimal from ∷ codes " to 0x" ∷ hexadecimal to ∷ codes ")" ∷ [])
+
+-- what doesn't reach, in a word
+unfoldable pub reach_text : ReachKind → List ℕ
+reach_text reach.Branch = codes "branch"
+
+-- a relocation that doesn't reach, by its file, its section's index and its own
+unfoldable pub out_of_reach_text : ReachKind → FileId → ℕ → ℕ → List ℕ
+out_of_reach_text kind file section index =
+    joined (codes "out of reach: " ∷ reach_text kind ∷ codes " " ∷ input_text file section ∷ codes " " ∷ decimal index ∷ [])
 
 -- references that can't be met, each on a line of its own behind another line
 abbrev pub further_lines : List ReferenceFault → List ℕ
@@ -71,13 +90,14 @@ error_text (layout.MergeNotTerminated section input) = unterminated_text section
 error_text (layout.MergeTooLarge section bucket offset len) = full_bucket_text section bucket offset len
 error_text (layout.References faults) = references_text faults
 error_text (layout.AddressOverflow place) = joined (codes "address overflow: " ∷ place_text place ∷ [])
-error_text (layout.RegionDuplicate region) = joined (codes "region " ∷ decimal region ∷ codes " already defined" ∷ [])
+error_text (layout.RegionDuplicate region) = duplicate_text region
 error_text (layout.Expression place cause) =
     joined (codes "expression at " ∷ place_text place ∷ codes ": " ∷ cause_text cause ∷ [])
-error_text (layout.RegionUnknown section) = joined (codes "region of section " ∷ decimal section ∷ codes " not declared" ∷ [])
+error_text (layout.RegionUnknown section) = undeclared_text section
 error_text (layout.RegionOverflow region by) = full_region_text region by
 error_text (layout.OutsideRegion event address) = outside_text event address
 error_text (layout.LocationBackwards from to) = backwards_text from to
 error_text (layout.BaseTooLow base headers) = low_base_text base headers
 error_text (layout.SectionOutsideSegments section) = joined (codes "section " ∷ decimal section ∷ codes " is in no segment" ∷ [])
 error_text (layout.MergeOffset place) = merge_offset_text place
+error_text (layout.OutOfReach kind file section index) = out_of_reach_text kind file section index

@@ -12,7 +12,7 @@ use lk_link::file::InputFile;
 use lk_link::link::LinkInput;
 
 /// What is looked for, in this order.
-const ALL_UNCARRIED: [Uncarried; 3] = [Uncarried::Primary, Uncarried::Relax, Uncarried::Symbol];
+const ALL_UNCARRIED: [Uncarried; 2] = [Uncarried::Relax, Uncarried::Symbol];
 
 /// The first thing that the description has and that isn't laid out yet; none where all is. Looks once at each file at most.
 #[tactic(auto, unfolding(crate::specs::Carried::first_uncarried))]
@@ -28,7 +28,6 @@ fn has(link: &LinkInput, what: Uncarried) -> bool
     ensures { result ≡ has link.now what }
 {
     match what {
-        Uncarried::Primary => link.plan.named.primary.is_some(),
         Uncarried::Relax => link.options.relax,
         Uncarried::Symbol => any_file(link),
     }

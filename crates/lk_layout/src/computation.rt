@@ -8,29 +8,25 @@
 ghost use Rattle.std.specs.Prelude.{◌≤◌, ℕ};
 ghost use Rattle.lk_layout.specs.Defined.{Gives};
 ghost use Rattle.lk_layout.specs.Machines.{platform_machine};
-ghost use Rattle.lk_layout.specs.Stages.{IsChecked, IsKept, IsMerged, IsPlacedLink, IsSized, Reaches};
+ghost use Rattle.lk_layout.specs.Stages.{IsAddressedLink, IsChecked, IsKept, IsMerged, IsPlacedLink, IsReachingLink, IsSized, IsSpannedLink, IsToldLink, Reaches};
 
-use crate::arch::Arch;
 use crate::carried::first_uncarried;
 use crate::error::LayoutError;
-use crate::headers::header_bytes;
+use crate::found::{
+    found_addresses, found_places, found_records, found_sizes, found_spans, found_told,
+};
 use crate::images::merge_images;
 use crate::layout::Layout;
-use crate::positions::asked_positions;
-use crate::stages::{KeptLink, PlacedLink, SizedLink};
+use crate::stages::{
+    AddressedLink, KeptLink, PlacedLink, ReachingLink, SizedLink, SpannedLink, ToldLink,
+};
 use lk_check::check_link;
 use lk_gc::traverse_alone;
 use lk_link::gate::Gate;
 use lk_link::link::LinkInput;
-use lk_link::list::List;
 use lk_link::platform::Platform;
-use lk_place::laws::parts_take_their_bytes;
-use lk_place::{
-    SegmentFileLayout, compute_layout_sections, compute_segment_layout, merge_secondary_parts,
-};
-use lk_sizes::part_owners::plain_owners;
-use lk_sizes::{PartialLinkPlan, attributes_of_contents, part_sizes};
-use lk_values::{Images, addresses_of, check_offsets, entry_symbol};
+use lk_thunks::Arch;
+use lk_values::Images;
 use std::alloc::Global;
 use std::sync::Wait;
 use std::thread::Threads;
@@ -41,21 +37,29 @@ pub fn compute_alone<'data, P: Platform, A: Arch>(
     alloc: Global,
     link: &'data LinkInput,
     platform: &P,
-    _arch: &A,
+    arch: &A,
 ) -> Result<Layout<'data>, LayoutError>
-    ensures { Gives (platform_machine (P.segment_start platform.now) (P.table_sizes platform.now)) link.now result }
+    ensures { Gives (platform_machine (P.segment_start platform.now) (P.table_sizes platform.now) (A.config_of arch.now)) link.now result }
 {
-    check(link, platform)?;
-    let images = merge(alloc, link, platform)?;
-    let kept = keep(alloc, link, platform, images)?;
-    let sized = size(alloc, link, platform, kept)?;
-    let placed = place(alloc, link, platform, sized)?;
-    lay_out(alloc, link, platform, placed)
+    check(link, platform, arch)?;
+    let images = merge(alloc, link, platform, arch)?;
+    let kept = keep(alloc, link, platform, arch, images)?;
+    let sized = size(alloc, link, platform, arch, kept)?;
+    let placed = place(alloc, link, platform, arch, sized)?;
+    let spanned = span(alloc, link, platform, arch, placed)?;
+    let addressed = address(alloc, link, platform, arch, spanned)?;
+    let reaching = reach(alloc, link, platform, arch, addressed)?;
+    let told = tell(alloc, link, platform, arch, reaching)?;
+    Ok(told.into_layout(link))
 }
 
 /// Looks for the first fault of a link, and for what isn't laid out yet. The platform tells of which machine the answer is.
-fn check<P: Platform>(link: &LinkInput, _platform: &P) -> Result<(), LayoutError>
-    ensures { Reaches (platform_machine (P.segment_start _platform.now) (P.table_sizes _platform.now)) link.now (λ _. IsChecked link.now) result }
+fn check<P: Platform, A: Arch>(
+    link: &LinkInput,
+    _platform: &P,
+    _arch: &A,
+) -> Result<(), LayoutError>
+    ensures { Reaches (platform_machine (P.segment_start _platform.now) (P.table_sizes _platform.now) (A.config_of _arch.now)) link.now (λ _. IsChecked link.now) result }
 {
     check_link(link)?;
     match first_uncarried(link) {
@@ -65,112 +69,141 @@ fn check<P: Platform>(link: &LinkInput, _platform: &P) -> Result<(), LayoutError
 }
 
 /// Merges what is merged of a link.
-fn merge<'data, P: Platform>(
+fn merge<'data, P: Platform, A: Arch>(
     alloc: Global,
     link: &'data LinkInput,
     _platform: &P,
+    _arch: &A,
 ) -> Result<Images<'data>, LayoutError>
     requires checked { IsChecked link.now }
-    ensures { Reaches (platform_machine (P.segment_start _platform.now) (P.table_sizes _platform.now)) link.now (IsMerged link.now) result }
+    ensures { Reaches (platform_machine (P.segment_start _platform.now) (P.table_sizes _platform.now) (A.config_of _arch.now)) link.now (IsMerged link.now) result }
 {
     merge_images(alloc, link)
 }
 
 /// Finds what is live, and the references that can't be met.
-fn keep<'data, P: Platform>(
+fn keep<'data, P: Platform, A: Arch>(
     alloc: Global,
     link: &'data LinkInput,
     _platform: &P,
+    _arch: &A,
     images: Images<'data>,
 ) -> Result<KeptLink<'data>, LayoutError>
     requires merged { IsMerged link.now images }
-    ensures { Reaches (platform_machine (P.segment_start _platform.now) (P.table_sizes _platform.now)) link.now (IsKept link.now) result }
+    ensures { Reaches (platform_machine (P.segment_start _platform.now) (P.table_sizes _platform.now) (A.config_of _arch.now)) link.now (IsKept link.now) result }
 {
     let live = traverse_alone(alloc, link)?;
     Ok(KeptLink { images, live })
 }
 
-/// Adds up what the live sections bring to each part.
-fn size<'data, P: Platform>(
+/// Adds up what the live sections bring to each part, plans thunks by that, and adds these.
+fn size<'data, P: Platform, A: Arch>(
     alloc: Global,
     link: &'data LinkInput,
     platform: &P,
+    arch: &A,
     kept: KeptLink<'data>,
 ) -> Result<SizedLink<'data>, LayoutError>
     requires kept { IsKept link.now kept }
-    ensures { Reaches (platform_machine (P.segment_start platform.now) (P.table_sizes platform.now)) link.now
-        (IsSized (P.table_sizes platform.now) link.now) result }
+    ensures { Reaches (platform_machine (P.segment_start platform.now) (P.table_sizes platform.now) (A.config_of arch.now)) link.now
+        (IsSized (platform_machine (P.segment_start platform.now) (P.table_sizes platform.now) (A.config_of arch.now)) link.now) result }
 {
-    let owners = plain_owners(alloc, link, platform, &kept.live, &kept.images.lens)?;
-    Ok(SizedLink { kept, owners })
+    let (owners, thunks) = found_sizes(alloc, link, platform, arch, &kept)?;
+    Ok(SizedLink {
+        kept,
+        owners,
+        thunks,
+    })
 }
 
 /// Finds where the parts and sections stand.
-fn place<'data, P: Platform>(
+fn place<'data, P: Platform, A: Arch>(
     alloc: Global,
     link: &'data LinkInput,
     platform: &P,
+    arch: &A,
     sized: SizedLink<'data>,
 ) -> Result<PlacedLink<'data>, LayoutError>
-    requires sized { IsSized (P.table_sizes platform.now) link.now sized }
-    ensures { Reaches (platform_machine (P.segment_start platform.now) (P.table_sizes platform.now)) link.now
-        (IsPlacedLink (platform_machine (P.segment_start platform.now) (P.table_sizes platform.now)) link.now) result }
+    requires sized { IsSized (platform_machine (P.segment_start platform.now) (P.table_sizes platform.now) (A.config_of arch.now)) link.now sized }
+    ensures { Reaches (platform_machine (P.segment_start platform.now) (P.table_sizes platform.now) (A.config_of arch.now)) link.now
+        (IsPlacedLink (platform_machine (P.segment_start platform.now) (P.table_sizes platform.now) (A.config_of arch.now)) link.now) result }
 {
-    let owners = &sized.owners;
-    let sizes = part_sizes(alloc, owners)?;
-    let headers = header_bytes(link, platform, owners.header());
-    let live = &sized.kept.live;
-    let positions = asked_positions(alloc, link, live, owners, &sizes, platform)?;
-    let records = compute_layout_sections(alloc, link, &sizes, &positions, headers, platform)?;
+    let records = found_records(alloc, link, platform, arch, &sized)?;
     Ok(PlacedLink { sized, records })
 }
 
-/// Finds what the output sections and segments span, the addresses of live sections, and what symbols stand for.
-fn lay_out<'data, P: Platform>(
+/// Finds what the output sections and segments span.
+fn span<'data, P: Platform, A: Arch>(
     alloc: Global,
     link: &'data LinkInput,
     platform: &P,
+    arch: &A,
     placed: PlacedLink<'data>,
-) -> Result<Layout<'data>, LayoutError>
-    requires placed { IsPlacedLink (platform_machine (P.segment_start platform.now) (P.table_sizes platform.now)) link.now placed }
-    ensures { Gives (platform_machine (P.segment_start platform.now) (P.table_sizes platform.now)) link.now result }
+) -> Result<SpannedLink<'data>, LayoutError>
+    requires placed { IsPlacedLink (platform_machine (P.segment_start platform.now) (P.table_sizes platform.now) (A.config_of arch.now)) link.now placed }
+    ensures { Reaches (platform_machine (P.segment_start platform.now) (P.table_sizes platform.now) (A.config_of arch.now)) link.now
+        (IsSpannedLink (platform_machine (P.segment_start platform.now) (P.table_sizes platform.now) (A.config_of arch.now)) link.now) result }
 {
-    let records = placed.records;
-    let (images, live) = (placed.sized.kept.images, placed.sized.kept.live);
-    let owners = placed.sized.owners;
-    let sections = records.sections.as_slice();
-    let joined = merge_secondary_parts(alloc, link, sections)?;
-    let header = owners.header();
-    let emitted = header.emitted.as_slice();
-    let active = header.active_segment_ids.as_slice();
-    let kind = SegmentFileLayout::FromSections;
-    let segments = compute_segment_layout(alloc, link, sections, emitted, active, kind)?;
-    let attributes = attributes_of_contents(alloc, link, owners.contents())?;
-    // A law, which does nothing: the parts end where their owners do.
-    parts_take_their_bytes();
-    let parts = records.parts.as_slice();
-    let merged = images.sections.as_slice();
-    let addresses = addresses_of(alloc, link, &live, merged, &owners, parts, platform)?;
-    check_offsets(link, &live, merged)?;
-    let partial_link = PartialLinkPlan::build(alloc, link, &live)?;
-    let (header, sorted) = owners.into_told();
-    Ok(Layout {
-        link,
-        section_layouts: records.sections,
-        merged_section_layouts: List::from_vec(joined),
-        section_part_layouts: records.parts,
-        section_attributes: List::from_vec(attributes),
-        output_section_indexes: header.output_section_indexes,
-        segment_layouts: segments.segments,
-        tls_layout: segments.tls_layout,
-        live_marks: live.marks,
-        section_addresses: List::from_vec(addresses.sections),
-        merged_strings: images.sections,
-        merged_string_start_addresses: addresses.buckets,
-        symbol_resolutions: addresses.resolutions,
-        entry_symbol_id: entry_symbol(link),
-        script_sorted_sections: sorted,
+    let (joined, segments) = found_spans(alloc, link, platform, arch, &placed)?;
+    Ok(SpannedLink {
+        placed,
+        joined,
+        segments,
+    })
+}
+
+/// Finds the addresses of what stands in the parts, and what symbols stand for.
+fn address<'data, P: Platform, A: Arch>(
+    alloc: Global,
+    link: &'data LinkInput,
+    platform: &P,
+    arch: &A,
+    spanned: SpannedLink<'data>,
+) -> Result<AddressedLink<'data>, LayoutError>
+    requires spanned { IsSpannedLink (platform_machine (P.segment_start platform.now) (P.table_sizes platform.now) (A.config_of arch.now)) link.now spanned }
+    ensures { Reaches (platform_machine (P.segment_start platform.now) (P.table_sizes platform.now) (A.config_of arch.now)) link.now
+        (IsAddressedLink (platform_machine (P.segment_start platform.now) (P.table_sizes platform.now) (A.config_of arch.now)) link.now) result }
+{
+    let addresses = found_addresses(alloc, link, platform, arch, &spanned)?;
+    Ok(AddressedLink { spanned, addresses })
+}
+
+/// Finds where the thunks of each block begin, and looks at branches.
+fn reach<'data, P: Platform, A: Arch>(
+    alloc: Global,
+    link: &'data LinkInput,
+    platform: &P,
+    arch: &A,
+    addressed: AddressedLink<'data>,
+) -> Result<ReachingLink<'data>, LayoutError>
+    requires addressed { IsAddressedLink (platform_machine (P.segment_start platform.now) (P.table_sizes platform.now) (A.config_of arch.now)) link.now addressed }
+    ensures { Reaches (platform_machine (P.segment_start platform.now) (P.table_sizes platform.now) (A.config_of arch.now)) link.now
+        (IsReachingLink (platform_machine (P.segment_start platform.now) (P.table_sizes platform.now) (A.config_of arch.now)) link.now) result }
+{
+    let places = found_places(alloc, link, platform, arch, &addressed)?;
+    Ok(ReachingLink { addressed, places })
+}
+
+/// Finds what is told beside that: attributes, what is known of output that is linked again, and the owners of blocks.
+fn tell<'data, P: Platform, A: Arch>(
+    alloc: Global,
+    link: &'data LinkInput,
+    platform: &P,
+    arch: &A,
+    reaching: ReachingLink<'data>,
+) -> Result<ToldLink<'data>, LayoutError>
+    requires reaching { IsReachingLink (platform_machine (P.segment_start platform.now) (P.table_sizes platform.now) (A.config_of arch.now)) link.now reaching }
+    ensures { Reaches (platform_machine (P.segment_start platform.now) (P.table_sizes platform.now) (A.config_of arch.now)) link.now
+        (IsToldLink (platform_machine (P.segment_start platform.now) (P.table_sizes platform.now) (A.config_of arch.now)) link.now) result }
+{
+    let (attributes, partial_link, block_owners) = found_told(
+        alloc, link, platform, arch, &reaching,
+    )?;
+    Ok(ToldLink {
+        reaching,
+        attributes,
         partial_link,
+        block_owners,
     })
 }
 
@@ -186,7 +219,7 @@ pub fn compute<'data, R: Threads + Wait + Sync, P: Platform + Sync, A: Arch + Sy
     _gate: &G,
 ) -> Result<Layout<'data>, LayoutError>
     requires gate { 2 ≤ _workers → G.may_enter _gate.now }
-    ensures { Gives (platform_machine (P.segment_start platform.now) (P.table_sizes platform.now)) link.now result }
+    ensures { Gives (platform_machine (P.segment_start platform.now) (P.table_sizes platform.now) (A.config_of arch.now)) link.now result }
 {
     compute_alone(alloc, link, platform, arch)
 }

@@ -4,13 +4,14 @@ ghost use Rattle.std.specs.Prelude.{◌≡◌, Some};
 ghost use Rattle.std.specs.Fmt.{DisplaysOnOk};
 ghost use Rattle.lk_link.specs.declared.fault.LinkFault.TheVariants as fault;
 ghost use Rattle.lk_link.specs.Texts.{link_fault_text};
-ghost use Rattle.lk_layout.specs.Texts.{backwards_text, full_bucket_text, full_region_text, low_base_text, outside_text, references_text};
-ghost use Rattle.lk_layout.specs.Texts.{uncarried_text, unterminated_text};
+ghost use Rattle.lk_layout.specs.Texts.{backwards_text, duplicate_text, full_bucket_text, full_region_text, low_base_text, out_of_reach_text, outside_text};
+ghost use Rattle.lk_layout.specs.Texts.{reach_text, references_text, uncarried_text, undeclared_text, unterminated_text};
 
 use crate::references::FurtherLines;
-use lk_gc::{GcError, ReferenceFault};
+use lk_branches::BranchPlace;
+use lk_gc::{GcError, InputAt, ReferenceFault};
 use lk_link::fault::{Limited, LinkFault, Place, Rule};
-use lk_link::ids::{OutputSectionId, RegionId};
+use lk_link::ids::{FileId, OutputSectionId, RegionId};
 use lk_link::list::List;
 use lk_merge::MergeError;
 use lk_place::{NoValue, PlaceError};
@@ -22,12 +23,17 @@ use std::fmt;
 /// What a description may have that isn't laid out yet, in the order in which it is looked for.
 #[derive(Clone, Copy, Debug, PartialEq, Eq)]
 pub enum Uncarried {
-    /// A part of code that thunks are made for.
-    Primary,
     /// Code that is shortened where its targets are near.
     Relax,
     /// A symbol of the prelude, of a synthetic file or of a script.
     Symbol,
+}
+
+/// What doesn't reach.
+#[derive(Clone, Copy, Debug, PartialEq, Eq)]
+pub enum ReachKind {
+    /// A branch: neither its target nor a thunk for it is near.
+    Branch,
 }
 
 /// Why a link isn't laid out: the first refusal, in the order in which they are looked for, or want of memory
@@ -105,6 +111,13 @@ pub enum LayoutError {
     },
     /// An offset at the end of a merged section's data or past it is chosen; the first of symbols, else of relocations.
     MergeOffset(MergeOffsetPlace),
+    /// A relocation doesn't reach; the first of live sections by file, section and index.
+    OutOfReach {
+        kind: ReachKind,
+        file: FileId,
+        section: u32,
+        index: u32,
+    },
 }
 
 impl Uncarried {
@@ -114,9 +127,20 @@ impl Uncarried {
         ensures { result.now ≡ uncarried_text self }
     {
         match self {
-            Uncarried::Primary => "primary",
             Uncarried::Relax => "relax",
             Uncarried::Symbol => "symbol",
+        }
+    }
+}
+
+impl ReachKind {
+    /// The word under which it is told.
+    #[tactic(auto, unfolding(crate::specs::Texts::reach_text))]
+    fn word(self) -> &'static str
+        ensures { result.now ≡ reach_text self }
+    {
+        match self {
+            ReachKind::Branch => "branch",
         }
     }
 }
@@ -193,6 +217,27 @@ fn write_references<W: fmt::Write>(
     }
 }
 
+/// Writes that a region has the name of an earlier one.
+#[tactic(auto, unfolding(crate::specs::Texts::duplicate_text))]
+fn write_duplicate<W: fmt::Write>(f: &mut fmt::Formatter<W>, region: RegionId) -> fmt::Result
+    ensures { DisplaysOnOk W.write_str_gives f.old result (Some (duplicate_text region)) f.new }
+{
+    let region = region.as_u32();
+    write!(f, "region {region} already defined")
+}
+
+/// Writes that the region of a section isn't there.
+#[tactic(auto, unfolding(crate::specs::Texts::undeclared_text))]
+fn write_undeclared<W: fmt::Write>(
+    f: &mut fmt::Formatter<W>,
+    section: OutputSectionId,
+) -> fmt::Result
+    ensures { DisplaysOnOk W.write_str_gives f.old result (Some (undeclared_text section)) f.new }
+{
+    let section = section.as_u32();
+    write!(f, "region of section {section} not declared")
+}
+
 /// Writes that the sections of a region take more bytes than it has: with the bytes too many.
 #[tactic(auto, unfolding(crate::specs::Texts::full_region_text))]
 fn write_full_region<W: fmt::Write>(
@@ -243,7 +288,23 @@ fn write_low_base<W: fmt::Write>(f: &mut fmt::Formatter<W>, base: u64, headers: 
     )
 }
 
-/// In a word, as `partial`.
+/// Writes that a relocation doesn't reach: with its file, its section's index there, and its own.
+#[tactic(auto, unfolding(crate::specs::Texts::out_of_reach_text))]
+fn write_out_of_reach<W: fmt::Write>(
+    f: &mut fmt::Formatter<W>,
+    kind: ReachKind,
+    file: FileId,
+    section: u32,
+    index: u32,
+) -> fmt::Result
+    ensures { DisplaysOnOk W.write_str_gives f.old result (Some (out_of_reach_text kind file section index)) f.new }
+{
+    let kind = kind.word();
+    let input = InputAt { file, section };
+    write!(f, "out of reach: {kind} {input} {index}")
+}
+
+/// In a word, as `relax`.
 impl fmt::Display for Uncarried {
     ghost use Rattle.std.specs.Prelude.{Some};
     ghost use Rattle.lk_layout.specs.Texts.{uncarried_text};
@@ -279,15 +340,9 @@ impl fmt::Display for LayoutError {
             } => write_full_bucket(f, *section, *bucket, *offset, *len),
             E::References(faults) => write_references(f, faults.as_slice()),
             E::AddressOverflow { place } => write!(f, "address overflow: {place}"),
-            E::RegionDuplicate { region } => {
-                let region = region.as_u32();
-                write!(f, "region {region} already defined")
-            }
+            E::RegionDuplicate { region } => write_duplicate(f, *region),
             E::Expression { place, cause } => write!(f, "expression at {place}: {cause}"),
-            E::RegionUnknown { section } => {
-                let section = section.as_u32();
-                write!(f, "region of section {section} not declared")
-            }
+            E::RegionUnknown { section } => write_undeclared(f, *section),
             E::RegionOverflow { region, by } => write_full_region(f, *region, *by),
             E::OutsideRegion { event, address } => write_outside(f, *event, *address),
             E::LocationBackwards { from, to } => write_backwards(f, *from, *to),
@@ -297,6 +352,12 @@ impl fmt::Display for LayoutError {
                 write!(f, "section {section} is in no segment")
             }
             E::MergeOffset(place) => write!(f, "{place}"),
+            E::OutOfReach {
+                kind,
+                file,
+                section,
+                index,
+            } => write_out_of_reach(f, *kind, *file, *section, *index),
         }
     }
 }
@@ -397,6 +458,22 @@ impl From<MergeOffsetPlace> for LayoutError {
 
     fn from(place: MergeOffsetPlace) -> LayoutError {
         LayoutError::MergeOffset(place)
+    }
+}
+
+impl From<BranchPlace> for LayoutError {
+    ghost use Rattle.std.specs.Prelude.{◌≡◌};
+    ghost use Rattle.lk_layout.specs.Errors.{branch_error};
+
+    ghost from_gives = { λ place e. e ≡ branch_error place };
+
+    fn from(place: BranchPlace) -> LayoutError {
+        LayoutError::OutOfReach {
+            kind: ReachKind::Branch,
+            file: place.file,
+            section: place.section,
+            index: place.relocation,
+        }
     }
 }
 

@@ -2,8 +2,10 @@
 
 ghost use Rattle.lk_layout.specs.Laws.{DefinedAnswerExists, DefinedAnswerIsOne, LaidOutLinksAreWellFormed};
 ghost use Rattle.lk_layout.specs.Laws.{DefinedLayoutsAreSound, LaidOutMemoryIsDisjoint, LaidOutSectionsAreApart, ResolvedSectionsAreLive};
+ghost use Rattle.lk_layout.specs.Machines.{IsLawfulMachine, small64_machine};
 ghost use Rattle.lk_layout.specs.PositionLaws.{PlacementsGoWithoutPositions};
 
+use lk_branches::laws::{branches_reach, thunks_have_ranges};
 use lk_check::well_formed_exactly_unfaulted;
 use lk_gc::{live_exists, live_is_one};
 use lk_place::laws::{
@@ -12,6 +14,7 @@ use lk_place::laws::{
     refused_exactly_past,
 };
 use lk_sizes::laws::{live_sections_are_owners, owners_are_aligned, owners_tile_their_part};
+use lk_thunks::{Arch, Small64Arch};
 
 /// A law: every link has a defined answer, on every machine.
 pub fn defined_answer_exists()
@@ -52,6 +55,15 @@ pub fn defined_layouts_are_sound()
     plain_memory_is_disjoint();
     plain_memory_is_congruent();
     records_keep_alignments();
+    thunks_have_ranges();
+    branches_reach();
+}
+
+/// A law: the machine of the small platform and architecture is lawful.
+pub fn small64_machine_is_lawful()
+    ensures { IsLawfulMachine small64_machine }
+{
+    Small64Arch.configs_are_lawful();
 }
 
 /// A law: under a plan of whole output in which nothing moves the location and no section stands in a region, no two parts of sections

@@ -1,14 +1,15 @@
 //! The layout of a link.
 
-ghost use Rattle.std.specs.Prelude.{◌≡◌, option_map};
-ghost use Rattle.lk_layout.specs.Layouts.{resolved_entry};
+ghost use Rattle.std.specs.Prelude.{◌≡◌, ◌-◌, ◌^◌, length, map, min, option_map, sum_by};
+ghost use Rattle.lk_layout.specs.Layouts.{resolved_entry, thunk_count};
 
-use lk_link::ids::SymbolId;
+use lk_link::ids::{FileId, SymbolId};
 use lk_link::link::LinkInput;
 use lk_link::list::List;
 use lk_merge::{MergedStringStartAddresses, MergedStringsSection};
 use lk_place::{OutputRecordLayout, SegmentLayout};
 use lk_sizes::{InputSortedSection, PartialLinkPlan};
+use lk_thunks::ThunkBlock;
 use lk_values::{EntryFault, SymbolResolutions, entry_value};
 use std::marker::Model;
 
@@ -31,9 +32,14 @@ pub struct Layout<'data> {
     pub(crate) entry_symbol_id: Option<SymbolId>,
     pub(crate) script_sorted_sections: List<InputSortedSection>,
     pub(crate) partial_link: Option<PartialLinkPlan>,
+    pub(crate) thunk_blocks: List<ThunkBlock>,
+    pub(crate) thunk_block_owners: List<Option<FileId>>,
+    pub(crate) thunk_block_addresses: List<Option<u64>>,
+    pub(crate) thunk_size: u64,
 }
 
 impl<'data> Model for Layout<'data> {
+    ghost use Rattle.std.specs.Prelude.{map};
     ghost use Rattle.std.specs.Coded.{codes};
     ghost use Rattle.lk_link.specs.contracts.link.LinkInput as link_input;
     ghost use Rattle.lk_layout.specs.LayoutRecord.{LayoutRecord};
@@ -59,6 +65,10 @@ impl<'data> Model for Layout<'data> {
       entry_symbol_id = a.entry_symbol_id;
       script_sorted_sections = a.script_sorted_sections;
       partial_link = a.partial_link;
+      thunk_blocks = map (λ b. b.symbols) a.thunk_blocks;
+      thunk_block_owners = a.thunk_block_owners;
+      thunk_block_addresses = a.thunk_block_addresses;
+      thunk_size = a.thunk_size;
     } };
 }
 
@@ -176,6 +186,42 @@ impl<'data> Layout<'data> {
         self.partial_link.as_ref()
     }
 
+    /// Of each block of thunks the definitions that it has some for, in rising order. Where thunks are planned there is one block at
+    /// least, whose thunks also serve the code of other parts (libwild: `ThunkBlock`).
+    pub fn thunk_blocks(&self) -> &[ThunkBlock]
+        ensures { map (λ b. b.symbols) result.now ≡ self.now.thunk_blocks }
+    {
+        self.thunk_blocks.as_slice()
+    }
+
+    /// The object that owns each block, behind whose bytes its thunks stand; none where nothing does.
+    pub fn thunk_block_owners(&self) -> &[Option<FileId>]
+        ensures { result.now ≡ self.now.thunk_block_owners }
+    {
+        self.thunk_block_owners.as_slice()
+    }
+
+    /// Where the thunks of each block begin in memory; none for a block without owner.
+    pub fn thunk_block_addresses(&self) -> &[Option<u64>]
+        ensures { result.now ≡ self.now.thunk_block_addresses }
+    {
+        self.thunk_block_addresses.as_slice()
+    }
+
+    /// The bytes of a thunk; 0 where the architecture makes none.
+    pub fn thunk_size(&self) -> u64
+        ensures { result ≡ self.now.thunk_size }
+    {
+        self.thunk_size
+    }
+
+    /// The thunks of all blocks together; a sum past 2^64 - 1 is given as that.
+    pub fn thunk_count(&self) -> usize
+        ensures { result ≡ min (thunk_count self.now) (2 ^ 64 - 1) }
+    {
+        count_thunks(self.thunk_blocks.as_slice())
+    }
+
     /// The address where the program starts; none where no entry is named. Refused where the entry's symbol has no resolution, and
     /// where only the dynamic linker gives its value. Takes constant time.
     pub fn resolved_entry_symbol_address(&self) -> Result<Option<u64>, EntryFault>
@@ -189,4 +235,15 @@ impl<'data> Layout<'data> {
             None => Ok(None),
         }
     }
+}
+
+/// The thunks of some blocks; a sum past 2^64 - 1 is given as that.
+fn count_thunks(blocks: &[ThunkBlock]) -> usize
+    ensures { result ≡ min (sum_by (λ b. length b.symbols) blocks.now) (2 ^ 64 - 1) }
+{
+    let mut count = 0usize;
+    for block in blocks {
+        count = count.saturating_add(block.symbols.len());
+    }
+    count
 }

@@ -2,10 +2,10 @@
 //! stand for.
 #![tactic(auto)]
 
-pub mod arch;
 pub mod carried;
 mod computation;
 pub mod error;
+mod found;
 mod headers;
 mod images;
 pub mod laws;
@@ -13,14 +13,15 @@ pub mod layout;
 mod positions;
 mod references;
 mod stages;
+mod thunks;
 
-pub use crate::arch::{Arch, Small64Arch};
 pub use crate::carried::first_uncarried;
 pub use crate::computation::{compute, compute_alone};
-pub use crate::error::{LayoutError, Uncarried};
+pub use crate::error::{LayoutError, ReachKind, Uncarried};
 pub use crate::layout::Layout;
 pub use lk_gc::ReferenceFault;
 pub use lk_link::Resolution;
 pub use lk_merge::{MergedStringStartAddresses, MergedStringsSection};
 pub use lk_sizes::LiveSection;
+pub use lk_thunks::{Arch, Small64Arch, ThunkBlock, ThunkConfig};
 pub use lk_values::{EntryFault, MergeOffsetPlace, SymbolResolutions};

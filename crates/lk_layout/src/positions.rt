@@ -5,17 +5,20 @@
 //! parts started at 0: so a table has the addresses of live sections for such starts, and one pass over the symbols adds each
 //! one's own offset. All this is left out where no expression names a symbol.
 
-ghost use Rattle.std.specs.Prelude.{◌≡◌, ◌+◌, ◌<◌, ◌^◌, ◌++◌, All, IfOk, None, OnOk, Some, map, true};
+ghost use Rattle.std.specs.Prelude.{◌≡◌, ◌+◌, ◌<◌, ◌^◌, ◌++◌, ℕ, All, IfOk, List, None, OnOk, Some, map, true};
 ghost use Rattle.std.specs.List.{slice_index_or};
 ghost use Rattle.lk_gc.specs.Reach.{AreLive};
+ghost use Rattle.lk_link.specs.declared.ids.FileId.{FileId};
 ghost use Rattle.lk_link.specs.Files.{file_in};
 ghost use Rattle.lk_link.specs.Marks.{is_marked};
+ghost use Rattle.lk_link.specs.TableSizes.{TableSizes};
 ghost use Rattle.lk_link.specs.Walks.{file_of};
 ghost use Rattle.lk_link.specs.WellFormed.{IsWellFormed};
 ghost use Rattle.lk_sizes.specs.Addresses.{section_addresses};
 ghost use Rattle.lk_sizes.specs.PartOwners.{part_sizes};
 ghost use Rattle.lk_sizes.specs.Sizing.{AreFilled};
-ghost use Rattle.lk_values.specs.OutputContent.{output_content, output_filling};
+ghost use Rattle.lk_sizes.specs.Owners.{AreThunkOwners};
+ghost use Rattle.lk_values.specs.OutputContent.{thunked_filling};
 ghost use Rattle.lk_layout.specs.Positions.{file_positions, no_starts, symbol_positions};
 ghost use Rattle.lk_values.specs.Tables.{HasRoom, HaveRoom};
 ghost use Rattle.lk_layout.specs.PositionWords.{asked_positions, position_in, section_position_in};
@@ -25,8 +28,7 @@ use lk_link::list::List;
 use lk_link::marks::is_marked;
 use lk_link::{FileRef, InputSection, InputSymbol, LinkInput, Platform, SymbolPlacement};
 use lk_place::{SymbolPosition, SymbolPositions, names_no_symbol};
-use lk_sizes::PartOwners;
-use lk_sizes::part_owners::owner_addresses;
+use lk_sizes::{PartOwners, owner_addresses};
 use std::alloc::{AllocError, Global};
 
 /// The places of symbols in parts, if an expression of the walk names one; else none is told, which takes no memory.
@@ -40,9 +42,10 @@ pub(crate) fn asked_positions<P: Platform>(
 ) -> Result<SymbolPositions, AllocError>
     requires good { IsWellFormed link.now }
     requires live { AreLive link.now live.now }
-    requires filled { AreFilled (output_filling (P.table_sizes platform.now) link.now live.now) owners.now }
-    requires sizes { sizes.now ≡ part_sizes (output_filling (P.table_sizes platform.now) link.now live.now) }
-    ensures { IfOk result (λ positions. positions ≡ asked_positions (output_filling (P.table_sizes platform.now) link.now live.now)) }
+    requires thunks { AreThunkOwners link.now owners.now.thunks }
+    requires filled { AreFilled (thunked_filling (P.table_sizes platform.now) link.now live.now owners.now.thunks) owners.now }
+    requires sizes { sizes.now ≡ part_sizes (thunked_filling (P.table_sizes platform.now) link.now live.now owners.now.thunks) }
+    ensures { IfOk result (λ positions. positions ≡ asked_positions (thunked_filling (P.table_sizes platform.now) link.now live.now owners.now.thunks)) }
 {
     if names_no_symbol(&link.plan) {
         return Ok(SymbolPositions::new(List::new(alloc)));
@@ -62,9 +65,10 @@ fn symbol_positions<P: Platform>(
 ) -> Result<SymbolPositions, AllocError>
     requires good { IsWellFormed link.now }
     requires live { AreLive link.now live.now }
-    requires filled { AreFilled (output_filling (P.table_sizes platform.now) link.now live.now) owners.now }
-    requires sizes { sizes.now ≡ part_sizes (output_filling (P.table_sizes platform.now) link.now live.now) }
-    ensures { IfOk result (λ positions. positions ≡ symbol_positions (output_filling (P.table_sizes platform.now) link.now live.now)) }
+    requires thunks { AreThunkOwners link.now owners.now.thunks }
+    requires filled { AreFilled (thunked_filling (P.table_sizes platform.now) link.now live.now owners.now.thunks) owners.now }
+    requires sizes { sizes.now ≡ part_sizes (thunked_filling (P.table_sizes platform.now) link.now live.now owners.now.thunks) }
+    ensures { IfOk result (λ positions. positions ≡ symbol_positions (thunked_filling (P.table_sizes platform.now) link.now live.now owners.now.thunks)) }
 {
     let starts = no_starts(alloc, sizes)?;
     let found = owner_addresses(alloc, link, live, owners, &starts)?;
@@ -72,7 +76,7 @@ fn symbol_positions<P: Platform>(
     let count = link.groups.symbol_count() as usize;
     let mut positions = Vec::with_capacity(alloc, count)?;
     for file in link.groups.files() {
-        push_file_positions(&mut positions, link, live, offsets, file, platform)?;
+        push_file_positions(&mut positions, link, live, offsets, file)?;
     }
     Ok(SymbolPositions::new(List::from_vec(positions)))
 }
@@ -88,21 +92,21 @@ fn no_starts(alloc: Global, sizes: &[u64]) -> Result<Vec<u64>, AllocError>
     Ok(starts)
 }
 
-/// Adds for each symbol of a file its place in its part, if it has one.
-fn push_file_positions<P: Platform>(
+/// Adds for each symbol of a file its place in its part, if it has one, by the places of sections.
+fn push_file_positions(
     positions: &mut Vec<Option<SymbolPosition>>,
     link: &LinkInput,
     live: &Live,
     offsets: &[u64],
     file: FileRef<'_>,
-    platform: &P,
 ) -> Result<(), AllocError>
     requires good { IsWellFormed link.now }
     requires there { file_in link.now.groups file.id ≡ Some file.file.now }
-    requires offsets { offsets.now ≡ section_addresses (output_filling (P.table_sizes platform.now) link.now live.now) (no_starts link.now) }
     requires room { HaveRoom live.now.marks offsets.now link.now.groups }
-    ensures { OnOk result (positions.new.items
-        ≡ positions.old.items ++ file_positions (output_filling (P.table_sizes platform.now) link.now live.now) (file_of file.entry)) }
+    ensures { (tables : TableSizes) (thunks : List (FileId × ℕ))
+        → offsets.now ≡ section_addresses (thunked_filling tables link.now live.now thunks) (no_starts link.now)
+        → OnOk result (positions.new.items
+        ≡ positions.old.items ++ file_positions (thunked_filling tables link.now live.now thunks) (file_of file.entry)) }
 {
     let symbols = file.file.symbols.as_slice();
     if !file.file.kind.is_object() {

@@ -1,9 +1,21 @@
 //! How far a link is laid out: what each stage of the computation hands on to the next, with what came before.
 
+ghost use Rattle.std.specs.Prelude.{◌≡◌};
+ghost use Rattle.lk_layout.specs.Defined.{layout_of};
+ghost use Rattle.lk_layout.specs.Machines.{Machine};
+ghost use Rattle.lk_branches.specs.ThunkPlans.{thunk_size};
+ghost use Rattle.lk_layout.specs.Stages.{IsToldLink, made_told};
+
+use crate::layout::Layout;
+use lk_branches::ThunkPlan;
 use lk_gc::Live;
-use lk_place::Placed;
-use lk_sizes::PartOwners;
-use lk_values::Images;
+use lk_link::ids::FileId;
+use lk_link::link::LinkInput;
+use lk_link::list::List;
+use lk_place::{OutputRecordLayout, Placed, SegmentLayouts};
+use lk_sizes::{PartOwners, PartialLinkPlan};
+use lk_thunks::ThunkConfig;
+use lk_values::{Addresses, Images, entry_symbol};
 
 /// A link that is merged, with what is live of it.
 #[derive(Drop)]
@@ -12,11 +24,12 @@ pub(crate) struct KeptLink<'data> {
     pub(crate) live: Live,
 }
 
-/// The same, with what the live sections bring to each part, and what the headers tell.
+/// The same, with what comes into each part, what the headers tell, and the plan of the thunks among that.
 #[derive(Drop)]
 pub(crate) struct SizedLink<'data> {
     pub(crate) kept: KeptLink<'data>,
     pub(crate) owners: PartOwners,
+    pub(crate) thunks: ThunkPlan,
 }
 
 /// The same, with where its parts and sections stand.
@@ -24,4 +37,87 @@ pub(crate) struct SizedLink<'data> {
 pub(crate) struct PlacedLink<'data> {
     pub(crate) sized: SizedLink<'data>,
     pub(crate) records: Placed,
+}
+
+/// The same, with what its output sections span together with their secondaries, and its segments.
+#[derive(Drop)]
+pub(crate) struct SpannedLink<'data> {
+    pub(crate) placed: PlacedLink<'data>,
+    pub(crate) joined: List<OutputRecordLayout>,
+    pub(crate) segments: SegmentLayouts,
+}
+
+/// The same, with the addresses of what stands in its parts, and what symbols stand for.
+#[derive(Drop)]
+pub(crate) struct AddressedLink<'data> {
+    pub(crate) spanned: SpannedLink<'data>,
+    pub(crate) addresses: Addresses,
+}
+
+/// The same, with where the thunks of each block begin; all branches reach.
+#[derive(Drop)]
+pub(crate) struct ReachingLink<'data> {
+    pub(crate) addressed: AddressedLink<'data>,
+    pub(crate) places: List<Option<u64>>,
+}
+
+/// The same, with the attributes of its output sections, what is known of output that is linked again, and the owners of blocks.
+#[derive(Drop)]
+pub(crate) struct ToldLink<'data> {
+    pub(crate) reaching: ReachingLink<'data>,
+    pub(crate) attributes: List<u32>,
+    pub(crate) partial_link: Option<PartialLinkPlan>,
+    pub(crate) block_owners: List<Option<FileId>>,
+}
+
+impl<'data> ToldLink<'data> {
+    /// The layout that these make together.
+    pub(crate) fn into_layout(self, link: &'data LinkInput) -> Layout<'data>
+        ensures { (machine : Machine) (is : IsToldLink machine link.now self.entry) → result ≡ layout_of (made_told is) }
+    {
+        let reaching = self.reaching;
+        let addressed = reaching.addressed;
+        let addresses = addressed.addresses;
+        let SpannedLink {
+            placed,
+            joined,
+            segments,
+        } = addressed.spanned;
+        let PlacedLink { sized, records } = placed;
+        let KeptLink { images, live } = sized.kept;
+        let plan = sized.thunks;
+        let (header, sorted) = sized.owners.into_told();
+        Layout {
+            link,
+            section_layouts: records.sections,
+            merged_section_layouts: joined,
+            section_part_layouts: records.parts,
+            section_attributes: self.attributes,
+            output_section_indexes: header.output_section_indexes,
+            segment_layouts: segments.segments,
+            tls_layout: segments.tls_layout,
+            live_marks: live.marks,
+            section_addresses: List::from_vec(addresses.sections),
+            merged_strings: images.sections,
+            merged_string_start_addresses: addresses.buckets,
+            symbol_resolutions: addresses.resolutions,
+            entry_symbol_id: entry_symbol(link),
+            script_sorted_sections: sorted,
+            partial_link: self.partial_link,
+            thunk_blocks: plan.blocks,
+            thunk_block_owners: self.block_owners,
+            thunk_block_addresses: reaching.places,
+            thunk_size: size_of(plan.config),
+        }
+    }
+}
+
+/// The bytes of a thunk; 0 where the architecture makes none.
+fn size_of(config: Option<ThunkConfig>) -> u64
+    ensures { result ≡ thunk_size config }
+{
+    match config {
+        Some(config) => config.thunk_size,
+        None => 0,
+    }
 }

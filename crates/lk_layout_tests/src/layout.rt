@@ -298,8 +298,6 @@ const REFUSED: &str = r#"
 @ {"plan":{"page":16,"sections":[{"parts":[[1,false]]}],"events":[["sec",0]]...},"groups":[[{"kind":"prelude"}]]}
 ,"custom_base":true => 1 base address (0x0) is less than the size of headers (0x40)
 ,"singletons":0 => 1 bad link: rule 5, plan
-,"primary":0},"options":{"branch_range":2097153 => 1 not carried: primary
-,"primary":0,"comment":0},"options":{"branch_range":2097153 => 1 not carried: primary
 ,"primary":0 => 1 bad link: rule 4, part field 12
 ,"base":["sym",0] => 1 bad link: rule 8, plan
 # in the first of two output sections,

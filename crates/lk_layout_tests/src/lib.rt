@@ -26,4 +26,6 @@ mod tabled;
 #[cfg(test)]
 mod texts;
 #[cfg(test)]
+mod thunks;
+#[cfg(test)]
 mod words;

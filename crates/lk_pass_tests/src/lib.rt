@@ -4,6 +4,8 @@
 #[cfg(test)]
 mod commons;
 #[cfg(test)]
+mod edges;
+#[cfg(test)]
 mod expressions;
 #[cfg(test)]
 mod kept;

@@ -1,5 +1,6 @@
 //! What rows ask here, and that the answers are theirs.
 
+use crate::edges::add_edged;
 use crate::kept::add_traversals;
 use crate::made::{hand_made_link, sized_link};
 use crate::merging::add_merged_by_workers;
@@ -32,6 +33,8 @@ pub enum Asked {
     Placed(Spanned),
     /// Where the placement walk puts all.
     Walked,
+    /// What the linker's own symbols stand at, and what redirects come to.
+    Edged,
 }
 
 /// The link that a text stands for.
@@ -97,6 +100,7 @@ fn add_answer(
     match asked {
         Asked::Placed(asked) => add_placed(alloc, line, asked, text),
         Asked::Walked => add_walk(alloc, line, text),
+        Asked::Edged => add_edged(alloc, line, text),
         _ => add_linked(rt, alloc, line, asked, text),
     }
 }

@@ -334,7 +334,7 @@ fn position_of(word: &str) -> Option<SymbolPosition> {
 }
 
 /// The numbers that a word tells, with commas between.
-fn numbers_of(alloc: Global, word: &str) -> Result<Vec<u64>, AllocError> {
+pub(crate) fn numbers_of(alloc: Global, word: &str) -> Result<Vec<u64>, AllocError> {
     let mut numbers = Vec::new(alloc);
     for digits in word.split(',') {
         numbers.push(digits.parse::<u64>().unwrap_or(0))?;

@@ -1,6 +1,6 @@
 //! A pass over the candidates of one section.
 
-ghost use Rattle.std.specs.Prelude.{◌≡◌, ◌==◌, ◌++◌, [], ◌∷◌, IfOk, OnOk, cond, false, min};
+ghost use Rattle.std.specs.Prelude.{⊤, ◌≡◌, ◌==◌, ◌++◌, [], ◌∷◌, All, IfOk, OnOk, cond, false, min};
 ghost use Rattle.std.specs.List.{slice_get};
 ghost use Rattle.std.specs.Option.{option_copied, option_map_or};
 ghost use Rattle.lk_relax.specs.Candidates.{AreCandidates, AreOf, goes, lesser, margin, picked, range_of, ranges_in, short_by};
@@ -29,8 +29,12 @@ pub trait Judge {
     /// What comes of each candidate whose bytes are there.
     ghost told: { Self → RelaxCandidate → Outcome };
 
+    /// What has to be known of a candidate, so that it can be told.
+    ghost asks: { Self → RelaxCandidate → Type 0 } = { λ _ _. ⊤ };
+
     /// What comes of a candidate whose bytes are there.
     fn tell(&self, candidate: &RelaxCandidate) -> Outcome
+        requires { asks self.now candidate.now }
         ensures { result ≡ told self.now candidate.now };
 }
 
@@ -67,6 +71,7 @@ pub fn scan_candidates<J: Judge>(
     judge: &J,
 ) -> Result<Scan, AllocError>
     requires rising { AreCandidates candidates.now }
+    requires each { All (J.asks judge.now) candidates.now }
     requires some { AreOf (ranges_in (option_copied deleted)) candidates.now }
     ensures ranges { IfOk result (λ scan. scan.ranges.items ≡ picked (J.told judge.now) (ranges_in (option_copied deleted.entry)) candidates.now) }
     ensures margin { IfOk result (λ scan. scan.margin ≡ margin (J.told judge.now) (ranges_in (option_copied deleted.entry)) candidates.now) }
@@ -85,6 +90,7 @@ fn scan_beside<J: Judge>(
     judge: &J,
 ) -> Result<Scan, AllocError>
     requires rising { AreCandidates candidates.now }
+    requires each { All (J.asks judge.now) candidates.now }
     requires some { AreOf (ranges_of old.now) candidates.now }
     ensures ranges { IfOk result (λ scan. scan.ranges.items ≡ picked (J.told judge.now) (ranges_of old.now) candidates.now) }
     ensures margin { IfOk result (λ scan. scan.margin ≡ margin (J.told judge.now) (ranges_of old.now) candidates.now) }

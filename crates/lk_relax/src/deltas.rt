@@ -69,15 +69,18 @@ impl SectionRelaxDeltas {
     /// Where an offset of the section goes. Takes logarithmic time.
     #[tactic(auto, unfolding(crate::specs::Deletions::mapped))]
     fn output_offset(&self, offset: u64) -> u64
-        ensures { result ≡ mapped self.now offset }
+        ensures place { result ≡ mapped self.now offset }
+        ensures order { (behind : ℕ) → offset ≤ behind → result ≤ mapped self.now behind }
     {
         offset - deleted_before(self.deltas.as_slice(), offset)
     }
 }
 
-/// Where an offset of a section goes, of which these ranges are deleted, or nothing (libwild: `opt_input_to_output`).
+/// Where an offset of a section goes, of which these ranges are deleted, or nothing; no offset behind it goes before that (libwild:
+/// `opt_input_to_output`).
 pub fn opt_input_to_output(deltas: Option<&SectionRelaxDeltas>, offset: u64) -> u64
-    ensures { result ≡ mapped_by (option_copied deltas.entry) offset }
+    ensures place { result ≡ mapped_by (option_copied deltas.entry) offset }
+    ensures order { (behind : ℕ) → offset ≤ behind → result ≤ mapped_by (option_copied deltas.entry) behind }
 {
     match deltas {
         Some(deltas) => deltas.output_offset(offset),

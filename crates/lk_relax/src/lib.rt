@@ -1,5 +1,5 @@
 //! What relaxation deletes of sections, where offsets go by that, and a pass over the candidates of one section. Passes over a whole
-//! link are to come.
+//! link are of `lk_relaxing`.
 #![tactic(auto)]
 
 mod candidates;

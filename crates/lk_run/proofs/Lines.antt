@@ -1,5 +1,5 @@
 -- Texts of a list's items, from a place on.
-use Rattle.std.proofs.Common.{◌≡◌, ℕ, ◌+◌, ◌<◌, ◌≤◌, List, [], ◌∷◌, ◌++◌, length, get_or, drop, refl, sym, ap, arith, zero, suc, ◌∙◌, add-one, append_assoc}
+use Rattle.std.proofs.Common.{◌≡◌, ℕ, ◌+◌, ◌<◌, ◌≤◌, List, [], ◌∷◌, ◌++◌, length, map, get_or, drop, refl, sym, ap, arith, zero, suc, ◌∙◌, add-one, append_assoc}
 use Rattle.std.proofs.lemmas.List.{append-nil}
 use Rattle.lk_run.specs.Report.{each}
 
@@ -40,6 +40,13 @@ pub ends : {X : Type 0} (f : ℕ → X → List ℕ) (n : ℕ) (xs : List X) (i 
     text ++ each f n (drop i xs) ≡ whole → text ≡ whole
 ends f n xs i text whole h left = cc (past f n xs i h, append-nil text)
 
+-- the texts of what a list's items give
+pub each_map : {X Y : Type 0} (f : ℕ → Y → List ℕ) (g : X → Y) (n : ℕ) (xs : List X) → each f n (map g xs) ≡ each (λ m x. f m (g x)) n xs
+unfolding each
+each_map f g n [] = refl
+each_map f g n (x ∷ xs) = ap (λ t. f n (g x) ++ t) (each_map f g (suc n) xs)
+
 -- what was written piece by piece is the pieces in a row
-pub in_a_row : (text s t u v w x y : List ℕ) → text ≡ ((((([] ++ s) ++ t) ++ u) ++ v) ++ w) ++ x ++ y → text ≡ s ++ (t ++ (u ++ (v ++ (w ++ (x ++ y)))))
-in_a_row text s t u v w x y h = h ∙ simp append_assoc
+pub in_a_row : (text s t u v w x y z : List ℕ) → text ≡ (((((([] ++ s) ++ t) ++ u) ++ v) ++ w) ++ x) ++ y ++ z
+    → text ≡ s ++ (t ++ (u ++ (v ++ (w ++ (x ++ (y ++ z))))))
+in_a_row text s t u v w x y z h = h ∙ simp append_assoc

@@ -4,7 +4,7 @@ use Rattle.lk_generator.specs.Generated.{generated_link}
 use Rattle.lk_input.specs.declared.read.error.InputError.{InputError}
 use Rattle.lk_input.specs.Reading.{reading_of}
 use Rattle.lk_link.specs.declared.link.LinkInput.{LinkInput}
-use Rattle.lk_layout.specs.Machines.{small64_machine, small64_machine_is_lawful}
+use Rattle.lk_layout.specs.Machines.{IsLawfulMachine, small64_machine}
 use Rattle.lk_layout.specs.Made.{made_of}
 use Rattle.lk_layout.specs.declared.error.LayoutError.{LayoutError}
 use Rattle.lk_layout.specs.LayoutRecord.{LayoutRecord}
@@ -21,12 +21,16 @@ use Rattle.lk_run.specs.Words.{IsCommand}
 use Rattle.lk_run.proofs.Commands.{reads_command}
 use Rattle.lk_run.proofs.RunLaws.{answered}
 
+-- what the laws say of the small machine: a defined layout of it is sound
+abbrev SmallLayoutsAreSound : Type 0
+SmallLayoutsAreSound = DefinedLayoutsAreSound × IsLawfulMachine small64_machine
+
 -- an answer with the status of a layout is its report
-told_layout : DefinedLayoutsAreSound → (from : SourceState) (before after : SinkState) (bytes : List ℕ) (link : LinkInput) (result : Result LayoutRecord LayoutError) (answer : Answer)
+told_layout : SmallLayoutsAreSound → (from : SourceState) (before after : SinkState) (bytes : List ℕ) (link : LinkInput) (result : Result LayoutRecord LayoutError) (answer : Answer)
     → Holds from.left (Whole bytes) → reading_of bytes ≡ Ok link → IsDefined small64_machine link result → answer ≡ told_of link result → LaidOut ≡ answer.status → Takes before after answer.text
     → TellsSoundLayout from before after
 told_layout law from before after bytes link (Ok layout) answer holds described defined is status written =
-    let sound = law small64_machine link layout small64_machine_is_lawful defined in
+    let sound = law.0 small64_machine link layout law.1 defined in
     record {
       bytes = bytes;
       holds = holds;
@@ -42,7 +46,7 @@ told_layout law from before after bytes link (Err e) answer holds described defi
     let refused : LaidOut ≡ Refused = status ∙ ap (λ (a : Answer). a.status) is in
     absurd (cc)
 
-told_reading : DefinedLayoutsAreSound → (from : SourceState) (before after : SinkState) (bytes : List ℕ) (reading : Result LinkInput InputError) (answer : Answer)
+told_reading : SmallLayoutsAreSound → (from : SourceState) (before after : SinkState) (bytes : List ℕ) (reading : Result LinkInput InputError) (answer : Answer)
     → Holds from.left (Whole bytes) → reading_of bytes ≡ reading → IsAnswerToReading reading answer → LaidOut ≡ answer.status → Takes before after answer.text
     → TellsSoundLayout from before after
 told_reading law from before after bytes (Ok link) answer holds described is status written = told_layout law from before after bytes link is.0 answer holds described is.1 is.2 status written
@@ -50,7 +54,7 @@ told_reading law from before after bytes (Err e) answer holds described is statu
     let unreadable : LaidOut ≡ Unreadable = status ∙ ap (λ (a : Answer). a.status) is in
     absurd (cc)
 
-told_held : DefinedLayoutsAreSound → (from : SourceState) (before after : SinkState) (workers : ℕ) (held : Held) (answer : Answer)
+told_held : SmallLayoutsAreSound → (from : SourceState) (before after : SinkState) (workers : ℕ) (held : Held) (answer : Answer)
     → Holds from.left held → IsAnswerTo (commands.Layout workers) held answer → LaidOut ≡ answer.status → Takes before after answer.text
     → TellsSoundLayout from before after
 told_held law from before after workers (Whole bytes) answer holds is status written =
@@ -60,11 +64,11 @@ told_held law from before after workers Longer answer holds is status written =
     absurd (cc)
 
 -- an answer to a seed and a number of objects, with the status of a layout, is its line
-told_summary : DefinedLayoutsAreSound → (seed size : ℕ) (before after : SinkState) (result : Result LayoutRecord LayoutError) (answer : Answer)
+told_summary : SmallLayoutsAreSound → (seed size : ℕ) (before after : SinkState) (result : Result LayoutRecord LayoutError) (answer : Answer)
     → IsDefined small64_machine (generated_link seed size) result → answer ≡ summed_up seed size result → LaidOut ≡ answer.status → Takes before after answer.text
     → TellsSoundSummary seed size before after
 told_summary law seed size before after (Ok layout) answer defined is status written =
-    let sound = law small64_machine (generated_link seed size) layout small64_machine_is_lawful defined in
+    let sound = law.0 small64_machine (generated_link seed size) layout law.1 defined in
     record {
       made = made_of small64_machine (generated_link seed size) sound.0 sound.1 sound.2;
       generated = refl;
@@ -78,23 +82,23 @@ told_summary law seed size before after (Err e) answer defined is status written
     let refused : LaidOut ≡ Refused = status ∙ ap (λ (a : Answer). a.status) is in
     absurd (cc)
 
-read_run : DefinedLayoutsAreSound → (words : List (List ℕ)) (workers : ℕ) (from to : SourceState) (before after : SinkState)
+read_run : SmallLayoutsAreSound → (words : List (List ℕ)) (workers : ℕ) (from to : SourceState) (before after : SinkState)
     → IsCommand words (commands.Layout workers) → Finished words from to before after LaidOut → TellsSoundLayout from before after
 read_run law words workers from to before after asked run =
     let read = reads_command words (commands.Layout workers) asked in
     let given = answered words (commands.Layout workers) from to run.answer read run.defined in
     told_held law from before after workers given.held run.answer given.holds given.answers run.same run.written
 
-gen_run : DefinedLayoutsAreSound → (words : List (List ℕ)) (seed size : ℕ) (from to : SourceState) (before after : SinkState)
+gen_run : SmallLayoutsAreSound → (words : List (List ℕ)) (seed size : ℕ) (from to : SourceState) (before after : SinkState)
     → IsCommand words (commands.Gen seed size) → Finished words from to before after LaidOut → TellsSoundSummary seed size before after
 gen_run law words seed size from to before after asked run =
     let read = reads_command words (commands.Gen seed size) asked in
     let given = answered words (commands.Gen seed size) from to run.answer read run.defined in
     told_summary law seed size before after given.answers.0 run.answer given.answers.1 given.answers.2 run.same run.written
 
-pub sound_run : DefinedLayoutsAreSound → (words : List (List ℕ)) (from to : SourceState) (before after : SinkState) (status : Status) → IsRun words from to before after status
+pub sound_run : DefinedLayoutsAreSound → IsLawfulMachine small64_machine → (words : List (List ℕ)) (from to : SourceState) (before after : SinkState) (status : Status) → IsRun words from to before after status
     → IsSoundRun words from before after status
-sound_run law words from to before after status run = record {
-  read = λ workers asked laid. read_run law words workers from to before after asked (subst (IsRun words from to before after) laid run);
-  generated = λ seed size asked laid. gen_run law words seed size from to before after asked (subst (IsRun words from to before after) laid run);
+sound_run law lawful words from to before after status run = record {
+  read = λ workers asked laid. read_run (law, lawful) words workers from to before after asked (subst (IsRun words from to before after) laid run);
+  generated = λ seed size asked laid. gen_run (law, lawful) words seed size from to before after asked (subst (IsRun words from to before after) laid run);
 }

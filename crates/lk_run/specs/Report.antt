@@ -1,8 +1,9 @@
 -- The report: the lines that tell where everything of a link stands.
-use Rattle.std.specs.Prelude.{ℕ, suc, ◌+◌, ◌%◌, ◌^◌, ◌==◌, ◌&&◌, ◌||◌, not, nat_lt, Bool, false, if◌then◌else◌, List, [], ◌∷◌, ◌++◌, Option, Some}
-use Rattle.std.specs.Prelude.{None, Result, Ok, Err, codes, length, slice_get, slice_index, slice_range}
-use Rattle.std.specs.List.{concat, flat_map, list_any}
+use Rattle.std.specs.Prelude.{ℕ, suc, ◌+◌, ◌*◌, ◌%◌, ◌^◌, ◌==◌, ◌&&◌, ◌||◌, not, nat_lt, Bool, false, if◌then◌else◌, List, [], ◌∷◌, ◌++◌, Option, Some}
+use Rattle.std.specs.Prelude.{None, Result, Ok, Err, codes, length, option_map, slice_get, slice_index, slice_range}
+use Rattle.std.specs.List.{concat, flat_map, list_any, slice_index_or}
 use Rattle.std.specs.Fmt.{decimal, digits}
+use Rattle.lk_link.specs.declared.ids.FileId.{FileId}
 use Rattle.lk_link.specs.declared.link.LinkInput.{LinkInput}
 use Rattle.lk_link.specs.declared.plan.PlanSection.{PlanSection}
 use Rattle.lk_link.specs.Inputs.{Input}
@@ -191,6 +192,41 @@ all_piece_lines merged starts = each (λ s inputs. piece_lines s (image_start st
 abbrev pub merged_report : List (List MergeInput) → List ℕ → List ℕ
 merged_report merged starts = merged_lines merged starts ++ all_piece_lines merged starts
 
+-- ---- thunks
+
+-- the line of a block with the file that owns it
+unfoldable pub block_line : ℕ → FileId → List ℕ
+block_line b id = joined (codes "block " ∷ decimal b ∷ codes " " ∷ decimal id.group ∷ codes " " ∷ decimal id.file ∷ codes "\n" ∷ [])
+
+-- the same, if a file owns the block
+unfoldable pub block_text : ℕ → Option FileId → List ℕ
+block_text b None = []
+block_text b (Some id) = block_line b id
+
+-- those of all blocks that files own, by number
+abbrev pub block_lines : List (Option FileId) → List ℕ
+block_lines owners = each block_text 0 owners
+
+-- the line of a block's thunk for a symbol
+unfoldable pub thunk_line : ℕ → ℕ → Option ℕ → List ℕ
+thunk_line b s address = joined (codes "thunk " ∷ decimal b ∷ codes " " ∷ decimal s ∷ codes " " ∷ address_text address ∷ codes "\n" ∷ [])
+
+-- where the thunk at a place of a block stands, by where the block does and how long a thunk is, within 64 bits
+abbrev pub thunk_address : Option ℕ → ℕ → ℕ → Option ℕ
+thunk_address block k size = option_map (λ a. bytes_behind a (k * size)) block
+
+-- the lines of a block's thunks
+abbrev pub block_thunks : ℕ → List ℕ → Option ℕ → ℕ → List ℕ
+block_thunks b symbols address size = each (λ k s. thunk_line b s (thunk_address address k size)) 0 symbols
+
+-- those of all blocks, by number
+abbrev pub thunk_lines : List (List ℕ) → List (Option ℕ) → ℕ → List ℕ
+thunk_lines sets addresses size = each (λ b set. block_thunks b set (slice_index_or addresses b None) size) 0 sets
+
+-- the lines on thunks: of the blocks that files own, and then of all thunks
+abbrev pub thunk_report : LayoutRecord → List ℕ
+thunk_report layout = block_lines layout.thunk_block_owners ++ thunk_lines layout.thunk_blocks layout.thunk_block_addresses layout.thunk_size
+
 -- ---- symbols and the entry
 
 -- the line of a symbol with this resolution: its value and flags, where its entries stand in got and plt, and its number among dynamic
@@ -232,6 +268,7 @@ report link layout = joined (
     record_lines link layout ∷
     live_report link layout ∷
     merged_report layout.merged_strings layout.merged_string_start_addresses ∷
+    thunk_report layout ∷
     symbol_lines layout.symbol_resolutions ∷
     entry_line (resolved_entry layout) ∷
     codes "end\n" ∷ [])

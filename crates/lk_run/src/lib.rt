@@ -19,6 +19,7 @@ pub mod standard;
 pub mod status;
 pub mod summary;
 pub mod sure;
+mod thunks;
 mod top_call;
 mod transcript;
 pub mod transfer;

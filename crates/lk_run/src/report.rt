@@ -15,6 +15,7 @@ use crate::line::{Line, ROOM};
 use crate::merged::{merged_room, write_merged};
 use crate::singles::write_singles;
 use crate::summary::count_live;
+use crate::thunks::{thunks_room, write_thunks};
 use lk_layout::{EntryFault, Layout, SymbolResolutions};
 use lk_link::link::LinkInput;
 use lk_link::marks::is_marked;
@@ -84,7 +85,7 @@ impl fmt::Display for IndexText {
 
 /// The report of a link's layout: a line for each output section, each part that has bytes or is the first of a section
 /// without bytes, each active segment, each live section, each singleton, each output section into which something is merged, each distinct
-/// piece and each symbol with a resolution, and one for the entry. What the layout has no record of is left out.
+/// piece, each block of thunks that a file owns, each thunk and each symbol with a resolution, and one for the entry. What the layout has no record of is left out.
 pub fn report_text(
     alloc: Global,
     link: &LinkInput,
@@ -102,6 +103,7 @@ pub fn report_text(
         layout.merged_strings(),
         layout.merged_string_start_addresses(),
     )?;
+    write_thunks(&mut text, layout)?;
     write_symbols(&mut text, layout.symbol_resolutions())?;
     write_entry(&mut text, layout.resolved_entry_symbol_address())?;
     text.push_str("end\n")?;
@@ -120,6 +122,7 @@ fn room_of(layout: &Layout<'_>) -> usize {
         .saturating_mul(RECORD_LINE)
         .saturating_add(count_live(layout).saturating_mul(LIVE_LINE))
         .saturating_add(merged_room(layout.merged_strings()))
+        .saturating_add(thunks_room(layout))
         .saturating_add(symbols_room(layout.symbol_resolutions()))
 }
 

@@ -24,7 +24,9 @@ use crate::status::Status;
 use crate::transfer::{ReadAllError, read_all, write_all};
 use crate::words::{Command, read_words, usage_text};
 use lk_input::{InputError, read_link};
-use lk_layout::laws::{defined_layouts_are_sound, laid_out_links_are_well_formed};
+use lk_layout::laws::{
+    defined_layouts_are_sound, laid_out_links_are_well_formed, small64_machine_is_lawful,
+};
 use lk_layout::{Layout, LayoutError, Small64Arch, compute, compute_alone};
 use lk_link::gate::Gate;
 use lk_link::link::LinkInput;
@@ -244,6 +246,7 @@ pub fn run<R: Threads + Wait + Sync, S: Source, K: Sink, G: Gate + Sync>(
     ensures sound { IsSoundRun (map string_bytes words.now) (S.state source.old) (K.state sink.old) (K.state sink.new) result }
 {
     defined_layouts_are_sound();
+    small64_machine_is_lawful();
     run_words(rt, alloc, words, source, sink, gate)
 }
 
@@ -259,6 +262,7 @@ pub fn run_alone<S: Source, K: Sink>(
         (K.state sink.old) (K.state sink.new) result }
 {
     defined_layouts_are_sound();
+    small64_machine_is_lawful();
     if ask_for_workers(words) {
         return None;
     }

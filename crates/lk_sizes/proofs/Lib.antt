@@ -1,8 +1,11 @@
 pub mod Adding
 pub mod Addressing
+pub mod BlockOnes
 pub mod CommonAdding
 pub mod CommonOnes
+pub mod Earlier
 pub mod Emitting
+pub mod FilledOwners
 pub mod Fitting
 pub mod ImageLemmas
 pub mod ImagePlaces
@@ -17,6 +20,8 @@ pub mod LiveOnes
 pub mod LiveParts
 pub mod Made
 pub mod Marks
+pub mod NameNumbers
+pub mod NameOrder
 pub mod Numbering
 pub mod Overflowing
 pub mod OwnerKeys
@@ -25,7 +30,9 @@ pub mod OwnSizes
 pub mod OwnersLive
 pub mod OwnersOnce
 pub mod Placed
+pub mod RankSteps
 pub mod SortedFits
+pub mod SortedKeys
 pub mod SortedOnes
 pub mod SortedPlaces
 pub mod SymbolsKeep

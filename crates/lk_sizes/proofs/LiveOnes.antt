@@ -85,7 +85,7 @@ all_marked P (m ∷ marks) [] h = tt
 all_marked P (true ∷ marks) (x ∷ xs) h = (h.0, all_marked P marks xs h.1)
 all_marked P (false ∷ marks) (x ∷ xs) h = all_marked P marks xs h.1
 
-pairwise_marked : {X : Type 0} (R : X → X → Type 0) (marks : List Bool) (xs : List X) → Pairwise R xs → Pairwise R (marked marks xs)
+pub pairwise_marked : {X : Type 0} (R : X → X → Type 0) (marks : List Bool) (xs : List X) → Pairwise R xs → Pairwise R (marked marks xs)
 pairwise_marked R [] xs h = tt
 pairwise_marked R (m ∷ marks) [] h = tt
 pairwise_marked R (true ∷ marks) (x ∷ xs) h = (all_marked (R x) marks xs h.0, pairwise_marked R marks xs h.1)

@@ -2,6 +2,7 @@
 use Rattle.std.proofs.Common.{◌≡◌, ℕ, suc, ◌+◌, Bool, true, false, if◌then◌else◌, List, [], ◌∷◌, ◌++◌, length, map, set, Some, refl, sym, ap, ◌∙◌, arith}
 use Rattle.std.specs.List.{enumerate_from, slice_get, slice_index, slice_index_or}
 use Rattle.std.proofs.lemmas.Option.{get_or_from_slice_get}
+use Rattle.lk_link.specs.declared.link.LinkInput.{LinkInput}
 use Rattle.lk_link.specs.Inputs.{Input, all_inputs}
 use Rattle.lk_link.specs.Marks.{is_marked}
 use Rattle.lk_link.proofs.Elements.{map_in}
@@ -9,7 +10,7 @@ use Rattle.lk_link.proofs.InputLemmas.{numbered_get}
 use Rattle.lk_gc.specs.Reach.{marked}
 use Rattle.lk_sizes.specs.declared.addresses.LiveSection.{LiveSection}
 use Rattle.lk_sizes.specs.Addresses.{TableTellsLiveSections, live_section, section_address, section_addresses, told_section}
-use Rattle.lk_sizes.specs.Owners.{Filling, plain_filling, size_of}
+use Rattle.lk_sizes.specs.Owners.{Filling, size_in, size_of}
 use Rattle.lk_sizes.specs.PartOwners.{live_address}
 use Rattle.lk_sizes.proofs.OwnSizes.{own_size}
 
@@ -53,8 +54,9 @@ table_at filling starts k x there set =
     ∙ ap (λ b. if b then live_address filling starts x else 0) set
 
 pub table_tells_live_sections : TableTellsLiveSections
-table_tells_live_sections content starts =
-    let filling : Filling = plain_filling content in
-    told_from filling starts (section_addresses filling starts) content.live.marks (all_inputs content.link.groups) 0 (own_size content) (λ k x there set.
+table_tells_live_sections filling starts is =
+    let link : LinkInput = filling.content.link in
+    told_from filling starts (section_addresses filling starts) filling.content.live.marks (all_inputs link.groups) 0
+    (λ k x there. ap (λ (sizes : List ℕ). size_in link sizes x) is ∙ own_size filling.content k x there) (λ k x there set.
     let number : 0 + k ≡ k = omega arith in
     ap (slice_index (section_addresses filling starts)) number ∙ table_at filling starts k x there set)

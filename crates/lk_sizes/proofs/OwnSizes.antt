@@ -8,10 +8,9 @@ use Rattle.lk_link.specs.declared.link.LinkInput.{LinkInput}
 use Rattle.lk_link.specs.Inputs.{Input, all_inputs, numbered_files}
 use Rattle.lk_link.proofs.Elements.{at_contained, map_in}
 use Rattle.lk_gc.specs.Reach.{live_inputs}
-use Rattle.lk_sizes.specs.Owners.{Content, SectionOwner, Taker, all_file_takers, common_taker, commons_of, file_takers, live_of, own_sizes, plain_filling, section_taker, size_in, size_of, sized_filling, takers}
-use Rattle.lk_sizes.specs.Sorted.{sorted_inputs}
+use Rattle.lk_sizes.specs.Owners.{Content, SectionOwner, Taker, all_file_takers, common_taker, commons_of, file_takers, live_of, own_sizes, plain_filling, section_taker, size_in, size_of, sized_filling}
 use Rattle.lk_sizes.specs.PartOwners.{owner_number, owners_of}
-use Rattle.lk_sizes.specs.Tables.{file_takers_by, taker_by}
+use Rattle.lk_sizes.specs.Tables.{file_takers_by}
 use Rattle.lk_sizes.proofs.Addressing.{live_sections_are_owners}
 use Rattle.lk_sizes.proofs.Lists.{flat_alike}
 use Rattle.lk_sizes.proofs.LiveByFiles.{number_of}
@@ -38,12 +37,6 @@ sized_of_files content sizes =
 -- a live section of the link is one of its sections
 live_in_link : (content : Content) (k : ℕ) (x : Input) → slice_get (live_inputs content.link content.live) k ≡ Some x → (j : ℕ) × (slice_get (all_inputs content.link.groups) j ≡ Some x)
 live_in_link content k x there = let at = marked_at content.live.marks (all_inputs content.link.groups) k x there in (at.0, at.1)
-
--- all that takes bytes
-pub sized_takers : (content : Content) (sizes : List ℕ) → takers (sized_filling content sizes)
-    ≡ flat_map (file_takers_by (size_in content.link sizes) content.link content.live) (numbered_files content.link.groups)
-    ++ map (taker_by (size_in content.link sizes)) (sorted_inputs content.link content.live)
-sized_takers content sizes = ap (λ (ts : List Taker). ts ++ map (taker_by (size_in content.link sizes)) (sorted_inputs content.link content.live)) (sized_of_files content sizes)
 
 -- a live section has its own size among the owners of its part
 pub live_own_size : (content : Content) (k : ℕ) (x : Input) → slice_get (live_inputs content.link content.live) k ≡ Some x → size_of (plain_filling content) x ≡ x.section.size

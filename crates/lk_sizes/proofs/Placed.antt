@@ -1,13 +1,15 @@
--- Live sections and commons get their addresses, file by file.
+-- Live sections, commons and blocks of thunks get their addresses, file by file.
 use Rattle.std.proofs.Common.{◌≡◌, ℕ, suc, ◌+◌, ◌<◌, ◌^◌, Bool, true, false, not, ◌&&◌, if◌then◌else◌, List, [], ◌∷◌, ◌++◌, length, map, filter, take, Option, None, Some, Bor, refl, sym, ap, ◌∙◌, subst, arith, append_assoc, get_or, length-append, set}
 use Rattle.std.specs.List.{enumerate_from, flat_map, range_with_len, slice_get, slice_index}
-use Rattle.std.specs.Option.{option_map_or}
+use Rattle.std.specs.Prelude.{option_map}
+use Rattle.std.specs.Option.{option_map_or, option_to_list}
 use Rattle.std.proofs.lemmas.Grind.{flat_map-append}
 use Rattle.std.proofs.lemmas.List.{append-nil, length-map, map-append, map_push, take_more}
 use Rattle.std.proofs.lemmas.List.Elements.{filter-append}
 use Rattle.std.proofs.lemmas.List.FromFn.{get_or-map-range_with_len, length-enumerate_from, length-map-range_with_len}
 use Rattle.std.proofs.lemmas.List.Sums.{sum_by-append}
 use Rattle.std.proofs.lemmas.Option.{get_or_from_slice_get, slice_get-get_or, slice_get_within}
+use Rattle.lk_link.specs.declared.ids.FileId.{FileId}
 use Rattle.lk_link.specs.declared.link.LinkInput.{LinkInput}
 use Rattle.lk_link.specs.declared.section.InputSection.{InputSection}
 use Rattle.lk_link.specs.Files.{file_in}
@@ -15,7 +17,6 @@ use Rattle.lk_link.specs.Inputs.{Input, NumberedFile, all_inputs, first_input, i
 use Rattle.lk_link.specs.Marks.{is_marked}
 use Rattle.lk_link.specs.Parts.{all_parts, part_at}
 use Rattle.lk_link.specs.Sizes.{capacity}
-use Rattle.lk_link.specs.TableSizes.{TableSizes}
 use Rattle.lk_link.specs.WellFormed.{IsWellFormed}
 use Rattle.lk_link.proofs.Elements.{append_left, append_right, at_index, map_in}
 use Rattle.lk_link.proofs.InputLemmas.{inputs_follow, numbered_get}
@@ -25,18 +26,19 @@ use Rattle.lk_reach.proofs.LiveWalk.{split_at}
 use Rattle.lk_reach.proofs.SymbolNumbers.{inputs_few}
 use Rattle.lk_sizes.specs.declared.addresses.CommonAddress.{CommonAddress}
 use Rattle.lk_tables.specs.declared.commons.Common.{Common}
-use Rattle.lk_sizes.specs.Addresses.{told_common}
-use Rattle.lk_sizes.specs.Owners.{Content, EntryOwner, Filling, IsCommonIn, Taker, common_taker, commons_of, content_of, content_owners, leading_of, live_of, own_sizes, owner_bytes, owners_in, plain_filling, section_taker, size_in, sized_filling, stands_in_file, takers}
-use Rattle.lk_sizes.specs.Sorted.{sorted_inputs}
-use Rattle.lk_sizes.specs.PartOwners.{EndsFit, common_address, live_address, tables_of}
+use Rattle.lk_sizes.specs.Addresses.{primary_address, told_common}
+use Rattle.lk_sizes.specs.Owners.{Content, EntryOwner, Filling, IsCommonIn, Taker, common_taker, commons_of, content_owners, file_takers, leading_of, live_of, own_sizes, owner_bytes, owners_in, section_taker, size_in, size_of, sorted_takers, stands_in_file, takers, thunk_bytes, thunk_taker, thunk_takers}
+use Rattle.lk_sizes.specs.PartOwners.{EndsFit, block_address, common_address, live_address, tables_of}
 use Rattle.lk_tables.specs.TableLists.{table_of}
-use Rattle.lk_sizes.specs.Tables.{ArePassed, HaveSpace, behind_leading, bytes_in, common_place, common_places, live_below, next_behind, file_takers_by, section_place, section_places, taker_by, IsInput}
+use Rattle.lk_sizes.specs.Tables.{ArePassed, HaveSpace, behind_leading, block_places, blocks_of, bytes_in, common_place, common_places, live_below, next_behind, own_block, section_place, section_places, taker_by, IsInput}
 use Rattle.lk_sizes.proofs.Addressing.{live_among, number_of, section_behind}
+use Rattle.lk_sizes.proofs.BlockOnes.{block_behind, primary_goes}
 use Rattle.lk_sizes.proofs.CommonOnes.{common_among, common_behind, common_goes}
 use Rattle.lk_sizes.proofs.LiveOnes.{live_goes_at}
-use Rattle.lk_sizes.proofs.OwnSizes.{live_own_size, own_size_at, sized_takers}
+use Rattle.lk_sizes.proofs.OwnSizes.{live_own_size, own_size_at}
 use Rattle.std.proofs.Math.Seq.{take-append_seam}
 use Rattle.lk_sizes.proofs.Takers.{bytes_in-append, bytes_in_here, one_passed, passed_both, room_for}
+use Rattle.lk_sizes.proofs.ThunkTakers.{block_there}
 
 -- ---- the sections of a file, one after the other
 
@@ -257,14 +259,15 @@ early_address filling starts q =
     if is_marked filling.content.live.marks q.0 && not q.1.section.sorted then live_address filling starts q.1 else 0
 
 -- the files so far have their addresses, and the next ones are behind them
-pub record AreDone (given : List ℕ) (link : LinkInput) (live : Live) (merged_lens starts ends : List ℕ) (done : List NumberedFile) (next sections : List ℕ) (commons : List CommonAddress) : Type 0 where
-  pub passed : ArePassed link ends (flat_map (file_takers_by (size_in link given) link live) done) next
-  pub addresses : (sizes : TableSizes) → sections ≡ map (early_address (sized_filling (content_of link sizes live merged_lens) given) starts) (enumerate_from 0 (inputs_of done))
-  pub told : (sizes : TableSizes) → commons ≡ map (told_common (sized_filling (content_of link sizes live merged_lens) given) starts) (flat_map (commons_of link live) done)
+pub record AreDone (filling : Filling) (starts ends : List ℕ) (done : List NumberedFile) (next sections : List ℕ) (commons : List CommonAddress) (owned : List ℕ) : Type 0 where
+  pub passed : ArePassed filling.content.link ends (flat_map (file_takers filling) done) next
+  pub addresses : sections ≡ map (early_address filling starts) (enumerate_from 0 (inputs_of done))
+  pub told : commons ≡ map (told_common filling starts) (flat_map (commons_of filling.content.link filling.content.live) done)
+  pub blocks : owned ≡ map (λ q. primary_address filling starts q.0) (flat_map (blocks_of filling.thunks) done)
 
-pub none_done : (given : List ℕ) (link : LinkInput) (live : Live) (merged_lens starts ends : List ℕ) → AreDone given link live merged_lens starts ends [] ends [] []
-none_done given link live merged_lens starts ends =
-    record { passed = record { count = refl; moved = λ p h. omega arith }; addresses = λ sizes. refl; told = λ sizes. refl }
+pub none_done : (filling : Filling) (starts ends : List ℕ) → AreDone filling starts ends [] ends [] [] []
+none_done filling starts ends =
+    record { passed = record { count = refl; moved = λ p h. omega arith }; addresses = refl; told = refl; blocks = refl }
 
 -- ---- one file more
 
@@ -274,17 +277,15 @@ pub record IsNextFile (link : LinkInput) (done : List NumberedFile) (f : Numbere
   pub splits : numbered_files link.groups ≡ done ++ f ∷ rest
 
 -- what takes bytes behind some files: these ones, and the sorted sections
-abbrev after_files : Content → List ℕ → List NumberedFile → List Taker
-after_files content sizes rest = flat_map (file_takers_by (size_in content.link sizes) content.link content.live) rest ++ map (taker_by (size_in content.link sizes)) (sorted_inputs content.link content.live)
+abbrev after_files : Filling → List NumberedFile → List Taker
+after_files filling rest = flat_map (file_takers filling) rest ++ sorted_takers filling
 
-takers_split : (content : Content) (sizes : List ℕ) (done : List NumberedFile) (f : NumberedFile) (h : IsNextFile content.link done f)
-    → takers (sized_filling content sizes)
-    ≡ flat_map (file_takers_by (size_in content.link sizes) content.link content.live) done ++ (file_takers_by (size_in content.link sizes) content.link content.live f ++ after_files content sizes h.rest)
-takers_split content sizes done f h =
-    let own : NumberedFile → List Taker = file_takers_by (size_in content.link sizes) content.link content.live in
-    let sorted : List Taker = map (taker_by (size_in content.link sizes)) (sorted_inputs content.link content.live) in
-    sized_takers content sizes
-    ∙ ap (λ (ts : List Taker). ts ++ sorted) (ap (flat_map own) h.splits ∙ flat_map-append own done (f ∷ h.rest))
+takers_split : (filling : Filling) (done : List NumberedFile) (f : NumberedFile) (h : IsNextFile filling.content.link done f)
+    → takers filling ≡ flat_map (file_takers filling) done ++ (file_takers filling f ++ after_files filling h.rest)
+takers_split filling done f h =
+    let own : NumberedFile → List Taker = file_takers filling in
+    let sorted : List Taker = sorted_takers filling in
+    ap (λ (ts : List Taker). ts ++ sorted) (ap (flat_map own) h.splits ∙ flat_map-append own done (f ∷ h.rest))
     ∙ append_assoc (flat_map own done) (own f ++ flat_map own h.rest) sorted
     ∙ ap (λ (ts : List Taker). flat_map own done ++ ts) (append_assoc (own f) (flat_map own h.rest) sorted)
 
@@ -293,123 +294,153 @@ around : {X : Type 0} (before front rest after : List X) (x : X) → before ++ (
 around before front rest after x =
     ap (λ (zs : List _). before ++ zs) (append_assoc front (x ∷ rest) after) ∙ sym (append_assoc before front (x ∷ (rest ++ after)))
 
--- space for the sections of a file, and for its commons behind them
-pub section_space : (content : Content) (sizes : List ℕ) (starts ends : List ℕ) (done : List NumberedFile) (f : NumberedFile) (next : List ℕ) (h : IsNextFile content.link done f) → EndsFit (sized_filling content sizes) starts
-    → AreEnds content.link content.merged_lens starts ends → ArePassed content.link ends (flat_map (file_takers_by (size_in content.link sizes) content.link content.live) done) next → HaveSpace content.link next (map (taker_by (size_in content.link sizes)) (live_of content.link content.live f))
-section_space content sizes starts ends done f next h fit is passed = λ p below.
-    let before : List Taker = flat_map (file_takers_by (size_in content.link sizes) content.link content.live) done in
-    let count = ends_count content starts ends is in
+-- space for the sections of a file, for its commons behind them, and for its block of thunks behind these
+pub section_space : (filling : Filling) (starts ends : List ℕ) (done : List NumberedFile) (f : NumberedFile) (next : List ℕ) (h : IsNextFile filling.content.link done f) → EndsFit filling starts
+    → AreEnds filling.content.link filling.content.merged_lens starts ends → ArePassed filling.content.link ends (flat_map (file_takers filling) done) next → HaveSpace filling.content.link next (map (taker_by (size_of filling)) (live_of filling.content.link filling.content.live f))
+section_space filling starts ends done f next h fit is passed = λ p below.
+    let before : List Taker = flat_map (file_takers filling) done in
+    let count = ends_count filling.content starts ends is in
     let inside : p < length starts = omega (arith, below, passed.count, count) in
     omega (
       arith,
       passed.moved p (omega (arith, below, passed.count)),
-      end_at content starts ends p is inside,
-      all_fit (sized_filling content sizes) starts p fit inside,
-      ap (bytes_in content.link p) (takers_split content sizes done f h),
-      bytes_in-append content.link p before (file_takers_by (size_in content.link sizes) content.link content.live f ++ after_files content sizes h.rest),
-      bytes_in-append content.link p (file_takers_by (size_in content.link sizes) content.link content.live f) (after_files content sizes h.rest),
-      bytes_in-append content.link p (map (taker_by (size_in content.link sizes)) (live_of content.link content.live f)) (map common_taker (commons_of content.link content.live f)),
+      end_at filling.content starts ends p is inside,
+      all_fit filling starts p fit inside,
+      ap (bytes_in filling.content.link p) (takers_split filling done f h),
+      bytes_in-append filling.content.link p before (file_takers filling f ++ after_files filling h.rest),
+      bytes_in-append filling.content.link p (file_takers filling f) (after_files filling h.rest),
+      bytes_in-append filling.content.link p (map (taker_by (size_of filling)) (live_of filling.content.link filling.content.live f)) (map common_taker (commons_of filling.content.link filling.content.live f) ++ thunk_takers filling f),
     )
 
-pub common_space : (content : Content) (sizes : List ℕ) (starts ends : List ℕ) (done : List NumberedFile) (f : NumberedFile) (next later : List ℕ) (h : IsNextFile content.link done f) → EndsFit (sized_filling content sizes) starts
-    → AreEnds content.link content.merged_lens starts ends → ArePassed content.link ends (flat_map (file_takers_by (size_in content.link sizes) content.link content.live) done) next → ArePassed content.link next (map (taker_by (size_in content.link sizes)) (live_of content.link content.live f)) later
-    → HaveSpace content.link later (map common_taker (commons_of content.link content.live f))
-common_space content sizes starts ends done f next later h fit is passed sections = λ p below.
-    let before : List Taker = flat_map (file_takers_by (size_in content.link sizes) content.link content.live) done in
-    let count = ends_count content starts ends is in
+pub common_space : (filling : Filling) (starts ends : List ℕ) (done : List NumberedFile) (f : NumberedFile) (next later : List ℕ) (h : IsNextFile filling.content.link done f) → EndsFit filling starts
+    → AreEnds filling.content.link filling.content.merged_lens starts ends → ArePassed filling.content.link ends (flat_map (file_takers filling) done) next → ArePassed filling.content.link next (map (taker_by (size_of filling)) (live_of filling.content.link filling.content.live f)) later
+    → HaveSpace filling.content.link later (map common_taker (commons_of filling.content.link filling.content.live f))
+common_space filling starts ends done f next later h fit is passed sections = λ p below.
+    let before : List Taker = flat_map (file_takers filling) done in
+    let count = ends_count filling.content starts ends is in
     let inside : p < length starts = omega (arith, below, sections.count, passed.count, count) in
     omega (
       arith,
       sections.moved p (omega (arith, below, sections.count)),
       passed.moved p (omega (arith, below, sections.count, passed.count)),
-      end_at content starts ends p is inside,
-      all_fit (sized_filling content sizes) starts p fit inside,
-      ap (bytes_in content.link p) (takers_split content sizes done f h),
-      bytes_in-append content.link p before (file_takers_by (size_in content.link sizes) content.link content.live f ++ after_files content sizes h.rest),
-      bytes_in-append content.link p (file_takers_by (size_in content.link sizes) content.link content.live f) (after_files content sizes h.rest),
-      bytes_in-append content.link p (map (taker_by (size_in content.link sizes)) (live_of content.link content.live f)) (map common_taker (commons_of content.link content.live f)),
+      end_at filling.content starts ends p is inside,
+      all_fit filling starts p fit inside,
+      ap (bytes_in filling.content.link p) (takers_split filling done f h),
+      bytes_in-append filling.content.link p before (file_takers filling f ++ after_files filling h.rest),
+      bytes_in-append filling.content.link p (file_takers filling f) (after_files filling h.rest),
+      bytes_in-append filling.content.link p (map (taker_by (size_of filling)) (live_of filling.content.link filling.content.live f)) (map common_taker (commons_of filling.content.link filling.content.live f) ++ thunk_takers filling f),
+      bytes_in-append filling.content.link p (map common_taker (commons_of filling.content.link filling.content.live f)) (thunk_takers filling f),
+    )
+
+pub block_space : (filling : Filling) (starts ends : List ℕ) (done : List NumberedFile) (f : NumberedFile) (next later last : List ℕ) (h : IsNextFile filling.content.link done f) → EndsFit filling starts
+    → AreEnds filling.content.link filling.content.merged_lens starts ends → ArePassed filling.content.link ends (flat_map (file_takers filling) done) next
+    → ArePassed filling.content.link next (map (taker_by (size_of filling)) (live_of filling.content.link filling.content.live f)) later
+    → ArePassed filling.content.link later (map common_taker (commons_of filling.content.link filling.content.live f)) last
+    → HaveSpace filling.content.link last (thunk_takers filling f)
+block_space filling starts ends done f next later last h fit is passed sections commons = λ p below.
+    let link : LinkInput = filling.content.link in
+    let before : List Taker = flat_map (file_takers filling) done in
+    let own : List Taker = map (taker_by (size_of filling)) (live_of link filling.content.live f) in
+    let cs : List Taker = map common_taker (commons_of link filling.content.live f) in
+    let count = ends_count filling.content starts ends is in
+    let inside : p < length starts = omega (arith, below, commons.count, sections.count, passed.count, count) in
+    omega (
+      arith,
+      commons.moved p (omega (arith, below, commons.count)),
+      sections.moved p (omega (arith, below, commons.count, sections.count)),
+      passed.moved p (omega (arith, below, commons.count, sections.count, passed.count)),
+      end_at filling.content starts ends p is inside,
+      all_fit filling starts p fit inside,
+      ap (bytes_in link p) (takers_split filling done f h),
+      bytes_in-append link p before (file_takers filling f ++ after_files filling h.rest),
+      bytes_in-append link p (file_takers filling f) (after_files filling h.rest),
+      bytes_in-append link p own (cs ++ thunk_takers filling f),
+      bytes_in-append link p cs (thunk_takers filling f),
     )
 
 -- the sections of the next file have the addresses of the link's
-section_is : (content : Content) (sizes : List ℕ) (starts ends : List ℕ) (done : List NumberedFile) (f : NumberedFile) (next : List ℕ) (h : IsNextFile content.link done f)
-    → IsWellFormed content.link → AreLive content.link content.live → length starts ≡ length (all_parts content.link.plan.sections) → AreEnds content.link content.merged_lens starts ends
-    → ArePassed content.link ends (flat_map (file_takers_by (size_in content.link sizes) content.link content.live) done) next → (k : ℕ) (x : Input) → slice_get (sections_of_file f) k ≡ Some x
-    → section_place (size_in content.link sizes) content.link content.live next f (k, x) ≡ early_address (sized_filling content sizes) starts (length (inputs_of done) + k, x)
-section_is content sizes starts ends done f next h good are parts is passed k x there =
-    let before : List Taker = flat_map (file_takers_by (size_in content.link sizes) content.link content.live) done in
-    let inputs : List Input = all_inputs content.link.groups in
+section_is : (filling : Filling) (starts ends : List ℕ) (done : List NumberedFile) (f : NumberedFile) (next : List ℕ) (h : IsNextFile filling.content.link done f)
+    → IsWellFormed filling.content.link → AreLive filling.content.link filling.content.live → length starts ≡ length (all_parts filling.content.link.plan.sections) → AreEnds filling.content.link filling.content.merged_lens starts ends
+    → ArePassed filling.content.link ends (flat_map (file_takers filling) done) next → (k : ℕ) (x : Input) → slice_get (sections_of_file f) k ≡ Some x
+    → section_place (size_of filling) filling.content.link filling.content.live next f (k, x) ≡ early_address filling starts (length (inputs_of done) + k, x)
+section_is filling starts ends done f next h good are parts is passed k x there =
+    let before : List Taker = flat_map (file_takers filling) done in
+    let inputs : List Input = all_inputs filling.content.link.groups in
     let split : inputs ≡ inputs_of done ++ (sections_of_file f ++ inputs_of h.rest) = ap inputs_of h.splits ∙ flat_map-append sections_of_file done (f ∷ h.rest) in
     let here = append_left (sections_of_file f) (inputs_of h.rest) k x there in
     let place = append_right (inputs_of done) (sections_of_file f ++ inputs_of h.rest) k (length (inputs_of done) + k) x refl here in
     let at : slice_get inputs (length (inputs_of done) + k) ≡ Some x = ap (λ (xs : List Input). slice_get xs (length (inputs_of done) + k)) split ∙ place in
-    let number : input_number content.link.groups x.file x.index ≡ length (inputs_of done) + k = number_of content.link (length (inputs_of done) + k) x at in
-    let mark : (is_marked content.live.marks (length (inputs_of done) + k) && not x.section.sorted) ≡ stands_in_file content.link content.live x
-    = ap (λ (n : ℕ). is_marked content.live.marks n && not x.section.sorted) (sym number) in
-    let front : List Taker = map (taker_by (size_in content.link sizes)) (live_below content.link content.live f k) in
-    (elim (stands_in_file content.link content.live x) as (λ b. stands_in_file content.link content.live x ≡ b → (if b then next_behind content.link next front x.section.part else 0) ≡ (if b then live_address (sized_filling content sizes) starts x else 0)) [
+    let number : input_number filling.content.link.groups x.file x.index ≡ length (inputs_of done) + k = number_of filling.content.link (length (inputs_of done) + k) x at in
+    let mark : (is_marked filling.content.live.marks (length (inputs_of done) + k) && not x.section.sorted) ≡ stands_in_file filling.content.link filling.content.live x
+    = ap (λ (n : ℕ). is_marked filling.content.live.marks n && not x.section.sorted) (sym number) in
+    let front : List Taker = map (taker_by (size_of filling)) (live_below filling.content.link filling.content.live f k) in
+    (elim (stands_in_file filling.content.link filling.content.live x) as (λ b. stands_in_file filling.content.link filling.content.live x ≡ b → (if b then next_behind filling.content.link next front x.section.part else 0) ≡ (if b then live_address filling starts x else 0)) [
       | true ↦ λ set.
-          let in_file = live_split content.link content.live f k x there set in
-          let commons : List Taker = map common_taker (commons_of content.link content.live f) in
-          let later : List Taker = after_files content sizes h.rest in
-          let mapped : map (taker_by (size_in content.link sizes)) (live_of content.link content.live f) ≡ front ++ taker_by (size_in content.link sizes) x ∷ map (taker_by (size_in content.link sizes)) in_file.0
-          = ap (map (taker_by (size_in content.link sizes))) in_file.1 ∙ map-append (taker_by (size_in content.link sizes)) (live_below content.link content.live f k) (x ∷ in_file.0) in
-          let whole : takers (sized_filling content sizes) ≡ (before ++ front) ++ taker_by (size_in content.link sizes) x ∷ (map (taker_by (size_in content.link sizes)) in_file.0 ++ (commons ++ later))
-          = takers_split content sizes done f h
-          ∙ ap (λ (ts : List Taker). before ++ ts) (append_assoc (map (taker_by (size_in content.link sizes)) (live_of content.link content.live f)) commons later)
+          let in_file = live_split filling.content.link filling.content.live f k x there set in
+          let commons : List Taker = map common_taker (commons_of filling.content.link filling.content.live f) ++ thunk_takers filling f in
+          let later : List Taker = after_files filling h.rest in
+          let mapped : map (taker_by (size_of filling)) (live_of filling.content.link filling.content.live f) ≡ front ++ taker_by (size_of filling) x ∷ map (taker_by (size_of filling)) in_file.0
+          = ap (map (taker_by (size_of filling))) in_file.1 ∙ map-append (taker_by (size_of filling)) (live_below filling.content.link filling.content.live f k) (x ∷ in_file.0) in
+          let whole : takers filling ≡ (before ++ front) ++ taker_by (size_of filling) x ∷ (map (taker_by (size_of filling)) in_file.0 ++ (commons ++ later))
+          = takers_split filling done f h
+          ∙ ap (λ (ts : List Taker). before ++ ts) (append_assoc (map (taker_by (size_of filling)) (live_of filling.content.link filling.content.live f)) commons later)
           ∙ ap (λ (ts : List Taker). before ++ (ts ++ (commons ++ later))) mapped
-          ∙ around before front (map (taker_by (size_in content.link sizes)) in_file.0) (commons ++ later) (taker_by (size_in content.link sizes) x) in
-          let goes : x.section.part < length starts = omega (arith, parts, live_goes_at content.link content.live (length (inputs_of done) + k) x good are at (and_left _ _ (mark ∙ set))) in
+          ∙ around before front (map (taker_by (size_of filling)) in_file.0) (commons ++ later) (taker_by (size_of filling) x) in
+          let goes : x.section.part < length starts = omega (arith, parts, live_goes_at filling.content.link filling.content.live (length (inputs_of done) + k) x good are at (and_left _ _ (mark ∙ set))) in
           omega (
             arith,
-            passed.moved x.section.part (omega (arith, goes, ends_count content starts ends is)),
-            end_at content starts ends x.section.part is goes,
-            bytes_in-append content.link x.section.part before front,
-            section_behind (sized_filling content sizes) starts (before ++ front) x (map (taker_by (size_in content.link sizes)) in_file.0 ++ (commons ++ later)) whole,
+            passed.moved x.section.part (omega (arith, goes, ends_count filling.content starts ends is)),
+            end_at filling.content starts ends x.section.part is goes,
+            bytes_in-append filling.content.link x.section.part before front,
+            section_behind filling starts (before ++ front) x (map (taker_by (size_of filling)) in_file.0 ++ (commons ++ later)) whole,
           )
       | false ↦ λ set. refl
     ]) refl
-    ∙ ap (λ b. if b then live_address (sized_filling content sizes) starts x else 0) (sym mark)
+    ∙ ap (λ b. if b then live_address filling starts x else 0) (sym mark)
 
-sections_are_placed : (content : Content) (sizes : List ℕ) (starts ends : List ℕ) (done : List NumberedFile) (f : NumberedFile) (next : List ℕ) (h : IsNextFile content.link done f)
-    → IsWellFormed content.link → AreLive content.link content.live → length starts ≡ length (all_parts content.link.plan.sections) → AreEnds content.link content.merged_lens starts ends
-    → ArePassed content.link ends (flat_map (file_takers_by (size_in content.link sizes) content.link content.live) done) next
-    → section_places (size_in content.link sizes) content.link content.live next f ≡ map (early_address (sized_filling content sizes) starts) (enumerate_from (length (inputs_of done)) (sections_of_file f))
-sections_are_placed content sizes starts ends done f next h good are parts is passed =
-    made_alike (section_place (size_in content.link sizes) content.link content.live next f) (early_address (sized_filling content sizes) starts) 0 (length (inputs_of done)) (sections_of_file f) (λ k x there.
+sections_are_placed : (filling : Filling) (starts ends : List ℕ) (done : List NumberedFile) (f : NumberedFile) (next : List ℕ) (h : IsNextFile filling.content.link done f)
+    → IsWellFormed filling.content.link → AreLive filling.content.link filling.content.live → length starts ≡ length (all_parts filling.content.link.plan.sections) → AreEnds filling.content.link filling.content.merged_lens starts ends
+    → ArePassed filling.content.link ends (flat_map (file_takers filling) done) next
+    → section_places (size_of filling) filling.content.link filling.content.live next f ≡ map (early_address filling starts) (enumerate_from (length (inputs_of done)) (sections_of_file f))
+sections_are_placed filling starts ends done f next h good are parts is passed =
+    made_alike (section_place (size_of filling) filling.content.link filling.content.live next f) (early_address filling starts) 0 (length (inputs_of done)) (sections_of_file f) (λ k x there.
     let number : 0 + k ≡ k = omega arith in
-    ap (λ (n : ℕ). section_place (size_in content.link sizes) content.link content.live next f (n, x)) number ∙ section_is content sizes starts ends done f next h good are parts is passed k x there)
+    ap (λ (n : ℕ). section_place (size_of filling) filling.content.link filling.content.live next f (n, x)) number ∙ section_is filling starts ends done f next h good are parts is passed k x there)
 
 -- so have its commons
-common_is : (content : Content) (sizes : List ℕ) (starts ends : List ℕ) (done : List NumberedFile) (f : NumberedFile) (next later : List ℕ) (h : IsNextFile content.link done f)
-    → IsWellFormed content.link → file_in content.link.groups f.id ≡ Some f.file → length starts ≡ length (all_parts content.link.plan.sections) → AreEnds content.link content.merged_lens starts ends
-    → ArePassed content.link ends (flat_map (file_takers_by (size_in content.link sizes) content.link content.live) done) next → ArePassed content.link next (map (taker_by (size_in content.link sizes)) (live_of content.link content.live f)) later
-    → (k : ℕ) (c : Common) → slice_get (commons_of content.link content.live f) k ≡ Some c
-    → common_place content.link later (commons_of content.link content.live f) (k, c) ≡ told_common (sized_filling content sizes) starts c
-common_is content sizes starts ends done f next later h good in_link parts is passed sections k c there =
-    let before : List Taker = flat_map (file_takers_by (size_in content.link sizes) content.link content.live) done in
-    let cs : List Common = commons_of content.link content.live f in
+common_is : (filling : Filling) (starts ends : List ℕ) (done : List NumberedFile) (f : NumberedFile) (next later : List ℕ) (h : IsNextFile filling.content.link done f)
+    → IsWellFormed filling.content.link → file_in filling.content.link.groups f.id ≡ Some f.file → length starts ≡ length (all_parts filling.content.link.plan.sections) → AreEnds filling.content.link filling.content.merged_lens starts ends
+    → ArePassed filling.content.link ends (flat_map (file_takers filling) done) next → ArePassed filling.content.link next (map (taker_by (size_of filling)) (live_of filling.content.link filling.content.live f)) later
+    → (k : ℕ) (c : Common) → slice_get (commons_of filling.content.link filling.content.live f) k ≡ Some c
+    → common_place filling.content.link later (commons_of filling.content.link filling.content.live f) (k, c) ≡ told_common filling starts c
+common_is filling starts ends done f next later h good in_link parts is passed sections k c there =
+    let before : List Taker = flat_map (file_takers filling) done in
+    let cs : List Common = commons_of filling.content.link filling.content.live f in
     let split = split_at cs k c there in
-    let own : List Taker = map (taker_by (size_in content.link sizes)) (live_of content.link content.live f) in
+    let own : List Taker = map (taker_by (size_of filling)) (live_of filling.content.link filling.content.live f) in
     let front : List Taker = map common_taker (take k cs) in
-    let rest : List Taker = map common_taker split.0 in
-    let behind : List Taker = after_files content sizes h.rest in
-    let mapped : map common_taker cs ≡ front ++ common_taker c ∷ rest = ap (map common_taker) split.1 ∙ map-append common_taker (take k cs) (c ∷ split.0) in
-    let in_file : file_takers_by (size_in content.link sizes) content.link content.live f ≡ (own ++ front) ++ common_taker c ∷ rest
+    let blocks : List Taker = thunk_takers filling f in
+    let rest : List Taker = map common_taker split.0 ++ blocks in
+    let behind : List Taker = after_files filling h.rest in
+    let mapped : map common_taker cs ++ blocks ≡ front ++ common_taker c ∷ rest
+    = ap (λ (ts : List Taker). ts ++ blocks) (ap (map common_taker) split.1 ∙ map-append common_taker (take k cs) (c ∷ split.0))
+    ∙ append_assoc front (common_taker c ∷ map common_taker split.0) blocks in
+    let in_file : file_takers filling f ≡ (own ++ front) ++ common_taker c ∷ rest
     = ap (λ (ts : List Taker). own ++ ts) mapped ∙ sym (append_assoc own front (common_taker c ∷ rest)) in
-    let whole : takers (sized_filling content sizes) ≡ (before ++ (own ++ front)) ++ common_taker c ∷ (rest ++ behind)
-    = takers_split content sizes done f h
+    let whole : takers filling ≡ (before ++ (own ++ front)) ++ common_taker c ∷ (rest ++ behind)
+    = takers_split filling done f h
     ∙ ap (λ (ts : List Taker). before ++ (ts ++ behind)) in_file
     ∙ around before (own ++ front) rest behind (common_taker c) in
-    let goes : c.part < length starts = omega (arith, parts, common_goes content.link content.live f (take k cs) c split.0 good in_link split.1) in
-    let address : next_behind content.link later front c.part ≡ common_address (sized_filling content sizes) starts c.part c.symbol
+    let goes : c.part < length starts = omega (arith, parts, common_goes filling.content.link filling.content.live f (take k cs) c split.0 good in_link split.1) in
+    let address : next_behind filling.content.link later front c.part ≡ common_address filling starts c.part c.symbol
     = omega (
       arith,
-      sections.moved c.part (omega (arith, goes, ends_count content starts ends is, passed.count)),
-      passed.moved c.part (omega (arith, goes, ends_count content starts ends is)),
-      end_at content starts ends c.part is goes,
-      bytes_in-append content.link c.part before (own ++ front),
-      bytes_in-append content.link c.part own front,
-      common_behind (sized_filling content sizes) starts (before ++ (own ++ front)) c (rest ++ behind) whole,
+      sections.moved c.part (omega (arith, goes, ends_count filling.content starts ends is, passed.count)),
+      passed.moved c.part (omega (arith, goes, ends_count filling.content starts ends is)),
+      end_at filling.content starts ends c.part is goes,
+      bytes_in-append filling.content.link c.part before (own ++ front),
+      bytes_in-append filling.content.link c.part own front,
+      common_behind filling starts (before ++ (own ++ front)) c (rest ++ behind) whole,
     ) in
     let tell : ℕ → CommonAddress = λ a. record { symbol = c.symbol; address = a } in
     ap tell address
@@ -418,16 +449,66 @@ without_number : {X Y : Type 0} (g : X → Y) (n : ℕ) (xs : List X) → map (�
 without_number g n [] = refl
 without_number g n (x ∷ xs) = ap (λ (ys : List _). g x ∷ ys) (without_number g (n + 1) xs)
 
-commons_are_placed : (content : Content) (sizes : List ℕ) (starts ends : List ℕ) (done : List NumberedFile) (f : NumberedFile) (next later : List ℕ) (h : IsNextFile content.link done f)
-    → IsWellFormed content.link → file_in content.link.groups f.id ≡ Some f.file → length starts ≡ length (all_parts content.link.plan.sections) → AreEnds content.link content.merged_lens starts ends
-    → ArePassed content.link ends (flat_map (file_takers_by (size_in content.link sizes) content.link content.live) done) next → ArePassed content.link next (map (taker_by (size_in content.link sizes)) (live_of content.link content.live f)) later
-    → common_places content.link later (commons_of content.link content.live f) ≡ map (told_common (sized_filling content sizes) starts) (commons_of content.link content.live f)
-commons_are_placed content sizes starts ends done f next later h good in_link parts is passed sections =
-    made_alike (common_place content.link later (commons_of content.link content.live f)) (λ (q : ℕ × Common). told_common (sized_filling content sizes) starts q.1) 0 0 (commons_of content.link content.live f) (λ k c there.
+commons_are_placed : (filling : Filling) (starts ends : List ℕ) (done : List NumberedFile) (f : NumberedFile) (next later : List ℕ) (h : IsNextFile filling.content.link done f)
+    → IsWellFormed filling.content.link → file_in filling.content.link.groups f.id ≡ Some f.file → length starts ≡ length (all_parts filling.content.link.plan.sections) → AreEnds filling.content.link filling.content.merged_lens starts ends
+    → ArePassed filling.content.link ends (flat_map (file_takers filling) done) next → ArePassed filling.content.link next (map (taker_by (size_of filling)) (live_of filling.content.link filling.content.live f)) later
+    → common_places filling.content.link later (commons_of filling.content.link filling.content.live f) ≡ map (told_common filling starts) (commons_of filling.content.link filling.content.live f)
+commons_are_placed filling starts ends done f next later h good in_link parts is passed sections =
+    made_alike (common_place filling.content.link later (commons_of filling.content.link filling.content.live f)) (λ (q : ℕ × Common). told_common filling starts q.1) 0 0 (commons_of filling.content.link filling.content.live f) (λ k c there.
     let number : 0 + k ≡ k = omega arith in
-    ap (λ (n : ℕ). common_place content.link later (commons_of content.link content.live f) (n, c)) number
-    ∙ common_is content sizes starts ends done f next later h good in_link parts is passed sections k c there)
-    ∙ without_number (told_common (sized_filling content sizes) starts) 0 (commons_of content.link content.live f)
+    ap (λ (n : ℕ). common_place filling.content.link later (commons_of filling.content.link filling.content.live f) (n, c)) number
+    ∙ common_is filling starts ends done f next later h good in_link parts is passed sections k c there)
+    ∙ without_number (told_common filling starts) 0 (commons_of filling.content.link filling.content.live f)
+
+-- and so has its block of thunks
+block_is : (filling : Filling) (starts ends : List ℕ) (done : List NumberedFile) (f : NumberedFile) (next later last : List ℕ) (p size : ℕ) (h : IsNextFile filling.content.link done f)
+    → IsWellFormed filling.content.link → length starts ≡ length (all_parts filling.content.link.plan.sections) → AreEnds filling.content.link filling.content.merged_lens starts ends
+    → ArePassed filling.content.link ends (flat_map (file_takers filling) done) next
+    → ArePassed filling.content.link next (map (taker_by (size_of filling)) (live_of filling.content.link filling.content.live f)) later
+    → ArePassed filling.content.link later (map common_taker (commons_of filling.content.link filling.content.live f)) last
+    → filling.content.link.plan.named.primary ≡ Some p → thunk_bytes filling f.id ≡ Some size → slice_index last p ≡ block_address filling starts p f.id
+block_is filling starts ends done f next later last p size h good parts is passed sections commons primary bytes =
+    let link : LinkInput = filling.content.link in
+    let before : List Taker = flat_map (file_takers filling) done in
+    let own : List Taker = map (taker_by (size_of filling)) (live_of link filling.content.live f) in
+    let cs : List Taker = map common_taker (commons_of link filling.content.live f) in
+    let t : Taker = thunk_taker f.id p size in
+    let behind : List Taker = after_files filling h.rest in
+    let in_file : file_takers filling f ≡ (own ++ cs) ++ t ∷ []
+    = ap (λ (ts : List Taker). own ++ (cs ++ ts)) (block_there filling f p size primary bytes) ∙ sym (append_assoc own cs (t ∷ [])) in
+    let whole : takers filling ≡ (before ++ (own ++ cs)) ++ t ∷ behind
+    = takers_split filling done f h
+    ∙ ap (λ (ts : List Taker). before ++ (ts ++ behind)) in_file
+    ∙ around before (own ++ cs) [] behind t in
+    let goes : p < length starts = omega (arith, parts, primary_goes link p good primary) in
+    let count = ends_count filling.content starts ends is in
+    omega (
+      arith,
+      commons.moved p (omega (arith, goes, count, passed.count, sections.count)),
+      sections.moved p (omega (arith, goes, count, passed.count)),
+      passed.moved p (omega (arith, goes, count)),
+      end_at filling.content starts ends p is goes,
+      bytes_in-append link p before (own ++ cs),
+      bytes_in-append link p own cs,
+      block_behind filling starts (before ++ (own ++ cs)) f.id p size behind whole,
+    )
+
+blocks_are_placed : (filling : Filling) (starts ends : List ℕ) (done : List NumberedFile) (f : NumberedFile) (next later last : List ℕ) (h : IsNextFile filling.content.link done f)
+    → IsWellFormed filling.content.link → length starts ≡ length (all_parts filling.content.link.plan.sections) → AreEnds filling.content.link filling.content.merged_lens starts ends
+    → ArePassed filling.content.link ends (flat_map (file_takers filling) done) next
+    → ArePassed filling.content.link next (map (taker_by (size_of filling)) (live_of filling.content.link filling.content.live f)) later
+    → ArePassed filling.content.link later (map common_taker (commons_of filling.content.link filling.content.live f)) last
+    → block_places filling.content.link last (thunk_bytes filling f.id) ≡ map (λ q. primary_address filling starts q.0) (blocks_of filling.thunks f)
+blocks_are_placed filling starts ends done f next later last h good parts is passed sections commons =
+    by (thunk_bytes filling f.id) refl filling.content.link.plan.named.primary refl
+  where
+    by : (size : Option ℕ) → thunk_bytes filling f.id ≡ size → (primary : Option ℕ) → filling.content.link.plan.named.primary ≡ primary
+        → option_to_list (option_map (λ n. option_map_or (slice_index last) primary 0) size)
+        ≡ map (λ (q : FileId × ℕ). option_map_or (λ p. block_address filling starts p q.0) primary 0) (own_block f.id size)
+    by None of primary named = refl
+    by (Some n) of None named = refl
+    by (Some n) of (Some p) named =
+        ap (λ (a : ℕ). a ∷ []) (block_is filling starts ends done f next later last p n h good parts is passed sections commons named of)
 
 -- numbers go on behind those of a first list
 numbered_append : {X : Type 0} (n : ℕ) (xs ys : List X) → enumerate_from n (xs ++ ys) ≡ enumerate_from n xs ++ enumerate_from (n + length xs) ys
@@ -437,47 +518,57 @@ numbered_append n (x ∷ xs) ys =
     ap (λ zs. (n, x) ∷ zs) (numbered_append (n + 1) xs ys ∙ ap (λ m. enumerate_from (n + 1) xs ++ enumerate_from m ys) e)
 
 -- with the next file
-pub file_done : (given : List ℕ) (link : LinkInput) (live : Live) (merged_lens starts ends : List ℕ) (done : List NumberedFile) (f : NumberedFile) (next later last sections new_sections : List ℕ)
-    (commons new_commons : List CommonAddress) (h : IsNextFile link done f)
-    → IsWellFormed link → AreLive link live → file_in link.groups f.id ≡ Some f.file → length starts ≡ length (all_parts link.plan.sections) → AreEnds link merged_lens starts ends
-    → AreDone given link live merged_lens starts ends done next sections commons
-    → ArePassed link next (map (taker_by (size_in link given)) (live_of link live f)) later → new_sections ≡ sections ++ section_places (size_in link given) link live next f
-    → ArePassed link later (map common_taker (commons_of link live f)) last → new_commons ≡ commons ++ common_places link later (commons_of link live f)
-    → AreDone given link live merged_lens starts ends (done ++ f ∷ []) last new_sections new_commons
-file_done given link live merged_lens starts ends done f next later last sections new_sections commons new_commons h good are in_link parts is so_far by_sections told_sections by_commons told_commons =
-    let before : List Taker = flat_map (file_takers_by (size_in link given) link live) done in
+pub file_done : (filling : Filling) (starts ends : List ℕ) (done : List NumberedFile) (f : NumberedFile) (next later last end sections new_sections : List ℕ)
+    (commons new_commons : List CommonAddress) (blocks new_blocks : List ℕ) (h : IsNextFile filling.content.link done f)
+    → IsWellFormed filling.content.link → AreLive filling.content.link filling.content.live → file_in filling.content.link.groups f.id ≡ Some f.file
+    → length starts ≡ length (all_parts filling.content.link.plan.sections) → AreEnds filling.content.link filling.content.merged_lens starts ends
+    → AreDone filling starts ends done next sections commons blocks
+    → ArePassed filling.content.link next (map (taker_by (size_of filling)) (live_of filling.content.link filling.content.live f)) later
+    → new_sections ≡ sections ++ section_places (size_of filling) filling.content.link filling.content.live next f
+    → ArePassed filling.content.link later (map common_taker (commons_of filling.content.link filling.content.live f)) last
+    → new_commons ≡ commons ++ common_places filling.content.link later (commons_of filling.content.link filling.content.live f)
+    → ArePassed filling.content.link last (thunk_takers filling f) end
+    → new_blocks ≡ blocks ++ block_places filling.content.link last (thunk_bytes filling f.id)
+    → AreDone filling starts ends (done ++ f ∷ []) end new_sections new_commons new_blocks
+file_done filling starts ends done f next later last end sections new_sections commons new_commons blocks new_blocks h good are in_link parts is so_far by_sections told_sections by_commons told_commons by_block told_block =
+    let link : LinkInput = filling.content.link in
+    let live : Live = filling.content.live in
+    let takes : NumberedFile → List Taker = file_takers filling in
     let n : ℕ = length (inputs_of done) in
     let zero_more : 0 + n ≡ n = omega arith in
-    let inputs : inputs_of (done ++ f ∷ []) ≡ inputs_of done ++ sections_of_file f
-    = flat_map-append sections_of_file done (f ∷ []) ∙ ap (λ (xs : List Input). inputs_of done ++ xs) (append-nil (sections_of_file f)) in
-    let takes : flat_map (file_takers_by (size_in link given) link live) (done ++ f ∷ []) ≡ before ++ file_takers_by (size_in link given) link live f
-    = flat_map-append (file_takers_by (size_in link given) link live) done (f ∷ []) ∙ ap (λ (ts : List Taker). before ++ ts) (append-nil (file_takers_by (size_in link given) link live f)) in
-    let cs : flat_map (commons_of link live) (done ++ f ∷ []) ≡ flat_map (commons_of link live) done ++ commons_of link live f
-    = flat_map-append (commons_of link live) done (f ∷ []) ∙ ap (λ (c : List Common). flat_map (commons_of link live) done ++ c) (append-nil (commons_of link live f)) in
+    let g : ℕ × Input → ℕ = early_address filling starts in
+    let tell : Common → CommonAddress = told_common filling starts in
+    let place : FileId × ℕ → ℕ = λ q. primary_address filling starts q.0 in
+    let own : List Taker = map (taker_by (size_of filling)) (live_of link live f) in
+    let cs : List Taker = map common_taker (commons_of link live f) in
+    let inputs : inputs_of (done ++ f ∷ []) ≡ inputs_of done ++ sections_of_file f = one_file sections_of_file in
     record {
-      passed = subst (λ (ts : List Taker). ArePassed link ends ts last) (sym takes)
-          (passed_both link ends next last before (file_takers_by (size_in link given) link live f) so_far.passed
-          (passed_both link next later last (map (taker_by (size_in link given)) (live_of link live f)) (map common_taker (commons_of link live f)) by_sections by_commons));
-      addresses = λ sizes.
-          let content : Content = content_of link sizes live merged_lens in
-          let filling : Filling = sized_filling content given in
-          let g : ℕ × Input → ℕ = early_address filling starts in
+      passed = subst (λ (ts : List Taker). ArePassed link ends ts end) (sym (one_file takes))
+          (passed_both link ends next end (flat_map takes done) (takes f) so_far.passed
+          (passed_both link next later end own (cs ++ thunk_takers filling f) by_sections
+          (passed_both link later last end cs (thunk_takers filling f) by_commons by_block)));
+      addresses =
           told_sections
-          ∙ ap (λ (ns : List ℕ). ns ++ section_places (size_in link given) link live next f) (so_far.addresses sizes)
-          ∙ ap (λ (ns : List ℕ). map g (enumerate_from 0 (inputs_of done)) ++ ns) (sections_are_placed content given starts ends done f next h good are parts is so_far.passed)
+          ∙ ap (λ (ns : List ℕ). ns ++ section_places (size_of filling) link live next f) so_far.addresses
+          ∙ ap (λ (ns : List ℕ). map g (enumerate_from 0 (inputs_of done)) ++ ns) (sections_are_placed filling starts ends done f next h good are parts is so_far.passed)
           ∙ sym (ap (λ (xs : List Input). map g (enumerate_from 0 xs)) inputs
           ∙ ap (map g) (numbered_append 0 (inputs_of done) (sections_of_file f))
           ∙ map-append g (enumerate_from 0 (inputs_of done)) (enumerate_from (0 + n) (sections_of_file f))
           ∙ ap (λ (m : ℕ). map g (enumerate_from 0 (inputs_of done)) ++ map g (enumerate_from m (sections_of_file f))) zero_more);
-      told = λ sizes.
-          let content : Content = content_of link sizes live merged_lens in
-          let filling : Filling = sized_filling content given in
-          let tell : Common → CommonAddress = told_common filling starts in
+      told =
           told_commons
-          ∙ ap (λ (c : List CommonAddress). c ++ common_places link later (commons_of link live f)) (so_far.told sizes)
-          ∙ ap (λ (c : List CommonAddress). map tell (flat_map (commons_of link live) done) ++ c) (commons_are_placed content given starts ends done f next later h good in_link parts is so_far.passed by_sections)
-          ∙ sym (ap (map tell) cs ∙ map-append tell (flat_map (commons_of link live) done) (commons_of link live f));
+          ∙ ap (λ (c : List CommonAddress). c ++ common_places link later (commons_of link live f)) so_far.told
+          ∙ ap (λ (c : List CommonAddress). map tell (flat_map (commons_of link live) done) ++ c) (commons_are_placed filling starts ends done f next later h good in_link parts is so_far.passed by_sections)
+          ∙ sym (ap (map tell) (one_file (commons_of link live)) ∙ map-append tell (flat_map (commons_of link live) done) (commons_of link live f));
+      blocks =
+          told_block
+          ∙ ap (λ (ns : List ℕ). ns ++ block_places link last (thunk_bytes filling f.id)) so_far.blocks
+          ∙ ap (λ (ns : List ℕ). map place (flat_map (blocks_of filling.thunks) done) ++ ns) (blocks_are_placed filling starts ends done f next later last h good parts is so_far.passed by_sections by_commons)
+          ∙ sym (ap (map place) (one_file (blocks_of filling.thunks)) ∙ map-append place (flat_map (blocks_of filling.thunks) done) (blocks_of filling.thunks f));
     }
+  where
+    one_file : {X : Type 0} (of : NumberedFile → List X) → flat_map of (done ++ f ∷ []) ≡ flat_map of done ++ of f
+    one_file {X} of = flat_map-append of done (f ∷ []) ∙ ap (λ (xs : List X). flat_map of done ++ xs) (append-nil (of f))
 
 -- ---- in the middle of a walk over a file's sections
 
@@ -521,12 +612,14 @@ told_size link (Some s) n x there is = ap (slice_index s.now) is
 
 -- ---- ends
 
--- behind a live section there is room for what it takes
-pub live_ends : (content : Content) (starts : List ℕ) (k : ℕ) (x : Input) → slice_get (live_inputs content.link content.live) k ≡ Some x → EndsFit (plain_filling content) starts
-    → x.section.part < length starts → live_address (plain_filling content) starts x + capacity (part_at content.link.plan.sections x.section.part) x.section.size < 2 ^ 64
-live_ends content starts k x there fit within =
-    let filling : Filling = plain_filling content in
+-- behind a live section there is room for what it takes, where it has the size of the description
+pub live_ends : (filling : Filling) (starts : List ℕ) (k : ℕ) (x : Input) → slice_get (live_inputs filling.content.link filling.content.live) k ≡ Some x → filling.sizes ≡ own_sizes filling.content.link
+    → EndsFit filling starts → x.section.part < length starts
+    → live_address filling starts x + capacity (part_at filling.content.link.plan.sections x.section.part) x.section.size < 2 ^ 64
+live_ends filling starts k x there is fit within =
+    let content : Content = filling.content in
     let p : ℕ = x.section.part in
+    let size : size_of filling x ≡ x.section.size = ap (λ (sizes : List ℕ). size_in content.link sizes x) is ∙ live_own_size content k x there in
     let split = live_among filling k x there in
     omega (
       arith,
@@ -536,7 +629,7 @@ live_ends content starts k x there fit within =
       bytes_in-append content.link p split.front (section_taker filling x ∷ split.rest),
       bytes_in-append content.link p (section_taker filling x ∷ []) split.rest,
       bytes_in_here content.link p (section_taker filling x) refl,
-      ap (capacity (part_at content.link.plan.sections p)) (live_own_size content k x there),
+      ap (capacity (part_at content.link.plan.sections p)) size,
     )
 
 -- and behind a common

@@ -58,6 +58,10 @@ none_refused filling none =
       | Some p ↦ λ is. absurd (cc)
     ]) none
 
+-- all sizes fit together
+pub sizes_fit : (filling : Filling) → sum_refusal filling ≡ None → sum (part_sizes filling) < 2 ^ 64
+sizes_fit filling none = sum_fits (part_sizes filling) (none_refused filling none)
+
 -- each part fits
 part_fits : (filling : Filling) (p : ℕ) → sum_refusal filling ≡ None → p < length (all_parts filling.content.link.plan.sections) → part_size filling p < 2 ^ 64
 part_fits filling p none below =
@@ -68,7 +72,7 @@ part_fits filling p none below =
     = map_in (λ q. part_size filling q.0) (enumerate_from 0 parts) p (0 + p, at.0) (numbered_get 0 parts p at.0 at.1) ∙ ap (λ (n : ℕ). Some (part_size filling n)) number in
     omega (
       arith,
-      sum_fits (part_sizes filling) (none_refused filling none),
+      sizes_fit filling none,
       get_or-le-sum_by (λ (n : ℕ). n) (part_sizes filling) p 0 (slice_get_within (part_sizes filling) p (part_size filling p) one),
       get_or_from_slice_get (part_sizes filling) p (part_size filling p) 0 one,
     )

@@ -1,5 +1,5 @@
 -- Sorted sections stand in the order of their names, and in no other.
-use Rattle.std.proofs.Common.{◌≡◌, ℕ, zero, suc, ◌+◌, ◌<◌, ◌==◌, Bool, true, false, cond, not, nat_lt, List, [], ◌∷◌, ◌++◌, map, filter, Option, Some, length, get_or, IsPermutation, IsSortedByKey, refl, sym, ap, ◌∙◌, subst, arith}
+use Rattle.std.proofs.Common.{◌≡◌, ℕ, zero, suc, ◌+◌, ◌<◌, ◌==◌, Bool, true, false, cond, not, nat_lt, List, [], ◌∷◌, ◌++◌, map, filter, Option, Some, length, get_or, IsPermutation, IsSorted, refl, sym, ap, ◌∙◌, subst, arith}
 use Rattle.std.specs.Cmp.{IsTotalOrder}
 use Rattle.std.specs.List.{AllByRecursion, slice_get}
 use Rattle.std.specs.Ordering.{is_lt, nat_cmp, ordering_reverse, ordering_then}
@@ -12,10 +12,8 @@ use Rattle.std.proofs.lemmas.Option.{get_or_from_slice_get, slice_get_within}
 use Rattle.lk_link.specs.declared.ids.FileId.{FileId}
 use Rattle.lk_link.specs.declared.link.LinkInput.{LinkInput}
 use Rattle.lk_link.specs.Files.{file_cmp}
-use Rattle.lk_link.specs.declared.walks.InputRef.{InputRef}
 use Rattle.lk_link.specs.Inputs.{Input, input_number}
-use Rattle.lk_link.specs.Walks.{input_of}
-use Rattle.lk_link.proofs.Elements.{at_contained, contains_at, filter_at, filter_in, map_at, map_in}
+use Rattle.lk_link.proofs.Elements.{at_contained, contains_at, filter_at, filter_in, map_in}
 use Rattle.lk_gc.specs.declared.live.Live.{Live}
 use Rattle.lk_gc.specs.Reach.{live_inputs}
 use Rattle.lk_sizes.specs.Sorted.{NoOtherOrder, SortedStandByName, before, by_name, insert_by_name, name_cmp, sorted_inputs, sorted_ones}
@@ -46,7 +44,7 @@ by_name_moves (x ∷ xs) =
 
 -- ---- the order
 
-file_total : IsTotalOrder file_cmp
+pub file_total : IsTotalOrder file_cmp
 file_total = then_total (on_total (λ (f : FileId). f.group) nat_cmp_total) (on_total (λ (f : FileId). f.file) nat_cmp_total)
 
 pub name_total : IsTotalOrder name_cmp
@@ -105,7 +103,7 @@ all_passed : {X : Type 0} (P Q : X → Type 0) (xs : List X) → ((x : X) → P 
 all_passed P Q [] pass h = tt
 all_passed P Q (x ∷ xs) pass h = (pass x h.0, all_passed P Q xs pass h.1)
 
-all_at : {X : Type 0} (P : X → Type 0) (xs : List X) (k : ℕ) (x : X) → AllByRecursion P xs → slice_get xs k ≡ Some x → P x
+pub all_at : {X : Type 0} (P : X → Type 0) (xs : List X) (k : ℕ) (x : X) → AllByRecursion P xs → slice_get xs k ≡ Some x → P x
 all_at P [] k x h there = absurd (cc)
 all_at P (y ∷ xs) zero x h there = let same : y ≡ x = cc in subst P same h.0
 all_at P (y ∷ xs) (suc k) x h there = all_at P xs k x h.1 there
@@ -284,7 +282,7 @@ parted_once link live =
     let parted : List Input = unsorted_ones link live ++ sorted_inputs link live in
     once_moved (map (number_in link) all) (map (number_in link) parted) (IsPermutation-map (number_in link) all parted (unsorted_and_sorted link live)) (live_once link live)
 
--- ---- what a sort of lent sections gives
+-- ---- what a sort gives
 
 next_differs : (ns : List ℕ) (k m n : ℕ) → NoneTwice ns → slice_get ns k ≡ Some m → slice_get ns (suc k) ≡ Some n → n ≡ m → ⊥
 next_differs [] k m n once at next same = absurd (cc)
@@ -293,27 +291,18 @@ next_differs (i ∷ ns) zero m n once at next same =
     all_at (λ j. j ≡ i → ⊥) ns 0 n once.0 next (same ∙ sym first)
 next_differs (i ∷ ns) (suc k) m n once at next same = next_differs ns k m n once.1 at next same
 
-pub by_refs : (link : LinkInput) (live : Live) (old new : List InputRef) → map input_of old ≡ sorted_ones link live → IsPermutation old new
-    → IsSortedByKey input_of name_cmp new → map input_of new ≡ sorted_inputs link live
-by_refs link live old new is moved sorted =
-    let xs : List Input = map input_of new in
+pub in_name_order : (link : LinkInput) (live : Live) (xs : List Input) → IsPermutation (sorted_ones link live) xs → IsSorted name_cmp xs → xs ≡ sorted_inputs link live
+in_name_order link live xs all sorted =
     let number : Input → ℕ = number_in link in
-    let all : IsPermutation (sorted_ones link live) xs = subst (λ (ys : List Input). IsPermutation ys xs) is (IsPermutation-map input_of old new moved) in
     let once : NoneTwice (map number xs) = once_moved (map number (sorted_ones link live)) (map number xs) (IsPermutation-map number (sorted_ones link live) xs all) (sorted_once link live) in
     no_other_order link live xs (record {
       all = all;
       rising = λ k x y at next.
-          let first = map_at input_of new k x at in
-          let second = map_at input_of new (k + 1) y next in
-          let a : InputRef = first.0 in
-          let b : InputRef = second.0 in
-          let inside : k + 1 < length new = slice_get_within new (k + 1) b second.1 in
-          let behind : before (input_of b) (input_of a) ≡ false
-          = ap (λ (r : InputRef). before (input_of r) (input_of a)) (sym (get_or_from_slice_get new (k + 1) b a second.1))
-          ∙ ap (λ (r : InputRef). before (input_of (get_or new (k + 1) a)) (input_of r)) (sym (get_or_from_slice_get new k a a first.1))
-          ∙ sorted k a (omega arith) inside in
-          let named : before y x ≡ false
-          = ap (λ (z : Input). before z x) (sym second.2) ∙ ap (λ (z : Input). before (input_of b) z) (sym first.2) ∙ behind in
+          let inside : k + 1 < length xs = slice_get_within xs (k + 1) y next in
+          let behind : before y x ≡ false
+          = ap (λ (z : Input). before z x) (sym (get_or_from_slice_get xs (k + 1) y x next))
+          ∙ ap (λ (z : Input). before (get_or xs (k + 1) x) z) (sym (get_or_from_slice_get xs k x x at))
+          ∙ sorted k x (omega arith) inside in
           one_first link y x (λ same. next_differs (map number xs) k (number x) (number y) once (map_in number xs k x at)
-          (map_in number xs (suc k) y (ap (slice_get xs) (plus_one k) ∙ next)) same) named;
+          (map_in number xs (suc k) y (ap (slice_get xs) (plus_one k) ∙ next)) same) behind;
     })

@@ -26,15 +26,14 @@ use Rattle.lk_reach.proofs.Numbered.{file_of_input}
 use Rattle.lk_sizes.specs.declared.sorted.InputSortedSection.{InputSortedSection}
 use Rattle.lk_sizes.specs.Addresses.{section_address, section_addresses}
 use Rattle.lk_sizes.specs.Harvest.{sorted_section, sorted_sections}
-use Rattle.lk_sizes.specs.Owners.{Content, Filling, Taker, all_file_takers, section_taker, size_in, size_of, sized_filling, sorted_takers, takers}
+use Rattle.lk_sizes.specs.Owners.{Filling, Taker, all_file_takers, file_takers, section_taker, size_of, sorted_takers, takers}
 use Rattle.lk_sizes.specs.PartOwners.{EndsFit, live_address}
 use Rattle.lk_sizes.specs.Sorted.{sorted_inputs}
-use Rattle.lk_sizes.specs.Tables.{ArePassed, AreBehind, AreSortedThere, AreTheirs, AreWritten, HaveSortedSpace, bytes_in, file_takers_by, sorted_bytes, sorted_number}
+use Rattle.lk_sizes.specs.Tables.{ArePassed, AreBehind, AreSortedThere, AreTheirs, AreWritten, HaveSortedSpace, bytes_in, sorted_bytes, sorted_number}
 use Rattle.lk_sizes.proofs.Addressing.{section_behind}
 use Rattle.lk_sizes.proofs.Keys.{same_number}
 use Rattle.lk_sizes.proofs.LiveByFiles.{number_of}
 use Rattle.lk_sizes.proofs.LiveOnes.{live_goes, marked_at}
-use Rattle.lk_sizes.proofs.OwnSizes.{sized_of_files}
 use Rattle.lk_sizes.proofs.Placed.{AreEnds, all_fit, early_address, end_at, ends_count}
 use Rattle.lk_sizes.proofs.SortedOnes.{sorted_at, sorted_in}
 use Rattle.lk_sizes.proofs.Takers.{bytes_in-append, bytes_in_here, bytes_in_other}
@@ -237,54 +236,50 @@ sorted_split filling k x at =
     )
 
 -- each gets the address that the table has for it
-pub theirs : (content : Content) (sizes : List ℕ) (starts ends next : List ℕ) → IsWellFormed content.link → AreLive content.link content.live
-    → length starts ≡ length (all_parts content.link.plan.sections) → AreEnds content.link content.merged_lens starts ends
-    → ArePassed content.link ends (flat_map (file_takers_by (size_in content.link sizes) content.link content.live) (numbered_files content.link.groups)) next
-    → AreTheirs content.link (slice_index (section_addresses (sized_filling content sizes) starts)) next (sorted_sections content.link content.live sizes)
-theirs content sizes starts ends next good are parts is passed k s there =
-    let link : LinkInput = content.link in
-    let live : Live = content.live in
-    let filling : Filling = sized_filling content sizes in
-    let h = told_of link live sizes k s there in
+pub theirs : (filling : Filling) (starts ends next : List ℕ) → IsWellFormed filling.content.link → AreLive filling.content.link filling.content.live
+    → length starts ≡ length (all_parts filling.content.link.plan.sections) → AreEnds filling.content.link filling.content.merged_lens starts ends
+    → ArePassed filling.content.link ends (flat_map (file_takers filling) (numbered_files filling.content.link.groups)) next
+    → AreTheirs filling.content.link (slice_index (section_addresses filling starts)) next (sorted_sections filling.content.link filling.content.live filling.sizes)
+theirs filling starts ends next good are parts is passed k s there =
+    let link : LinkInput = filling.content.link in
+    let live : Live = filling.content.live in
+    let h = told_of link live filling.sizes k s there in
     let x : Input = h.input in
     let p : ℕ = x.section.part in
     let split = sorted_split filling k x h.stands in
     let goes : p < length starts = omega (arith, parts, live_goes link live h.place x good are h.lives) in
     let table : slice_index (section_addresses filling starts) (sorted_number link s) ≡ live_address filling starts x
-    = ap (slice_index (section_addresses filling starts)) (told_number link live sizes k s h)
+    = ap (slice_index (section_addresses filling starts)) (told_number link live filling.sizes k s h)
     ∙ read_address filling starts h.number x h.there
     ∙ ap (λ b. if b then live_address filling starts x else 0) h.marked in
-    let told : Input → InputSortedSection = sorted_section link sizes in
+    let told : Input → InputSortedSection = sorted_section link filling.sizes in
     let before : List Input = take k (sorted_inputs link live) in
     let address : live_address filling starts x ≡ slice_index next p + sorted_bytes p (take k (map told (sorted_inputs link live)))
     = omega (
       arith,
       section_behind filling starts (sorted_front filling k) x split.0 split.1,
       bytes_in-append link p (all_file_takers filling) (map (section_taker filling) before),
-      ap (bytes_in link p) (sized_of_files content sizes),
-      passed.moved p (omega (arith, goes, ends_count content starts ends is)),
-      end_at content starts ends p is goes,
+      passed.moved p (omega (arith, goes, ends_count filling.content starts ends is)),
+      end_at filling.content starts ends p is goes,
       same_bytes filling p before,
       ap (sorted_bytes p) (take_map told k (sorted_inputs link live)),
     ) in
     table ∙ address ∙ ap (λ (t : InputSortedSection). slice_index next t.part_id + sorted_bytes t.part_id (take k (map told (sorted_inputs link live)))) h.is
 
-pub sorted_space : (content : Content) (sizes : List ℕ) (starts ends next : List ℕ) → EndsFit (sized_filling content sizes) starts → AreEnds content.link content.merged_lens starts ends
-    → ArePassed content.link ends (flat_map (file_takers_by (size_in content.link sizes) content.link content.live) (numbered_files content.link.groups)) next
-    → HaveSortedSpace next (sorted_sections content.link content.live sizes)
-sorted_space content sizes starts ends next fit is passed = λ p below.
-    let link : LinkInput = content.link in
-    let filling : Filling = sized_filling content sizes in
-    let count = ends_count content starts ends is in
+pub sorted_space : (filling : Filling) (starts ends next : List ℕ) → EndsFit filling starts → AreEnds filling.content.link filling.content.merged_lens starts ends
+    → ArePassed filling.content.link ends (flat_map (file_takers filling) (numbered_files filling.content.link.groups)) next
+    → HaveSortedSpace next (sorted_sections filling.content.link filling.content.live filling.sizes)
+sorted_space filling starts ends next fit is passed = λ p below.
+    let link : LinkInput = filling.content.link in
+    let count = ends_count filling.content starts ends is in
     let inside : p < length starts = omega (arith, below, passed.count, count) in
     omega (
       arith,
       passed.moved p (omega (arith, below, passed.count)),
-      end_at content starts ends p is inside,
+      end_at filling.content starts ends p is inside,
       all_fit filling starts p fit inside,
       bytes_in-append link p (all_file_takers filling) (sorted_takers filling),
-      ap (bytes_in link p) (sized_of_files content sizes),
-      same_bytes filling p (sorted_inputs link content.live),
+      same_bytes filling p (sorted_inputs link filling.content.live),
     )
 
 -- ---- the whole table
@@ -342,14 +337,13 @@ is_written link live sizes n x there = by (is_marked live.marks n && x.section.s
         absurd (cc)))
 
 -- with the sorted ones written in, all addresses are there
-pub all_written : (content : Content) (sizes : List ℕ) (starts early new : List ℕ)
-    → early ≡ map (early_address (sized_filling content sizes) starts) (enumerate_from 0 (all_inputs content.link.groups))
-    → AreWritten content.link (slice_index (section_addresses (sized_filling content sizes) starts)) (sorted_sections content.link content.live sizes) early new
-    → new ≡ section_addresses (sized_filling content sizes) starts
-all_written content sizes starts early new is h =
-    let link : LinkInput = content.link in
-    let live : Live = content.live in
-    let filling : Filling = sized_filling content sizes in
+pub all_written : (filling : Filling) (starts early new : List ℕ)
+    → early ≡ map (early_address filling starts) (enumerate_from 0 (all_inputs filling.content.link.groups))
+    → AreWritten filling.content.link (slice_index (section_addresses filling starts)) (sorted_sections filling.content.link filling.content.live filling.sizes) early new
+    → new ≡ section_addresses filling starts
+all_written filling starts early new is h =
+    let link : LinkInput = filling.content.link in
+    let live : Live = filling.content.live in
     let all : List Input = all_inputs link.groups in
     let table : List ℕ = section_addresses filling starts in
     let long : length early ≡ length all = ap length is ∙ length-map (enumerate_from 0 all) (early_address filling starts) ∙ length-enumerate_from 0 all in
@@ -365,7 +359,7 @@ all_written content sizes starts early new is h =
     (map_in (early_address filling starts) (enumerate_from 0 all) n (n, x) (numbered_get 0 all n x at.1 ∙ ap (λ (m : ℕ). Some (m, x)) number)) in
     let read : slice_index table n ≡ section_address filling starts (n, x) = read_address filling starts n x at.1 in
     h.each n (omega (arith, inside, long))
-    ∙ ap (λ b. if b then slice_index table n else slice_index early n) (is_written link live sizes n x at.1)
+    ∙ ap (λ b. if b then slice_index table n else slice_index early n) (is_written link live filling.sizes n x at.1)
     ∙ ap (λ (a : ℕ). if is_marked live.marks n && x.section.sorted then a else slice_index early n) read
     ∙ ap (λ (a : ℕ). if is_marked live.marks n && x.section.sorted then section_address filling starts (n, x) else a) before
     ∙ joined (is_marked live.marks n) x.section.sorted (live_address filling starts x)
@@ -377,8 +371,8 @@ all_written content sizes starts early new is h =
     joined false sorted a = refl
 
 -- before that there is one for each input section
-pub early_count : (content : Content) (sizes : List ℕ) (starts early : List ℕ) → early ≡ map (early_address (sized_filling content sizes) starts) (enumerate_from 0 (all_inputs content.link.groups))
-    → length early ≡ length (all_inputs content.link.groups)
-early_count content sizes starts early is =
-    let all : List Input = all_inputs content.link.groups in
-    ap length is ∙ length-map (enumerate_from 0 all) (early_address (sized_filling content sizes) starts) ∙ length-enumerate_from 0 all
+pub early_count : (filling : Filling) (starts early : List ℕ) → early ≡ map (early_address filling starts) (enumerate_from 0 (all_inputs filling.content.link.groups))
+    → length early ≡ length (all_inputs filling.content.link.groups)
+early_count filling starts early is =
+    let all : List Input = all_inputs filling.content.link.groups in
+    ap length is ∙ length-map (enumerate_from 0 all) (early_address filling starts) ∙ length-enumerate_from 0 all

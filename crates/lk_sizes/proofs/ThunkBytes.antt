@@ -55,14 +55,14 @@ sum_one g h (y ∷ xs) (suc n) x v there more same =
 
 -- ---- the block of a file
 
-abbrev same_id : FileId → FileId × ℕ → Bool
+abbrev pub same_id : FileId → FileId × ℕ → Bool
 same_id id q = q.0.group == id.group && q.0.file == id.file
 
 both : (a b : Bool) → (a && b) ≡ true → (a ≡ true) × (b ≡ true)
 both true b h = (refl, h)
 both false b h = absurd (cc)
 
-is_id : (id : FileId) (q : FileId × ℕ) → same_id id q ≡ true → q.0 ≡ id
+pub is_id : (id : FileId) (q : FileId × ℕ) → same_id id q ≡ true → q.0 ≡ id
 is_id id q h =
     let each = both (q.0.group == id.group) (q.0.file == id.file) h in
     let made : ℕ → ℕ → FileId = λ g n. record { group = g; file = n } in
@@ -75,10 +75,10 @@ same_number n =
       | inr miss ↦ absurd (miss.1 refl)
     ]
 
-itself : (q : FileId × ℕ) → same_id q.0 q ≡ true
+pub itself : (q : FileId × ℕ) → same_id q.0 q ≡ true
 itself q = ap (λ b. b && q.0.file == q.0.file) (same_number q.0.group) ∙ same_number q.0.file
 
-other_id : (id : FileId) (q : FileId × ℕ) → (q.0 ≡ id → ⊥) → same_id id q ≡ false
+pub other_id : (id : FileId) (q : FileId × ℕ) → (q.0 ≡ id → ⊥) → same_id id q ≡ false
 other_id id q other = false_from_ne_true (same_id id q) (λ h. other (is_id id q h))
 
 -- what a file's block takes, among some
@@ -101,13 +101,13 @@ none_told : (part : PlanPart) (qs : List (FileId × ℕ)) (f : NumberedFile) →
 none_told part [] f none = refl
 none_told part (q ∷ qs) f none = passed_by part q qs f (none 0 q refl) ∙ none_told part qs f (λ k. none (suc k))
 
-tail : (link : LinkInput) (q : FileId × ℕ) (qs : List (FileId × ℕ)) → AreThunkOwners link (q ∷ qs) → AreThunkOwners link qs
+pub tail : (link : LinkInput) (q : FileId × ℕ) (qs : List (FileId × ℕ)) → AreThunkOwners link (q ∷ qs) → AreThunkOwners link qs
 tail link q qs h = record {
   there = λ k r at. h.there (suc k) r at;
   rising = λ j k r s less at next. h.rising (suc j) (suc k) r s (omega (arith, less)) at next;
 }
 
-file_of_some : (o : Option InputFile) → IsSome o → (file : InputFile) × (o ≡ Some file)
+pub file_of_some : (o : Option InputFile) → IsSome o → (file : InputFile) × (o ≡ Some file)
 file_of_some None h = absurd (cc)
 file_of_some (Some file) h = (file, refl)
 

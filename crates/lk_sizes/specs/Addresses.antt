@@ -1,7 +1,9 @@
--- The live sections and commons with their addresses.
+-- The live sections, commons and blocks of thunks with their addresses.
 use Rattle.std.specs.Prelude.{◌≡◌, ℕ, ◌<◌, Bool, if◌then◌else◌, List, Some, map, slice_get, slice_index}
 use Rattle.lk_gc.specs.declared.live.Live.{Live}
 use Rattle.std.specs.List.{enumerate_from}
+use Rattle.std.specs.Option.{option_map_or}
+use Rattle.lk_link.specs.declared.ids.FileId.{FileId}
 use Rattle.lk_link.specs.declared.link.LinkInput.{LinkInput}
 use Rattle.lk_link.specs.Inputs.{Input, all_inputs}
 use Rattle.lk_link.specs.Marks.{is_marked}
@@ -9,8 +11,8 @@ use Rattle.lk_gc.specs.Reach.{live_inputs, marked}
 use Rattle.lk_sizes.specs.declared.addresses.CommonAddress.{CommonAddress}
 use Rattle.lk_sizes.specs.declared.addresses.LiveSection.{LiveSection}
 use Rattle.lk_tables.specs.declared.commons.Common.{Common}
-use Rattle.lk_sizes.specs.Owners.{Content, Filling, all_commons, plain_filling, size_of}
-use Rattle.lk_sizes.specs.PartOwners.{common_address, live_address}
+use Rattle.lk_sizes.specs.Owners.{Filling, all_commons, own_sizes, size_of}
+use Rattle.lk_sizes.specs.PartOwners.{block_address, common_address, live_address}
 
 -- a live section, with the address that it has among the owners of its part, by the starts of all parts in memory
 abbrev pub live_section : Filling → List ℕ → Input → LiveSection
@@ -44,11 +46,10 @@ told_section addresses q = record { file = q.1.file; index = q.1.index; address 
 abbrev pub told_sections : LinkInput → List Bool → List ℕ → List LiveSection
 told_sections link marks addresses = map (told_section addresses) (marked marks (enumerate_from 0 (all_inputs link.groups)))
 
--- told by that table, the live sections have their addresses, where each has its own size
+-- told by that table, the live sections have their addresses, where each has the size of the description
 abbrev pub TableTellsLiveSections : Type 0
-TableTellsLiveSections = (content : Content) (starts : List ℕ)
-    → told_sections content.link content.live.marks (section_addresses (plain_filling content) starts)
-    ≡ live_sections (plain_filling content) starts
+TableTellsLiveSections = (filling : Filling) (starts : List ℕ) → filling.sizes ≡ own_sizes filling.content.link
+    → told_sections filling.content.link filling.content.live.marks (section_addresses filling starts) ≡ live_sections filling starts
 
 -- ---- commons
 
@@ -64,3 +65,13 @@ common_addresses filling starts = map (told_common filling starts) (all_commons 
 abbrev pub CommonsRise : Type 0
 CommonsRise = (link : LinkInput) (live : Live) (j k : ℕ) (c d : Common) → j < k → slice_get (all_commons link live) j ≡ Some c
     → slice_get (all_commons link live) k ≡ Some d → c.symbol < d.symbol
+
+-- ---- blocks of thunks
+
+-- the address of the block that a file owns, in the plan's primary part; 0 where the plan names none
+abbrev pub primary_address : Filling → List ℕ → FileId → ℕ
+primary_address filling starts id = option_map_or (λ p. block_address filling starts p id) filling.content.link.plan.named.primary 0
+
+-- those of all blocks, in the order of their files
+abbrev pub block_addresses : Filling → List ℕ → List ℕ
+block_addresses filling starts = map (λ q. primary_address filling starts q.0) filling.thunks

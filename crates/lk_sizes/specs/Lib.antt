@@ -9,6 +9,7 @@ pub mod Kept
 pub mod Owners
 pub mod OwnersRecord
 pub mod PartOwners
+pub mod Ranks
 pub mod Sizing
 pub mod Sorted
 pub mod Tables

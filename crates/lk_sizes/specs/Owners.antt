@@ -70,6 +70,10 @@ with_thunks filling thunks = record filling { thunks = thunks }
 abbrev pub in_link : LinkInput → Filling → Filling
 in_link link filling = record filling { content = record filling.content { link = link } }
 
+-- and for what is live of it
+abbrev pub in_output : LinkInput → Live → Filling → Filling
+in_output link live filling = record filling { content = record filling.content { link = link; live = live } }
+
 -- those of some input sections that go to a part
 abbrev pub into : ℕ → List Input → List Input
 into p inputs = filter (λ x. x.section.part == p) inputs
@@ -166,9 +170,13 @@ live_of link live f = filter (stands_in_file link live) (inputs_from f.id 0 f.fi
 abbrev pub common_taker : Common → Taker
 common_taker c = record { part = c.part; owner = CommonOwner c.symbol c.size }
 
--- the bytes of the block of thunks that a file owns, if it owns one
+-- the bytes of the block of thunks that a file owns among some, if it owns one
+abbrev pub bytes_owned : List (FileId × ℕ) → FileId → Option ℕ
+bytes_owned thunks id = option_map (λ q. q.1) (find (λ q. q.0.group == id.group && q.0.file == id.file) thunks)
+
+-- that in a filling
 abbrev pub thunk_bytes : Filling → FileId → Option ℕ
-thunk_bytes filling id = option_map (λ q. q.1) (find (λ q. q.0.group == id.group && q.0.file == id.file) filling.thunks)
+thunk_bytes filling id = bytes_owned filling.thunks id
 
 -- the block of a file in a part, so many bytes long
 abbrev pub thunk_taker : FileId → ℕ → ℕ → Taker

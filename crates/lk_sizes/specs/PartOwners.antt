@@ -84,6 +84,12 @@ thunk_number filling p id =
     let link = filling.content.link in
     position_or_len (has_key (thunk_key link) (file_number link.groups id)) (owners_of filling p)
 
+-- the address of the block that a file owns in a part, by the starts of all parts in memory
+abbrev pub block_address : Filling → List ℕ → ℕ → FileId → ℕ
+block_address filling starts p id =
+    let sections = filling.content.link.plan.sections in
+    owner_address (slice_index starts p) (part_at sections p) (owners_of filling p) (thunk_number filling p id)
+
 -- ---- ends
 
 -- each part ends below 2^64

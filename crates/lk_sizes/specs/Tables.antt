@@ -1,7 +1,8 @@
 -- What the code goes by: lists by part, and marks of sections. Contracts of private functions speak of these.
-use Rattle.std.specs.Prelude.{◌≡◌, ℕ, ◌+◌, ◌-◌, ◌^◌, ◌<◌, ◌==◌, ◌&&◌, ◌||◌, not, Bool, if◌then◌else◌, List, ◌∷◌, ◌++◌, Some, IsSome, filter, length, map, min, nat_le, position, slice_get, slice_index, slice_range, sum_by, take, unwrap_or}
+use Rattle.std.specs.Prelude.{◌≡◌, ℕ, ◌+◌, ◌-◌, ◌^◌, ◌<◌, ◌==◌, ◌&&◌, ◌||◌, not, Bool, if◌then◌else◌, List, ◌∷◌, ◌++◌, Option, Some, IsSome, option_and_then, option_map, filter, length, map, min, nat_le, position, slice_get, slice_index, slice_range, sum_by, take, unwrap_or}
 use Rattle.std.specs.List.{enumerate_from, flat_map, list_any, slice_index_or}
-use Rattle.std.specs.Option.{option_map_or}
+use Rattle.std.specs.Option.{option_map_or, option_to_list}
+use Rattle.lk_link.specs.declared.ids.FileId.{FileId}
 use Rattle.lk_link.specs.declared.link.LinkInput.{LinkInput}
 use Rattle.lk_link.specs.declared.plan.NamedParts.{NamedParts}
 use Rattle.lk_link.specs.declared.plan.OrderEvent.{OrderEvent}
@@ -21,7 +22,7 @@ use Rattle.lk_tables.specs.declared.commons.Common.{Common}
 use Rattle.lk_sizes.specs.declared.owners.PartTotal.{PartTotal}
 use Rattle.lk_sizes.specs.Emitted.{has_content, is_told}
 use Rattle.lk_sizes.specs.declared.sorted.InputSortedSection.{InputSortedSection}
-use Rattle.lk_sizes.specs.Owners.{SectionOwner, Taker, bytes_of, common_taker, commons_of, leading_of, live_of, owners_in, stands_in_file}
+use Rattle.lk_sizes.specs.Owners.{SectionOwner, Taker, bytes_of, bytes_owned, common_taker, commons_of, leading_of, live_of, owners_in, stands_in_file, thunk_taker}
 
 -- of what is listed by part, that of a section's parts
 abbrev pub in_section : {X : Type 0} → List PlanSection → ℕ → List X → List X
@@ -168,6 +169,31 @@ pub record AreLeft (link : LinkInput) (live : Live) (f : NumberedFile) (left : L
   pub rest : List NumberedFile
   pub files : numbered_files link.groups ≡ done ++ f ∷ rest
   pub commons : left ≡ commons_of link live f ++ flat_map (commons_of link live) rest
+
+-- ---- blocks of thunks
+
+-- a file's own block, so many bytes long, if it owns one
+abbrev pub own_block : FileId → Option ℕ → List (FileId × ℕ)
+own_block id size = option_to_list (option_map (λ n. (id, n)) size)
+
+-- the one that a file owns among some
+abbrev pub blocks_of : List (FileId × ℕ) → NumberedFile → List (FileId × ℕ)
+blocks_of thunks f = own_block f.id (bytes_owned thunks f.id)
+
+-- those of a file, and of the files behind it
+pub record AreBlocksLeft (link : LinkInput) (thunks : List (FileId × ℕ)) (f : NumberedFile) (left : List (FileId × ℕ)) : Type 0 where
+  pub done : List NumberedFile
+  pub rest : List NumberedFile
+  pub files : numbered_files link.groups ≡ done ++ f ∷ rest
+  pub blocks : left ≡ blocks_of thunks f ++ flat_map (blocks_of thunks) rest
+
+-- what a file's block takes, in the plan's primary part
+abbrev pub block_takers : LinkInput → FileId → Option ℕ → List Taker
+block_takers link id size = option_to_list (option_and_then (λ p. option_map (thunk_taker id p) size) link.plan.named.primary)
+
+-- the next address for it; 0 where the plan names no primary part
+abbrev pub block_places : LinkInput → List ℕ → Option ℕ → List ℕ
+block_places link next size = option_to_list (option_map (λ n. option_map_or (slice_index next) link.plan.named.primary 0) size)
 
 -- ---- what leads
 

@@ -1,9 +1,10 @@
-//! The addresses of live sections and commons.
+//! The addresses of live sections, commons and blocks of thunks.
 //!
 //! The owners of a part stand one behind the other from the part's start: its merged image and the identity, then file by file the
-//! live sections that aren't sorted and the commons, last the sorted sections. A table holds the next address of each part, at first the end
-//! of what leads; one pass over the files gives each of these sections and each common the next address of its part, which moves on by the
-//! bytes that it takes, and a pass over the sorted sections does the same.
+//! live sections that aren't sorted, the commons, and in the primary part the block of thunks that the file owns, last the sorted sections.
+//! A table holds the next address of each part, at first the end of what leads; one pass over the files gives each of these sections, each
+//! common and each block the next address of its part, which moves on by the bytes that it takes, and a pass over the sorted sections does
+//! the same.
 
 ghost use Rattle.std.specs.Prelude.{◌≡◌, ◌+◌, ◌-◌, ◌^◌, ◌<◌, ◌++◌, ◌&&◌, not, ℕ, if◌then◌else◌, IfOk, IfSome, IsTrue, OnOk, Some, length, map, slice_index};
 ghost use Rattle.std.specs.List.{enumerate_from, filter_map, range_with_len};
@@ -14,19 +15,19 @@ ghost use Rattle.lk_link.specs.Inputs.{all_inputs, first_input};
 ghost use Rattle.lk_link.specs.Marks.{is_marked};
 ghost use Rattle.lk_link.specs.Parts.{all_parts};
 ghost use Rattle.lk_link.specs.Sizes.{capacity};
-ghost use Rattle.lk_link.specs.TableSizes.{TableSizes};
 ghost use Rattle.lk_link.specs.Walks.{file_of};
 ghost use Rattle.lk_link.specs.WellFormed.{IsWellFormed};
 ghost use Rattle.lk_gc.specs.Reach.{AreLive};
-ghost use Rattle.lk_sizes.specs.Addresses.{common_addresses, section_addresses};
-ghost use Rattle.lk_sizes.specs.Contents.{part_contents};
-ghost use Rattle.lk_sizes.specs.Harvest.{sorted_sections};
-ghost use Rattle.lk_sizes.specs.Owners.{all_commons, by_part, common_taker, content_of, has_image, live_of, own_sizes, plain_filling, size_in, sized_filling};
+ghost use Rattle.lk_sizes.specs.Addresses.{block_addresses, common_addresses, section_addresses};
+ghost use Rattle.lk_sizes.specs.Owners.{AreThunkOwners, Filling, by_part, common_taker, has_image, in_output, live_of, own_sizes, size_in};
 ghost use Rattle.lk_sizes.specs.PartOwners.{EndsFit};
-ghost use Rattle.lk_sizes.specs.Tables.{ArePassed, AreSortedThere, AreTheirs, AreWritten, CommonsGo, HaveSortedSpace, HaveSpace, behind_leading, common_places, section_places, taker_by};
+ghost use Rattle.lk_sizes.specs.Sizing.{AreFilled};
+ghost use Rattle.lk_sizes.specs.Tables.{ArePassed, AreSortedThere, AreTheirs, AreWritten, CommonsGo, HaveSortedSpace, HaveSpace, behind_leading, block_places, block_takers, common_places, section_places, taker_by};
 
+use crate::blocks::split_block;
 use crate::commons::split_commons;
 use crate::owners::{PartContents, identity_bytes, identity_size, image_bytes, image_lens, len_at};
+use crate::part_owners::PartOwners;
 use crate::sorted::{InputSortedSection, number_of};
 use lk_gc::Live;
 use lk_link::marks::is_marked;
@@ -61,83 +62,56 @@ pub struct OwnerAddresses {
     pub sections: Vec<u64>,
     /// Of each common that takes bytes, by file and index, so in the order of their symbols.
     pub commons: Vec<CommonAddress>,
+    /// Of each block of thunks that a file owns, in the order of files; 0 where the plan names no primary part.
+    pub blocks: Vec<u64>,
 }
 
-/// The addresses of live sections and of these commons, by the lengths of merged images, the sorted sections, what comes into the
-/// parts, and where the parts start in memory. Looks at each input section and each common once, and takes 8 bytes for each section and
-/// 16 for each common (libwild: `ObjectLayoutState::finalise_layout`).
+/// The addresses of live sections, of the commons that take bytes and of the blocks of thunks that files own, by what was found of the
+/// parts, and where they start in memory. Looks at each input section, each common and each block once, and takes 8 bytes for each
+/// section, 16 for each common and 8 for each block (libwild: `ObjectLayoutState::finalise_layout`).
 pub fn owner_addresses(
     alloc: Global,
     link: &LinkInput,
     live: &Live,
-    merged_lens: &[u64],
-    listed: &[Common],
-    sorted: &[InputSortedSection],
-    contents: &[PartContents],
+    owners: &PartOwners,
     starts: &[u64],
 ) -> Result<OwnerAddresses, AllocError>
     requires good { IsWellFormed link.now }
     requires live { AreLive link.now live.now }
-    requires commons { listed.now ≡ all_commons link.now live.now }
-    requires sorted { sorted.now ≡ sorted_sections link.now live.now (own_sizes link.now) }
+    requires thunks { AreThunkOwners link.now owners.now.thunks }
     requires starts { length starts.now ≡ length (all_parts link.now.plan.sections) }
-    requires room { (sizes : TableSizes) × (contents.now ≡ part_contents (plain_filling (content_of link.now sizes live.now merged_lens.now)))
-        × EndsFit (plain_filling (content_of link.now sizes live.now merged_lens.now)) starts.now }
-    ensures sections { (sizes : TableSizes) → IfOk result (λ told. told.sections.items
-        ≡ section_addresses (plain_filling (content_of link.now sizes live.now merged_lens.now)) starts.now) }
-    ensures commons { (sizes : TableSizes) → IfOk result (λ told. told.commons.items
-        ≡ common_addresses (plain_filling (content_of link.now sizes live.now merged_lens.now)) starts.now) }
+    requires room { (filling : Filling) × AreFilled (in_output link.now live.now filling) owners.now
+        × EndsFit (in_output link.now live.now filling) starts.now }
+    ensures sections { (filling : Filling) → AreFilled (in_output link.now live.now filling) owners.now
+        → IfOk result (λ told. told.sections.items ≡ section_addresses (in_output link.now live.now filling) starts.now) }
+    ensures commons { (filling : Filling) → AreFilled (in_output link.now live.now filling) owners.now
+        → IfOk result (λ told. told.commons.items ≡ common_addresses (in_output link.now live.now filling) starts.now) }
+    ensures blocks { (filling : Filling) → AreFilled (in_output link.now live.now filling) owners.now
+        → IfOk result (λ told. told.blocks.items ≡ block_addresses (in_output link.now live.now filling) starts.now) }
 {
-    sized_addresses(
-        alloc,
-        link,
-        live,
-        merged_lens,
-        listed,
-        sorted,
-        contents,
-        starts,
-        None,
-    )
-}
-
-/// The same where input sections have these sizes, by their numbers, or those that the description gives.
-pub(crate) fn sized_addresses(
-    alloc: Global,
-    link: &LinkInput,
-    live: &Live,
-    merged_lens: &[u64],
-    listed: &[Common],
-    sorted: &[InputSortedSection],
-    contents: &[PartContents],
-    starts: &[u64],
-    sizes: Option<&[u64]>,
-) -> Result<OwnerAddresses, AllocError>
-    requires good { IsWellFormed link.now }
-    requires live { AreLive link.now live.now }
-    requires commons { listed.now ≡ all_commons link.now live.now }
-    requires sorted { sorted.now ≡ sorted_sections link.now live.now (option_map_or (λ s. s.now) sizes (own_sizes link.now)) }
-    requires starts { length starts.now ≡ length (all_parts link.now.plan.sections) }
-    requires room { (tables : TableSizes)
-        × (contents.now ≡ part_contents (sized_filling (content_of link.now tables live.now merged_lens.now) (option_map_or (λ s. s.now) sizes (own_sizes link.now))))
-        × EndsFit (sized_filling (content_of link.now tables live.now merged_lens.now) (option_map_or (λ s. s.now) sizes (own_sizes link.now))) starts.now }
-    ensures sections { (tables : TableSizes) → IfOk result (λ told. told.sections.items
-        ≡ section_addresses (sized_filling (content_of link.now tables live.now merged_lens.now) (option_map_or (λ s. s.now) sizes.entry (own_sizes link.now))) starts.now) }
-    ensures commons { (tables : TableSizes) → IfOk result (λ told. told.commons.items
-        ≡ common_addresses (sized_filling (content_of link.now tables live.now merged_lens.now) (option_map_or (λ s. s.now) sizes.entry (own_sizes link.now))) starts.now) }
-{
-    let mut next = behind_leading(alloc, link, merged_lens, contents, starts)?;
+    let (listed, thunks) = (owners.commons(), owners.thunks());
+    let sizes = owners.sizes();
+    let mut next = behind_leading(alloc, link, owners.lens(), owners.contents(), starts)?;
     let mut sections = Vec::with_capacity(alloc, live.marks.len())?;
     let mut commons = Vec::with_capacity(alloc, listed.len())?;
+    let mut owned = Vec::with_capacity(alloc, thunks.len())?;
     let mut left = listed;
+    let mut waiting = thunks;
     for file in link.groups.files() {
         let (own, behind) = split_commons(link, file, left);
+        let (block, others) = split_block(file, waiting);
         place_sections(link, live, sizes, file, &mut next, &mut sections)?;
         place_commons(link, own, &mut next, &mut commons)?;
+        place_block(link, block, &mut next, &mut owned)?;
         left = behind;
+        waiting = others;
     }
-    let sections = with_sorted(link, sorted, next, sections);
-    Ok(OwnerAddresses { sections, commons })
+    let sections = with_sorted(link, owners.sorted(), next, sections);
+    Ok(OwnerAddresses {
+        sections,
+        commons,
+        blocks: owned,
+    })
 }
 
 /// Adds the addresses of a file's sections; those that are live and aren't sorted get the next ones of their parts.
@@ -227,6 +201,43 @@ fn place_commons(
         addresses.push(CommonAddress { symbol, address })?;
     }
     Ok(())
+}
+
+/// Adds the address of a file's block of thunks, if it owns one so many bytes long: the next one of the primary part.
+fn place_block(
+    link: &LinkInput,
+    size: Option<u64>,
+    next: &mut [u64],
+    addresses: &mut Vec<u64>,
+) -> Result<(), AllocError>
+    requires good { IsWellFormed link.now }
+    requires count { length next.old ≡ length (all_parts link.now.plan.sections) }
+    requires space { (id : FileId) × HaveSpace link.now next.old (block_takers link.now id size) }
+    ensures moved { (id : FileId) → OnOk result (ArePassed link.now next.old (block_takers link.now id size) next.new) }
+    ensures told { OnOk result (addresses.new.items ≡ addresses.old.items ++ block_places link.now next.old size) }
+{
+    if let Some(size) = size {
+        addresses.push(take_block(link, size, next))?;
+    }
+    Ok(())
+}
+
+/// The next address of the primary part, which moves on by the bytes that a block of this size takes there; 0 where the plan names none.
+fn take_block(link: &LinkInput, size: u64, next: &mut [u64]) -> u64
+    requires good { IsWellFormed link.now }
+    requires count { length next.old ≡ length (all_parts link.now.plan.sections) }
+    requires space { (id : FileId) × HaveSpace link.now next.old (block_takers link.now id (Some size)) }
+    ensures address { result ≡ option_map_or (slice_index next.old) link.now.plan.named.primary 0 }
+    ensures moved { (id : FileId) → ArePassed link.now next.old (block_takers link.now id (Some size)) next.new }
+{
+    match link.plan.named.primary {
+        Some(primary) => {
+            let part = primary.as_usize();
+            let parts = link.plan.sections.parts();
+            take_next(&mut next[part], &parts[part], size)
+        }
+        None => 0,
+    }
 }
 
 /// The addresses of input sections with those of sorted ones, the next ones of their parts, at their numbers.

@@ -1,16 +1,18 @@
-//! What blocks of thunks bring to the primary part, on top of all else that comes into the parts.
+//! What blocks of thunks bring to the primary part, on top of all else that comes into the parts, and the one that a file owns.
 
-ghost use Rattle.std.specs.Prelude.{◌≡◌, ◌^◌, ◌<◌, IfOk, IsTrue, length, min};
+ghost use Rattle.std.specs.Prelude.{◌≡◌, ◌^◌, ◌<◌, ◌==◌, ◌&&◌, ◌++◌, ℕ, IfOk, IsTrue, List, length, min};
 ghost use Rattle.lk_link.specs.Alignments.{is_alignment};
 ghost use Rattle.lk_link.specs.Parts.{all_parts};
+ghost use Rattle.lk_link.specs.Walks.{file_of};
 ghost use Rattle.lk_link.specs.WellFormed.{IsWellFormed};
 ghost use Rattle.lk_sizes.specs.Contents.{GivesContents, part_contents};
-ghost use Rattle.lk_sizes.specs.Owners.{AreThunkOwners, Filling, in_link, with_thunks, without_thunks};
+ghost use Rattle.lk_sizes.specs.Owners.{AreThunkOwners, Filling, bytes_owned, in_link, with_thunks, without_thunks};
+ghost use Rattle.lk_sizes.specs.Tables.{AreBlocksLeft, own_block};
 ghost use Rattle.lk_sizes.specs.ThunkSums.{AreWithBlocks, block_bytes, blocks_in};
 
 use crate::error::SizeError;
 use crate::owners::{PartContents, PartTotal, sum_up};
-use lk_link::{FileId, LinkInput, List, PlanPart, Section};
+use lk_link::{FileId, FileRef, LinkInput, List, PlanPart, Section};
 use std::alloc::{AllocError, Global};
 
 /// What comes into each part with the blocks of thunks that these files own, so many bytes long, by what comes there without them.
@@ -78,4 +80,27 @@ fn block_bytes(part: &PlanPart, thunk_owners: &[(FileId, u64)]) -> u128
         sum = sum.saturating_add(Section { size: owner.1 }.exact_capacity(part));
     }
     sum
+}
+
+/// Whether these name the same file.
+fn is_same_file(a: FileId, b: FileId) -> bool
+    ensures { result ≡ (a.group == b.group && a.file == b.file) }
+{
+    a.group == b.group && a.file == b.file
+}
+
+/// The bytes of the block that a file owns, if it owns one, and the blocks of the files behind it, by those of both, in the order of
+/// files. Looks at the first of them.
+pub(crate) fn split_block<'a>(
+    file: FileRef<'_>,
+    left: &'a [(FileId, u64)],
+) -> (Option<u64>, &'a [(FileId, u64)])
+    ensures own { (link : LinkInput) (thunks : List (FileId × ℕ)) → AreBlocksLeft link thunks (file_of file.entry) left.now
+        → result.0 ≡ bytes_owned thunks file.entry.id }
+    ensures all { own_block file.entry.id result.0 ++ result.1.now ≡ left.now }
+{
+    match left.split_first() {
+        Some((first, behind)) if is_same_file(first.0, file.id) => (Some(first.1), behind),
+        _ => (None, left),
+    }
 }

@@ -13,6 +13,7 @@ mod kept_symbols;
 pub mod laws;
 pub mod owners;
 pub mod part_owners;
+mod ranks;
 pub mod sorted;
 
 pub use addresses::{CommonAddress, LiveSection, OwnerAddresses, owner_addresses};

@@ -5,21 +5,19 @@
 //! which sections are emitted, and so which symbols of the prelude are marked late and how many headers there are. Then the
 //! tables are whole, and the sums of all parts are looked at.
 
-ghost use Rattle.std.specs.Prelude.{◌≡◌, IfOk, length, map, option_map, unwrap_or};
+ghost use Rattle.std.specs.Prelude.{◌≡◌, IfOk, length, map, option_map};
 ghost use Rattle.std.specs.Option.{option_map_or};
 ghost use Rattle.lk_link.specs.Marks.{is_marked};
 ghost use Rattle.lk_link.specs.Parts.{all_parts};
 ghost use Rattle.lk_link.specs.TableSizes.{TableSizes};
 ghost use Rattle.lk_link.specs.WellFormed.{IsWellFormed};
 ghost use Rattle.lk_gc.specs.Reach.{AreLive};
-ghost use Rattle.lk_sizes.specs.Addresses.{common_addresses, section_addresses};
 ghost use Rattle.lk_sizes.specs.Emitted.{is_emitted};
 ghost use Rattle.lk_sizes.specs.Contents.{AreContentTotals, part_contents};
 ghost use Rattle.lk_sizes.specs.Owners.{AreThunkOwners, Filling, all_commons, content_of, in_link, own_sizes, plain_filling, sized_filling, with_thunks, without_thunks};
-ghost use Rattle.lk_sizes.specs.PartOwners.{EndsFit, part_sizes};
+ghost use Rattle.lk_sizes.specs.PartOwners.{part_sizes};
 ghost use Rattle.lk_sizes.specs.Sizing.{AreFilled, GivesAdded, GivesOwners};
 
-use crate::addresses::{OwnerAddresses, sized_addresses};
 use crate::blocks::add_blocks;
 use crate::error::SizeError;
 use crate::header::determine_header_sizes;
@@ -158,8 +156,10 @@ pub fn owners<P: Platform>(
     requires good { IsWellFormed link.now }
     requires live { AreLive link.now live.now }
     requires thunks { AreThunkOwners link.now thunk_owners.now }
-    ensures { GivesOwners (with_thunks (sized_filling (content_of link.now (P.table_sizes platform.now) live.now merged_lens.now) sizes.now)
+    ensures owners { GivesOwners (with_thunks (sized_filling (content_of link.now (P.table_sizes platform.now) live.now merged_lens.now) sizes.now)
         thunk_owners.now) result }
+    ensures marks { IfOk result (λ owners. is_marked owners.header.emitted
+        ≡ is_emitted (content_of link.now (P.table_sizes platform.now) live.now merged_lens.now)) }
 {
     let owners = sized_owners(alloc, link, platform, live, merged_lens, Some(sizes))?;
     add_thunks(alloc, link, owners, thunk_owners)
@@ -299,35 +299,4 @@ pub fn part_sizes(alloc: Global, owners: &PartOwners) -> Result<Vec<u64>, AllocE
         → IfOk result (λ sizes. sizes.items ≡ part_sizes filling) }
 {
     sizes_of_contents(alloc, owners.contents.as_slice())
-}
-
-/// The addresses of live sections and of the commons that take bytes, by what was found of the parts without blocks of thunks, and
-/// where they start in memory. Looks at each input section and each common once, and takes 8 bytes for each section and 16 for each
-/// common (libwild: `ObjectLayoutState::finalise_layout`).
-pub fn owner_addresses(
-    alloc: Global,
-    link: &LinkInput,
-    live: &Live,
-    owners: &PartOwners,
-    starts: &[u64],
-) -> Result<OwnerAddresses, AllocError>
-    requires good { IsWellFormed link.now }
-    requires live { AreLive link.now live.now }
-    requires starts { length starts.now ≡ length (all_parts link.now.plan.sections) }
-    requires room { (tables : TableSizes)
-        × AreFilled (sized_filling (content_of link.now tables live.now owners.now.lens) (unwrap_or owners.now.sizes (own_sizes link.now))) owners.now
-        × EndsFit (sized_filling (content_of link.now tables live.now owners.now.lens) (unwrap_or owners.now.sizes (own_sizes link.now))) starts.now }
-    ensures sections { (tables : TableSizes) → IfOk result (λ told. told.sections.items ≡ section_addresses
-        (sized_filling (content_of link.now tables live.now owners.now.lens) (unwrap_or owners.now.sizes (own_sizes link.now))) starts.now) }
-    ensures commons { (tables : TableSizes) → IfOk result (λ told. told.commons.items ≡ common_addresses
-        (sized_filling (content_of link.now tables live.now owners.now.lens) (unwrap_or owners.now.sizes (own_sizes link.now))) starts.now) }
-{
-    let lens = owners.lens.as_slice();
-    let commons = owners.commons.as_slice();
-    let sorted = owners.sorted.as_slice();
-    let contents = owners.contents.as_slice();
-    let sizes = owners.sizes();
-    sized_addresses(
-        alloc, link, live, lens, commons, sorted, contents, starts, sizes,
-    )
 }

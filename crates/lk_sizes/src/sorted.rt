@@ -1,23 +1,24 @@
 //! Sorted sections: the live ones stand last in their parts, in the order of their names' bytes, then by file and index.
 
-ghost use Rattle.std.specs.Prelude.{◌≡◌, ◌^◌, ◌<◌, IfOk, IsSome, length, map, slice_index};
+ghost use Rattle.std.specs.Prelude.{◌≡◌, ◌^◌, ◌<◌, ℕ, IfOk, IsSome, Some, length, map, slice_get, slice_index};
 ghost use Rattle.std.specs.Option.{option_map_or};
 ghost use Rattle.lk_link.specs.Files.{file_in};
-ghost use Rattle.lk_link.specs.Inputs.{all_inputs, input_number};
+ghost use Rattle.lk_link.specs.Inputs.{Input, all_inputs, input_number};
 ghost use Rattle.lk_link.specs.Parts.{all_parts};
 ghost use Rattle.lk_link.specs.Walks.{input_of};
 ghost use Rattle.lk_link.specs.WellFormed.{IsWellFormed};
 ghost use Rattle.lk_gc.specs.Reach.{AreLive};
 ghost use Rattle.lk_sizes.specs.Harvest.{SortedFit, capacity_by, sorted_section, sorted_sections};
-ghost use Rattle.lk_sizes.specs.Sorted.{name_cmp, sorted_inputs, sorted_ones};
+ghost use Rattle.lk_sizes.specs.Ranks.{AreSortedKeys};
+ghost use Rattle.lk_sizes.specs.Sorted.{sorted_ones};
 ghost use Rattle.lk_sizes.specs.Owners.{own_sizes};
 ghost use Rattle.lk_sizes.specs.Tables.{IsInput};
 
 use crate::owners::len_at;
+use crate::ranks::{in_order, keys_by_name};
 use lk_gc::Live;
 use lk_link::{FileId, InputRef, LinkInput, PartId, Section};
 use std::alloc::{AllocError, Global};
-use std::cmp::Ordering;
 
 /// A sorted section that is live, in its part (libwild: `InputSortedSection`).
 #[derive(Clone, Copy, Debug, PartialEq, Eq)]
@@ -34,8 +35,8 @@ pub struct InputSortedSection {
 
 /// The sorted sections that are live, in the order in which they stand in their parts: by the bytes of their names, then by file
 /// and index. The sizes are those of all input sections, by number; what a sorted one takes with its padding is at most
-/// 2^64 - 1. Looks at each input section once, and takes time n log n in those that are sorted (libwild:
-/// `harvest_and_sort_script_sections`).
+/// 2^64 - 1. Looks at each input section once, and sorts the names that differ and a number for each sorted section, each in time
+/// n log n (libwild: `harvest_and_sort_script_sections`).
 pub fn harvest_and_sort_script_sections(
     alloc: Global,
     link: &LinkInput,
@@ -62,9 +63,45 @@ pub(crate) fn tell_sorted(
     requires fit { SortedFit link.now live.now (option_map_or (λ s. s.now) sizes (own_sizes link.now)) }
     ensures { IfOk result (λ told. told.items ≡ sorted_sections link.now live.now (option_map_or (λ s. s.now) sizes.entry (own_sizes link.now))) }
 {
-    let found = sorted_refs(alloc, link, live)?;
+    let (told, keys) = tell_with_keys(alloc, link, live, sizes)?;
+    in_order(alloc, told.as_slice(), keys.as_slice())
+}
+
+/// The same by file and index, and the keys of all in the order in which they are to stand.
+fn tell_with_keys(
+    alloc: Global,
+    link: &LinkInput,
+    live: &Live,
+    sizes: Option<&[u64]>,
+) -> Result<(Vec<InputSortedSection>, Vec<u64>), AllocError>
+    requires good { IsWellFormed link.now }
+    requires live { AreLive link.now live.now }
+    requires fit { SortedFit link.now live.now (option_map_or (λ s. s.now) sizes (own_sizes link.now)) }
+    ensures told { IfOk result (λ both. both.0.items ≡ map (sorted_section link.now (option_map_or (λ s. s.now) sizes.entry (own_sizes link.now))) (sorted_ones link.now live.now)) }
+    ensures keys { IfOk result (λ both. AreSortedKeys (sorted_ones link.now live.now) both.1.items) }
+{
+    let found = find_sorted(alloc, link, live)?;
+    let told = tell_all(alloc, link, sizes, found.as_slice())?;
+    let mut keys = keys_by_name(alloc, found.as_slice())?;
+    keys.sort_unstable();
+    Ok((told, keys))
+}
+
+/// What these sections take in their parts.
+fn tell_all(
+    alloc: Global,
+    link: &LinkInput,
+    sizes: Option<&[u64]>,
+    found: &[InputRef<'_>],
+) -> Result<Vec<InputSortedSection>, AllocError>
+    requires good { IsWellFormed link.now }
+    requires there { (k : ℕ) (x : Input) → slice_get (map input_of found.now) k ≡ Some x → IsInput link.now x }
+    requires parts { (k : ℕ) (x : Input) → slice_get (map input_of found.now) k ≡ Some x → x.section.part < length (all_parts link.now.plan.sections) }
+    requires fit { (k : ℕ) (x : Input) → slice_get (map input_of found.now) k ≡ Some x → capacity_by link.now (option_map_or (λ s. s.now) sizes (own_sizes link.now)) x < 2 ^ 64 }
+    ensures { IfOk result (λ told. told.items ≡ map (sorted_section link.now (option_map_or (λ s. s.now) sizes.entry (own_sizes link.now))) (map input_of found.now)) }
+{
     let mut told = Vec::with_capacity(alloc, found.len())?;
-    for input in found.as_slice() {
+    for input in found {
         told.push(tell(link, sizes, *input))?;
     }
     Ok(told)
@@ -115,21 +152,7 @@ pub(crate) fn number_of(link: &LinkInput, file: FileId, index: usize) -> usize
     }
 }
 
-/// The sorted sections that are live, in the order of their names.
-fn sorted_refs<'a>(
-    alloc: Global,
-    link: &'a LinkInput,
-    live: &'a Live,
-) -> Result<Vec<InputRef<'a>>, AllocError>
-    requires good { IsWellFormed link.now }
-    ensures { IfOk result (λ found. map input_of found.items ≡ sorted_inputs link.now live.now) }
-{
-    let mut found = find_sorted(alloc, link, live)?;
-    found.sort_unstable_by(|a, b| compare(a, b));
-    Ok(found)
-}
-
-/// Those by file and index.
+/// The sorted sections that are live, by file and index.
 fn find_sorted<'a>(
     alloc: Global,
     link: &'a LinkInput,
@@ -145,13 +168,4 @@ fn find_sorted<'a>(
         }
     }
     Ok(found)
-}
-
-/// How two input sections compare: by the bytes of their names, then by file, then by index.
-fn compare(a: &InputRef<'_>, b: &InputRef<'_>) -> Ordering
-    ensures { result ≡ name_cmp (input_of a.now) (input_of b.now) }
-{
-    let names = a.section.name.as_str().cmp(b.section.name.as_str());
-    let places = a.file.cmp(&b.file).then(a.index.cmp(&b.index));
-    names.then(places)
 }

@@ -5,6 +5,7 @@ use Rattle.std.proofs.lemmas.List.Sums.{sum_by-append}
 use Rattle.lk_link.specs.declared.file.FileKind.{FileKind}
 use Rattle.lk_link.specs.declared.file.FileKind.TheVariants as kind
 use Rattle.lk_link.specs.declared.flags.ValueFlags.{ValueFlags}
+use Rattle.lk_link.specs.declared.ids.FileId.{FileId}
 use Rattle.lk_link.specs.declared.link.LinkInput.{LinkInput}
 use Rattle.lk_link.specs.declared.plan.NamedParts.{NamedParts}
 use Rattle.lk_link.specs.declared.resolution.Resolution.{Resolution}
@@ -22,7 +23,7 @@ use Rattle.lk_tables.proofs.PartLists.{named_parts}
 use Rattle.lk_tables.proofs.ShareSums.{sum_made}
 use Rattle.lk_sizes.specs.Owners.{EntryOwner, Owner, bytes_of, content_owners, owner_bytes, Filling}
 use Rattle.lk_sizes.specs.PartOwners.{EndsFit, tables_of}
-use Rattle.lk_values.specs.OutputContent.{output_filling}
+use Rattle.lk_values.specs.OutputContent.{thunked_filling}
 use Rattle.lk_link.specs.TableSizes.{TableSizes, first_taken}
 use Rattle.lk_gc.specs.declared.live.Live.{Live}
 use Rattle.lk_reach.specs.Units.{numbered_symbols}
@@ -256,9 +257,9 @@ table_ends filling starts k p table good count fit named there =
     omega (arith, fit p below, more, whole)
 
 -- where parts end below 2^64, so do got and plt
-pub tables_fit : (sizes : TableSizes) (link : LinkInput) (live : Live) (told : List Bool) (starts : List ℕ) → IsWellFormed link → length starts ≡ length (all_parts link.plan.sections)
-    → EndsFit (output_filling sizes link live) starts → TablesFit (entry_setting sizes link live told starts)
-tables_fit sizes link live told starts good count fit = record {
-  got = λ p named. table_ends (output_filling sizes link live) starts 0 p (got_table (entry_setting sizes link live told starts)) good count fit (ap (λ (o : Option ℕ). Some o) named) refl;
-  plt = λ p named. table_ends (output_filling sizes link live) starts 1 p (plt_table (entry_setting sizes link live told starts)) good count fit (ap (λ (o : Option ℕ). Some o) named) refl;
+pub tables_fit : (sizes : TableSizes) (link : LinkInput) (live : Live) (thunks : List (FileId × ℕ)) (told : List Bool) (starts : List ℕ) → IsWellFormed link → length starts ≡ length (all_parts link.plan.sections)
+    → EndsFit (thunked_filling sizes link live thunks) starts → TablesFit (entry_setting sizes link live told starts)
+tables_fit sizes link live thunks told starts good count fit = record {
+  got = λ p named. table_ends (thunked_filling sizes link live thunks) starts 0 p (got_table (entry_setting sizes link live told starts)) good count fit (ap (λ (o : Option ℕ). Some o) named) refl;
+  plt = λ p named. table_ends (thunked_filling sizes link live thunks) starts 1 p (plt_table (entry_setting sizes link live told starts)) good count fit (ap (λ (o : Option ℕ). Some o) named) refl;
 }

@@ -1,7 +1,7 @@
 mod Keeping
 mod NothingAsked
 mod NothingMerged
-mod Stopping
+pub mod Stopping
 pub mod CommonsFound
 pub mod EntriesTaken
 pub mod Imaging

@@ -8,7 +8,7 @@ use Rattle.lk_layout.proofs.computation.check.Goals as goal
 
 pub returns-in_err-check_link : goal.returns-in_err-check_link
 returns-in_err-check_link g c =
-    let machine = platform_machine (g.P.Platform.segment_start c.args._platform.now) (g.P.Platform.table_sizes c.args._platform.now) in
+    let machine = platform_machine (g.P.Platform.segment_start c.args._platform.now) (g.P.Platform.table_sizes c.args._platform.now) (g.A.Arch.config_of c.args._arch.now) in
     let link = c.args.link.now in
     let fault = c.in_err-check_link.field-0.0 in
     err_exit (Reaches machine link (λ (u : Unit {0}). IsChecked link)) _ c.from_residual.result c.from_residual.ensures.1
@@ -16,7 +16,7 @@ returns-in_err-check_link g c =
 
 pub returns-in-Some : goal.returns-in-Some
 returns-in-Some g c =
-    let machine = platform_machine (g.P.Platform.segment_start c.args._platform.now) (g.P.Platform.table_sizes c.args._platform.now) in
+    let machine = platform_machine (g.P.Platform.segment_start c.args._platform.now) (g.P.Platform.table_sizes c.args._platform.now) (g.A.Arch.config_of c.args._arch.now) in
     let link = c.args.link.now in
     let found : first_uncarried link ≡ Some c.in-Some.what = cc in
     uncarried machine link c.in-Some.what (fault_none (first_fault link) c.in_ok-check_link.ensures.exact) found

@@ -4,29 +4,27 @@ use Rattle.lk_link.specs.declared.section.InputSection.{InputSection}
 use Rattle.lk_link.specs.declared.symbol.InputSymbol.{InputSymbol}
 use Rattle.lk_link.specs.FileKinds.{is_object}
 use Rattle.lk_link.specs.Inputs.{NumberedFile, first_input}
-use Rattle.lk_link.specs.TableSizes.{TableSizes}
 use Rattle.lk_link.specs.Walks.{file_of}
 use Rattle.lk_reach.proofs.SymbolNumbers.{first_within, inputs_few}
 use Rattle.lk_gc.specs.declared.live.Live.{Live}
 use Rattle.lk_expressions.specs.declared.positions.SymbolPosition.{SymbolPosition}
 use Rattle.lk_sizes.specs.Addresses.{section_addresses}
-use Rattle.lk_values.specs.OutputContent.{output_filling}
+use Rattle.lk_values.specs.OutputContent.{thunked_filling}
 use Rattle.lk_layout.specs.Positions.{no_starts, position_of}
 use Rattle.lk_layout.specs.PositionWords.{position_in}
 use Rattle.lk_layout.proofs.Positioned.{position_alike}
 use Rattle.lk_layout.proofs.positions.push_file_positions.Goals as goal
 
 pub input_start-requires : goal.input_start-requires
-input_start-requires g c = omega (arith, inputs_few c.args.link.now c.requires.good)
+input_start-requires c = omega (arith, inputs_few c.args.link.now c.requires.good)
 
 pub push_positions-requires-clause-few : goal.push_positions-requires-clause-few
-push_positions-requires-clause-few g c =
+push_positions-requires-clause-few c =
     let link = c.args.link.now in
     omega (arith, c.in-Some.ensures.1, first_within link.groups c.args.file.id, inputs_few link c.requires.good)
 
 pub returns-in_ok-push_positions : goal.returns-in_ok-push_positions
-returns-in_ok-push_positions g c =
-    let tables : TableSizes = g.P.Platform.table_sizes c.args.platform.now in
+returns-in_ok-push_positions c tables thunks offsets =
     let link = c.args.link.now in
     let live : Live = c.args.live.now in
     let f : NumberedFile = file_of c.args.file in
@@ -34,13 +32,13 @@ returns-in_ok-push_positions g c =
     let has : is_object f.file.kind ≡ true = sym c.is_object.ensures ∙ c.if-not-is_object.false in
     let made : List Bool → List ℕ → ℕ → List InputSection → List InputSymbol → List (Option SymbolPosition)
     = λ marks offsets first sections symbols. old ++ map (λ (x : InputSymbol). position_in marks offsets first sections x.at) symbols in
-    let place : InputSymbol → Option SymbolPosition = λ x. position_of (output_filling tables link live) f x.at in
-    let table : List ℕ = section_addresses (output_filling tables link live) (no_starts link) in
+    let place : InputSymbol → Option SymbolPosition = λ x. position_of (thunked_filling tables link live thunks) f x.at in
+    let table : List ℕ = section_addresses (thunked_filling tables link live thunks) (no_starts link) in
     let alike : (λ (x : InputSymbol). position_in live.marks table (first_input link.groups f.id) f.file.sections x.at) ≡ place
-    = fun_ext (λ (x : InputSymbol). position_alike tables link live f x.at c.requires.there) in
+    = fun_ext (λ (x : InputSymbol). position_alike (thunked_filling tables link live thunks) f x.at c.requires.there) in
     c.in_ok-push_positions.ensures
     ∙ ap (λ marks. made marks c.args.offsets.now c.in-Some.first c.as_slice-sections.result.now c.as_slice-symbols.result.now) c.as_slice-marks.ensures
-    ∙ ap (λ offsets. made live.marks offsets c.in-Some.first c.as_slice-sections.result.now c.as_slice-symbols.result.now) c.requires.offsets
+    ∙ ap (λ (told : List ℕ). made live.marks told c.in-Some.first c.as_slice-sections.result.now c.as_slice-symbols.result.now) offsets
     ∙ ap (λ first. made live.marks table first c.as_slice-sections.result.now c.as_slice-symbols.result.now) c.in-Some.ensures.1
     ∙ ap (λ sections. made live.marks table (first_input link.groups f.id) sections c.as_slice-symbols.result.now) c.as_slice-sections.ensures
     ∙ ap (λ symbols. made live.marks table (first_input link.groups f.id) f.file.sections symbols) c.as_slice-symbols.ensures

@@ -1,0 +1,12 @@
+pub mod BlockPlaces
+pub mod CodeFits
+pub mod FilesInOrder
+pub mod NextUsers
+pub mod OtherCode
+pub mod Owning
+pub mod PlanLemmas
+pub mod PlannedSets
+pub mod PlannedUsers
+pub mod Reaching
+pub mod Spots
+pub mod ThunkRanges

@@ -1,0 +1,4 @@
+mod FilesOfSymbols
+mod GroupEnds
+mod RedirectLaws
+mod Redirecting

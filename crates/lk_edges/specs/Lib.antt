@@ -1,0 +1,5 @@
+pub mod AtHand
+pub mod EdgeLaws
+pub mod Edges
+pub mod Redirects
+pub mod Stores

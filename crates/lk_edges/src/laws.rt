@@ -1,0 +1,8 @@
+//! Laws of edges, each proved as the contract of a function that does nothing.
+
+ghost use Rattle.lk_edges.specs.EdgeLaws.{SegmentsEndBelow};
+
+/// A law: the thread-local one among segments that aren't refused ends below 2^64, as edges want it.
+pub fn segments_end_below()
+    ensures { SegmentsEndBelow }
+{}

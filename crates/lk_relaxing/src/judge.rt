@@ -1,0 +1,165 @@
+//! What comes of the candidates of a section, by the addresses before a pass: also of one behind another that just went.
+
+ghost use Rattle.std.specs.Prelude.{◌≡◌, ◌+◌, ◌<◌, ◌^◌, option_and_then, slice_get};
+ghost use Rattle.std.specs.Option.{option_copied};
+ghost use Rattle.lk_link.specs.Symbols.{definition_of, symbol_at};
+ghost use Rattle.lk_link.specs.WellFormed.{IsWellFormed};
+ghost use Rattle.lk_expressions.specs.Records.{record_at};
+ghost use Rattle.lk_expressions.specs.Surroundings.{flat};
+ghost use Rattle.lk_tables.specs.Late.{flags_at};
+ghost use Rattle.lk_relaxing.specs.Scan.{CanBeScanned, absolute_value, address_in, as_address, candidates_of, outcome_by, scanned};
+ghost use Rattle.lk_relaxing.specs.ScanWords.{IsNumbered, by_distance, judged, site_in, target_in};
+
+use lk_expressions::{OutputRecordLayout, SymbolPositions};
+use lk_gc::Live;
+use lk_link::relocation::RelaxCandidate;
+use lk_link::{LinkInput, PartId, SymbolId, SymbolPlacement, ValueFlags};
+use lk_relax::{Judge, Outcome, SectionRelaxDeltas, opt_input_to_output};
+
+/// What comes of the candidates of one section, by the addresses before the pass.
+#[derive(Clone, Copy)]
+pub(crate) struct SectionJudge<'a> {
+    pub(crate) link: &'a LinkInput,
+    pub(crate) live: &'a Live,
+    pub(crate) symbols: &'a SymbolPositions,
+    pub(crate) parts: &'a [OutputRecordLayout],
+    /// The number of the file's first symbol.
+    pub(crate) first: u32,
+    /// The section's position.
+    pub(crate) position: Option<(PartId, u64)>,
+    /// What is deleted of it.
+    pub(crate) deleted: Option<&'a SectionRelaxDeltas>,
+}
+
+impl<'a> Judge for SectionJudge<'a> {
+    ghost use Rattle.lk_relaxing.specs.ScanWords.{IsNumbered, judged};
+
+    ghost told = { judged };
+
+    ghost asks = { IsNumbered };
+
+    fn tell(&self, candidate: &RelaxCandidate) -> Outcome {
+        let symbol = SymbolId::from_u32(self.first + candidate.symbol);
+        let target = definition_target(self.link, self.live, self.symbols, self.parts, symbol);
+        let site = site_in(self.parts, self.position, self.deleted, candidate.at);
+        outcome_by(target, site, candidate.limit)
+    }
+}
+
+/// The address of what stands for a symbol, if it has one.
+fn definition_target(
+    link: &LinkInput,
+    live: &Live,
+    symbols: &SymbolPositions,
+    parts: &[OutputRecordLayout],
+    symbol: SymbolId,
+) -> Option<u64>
+    ensures { result ≡ option_and_then (target_in link.now live.now symbols.now parts.now) (definition_of link.now.groups symbol) }
+{
+    target(link, live, symbols, parts, link.groups.definition(symbol)?)
+}
+
+/// The address of a symbol: the number that it is, or where it stands; none if it has none, or another may take its place.
+#[tactic(auto, unfolding(lk_link::specs::Files::first_some))]
+fn target(
+    link: &LinkInput,
+    live: &Live,
+    symbols: &SymbolPositions,
+    parts: &[OutputRecordLayout],
+    symbol: SymbolId,
+) -> Option<u64>
+    ensures { result ≡ target_in link.now live.now symbols.now parts.now symbol }
+{
+    let flags = flags_at(live.flags.as_slice(), symbol.as_usize());
+    if flags.is_interposable() {
+        return None;
+    }
+    match absolute_value(link, symbol) {
+        Some(value) => Some(value),
+        None => address_of(symbols, parts, symbol),
+    }
+}
+
+/// The number that a symbol is, if it is absolute.
+fn absolute_value(link: &LinkInput, symbol: SymbolId) -> Option<u64>
+    ensures { result ≡ option_and_then (λ x. absolute_value x.at) (symbol_at link.now.groups symbol) }
+{
+    match &link.groups.symbol(symbol)?.at {
+        SymbolPlacement::Absolute(value) => Some(*value),
+        _ => None,
+    }
+}
+
+/// The address of a symbol that has a position.
+fn address_of(
+    symbols: &SymbolPositions,
+    parts: &[OutputRecordLayout],
+    symbol: SymbolId,
+) -> Option<u64>
+    ensures { result ≡ option_and_then (λ p. address_in parts.now p.part p.offset) (flat (slice_get symbols.now symbol)) }
+{
+    let position = symbols.get(symbol)?;
+    address_in(parts, position.part, position.offset)
+}
+
+/// The flags of a symbol by its number; none past the end.
+fn flags_at(flags: &[ValueFlags], number: usize) -> ValueFlags
+    ensures { result ≡ flags_at flags.now number }
+{
+    match flags.get(number) {
+        Some(flags) => *flags,
+        None => ValueFlags(0),
+    }
+}
+
+/// The address of an offset of a section with this position.
+fn site_in(
+    parts: &[OutputRecordLayout],
+    position: Option<(PartId, u64)>,
+    deleted: Option<&SectionRelaxDeltas>,
+    offset: u64,
+) -> Option<u64>
+    ensures { result ≡ site_in parts.now position (option_copied deleted.entry) offset }
+{
+    let (part, start) = position?;
+    let moved = opt_input_to_output(deleted, offset);
+    address_in(parts, part, start.checked_add(moved)?)
+}
+
+/// The address at so many bytes from a part's start, if it is below 2^64.
+fn address_in(parts: &[OutputRecordLayout], part: PartId, offset: u64) -> Option<u64>
+    ensures { result ≡ address_in parts.now part offset }
+{
+    start_of(parts, part).checked_add(offset)
+}
+
+/// Where a part starts in memory.
+fn start_of(parts: &[OutputRecordLayout], part: PartId) -> u64
+    ensures { result ≡ (record_at parts.now part).mem_offset }
+{
+    match parts.get(part.as_usize()) {
+        Some(record) => record.mem_offset,
+        None => 0,
+    }
+}
+
+/// What comes of a candidate with this limit, by the addresses of its symbol and of its site.
+fn outcome_by(target: Option<u64>, site: Option<u64>, limit: u64) -> Outcome
+    ensures { result ≡ outcome_by target site limit }
+{
+    match (target, site) {
+        (Some(target), Some(site)) => by_distance(target.abs_diff(site), limit),
+        _ => Outcome::Untouched,
+    }
+}
+
+/// What comes of a candidate with this limit, whose symbol is so far away.
+fn by_distance(distance: u64, limit: u64) -> Outcome
+    ensures { result ≡ by_distance distance limit }
+{
+    if distance <= limit {
+        Outcome::Goes
+    } else {
+        Outcome::Short(distance - limit)
+    }
+}
