@@ -38,7 +38,7 @@ class Blocks:
             self.sets.append(sorted(named))
 
     def is_primary(self, entry):
-        return entry.slot != "discard" and entry.part == self.primary
+        return entry.part == self.primary
 
     def assign(self, objects):
         """Gives each object its block. The first is owned by its first object, any other one by the object behind those
