@@ -27,12 +27,14 @@ file of it is held at a time. SHAPE says what the bytes go to:
     singles   output that is linked again, of which a fifth of the sections stay output sections of their own
     branches  4 GiB of code, and branches that reach 128 MiB: mostly in their own file
     far       the same, each branch to a function of another file
+    shortened code of which one relaxation in three is done, all in one pass
+    stepwise  code in which each pass of relaxation lets one more of every section be done
     candidates  symbols at the start of one output section, and as many sections that each of them asks for
     moves     output sections, up to the limit, each at a location of an expression of depth 50
     regions   output sections in 64 regions, each with a load address
     secondary output sections of which three in four are secondary
 
-`whole` and `candidates` aren't laid out yet, but read and checked; the others are laid out.
+All are laid out.
 """
 
 import math
@@ -44,6 +46,7 @@ from forms import GROUPED, LINKED, TABLED, WHOLE
 from merges import MERGES, put_merges
 from named import NAMED, put_named
 from plans import PLANS, put_plans
+from relaxed import RELAXED, put_relaxed
 from thunked import THUNKED, put_thunked
 from ways import put_candidates, put_exports, put_ways
 from whole import put_whole_link
@@ -55,7 +58,7 @@ MOST_OUTPUT_SECTIONS = 65_000
 MOST_SEGMENTS = 8
 FORMS = {"linked": LINKED, "grouped": GROUPED, "tabled": TABLED, "whole": WHOLE}
 WAYS = ("chain", "star")
-SHAPES = ("objects", "plan", "files", "single", *WAYS, "exports", "candidates", *MERGES, *NAMED, *THUNKED, *FORMS, *PLANS)
+SHAPES = ("objects", "plan", "files", "single", *WAYS, "exports", "candidates", *MERGES, *NAMED, *THUNKED, *RELAXED, *FORMS, *PLANS)
 
 # Share of the output sections, attributes, name, and alignments to choose from. The order is the
 # order in memory: within a segment nothing with file bytes follows a zero-filled section.
@@ -210,6 +213,9 @@ def generate(stream, total, seed, shape):
         return
     if shape in THUNKED:
         put_thunked(writer, rng, total, files_of_group(total, shape), PAGE, BASE, shape)
+        return
+    if shape in RELAXED:
+        put_relaxed(writer, total, files_of_group(total, shape), PAGE, BASE, shape)
         return
     if shape in PLANS:
         put_plans(writer, total, PAGE, shape)

@@ -1,7 +1,7 @@
 #!/usr/bin/env python3
 """Measure the program on generated descriptions, and print ratios.
 
-usage: run.py [--merges|--plans] [PROGRAM [MEGABYTES..]]
+usage: run.py [--merges|--named|--thunks|--relaxed|--plans] [PROGRAM [MEGABYTES..]]
        run.py --long [PROGRAM]
        run.py --memory [PROGRAM]
        run.py --generated [PROGRAM]
@@ -13,8 +13,9 @@ that it is parsed and let go. The run fails where an answer isn't of the kind th
 over the same bytes differ. Seconds are processor seconds, the least of the runs. None of them is judged:
 each is set against others of the same run.
 
-With --merges, the descriptions are of strings that are merged, and little else. With --plans they have many
-output sections that the plan moves.
+With --merges, the descriptions are of strings that are merged, and little else; with --named of sections that go
+by their names; with --thunks of branches that don't reach; with --relaxed of code that is shortened. With --plans
+they have many output sections that the plan moves.
 
 With --long, each description has one list that is as long as it may be, or millions long. The run fails
 where the program crashes, runs out of its stack of 8 MB or answers something else.
@@ -40,14 +41,14 @@ import memory
 from merges import MERGES
 from named import NAMED
 from plans import PLANS
+from relaxed import RELAXED
 from thunked import THUNKED
 
 HERE = os.path.dirname(os.path.abspath(__file__))
 DEFAULT_PROGRAM = os.path.join(HERE, "..", "crates", "lk_program", "out", "lk_program")
 DEFAULT_MEGABYTES = (1, 10, 100)
 SHAPE_MEGABYTES = (1, 4)
-LARGE_SHAPES = ("objects", "linked", "grouped", "tabled", "chain", "star", "exports")
-CHECKED_SHAPES = ("whole", "candidates")
+LARGE_SHAPES = ("objects", "linked", "grouped", "tabled", "whole", "chain", "star", "exports", "candidates")
 PLAN_MEGABYTES = (1, 4, 16)
 SMALL_SHAPES = ("plan", "files", "single")
 RUNS, MOST_RUNS, SMALL_BYTES = 3, 7, 5_000_000
@@ -59,7 +60,7 @@ STACK_BYTES = 8 << 20
 # The end of a description that is read and no more, in place of its ending, and how its answer begins.
 READ_ENDING = b',[{"kind":"prelude","candidates":7}]\n]}\n'
 READ_ANSWER = b"not a link description: /groups/"
-WHOLE_ANSWERS = (b"layout\n", b"not carried: ")
+LAID_OUT_ANSWER = b"layout\n"
 # What stands round a description that is parsed and let go.
 PARSED_START = b'{"unknown":'
 PARSED_ENDING = b',"plan":{"page":1},"groups":[[{"kind":"prelude"}]]}'
@@ -98,17 +99,6 @@ at most 1.
 MEMORY_BYTES = 10_000_000
 # How the placement of a symbol begins; the load address of an output section has the same key.
 SYMBOL_PLACES = tuple(b'"at":["%s"' % kind for kind in (b"sec", b"common", b"abs", b"undef", b"dyn"))
-CHECKED_COLUMNS = (
-    *(("ms/MB", 7), ("x wc -l", 8), ("read", 7), ("check", 6), ("growth", 11), ("peak", 8)),
-    ("read peak", 10),
-)
-CHECKED_LEGEND = """\
-ms/MB and x wc -l: of all; read: ms/MB; check: as a part of reading; growth: the powers of the size by
-which reading and checking grow; peak, read peak: the peak memory of all, and of reading alone, as
-multiples of the size. Aim: check a small part of read.
-"""
-
-
 GENERATED_COLUMNS = (("MB", 6), ("layout", 8), ("gen", 8), ("growth", 7), ("gen/layout", 11), ("peak MB", 8), ("peak/layout", 12))
 GENERATED_LEGEND = """\
 MB: of the description; layout, gen: seconds; growth: the power of the number of objects by which those of gen
@@ -216,7 +206,7 @@ class Stages:
         generate(path, megabytes * 1_000_000, series.shape)
         self.size = os.path.getsize(path)
         self.lines = best(["wc", "-l"], path, output, b"")
-        self.whole = best(command, path, output, WHOLE_ANSWERS)
+        self.whole = best(command, path, output, LAID_OUT_ANSWER)
         around = path + ".around"
         surround(path, PARSED_START, PARSED_ENDING, around)
         self.parsed = best(command, around, output, PARSED_ANSWER)
@@ -275,18 +265,6 @@ class Series:
                 "<" if stages.whole.peak <= 1.05 * self.floor else "",
                 stages.whole.peak / stages.parsed.peak,
             ),
-        )
-
-    def checked_row(self, stages):
-        seconds = stages.whole.seconds
-        return (
-            "%.1f" % (seconds * 1e9 / stages.size),
-            "%.0f" % (seconds / stages.lines.seconds),
-            "%.1f" % (stages.reading * 1e9 / stages.size),
-            "%.2f" % (stages.rest / stages.reading),
-            self.growth(stages, lambda of: of.reading, lambda of: of.rest),
-            self.peak_text(stages.whole.peak, stages.size),
-            self.peak_text(stages.read.peak, stages.size),
         )
 
     def stages(self, sizes):
@@ -419,7 +397,7 @@ def measure_generated(program, folder):
     print(GENERATED_LEGEND)
 
 
-SPECIAL_SHAPES = {"--merges": MERGES, "--named": NAMED, "--plans": PLANS, "--thunks": THUNKED}
+SPECIAL_SHAPES = {"--merges": MERGES, "--named": NAMED, "--plans": PLANS, "--thunks": THUNKED, "--relaxed": RELAXED}
 OTHER_MEASURES = {
     "--long": measure_long_lists,
     "--memory": measure_memory,
@@ -450,10 +428,6 @@ def main(words):
         for line in rest:
             print_line(REST_COLUMNS, line)
         print(REST_LEGEND)
-        if special:
-            return
-        checked = [Series(program, folder, shape) for shape in CHECKED_SHAPES]
-        print_table(CHECKED_COLUMNS, CHECKED_LEGEND, checked, sizes_of, Series.checked_row)
 
 
 if __name__ == "__main__":

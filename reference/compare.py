@@ -2,22 +2,20 @@
 """Compare the program with the reference on random small descriptions.
 
 usage: compare.py PROGRAM COUNT [SEED [FIRST]]
-       compare.py PROGRAM --whole COUNT [SEED [FIRST]]
        compare.py PROGRAM --places
        compare.py PROGRAM --small
        compare.py PROGRAM --generated COUNT
+       compare.py PROGRAM --shortened COUNT [SEED]
 
 Runs PROGRAM on the random descriptions of the numbers FIRST to FIRST + COUNT - 1, and where FIRST is
 0 on the fixed ones too, and shows each one on which status or bytes differ from the reference's. Ends
 with 1 if there was one. The same SEED and number give the same description.
 
-With --whole, the random ones have what the program doesn't carry yet as well. The program may then say that
-it doesn't carry it, as the reference does without --whole.
-
 With --places, the descriptions are some small ones, changed at every place of their text: cut there, with
 a stray byte there, with another number, with a member doubled, escaped, left out or moved. With --small, they
 are all links of two sections that may refer to each other and to what is undefined. With --generated, the
-words are `gen`, random seeds and numbers of objects up to 300, and there is no input.
+words are `gen`, random seeds and numbers of objects up to 300, and there is no input. With --shortened, in most
+of the random descriptions relaxation leaves something out.
 """
 
 import collections
@@ -29,7 +27,6 @@ import cases
 import reference
 from cases.places import changed_at_every_place
 from cases.small import every_small_link
-from cases.values import Made
 from program import program_answer
 from rules.refusal import LAID_OUT
 
@@ -57,22 +54,19 @@ def kind_of(status, text):
 
 
 class Comparison:
-    def __init__(self, program, whole=False):
-        self.program, self.whole = program, whole
+    def __init__(self, program):
+        self.program = program
         self.kinds = collections.Counter()
-        self.mismatches = self.later = 0
+        self.mismatches = 0
 
     def compare(self, name, data, words=WORDS):
-        give = reference.whole_answer if self.whole else reference.answer
-        wanted = give(words, data)
+        wanted = reference.answer(words, data)
         try:
             got = program_answer(self.program, words, data)
         except BrokenPipeError:
             got = None, b"(input not read)"
         self.kinds[kind_of(*wanted)] += 1
-        if got != wanted and self.whole and got == reference.answer(WORDS, data):
-            self.later += 1
-        elif got != wanted:
+        if got != wanted:
             self.mismatches += 1
             print("MISMATCH %s, input of %d bytes:" % (name, len(data)))
             print(shown(data))
@@ -82,8 +76,7 @@ class Comparison:
     def summary(self):
         for kind, count in self.kinds.most_common():
             print("%7d  %s" % (count, kind))
-        later = ", %d not carried yet" % self.later if self.later else ""
-        print("%d cases, %d mismatches%s" % (sum(self.kinds.values()), self.mismatches, later))
+        print("%d cases, %d mismatches" % (sum(self.kinds.values()), self.mismatches))
 
 
 def compare_listed(program, kind):
@@ -102,27 +95,46 @@ def compare_generated(program, count):
     return comparison
 
 
-def main(words):
-    generated = len(words) == 3 and words[1] == "--generated" and words[2].isdigit()
-    if generated or (len(words) == 2 and words[1] in LISTED):
-        comparison = compare_generated(words[0], int(words[2])) if generated else compare_listed(*words)
-        comparison.summary()
-        sys.exit(1 if comparison.mismatches else 0)
-    whole = words[1:2] == ["--whole"]
-    if whole:
-        del words[1]
-        Made.widen()
-    if not 2 <= len(words) <= 4 or not all(word.isdigit() for word in words[1:]):
-        sys.exit("usage: compare.py PROGRAM [--whole] COUNT [SEED [FIRST]], or compare.py PROGRAM --places|--small|--generated COUNT")
-    count, seed, first = (list(map(int, words[1:])) + [0, 0])[:3]
-    comparison = Comparison(words[0], whole)
-    if first == 0 and not whole:
+def compare_shortened(program, count, seed=0):
+    comparison = Comparison(program)
+    for number in range(count):
+        comparison.compare("shortened %d:%d" % (seed, number), cases.shortened_case(seed, number))
+    return comparison
+
+
+def compare_random(program, count, seed=0, first=0):
+    comparison = Comparison(program)
+    if first == 0:
         for name, data in cases.fixed_cases().items():
             comparison.compare("fixed, " + name, data)
     for number in range(first, first + count):
         comparison.compare("random %d:%d" % (seed, number), cases.case(seed, number))
+    return comparison
+
+
+def asked_for(words):
+    """What compares the program, and the numbers that it is told; None where the words ask for nothing."""
+    kind, numbers = (words[1], words[2:]) if words[1:] and words[1].startswith("--") else ("", words[1:])
+    if kind in LISTED and not numbers:
+        return (lambda program: compare_listed(program, kind)), []
+    compare, most = COUNTED.get(kind, (None, 0))
+    if 1 <= len(numbers) <= most and all(number.isdigit() for number in numbers):
+        return compare, [int(number) for number in numbers]
+    return None
+
+
+def main(words):
+    asked = asked_for(words)
+    if asked is None:
+        sys.exit(USAGE)
+    compare, numbers = asked
+    comparison = compare(words[0], *numbers)
     comparison.summary()
     sys.exit(1 if comparison.mismatches else 0)
+
+
+COUNTED = {"": (compare_random, 3), "--generated": (compare_generated, 1), "--shortened": (compare_shortened, 2)}
+USAGE = "usage: compare.py PROGRAM COUNT [SEED [FIRST]], or compare.py PROGRAM --places|--small|--generated COUNT|--shortened COUNT [SEED]"
 
 
 if __name__ == "__main__":

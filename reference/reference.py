@@ -1,20 +1,18 @@
 #!/usr/bin/env python3
 """An independent layout of link descriptions: plain, slow, and made from the written rules alone.
 
-usage: reference.py [--whole] WORDS.. < DESCRIPTION
+usage: reference.py WORDS.. < DESCRIPTION
        reference.py --reach|--placement < DESCRIPTION
 
-Writes what the program is to write and ends with the status that it is to end with. It reads and
-checks whole descriptions, says what isn't laid out yet, and lays out the rest. With --whole it lays
-out what the program doesn't carry yet as well. With --reach it writes what
-the traversal answers: the live sections, the flags of all symbols, and the output sections that are kept.
+Writes what the program is to write and ends with the status that it is to end with. With --reach it writes
+what the traversal answers: the live sections, the flags of all symbols, and the output sections that are kept.
 With --placement it writes what placement answers beside the report: whether the plan is plain, the bytes of
 the headers, the counters, merged records, compacted segments, and the end of thread-local data.
 """
 
 import sys
 
-from rules.checking import NOT_CARRIED, check_carried, check_link
+from rules.checking import check_link
 from rules.generated import generated_description, seed_and_size, summary_line
 from rules.json_text import read_json
 from rules.layout import placement_lines, report
@@ -37,22 +35,20 @@ def link_of(data):
 
 
 def generated_lines(words):
-    """The line of the layout of a generated link, which has nothing that isn't carried."""
+    """The line of the layout of a generated link."""
     seed, size = seed_and_size(words)
     link = description(generated_description(seed, size))
     check_link(link)
     yield summary_line(link, seed, size)
 
 
-def report_lines(words, data, refused):
-    """The lines of the report, unless the link has something of what is refused as not carried."""
+def report_lines(words, data):
+    """The lines of the report."""
     if words[:1] == ["gen"]:
         return generated_lines(words)
     if len(words) != 2 or words[0] != "layout" or words[1] not in WORKERS:
         raise usage()
-    link = link_of(data)
-    check_carried(link, refused)
-    return report(link)
+    return report(link_of(data))
 
 
 def answer_of(make_lines, *inputs):
@@ -66,12 +62,7 @@ def answer_of(make_lines, *inputs):
 
 def answer(words, data):
     """The status and the bytes that these words and this input give."""
-    return answer_of(report_lines, words, data, NOT_CARRIED)
-
-
-def whole_answer(words, data):
-    """The same where what isn't carried yet is laid out as well."""
-    return answer_of(report_lines, words, data, ())
+    return answer_of(report_lines, words, data)
 
 
 def reach_answer(_, data):
@@ -85,7 +76,7 @@ def placement_answer(_, data):
 
 
 # What is asked of the reference alone, by the first word.
-OWN_WORDS = {"--whole": whole_answer, "--reach": reach_answer, "--placement": placement_answer}
+OWN_WORDS = {"--reach": reach_answer, "--placement": placement_answer}
 
 
 def own_answer(words, data):

@@ -4,8 +4,7 @@
 usage: selftest.py [PROGRAM]
 
 Tries the reference, or PROGRAM where one is given, on all examples that are written down: those of
-known/, of the documents and of examples/. Ends with 1 where an answer is another one. Where an answer
-is one that the program will give when it carries more, it may say so as the reference does.
+known/, of the documents and of examples/. Ends with 1 where an answer is another one.
 """
 
 import sys
@@ -24,28 +23,25 @@ def answer_of(program, example):
         return program_answer(program, example.words, data)
     if example.is_own():
         return reference.own_answer(example.words, data)
-    return (reference.whole_answer if example.whole else reference.answer)(example.words, data)
+    return reference.answer(example.words, data)
 
 
 def main(words):
     if len(words) > 1:
         sys.exit("usage: selftest.py [PROGRAM]")
     program = words[0] if words else None
-    count = later = wrong = 0
+    count = wrong = 0
     for example in written.all_examples():
         if program is not None and example.is_own():
             continue
         wanted, got = (example.status, example.text.encode()), answer_of(program, example)
-        if got != wanted and example.whole and got == reference.answer(example.words, example.data.encode()):
-            later += 1
-            continue
         count += 1
         if got != wanted:
             wrong += 1
             print("WRONG: %s, words %r, input\n%s" % (example.place, example.words, example.data[:SHORT]))
             print("wanted %d\n%s" % (example.status, example.text))
             print("got %s\n%s" % (got[0], got[1].decode("utf-8", "replace")))
-    print("%d examples, %d wrong" % (count, wrong) + (", %d not carried yet" % later if later else ""))
+    print("%d examples, %d wrong" % (count, wrong))
     sys.exit(1 if wrong or not count else 0)
 
 

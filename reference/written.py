@@ -2,16 +2,14 @@
 
 In known/*.txt a line with a # is a remark. `words [..]` and `status N` say which words the program
 gets, and which status it is to end with, from there to the end of the file; without the first the
-words are `layout 0`. Words that begin with -- are the reference's own. `whole` says that the answers
-from there on are those which the program will give when it carries all of them; until then it may say
-that it doesn't. Each other block of lines, up to the next empty one, is an example: the line of its
-input, and the lines of its text. In an input, "«65 of X»" stands for 65 times X with commas between,
-and `quoted` before a JSON text says that the input is what the text says.
+words are `layout 0`. Words that begin with -- are the reference's own. Each other block of lines, up to
+the next empty one, is an example: the line of its input, and the lines of its text. In an input,
+"«65 of X»" stands for 65 times X with commas between, and `quoted` before a JSON text says that the
+input is what the text says.
 
 In documents an example is an indented line that is a JSON list or object, followed by the indented
 lines of its text; a "·" is a space at the end of a line, and what follows it a remark. In examples/
-the description and the text are files of the same name. Both are answers of a program that carries
-all of it, unless they say that it doesn't.
+the description and the text are files of the same name.
 """
 
 import collections
@@ -27,10 +25,9 @@ DOCUMENTS = ("FORMAT.md", "DECISIONS.md")
 LAYOUT_WORDS = ["layout", "0"]
 INDENT = " " * 4
 UNREADABLE_STARTS = ("not JSON", "not a link description:", "input is longer")
-NOT_CARRIED_START = "not carried: "
 
 
-class Example(collections.namedtuple("Example", "place words data status text whole")):
+class Example(collections.namedtuple("Example", "place words data status text")):
     def is_own(self):
         """Whether its words are those of the reference alone."""
         return self.words[:1] and self.words[0].startswith("--")
@@ -60,11 +57,11 @@ def input_of(line):
 
 def known_examples(path):
     """The examples of a file of known answers."""
-    words, status, whole, block, first = LAYOUT_WORDS, None, False, [], 0
+    words, status, block, first = LAYOUT_WORDS, None, [], 0
     for number, line in lines_of(path):
         if line == "" and block:
             place = "%s:%d" % (os.path.relpath(path, TOP), first)
-            yield Example(place, words, input_of(block[0]), status, joined(block[1:]), whole)
+            yield Example(place, words, input_of(block[0]), status, joined(block[1:]))
             block = []
         elif block:
             block.append(line)
@@ -72,8 +69,6 @@ def known_examples(path):
             words = json.loads(line[len("words ") :])
         elif line.startswith("status "):
             status = int(line[len("status ") :])
-        elif line == "whole":
-            whole = True
         elif line != "" and not line.startswith("#"):
             block, first = [line], number
 
@@ -83,8 +78,7 @@ def known_examples(path):
 
 def laid_down(place, data, text):
     """An example with this text."""
-    whole = not text.startswith(NOT_CARRIED_START)
-    return Example(place, LAYOUT_WORDS, data, status_of(text), text, whole)
+    return Example(place, LAYOUT_WORDS, data, status_of(text), text)
 
 
 def status_of(text):

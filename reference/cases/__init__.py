@@ -1,5 +1,6 @@
 """Link descriptions to try a program on: random small ones, and fixed ones at the limits."""
 
+import json
 import random
 
 from .faults import break_rules
@@ -7,16 +8,17 @@ from .fixed import fixed_cases
 from .good import good_description, move_to_the_edge
 from .richer import make_richer
 from .shapes import break_shape, random_shapes
+from .shortened import shortened_description
 from .texts import break_text, json_text
 from .wide import widen
 
-__all__ = ["case", "fixed_cases"]
+__all__ = ["case", "fixed_cases", "shortened_case"]
 
 # Kinds of random descriptions, with their weights.
 MIX = {
     "to be laid out": 46,
     "close to the greatest address": 8,
-    "with what isn't laid out yet": 9,
+    "with what plain links lack": 9,
     "with a broken rule": 21,
     "with a wrong shape": 8,
     "of random shapes": 8,
@@ -34,7 +36,7 @@ def random_description(rng):
     widen(rng, description)
     if kind == "close to the greatest address":
         move_to_the_edge(rng, description)
-    elif kind == "with what isn't laid out yet":
+    elif kind == "with what plain links lack":
         make_richer(rng, description)
     elif kind != "to be laid out":
         if rng.random() < RICHER_SHARE:
@@ -49,3 +51,9 @@ def case(seed, number):
     rng = random.Random("%d:%d" % (seed, number))
     text = json_text(rng, random_description(rng)).encode("utf-8", "surrogatepass")
     return break_text(rng, text) if rng.random() < BROKEN_TEXTS else text
+
+
+def shortened_case(seed, number):
+    """The bytes of the random case of that number in which relaxation mostly leaves something out."""
+    rng = random.Random("shortened %d:%d" % (seed, number))
+    return json.dumps(shortened_description(rng)).encode("utf-8", "surrogatepass")

@@ -1,4 +1,4 @@
-"""Random well-formed descriptions without anything that isn't laid out yet."""
+"""Random well-formed descriptions of plain links: sections, symbols, references, and strings that are merged."""
 
 import json
 
@@ -177,7 +177,7 @@ def good_description(rng):
 
 def greatest_ends(description):
     """The greatest ends in memory and in the file, or None where the layout is refused."""
-    status, text = reference.whole_answer(["layout", "0"], json.dumps(description).encode())
+    status, text = reference.answer(["layout", "0"], json.dumps(description).encode())
     if status != reference.LAID_OUT:
         return None
     lines = [line.split() for line in text.decode().splitlines() if line.startswith("part ")]

@@ -1,4 +1,4 @@
-"""What isn't laid out yet, added to well-formed descriptions so that they stay well formed."""
+"""What plain links lack, added to well-formed descriptions so that they stay well formed."""
 
 from rules import listed
 
@@ -108,7 +108,7 @@ def add_symbols(rng, description, file):
     put_symbols(description, file, symbols)
 
 
-# What isn't laid out yet
+# What plain links lack
 
 
 def add_debug(rng, description):
@@ -269,7 +269,7 @@ ADDITIONS = (
 
 
 def make_richer(rng, description):
-    """Adds one to four things that aren't laid out yet, and connects them."""
+    """Adds one to four things that plain links lack, and connects them."""
     for _ in range(rng.choice((1, 1, 1, 2, 4))):
         rng.choice(ADDITIONS)(rng, description)
     connect(rng, description)

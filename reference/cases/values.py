@@ -3,7 +3,6 @@
 import copy
 
 from rules import listed
-from rules.checking import NOT_CARRIED
 
 PAGES = (1, 2, 16, 4096, 4096, 4096, 65536)
 ALIGNMENTS = (1, 1, 2, 4, 8, 16, 64, 256, 4096, 65536)
@@ -11,21 +10,6 @@ ATTRIBUTES = (1, 1, 1, 3, 3, 5, 5, 17, 19, 0, 0, 16, 2, 7, 23)
 BASES = (0, 1, 4096, 4095, 4194304, 4194304, 4194304, 2**32, 2**63)
 NAMES = ("a.o", "", "b b.o", "\u00e9\u4e16", 'q"\\/\n\t', "\U0001f600", "x" * 300, "\u0000", ".L1")
 TRUTHS = (False, True)
-
-
-class Made:
-    """The words of what descriptions that are to be laid out don't have."""
-
-    left_out = set(NOT_CARRIED)
-
-    @classmethod
-    def widen(cls):
-        """From now on they have what the program doesn't carry yet."""
-        cls.left_out = set()
-
-
-def is_made(word):
-    return word not in Made.left_out
 
 
 class Written:

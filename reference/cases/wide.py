@@ -14,7 +14,7 @@ from .richer import (
     set_primary,
     set_relax,
 )
-from .values import NAMES, TRUTHS, all_files, all_parts, all_symbols, is_made, objects, optional
+from .values import NAMES, TRUTHS, all_files, all_parts, all_symbols, objects, optional
 
 STEPS = (0, 1, 3, 4, 8, 16, 100, 4096)
 REGION_NAMES = ("a", "b", "")
@@ -251,20 +251,21 @@ def make_relaxed(rng, description):
     make_code(rng, description)
 
 
-WIDER = {
-    "primary": (0.15, add_thunks),
-    "relax": (0.2, make_relaxed),
-    "sorted": (0.1, add_sorted),
-    "symbol": (0.3, add_own_symbols),
-    "plan": (0.5, widen_plan),
-    "table": (0.3, add_tables),
-    "output": (0.3, set_output),
-    "partial": (0.1, make_partial),
-}
+# What may be added, each with the share of descriptions that get it.
+WIDER = (
+    (0.15, add_thunks),
+    (0.2, make_relaxed),
+    (0.1, add_sorted),
+    (0.3, add_own_symbols),
+    (0.5, widen_plan),
+    (0.3, add_tables),
+    (0.3, set_output),
+    (0.1, make_partial),
+)
 
 
 def widen(rng, description):
-    """Adds what may be made by now."""
-    for word, (share, add) in WIDER.items():
-        if is_made(word) and rng.random() < share:
+    """Adds what not every description has."""
+    for share, add in WIDER:
+        if rng.random() < share:
             add(rng, description)

@@ -1,8 +1,8 @@
-"""The limits and the rules that a link description keeps, and what isn't laid out yet."""
+"""The limits and the rules that a link description keeps, each with how it is refused."""
 
 from . import listed
 from .links import files_of, inputs_of, parts_of, symbols_of
-from .refusal import bad_link, not_carried, too_many
+from .refusal import bad_link, too_many
 
 ALIGNMENTS = frozenset(2**power for power in range(17))
 MERGE_UNIT = 256
@@ -353,23 +353,3 @@ def check_link(link):
     check_limits(link)
     for check in RULES:
         check(link)
-
-
-# What isn't laid out yet
-
-# The words of what the program doesn't carry yet.
-NOT_CARRIED = ("relax", "symbol")
-
-
-def uncarried(link):
-    """What may not be laid out yet, in the order in which it is looked for, with whether the link has it."""
-    owners = {file.kind for file, _ in symbols_of(link)}
-    yield "relax", link.options.relax
-    yield "symbol", owners.intersection(listed.OWN_FILES)
-
-
-def check_carried(link, refused):
-    """Refuses the first thing that the link has of those with these words."""
-    for what, present in uncarried(link):
-        if present and what in refused:
-            raise not_carried(what)

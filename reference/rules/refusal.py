@@ -32,10 +32,6 @@ def bad_link(rule, place):
     return Refusal(REFUSED, "bad link: rule %d, %s" % (rule, place))
 
 
-def not_carried(what):
-    return Refusal(REFUSED, "not carried: " + what)
-
-
 def not_terminated(section, number):
     text = "String in merge-string section is not null-terminated: section %d, input %d"
     return Refusal(REFUSED, text % (section, number))

@@ -10,6 +10,7 @@ use Rattle.lk_link.specs.Symbols.{file_number, first_symbol}
 use Rattle.lk_link.proofs.Elements.{flat_map_in}
 use Rattle.lk_link.proofs.InputLemmas.{file_stands, numbered_get}
 use Rattle.lk_reach.specs.Units.{local_definition}
+use Rattle.lk_relax.specs.Deletions.{mapped_by}
 use Rattle.lk_thunks.specs.declared.arch.ThunkConfig.{ThunkConfig}
 use Rattle.lk_thunks.specs.declared.reach.BranchSite.{BranchSite}
 use Rattle.lk_thunks.specs.Reach.{is_near, reaches}
@@ -72,6 +73,6 @@ branches_reach by none config id file i k r target some b goes =
     let of_one = nothing_at (relocation_unreached by config f i standing) b.section.relocs k r of_relocations b.relocation in
     let reached : is_reaching config by.resolutions standing r.offset d ≡ true
     = passes r.thunkable (is_reaching config by.resolutions standing r.offset d) (record { file = id; section = i; relocation = k }) b.thunkable of_one in
-    let site : BranchSite = record { site = standing.address + r.offset; target = target; thunk = option_and_then (thunk_in config.thunk_size d) standing.thunks } in
+    let site : BranchSite = record { site = standing.address + mapped_by standing.deleted r.offset; target = target; thunk = option_and_then (thunk_in config.thunk_size d) standing.thunks } in
     near_one config.min_branch_range site.site target site.thunk
     (sym (ap (λ (o : Option ℕ). option_map_or (λ t. reaches config.min_branch_range (record site { target = t })) o true) goes) ∙ reached)

@@ -2,7 +2,8 @@
 use Rattle.std.proofs.Common.{◌≡◌, ℕ, ◌+◌, ◌*◌, ◌<◌, ◌≤◌, ◌==◌, Bool, true, false, List, [], find, length, Option, Some, None, IsSome, position, refl, sym, ap, ◌∙◌, arith, inl, inr}
 use Rattle.std.specs.Prelude.{option_map}
 use Rattle.std.specs.List.{slice_get, slice_index_or}
-use Rattle.std.proofs.lemmas.Bool.{cases_lt}
+use Rattle.std.proofs.lemmas.Bool.{cases_lt, eqb-true}
+use Rattle.std.proofs.lemmas.List.Quantifiers.{position-Some}
 use Rattle.std.proofs.lemmas.Nat.{mul-le}
 use Rattle.std.proofs.lemmas.Option.{get_or_from_slice_get, slice_get_within}
 use Rattle.lk_link.specs.declared.file.InputFile.{InputFile}
@@ -19,6 +20,7 @@ use Rattle.lk_sizes.proofs.OwnersOnce.{thunks_are_owners}
 use Rattle.lk_thunks.specs.SetLaws.{IsRising}
 use Rattle.lk_thunks.proofs.Places.{found_there}
 use Rattle.lk_branches.specs.BranchLaws.{ThunksHaveRanges}
+use Rattle.lk_branches.specs.Branches.{thunk_in}
 use Rattle.lk_branches.specs.Orders.{owning}
 use Rattle.lk_branches.specs.ThunkPlans.{config_for, owned_bytes, planned_sets, planned_users, thunk_owners, thunk_size, thunked}
 use Rattle.lk_branches.proofs.CodeFits.{takes}
@@ -61,6 +63,32 @@ more i j size lt =
     let next : i * size + size ≡ (i + 1) * size = omega arith in
     omega (arith, next, mul-le (i + 1) size j size (omega (arith, lt)) (omega arith))
 
+-- the rank of a definition that has a thunk
+ranked : (size begin d : ℕ) (set : List ℕ) (o : Option ℕ) (place : ℕ) → position (λ s. s == d) set ≡ o → option_map (λ r. begin + r * size) o ≡ Some place
+    → (rank : ℕ) × (rank < length set) × (slice_index_or set rank 0 ≡ d) × (begin + rank * size ≡ place)
+ranked size begin d set None place at told = absurd (cc)
+ranked size begin d set (Some rank) place at told =
+    let found = position-Some (λ s. s == d) set rank 0 at in
+    (rank, found.0, eqb-true (slice_index_or set rank 0) d found.1, cc)
+
+-- of two definitions the lower one's thunk ends before the other's begins
+apart : (size begin : ℕ) (set : List ℕ) (d e from behind : ℕ) → IsRising set → d < e → thunk_in size d (begin, set) ≡ Some from
+    → thunk_in size e (begin, set) ≡ Some behind → from + size ≤ behind
+apart size begin set d e from behind rising lt first second =
+    let i = ranked size begin d set (position (λ s. s == d) set) from refl first in
+    let j = ranked size begin e set (position (λ s. s == e) set) behind refl second in
+    let below : i.0 < j.0
+    = elim (cases_lt i.0 j.0) [
+      | inl before ↦ before
+      | inr other ↦ absurd (elim (cases_lt j.0 i.0) [
+        | inl turned ↦ omega (arith, rising j.0 i.0 turned i.1, i.2, j.2, lt)
+        | inr neither ↦
+            let same : i.0 ≡ j.0 = omega (arith, other, neither) in
+            omega (arith, ap (λ (k : ℕ). slice_index_or set k 0) same, i.2, j.2, lt)
+      ])
+    ] in
+    omega (arith, more i.0 j.0 size below, i.3, j.3)
+
 pub thunks_have_ranges : ThunksHaveRanges
 thunks_have_ranges thunks filling j k p id set good named at_user at_set =
     let link : LinkInput = filling.content.link in
@@ -85,5 +113,5 @@ thunks_have_ranges thunks filling j k p id set good named at_user at_set =
       inside = λ rank below.
           let turned : size * length set ≡ length set * size = omega arith in
           omega (arith, more rank (length set) size below, turned, takes (part_at link.plan.sections p) (size * length set) aligned);
-      apart = λ a b lt. more a b size lt;
+      apart = λ begin d e from behind lt first second. apart size begin set d e from behind rising lt first second;
     }

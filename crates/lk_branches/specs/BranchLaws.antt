@@ -16,6 +16,7 @@ use Rattle.lk_link.specs.Symbols.{first_symbol}
 use Rattle.lk_link.specs.WellFormed.{IsWellFormed}
 use Rattle.lk_gc.specs.declared.live.Live.{Live}
 use Rattle.lk_reach.specs.Units.{local_definition}
+use Rattle.lk_relaxing.specs.LinkDeletions.{output_offset}
 use Rattle.lk_sizes.specs.Owners.{AreThunkOwners, Filling, ThunkOwner, owner_bytes}
 use Rattle.lk_sizes.specs.PartOwners.{owners_of, thunk_number}
 use Rattle.lk_thunks.specs.declared.arch.ThunkConfig.{ThunkConfig}
@@ -47,12 +48,13 @@ Reaches by config id i section site d target =
     ⊎ ((thunk : ℕ) × (option_and_then (thunk_in config.thunk_size d) (standing_of by id (i, section)).thunks ≡ Some thunk)
     × AreNear config.min_branch_range site thunk)
 
--- so does each live branch whose target is known
+-- so does each live branch whose target is known, from where its offset goes by what is deleted of its section
 abbrev pub LiveBranchesReach : Branching → Type 0
 LiveBranchesReach by = (config : ThunkConfig) (id : FileId) (file : InputFile) (i k : ℕ) (r : Relocation) (target : ℕ)
     → by.config ≡ Some config → (b : IsBranch by.link by.live id file i k r)
     → branch_target by.resolutions (local_definition (first_symbol by.link.groups id) file.symbols r.symbol) ≡ Some target
-    → Reaches by config id i b.section (slice_index by.addresses (input_number by.link.groups id i) + r.offset)
+    → Reaches by config id i b.section
+    (slice_index by.addresses (input_number by.link.groups id i) + output_offset by.link.groups by.deletions id i r.offset)
     (local_definition (first_symbol by.link.groups id) file.symbols r.symbol) target
 
 -- where none is named that doesn't reach, all do
@@ -66,20 +68,16 @@ abbrev pub ThunkOwnersAreGood : Type 0
 ThunkOwnersAreGood = (thunks : Options → Plan → Option ThunkConfig) (filling : Filling)
     → AreThunkOwners filling.content.link (thunk_owners thunks filling)
 
--- the sets of a plan rise
-abbrev pub SetsOfPlansRise : Type 0
-SetsOfPlansRise = (thunks : Options → Plan → Option ThunkConfig) (filling : Filling) (k : ℕ) (set : List ℕ)
-    → slice_get (planned_sets thunks filling) k ≡ Some set → IsRising set
-
--- the thunks of a block, of so many bytes each, that a file owns in a part: they are an owner there, with all their bytes; and each
--- definition of the set, in rising order, has a range of its own inside
+-- the thunks of a block, of so many bytes each, that a file owns in a part: they are an owner there, with all their bytes; each
+-- definition of the set, in rising order, has a thunk inside; and those of two definitions have no byte in common
 pub record HaveRanges (filling : Filling) (p : ℕ) (id : FileId) (size : ℕ) (set : List ℕ) : Type 0 where
   pub owner : slice_get (owners_of filling p) (thunk_number filling p id) ≡ Some (ThunkOwner id (size * length set))
   pub rising : IsRising set
   pub told : (begin rank d : ℕ) → slice_get set rank ≡ Some d → thunk_in size d (begin, set) ≡ Some (begin + rank * size)
   pub inside : (rank : ℕ) → rank < length set
       → rank * size + size ≤ owner_bytes (part_at filling.content.link.plan.sections p) (ThunkOwner id (size * length set))
-  pub apart : (i j : ℕ) → i < j → i * size + size ≤ j * size
+  pub apart : (begin d e first second : ℕ) → d < e → thunk_in size d (begin, set) ≡ Some first → thunk_in size e (begin, set) ≡ Some second
+      → first + size ≤ second
 
 -- so stand the thunks of each block that a file owns, in the primary part of a well-formed link
 abbrev pub ThunksHaveRanges : Type 0

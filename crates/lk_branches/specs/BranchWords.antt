@@ -1,20 +1,37 @@
--- Words of private contracts: what branches go by as the code has it, and the next object of a walk over files.
+-- Words of private contracts: what branches go by as the code has it, what is at hand of a file, and the next object of a walk over
+-- files.
 use Rattle.std.specs.Prelude.{◌≡◌, ℕ, ◌<◌, ◌≤◌, ◌==◌, ◌&&◌, Bool, if◌then◌else◌, List, Option, Some, None, IfSome, option_and_then, option_map, slice_get}
+use Rattle.std.specs.Option.{option_copied}
 use Rattle.lk_link.specs.declared.ids.FileId.{FileId}
 use Rattle.lk_link.specs.declared.link.LinkInput.{LinkInput}
-use Rattle.lk_link.specs.Symbols.{file_number}
+use Rattle.lk_link.specs.Files.{file_in}
+use Rattle.lk_link.specs.Inputs.{first_input}
+use Rattle.lk_link.specs.Symbols.{file_number, first_symbol}
 use Rattle.lk_thunks.specs.SetLaws.{IsRising}
 use Rattle.lk_branches.specs.declared.check.Branches.{Branches}
+use Rattle.lk_branches.specs.declared.check.BranchFile.{BranchFile}
 use Rattle.lk_branches.specs.declared.check.Spot.{Spot}
-use Rattle.lk_branches.specs.Branches.{Branching, Standing, branching}
+use Rattle.lk_branches.specs.Branches.{Branching, Standing, block_of, branching}
 
 -- what branches go by, as contracts see it
 abbrev pub branching_of : Branches → Branching
-branching_of by = branching by.link.now by.live.now by.plan.now by.places.now by.addresses.now by.resolutions.now
+branching_of by = branching by.link.now by.live.now by.plan.now by.places.now by.addresses.now by.deltas.now by.resolutions.now
+
+-- what is at hand of a file is what the link, the plan and the deletions have of it
+pub record IsAtHand (by : Branching) (x : BranchFile) : Type 0 where
+  pub there : file_in by.link.groups x.file.id ≡ Some x.file.file.now
+  pub start : x.start ≡ first_input by.link.groups x.file.id
+  pub first : x.first ≡ first_symbol by.link.groups x.file.id
+  pub block : x.block ≡ block_of by.users x.file.id
+  pub entries : option_copied x.entries ≡ slice_get by.deletions (file_number by.link.groups x.file.id)
 
 -- where the branches of a section stand, as contracts see it
 abbrev pub standing_at : Spot → Standing
-standing_at spot = record { address = spot.address; thunks = option_map (λ q. (q.0, q.1.now.symbols)) spot.thunks }
+standing_at spot = record {
+  address = spot.address;
+  deleted = option_copied spot.deleted;
+  thunks = option_map (λ q. (q.0, q.1.now.symbols)) spot.thunks;
+}
 
 -- the definitions there rise
 abbrev pub SpotRises : Spot → Type 0

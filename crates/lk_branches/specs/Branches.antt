@@ -17,6 +17,8 @@ use Rattle.lk_link.specs.Marks.{is_marked}
 use Rattle.lk_link.specs.Symbols.{first_symbol}
 use Rattle.lk_gc.specs.declared.live.Live.{Live}
 use Rattle.lk_reach.specs.Units.{is_primary_section, local_definition}
+use Rattle.lk_relax.specs.Deletions.{mapped_by}
+use Rattle.lk_relaxing.specs.LinkDeletions.{Deletions, deleted_of}
 use Rattle.lk_thunks.specs.declared.arch.ThunkConfig.{ThunkConfig}
 use Rattle.lk_thunks.specs.Reach.{reaches}
 use Rattle.lk_values.specs.Resolutions.{resolution_at}
@@ -26,8 +28,8 @@ use Rattle.lk_branches.specs.declared.thunk_plan.ThunkPlan.{ThunkPlan}
 -- ---- what branches go by
 
 -- a link and what is live of it; how thunks are made; the definitions that each block has thunks for, each object with its block,
--- and where the thunks of each block begin, if they have addresses; the addresses of input sections, by number; and what symbols
--- stand for
+-- and where the thunks of each block begin, if they have addresses; the addresses of input sections, by number, and what is deleted of
+-- them; and what symbols stand for
 pub record Branching : Type 0 where
   pub link : LinkInput
   pub live : Live
@@ -36,11 +38,12 @@ pub record Branching : Type 0 where
   pub users : List (FileId × ℕ × Bool)
   pub places : List (Option ℕ)
   pub addresses : List ℕ
+  pub deletions : Deletions
   pub resolutions : List (Option Resolution)
 
 -- that of a plan
-abbrev pub branching : LinkInput → Live → ThunkPlan → List (Option ℕ) → List ℕ → List (Option Resolution) → Branching
-branching link live plan places addresses resolutions = record {
+abbrev pub branching : LinkInput → Live → ThunkPlan → List (Option ℕ) → List ℕ → Deletions → List (Option Resolution) → Branching
+branching link live plan places addresses deletions resolutions = record {
   link = link;
   live = live;
   config = plan.config;
@@ -48,6 +51,7 @@ branching link live plan places addresses resolutions = record {
   users = plan.users;
   places = places;
   addresses = addresses;
+  deletions = deletions;
   resolutions = resolutions;
 }
 
@@ -60,6 +64,10 @@ owns_block k u = u.2 && (u.1 == k)
 -- the object that owns block k, if one does
 abbrev pub block_owner : List (FileId × ℕ × Bool) → ℕ → Option FileId
 block_owner users k = option_map (λ u. u.0) (find (owns_block k) users)
+
+-- the object that owns each of some blocks, if one does
+abbrev pub owners_of_blocks : List (List ℕ) → List (FileId × ℕ × Bool) → List (Option FileId)
+owners_of_blocks sets users = map (λ q. block_owner users q.0) (enumerate_from 0 sets)
 
 -- where the thunks of each block begin: where those of its owner do; nowhere without owner
 abbrev pub block_places : (FileId → ℕ) → List (List ℕ) → List (FileId × ℕ × Bool) → List (Option ℕ)
@@ -97,25 +105,28 @@ block_for by id section = if is_primary_section by.link section then block_of by
 abbrev pub thunk_in : ℕ → ℕ → ℕ × List ℕ → Option ℕ
 thunk_in size d block = option_map (λ rank. block.0 + rank * size) (position (λ s. s == d) block.1)
 
--- where the branches of a section stand: its address, and the thunks by which they may go
+-- where the branches of a section stand: its address, what is deleted of it, and the thunks by which they may go
 pub record Standing : Type 0 where
   pub address : ℕ
+  pub deleted : Option (List (ℕ × ℕ))
   pub thunks : Option (ℕ × List ℕ)
 
 -- that of a section of a file, with its index there
 abbrev pub standing_of : Branching → FileId → ℕ × InputSection → Standing
 standing_of by id q = record {
   address = slice_index by.addresses (input_number by.link.groups id q.0);
+  deleted = deleted_of by.link.groups by.deletions id q.0;
   thunks = option_and_then (thunks_of by) (block_for by id q.1);
 }
 
 -- ---- branches
 
--- whether a branch at an offset of such a section reaches a definition, or the thunk for it; one whose target isn't known does
+-- whether a branch at an offset of such a section reaches a definition, or the thunk for it, from where the offset goes by what is
+-- deleted; one whose target isn't known does
 abbrev pub is_reaching : ThunkConfig → List (Option Resolution) → Standing → ℕ → ℕ → Bool
 is_reaching config resolutions standing offset d =
     option_map_or (λ target. reaches config.min_branch_range (record {
-      site = standing.address + offset;
+      site = standing.address + mapped_by standing.deleted offset;
       target = target;
       thunk = option_and_then (thunk_in config.thunk_size d) standing.thunks;
     })) (branch_target resolutions d) true

@@ -6,7 +6,6 @@
 
 ghost use Rattle.std.specs.Prelude.{◌≡◌, ◌+◌, ◌<◌, ◌^◌, ℕ, All, Option, Some, None, if◌then◌else◌, is_some, map, option_and_then, option_map, slice_get, slice_index};
 ghost use Rattle.std.specs.List.{flat_map};
-ghost use Rattle.lk_link.specs.declared.ids.FileId.{FileId};
 ghost use Rattle.lk_link.specs.Files.{file_in};
 ghost use Rattle.lk_link.specs.Flags.{has_flag};
 ghost use Rattle.lk_link.specs.Inputs.{input_number, numbered_files};
@@ -17,7 +16,7 @@ ghost use Rattle.lk_thunks.specs.Reach.{is_near};
 ghost use Rattle.lk_thunks.specs.SetLaws.{IsRising};
 ghost use Rattle.lk_values.specs.OutsideWords.{StopsAtFirst};
 ghost use Rattle.lk_branches.specs.Branches.{block_of, branch_target, branching, file_unreached, is_given_later, is_reaching, relocation_unreached, section_unreached, standing_of, target_of, thunk_in, thunks_of, unreached};
-ghost use Rattle.lk_branches.specs.BranchWords.{SpotRises, block_next, branching_of, standing_at};
+ghost use Rattle.lk_branches.specs.BranchWords.{IsAtHand, SpotRises, block_next, branching_of, standing_at};
 ghost use Rattle.lk_branches.specs.Orders.{IsInOrder};
 
 use crate::thunk_plan::ThunkPlan;
@@ -28,6 +27,9 @@ use lk_link::{
 };
 use lk_reach::local_definition;
 use lk_reach::reaching::is_primary_section;
+use lk_relax::{RelaxDeltaMap, SectionRelaxDeltas, opt_input_to_output};
+use lk_relaxing::deletions::map_of;
+use lk_relaxing::positions::deleted_in;
 use lk_thunks::{ThunkBlock, ThunkBlockId, ThunkConfig};
 use lk_values::SymbolResolutions;
 use std::fmt;
@@ -71,31 +73,52 @@ pub(crate) struct Branches<'a> {
     places: &'a [Option<u64>],
     /// Of input sections, by number over all files.
     addresses: &'a [u64],
+    /// What is deleted of the sections of each file, by the file's number over all groups.
+    deltas: &'a [RelaxDeltaMap],
     resolutions: &'a SymbolResolutions,
 }
 
-/// Where the branches of a section stand: the section's address, and the thunks by which they may go, with where these begin.
+/// A file whose branches are looked at.
+#[derive(Clone, Copy)]
+pub(crate) struct BranchFile<'a> {
+    file: FileRef<'a>,
+    /// The number of its first section over all files.
+    start: usize,
+    /// The number of its first symbol.
+    first: u32,
+    /// Its block, if it is in one.
+    block: Option<usize>,
+    /// What is deleted of its sections, if there is an entry for it.
+    entries: Option<&'a RelaxDeltaMap>,
+}
+
+/// Where the branches of a section stand.
 #[derive(Clone, Copy)]
 pub(crate) struct Spot<'a> {
+    /// The section's address.
     address: u64,
+    /// What is deleted of it.
+    deleted: Option<&'a SectionRelaxDeltas>,
+    /// The thunks by which they may go, with where these begin.
     thunks: Option<(u64, &'a ThunkBlock)>,
 }
 
 /// Refuses the first live branch that reaches neither its target nor the thunk for it, by where the thunks of each block begin, the
-/// addresses of input sections by number over all files, and what symbols stand for. Nothing is refused where no thunks are made.
-/// Looks once at each relocation of live sections; takes no memory, and logarithmic time in a block's thunks for a branch whose
-/// target isn't near.
+/// addresses of input sections by number over all files, what is deleted of the sections of each file by its number over all groups, and
+/// what symbols stand for. Nothing is refused where no thunks are made. Looks once at each relocation of live sections; takes no memory,
+/// and for each branch logarithmic time in what is deleted of its section, for one whose target isn't near also in a block's thunks.
 pub fn check_branches(
     link: &LinkInput,
     live: &Live,
     plan: &ThunkPlan,
     places: &[Option<u64>],
     addresses: &[u64],
+    deltas: &[RelaxDeltaMap],
     resolutions: &SymbolResolutions,
 ) -> Result<(), BranchPlace>
     requires good { IsWellFormed link.now }
     requires order { IsInOrder link.now plan.now }
-    ensures { StopsAtFirst (unreached (branching link.now live.now plan.now places.now addresses.now resolutions.now)) result }
+    ensures { StopsAtFirst (unreached (branching link.now live.now plan.now places.now addresses.now deltas.now resolutions.now)) result }
 {
     let Some(config) = &plan.config else {
         return Ok(());
@@ -106,6 +129,7 @@ pub fn check_branches(
         plan,
         places,
         addresses,
+        deltas,
         resolutions,
     };
     check_files(&by, config)
@@ -144,10 +168,10 @@ fn take_block(
 }
 
 /// Refuses the first branch of a file that doesn't reach. `block` is that of the file.
-fn check_file(
-    by: &Branches<'_>,
+fn check_file<'a>(
+    by: &Branches<'a>,
     config: &ThunkConfig,
-    file: FileRef<'_>,
+    file: FileRef<'a>,
     block: Option<usize>,
 ) -> Result<(), BranchPlace>
     requires good { IsWellFormed by.now.link.now }
@@ -162,82 +186,66 @@ fn check_file(
     let Some(numbers) = by.link.groups.symbol_id_range(file.id) else {
         return Ok(());
     };
-    let first = numbers.start().as_u32();
+    let at = BranchFile {
+        file,
+        start,
+        first: numbers.start().as_u32(),
+        block,
+        entries: map_of(by.link, by.deltas, file.id),
+    };
     for (index, section) in file.file.sections.as_slice().iter().enumerate() {
-        let number = start + index;
-        check_section(
-            by,
-            config,
-            block,
-            first,
-            number,
-            file,
-            index as u32,
-            section,
-        )?;
+        check_section(by, config, &at, index as u32, section)?;
     }
     Ok(())
 }
 
-/// Refuses the first branch of a section that doesn't reach, if the section is live and loaded for what it holds. `first` is the
-/// number of the first of the file's symbols, `number` that of the section over all files, `block` that of the file.
-fn check_section(
-    by: &Branches<'_>,
+/// Refuses the first branch of a section with this index that doesn't reach, if the section is live and loaded for what it holds.
+fn check_section<'a>(
+    by: &Branches<'a>,
     config: &ThunkConfig,
-    block: Option<usize>,
-    first: u32,
-    number: usize,
-    file: FileRef<'_>,
+    at: &BranchFile<'a>,
     index: u32,
     section: &InputSection,
 ) -> Result<(), BranchPlace>
     requires good { IsWellFormed by.now.link.now }
     requires sets { All IsRising (map (λ b. b.symbols) by.now.plan.now.blocks) }
-    requires there { file_in by.now.link.now.groups file.id ≡ Some file.file.now }
-    requires section { slice_get file.file.now.sections index ≡ Some section.now }
-    requires block { block ≡ block_of by.now.plan.now.users file.id }
-    requires first { first ≡ first_symbol by.now.link.now.groups file.id }
-    requires number { number ≡ input_number by.now.link.now.groups file.id index }
-    ensures { StopsAtFirst (section_unreached (branching_of by.now) config.now (file_of file.entry) (index, section.now)) result }
+    requires file { IsAtHand (branching_of by.now) at.now }
+    requires section { slice_get at.now.file.file.now.sections index ≡ Some section.now }
+    ensures { StopsAtFirst (section_unreached (branching_of by.now) config.now (file_of at.now.file) (index, section.now)) result }
 {
+    let number = at.start + index as usize;
     if !is_marked(by.live.marks.as_slice(), number) || !section.slot.is_regular() {
         return Ok(());
     }
-    let spot = spot_of(by, block, number, section);
+    let spot = spot_of(by, at, number, index, section);
     for (place, relocation) in section.relocs.as_slice().iter().enumerate() {
-        check_relocation(
-            by,
-            config,
-            spot,
-            first,
-            file,
-            index,
-            place as u32,
-            *relocation,
-        )?;
+        check_relocation(by, config, at, spot, index, place as u32, *relocation)?;
     }
     Ok(())
 }
 
-/// Where the branches of a section stand, by its number over all files and the block of its file.
+/// Where the branches of a section stand, with this number over all files and this index in its file.
 fn spot_of<'a>(
     by: &Branches<'a>,
-    block: Option<usize>,
+    at: &BranchFile<'a>,
     number: usize,
+    index: u32,
     section: &InputSection,
 ) -> Spot<'a>
-    requires { All IsRising (map (λ b. b.symbols) by.now.plan.now.blocks) }
-    ensures spot { (id : FileId) (index : ℕ) → number ≡ input_number by.now.link.now.groups id index → block ≡ block_of by.now.plan.now.users id
-        → standing_at result ≡ standing_of (branching_of by.now) id (index, section.now) }
+    requires sets { All IsRising (map (λ b. b.symbols) by.now.plan.now.blocks) }
+    requires file { IsAtHand (branching_of by.now) at.now }
+    requires number { number ≡ input_number by.now.link.now.groups at.now.file.id index }
+    ensures spot { standing_at result ≡ standing_of (branching_of by.now) at.now.file.id (index, section.now) }
     ensures rising { SpotRises result }
 {
     let block = if is_primary_section(by.link, section) {
-        block
+        at.block
     } else {
         Some(ThunkBlockId::FIRST.as_usize())
     };
     Spot {
         address: address_at(by.addresses, number),
+        deleted: deleted_in(at.entries, index),
         thunks: thunks_of(by, block),
     }
 }
@@ -266,33 +274,34 @@ fn thunks_of<'a>(by: &Branches<'a>, block: Option<usize>) -> Option<(u64, &'a Th
 fn check_relocation(
     by: &Branches<'_>,
     config: &ThunkConfig,
+    at: &BranchFile<'_>,
     spot: Spot<'_>,
-    first: u32,
-    file: FileRef<'_>,
     section: u32,
     number: u32,
     relocation: Relocation,
 ) -> Result<(), BranchPlace>
     requires rising { SpotRises spot }
-    requires first { first ≡ first_symbol by.now.link.now.groups file.id }
-    requires number { first + relocation.symbol < 2 ^ 32 }
-    ensures { StopsAtFirst (relocation_unreached (branching_of by.now) config.now (file_of file.entry) section (standing_at spot.entry) (number, relocation)) result }
+    requires first { at.now.first ≡ first_symbol by.now.link.now.groups at.now.file.id }
+    requires number { at.now.first + relocation.symbol < 2 ^ 32 }
+    ensures { StopsAtFirst (relocation_unreached (branching_of by.now) config.now (file_of at.now.file) section (standing_at spot.entry) (number, relocation)) result }
 {
     if !relocation.thunkable {
         return Ok(());
     }
-    let definition = local_definition(first, file.file.symbols.as_slice(), relocation.symbol);
+    let symbols = at.file.file.symbols.as_slice();
+    let definition = local_definition(at.first, symbols, relocation.symbol);
     if is_reaching(config, by.resolutions, spot, relocation.offset, definition) {
         return Ok(());
     }
     Err(BranchPlace {
-        file: file.id,
+        file: at.file.id,
         section,
         relocation: number,
     })
 }
 
-/// Whether a branch at an offset of a section reaches a definition, or the thunk for it; one whose target isn't known does.
+/// Whether a branch at an offset of a section reaches a definition, or the thunk for it, from where the offset goes by what is deleted;
+/// one whose target isn't known does.
 fn is_reaching(
     config: &ThunkConfig,
     resolutions: &SymbolResolutions,
@@ -306,7 +315,8 @@ fn is_reaching(
     let Some(target) = branch_target(resolutions, definition) else {
         return true;
     };
-    let site = u128::from(spot.address) + u128::from(offset);
+    let moved = opt_input_to_output(spot.deleted, offset);
+    let site = u128::from(spot.address) + u128::from(moved);
     is_near(config.min_branch_range, site, u128::from(target))
         || match thunk_at(config.thunk_size, spot, definition) {
             Some(thunk) => is_near(config.min_branch_range, site, thunk),

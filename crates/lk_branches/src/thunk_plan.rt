@@ -112,7 +112,7 @@ fn planned(
 {
     let start = code_before(alloc, link, live, contents)?;
     let (blocks, users) = builder.build(alloc, link, live, start)?;
-    let owners = block_owners(alloc, config.thunk_size, &blocks, &users)?;
+    let owners = owners_among(alloc, config.thunk_size, &blocks, &users)?;
     Ok(ThunkPlan {
         config: Some(config),
         blocks: List::from_vec(blocks),
@@ -196,7 +196,7 @@ fn is_primary(link: &LinkInput, part: PartId) -> bool
 }
 
 /// The bytes of the thunks of each block, by the object that owns it.
-fn block_owners(
+fn owners_among(
     alloc: Global,
     size: u64,
     blocks: &[ThunkBlock],

@@ -1,4 +1,4 @@
 mod FilesOfSymbols
 mod GroupEnds
-mod RedirectLaws
+pub mod RedirectLaws
 mod Redirecting

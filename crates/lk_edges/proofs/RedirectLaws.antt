@@ -277,6 +277,7 @@ first_holds {S} store alone placed kept next final n q qs behind here rest all t
           record {
             value = value;
             is = by_all placed q (store.value_of final) value (ap (redirect_value placed q) same ∙ set.1.1);
+            by_earlier = ap (redirect_value placed q) same ∙ set.1.1;
             own = stays store alone placed is (q.symbol + 1) q.symbol next final qs behind.2 rest (λ m le one. below_other q.symbol (q.symbol + 1) m (omega arith) le)
                 ∙ ap (λ (k : S). store.value_of k q.symbol) (sym set.1.2)
                 ∙ alone kept q.symbol value q.symbol
@@ -303,7 +304,7 @@ each_holds {S} store alone placed kept final n (r ∷ qs) (suc k) q behind h at 
     let far : r.symbol + 1 ≤ q.symbol = found_behind (is_redirect placed.groups) (r.symbol + 1) qs k q behind.2 at in
     let same : store.value_of on.0 q.symbol ≡ store.value_of kept q.symbol = one_keeps store alone placed kept on.0 r q.symbol on.1 (above_other q.symbol r.symbol far) in
     let there = each_holds store alone placed on.0 final (r.symbol + 1) qs k q behind.2 on.2 at (alike_left q (store.value_of kept) (store.value_of on.0) same told) in
-    record { value = there.value; is = there.is; own = there.own ∙ ap (λ (o : Option ℕ). option_map (λ _. there.value) o) same }
+    record { value = there.value; is = there.is; by_earlier = there.by_earlier; own = there.own ∙ ap (λ (o : Option ℕ). option_map (λ _. there.value) o) same }
 
 pub redirects_hold : {S : Type 0} (store : Store S) → SetsAlone store → (placed : AllPlaced) (kept final : S)
     → redirected store placed kept (redirects_of placed.groups) ≡ Ok final → RedirectsHold placed (store.value_of kept) (store.value_of final)
@@ -314,3 +315,34 @@ redirects_hold store alone placed kept final h =
       others = λ s none. stays store alone placed is 0 s kept final (redirects_of placed.groups) (all_behind placed.groups) h (λ m le one. not_one is s m none one);
       had = λ s. all_had store alone placed s kept final (redirects_of placed.groups) h;
     }
+
+-- ---- what is kept, whatever it is
+
+one_behind : (is : ℕ → Bool) (n : ℕ) (qs : List Redirect) (k : ℕ) (q : Redirect) → AreBehind is n qs → slice_get qs k ≡ Some q → is q.symbol ≡ true
+unfolding AreBehind
+one_behind is n [] k q h at = absurd (cc)
+one_behind is n (r ∷ qs) zero q h at =
+    let same : r ≡ q = cc in
+    ap (λ (x : Redirect). is x.symbol) (sym same) ∙ h.1
+one_behind is n (r ∷ qs) (suc k) q h at = one_behind is (r.symbol + 1) qs k q h.2 at
+
+-- each redirect of a link is one by its symbol
+pub each_is_one : (groups : List (List InputFile)) (k : ℕ) (q : Redirect) → slice_get (redirects_of groups) k ≡ Some q → is_redirect groups q.symbol ≡ true
+each_is_one groups k q at = one_behind (is_redirect groups) 0 (redirects_of groups) k q (all_behind groups) at
+
+-- what is so of what is kept, and stays so with any value of a redirect's symbol, is so behind all of them
+pub goes_through : {S : Type 0} (store : Store S) (placed : AllPlaced) (P : S → Type 0) (kept final : S) (qs : List Redirect)
+    → ((k : ℕ) (q : Redirect) (now : S) (n : ℕ) → slice_get qs k ≡ Some q → P now → P (store.with_value now q.symbol n))
+    → redirected store placed kept qs ≡ Ok final → P kept → P final
+unfolding redirected
+goes_through {S} store placed P kept final [] step h is =
+    let same : kept ≡ final = cc in
+    subst P same is
+goes_through {S} store placed P kept final (q ∷ qs) step h is =
+    let on = taken (redirected_by store placed kept q) (λ (next : S). redirected store placed next qs) final h in
+    let next : P on.0
+    = elim (came store kept on.0 q.symbol (is_left_out q (store.value_of kept)) (redirect_value placed q (values_before placed.groups q.symbol (store.value_of kept))) on.1) [
+      | inl left ↦ subst P left.1 is
+      | inr set ↦ subst P set.1.2 (step 0 q kept set.1.0 refl is)
+    ] in
+    goes_through store placed P on.0 final qs (λ k r now n at. step (suc k) r now n at) on.2 next

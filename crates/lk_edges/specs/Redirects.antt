@@ -143,10 +143,12 @@ abbrev pub SetsAlone : {S : Type 0} → Store S → Type 0
 SetsAlone {S} store = (kept : S) (s value t : ℕ) → store.value_of (store.with_value kept s value) t
     ≡ (if t == s then option_map (λ _. value) (store.value_of kept t) else store.value_of kept t)
 
--- a redirect's expression has a value by the values of symbols behind all redirects, and that is its own value, if it has one
+-- a redirect's expression has a value by the values of symbols behind all redirects, and has it by these without those of redirects that don't
+-- stand before it; that is its own value, if it has one
 pub record HasItsValue (placed : AllPlaced) (before after : ℕ → Option ℕ) (q : Redirect) : Type 0 where
   pub value : ℕ
   pub is : redirect_value placed q after ≡ Ok value
+  pub by_earlier : redirect_value placed q (values_before placed.groups q.symbol after) ≡ Ok value
   pub own : after q.symbol ≡ option_map (λ _. value) (before q.symbol)
 
 -- so it is for each redirect that isn't left out; other symbols keep their values, and none gets or loses one

@@ -1,4 +1,4 @@
-//! What the symbols stand at that the linker itself places, and what redirects come to when all is placed. No layout takes this yet.
+//! What the symbols stand at that the linker itself places, and what redirects come to when all is placed.
 #![tactic(auto)]
 
 pub mod edges;

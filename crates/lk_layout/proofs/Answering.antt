@@ -8,14 +8,12 @@ use Rattle.lk_link.specs.declared.ids.FileId.{FileId}
 use Rattle.lk_link.specs.declared.link.LinkInput.{LinkInput}
 use Rattle.lk_layout.specs.Machines.{Machine}
 use Rattle.lk_layout.specs.declared.error.LayoutError.{LayoutError}
-use Rattle.lk_layout.specs.declared.error.LayoutError.TheVariants.{NoMemory, NotCarried}
-use Rattle.lk_layout.specs.declared.error.Uncarried.{Uncarried}
+use Rattle.lk_layout.specs.declared.error.LayoutError.TheVariants.{NoMemory}
 use Rattle.lk_layout.specs.LayoutRecord.{LayoutRecord}
 use Rattle.lk_link.specs.declared.resolution.Resolution.{Resolution}
-use Rattle.lk_layout.specs.Carried.{first_uncarried}
-use Rattle.lk_layout.specs.Defined.{Gives, IsMergedAnswer, IsPlacedAnswer, IsSpannedAnswer, Unless, WithMemory, fault_refusal, is_memory, joining_refusal, made_sections, not_carried}
-use Rattle.lk_layout.specs.Defined.{branch_refusal, offsets_refusal, references_error, references_refusal, segment_refusal, uncarried_refusal}
-use Rattle.lk_layout.specs.Errors.{branch_error, fault_error, gc_error, offset_error, place_error}
+use Rattle.lk_layout.specs.Defined.{Gives, IsMergedAnswer, IsPlacedAnswer, IsSpannedAnswer, Unless, WithMemory, fault_refusal, is_memory, joining_refusal, made_sections}
+use Rattle.lk_layout.specs.Defined.{branch_refusal, made_standing, offsets_refusal, references_error, references_refusal, segment_refusal, sites_refusal}
+use Rattle.lk_layout.specs.Errors.{branch_error, fault_error, gc_error, offset_error, place_error, site_error}
 use Rattle.lk_values.specs.declared.outside.MergeOffsetPlace.{MergeOffsetPlace}
 use Rattle.lk_values.specs.Outside.{merge_offsets}
 use Rattle.lk_gc.specs.declared.error.GcError.{GcError}
@@ -29,10 +27,14 @@ use Rattle.lk_place.specs.Secondaries.{merge_refusal}
 use Rattle.lk_place.specs.declared.error.PlaceError.{PlaceError}
 use Rattle.lk_place.specs.declared.error.PlaceError.TheVariants as place
 use Rattle.lk_place.specs.Segments.{Refuses, segments_refusal}
+use Rattle.lk_relaxing.specs.declared.sites.RelaxedPlace.{RelaxedPlace}
+use Rattle.lk_relaxing.specs.LinkDeletions.{Deletions}
+use Rattle.lk_relaxing.specs.Sites.{past_limit}
 use Rattle.lk_sizes.specs.declared.sorted.InputSortedSection.{InputSortedSection}
 use Rattle.lk_sizes.specs.Emitted.{active_segments, is_emitted}
 use Rattle.lk_tables.specs.declared.partial_link.PartialLinkPlan.{PartialLinkPlan}
 use Rattle.lk_layout.specs.Made.{Made, made_content}
+use Rattle.lk_layout.specs.Redirects.{made_redirected, redirects_refusal, refused_by}
 use Rattle.lk_layout.specs.Stages.{Reaches}
 use Rattle.lk_layout.specs.Thunks.{made_branching}
 use Rattle.lk_branches.specs.declared.check.BranchPlace.{BranchPlace}
@@ -94,12 +96,6 @@ pub faulty : (machine : Machine) (link : LinkInput) (f : LinkFault) (e : LayoutE
 faulty machine link f e h is = λ some.
     unless_some (fault_refusal link) e _ (ap (option_map fault_error) h ∙ ap (λ (x : LayoutError). Some x) (sym is))
 
--- a link with something that isn't carried
-pub uncarried : (machine : Machine) (link : LinkInput) (what : Uncarried) → first_fault link ≡ None → first_uncarried link ≡ Some what → Gives machine link (Err (NotCarried what))
-uncarried machine link what good h = λ some.
-    unless_none (fault_refusal link) (Err (NotCarried what)) _ (ap (option_map fault_error) good)
-    (unless_some (uncarried_refusal link) (NotCarried what) _ (ap (option_map not_carried) h))
-
 -- ---- references
 
 -- what the traversal refuses
@@ -144,21 +140,44 @@ pub refused : (made : Made) (at : MergeOffsetPlace) (e : LayoutError) → slice_
 refused made at e first is =
     unless_some (offsets_refusal made) e _ (ap (option_map offset_error) first ∙ ap (λ (x : LayoutError). Some x) (sym is))
 
+-- where redirects come to resolutions, none is refused
+pub none_redirected : (made : Made) (resolutions : List (Option Resolution)) → made_redirected made ≡ Ok resolutions → redirects_refusal made ≡ None
+none_redirected made resolutions redirected = ap (λ (r : Result (List (Option Resolution)) PlaceError). option_map place_error (refused_by r)) redirected
+
+-- what they refuse is refused
+pub unredirected : (made : Made) (e : LayoutError) → merge_offsets made.link made.live ≡ [] → redirects_refusal made ≡ Some e → IsSpannedAnswer made (Err e)
+unredirected made e inside refused =
+    unless_none (offsets_refusal made) (Err e) _ (none_chosen made inside) (unless_some (redirects_refusal made) e _ refused)
+
 -- where all branches reach, none is refused
 pub none_unreached : (made : Made) → unreached (made_branching made) ≡ [] → branch_refusal made ≡ None
 none_unreached made none = ap (λ (places : List BranchPlace). option_map branch_error (slice_get places 0)) none
 
 -- the first branch that doesn't reach is refused
-pub unreached_refused : (made : Made) (at : BranchPlace) (e : LayoutError) → merge_offsets made.link made.live ≡ [] → slice_get (unreached (made_branching made)) 0 ≡ Some at → e ≡ branch_error at
-    → IsSpannedAnswer made (Err e)
-unreached_refused made at e inside first is =
+pub unreached_refused : (made : Made) (resolutions : List (Option Resolution)) (at : BranchPlace) (e : LayoutError) → merge_offsets made.link made.live ≡ []
+    → made_redirected made ≡ Ok resolutions → slice_get (unreached (made_branching made)) 0 ≡ Some at → e ≡ branch_error at → IsSpannedAnswer made (Err e)
+unreached_refused made resolutions at e inside redirected first is =
     unless_none (offsets_refusal made) (Err e) _ (none_chosen made inside)
-    (unless_some (branch_refusal made) e _ (ap (option_map branch_error) first ∙ ap (λ (x : LayoutError). Some x) (sym is)))
+    (unless_none (redirects_refusal made) (Err e) _ (none_redirected made resolutions redirected)
+    (unless_some (branch_refusal made) e _ (ap (option_map branch_error) first ∙ ap (λ (x : LayoutError). Some x) (sym is))))
+
+-- where no deleted candidate is past its limit, none is refused
+pub none_past : (made : Made) → past_limit (made_standing made) ≡ [] → sites_refusal made ≡ None
+none_past made none = ap (λ (places : List RelaxedPlace). option_map site_error (slice_get places 0)) none
+
+-- the first that is past its limit is refused
+pub past_refused : (made : Made) (resolutions : List (Option Resolution)) (e : LayoutError) → merge_offsets made.link made.live ≡ []
+    → made_redirected made ≡ Ok resolutions → unreached (made_branching made) ≡ [] → sites_refusal made ≡ Some e → IsSpannedAnswer made (Err e)
+past_refused made resolutions e inside redirected reach refused =
+    unless_none (offsets_refusal made) (Err e) _ (none_chosen made inside)
+    (unless_none (redirects_refusal made) (Err e) _ (none_redirected made resolutions redirected)
+    (unless_none (branch_refusal made) (Err e) _ (none_unreached made reach)
+    (unless_some (sites_refusal made) e _ refused)))
 
 -- layouts with the same lists are the same
-pub same_layout : (link : LinkInput) (s s' j j' r : List Record) (t t' : List ℕ) (i i' : List (Option ℕ)) (g g' : List SegmentLayout) (h h' : Option Record)
-    (m : List Bool) (l l' : List ℕ) (d d' : List (List MergeInput)) (b b' : List ℕ) (v v' : List (Option Resolution)) (e e' : Option ℕ) (o o' : List InputSortedSection) (p p' : Option PartialLinkPlan) (k k' : List (List ℕ)) (n n' : List (Option FileId)) (a a' : List (Option ℕ)) (z z' : ℕ)
-    → s ≡ s' → j ≡ j' → t ≡ t' → i ≡ i' → g ≡ g' → h ≡ h' → l ≡ l' → d ≡ d' → b ≡ b' → v ≡ v' → e ≡ e' → o ≡ o' → p ≡ p' → k ≡ k' → n ≡ n' → a ≡ a' → z ≡ z'
+pub same_layout : (link : LinkInput) (s s' j j' r r' : List Record) (t t' : List ℕ) (i i' : List (Option ℕ)) (g g' : List SegmentLayout) (h h' : Option Record)
+    (m : List Bool) (l l' : List ℕ) (x x' : Deletions) (d d' : List (List MergeInput)) (b b' : List ℕ) (v v' : List (Option Resolution)) (e e' : Option ℕ) (o o' : List InputSortedSection) (p p' : Option PartialLinkPlan) (k k' : List (List ℕ)) (n n' : List (Option FileId)) (a a' : List (Option ℕ)) (u u' : List (FileId × ℕ × Bool)) (z z' : ℕ)
+    → s ≡ s' → j ≡ j' → r ≡ r' → t ≡ t' → i ≡ i' → g ≡ g' → h ≡ h' → l ≡ l' → x ≡ x' → d ≡ d' → b ≡ b' → v ≡ v' → e ≡ e' → o ≡ o' → p ≡ p' → k ≡ k' → n ≡ n' → a ≡ a' → u ≡ u' → z ≡ z'
     → ◌≡◌ {A = LayoutRecord} (record {
       link = link;
       section_layouts = s;
@@ -170,6 +189,7 @@ pub same_layout : (link : LinkInput) (s s' j j' r : List Record) (t t' : List �
       tls_layout = h;
       live_marks = m;
       section_addresses = l;
+      section_deletions = x;
       merged_strings = d;
       merged_string_start_addresses = b;
       symbol_resolutions = v;
@@ -179,19 +199,21 @@ pub same_layout : (link : LinkInput) (s s' j j' r : List Record) (t t' : List �
       thunk_blocks = k;
       thunk_block_owners = n;
       thunk_block_addresses = a;
+      thunk_users = u;
       thunk_size = z;
     })
     (record {
       link = link;
       section_layouts = s';
       merged_section_layouts = j';
-      section_part_layouts = r;
+      section_part_layouts = r';
       section_attributes = t';
       output_section_indexes = i';
       segment_layouts = g';
       tls_layout = h';
       live_marks = m;
       section_addresses = l';
+      section_deletions = x';
       merged_strings = d';
       merged_string_start_addresses = b';
       symbol_resolutions = v';
@@ -201,6 +223,7 @@ pub same_layout : (link : LinkInput) (s s' j j' r : List Record) (t t' : List �
       thunk_blocks = k';
       thunk_block_owners = n';
       thunk_block_addresses = a';
+      thunk_users = u';
       thunk_size = z';
     })
-same_layout link s s' j j' r t t' i i' g g' h h' m l l' d d' b b' v v' e e' o o' p p' k k' n n' a a' z z' es ej et ei eg eh el ed eb ev ee eo ep ek en ea ez = cc
+same_layout link s s' j j' r r' t t' i i' g g' h h' m l l' x x' d d' b b' v v' e e' o o' p p' k k' n n' a a' u u' z z' es ej er et ei eg eh el ex ed eb ev ee eo ep ek en ea eu ez = cc

@@ -16,29 +16,27 @@ use Rattle.lk_link.specs.FileKinds.{is_object}
 use Rattle.lk_link.specs.Inputs.{first_input}
 use Rattle.lk_link.specs.Parts.{part_at}
 use Rattle.lk_link.specs.SymbolRules.{is_placement_in}
-use Rattle.lk_layout.specs.Made.{filling_for}
+use Rattle.lk_layout.specs.Made.{Made, made_filling}
 use Rattle.lk_layout.specs.Machines.{Machine}
 use Rattle.lk_link.specs.WellFormed.{IsWellFormed}
 use Rattle.lk_link.proofs.GoodSymbols.{symbol_of}
 use Rattle.lk_gc.specs.declared.live.Live.{Live}
 use Rattle.lk_expressions.specs.Records.{Record, nowhere, record_at}
 use Rattle.lk_sizes.specs.Owners.{CommonOwner, IsCommonIn, Owner, owner_address, Filling}
-use Rattle.lk_sizes.specs.PartOwners.{common_address, common_number, owners_of, part_size}
+use Rattle.lk_sizes.specs.PartOwners.{common_address, common_number, owners_of, part_size, part_sizes}
 use Rattle.lk_sizes.specs.Tiles.{HasByte, OwnersAreAligned, OwnersTileTheirPart}
 use Rattle.lk_sizes.proofs.CommonOnes.{common_is_placed, commons_are_owners}
 use Rattle.lk_layout.specs.LayoutRecord.{LayoutRecord}
 use Rattle.lk_link.specs.declared.resolution.Resolution.{Resolution}
-use Rattle.lk_layout.specs.Defined.{setting}
 use Rattle.lk_values.specs.Starts.{starts_of}
 use Rattle.lk_values.specs.Entries.{EntrySetting}
-use Rattle.lk_values.specs.Resolutions.{Places, entries_of, placed_value, places_of, resolution_at, resolution_of, symbol_resolutions}
+use Rattle.lk_values.specs.Resolutions.{Places, placed_value, resolution_at, resolution_of}
 use Rattle.lk_layout.specs.Sound.{CommonsStand, part_record}
 use Rattle.lk_layout.proofs.LaidOut.{IsLaidOut, made_by}
 use Rattle.lk_layout.proofs.PartStarts.{part_starts}
 use Rattle.lk_values.proofs.Placing.{size-le}
-use Rattle.lk_layout.proofs.Settings.{size_of}
-use Rattle.lk_values.proofs.EntriesTaken.{own_value}
-use Rattle.lk_layout.proofs.Valued.{object_has, resolution_is}
+use Rattle.lk_layout.proofs.Settings.{part_size_at}
+use Rattle.lk_layout.proofs.Resolving.{ObjectsAreTold, made_at, made_entries, object_value}
 
 -- ---- its file
 
@@ -58,32 +56,31 @@ of_object link live p s size good c =
 
 -- ---- its value
 
--- what is told of its symbol, by where the parts start: its address
-value_told : (filling : Filling) (starts : List ℕ) (p s size : ℕ) (c : IsCommonIn filling.content.link filling.content.live p s size) → is_object c.file.file.kind ≡ true
-    → option_map (λ (r : Resolution). r.raw_value) (resolution_at (symbol_resolutions filling starts) s) ≡ Some (common_address filling starts p s)
-value_told filling starts p s size c object =
-    let link : LinkInput = filling.content.link in
+-- what is told of its symbol: its address
+value_told : (made : Made) (layout : LayoutRecord) (p s size : ℕ) (c : IsCommonIn made.link made.live p s size) → ObjectsAreTold made layout → is_object c.file.file.kind ≡ true
+    → option_map (λ (r : Resolution). r.raw_value) (resolution_at layout.symbol_resolutions s) ≡ Some (common_address (made_filling made) (starts_of made.stage.records) p s)
+value_told made layout p s size c told object =
     let x : InputSymbol = c.symbol in
     let file : InputFile = c.file.file in
-    let first : ℕ = first_input link.groups c.file.id in
-    let places : Places = places_of filling starts in
-    let by : EntrySetting = entries_of filling starts in
+    let first : ℕ = first_input made.link.groups c.file.id in
+    let places : Places = made_at made in
+    let by : EntrySetting = made_entries made in
     let raw : Option Resolution → Option ℕ = option_map (λ (r : Resolution). r.raw_value) in
-    let read : resolution_at (symbol_resolutions filling starts) s ≡ resolution_of places by file.kind first (s, x)
-    = ap (λ (n : ℕ). resolution_at (symbol_resolutions filling starts) n) c.number
-    ∙ resolution_is filling starts c.file.id file c.index x c.there c.stands
+    let read : resolution_at layout.symbol_resolutions s ≡ resolution_of places by file.kind first (s, x)
+    = ap (λ (n : ℕ). resolution_at layout.symbol_resolutions n) c.number
+    ∙ told c.file.id file c.index x c.there c.stands object
     ∙ ap (λ (n : ℕ). resolution_of places by file.kind first (n, x)) (sym c.number) in
-    ap raw read ∙ own_value places by file.kind first (s, x) (object_has file.kind object) c.wanted ∙ ap (λ (n : ℕ). Some n) (ap (placed_value places first s) c.placed)
+    ap raw read ∙ object_value places by file.kind first (s, x) object c.wanted ∙ ap (λ (n : ℕ). Some n) (ap (placed_value places first s) c.placed)
 
 -- ---- where it stands
 
 -- an owner of bytes starts at a multiple of its part's alignment, where the part is no table part and isn't packed
 common_aligned : OwnersTileTheirPart → OwnersAreAligned → (machine : Machine) (link : LinkInput) (layout : LayoutRecord) (laid : IsLaidOut machine link layout) (p s size : ℕ)
     → IsCommonIn link laid.live p s size → 0 < size → (part_at link.plan.sections p).packed ≡ false
-    → (part_at link.plan.sections p).alignment ∣ owner_address (part_record layout p).mem_offset (part_at link.plan.sections p) (owners_of (filling_for machine link laid.live) p) (common_number (filling_for machine link laid.live) p s)
+    → (part_at link.plan.sections p).alignment ∣ owner_address (part_record layout p).mem_offset (part_at link.plan.sections p) (owners_of (made_filling (made_by laid)) p) (common_number (made_filling (made_by laid)) p s)
 common_aligned tile aligned machine link layout laid p s size c some unpacked =
     let live : Live = laid.live in
-    let filling : Filling = filling_for machine link live in
+    let filling : Filling = made_filling (made_by laid) in
     let part : PlanPart = part_at link.plan.sections p in
     let owners : List Owner = owners_of filling p in
     let k : ℕ = common_number filling p s in
@@ -97,31 +94,28 @@ common_aligned tile aligned machine link layout laid p s size c some unpacked =
     } in
     let inside = (tile filling p start).inside k (owner_address start part owners k) byte in
     let bytes : 0 < part_size filling p = omega (arith, inside.0, inside.1) in
-    let size_is : slice_index_or (setting machine link live).sizes p 0 ≡ part_size filling p = size_of filling p placed.0 in
-    let begins : part.alignment ∣ (record_at laid.records p).mem_offset
-    = part_starts machine link live laid.states laid.records p laid.good laid.is laid.unrefused placed.0 (omega (arith, bytes, size_is)) in
-    let record_is : (record_at laid.records p).mem_offset ≡ start = ap (λ (l : LayoutRecord). (record_at l.section_part_layouts p).mem_offset) (sym laid.same) in
+    let size_is : slice_index_or (part_sizes filling) p 0 ≡ part_size filling p = part_size_at filling p placed.0 in
+    let begins : part.alignment ∣ (record_at laid.stage.records p).mem_offset
+    = part_starts machine link live laid.stage p laid.good laid.stands laid.unrefused placed.0 (omega (arith, bytes, size_is)) in
+    let record_is : (record_at laid.stage.records p).mem_offset ≡ start = ap (λ (l : LayoutRecord). (record_at l.section_part_layouts p).mem_offset) (sym laid.same) in
     dvd-add part.alignment (subst (λ n. part.alignment ∣ n) record_is begins) (aligned filling p k laid.good placed.1 unpacked)
 
 pub commons_stand : OwnersTileTheirPart → OwnersAreAligned → (machine : Machine) (link : LinkInput) (layout : LayoutRecord) (laid : IsLaidOut machine link layout)
-    → layout.symbol_resolutions ≡ symbol_resolutions (filling_for machine link laid.live) (starts_of layout.section_part_layouts) → CommonsStand (made_by laid) layout
-commons_stand tile aligned machine link layout laid resolved p s size c =
-    let live : Live = laid.live in
-    let filling : Filling = filling_for machine link live in
-    let records : List Record = layout.section_part_layouts in
+    → ObjectsAreTold (made_by laid) layout → CommonsStand (made_by laid) layout
+commons_stand tile aligned machine link layout laid told p s size c =
+    let filling : Filling = made_filling (made_by laid) in
+    let records : List Record = laid.stage.records in
     let part : PlanPart = part_at link.plan.sections p in
     let k : ℕ = common_number filling p s in
     let at_start : ℕ → ℕ = λ n. owner_address n part (owners_of filling p) k in
-    let raw : Option Resolution → Option ℕ = option_map (λ (r : Resolution). r.raw_value) in
-    let start : slice_index (starts_of records) p ≡ (record_at records p).mem_offset = lists.get_or-map (λ (r : Record). r.mem_offset) records p nowhere in
+    let start : slice_index (starts_of records) p ≡ (part_record layout p).mem_offset
+    = lists.get_or-map (λ (r : Record). r.mem_offset) records p nowhere ∙ ap (λ (l : LayoutRecord). (part_record l p).mem_offset) (sym laid.same) in
     record {
-      part = (common_is_placed link live p s size laid.good c).0;
+      part = (common_is_placed link laid.live p s size laid.good c).0;
       number = k;
       owner = commons_are_owners filling p s size c;
       address = at_start (part_record layout p).mem_offset;
       at = refl;
-      valued = ap (λ (rs : List (Option Resolution)). raw (resolution_at rs s)) resolved
-          ∙ value_told filling (starts_of records) p s size c (of_object link live p s size laid.good c)
-          ∙ ap (λ (n : ℕ). Some (at_start n)) start;
+      valued = value_told (made_by laid) layout p s size c told (of_object link laid.live p s size laid.good c) ∙ ap (λ (n : ℕ). Some (at_start n)) start;
       aligned = common_aligned tile aligned machine link layout laid p s size c;
     }

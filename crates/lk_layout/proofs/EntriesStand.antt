@@ -1,6 +1,7 @@
 -- The entries that a resolution tells are the symbol's own.
 use Rattle.std.proofs.Common.{◌≡◌, ℕ, zero, suc, ◌<◌, ◌≤◌, ◌==◌, Bool, true, false, if◌then◌else◌, List, [], ◌∷◌, cond, length, map, take, Option, Some, None, refl, sym, ap, subst, ◌∙◌, inl, inr, arith}
-use Rattle.std.specs.Prelude.{slice_get, slice_index}
+use Rattle.std.specs.Prelude.{◌&&◌, bit_and, bit_or, not, option_map, slice_get, slice_index}
+use Rattle.std.specs.Int.Bits.{and_zero_l}
 use Rattle.std.specs.List.{count_by, flat_map, slice_index_or}
 use Rattle.std.specs.Option.{ForSome}
 use Rattle.std.proofs.Math.ListN as lists
@@ -9,28 +10,33 @@ use Rattle.std.proofs.lemmas.Bool.Decides.{eqb_tells}
 use Rattle.std.proofs.lemmas.List.{get_or_past, take-map}
 use Rattle.std.proofs.lemmas.List.Concat.{length-flat_map}
 use Rattle.std.proofs.lemmas.List.Sums.{sum_by-cons}
+use Rattle.std.proofs.lemmas.Nat.{and_assoc, and_or_apart}
 use Rattle.std.proofs.lemmas.Option.{slice_get-get_or}
+use Rattle.lk_link.specs.declared.file.FileKind.{FileKind}
+use Rattle.lk_link.specs.declared.flags.TheConstants.ValueFlags as flag
+use Rattle.lk_link.specs.declared.flags.ValueFlags.{ValueFlags}
 use Rattle.lk_link.specs.declared.link.LinkInput.{LinkInput}
 use Rattle.lk_link.specs.declared.plan.PlanPart.{PlanPart}
 use Rattle.lk_link.specs.declared.resolution.Resolution.{Resolution}
 use Rattle.lk_link.specs.declared.symbol.InputSymbol.{InputSymbol}
 use Rattle.lk_link.specs.declared.tables.Allocation.{Allocation}
+use Rattle.lk_link.specs.FileKinds.{is_prelude}
+use Rattle.lk_link.specs.Flags.{got_entries, has_resolution, resolution}
 use Rattle.lk_link.specs.Inputs.{NumberedFile, first_input, numbered_files}
 use Rattle.lk_link.specs.PartRules.{table_parts}
 use Rattle.lk_link.specs.Parts.{part_at}
-use Rattle.lk_link.specs.Symbols.{first_symbol, symbols_in}
-use Rattle.lk_link.specs.TableSizes.{TableSizes, first_taken}
+use Rattle.lk_link.specs.Symbols.{can_resolve, first_symbol, is_canonical, is_named, is_wanted, symbols_in}
+use Rattle.lk_link.specs.TableSizes.{AreLawful, TableSizes, first_taken, is_zero}
 use Rattle.lk_layout.specs.Machines.{Machine}
 use Rattle.lk_link.specs.WellFormed.{IsWellFormed}
 use Rattle.lk_link.proofs.GoodPartFields.{good_part_fields}
 use Rattle.lk_link.proofs.Elements.{flat_map_at, map_at, map_in, numbered_at}
 use Rattle.lk_link.proofs.NumberedSymbolLemmas.{stands}
 use Rattle.lk_reach.proofs.Numbered.{file_at}
-use Rattle.lk_reach.specs.Units.{numbered_symbols}
-use Rattle.lk_gc.specs.declared.live.Live.{Live}
+use Rattle.lk_reach.specs.Units.{flags_from, numbered_symbols}
 use Rattle.lk_expressions.specs.Records.{Record, nowhere}
 use Rattle.lk_tables.specs.Dynamic.{dynamic_index, dynamic_table}
-use Rattle.lk_tables.specs.Late.{flags_at}
+use Rattle.lk_tables.specs.Late.{flags_at, is_late, is_late_place}
 use Rattle.lk_tables.specs.OwnEntries.{is_of, own_address, own_place}
 use Rattle.lk_tables.specs.OwnTables.{one_if}
 use Rattle.lk_tables.specs.SymbolEntries.{is_resolved}
@@ -46,25 +52,29 @@ use Rattle.lk_sizes.specs.Emitted.{active_segments}
 use Rattle.lk_sizes.specs.Owners.{EntryOwner, Owner, bytes_of, Filling}
 use Rattle.lk_sizes.specs.PartOwners.{owners_of, tables_of}
 use Rattle.lk_layout.specs.LayoutRecord.{LayoutRecord}
-use Rattle.lk_values.specs.Starts.{starts_of}
-use Rattle.lk_values.specs.Entries.{EntrySetting, entry_in, got_table, plt_table, with_entries}
-use Rattle.lk_values.specs.Resolutions.{Places, entries_of, file_resolutions, has_resolutions, places_of, resolution_at, resolution_of, symbol_resolutions}
-use Rattle.lk_layout.specs.Sound.{EntriesStand, IsEntryAt, TablesStandAlone, part_record}
-use Rattle.lk_layout.specs.Made.{Made, filling_for, made_content, made_filling}
-use Rattle.lk_values.proofs.EntriesTaken.{has_own, no_resolution, none_there, own_entries, with_own}
+use Rattle.lk_layout.specs.Made.{Made, made_content, made_filling}
+use Rattle.lk_layout.specs.Redirects.{placed_resolutions}
+use Rattle.lk_layout.specs.Sound.{AreOwnEntries, EntriesStand, IsEntryAt, TablesStandAlone, part_record}
 use Rattle.lk_layout.proofs.LaidOut.{IsLaidOut, made_by}
+use Rattle.lk_layout.proofs.Resolving.{as_many, made_at, made_entries}
+use Rattle.lk_values.specs.Entries.{EntrySetting, entry_in, got_table, plt_table, told_flags, with_entries}
+use Rattle.lk_values.specs.Resolutions.{Places, file_resolutions, has_resolutions, resolution_at, resolution_of, value_of}
+use Rattle.lk_values.specs.Starts.{starts_of}
+use Rattle.lk_values.specs.StoreLaws.{ChangesValuesAlone}
+use Rattle.lk_values.specs.Stores.{valued}
+use Rattle.lk_values.proofs.EntriesTaken.{own_entries}
 use Rattle.lk_values.proofs.Pushing.{first_is}
-use Rattle.lk_layout.proofs.Valued.{as_many}
 
 -- ---- whose a resolution is
 
 -- it is that of the symbol with this number, with its file
-record HasSymbol (filling : Filling) (starts : List ℕ) (s : ℕ) (r : Resolution) : Type 0 where
+record HasSymbol (made : Made) (s : ℕ) (r : Resolution) : Type 0 where
   file : NumberedFile
   symbol : InputSymbol
-  there : slice_get (numbered_symbols filling.content.link.groups) s ≡ Some (file, symbol)
-  wanted : is_resolved filling.content.live file.file.kind (s, symbol) ≡ true
-  is : r ≡ with_own (places_of filling starts) (entries_of filling starts) (first_input filling.content.link.groups file.id) (s, symbol)
+  there : slice_get (numbered_symbols made.link.groups) s ≡ Some (file, symbol)
+  wanted : is_wanted file.file.kind s symbol (told_flags (made_entries made) file.file.kind (s, symbol)) ≡ true
+  value : ℕ
+  is : r ≡ with_entries (made_entries made) s (told_flags (made_entries made) file.file.kind (s, symbol)) value
 
 -- what is read at a number stands there
 read_at : {X : Type 0} (xs : List (Option X)) (s : ℕ) (x : X) → slice_index_or xs s None ≡ Some x → slice_get xs s ≡ Some (Some x)
@@ -75,34 +85,27 @@ read_at {X} xs s x h =
       | inr past ↦ absurd (let nothing : slice_index_or xs s none ≡ none = get_or_past xs s none past in cc)
     ]
 
--- what has a resolution is wanted, and has its own
-own_one : (places : Places) (by : EntrySetting) (f : NumberedFile) (first s : ℕ) (x : InputSymbol) (r : Resolution) → resolution_of places by f.file.kind first (s, x) ≡ Some r
-    → (is_resolved by.live f.file.kind (s, x) ≡ true) × (r ≡ with_own places by first (s, x))
-own_one places by f first s x r h =
-    (elim (has_resolutions f.file.kind) as (λ b. has_resolutions f.file.kind ≡ b → (is_resolved by.live f.file.kind (s, x) ≡ true) × (r ≡ with_own places by first (s, x))) [
-      | true ↦ λ has. (elim (is_resolved by.live f.file.kind (s, x)) as (λ b. is_resolved by.live f.file.kind (s, x) ≡ b → (is_resolved by.live f.file.kind (s, x) ≡ true) × (r ≡ with_own places by first (s, x))) [
-        | true ↦ λ wanted.
-            let both : Some r ≡ Some (with_own places by first (s, x)) = sym h ∙ has_own places by f.file.kind first (s, x) has wanted in
-            let same : r ≡ with_own places by first (s, x) = cc in
-            (wanted, same)
-        | false ↦ λ wanted. absurd (let nothing : Some r ≡ None = sym h ∙ no_resolution places by f.file.kind first (s, x) wanted in cc)
-      ]) refl
-      | false ↦ λ has. absurd (let nothing : Some r ≡ None = sym h ∙ none_there places by f.file.kind first (s, x) has in cc)
-    ]) refl
+-- what is made of something, where it is asked for, was asked for, and is made of that
+asked_of : (b c : Bool) (f : ℕ → Resolution) (o : Option ℕ) (r : Resolution) → (if b && c then option_map f o else None) ≡ Some r
+    → (c ≡ true) × ((n : ℕ) × (r ≡ f n))
+asked_of true true f (Some n) r h = (refl, (n, cc))
+asked_of true true f None r h = absurd (cc)
+asked_of true false f o r h = absurd (cc)
+asked_of false c f o r h = absurd (cc)
 
-symbol_of : (filling : Filling) (starts : List ℕ) (s : ℕ) (r : Resolution) → resolution_at (symbol_resolutions filling starts) s ≡ Some r
-    → HasSymbol filling starts s r
-symbol_of filling starts s r h =
-    let groups = filling.content.link.groups in
-    let places : Places = places_of filling starts in
-    let by : EntrySetting = entries_of filling starts in
+symbol_of : (made : Made) (s : ℕ) (r : Resolution) → resolution_at (placed_resolutions made) s ≡ Some r → HasSymbol made s r
+symbol_of made s r h =
+    let groups = made.link.groups in
+    let places : Places = made_at made in
+    let by : EntrySetting = made_entries made in
     let files : List NumberedFile = numbered_files groups in
     let of_file : NumberedFile → List (Option Resolution) = file_resolutions places by in
-    let at = flat_map_at of_file files s (Some r) (read_at (symbol_resolutions filling starts) s r h) in
+    let at = flat_map_at of_file files s (Some r) (read_at (placed_resolutions made) s r h) in
     let f : NumberedFile = at.from in
+    let kind : FileKind = f.file.kind in
     let first : ℕ = first_symbol groups f.id in
-    let one : ℕ × InputSymbol → Option Resolution = resolution_of places by f.file.kind (first_input groups f.id) in
-    let from = map_at one (symbols_by_number filling.content.link f) at.inner (Some r) at.gives in
+    let one : ℕ × InputSymbol → Option Resolution = resolution_of places by kind (first_input groups f.id) in
+    let from = map_at one (symbols_by_number made.link f) at.inner (Some r) at.gives in
     let q : ℕ × InputSymbol = from.0 in
     let number = numbered_at first f.file.symbols at.inner q from.1 in
     let before : length (flat_map of_file (take at.outer files)) ≡ first
@@ -110,15 +113,49 @@ symbol_of filling starts s r h =
     ∙ sum_alike (λ (g : NumberedFile). length (of_file g)) (λ (g : NumberedFile). symbols_in g.file) (take at.outer files) (as_many places by)
     ∙ sym (first_is groups at.outer f at.there) in
     let own : s ≡ q.0 = omega (arith, at.place, before, number.0) in
-    let made : resolution_of places by f.file.kind (first_input groups f.id) (s, q.1) ≡ Some r = ap (λ (n : ℕ). one (n, q.1)) own ∙ from.2 in
-    let both = own_one places by f (first_input groups f.id) s q.1 r made in
+    let gives : resolution_of places by kind (first_input groups f.id) (s, q.1) ≡ Some r = ap (λ (n : ℕ). one (n, q.1)) own ∙ from.2 in
+    let flags : ValueFlags = told_flags by kind (s, q.1) in
+    let both = asked_of (has_resolutions kind) (is_wanted kind s q.1 flags) (with_entries by s flags) (value_of places kind (first_input groups f.id) s q.1.at) r gives in
     record {
       file = f;
       symbol = q.1;
       there = ap (slice_get (numbered_symbols groups)) (own ∙ number.0) ∙ stands groups f.id f.file at.inner q.1 (file_at groups at.outer f at.there).there number.1;
       wanted = both.0;
-      is = both.1;
+      value = both.1.0;
+      is = both.1.1;
     }
+
+-- ---- late marks
+
+no_middle : (a b : Bool) → (a && false && b) ≡ false
+no_middle true b = refl
+no_middle false b = refl
+
+-- one that is marked late has no flag for which it would have a resolution
+unasked : (a b c d e f : Bool) → (a && b && c && d && e && f) ≡ true → d ≡ true
+unasked true true true true e f h = refl
+unasked false b c d e f h = absurd (cc)
+unasked true false c d e f h = absurd (cc)
+unasked true true false d e f h = absurd (cc)
+unasked true true true false e f h = absurd (cc)
+
+not_true : (b : Bool) → not b ≡ true → b ≡ false
+not_true true h = absurd (cc)
+not_true false h = refl
+
+-- so it takes nothing in got and plt, if it is told directly
+late_takes_none : (sizes : TableSizes) (flags : ℕ) → AreLawful sizes → has_resolution flags ≡ false
+    → ((sizes.allocation (bit_or flags flag.DIRECT.0)).got ≡ 0) × ((sizes.allocation (bit_or flags flag.DIRECT.0)).plt ≡ 0)
+late_takes_none sizes flags lawful unwanted =
+    let none : bit_and flags resolution ≡ 0 = is_zero (bit_and flags resolution) unwanted in
+    let some : ℕ → ℕ = λ n. bit_and (bit_or flags flag.DIRECT.0) n in
+    let got : some got_entries ≡ 0
+    = and_or_apart got_entries flags flag.DIRECT.0 refl ∙ sym (and_assoc got_entries flags resolution) ∙ ap (λ n. bit_and n got_entries) none ∙ and_zero_l got_entries in
+    let plt : some flag.PLT.0 ≡ 0
+    = and_or_apart flag.PLT.0 flags flag.DIRECT.0 refl ∙ sym (and_assoc flag.PLT.0 flags resolution) ∙ ap (λ n. bit_and n flag.PLT.0) none ∙ and_zero_l flag.PLT.0 in (
+      lawful.got (bit_or flags flag.DIRECT.0) (ap (λ n. not (n == 0)) got),
+      lawful.plt (bit_or flags flag.DIRECT.0) (ap (λ n. n == flag.PLT.0) plt),
+    )
 
 -- ---- one table
 
@@ -191,6 +228,27 @@ only_one p (z ∷ zs) (suc i) (suc j) x y one at_i passes at_j passes_too =
 same_entry : (s bytes more : ℕ) → ◌≡◌ {A = TableEntry} (record { owner = SymbolEntry s; bytes = bytes }) (record { owner = SymbolEntry s; bytes = more }) → bytes ≡ more
 same_entry s bytes more h = ap (λ (e : TableEntry). e.bytes) h
 
+-- an entry that stands in the part of a table is one of the table
+entry_among : (made : Made) (layout : LayoutRecord) (k p s address : ℕ) (table : List TableEntry) → IsWellFormed made.link
+    → TablesStandAlone (made_filling made) → slice_get (table_parts made.link.plan.named) k ≡ Some (Some p) → slice_get (all_lists (tables_of (made_content made))) k ≡ Some table
+    → (is : IsEntryAt made layout p s address) → slice_get table is.number ≡ Some (record { owner = SymbolEntry s; bytes = is.bytes })
+entry_among made layout k p s address table good alone named there is =
+    let filling : Filling = made_filling made in
+    let theirs : TableEntry = record { owner = SymbolEntry s; bytes = is.bytes } in
+    let tells : table_of made.link.plan.named (tables_of filling.content) p ≡ table = named_parts made.link (tables_of filling.content) k p table good named there in
+    let owners : owners_of filling p ≡ map EntryOwner table = alone k p named ∙ ap (λ (es : List TableEntry). map EntryOwner es) tells in
+    let from = map_at EntryOwner table is.number (EntryOwner theirs) (ap (λ (os : List Owner). slice_get os is.number) (sym owners) ∙ is.owner) in
+    let entry : from.0 ≡ theirs = let both : EntryOwner from.0 ≡ EntryOwner theirs = from.2 in cc in
+    from.1 ∙ ap (λ (e : TableEntry). Some e) entry
+
+-- where a symbol has none in a table, none stands in the part
+none_stands : (made : Made) (layout : LayoutRecord) (k p s address : ℕ) (table : List TableEntry) → IsWellFormed made.link
+    → TablesStandAlone (made_filling made) → slice_get (table_parts made.link.plan.named) k ≡ Some (Some p) → slice_get (all_lists (tables_of (made_content made))) k ≡ Some table
+    → count_by (is_of s) table ≡ 0 → IsEntryAt made layout p s address → ⊥
+none_stands made layout k p s address table good alone named there none is =
+    let itself : (s == s) ≡ true = eq-eqb s s refl in
+    omega (arith, none, counted (is_of s) table is.number (record { owner = SymbolEntry s; bytes = is.bytes }) (entry_among made layout k p s address table good alone named there is) itself)
+
 -- an entry with bytes that stands in the part of a table is told
 entry_told : (made : Made) (layout : LayoutRecord) (starts : List ℕ) (k p s bytes address : ℕ) (table : List TableEntry) → IsWellFormed made.link
     → TablesStandAlone (made_filling made) → slice_get (table_parts made.link.plan.named) k ≡ Some (Some p) → slice_get (all_lists (tables_of (made_content made))) k ≡ Some table
@@ -205,9 +263,7 @@ entry_told made layout starts k p s bytes address table good alone named there s
     let tells : table_of made.link.plan.named (tables_of filling.content) p ≡ table = named_parts made.link (tables_of filling.content) k p table good named there in
     let owners : owners_of filling p ≡ map EntryOwner table = alone k p named ∙ ap (λ (es : List TableEntry). map EntryOwner es) tells in
     let theirs : TableEntry = record { owner = SymbolEntry s; bytes = is.bytes } in
-    let from = map_at EntryOwner table is.number (EntryOwner theirs) (ap (λ (os : List Owner). slice_get os is.number) (sym owners) ∙ is.owner) in
-    let entry : from.0 ≡ theirs = let both : EntryOwner from.0 ≡ EntryOwner theirs = from.2 in cc in
-    let stands : slice_get table is.number ≡ Some theirs = from.1 ∙ ap (λ (e : TableEntry). Some e) entry in
+    let stands : slice_get table is.number ≡ Some theirs = entry_among made layout k p s address table good alone named there is in
     let itself : (s == s) ≡ true = eq-eqb s s refl in
     let number : is.number ≡ place = only_one (is_of s) table is.number place theirs mine one stands itself own itself in
     let twice : Some theirs ≡ Some mine = sym stands ∙ ap (slice_get table) number ∙ own in
@@ -242,40 +298,159 @@ for_named named P p is h = λ x e.
     let same : p ≡ x = cc in
     subst P same h
 
+-- ---- one table of a symbol
+
+-- what a resolution tells of a table, with the entries that the plan's part has: its symbol's own, and all of it
+record TellsTable (made : Made) (layout : LayoutRecord) (named told : Option ℕ) (s : ℕ) : Type 0 where
+  own : (address : ℕ) → told ≡ Some address → ForSome named (λ p. IsEntryAt made layout p s address)
+  all : (p address : ℕ) → named ≡ Some p → IsEntryAt made layout p s address → told ≡ Some address
+
+-- the table with this place among all stands where the plan's part does, and the symbol has so many entries there
+record IsTable (made : Made) (layout : LayoutRecord) (k : ℕ) (named : Option ℕ) (table : List TableEntry) : Type 0 where
+  good : IsWellFormed made.link
+  alone : TablesStandAlone (made_filling made)
+  part : slice_get (table_parts made.link.plan.named) k ≡ Some named
+  there : slice_get (all_lists (tables_of (made_content made))) k ≡ Some table
+  start : (p : ℕ) → slice_index (starts_of made.stage.records) p ≡ (part_record layout p).mem_offset
+
+-- a symbol with an entry of its own
+with_one : (made : Made) (layout : LayoutRecord) (k : ℕ) (named : Option ℕ) (table : List TableEntry) (s bytes : ℕ) → IsTable made layout k named table
+    → count_by (is_of s) table ≡ 1 → slice_get table (own_place s table) ≡ Some (record { owner = SymbolEntry s; bytes = bytes })
+    → TellsTable made layout named (entry_in named (starts_of made.stage.records) table s bytes) s
+with_one made layout k named table s bytes is one own =
+    let starts : List ℕ = starts_of made.stage.records in
+    let in_part : (p : ℕ) → named ≡ Some p → slice_get (table_parts made.link.plan.named) k ≡ Some (Some p) = λ p at. is.part ∙ ap (λ (o : Option ℕ). Some o) at in
+    record {
+      own = λ address h.
+          let entry = told_entry named starts table s bytes address h in
+          for_named named (λ p. IsEntryAt made layout p s address) entry.0 entry.1
+          (entry_stands made layout starts k entry.0 s bytes address table is.good is.alone (in_part entry.0 entry.1) is.there (is.start entry.0) entry.2 own entry.3);
+      all = λ p address at entry. ap (λ (o : Option ℕ). entry_in o starts table s bytes) at
+          ∙ entry_told made layout starts k p s bytes address table is.good is.alone (in_part p at) is.there (is.start p) one own entry;
+    }
+
+-- and one without
+with_none : (made : Made) (layout : LayoutRecord) (k : ℕ) (named : Option ℕ) (table : List TableEntry) (s bytes : ℕ) → IsTable made layout k named table
+    → count_by (is_of s) table ≡ 0 → bytes ≡ 0 → TellsTable made layout named (entry_in named (starts_of made.stage.records) table s bytes) s
+with_none made layout k named table s bytes is none empty =
+    record {
+      own = λ address h.
+          let entry = told_entry named (starts_of made.stage.records) table s bytes address h in
+          absurd (omega (arith, entry.2, empty));
+      all = λ p address at entry.
+          absurd (none_stands made layout k p s address table is.good is.alone (is.part ∙ ap (λ (o : Option ℕ). Some o) at) is.there none entry);
+    }
+
+-- ---- got and plt of a symbol
+
+-- what a resolution with these flags tells of got and plt
+record TellsEntries (made : Made) (layout : LayoutRecord) (s : ℕ) (flags : ValueFlags) : Type 0 where
+  got : TellsTable made layout made.link.plan.named.got
+      (entry_in made.link.plan.named.got (starts_of made.stage.records) (got_table (made_entries made)) s (made.machine.sizes.allocation flags.0).got) s
+  plt : TellsTable made layout made.link.plan.named.plt
+      (entry_in made.link.plan.named.plt (starts_of made.stage.records) (plt_table (made_entries made)) s (made.machine.sizes.allocation flags.0).plt) s
+
+abbrev AreTables : Made → LayoutRecord → Type 0
+AreTables made layout =
+    IsTable made layout 0 made.link.plan.named.got (got_table (made_entries made)) × IsTable made layout 1 made.link.plan.named.plt (plt_table (made_entries made))
+
+-- without a late mark a symbol has its own entries
+told_plainly : (made : Made) (layout : LayoutRecord) (s : ℕ) (f : NumberedFile) (x : InputSymbol) → AreTables made layout
+    → slice_get (numbered_symbols made.link.groups) s ≡ Some (f, x) → is_resolved made.live f.file.kind (s, x) ≡ true
+    → TellsEntries made layout s (flags_at made.live.flags s)
+told_plainly made layout s f x tables there resolved =
+    let sizes : TableSizes = made.machine.sizes in
+    let by : EntrySetting = made_entries made in
+    let bytes : Allocation = sizes.allocation (flags_at made.live.flags s).0 in
+    let own = symbols_have_own_entries sizes made.link made.live by.told by.told (active_segments (made_content made)) s f x there in
+    let reach = cursors_reach_entries sizes.allocation made.link made.live (record { got = 0; plt = 0 }) s f x there resolved in
+    record {
+      got = with_one made layout 0 made.link.plan.named.got (got_table by) s bytes.got tables.0 (own.got ∙ ap one_if resolved) reach.0.there;
+      plt = with_one made layout 1 made.link.plan.named.plt (plt_table by) s bytes.plt tables.1 (own.plt ∙ ap one_if resolved) reach.1.there;
+    }
+
+-- with one it has none
+told_late : (made : Made) (layout : LayoutRecord) (s : ℕ) (f : NumberedFile) (x : InputSymbol) → AreLawful made.machine.sizes → AreTables made layout
+    → slice_get (numbered_symbols made.link.groups) s ≡ Some (f, x) → has_resolution (flags_at made.live.flags s).0 ≡ false
+    → TellsEntries made layout s (flags_from (bit_or (flags_at made.live.flags s).0 flag.DIRECT.0))
+told_late made layout s f x lawful tables there unwanted =
+    let sizes : TableSizes = made.machine.sizes in
+    let by : EntrySetting = made_entries made in
+    let flags : ℕ = (flags_at made.live.flags s).0 in
+    let bytes : Allocation = sizes.allocation (bit_or flags flag.DIRECT.0) in
+    let none = late_takes_none sizes flags lawful unwanted in
+    let own = symbols_have_own_entries sizes made.link made.live by.told by.told (active_segments (made_content made)) s f x there in
+    let unresolved : is_resolved made.live f.file.kind (s, x) ≡ false
+    = ap (λ (b : Bool). is_canonical s x && b && can_resolve f.file.kind x) unwanted ∙ no_middle (is_canonical s x) (can_resolve f.file.kind x) in
+    record {
+      got = with_none made layout 0 made.link.plan.named.got (got_table by) s bytes.got tables.0 (own.got ∙ ap one_if unresolved) none.0;
+      plt = with_none made layout 1 made.link.plan.named.plt (plt_table by) s bytes.plt tables.1 (own.plt ∙ ap one_if unresolved) none.1;
+    }
+
+-- so is each symbol that has a resolution
+told_entries : (made : Made) (layout : LayoutRecord) (s : ℕ) (f : NumberedFile) (x : InputSymbol) → AreLawful made.machine.sizes → AreTables made layout
+    → slice_get (numbered_symbols made.link.groups) s ≡ Some (f, x) → is_wanted f.file.kind s x (told_flags (made_entries made) f.file.kind (s, x)) ≡ true
+    → TellsEntries made layout s (told_flags (made_entries made) f.file.kind (s, x))
+told_entries made layout s f x lawful tables there wanted =
+    let by : EntrySetting = made_entries made in
+    let kind : FileKind = f.file.kind in
+    let own : ValueFlags = flags_at made.live.flags s in
+    let late : Bool = is_late made.link by.told kind s x own in
+    let marked : ValueFlags = flags_from (bit_or own.0 flag.DIRECT.0) in
+    (elim late as (λ b. late ≡ b → is_wanted kind s x (if b then marked else own) ≡ true → TellsEntries made layout s (if b then marked else own)) [
+      | true ↦ λ h asked. told_late made layout s f x lawful tables there
+          (not_true (has_resolution own.0) (unasked (is_prelude kind) (is_named x) (is_canonical s x) (not (has_resolution own.0)) (not made.link.options.strip_all) (is_late_place by.told x.at) h))
+      | false ↦ λ h asked. told_plainly made layout s f x tables there asked
+    ]) refl wanted
+
 -- ---- all
 
-pub entries_stand : (machine : Machine) (link : LinkInput) (layout : LayoutRecord) (laid : IsLaidOut machine link layout) → TablesStandAlone (filling_for machine link laid.live)
-    → layout.symbol_resolutions ≡ symbol_resolutions (filling_for machine link laid.live) (starts_of layout.section_part_layouts) → EntriesStand (made_by laid) layout
+-- what is told of entries goes by them alone
+own_entries_of : (machine : Machine) (link : LinkInput) (layout : LayoutRecord) (laid : IsLaidOut machine link layout) (s : ℕ) (r : Resolution) → AreLawful machine.sizes
+    → TablesStandAlone (made_filling (made_by laid)) → HasSymbol (made_by laid) s r → AreOwnEntries (made_by laid) layout s r
 unfolding with_entries
-entries_stand machine link layout laid alone resolved s r told =
-    let sizes : TableSizes = machine.sizes in
-    let live : Live = laid.live in
-    let filling : Filling = filling_for machine link live in
-    let records : List Record = layout.section_part_layouts in
-    let starts : List ℕ = starts_of records in
-    let by : EntrySetting = entries_of filling starts in
-    let has = symbol_of filling starts s r (ap (λ (rs : List (Option Resolution)). resolution_at rs s) (sym resolved) ∙ told) in
-    let bytes : Allocation = sizes.allocation (flags_at live.flags s).0 in
-    let start : (p : ℕ) → slice_index starts p ≡ (part_record layout p).mem_offset = λ p. lists.get_or-map (λ (x : Record). x.mem_offset) records p nowhere in
-    let indexes = indexes_name_entries sizes link live by.told by.told (active_segments filling.content) s in
-    let own = symbols_have_own_entries sizes link live by.told by.told (active_segments filling.content) s has.file has.symbol has.there in
-    let reach = cursors_reach_entries sizes.allocation link live (record { got = 0; plt = 0 }) s has.file has.symbol has.there has.wanted in
+own_entries_of machine link layout laid s r lawful alone has =
+    let made : Made = made_by laid in
+    let by : EntrySetting = made_entries made in
+    let start : (p : ℕ) → slice_index (starts_of laid.stage.records) p ≡ (part_record layout p).mem_offset
+    = λ p. lists.get_or-map (λ (x : Record). x.mem_offset) laid.stage.records p nowhere ∙ ap (λ (l : LayoutRecord). (part_record l p).mem_offset) (sym laid.same) in
+    let got : IsTable made layout 0 link.plan.named.got (got_table by) = record { good = laid.good; alone = alone; part = refl; there = refl; start = start } in
+    let plt : IsTable made layout 1 link.plan.named.plt (plt_table by) = record { good = laid.good; alone = alone; part = refl; there = refl; start = start } in
+    let tells = told_entries made layout s has.file has.symbol lawful (got, plt) has.there has.wanted in
+    let indexes = indexes_name_entries machine.sizes link laid.live by.told by.told (active_segments (made_content made)) s in
     record {
-      got = λ address h.
-          let entry = told_entry link.plan.named.got starts (got_table by) s bytes.got address (ap (λ (x : Resolution). x.got) (sym has.is) ∙ h) in
-          for_named link.plan.named.got (λ p. IsEntryAt (made_by laid) layout p s address) entry.0 entry.1
-          (entry_stands (made_by laid) layout starts 0 entry.0 s bytes.got address (got_table by) laid.good alone (ap (λ (o : Option ℕ). Some o) entry.1) refl (start entry.0) entry.2 reach.0.there entry.3);
-      plt = λ address h.
-          let entry = told_entry link.plan.named.plt starts (plt_table by) s bytes.plt address (ap (λ (x : Resolution). x.plt) (sym has.is) ∙ h) in
-          for_named link.plan.named.plt (λ p. IsEntryAt (made_by laid) layout p s address) entry.0 entry.1
-          (entry_stands (made_by laid) layout starts 1 entry.0 s bytes.plt address (plt_table by) laid.good alone (ap (λ (o : Option ℕ). Some o) entry.1) refl (start entry.0) entry.2 reach.1.there entry.3);
+      got = λ address h. tells.got.own address (ap (λ (x : Resolution). x.got) (sym has.is) ∙ h);
+      plt = λ address h. tells.plt.own address (ap (λ (x : Resolution). x.plt) (sym has.is) ∙ h);
       dynamic = λ k h. indexes.0 k (ap (λ (x : Resolution). x.dynamic) (sym has.is) ∙ h);
-      got_told = λ p address named is. ap (λ (x : Resolution). x.got) has.is ∙ ap (λ (o : Option ℕ). entry_in o starts (got_table by) s bytes.got) named
-          ∙ entry_told (made_by laid) layout starts 0 p s bytes.got address (got_table by) laid.good alone (ap (λ (o : Option ℕ). Some o) named) refl (start p)
-          (own.got ∙ ap one_if has.wanted) reach.0.there is;
-      plt_told = λ p address named is. ap (λ (x : Resolution). x.plt) has.is ∙ ap (λ (o : Option ℕ). entry_in o starts (plt_table by) s bytes.plt) named
-          ∙ entry_told (made_by laid) layout starts 1 p s bytes.plt address (plt_table by) laid.good alone (ap (λ (o : Option ℕ). Some o) named) refl (start p)
-          (own.plt ∙ ap one_if has.wanted) reach.1.there is;
-      dynamic_told = λ k is. ap (λ (x : Resolution). x.dynamic) has.is ∙ told_index s k sizes.symbol_entry (tables_of filling.content).dynsym
-          (dynamic_index (dynamic_table link live by.told) s) indexes.0 indexes.1 is;
+      got_told = λ p address named is. ap (λ (x : Resolution). x.got) has.is ∙ tells.got.all p address named is;
+      plt_told = λ p address named is. ap (λ (x : Resolution). x.plt) has.is ∙ tells.plt.all p address named is;
+      dynamic_told = λ k is. ap (λ (x : Resolution). x.dynamic) has.is
+          ∙ told_index s k machine.sizes.symbol_entry (tables_of (made_content made)).dynsym (dynamic_index (dynamic_table link laid.live by.told) s) indexes.0 indexes.1 is;
     }
+
+-- resolutions that differ in their values alone tell the same of entries
+alike : (made : Made) (layout : LayoutRecord) (s : ℕ) (a b : Resolution) → valued 0 a ≡ valued 0 b → AreOwnEntries made layout s b → AreOwnEntries made layout s a
+alike made layout s a b same own =
+    let got : a.got ≡ b.got = ap (λ (r : Resolution). r.got) same in
+    let plt : a.plt ≡ b.plt = ap (λ (r : Resolution). r.plt) same in
+    let dynamic : a.dynamic ≡ b.dynamic = ap (λ (r : Resolution). r.dynamic) same in
+    record {
+      got = λ address h. own.got address (sym got ∙ h);
+      plt = λ address h. own.plt address (sym plt ∙ h);
+      dynamic = λ k h. own.dynamic k (sym dynamic ∙ h);
+      got_told = λ p address named is. got ∙ own.got_told p address named is;
+      plt_told = λ p address named is. plt ∙ own.plt_told p address named is;
+      dynamic_told = λ k is. dynamic ∙ own.dynamic_told k is;
+    }
+
+-- one of them is there where the other is
+its_like : (o : Option Resolution) (a : Resolution) → option_map (valued 0) (Some a) ≡ option_map (valued 0) o → (b : Resolution) × (o ≡ Some b) × (valued 0 a ≡ valued 0 b)
+its_like None a h = absurd (cc)
+its_like (Some b) a h = (b, refl, cc)
+
+pub entries_stand : (machine : Machine) (link : LinkInput) (layout : LayoutRecord) (laid : IsLaidOut machine link layout) → AreLawful machine.sizes
+    → TablesStandAlone (made_filling (made_by laid)) → ChangesValuesAlone link.groups (placed_resolutions (made_by laid)) layout.symbol_resolutions → EntriesStand (made_by laid) layout
+entries_stand machine link layout laid lawful alone changed s r told =
+    let made : Made = made_by laid in
+    let one = its_like (resolution_at (placed_resolutions made) s) r (ap (option_map (valued 0)) (sym told) ∙ changed.rest s) in
+    alike made layout s r one.0 one.2 (own_entries_of machine link layout laid s one.0 lawful alone (symbol_of made s one.0 one.1))

@@ -6,7 +6,7 @@ use Rattle.std.proofs.lemmas.Bool.{lt-ltb}
 use Rattle.std.proofs.lemmas.Option.{get_or_from_slice_get}
 use Rattle.lk_link.specs.declared.link.LinkInput.{LinkInput}
 use Rattle.lk_link.specs.declared.section.InputSection.{InputSection}
-use Rattle.lk_layout.specs.Made.{filling_for, thunks_for}
+use Rattle.lk_layout.specs.Made.{made_filling}
 use Rattle.lk_layout.specs.Machines.{Machine}
 use Rattle.lk_link.specs.WellFormed.{IsWellFormed}
 use Rattle.lk_gc.specs.declared.live.Live.{Live}
@@ -62,13 +62,13 @@ image_at : (machine : Machine) (link : LinkInput) (layout : LayoutRecord) (laid 
 image_at machine link layout laid s [] there some = absurd (omega (arith, some))
 image_at machine link layout laid s (y ∷ ys) there some =
     let live : Live = laid.live in
-    let filling : Filling = filling_for machine link live in
+    let filling : Filling = made_filling (made_by laid) in
     let inputs : List MergeInput = y ∷ ys in
-    let records : List Record = laid.records in
+    let records : List Record = laid.stage.records in
     let at = inputs_at link s inputs there in
     let has = has_part link s 0 y laid.good (ap (λ (xs : List MergeInput). slice_get xs 0) (sym at.1)) in
     let p : ℕ = has.part in
-    let stands = stands_at machine.sizes link live (thunks_for machine link live) (starts_of records) s p at.0 has.is in
+    let stands = stands_at filling (starts_of records) s p at.0 has.is in
     let image_is : image_start layout.merged_string_start_addresses s ≡ slice_index (image_addresses filling (starts_of records)) s
     = ap (λ (l : LayoutRecord). image_start l.merged_string_start_addresses s) laid.same ∙ starts_at (link_inputs link).outputs (image_addresses filling (starts_of records)) s inputs there in
     let record_is : slice_index (starts_of records) p ≡ (record_at records p).mem_offset = lists.get_or-map (λ (r : Record). r.mem_offset) records p nowhere in

@@ -17,7 +17,8 @@ use Rattle.lk_link.specs.InputSlots.{is_merge}
 use Rattle.lk_link.specs.Inputs.{Input, NumberedFile, all_inputs, first_input, input_number, numbered_files}
 use Rattle.lk_link.specs.Marks.{is_marked}
 use Rattle.lk_link.specs.Symbols.{file_number, first_symbol, symbol_at}
-use Rattle.lk_layout.specs.Made.{filling_for}
+use Rattle.lk_relaxing.specs.LinkDeletions.{output_offset}
+use Rattle.lk_layout.specs.Made.{made_deletions, made_filling}
 use Rattle.lk_layout.specs.Machines.{Machine}
 use Rattle.lk_link.proofs.Elements.{append_left, flat_map_in}
 use Rattle.lk_link.proofs.InputLemmas.{file_stands, inputs_follow, numbered_get}
@@ -44,12 +45,12 @@ use Rattle.lk_link.specs.declared.resolution.Resolution.{Resolution}
 use Rattle.lk_values.specs.Starts.{starts_of}
 use Rattle.lk_values.specs.Outside.{merge_offsets, relocations_outside, symbol_outside, symbols_outside}
 use Rattle.lk_values.specs.Entries.{EntrySetting}
-use Rattle.lk_values.specs.Resolutions.{Places, entries_of, found_or_0, images_at, places_of, resolution_at, resolution_of}
+use Rattle.lk_values.specs.Resolutions.{Places, found_or_0, images_at, placed_value}
 use Rattle.lk_layout.specs.Sound.{NamedSymbolsShow}
 use Rattle.lk_layout.proofs.LaidOut.{IsLaidOut, made_by}
 use Rattle.lk_values.proofs.Placing.{unmerged}
 use Rattle.lk_layout.proofs.Resolved.{in_file}
-use Rattle.lk_layout.proofs.Valued.{resolution_is, value_of}
+use Rattle.lk_layout.proofs.Resolving.{ObjectsAreTold, made_at, made_entries, object_value}
 
 -- ---- what the symbol names
 
@@ -124,11 +125,12 @@ not_live link live k x are there merged =
     let no : is_merge x.section.slot ≡ false = unmerged x.section.slot lives.slot in
     absurd (cc))
 
-pub named_symbols_show : (machine : Machine) (link : LinkInput) (layout : LayoutRecord) (laid : IsLaidOut machine link layout) → NamedSymbolsShow (made_by laid) layout
-named_symbols_show machine link layout laid id file i offset section there r placed at_i merged named =
+pub named_symbols_show : (machine : Machine) (link : LinkInput) (layout : LayoutRecord) (laid : IsLaidOut machine link layout) → ObjectsAreTold (made_by laid) layout
+    → NamedSymbolsShow (made_by laid) layout
+named_symbols_show machine link layout laid objects id file i offset section there r placed at_i merged named =
     let groups = link.groups in
     let live : Live = laid.live in
-    let starts : List ℕ = starts_of laid.records in
+    let starts : List ℕ = starts_of laid.stage.records in
     let first : ℕ = first_input groups id in
     let number : ℕ = first_symbol groups id + r.index in
     let x : InputSymbol = r.symbol in
@@ -141,28 +143,29 @@ named_symbols_show machine link layout laid id file i offset section there r pla
     let input : Input = record { file = id; index = i; section = section } in
     let at_input : slice_get (all_inputs groups) place.number ≡ Some input = inputs_follow.at groups id file i section there at_i in
     let told : ℕ → ℕ = image_start layout.merged_string_start_addresses in
-    let images : ℕ → ℕ = images_at (filling_for machine link live) starts in
+    let images : ℕ → ℕ = images_at (made_filling (made_by laid)) starts in
     let image_is : told t ≡ images t
     = ap (λ (l : LayoutRecord). image_start l.merged_string_start_addresses t) laid.same
-    ∙ starts_at (link_inputs link).outputs (image_addresses (filling_for machine link live) starts) t (merge_inputs link t) at_t in
+    ∙ starts_at (link_inputs link).outputs (image_addresses (made_filling (made_by laid)) starts) t (merge_inputs link t) at_t in
     let n : ℕ = offset_place fnv64 (merge_inputs link t) (merge_input place.number section) offset in
     let address : ℕ = plus_addend (images t + n) (pos 0) in
     let answer : (ℕ → ℕ) → Bool → Result (Option ℕ) OffsetPastEnd = λ from zero_unnamed. place_address link from (pos 0) zero_unnamed (Some place) in
     let found : (from : ℕ → ℕ) (zero_unnamed : Bool) → answer from zero_unnamed ≡ Ok (Some (plus_addend (from t + n) (pos 0)))
     = λ from zero_unnamed. ap (λ b. option_map_or (λ a. Ok (Some (plus_addend a (pos 0)))) (cond b (Some (from t + n)) None) (Err past_end)) (lt-ltb offset (length section.bytes) inside) in
-    let places : Places = places_of (filling_for machine link live) starts in
-    let by : EntrySetting = entries_of (filling_for machine link live) starts in
+    let places : Places = made_at (made_by laid) in
+    let by : EntrySetting = made_entries (made_by laid) in
     let none : places.live (first + i) offset ≡ None
-    = ap (λ b. if b then option_map (λ z. live_address (filling_for machine link live) starts z + offset) (slice_get (all_inputs groups) (first + i)) else None) (not_live link live (first + i) input laid.are_live at_input merged) in
+    = ap (λ b. if b then option_map (λ z. live_address (made_filling (made_by laid)) starts z + output_offset groups (made_deletions (made_by laid)) z.file z.index offset) (slice_get (all_inputs groups) (first + i)) else None) (not_live link live (first + i) input laid.are_live at_input merged) in
     let value : unwrap_or (places.live (first + i) offset) (places.merged number) ≡ address
     = ap (λ (o : Option ℕ). unwrap_or o (places.merged number)) none
     ∙ ap (λ (o : Option MergePlace). found_or_0 (place_address link images (pos 0) true o)) is
     ∙ ap found_or_0 (found images true) in
-    let read : resolution_at layout.symbol_resolutions number ≡ resolution_of places by file.kind first (number, x)
-    = ap (λ (l : LayoutRecord). resolution_at l.symbol_resolutions number) laid.same ∙ resolution_is (filling_for machine link live) starts id file r.index x there r.there in
+    let valued : placed_value places first number x.at ≡ address = ap (placed_value places first number) placed ∙ value in
     let referred : merged_address link told number (pos 0) false ≡ Ok (Some address)
     = ap (place_address link told (pos 0) false) is ∙ found told false ∙ ap (λ m. Ok (Some (plus_addend (m + n) (pos 0)))) image_is in (
       address,
-      ap (option_map (λ (z : Resolution). z.raw_value)) read ∙ value_of places by file.kind first number i offset address x r.object r.resolved placed value,
+      ap (option_map (λ (z : Resolution). z.raw_value)) (objects id file r.index x there r.there r.object)
+          ∙ object_value places by file.kind first (number, x) r.object r.resolved
+          ∙ ap (λ (n : ℕ). Some n) valued,
       merged_references_show.shown link told number place (pos 0) address laid.good laid.merged is referred,
     )

@@ -8,17 +8,17 @@ use Rattle.lk_gc.specs.Reach.{AreLive}
 use Rattle.lk_link.specs.declared.link.LinkInput.{LinkInput}
 use Rattle.lk_layout.specs.Machines.{Machine}
 use Rattle.lk_link.specs.WellFormed.{IsWellFormed}
-use Rattle.lk_place.specs.PlacementLaws.{PlacementExists, PlacementIsOne}
+use Rattle.lk_relaxing.specs.Stages.{RelaxedExists, RelaxedIsOne}
 use Rattle.lk_layout.specs.declared.error.LayoutError.{LayoutError}
 use Rattle.lk_layout.specs.LayoutRecord.{LayoutRecord}
-use Rattle.lk_layout.specs.Defined.{IsCarriedAnswer, IsLiveAnswer, IsMadeAnswer, IsMergedAnswer, IsPlacedAnswer, IsSizedAnswer, IsSpannedAnswer, Unless, branch_refusal, fault_refusal}
-use Rattle.lk_layout.specs.Defined.{joining_refusal, layout_of, offsets_refusal, references_refusal, segment_refusal, setting, sizes_refusal, uncarried_refusal}
+use Rattle.lk_layout.specs.Defined.{IsCheckedAnswer, IsLiveAnswer, IsMadeAnswer, IsMergedAnswer, IsPlacedAnswer, IsSizedAnswer, IsSpannedAnswer, Unless, branch_refusal, fault_refusal}
+use Rattle.lk_layout.specs.Defined.{joining_refusal, layout_of, offsets_refusal, references_refusal, segment_refusal, sites_refusal, sizes_refusal}
 use Rattle.lk_layout.specs.Defined.{walk_refusal}
-use Rattle.lk_layout.specs.Made.{Made, made_of}
+use Rattle.lk_layout.specs.Made.{Made, made_of, relaxing_for}
 use Rattle.lk_layout.specs.Errors.{fault_error}
 use Rattle.lk_layout.specs.Merging.{merging_refusal}
+use Rattle.lk_layout.specs.Redirects.{redirects_refusal}
 use Rattle.lk_layout.specs.Laws.{DefinedAnswerExists, DefinedAnswerIsOne}
-use Rattle.lk_layout.proofs.Settings.{ready}
 
 -- what isn't refused isn't there
 pub none_of : {X : Type 0} (f : X → LayoutError) (o : Option X) → option_map f o ≡ None → o ≡ None
@@ -41,33 +41,34 @@ placed_exists : (made : Made) → (answer : Result LayoutRecord LayoutError) × 
 placed_exists made =
     unless_exists (joining_refusal made) (λ a. Unless (segment_refusal made) a (IsSpannedAnswer made a)) (λ fit.
     unless_exists (segment_refusal made) (IsSpannedAnswer made) (λ none.
-    unless_exists (offsets_refusal made) (λ a. Unless (branch_refusal made) a (a ≡ Ok (layout_of made))) (λ inside.
-    unless_exists (branch_refusal made) (λ a. a ≡ Ok (layout_of made)) (λ reach. (Ok (layout_of made), refl)))))
+    unless_exists (offsets_refusal made) (λ a. Unless (redirects_refusal made) a (Unless (branch_refusal made) a (Unless (sites_refusal made) a (a ≡ Ok (layout_of made))))) (λ inside.
+    unless_exists (redirects_refusal made) (λ a. Unless (branch_refusal made) a (Unless (sites_refusal made) a (a ≡ Ok (layout_of made)))) (λ redirected.
+    unless_exists (branch_refusal made) (λ a. Unless (sites_refusal made) a (a ≡ Ok (layout_of made))) (λ reach.
+    unless_exists (sites_refusal made) (λ a. a ≡ Ok (layout_of made)) (λ near. (Ok (layout_of made), refl)))))))
 
-sized_exists : PlacementExists → (machine : Machine) (link : LinkInput) (live : Live) → IsWellFormed link
+sized_exists : RelaxedExists → (machine : Machine) (link : LinkInput) (live : Live) → IsWellFormed link
     → (answer : Result LayoutRecord LayoutError) × IsSizedAnswer machine link live answer
-sized_exists placement machine link live good =
-    let p = placement (setting machine link live) (ready machine link live good) in
-    let made : Made = made_of machine link live p.0 p.1 in
+sized_exists relaxed machine link live good =
+    let end = relaxed (relaxing_for machine link live) good in
+    let made : Made = made_of machine link live end.0 in
     let rest = unless_exists (walk_refusal made) (IsPlacedAnswer made) (λ none. placed_exists made) in
-    (rest.0, (p.0, p.1, p.2, rest.1))
+    (rest.0, (end.0, end.1, rest.1))
 
-merged_exists : LiveExists → PlacementExists → (machine : Machine) (link : LinkInput) → IsWellFormed link → (answer : Result LayoutRecord LayoutError) × IsMergedAnswer machine link answer
-merged_exists live placement machine link good =
+merged_exists : LiveExists → RelaxedExists → (machine : Machine) (link : LinkInput) → IsWellFormed link → (answer : Result LayoutRecord LayoutError) × IsMergedAnswer machine link answer
+merged_exists live relaxed machine link good =
     unless_exists (references_refusal link) (λ a. (l : Live) × AreLive link l × IsLiveAnswer machine link l a) (λ none.
     let l = live link good in
-    let rest = unless_exists (sizes_refusal machine link l.0) (IsSizedAnswer machine link l.0) (λ none. sized_exists placement machine link l.0 good) in
+    let rest = unless_exists (sizes_refusal machine link l.0) (IsSizedAnswer machine link l.0) (λ none. sized_exists relaxed machine link l.0 good) in
     (rest.0, (l.0, l.1, rest.1)))
 
-carried_exists : LiveExists → PlacementExists → (machine : Machine) (link : LinkInput) → IsWellFormed link → (answer : Result LayoutRecord LayoutError) × IsCarriedAnswer machine link answer
-carried_exists live placement machine link good =
-    unless_exists (merging_refusal link) (IsMergedAnswer machine link) (λ none. merged_exists live placement machine link good)
+checked_exists : LiveExists → RelaxedExists → (machine : Machine) (link : LinkInput) → IsWellFormed link → (answer : Result LayoutRecord LayoutError) × IsCheckedAnswer machine link answer
+checked_exists live relaxed machine link good =
+    unless_exists (merging_refusal link) (IsMergedAnswer machine link) (λ none. merged_exists live relaxed machine link good)
 
-pub answer_exists : WellFormedExactlyUnfaulted → LiveExists → PlacementExists → DefinedAnswerExists
-answer_exists exactly live placement machine link =
-    unless_exists (fault_refusal link) (λ a. Unless (uncarried_refusal link) a (IsCarriedAnswer machine link a)) (λ none.
-    unless_exists (uncarried_refusal link) (IsCarriedAnswer machine link) (λ all.
-    carried_exists live placement machine link (unrefused exactly link none)))
+pub answer_exists : WellFormedExactlyUnfaulted → LiveExists → RelaxedExists → DefinedAnswerExists
+answer_exists exactly live relaxed machine link =
+    unless_exists (fault_refusal link) (IsCheckedAnswer machine link) (λ none.
+    checked_exists live relaxed machine link (unrefused exactly link none))
 
 -- ---- and no other
 
@@ -80,33 +81,33 @@ placed_one : (made : Made) (a b : Result LayoutRecord LayoutError) → IsPlacedA
 placed_one made a b h g =
     unless_one (joining_refusal made) a b _ _ h g (λ fit s t.
     unless_one (segment_refusal made) a b _ _ s t (λ none x y.
-    unless_one (offsets_refusal made) a b _ _ x y (λ inside q r.
-    unless_one (branch_refusal made) a b _ _ q r (λ reach u v. u ∙ sym v))))
+    unless_one (offsets_refusal made) a b _ _ x y (λ inside m n.
+    unless_one (redirects_refusal made) a b _ _ m n (λ redirected q r.
+    unless_one (branch_refusal made) a b _ _ q r (λ reach u v.
+    unless_one (sites_refusal made) a b _ _ u v (λ near e f. e ∙ sym f))))))
 
-sized_one : PlacementIsOne → (machine : Machine) (link : LinkInput) (live : Live) (a b : Result LayoutRecord LayoutError) → IsWellFormed link
+sized_one : RelaxedIsOne → (machine : Machine) (link : LinkInput) (live : Live) (a b : Result LayoutRecord LayoutError) → IsWellFormed link
     → IsSizedAnswer machine link live a → IsSizedAnswer machine link live b → a ≡ b
-sized_one placement machine link live a b good h g =
-    let one = placement (setting machine link live) h.0 g.0 h.1 g.1 (ready machine link live good) h.2 g.2 in
-    let made : Made = made_of machine link live g.0 g.1 in
-    let moved : IsMadeAnswer (made_of machine link live g.0 h.1) a = subst (λ states. IsMadeAnswer (made_of machine link live states h.1) a) one.0 h.3 in
-    let there : IsMadeAnswer made a = subst (λ records. IsMadeAnswer (made_of machine link live g.0 records) a) one.1 moved in
-    unless_one (walk_refusal made) a b _ _ there g.3 (λ none x y. placed_one made a b x y)
+sized_one relaxed machine link live a b good h g =
+    let one : h.0 ≡ g.0 = relaxed (relaxing_for machine link live) h.0 g.0 good h.1 g.1 in
+    let made : Made = made_of machine link live g.0 in
+    let there : IsMadeAnswer made a = subst (λ stage. IsMadeAnswer (made_of machine link live stage) a) one h.2 in
+    unless_one (walk_refusal made) a b _ _ there g.2 (λ none x y. placed_one made a b x y)
 
-merged_one : LiveIsOne → PlacementIsOne → (machine : Machine) (link : LinkInput) (a b : Result LayoutRecord LayoutError) → IsWellFormed link
+merged_one : LiveIsOne → RelaxedIsOne → (machine : Machine) (link : LinkInput) (a b : Result LayoutRecord LayoutError) → IsWellFormed link
     → IsMergedAnswer machine link a → IsMergedAnswer machine link b → a ≡ b
-merged_one live placement machine link a b good h g =
+merged_one live relaxed machine link a b good h g =
     unless_one (references_refusal link) a b _ _ h g (λ met x y.
     let one : x.0 ≡ y.0 = live link x.0 y.0 x.1 y.1 in
     let there : IsLiveAnswer machine link y.0 a = subst (λ l. IsLiveAnswer machine link l a) one x.2 in
-    unless_one (sizes_refusal machine link y.0) a b _ _ there y.2 (λ none u v. sized_one placement machine link y.0 a b good u v))
+    unless_one (sizes_refusal machine link y.0) a b _ _ there y.2 (λ none u v. sized_one relaxed machine link y.0 a b good u v))
 
-carried_one : LiveIsOne → PlacementIsOne → (machine : Machine) (link : LinkInput) (a b : Result LayoutRecord LayoutError) → IsWellFormed link
-    → IsCarriedAnswer machine link a → IsCarriedAnswer machine link b → a ≡ b
-carried_one live placement machine link a b good h g =
-    unless_one (merging_refusal link) a b _ _ h g (λ none x y. merged_one live placement machine link a b good x y)
+checked_one : LiveIsOne → RelaxedIsOne → (machine : Machine) (link : LinkInput) (a b : Result LayoutRecord LayoutError) → IsWellFormed link
+    → IsCheckedAnswer machine link a → IsCheckedAnswer machine link b → a ≡ b
+checked_one live relaxed machine link a b good h g =
+    unless_one (merging_refusal link) a b _ _ h g (λ none x y. merged_one live relaxed machine link a b good x y)
 
-pub answer_one : WellFormedExactlyUnfaulted → LiveIsOne → PlacementIsOne → DefinedAnswerIsOne
-answer_one exactly live placement machine link a b h g =
-    unless_one (fault_refusal link) a b _ _ h g (λ none u v.
-    unless_one (uncarried_refusal link) a b _ _ u v (λ all x y.
-    carried_one live placement machine link a b (unrefused exactly link none) x y))
+pub answer_one : WellFormedExactlyUnfaulted → LiveIsOne → RelaxedIsOne → DefinedAnswerIsOne
+answer_one exactly live relaxed machine link a b h g =
+    unless_one (fault_refusal link) a b _ _ h g (λ none x y.
+    checked_one live relaxed machine link a b (unrefused exactly link none) x y)

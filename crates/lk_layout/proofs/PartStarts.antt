@@ -14,19 +14,19 @@ use Rattle.lk_link.specs.declared.plan.PlanSection.{PlanSection}
 use Rattle.lk_link.specs.Parts.{all_parts, first_part, part_at}
 use Rattle.lk_link.specs.PlanSections.{no_section, section_at}
 use Rattle.lk_link.specs.WellFormed.{IsWellFormed}
-use Rattle.lk_place.specs.declared.cursors.Cursors.{Cursors}
 use Rattle.lk_place.specs.Alignments.{greatest_of, section_alignment}
-use Rattle.lk_place.specs.Placement.{IsPlaced, first_walked, is_walked, placement_refusal}
-use Rattle.lk_expressions.specs.Records.{Record, record_at}
+use Rattle.lk_place.specs.Placement.{first_walked, is_walked}
+use Rattle.lk_expressions.specs.Records.{record_at}
 use Rattle.lk_place.specs.Setting.{Setting, has_bytes, part_count, part_number, size_at}
 use Rattle.lk_sizes.proofs.Tiling.{part_is_aligned}
 use Rattle.lk_link.proofs.Powers.{alignment_divides}
 use Rattle.lk_place.proofs.AlignmentLaws.{greatest_of-least, section_aligned}
 use Rattle.lk_gc.specs.declared.live.Live.{Live}
-use Rattle.lk_layout.specs.Made.{filling_for}
+use Rattle.lk_relaxing.specs.RelaxedLaws.{StandsFor}
+use Rattle.lk_relaxing.specs.Stages.{Stage, filling_after, refusal_of, setting_after}
+use Rattle.lk_layout.specs.Made.{relaxing_for}
 use Rattle.lk_layout.specs.Machines.{Machine}
 use Rattle.lk_sizes.specs.PartOwners.{part_sizes}
-use Rattle.lk_layout.specs.Defined.{setting}
 
 -- ---- alignments
 
@@ -71,17 +71,19 @@ section_in (x ∷ xs) p h =
 
 -- ---- the law
 
-pub part_starts : (machine : Machine) (link : LinkInput) (live : Live) (states : List Cursors) (records : List Record) (p : ℕ) → IsWellFormed link
-    → IsPlaced (setting machine link live) states records → placement_refusal (setting machine link live) states records ≡ None
-    → p < length (all_parts link.plan.sections) → 0 < size_at (part_sizes (filling_for machine link live)) p
-    → (part_at link.plan.sections p).alignment ∣ (record_at records p).mem_offset
-part_starts machine link live states records p good is unrefused within some =
-    let s : Setting = setting machine link live in
+pub part_starts : (machine : Machine) (link : LinkInput) (live : Live) (stage : Stage) (p : ℕ) → IsWellFormed link
+    → StandsFor (relaxing_for machine link live) stage → refusal_of (relaxing_for machine link live) stage ≡ None
+    → p < length (all_parts link.plan.sections) → 0 < size_at (part_sizes (filling_after (relaxing_for machine link live) stage.deletions)) p
+    → (part_at link.plan.sections p).alignment ∣ (record_at stage.records p).mem_offset
+part_starts machine link live stage p good stands unrefused within left =
+    let s : Setting = setting_after (relaxing_for machine link live) stage.walked in
+    let is = stands.placed in
+    let some : 0 < size_at s.sizes p = subst (λ (sizes : List ℕ). 0 < size_at sizes p) (sym stands.parts) left in
     let sections : List PlanSection = link.plan.sections in
     let i : HasSection sections p = section_in sections p within in
     let t : ℕ = i.section in
     let event = good.events.placed t i.there in
-    let early : event.0 + 1 < length states = omega (arith, is.ends unrefused, slice_get_within link.plan.events event.0 (Section t) event.1) in
+    let early : event.0 + 1 < length stage.states = omega (arith, is.ends unrefused, slice_get_within link.plan.events event.0 (Section t) event.1) in
     let step = is.steps event.0 (Section t) early event.1 in
     let q : ℕ = part_number sections t i.place in
     let number : q ≡ p = sym i.is in
@@ -97,9 +99,9 @@ part_starts machine link live states records p good is unrefused within some =
     = subst (λ (x : PlanPart). x.alignment ≤ greatest) (sym mine)
     (reaches s.sizes (section_at sections t).align (first_part sections t) (section_at sections t).parts i.place none i.within bytes) in
     let divides : own ∣ greatest = alignment_divides own greatest (part_is_aligned link q good) (section_aligned link.plan s.sizes t good.sections) least in
-    let found : own ∣ (record_at records q).mem_offset
-    = elim (q == first_walked s t) as (λ b. (cond b greatest (min own greatest)) ∣ (record_at records q).mem_offset → own ∣ (record_at records q).mem_offset) [
+    let found : own ∣ (record_at stage.records q).mem_offset
+    = elim (q == first_walked s t) as (λ b. (cond b greatest (min own greatest)) ∣ (record_at stage.records q).mem_offset → own ∣ (record_at stage.records q).mem_offset) [
       | true ↦ λ h. dvd_trans own divides h
-      | false ↦ λ h. let one : min own greatest ≡ own = omega (arith, least) in subst (λ n. n ∣ (record_at records q).mem_offset) one h
+      | false ↦ λ h. let one : min own greatest ≡ own = omega (arith, least) in subst (λ n. n ∣ (record_at stage.records q).mem_offset) one h
     ] placed.at.multiple in
-    subst (λ n. (part_at sections n).alignment ∣ (record_at records n).mem_offset) number found
+    subst (λ n. (part_at sections n).alignment ∣ (record_at stage.records n).mem_offset) number found

@@ -13,18 +13,18 @@ use Rattle.lk_link.specs.declared.plan.PlanSegment.{PlanSegment}
 use Rattle.lk_link.specs.Parts.{all_parts}
 use Rattle.lk_link.specs.TableSizes.{TableSizes}
 use Rattle.lk_sizes.specs.Owners.{Filling}
-use Rattle.lk_layout.specs.Made.{filling_for}
+use Rattle.lk_relaxing.specs.LinkDeletions.{Deletions}
+use Rattle.lk_relaxing.specs.RelaxedLaws.{StandsFor}
+use Rattle.lk_relaxing.specs.Stages.{Stage, filling_after, refusal_of, setting_after}
+use Rattle.lk_layout.specs.Made.{relaxing_for}
 use Rattle.lk_layout.specs.Machines.{Machine}
 use Rattle.lk_link.specs.WellFormed.{IsWellFormed}
-use Rattle.lk_place.specs.declared.cursors.Cursors.{Cursors}
-use Rattle.lk_place.specs.Placement.{IsPlaced, placement_refusal}
 use Rattle.lk_place.specs.PlacementLaws.{PartsTakeTheirBytes}
 use Rattle.lk_expressions.specs.Records.{Record, nowhere, record_at}
 use Rattle.lk_place.specs.Segments.{part_records, section_record, section_records}
 use Rattle.lk_place.specs.Setting.{IsReady}
 use Rattle.lk_sizes.specs.Emitted.{active_segments, is_active}
 use Rattle.lk_sizes.specs.PartOwners.{part_size, part_sizes}
-use Rattle.lk_layout.specs.Defined.{setting}
 use Rattle.lk_values.specs.OutputContent.{output_content}
 use Rattle.lk_values.proofs.PartCounts.{length-by_part}
 
@@ -33,13 +33,14 @@ pub length-section_records : (sections : List PlanSection) (parts : List Record)
 length-section_records sections parts =
     length-map (enumerate_from 0 sections) (λ (q : ℕ × PlanSection). section_record q.1 (part_records sections parts q.0)) ∙ length-enumerate_from 0 sections
 
--- its plan can be walked
-pub ready : (machine : Machine) (link : LinkInput) (live : Live) → IsWellFormed link → IsReady (setting machine link live)
-ready machine link live good = record { events = good.events; sections = good.sections; sizes = length-by_part (part_size (filling_for machine link live)) link }
+-- its plan can be walked, whatever is deleted
+pub ready : (machine : Machine) (link : LinkInput) (live : Live) (deletions : Deletions) → IsWellFormed link → IsReady (setting_after (relaxing_for machine link live) deletions)
+ready machine link live deletions good =
+    record { events = good.events; sections = good.sections; sizes = length-by_part (part_size (filling_after (relaxing_for machine link live) deletions)) link }
 
 -- the size of a part, by its number
-pub size_of : (filling : Filling) (p : ℕ) → p < length (all_parts filling.content.link.plan.sections) → slice_index_or (part_sizes filling) p 0 ≡ part_size filling p
-size_of filling p within =
+pub part_size_at : (filling : Filling) (p : ℕ) → p < length (all_parts filling.content.link.plan.sections) → slice_index_or (part_sizes filling) p 0 ≡ part_size filling p
+part_size_at filling p within =
     let parts : List PlanPart = all_parts filling.content.link.plan.sections in
     let none : PlanPart = record { alignment = 1; packed = false } in
     let size : ℕ × PlanPart → ℕ = λ q. part_size filling q.0 in
@@ -47,15 +48,17 @@ size_of filling p within =
     ∙ ap size (get_or-enumerate_from 0 parts p (0, none) within)
     ∙ ap (part_size filling) (zero-add p)
 
--- each part that is placed takes the bytes of its owners
-pub takes : PartsTakeTheirBytes → (machine : Machine) (link : LinkInput) (live : Live) (states : List Cursors) (records : List Record) → IsWellFormed link
-    → IsPlaced (setting machine link live) states records → placement_refusal (setting machine link live) states records ≡ None
-    → (p : ℕ) → p < length records → (record_at records p).mem_size ≡ part_size (filling_for machine link live) p
-takes law machine link live states records good is unrefused p below =
-    let all : map (λ r. r.mem_size) records ≡ part_sizes (filling_for machine link live) = law (setting machine link live) states records (ready machine link live good) is unrefused in
-    sym (get_or-map (λ (r : Record). r.mem_size) records p nowhere 0 below)
+-- each part that is placed takes the bytes of its owners, by all that is deleted
+pub takes : PartsTakeTheirBytes → (machine : Machine) (link : LinkInput) (live : Live) (stage : Stage) → IsWellFormed link → StandsFor (relaxing_for machine link live) stage
+    → refusal_of (relaxing_for machine link live) stage ≡ None
+    → (p : ℕ) → p < length stage.records → (record_at stage.records p).mem_size ≡ part_size (filling_after (relaxing_for machine link live) stage.deletions) p
+takes law machine link live stage good stands unrefused p below =
+    let filling : Filling = filling_after (relaxing_for machine link live) stage.deletions in
+    let all : map (λ r. r.mem_size) stage.records ≡ part_sizes filling
+    = law (setting_after (relaxing_for machine link live) stage.walked) stage.states stage.records (ready machine link live stage.walked good) stands.placed unrefused ∙ stands.parts in
+    sym (get_or-map (λ (r : Record). r.mem_size) stage.records p nowhere 0 below)
     ∙ ap (λ (sizes : List ℕ). slice_index_or sizes p 0) all
-    ∙ size_of (filling_for machine link live) p (omega (arith, is.each))
+    ∙ part_size_at filling p (omega (arith, stands.placed.each))
 
 -- ---- active segments
 

@@ -1,5 +1,5 @@
 -- A defined layout is sound.
-use Rattle.std.proofs.Common.{◌≡◌, ℕ, zero, suc, ◌%◌, ◌<◌, List, [], ◌∷◌, length, Some, None, refl, sym, ap, subst, ◌∙◌, inl, inr, arith}
+use Rattle.std.proofs.Common.{◌≡◌, ℕ, zero, suc, ◌%◌, ◌<◌, List, [], ◌∷◌, length, Some, None, sym, ap, subst, ◌∙◌, inl, inr, arith}
 use Rattle.std.specs.Prelude.{slice_get, slice_index}
 use Rattle.std.specs.Int.{◌∣◌}
 use Rattle.std.specs.List.{AllByRecursion, slice_index_or}
@@ -24,19 +24,22 @@ use Rattle.lk_place.specs.Segments.{alignment_inside, first_outside}
 use Rattle.lk_sizes.specs.declared.addresses.LiveSection.{LiveSection}
 use Rattle.lk_sizes.specs.Addresses.{live_section, live_sections}
 use Rattle.lk_sizes.specs.Emitted.{is_emitted}
-use Rattle.lk_sizes.specs.Owners.{Owner, SectionOwner, bytes_of, owner_address}
-use Rattle.lk_sizes.specs.PartOwners.{LiveSectionsAreOwners, owner_number, owners_of, part_size}
+use Rattle.lk_sizes.specs.Owners.{Owner, SectionOwner, bytes_of, owner_address, size_of}
+use Rattle.lk_sizes.specs.PartOwners.{LiveSectionsAreOwners, owner_number, owners_of, part_size, part_sizes}
 use Rattle.lk_sizes.specs.Tiles.{HasByte, IsTiled, OwnersAreAligned, OwnersTileTheirPart}
-use Rattle.lk_sizes.proofs.Numbering.{table_tells_live_sections}
 use Rattle.lk_sizes.proofs.LiveOnes.{Differ, Pairwise, live_differ, live_goes, live_good}
+use Rattle.lk_relaxing.specs.RelaxedLaws.{RelaxedIsShrunk, RelaxedStands}
+use Rattle.lk_relaxing.specs.Sites.{DeletedSitesAreNear}
+use Rattle.lk_relaxing.specs.Stages.{DeletionsAreRead, setting_after}
+use Rattle.lk_place.specs.Setting.{Setting}
+use Rattle.lk_layout.specs.Defined.{layout_of, made_standing}
 use Rattle.lk_layout.specs.LayoutRecord.{LayoutRecord}
-use Rattle.lk_layout.specs.Defined.{setting}
 use Rattle.lk_values.specs.Starts.{starts_of}
 use Rattle.lk_layout.specs.Machines.{IsLawfulMachine, Machine}
 use Rattle.lk_layout.specs.Layouts.{told_live}
-use Rattle.lk_layout.specs.Laws.{DefinedLayoutsAreSound, LaidOutMemoryIsDisjoint, LaidOutSectionsAreApart}
-use Rattle.lk_values.specs.Resolutions.{symbol_resolutions}
-use Rattle.lk_layout.specs.Sound.{OwnersAreApart, IsInSection, IsSharedOut, IsSound, IsTold, LiveSectionsAreAligned, LiveSectionsAreApart, MemoryIsCongruent, part_record}
+use Rattle.lk_layout.specs.Laws.{DefinedLayoutsAreSound, LaidOutLinksAreWellFormed, LaidOutMemoryIsDisjoint, LaidOutSectionsAreApart}
+use Rattle.lk_layout.specs.Redirects.{made_resolutions, placed_resolutions, placed_with}
+use Rattle.lk_layout.specs.Sound.{DeletedCandidatesAreNear, EdgesStand, SectionsShrink, OwnersAreApart, RedirectsStand, IsInSection, IsSharedOut, IsSound, IsTold, LiveSectionsAreAligned, LiveSectionsAreApart, MemoryIsCongruent, part_record}
 use Rattle.lk_layout.proofs.CommonsStand.{commons_stand}
 use Rattle.lk_layout.proofs.EntriesStand.{entries_stand}
 use Rattle.lk_layout.proofs.TablesAlone.{tables_alone}
@@ -46,34 +49,47 @@ use Rattle.lk_layout.proofs.Fitting.{buckets_start}
 use Rattle.lk_layout.proofs.LaidOut.{IsLaidOut, made_by, laid_out}
 use Rattle.lk_layout.proofs.ImagesShow.{images_stand}
 use Rattle.lk_layout.proofs.NamedSymbols.{named_symbols_show}
+use Rattle.lk_layout.proofs.OwnSymbols.{edges_stand, redirects_stand}
 use Rattle.lk_layout.proofs.PartStarts.{part_starts}
 use Rattle.lk_layout.proofs.SinglesBehind.{singles_stand}
 use Rattle.lk_layout.proofs.SortedLast.{sorted_stand_last}
 use Rattle.lk_layout.proofs.ReferencesShow.{references_show}
+use Rattle.lk_layout.proofs.OnlyScanned.{only_scanned_lose}
+use Rattle.lk_layout.proofs.ToldSizes.{told_live_are}
 use Rattle.lk_values.proofs.Placing.{size-le}
 use Rattle.lk_layout.proofs.Resolved.{resolved_sections_are_live}
-use Rattle.lk_layout.proofs.Settings.{ready, size_of, takes}
+use Rattle.lk_layout.proofs.Resolving.{objects_told}
+use Rattle.lk_layout.proofs.Settings.{part_size_at, ready, takes}
 use Rattle.lk_layout.proofs.Valued.{values_are_in_live_sections}
 use Rattle.lk_link.proofs.Elements.{contains_at, map_in}
 use Rattle.lk_values.specs.OutputContent.{output_content}
-use Rattle.lk_layout.specs.Made.{Made, filling_for, made_content, made_filling, made_of}
-use Rattle.lk_sizes.proofs.OwnSizes.{live_own_size}
+use Rattle.lk_values.specs.StoreLaws.{ChangesValuesAlone, RedirectsChangeValuesAlone}
+use Rattle.lk_edges.specs.EdgeLaws.{OthersAreNoRedirects}
+use Rattle.lk_layout.specs.Spans.{made_joined, made_sections}
+use Rattle.lk_layout.specs.Made.{Made, made_filling, made_of, relaxing_for}
 
 -- ---- the layout and its records
 
-parts_are : (machine : Machine) (link : LinkInput) (layout : LayoutRecord) (laid : IsLaidOut machine link layout) → layout.section_part_layouts ≡ laid.records
+parts_are : (machine : Machine) (link : LinkInput) (layout : LayoutRecord) (laid : IsLaidOut machine link layout) → layout.section_part_layouts ≡ laid.stage.records
 parts_are machine link layout laid = ap (λ (l : LayoutRecord). l.section_part_layouts) laid.same
 
-shown : (machine : Machine) (link : LinkInput) (layout : LayoutRecord) (laid : IsLaidOut machine link layout) → told_live link layout ≡ live_sections (filling_for machine link laid.live) (starts_of layout.section_part_layouts)
-shown machine link layout laid =
-    ap (told_live link) laid.same ∙ table_tells_live_sections (filling_for machine link laid.live) (starts_of laid.records) refl
-    ∙ ap (λ (rs : List Record). live_sections (filling_for machine link laid.live) (starts_of rs)) (sym (parts_are machine link layout laid))
+shown_at : (machine : Machine) (link : LinkInput) (layout : LayoutRecord) (laid : IsLaidOut machine link layout) → told_live link layout ≡ live_sections (made_filling (made_by laid)) (starts_of laid.stage.records)
+shown_at machine link layout laid = ap (told_live link) laid.same ∙ told_live_are (made_by laid)
 
-resolved : (machine : Machine) (link : LinkInput) (layout : LayoutRecord) (laid : IsLaidOut machine link layout)
-    → layout.symbol_resolutions ≡ symbol_resolutions (filling_for machine link laid.live) (starts_of layout.section_part_layouts)
-resolved machine link layout laid =
-    ap (λ (l : LayoutRecord). l.symbol_resolutions) laid.same
-    ∙ ap (λ (rs : List Record). symbol_resolutions (filling_for machine link laid.live) (starts_of rs)) (sym (parts_are machine link layout laid))
+shown : (machine : Machine) (link : LinkInput) (layout : LayoutRecord) (laid : IsLaidOut machine link layout) → told_live link layout ≡ live_sections (made_filling (made_by laid)) (starts_of layout.section_part_layouts)
+shown machine link layout laid =
+    shown_at machine link layout laid ∙ ap (λ (rs : List Record). live_sections (made_filling (made_by laid)) (starts_of rs)) (sym (parts_are machine link layout laid))
+
+deletions_are : (machine : Machine) (link : LinkInput) (layout : LayoutRecord) (laid : IsLaidOut machine link layout) → layout.section_deletions ≡ laid.stage.deletions
+deletions_are machine link layout laid = ap (λ (l : LayoutRecord). l.section_deletions) laid.same
+
+-- redirects change nothing but their own values of what is placed
+changed : RedirectsChangeValuesAlone → (machine : Machine) (link : LinkInput) (layout : LayoutRecord) (laid : IsLaidOut machine link layout)
+    → ChangesValuesAlone link.groups (placed_resolutions (made_by laid)) layout.symbol_resolutions
+changed alone machine link layout laid =
+    let made : Made = made_by laid in
+    subst (λ (l : LayoutRecord). ChangesValuesAlone link.groups (placed_resolutions made) l.symbol_resolutions) (sym laid.same)
+    (alone (placed_with made (made_sections made) (made_joined made)) (placed_resolutions made) (made_resolutions made) laid.redirected)
 
 -- no section stands outside the segments
 covered : (machine : Machine) (link : LinkInput) (layout : LayoutRecord) (laid : IsLaidOut machine link layout)
@@ -86,8 +102,8 @@ shared_out : OwnersTileTheirPart → PartsTakeTheirBytes → (machine : Machine)
     → IsSharedOut (made_by laid) layout p
 shared_out tile mass machine link layout laid p within = record {
   whole = ap (λ rs. (record_at rs p).mem_size) (parts_are machine link layout laid)
-      ∙ takes mass machine link laid.live laid.states laid.records laid.good laid.is laid.unrefused p (omega (arith, within, laid.is.each));
-  tiled = tile (filling_for machine link laid.live) p (part_record layout p).mem_offset;
+      ∙ takes mass machine link laid.live laid.stage laid.good laid.stands laid.unrefused p (omega (arith, within, laid.stands.placed.each));
+  tiled = tile (made_filling (made_by laid)) p (part_record layout p).mem_offset;
 }
 
 -- ---- one live section
@@ -95,8 +111,8 @@ shared_out tile mass machine link layout laid p within = record {
 -- a live section that is told stands among the owners of its part
 record Stands (made : Made) (layout : LayoutRecord) (x : Input) (l : LiveSection) : Type 0 where
   address : l.address ≡ owner_address (part_record layout x.section.part).mem_offset (part_at made.link.plan.sections x.section.part) (owners_of (made_filling made) x.section.part) (owner_number (made_filling made) x)
-  size : l.size ≡ x.section.size
-  owner : slice_get (owners_of (made_filling made) x.section.part) (owner_number (made_filling made) x) ≡ Some (SectionOwner x x.section.size)
+  size : l.size ≡ size_of (made_filling made) x
+  owner : slice_get (owners_of (made_filling made) x.section.part) (owner_number (made_filling made) x) ≡ Some (SectionOwner x (size_of (made_filling made) x))
 
 stands : LiveSectionsAreOwners → (made : Made) (layout : LayoutRecord) (a : ℕ) (x : Input) (l : LiveSection)
     → told_live made.link layout ≡ live_sections (made_filling made) (starts_of layout.section_part_layouts) → IsTold made layout a x l → Stands made layout x l
@@ -109,19 +125,18 @@ stands owners made layout a x l is told =
     record {
       address = ap (λ (m : LiveSection). m.address) same
           ∙ ap (λ (n : ℕ). owner_address n (part_at made.link.plan.sections x.section.part) (owners_of (made_filling made) x.section.part) (owner_number (made_filling made) x)) start;
-      size = ap (λ (m : LiveSection). m.size) same ∙ live_own_size (made_content made) a x told.there;
-      owner = owners (made_filling made) x (contains_at (live_inputs made.link made.live) a x told.there)
-          ∙ ap (λ (n : ℕ). Some (SectionOwner x n)) (live_own_size (made_content made) a x told.there);
+      size = ap (λ (m : LiveSection). m.size) same;
+      owner = owners (made_filling made) x (contains_at (live_inputs made.link made.live) a x told.there);
     }
 
 -- the bytes of a live section are its owner's
 has_byte : (made : Made) (layout : LayoutRecord) (x : Input) (l : LiveSection) (address : ℕ) → Stands made layout x l → IsInSection address l
     → HasByte (part_record layout x.section.part).mem_offset (part_at made.link.plan.sections x.section.part) (owners_of (made_filling made) x.section.part) (owner_number (made_filling made) x) address
 has_byte made layout x l address s here = record {
-  owner = SectionOwner x x.section.size;
+  owner = SectionOwner x (size_of (made_filling made) x);
   there = s.owner;
   from = omega (arith, s.address, here.begins);
-  below = omega (arith, s.address, s.size, here.ends, size-le (part_at made.link.plan.sections x.section.part) x.section.size);
+  below = omega (arith, s.address, s.size, here.ends, size-le (part_at made.link.plan.sections x.section.part) (size_of (made_filling made) x));
 }
 
 -- ---- live sections stand apart
@@ -166,9 +181,9 @@ sections_apart owners made layout good are_live is shared memory a b address x y
           let owned : ℕ → ℕ → Type 0 = λ r k. HasByte (part_record layout r).mem_offset (part_at made.link.plan.sections r) (owners_of (made_filling made) r) k address in
           let beside : owned p (owner_number (made_filling made) y) = subst (λ r. owned r (owner_number (made_filling made) y)) (sym hit.1) second in
           let number : owner_number (made_filling made) x ≡ owner_number (made_filling made) y = of_p.tiled.apart (owner_number (made_filling made) x) (owner_number (made_filling made) y) address first beside in
-          let mine : slice_get (owners_of (made_filling made) p) (owner_number (made_filling made) x) ≡ Some (SectionOwner x x.section.size) = (stands owners made layout a x l is told_a).owner in
-          let yours : slice_get (owners_of (made_filling made) q) (owner_number (made_filling made) y) ≡ Some (SectionOwner y y.section.size) = (stands owners made layout b y m is told_b).owner in
-          let both : Some (SectionOwner x x.section.size) ≡ Some (SectionOwner y y.section.size)
+          let mine : slice_get (owners_of (made_filling made) p) (owner_number (made_filling made) x) ≡ Some (SectionOwner x (size_of (made_filling made) x)) = (stands owners made layout a x l is told_a).owner in
+          let yours : slice_get (owners_of (made_filling made) q) (owner_number (made_filling made) y) ≡ Some (SectionOwner y (size_of (made_filling made) y)) = (stands owners made layout b y m is told_b).owner in
+          let both : Some (SectionOwner x (size_of (made_filling made) x)) ≡ Some (SectionOwner y (size_of (made_filling made) y))
           = sym mine ∙ ap (λ (r : ℕ). slice_get (owners_of (made_filling made) r) (owner_number (made_filling made) x)) hit.1 ∙ ap (slice_get (owners_of (made_filling made) q)) number ∙ yours in
           let same : x ≡ y = cc in
           one_owner made.link made.live a b x y other told_a.there told_b.there same
@@ -206,18 +221,22 @@ sections_aligned tile aligned owners machine link layout laid a x l told some un
     let s : Stands (made_by laid) layout x l = stands owners (made_by laid) layout a x l (shown machine link layout laid) told in
     let within : p < length (all_parts link.plan.sections) = live_goes link live a x laid.good laid.are_live told.there in
     let byte = has_byte (made_by laid) layout x l l.address s (record { begins = omega arith; ends = omega (arith, some) }) in
-    let bytes : 0 < part_size (filling_for machine link live) p = owner_within (part_at link.plan.sections p) (part_record layout p).mem_offset (owners_of (filling_for machine link live) p) (owner_number (filling_for machine link live) x) l.address (tile (filling_for machine link live) p (part_record layout p).mem_offset) byte in
-    let size : slice_index_or (setting machine link live).sizes p 0 ≡ part_size (filling_for machine link live) p = size_of (filling_for machine link live) p within in
-    let begins : (part_at link.plan.sections p).alignment ∣ (record_at laid.records p).mem_offset
-    = part_starts machine link live laid.states laid.records p laid.good laid.is laid.unrefused within (omega (arith, bytes, size)) in
-    let record_is : (record_at laid.records p).mem_offset ≡ (part_record layout p).mem_offset = ap (λ rs. (record_at rs p).mem_offset) (sym (parts_are machine link layout laid)) in
+    let bytes : 0 < part_size (made_filling (made_by laid)) p = owner_within (part_at link.plan.sections p) (part_record layout p).mem_offset (owners_of (made_filling (made_by laid)) p) (owner_number (made_filling (made_by laid)) x) l.address (tile (made_filling (made_by laid)) p (part_record layout p).mem_offset) byte in
+    let size : slice_index_or (part_sizes (made_filling (made_by laid))) p 0 ≡ part_size (made_filling (made_by laid)) p = part_size_at (made_filling (made_by laid)) p within in
+    let begins : (part_at link.plan.sections p).alignment ∣ (record_at laid.stage.records p).mem_offset
+    = part_starts machine link live laid.stage p laid.good laid.stands laid.unrefused within (omega (arith, bytes, size)) in
+    let record_is : (record_at laid.stage.records p).mem_offset ≡ (part_record layout p).mem_offset = ap (λ rs. (record_at rs p).mem_offset) (sym (parts_are machine link layout laid)) in
     subst (λ n. (part_at link.plan.sections p).alignment ∣ n) (sym s.address)
-    (dvd-add (part_at link.plan.sections p).alignment (subst (λ n. (part_at link.plan.sections p).alignment ∣ n) record_is begins) (aligned (filling_for machine link live) p (owner_number (filling_for machine link live) x) laid.good (live_good link live a x laid.good laid.are_live told.there).1.to_no_table unpacked))
+    (dvd-add (part_at link.plan.sections p).alignment (subst (λ n. (part_at link.plan.sections p).alignment ∣ n) record_is begins) (aligned (made_filling (made_by laid)) p (owner_number (made_filling (made_by laid)) x) laid.good (live_good link live a x laid.good laid.are_live told.there).1.to_no_table unpacked))
 
 -- ---- the laws
 
-soundly_set : (machine : Machine) (link : LinkInput) (layout : LayoutRecord) (laid : IsLaidOut machine link layout) → IsLawfulMachine machine → IsSoundlySet (setting machine link laid.live) laid.states laid.records
-soundly_set machine link layout laid lawful = record { ready = ready machine link laid.live laid.good; page = laid.good.page; lawful = lawful.target; placed = laid.is }
+-- what its placement is of
+abbrev set_by : {machine : Machine} {link : LinkInput} {layout : LayoutRecord} → IsLaidOut machine link layout → Setting
+set_by {machine} {link} laid = setting_after (relaxing_for machine link laid.live) laid.stage.walked
+
+soundly_set : (machine : Machine) (link : LinkInput) (layout : LayoutRecord) (laid : IsLaidOut machine link layout) → IsLawfulMachine machine → IsSoundlySet (set_by laid) laid.stage.states laid.stage.records
+soundly_set machine link layout laid lawful = record { ready = ready machine link laid.live laid.stage.walked laid.good; page = laid.good.page; lawful = lawful.target; placed = laid.stands.placed }
 
 -- a part of a layout starts at the same place in memory and in the file
 abbrev IsCongruentAt : LinkInput → LayoutRecord → ℕ → ℕ → Type 0
@@ -228,46 +247,72 @@ congruent : PlainMemoryIsCongruent → RecordsKeepAlignments → (machine : Mach
     → IsPlain link.plan link.options.output → MemoryIsCongruent link layout
 congruent in_step keep machine link layout laid lawful plain i s k p places backed part =
     let live : Live = laid.live in
-    let kept : KeepAlignments (setting machine link live) laid.records
-    = keep (setting machine link live) laid.states laid.records (ready machine link live laid.good) laid.is (laid.is.ends laid.unrefused) in
-    let found = in_step (setting machine link live) laid.states laid.records (soundly_set machine link layout laid lawful) plain i s k p places backed part in
-    let there = subst (λ (n : ℕ). (record_at laid.records p).mem_offset % n ≡ (record_at laid.records p).file_offset % n) (sym (kept.segment i)) found in
+    let kept : KeepAlignments (set_by laid) laid.stage.records
+    = keep (set_by laid) laid.stage.states laid.stage.records (ready machine link live laid.stage.walked laid.good) laid.stands.placed (laid.stands.placed.ends laid.unrefused) in
+    let found = in_step (set_by laid) laid.stage.states laid.stage.records (soundly_set machine link layout laid lawful) plain i s k p places backed part in
+    let there = subst (λ (n : ℕ). (record_at laid.stage.records p).mem_offset % n ≡ (record_at laid.stage.records p).file_offset % n) (sym (kept.segment i)) found in
     subst (λ (l : LayoutRecord). IsCongruentAt link l i p) (sym laid.same) there
 
+-- ---- relaxation
+
+sections_shrink : RelaxedIsShrunk → DeletionsAreRead → (machine : Machine) (link : LinkInput) (layout : LayoutRecord) (laid : IsLaidOut machine link layout) → SectionsShrink (made_by laid) layout
+sections_shrink shrunk read machine link layout laid =
+    let by = relaxing_for machine link laid.live in
+    let at_end : SectionsShrink (made_by laid) (layout_of (made_by laid)) = λ k x there. record {
+      of = (shrunk by laid.stage laid.good laid.relaxed).of k x there;
+      shrinks = only_scanned_lose read by laid.stage k x there laid.relaxed;
+    } in
+    subst (SectionsShrink (made_by laid)) (sym laid.same) at_end
+
+candidates_near : DeletedSitesAreNear → (machine : Machine) (link : LinkInput) (layout : LayoutRecord) (laid : IsLaidOut machine link layout) → DeletedCandidatesAreNear (made_by laid) layout
+candidates_near near machine link layout laid =
+    let at_end : DeletedCandidatesAreNear (made_by laid) (layout_of (made_by laid)) = λ k j a b x c there at gone to from.
+    near (made_standing (made_by laid)) k j a b x c laid.near there at gone to from in
+    subst (DeletedCandidatesAreNear (made_by laid)) (sym laid.same) at_end
+
 -- what is laid out is sound
-is_sound : OwnersTileTheirPart → OwnersAreAligned → LiveSectionsAreOwners → PartsTakeTheirBytes → RefusedExactlyPast → FileRangesAreDisjoint → PlainMemoryIsDisjoint → PlainMemoryIsCongruent → RecordsKeepAlignments → ThunksHaveRanges → BranchesReach
-    → (machine : Machine) (link : LinkInput) (layout : LayoutRecord) (laid : IsLaidOut machine link layout) → IsLawfulMachine machine → IsSound (made_by laid) layout
-is_sound tile aligned owners mass refused file memory in_step keep ranges reach machine link layout laid lawful =
+is_sound : RelaxedIsShrunk → DeletionsAreRead → DeletedSitesAreNear → OwnersTileTheirPart → OwnersAreAligned → LiveSectionsAreOwners → PartsTakeTheirBytes → RefusedExactlyPast → FileRangesAreDisjoint → PlainMemoryIsDisjoint → PlainMemoryIsCongruent → RecordsKeepAlignments → ThunksHaveRanges → BranchesReach
+    → RedirectsChangeValuesAlone → OthersAreNoRedirects → (machine : Machine) (link : LinkInput) (layout : LayoutRecord) (laid : IsLaidOut machine link layout) → IsLawfulMachine machine → IsSound (made_by laid) layout
+is_sound shrunk read near tile aligned owners mass refused file memory in_step keep ranges reach redirects others machine link layout laid lawful =
+    let made : Made = made_by laid in
     let records : List Record = layout.section_part_layouts in
+    let behind = changed redirects machine link layout laid in
+    let objects = objects_told others made layout behind in
+    let alone = tables_alone (made_filling (made_by laid)) laid.good laid.are_live in
     record {
       is = laid.same;
-      stands = record { placed = laid.is; unrefused = laid.unrefused };
+      stands = record { relaxed = laid.relaxed; unrefused = laid.unrefused };
       met = laid.met;
       reached = laid.are_live;
       shown = shown machine link layout laid;
       starts = buckets_start refused mass machine link layout laid;
       images = images_stand machine link layout laid;
-      named = named_symbols_show machine link layout laid;
+      named = named_symbols_show machine link layout laid objects;
       references = references_show machine link layout laid;
       inside = laid.inside;
       placed = resolved_sections_are_live link laid.live laid.good laid.are_live laid.met;
-      valued = λ unrelaxed. values_are_in_live_sections (made_by laid) layout (starts_of records) (shown machine link layout laid) (resolved machine link layout laid)
+      valued = values_are_in_live_sections made layout (deletions_are machine link layout laid) (shown_at machine link layout laid) objects
           (resolved_sections_are_live link laid.live laid.good laid.are_live laid.met);
-      commons = commons_stand tile aligned machine link layout laid (resolved machine link layout laid);
-      alone = tables_alone (filling_for machine link laid.live) laid.good laid.are_live;
-      entries = entries_stand machine link layout laid (tables_alone (filling_for machine link laid.live) laid.good laid.are_live) (resolved machine link layout laid);
+      commons = commons_stand tile aligned machine link layout laid objects;
+      edges = subst (EdgesStand made) (sym laid.same)
+          (edges_stand made (redirects (placed_with made (made_sections made) (made_joined made)) (placed_resolutions made) (made_resolutions made) laid.redirected));
+      redirects = subst (RedirectsStand made) (sym laid.same) (redirects_stand made laid.redirected);
+      alone = alone;
+      entries = entries_stand machine link layout laid lawful.sizes alone behind;
       thunks = thunks_stand ranges machine link layout laid lawful;
       reaching = branches_reach reach machine link layout laid;
+      shrunk = sections_shrink shrunk read machine link layout laid;
+      limited = candidates_near near machine link layout laid;
       ordered = sorted_stand_last (made_by laid);
       singles = singles_stand machine link layout laid;
       covered = covered machine link layout laid;
       aligned = sections_aligned tile aligned owners machine link layout laid;
       shared = shared_out tile mass machine link layout laid;
       file = subst (λ rs. FileIsDisjoint rs) (sym (parts_are machine link layout laid))
-          (file (setting machine link laid.live) laid.states laid.records (ready machine link laid.live laid.good) laid.is);
+          (file (set_by laid) laid.stage.states laid.stage.records (ready machine link laid.live laid.stage.walked laid.good) laid.stands.placed);
       memory = λ plain.
           let disjoint : MemoryIsDisjoint link.plan records = subst (MemoryIsDisjoint link.plan) (sym (parts_are machine link layout laid))
-          (memory (setting machine link laid.live) laid.states laid.records (soundly_set machine link layout laid lawful) plain) in
+          (memory (set_by laid) laid.stage.states laid.stage.records (soundly_set machine link layout laid lawful) plain) in
           record {
             disjoint = disjoint;
             apart = sections_apart owners (made_by laid) layout laid.good laid.are_live (shown machine link layout laid) (shared_out tile mass machine link layout laid) disjoint;
@@ -276,25 +321,25 @@ is_sound tile aligned owners mass refused file memory in_step keep ranges reach 
           };
     }
 
-pub sound : WellFormedExactlyUnfaulted → OwnersTileTheirPart → OwnersAreAligned → LiveSectionsAreOwners → PartsTakeTheirBytes → RefusedExactlyPast → FileRangesAreDisjoint → PlainMemoryIsDisjoint → PlainMemoryIsCongruent → RecordsKeepAlignments → ThunksHaveRanges → BranchesReach
-    → DefinedLayoutsAreSound
-sound exactly tile aligned owners mass refused file memory in_step keep ranges reach machine link layout lawful defined =
-    let laid = laid_out exactly machine link layout defined in
-    (laid.live, laid.states, laid.records, is_sound tile aligned owners mass refused file memory in_step keep ranges reach machine link layout laid lawful)
+pub sound : WellFormedExactlyUnfaulted → RelaxedStands → RelaxedIsShrunk → DeletionsAreRead → DeletedSitesAreNear → OwnersTileTheirPart → OwnersAreAligned → LiveSectionsAreOwners → PartsTakeTheirBytes → RefusedExactlyPast → FileRangesAreDisjoint → PlainMemoryIsDisjoint → PlainMemoryIsCongruent → RecordsKeepAlignments → ThunksHaveRanges → BranchesReach
+    → RedirectsChangeValuesAlone → OthersAreNoRedirects → DefinedLayoutsAreSound
+sound exactly stands shrunk read near tile aligned owners mass refused file memory in_step keep ranges reach redirects others machine link layout lawful defined =
+    let laid = laid_out exactly stands machine link layout defined in
+    (laid.live, laid.stage, is_sound shrunk read near tile aligned owners mass refused file memory in_step keep ranges reach redirects others machine link layout laid lawful)
 
 -- under a plan in which nothing moves, the memory of a layout is disjoint
-pub memory_disjoint : WellFormedExactlyUnfaulted → MemoryRangesAreDisjoint → LaidOutMemoryIsDisjoint
-memory_disjoint exactly memory machine link layout placeable lawful defined =
-    let laid = laid_out exactly machine link layout defined in
+pub memory_disjoint : WellFormedExactlyUnfaulted → RelaxedStands → MemoryRangesAreDisjoint → LaidOutMemoryIsDisjoint
+memory_disjoint exactly stands memory machine link layout placeable lawful defined =
+    let laid = laid_out exactly stands machine link layout defined in
     subst (MemoryIsDisjoint link.plan) (sym (parts_are machine link layout laid))
-    (memory (setting machine link laid.live) laid.states laid.records (soundly_set machine link layout laid lawful) placeable)
+    (memory (set_by laid) laid.stage.states laid.stage.records (soundly_set machine link layout laid lawful) placeable)
 
 -- and so are its live sections, and all owners
-pub laid_out_apart : WellFormedExactlyUnfaulted → LiveSectionsAreOwners → DefinedLayoutsAreSound → LaidOutMemoryIsDisjoint → LaidOutSectionsAreApart
-laid_out_apart exactly owners sound disjoint machine link layout placeable lawful defined =
-    let good : IsWellFormed link = (laid_out exactly machine link layout defined).good in
+pub laid_out_apart : LaidOutLinksAreWellFormed → LiveSectionsAreOwners → DefinedLayoutsAreSound → LaidOutMemoryIsDisjoint → LaidOutSectionsAreApart
+laid_out_apart formed owners sound disjoint machine link layout placeable lawful defined =
+    let good : IsWellFormed link = formed machine link layout defined in
     let found = sound machine link layout lawful defined in
-    let made : Made = made_of machine link found.0 found.1 found.2 in
-    let is : IsSound made layout = found.3 in
+    let made : Made = made_of machine link found.0 found.1 in
+    let is : IsSound made layout = found.2 in
     let memory : MemoryIsDisjoint link.plan layout.section_part_layouts = disjoint machine link layout placeable lawful defined in
-    (found.0, found.1, found.2, (is, sections_apart owners made layout good is.reached is.shown is.shared memory, owners_apart made layout is.shared memory))
+    (found.0, found.1, (is, sections_apart owners made layout good is.reached is.shown is.shared memory, owners_apart made layout is.shared memory))

@@ -12,35 +12,30 @@ use Rattle.lk_gc.specs.Reach.{AreLive}
 use Rattle.lk_merge.specs.Addresses.{start_addresses}
 use Rattle.lk_merge.specs.Hash.{fnv64}
 use Rattle.lk_merge.specs.LinkInputs.{link_inputs}
-use Rattle.lk_place.specs.declared.cursors.Cursors.{Cursors}
-use Rattle.lk_place.specs.Placement.{IsPlaced, placement_refusal}
-use Rattle.lk_expressions.specs.Records.{Record}
 use Rattle.lk_place.specs.declared.segments.SegmentFileLayout.TheVariants.{FromSections}
-use Rattle.lk_place.specs.declared.segments.SegmentLayout.{SegmentLayout}
-use Rattle.lk_place.specs.Secondaries.{merge_refusal, merged_records}
-use Rattle.lk_place.specs.Segments.{section_records, segment_layouts, segments_refusal, thread_local_one}
-use Rattle.lk_place.specs.Setting.{Setting, setting_of}
+use Rattle.lk_place.specs.Secondaries.{merge_refusal}
+use Rattle.lk_place.specs.Segments.{segments_refusal, thread_local_one}
 use Rattle.lk_sizes.specs.Attributes.{all_section_attributes, by_section}
 use Rattle.lk_sizes.specs.Contents.{size_refusal}
 use Rattle.lk_sizes.specs.Emitted.{active_segments, is_emitted, output_index}
 use Rattle.lk_sizes.specs.Images.{image_addresses}
 use Rattle.lk_sizes.specs.Addresses.{section_addresses}
-use Rattle.lk_sizes.specs.PartOwners.{part_sizes}
 use Rattle.lk_sizes.specs.Harvest.{sorted_sections}
 use Rattle.lk_tables.specs.Singletons.{partial_link_plan}
+use Rattle.lk_relaxing.specs.Scan.{Standing}
+use Rattle.lk_relaxing.specs.Sites.{past_limit}
+use Rattle.lk_relaxing.specs.Stages.{IsRelaxed, Stage, refusal_of, standing_at}
 use Rattle.lk_layout.specs.declared.error.LayoutError.{LayoutError}
-use Rattle.lk_layout.specs.declared.error.LayoutError.TheVariants.{NoMemory, NotCarried, References}
-use Rattle.lk_layout.specs.declared.error.Uncarried.{Uncarried}
+use Rattle.lk_layout.specs.declared.error.LayoutError.TheVariants.{NoMemory, References}
 use Rattle.lk_layout.specs.LayoutRecord.{LayoutRecord}
-use Rattle.lk_layout.specs.Carried.{first_uncarried}
-use Rattle.lk_layout.specs.Headers.{header_bytes}
-use Rattle.lk_layout.specs.Errors.{branch_error, fault_error, offset_error, size_error, place_error}
+use Rattle.lk_layout.specs.Errors.{branch_error, fault_error, offset_error, place_error, site_error, size_error}
 use Rattle.lk_layout.specs.Merging.{merging_refusal}
 use Rattle.lk_values.specs.Outside.{merge_offsets}
-use Rattle.lk_values.specs.Resolutions.{entry_symbol, symbol_resolutions}
-use Rattle.lk_layout.specs.Made.{Made, filling_for, made_content, made_filling, made_of}
-use Rattle.lk_layout.specs.Thunks.{made_branching, made_owners, made_places, made_sets}
-use Rattle.lk_layout.specs.Positions.{symbol_positions}
+use Rattle.lk_values.specs.Resolutions.{entry_symbol}
+use Rattle.lk_layout.specs.Made.{Made, filling_for, made_content, made_deletions, made_filling, made_of, made_relaxing, relaxing_for}
+use Rattle.lk_layout.specs.Thunks.{made_branching, made_owners, made_places, made_sets, made_users}
+use Rattle.lk_layout.specs.Redirects.{made_resolutions, redirects_refusal}
+pub use Rattle.lk_layout.specs.Spans.{made_joined, made_sections, made_segments}
 use Rattle.lk_values.specs.Starts.{starts_of}
 use Rattle.lk_sizes.specs.Owners.{Filling}
 
@@ -54,13 +49,6 @@ Unless (Some e) answer P = answer ≡ Err e
 -- a link that isn't well formed
 abbrev pub fault_refusal : LinkInput → Option LayoutError
 fault_refusal link = option_map fault_error (first_fault link)
-
-abbrev pub not_carried : Uncarried → LayoutError
-not_carried what = NotCarried what
-
--- what isn't laid out yet
-abbrev pub uncarried_refusal : LinkInput → Option LayoutError
-uncarried_refusal link = option_map not_carried (first_uncarried link)
 
 -- references that can't be met, if there are any
 abbrev pub references_error : List ReferenceFault → Option LayoutError
@@ -78,23 +66,21 @@ offsets_refusal made = option_map offset_error (slice_get (merge_offsets made.li
 abbrev pub sizes_refusal : Machine → LinkInput → Live → Option LayoutError
 sizes_refusal machine link live = option_map size_error (size_refusal (filling_for machine link live))
 
--- what is placed, for which machine, with the bytes of the parts and of the headers, and the places of symbols
-abbrev pub setting : Machine → LinkInput → Live → Setting
-setting machine link live =
-    let filling : Filling = filling_for machine link live in
-    setting_of link machine.target (part_sizes filling) (header_bytes machine link live) (symbol_positions filling)
-
 -- the first branch that reaches neither its target nor a thunk
 abbrev pub branch_refusal : Made → Option LayoutError
 branch_refusal made = option_map branch_error (slice_get (unreached (made_branching made)) 0)
 
--- an event that can't be carried out
+-- what the last walk of relaxation can't carry out
 abbrev pub walk_refusal : Made → Option LayoutError
-walk_refusal made = option_map place_error (placement_refusal (setting made.machine made.link made.live) made.states made.records)
+walk_refusal made = option_map place_error (refusal_of (made_relaxing made) made.stage)
 
--- the records of its output sections
-abbrev pub made_sections : Made → List Record
-made_sections made = section_records made.link.plan.sections made.records
+-- how all stands at last
+abbrev pub made_standing : Made → Standing
+made_standing made = standing_at (made_relaxing made) made.stage
+
+-- the first candidate whose bytes are gone though its symbol is too far from where they stood, by final addresses
+abbrev pub sites_refusal : Made → Option LayoutError
+sites_refusal made = option_map site_error (slice_get (past_limit (made_standing made)) 0)
 
 -- a primary that its secondaries take past 64 bits
 abbrev pub joining_refusal : Made → Option LayoutError
@@ -108,60 +94,60 @@ segment_refusal made =
 
 -- ---- the layout
 
--- what the active segments span
-abbrev pub made_segments : Made → List SegmentLayout
-made_segments made =
-    let content = made_content made in
-    segment_layouts FromSections made.link.plan made.link.options.stack (made_sections made) (is_emitted content) (active_segments content)
-
 -- what is made of these
 abbrev pub layout_of : Made → LayoutRecord
 layout_of made =
     let link = made.link in
     let filling : Filling = made_filling made in
-    let starts = starts_of made.records in
+    let starts = starts_of made.stage.records in
     record {
       link = link;
       section_layouts = made_sections made;
-      merged_section_layouts = merged_records link.plan.sections (made_sections made);
-      section_part_layouts = made.records;
+      merged_section_layouts = made_joined made;
+      section_part_layouts = made.stage.records;
       section_attributes = all_section_attributes link made.live;
       output_section_indexes = by_section (output_index filling.content) link;
       segment_layouts = made_segments made;
       tls_layout = option_map (λ l. l.sizes) (thread_local_one link.plan (made_segments made));
       live_marks = made.live.marks;
       section_addresses = section_addresses filling starts;
+      section_deletions = made_deletions made;
       merged_strings = (link_inputs link).outputs;
       merged_string_start_addresses = start_addresses fnv64 (link_inputs link).outputs (image_addresses filling starts);
-      symbol_resolutions = symbol_resolutions filling starts;
+      symbol_resolutions = made_resolutions made;
       entry_symbol_id = entry_symbol link;
       script_sorted_sections = sorted_sections link made.live filling.sizes;
       partial_link = partial_link_plan link made.live;
       thunk_blocks = made_sets made;
       thunk_block_owners = made_owners made;
       thunk_block_addresses = made_places made;
+      thunk_users = made_users made;
       thunk_size = thunk_size (config_for made.machine.thunks made.link);
     }
 
 -- ---- the answer
 
--- behind what sections and segments span: the refusal of offsets into merged data, else that of branches, else the layout
+-- behind what sections and segments span: the refusal of offsets into merged data, else that of redirects, else that of branches, else that of
+-- deleted candidates, else the layout
 abbrev pub IsSpannedAnswer : Made → Result LayoutRecord LayoutError → Type 0
-IsSpannedAnswer made answer = Unless (offsets_refusal made) answer (Unless (branch_refusal made) answer (answer ≡ Ok (layout_of made)))
+IsSpannedAnswer made answer =
+    Unless (offsets_refusal made) answer
+    (Unless (redirects_refusal made) answer
+    (Unless (branch_refusal made) answer
+    (Unless (sites_refusal made) answer (answer ≡ Ok (layout_of made)))))
 
 -- behind the placement: the refusal of secondaries, else that of the segments, and then
 abbrev pub IsPlacedAnswer : Made → Result LayoutRecord LayoutError → Type 0
 IsPlacedAnswer made answer = Unless (joining_refusal made) answer (Unless (segment_refusal made) answer (IsSpannedAnswer made answer))
 
--- of a placement: its first refusal, and then
+-- of the end of relaxation: the refusal of its last placement, and then
 abbrev pub IsMadeAnswer : Made → Result LayoutRecord LayoutError → Type 0
 IsMadeAnswer made answer = Unless (walk_refusal made) answer (IsPlacedAnswer made answer)
 
--- behind the sizes: a placement, and then
+-- behind the sizes: the stage at which relaxation ends, and then
 abbrev pub IsSizedAnswer : Machine → LinkInput → Live → Result LayoutRecord LayoutError → Type 0
 IsSizedAnswer machine link live answer =
-    (states : List Cursors) × (records : List Record) × IsPlaced (setting machine link live) states records
-    × IsMadeAnswer (made_of machine link live states records) answer
+    (stage : Stage) × IsRelaxed (relaxing_for machine link live) stage × IsMadeAnswer (made_of machine link live stage) answer
 
 -- of what is live: the part that overflows, and then
 abbrev pub IsLiveAnswer : Machine → LinkInput → Live → Result LayoutRecord LayoutError → Type 0
@@ -173,16 +159,13 @@ IsMergedAnswer machine link answer =
     Unless (references_refusal link) answer
     ((live : Live) × AreLive link live × IsLiveAnswer machine link live answer)
 
--- of a link of which all is laid out: what can't be merged, and then
-abbrev pub IsCarriedAnswer : Machine → LinkInput → Result LayoutRecord LayoutError → Type 0
-IsCarriedAnswer machine link answer = Unless (merging_refusal link) answer (IsMergedAnswer machine link answer)
+-- of a well-formed link: what can't be merged, and then
+abbrev pub IsCheckedAnswer : Machine → LinkInput → Result LayoutRecord LayoutError → Type 0
+IsCheckedAnswer machine link answer = Unless (merging_refusal link) answer (IsMergedAnswer machine link answer)
 
--- the answer of a link: its first fault; else the first thing that isn't laid out yet; and then (libwild: `compute`)
+-- the answer of a link: its first fault, and then (libwild: `compute`)
 abbrev pub IsDefined : Machine → LinkInput → Result LayoutRecord LayoutError → Type 0
-IsDefined machine link answer =
-    Unless (fault_refusal link) answer
-    (Unless (uncarried_refusal link) answer
-    (IsCarriedAnswer machine link answer))
+IsDefined machine link answer = Unless (fault_refusal link) answer (IsCheckedAnswer machine link answer)
 
 -- memory ran out
 abbrev pub is_memory : LayoutError → Bool

@@ -8,12 +8,13 @@ use Rattle.lk_merge.specs.declared.error.MergeError.{MergeError}
 use Rattle.lk_merge.specs.declared.error.MergeError.TheVariants as merge
 use Rattle.lk_place.specs.declared.error.PlaceError.{PlaceError}
 use Rattle.lk_place.specs.declared.error.PlaceError.TheVariants as place
+use Rattle.lk_relaxing.specs.declared.sites.RelaxedPlace.{RelaxedPlace}
 use Rattle.lk_sizes.specs.declared.error.SizeError.{SizeError}
 use Rattle.lk_sizes.specs.declared.error.SizeError.TheVariants as size
 use Rattle.lk_layout.specs.declared.error.LayoutError.{LayoutError}
 use Rattle.lk_layout.specs.declared.error.LayoutError.TheVariants.{NoMemory, TooMany, BadLink, References}
 use Rattle.lk_layout.specs.declared.error.LayoutError.TheVariants.{MergeNotTerminated, MergeOffset, MergeTooLarge, OutOfReach}
-use Rattle.lk_layout.specs.declared.error.ReachKind.TheVariants.{Branch}
+use Rattle.lk_layout.specs.declared.error.ReachKind.TheVariants.{Branch, Relaxed}
 use Rattle.lk_layout.specs.declared.error.LayoutError.TheVariants.{AddressOverflow, BaseTooLow, Expression, LocationBackwards, OutsideRegion}
 use Rattle.lk_layout.specs.declared.error.LayoutError.TheVariants.{RegionDuplicate, RegionOverflow, RegionUnknown, SectionOutsideSegments}
 use Rattle.lk_values.specs.declared.outside.MergeOffsetPlace.{MergeOffsetPlace}
@@ -36,6 +37,10 @@ offset_error place = MergeOffset place
 -- for a branch that reaches neither its target nor a thunk
 abbrev pub branch_error : BranchPlace → LayoutError
 branch_error place = OutOfReach Branch place.file place.section place.relocation
+
+-- for a deleted candidate that is too far from its symbol
+abbrev pub site_error : RelaxedPlace → LayoutError
+site_error place = OutOfReach Relaxed place.file place.section place.candidate
 
 -- for what the traversal refuses
 abbrev pub gc_error : GcError → LayoutError

@@ -1,14 +1,13 @@
 -- Laws: every link has one defined answer, a defined layout is sound, and what symbols stand for is live.
-use Rattle.std.specs.Prelude.{◌≡◌, List, [], Result, Ok}
+use Rattle.std.specs.Prelude.{◌≡◌, [], Result, Ok}
 use Rattle.lk_link.specs.declared.link.LinkInput.{LinkInput}
 use Rattle.lk_link.specs.WellFormed.{IsWellFormed}
 use Rattle.lk_gc.specs.declared.live.Live.{Live}
 use Rattle.lk_gc.specs.Faults.{reference_faults}
 use Rattle.lk_gc.specs.Reach.{AreLive}
-use Rattle.lk_expressions.specs.Records.{Record}
-use Rattle.lk_place.specs.declared.cursors.Cursors.{Cursors}
 use Rattle.lk_place.specs.Plans.{IsUnmoved}
 use Rattle.lk_place.specs.Ranges.{MemoryIsDisjoint}
+use Rattle.lk_relaxing.specs.Stages.{Stage}
 use Rattle.lk_layout.specs.declared.error.LayoutError.{LayoutError}
 use Rattle.lk_layout.specs.LayoutRecord.{LayoutRecord}
 use Rattle.lk_layout.specs.Defined.{IsDefined}
@@ -33,7 +32,7 @@ LaidOutLinksAreWellFormed = (machine : Machine) (link : LinkInput) (layout : Lay
 abbrev pub DefinedLayoutsAreSound : Type 0
 DefinedLayoutsAreSound = (machine : Machine) (link : LinkInput) (layout : LayoutRecord)
     → IsLawfulMachine machine → IsDefined machine link (Ok layout)
-    → (live : Live) × (states : List Cursors) × (records : List Record) × IsSound (made_of machine link live states records) layout
+    → (live : Live) × (stage : Stage) × IsSound (made_of machine link live stage) layout
 
 -- under a plan in which nothing moves, the memory of a defined layout is disjoint, also if the plan isn't plain
 abbrev pub LaidOutMemoryIsDisjoint : Type 0
@@ -45,7 +44,7 @@ LaidOutMemoryIsDisjoint = (machine : Machine) (link : LinkInput) (layout : Layou
 abbrev pub LaidOutSectionsAreApart : Type 0
 LaidOutSectionsAreApart = (machine : Machine) (link : LinkInput) (layout : LayoutRecord) → IsUnmoved link.plan link.options.output
     → IsLawfulMachine machine → IsDefined machine link (Ok layout)
-    → (live : Live) × (states : List Cursors) × (records : List Record) × (let made = made_of machine link live states records in
+    → (live : Live) × (stage : Stage) × (let made = made_of machine link live stage in
     IsSound made layout × LiveSectionsAreApart made layout × OwnersAreApart made layout)
 
 -- where references are met, a symbol that has a resolution stands in a live section

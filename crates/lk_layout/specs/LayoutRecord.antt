@@ -6,6 +6,7 @@ use Rattle.lk_link.specs.declared.resolution.Resolution.{Resolution}
 use Rattle.lk_expressions.specs.Records.{Record}
 use Rattle.lk_merge.specs.Pieces.{MergeInput}
 use Rattle.lk_place.specs.declared.segments.SegmentLayout.{SegmentLayout}
+use Rattle.lk_relaxing.specs.LinkDeletions.{Deletions}
 use Rattle.lk_sizes.specs.declared.sorted.InputSortedSection.{InputSortedSection}
 use Rattle.lk_tables.specs.declared.partial_link.PartialLinkPlan.{PartialLinkPlan}
 
@@ -24,6 +25,8 @@ pub record LayoutRecord : Type 0 where
   -- of each input section, by its number over all files, whether it is live, and its address
   pub live_marks : List Bool
   pub section_addresses : List ℕ
+  -- what is deleted of the sections of each file, by the file's number over all groups and the section's index
+  pub section_deletions : Deletions
   -- of each output section what is merged there, and where the buckets stand
   pub merged_strings : List (List MergeInput)
   pub merged_string_start_addresses : List ℕ
@@ -40,5 +43,7 @@ pub record LayoutRecord : Type 0 where
   pub thunk_blocks : List (List ℕ)
   pub thunk_block_owners : List (Option FileId)
   pub thunk_block_addresses : List (Option ℕ)
+  -- each object that needs thunks, with its block, and whether it owns that
+  pub thunk_users : List (FileId × ℕ × Bool)
   -- the bytes of a thunk
   pub thunk_size : ℕ

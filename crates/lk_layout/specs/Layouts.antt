@@ -1,19 +1,29 @@
 -- What a layout answers.
-use Rattle.std.specs.Prelude.{ℕ, ◌&&◌, Bool, List, Option, Result, filter, is_some, length, map, sum_by}
+use Rattle.std.specs.Prelude.{ℕ, ◌&&◌, Bool, List, Option, Result, filter, is_some, length, map, slice_index, sum_by}
 use Rattle.std.specs.List.{count_by, enumerate_from}
 use Rattle.lk_gc.specs.Slots.{is_singleton}
 use Rattle.lk_link.specs.declared.link.LinkInput.{LinkInput}
 use Rattle.lk_link.specs.Inputs.{Input, all_inputs}
 use Rattle.lk_link.specs.Marks.{is_marked}
 use Rattle.lk_sizes.specs.declared.addresses.LiveSection.{LiveSection}
-use Rattle.lk_sizes.specs.Addresses.{told_sections}
+use Rattle.lk_gc.specs.Reach.{marked}
+use Rattle.lk_relaxing.specs.LinkDeletions.{size_after}
 use Rattle.lk_layout.specs.LayoutRecord.{LayoutRecord}
 use Rattle.lk_values.specs.declared.resolution.EntryFault.{EntryFault}
 use Rattle.lk_values.specs.Resolutions.{entry_address}
 
--- the live sections with their addresses, by file and index
+-- an input section with its number over all files, as it is told: with its address, and its size without what is deleted
+abbrev pub told_section : LinkInput → LayoutRecord → ℕ × Input → LiveSection
+told_section link layout q = record {
+  file = q.1.file;
+  index = q.1.index;
+  address = slice_index layout.section_addresses q.0;
+  size = size_after link.groups layout.section_deletions q.1;
+}
+
+-- the live sections, by file and index
 abbrev pub told_live : LinkInput → LayoutRecord → List LiveSection
-told_live link layout = told_sections link layout.live_marks layout.section_addresses
+told_live link layout = map (told_section link layout) (marked layout.live_marks (enumerate_from 0 (all_inputs link.groups)))
 
 -- how many output sections are told with an index
 abbrev pub emitted_count : LayoutRecord → ℕ

@@ -1,5 +1,3 @@
-pub mod Carried
-pub mod CarriedWords
 pub mod Defined
 pub mod Errors
 pub mod Headers
@@ -10,10 +8,10 @@ pub mod Machines
 pub mod Made
 pub mod Merging
 pub mod MergingWords
-pub mod PositionLaws
-pub mod PositionWords
-pub mod Positions
+pub mod RedirectWords
+pub mod Redirects
 pub mod Sound
+pub mod Spans
 pub mod Stages
 pub mod Texts
 pub mod Thunks

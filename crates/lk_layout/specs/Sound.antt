@@ -1,25 +1,30 @@
 -- What a layout keeps apart, and what it keeps in step.
-use Rattle.std.specs.Prelude.{◌≡◌, ◌≢◌, ◌⊎◌, [], List, ℕ, ◌+◌, ◌%◌, ◌<◌, ◌≤◌, ◌==◌, Bool, true, false, Some, None, Ok, length, map, option_map, pos, slice_get, slice_index}
-use Rattle.std.specs.Int.{◌∣◌}
+use Rattle.std.specs.Prelude.{◌≡◌, ◌≢◌, ◌⊎◌, ◌&&◌, if◌then◌else◌, [], List, IsSome, Option, option_and_then, ℕ, ◌+◌, ◌%◌, ◌<◌, ◌≤◌, ◌==◌, Bool, true, false, Some, None, Ok, length, map, option_map, pos, slice_get, slice_index}
+use Rattle.std.specs.Int.{◌∣◌, abs_diff}
 use Rattle.std.specs.Option.{ForSome}
+use Rattle.lk_link.specs.declared.file.FileKind.{FileKind}
 use Rattle.lk_link.specs.declared.file.InputFile.{InputFile}
 use Rattle.lk_link.specs.declared.ids.FileId.{FileId}
 use Rattle.lk_link.specs.declared.link.LinkInput.{LinkInput}
+use Rattle.lk_link.specs.declared.plan.attributes.TheConstants.{EXEC}
+use Rattle.lk_link.specs.declared.relocation.RelaxCandidate.{RelaxCandidate}
 use Rattle.lk_link.specs.declared.relocation.Relocation.{Relocation}
 use Rattle.lk_link.specs.declared.resolution.Resolution.{Resolution}
 use Rattle.lk_link.specs.declared.section.InputSection.{InputSection}
 use Rattle.lk_link.specs.declared.symbol.InputSymbol.{InputSymbol}
 use Rattle.lk_link.specs.declared.symbol.SymbolPlacement.TheVariants as at
-use Rattle.lk_link.specs.FileKinds.{is_object}
+use Rattle.lk_link.specs.FileKinds.{is_internal, is_object}
 use Rattle.lk_link.specs.Files.{file_in}
-use Rattle.lk_link.specs.Inputs.{Input, input_number}
+use Rattle.lk_link.specs.Inputs.{Input, all_inputs, input_number}
 use Rattle.lk_link.specs.InputSlots.{is_merge, is_regular}
 use Rattle.lk_link.specs.Marks.{is_marked}
 use Rattle.lk_link.specs.PartRules.{table_parts}
 use Rattle.lk_link.specs.Parts.{all_parts, part_at, part_sections}
-use Rattle.lk_link.specs.PlanSections.{is_file_backed}
+use Rattle.lk_link.specs.PlanSections.{is_file_backed, is_set}
 use Rattle.lk_link.specs.Relocations.{resolution_flags}
-use Rattle.lk_link.specs.Symbols.{first_symbol}
+use Rattle.lk_link.specs.Symbols.{definition_of, first_symbol, is_wanted}
+use Rattle.lk_edges.specs.Edges.{edge_value, edges_of}
+use Rattle.lk_edges.specs.Redirects.{AllPlaced, RedirectsHold, is_redirect}
 use Rattle.lk_gc.specs.declared.live.Live.{Live}
 use Rattle.lk_gc.specs.Faults.{reference_faults}
 use Rattle.lk_gc.specs.Reach.{AreLive, live_inputs}
@@ -33,7 +38,11 @@ use Rattle.lk_merge.specs.Pieces.{Piece, MergeInput}
 use Rattle.lk_place.specs.Plain.{IsPlain, PlacesInLoad}
 use Rattle.lk_place.specs.Ranges.{FileIsDisjoint, HasPart, MemoryIsDisjoint, TakesMemory}
 use Rattle.lk_expressions.specs.Records.{Record, record_at}
-use Rattle.lk_place.specs.Placement.{IsPlaced, placement_refusal}
+use Rattle.lk_relax.specs.Candidates.{AreOf, is_gone}
+use Rattle.lk_relaxing.specs.LinkDeletions.{output_offset}
+use Rattle.lk_relaxing.specs.Positions.{has_position}
+use Rattle.lk_relaxing.specs.Scan.{ranges_of, site, target}
+use Rattle.lk_relaxing.specs.Stages.{IsRelaxed, refusal_of}
 use Rattle.lk_place.specs.Segments.{alignment_inside, first_outside}
 use Rattle.lk_sizes.specs.declared.addresses.LiveSection.{LiveSection}
 use Rattle.lk_sizes.specs.Emitted.{is_emitted}
@@ -49,12 +58,13 @@ use Rattle.lk_sizes.specs.Tiles.{HasByte, IsTiled}
 use Rattle.lk_tables.specs.SymbolEntries.{is_resolved}
 use Rattle.lk_layout.specs.LayoutRecord.{LayoutRecord}
 use Rattle.lk_values.specs.Starts.{starts_of}
-use Rattle.lk_layout.specs.Defined.{layout_of, setting}
+use Rattle.lk_layout.specs.Defined.{layout_of, made_standing}
 use Rattle.lk_layout.specs.Layouts.{emitted_count, told_live, told_singletons}
 use Rattle.lk_values.specs.Outside.{merge_offsets}
-use Rattle.lk_values.specs.Resolutions.{resolution_at}
-use Rattle.lk_layout.specs.Made.{Made, made_content, made_filling}
-use Rattle.lk_layout.specs.Thunks.{made_users}
+use Rattle.lk_values.specs.Entries.{told_flags}
+use Rattle.lk_values.specs.Resolutions.{entries_of, resolution_at}
+use Rattle.lk_layout.specs.Made.{Made, made_content, made_filling, made_relaxing}
+use Rattle.lk_layout.specs.Redirects.{placed_resolutions, placed_with, value_at}
 use Rattle.lk_branches.specs.BranchLaws.{HaveRanges, LiveBranchesReach}
 use Rattle.lk_branches.specs.Branches.{Branching}
 use Rattle.lk_branches.specs.ThunkPlans.{config_for, thunk_size}
@@ -119,12 +129,12 @@ pub record IsToldOf (link : LinkInput) (layout : LayoutRecord) (id : FileId) (i 
   pub file : l.file ≡ id
   pub index : l.index ≡ i
 
--- that section is told, and the symbol's value is its address there and the offset, unless its data is merged
+-- that section is told, and the symbol's value is its address there and where the offset goes by what is deleted, unless its data is merged
 abbrev pub ValuesAreInLiveSections : Made → LayoutRecord → Type 0
 ValuesAreInLiveSections made layout = (id : FileId) (file : InputFile) (i offset : ℕ) (section : InputSection)
     → file_in made.link.groups id ≡ Some file → (s : IsResolvedIn made.link made.live id file i) → s.symbol.at ≡ at.Section i offset
     → slice_get file.sections i ≡ Some section → is_merge section.slot ≡ false → (l : LiveSection) × IsToldOf made.link layout id i l
-    × (option_map (λ r. r.raw_value) (resolution_at layout.symbol_resolutions (first_symbol made.link.groups id + s.index)) ≡ Some (l.address + offset))
+    × (option_map (λ r. r.raw_value) (resolution_at layout.symbol_resolutions (first_symbol made.link.groups id + s.index)) ≡ Some (l.address + output_offset made.link.groups layout.section_deletions id i offset))
 
 -- ---- commons
 
@@ -245,10 +255,12 @@ pub record AreThunksAt (made : Made) (layout : LayoutRecord) (k : ℕ) (id : Fil
   pub told : slice_get layout.thunk_block_addresses k ≡ Some (Some (owner_address (part_record layout part).mem_offset (part_at made.link.plan.sections part)
       (owners_of (made_filling made) part) (thunk_number (made_filling made) part id)))
 
--- so stand those of each block that has an owner
-abbrev pub ThunksStand : Made → LayoutRecord → Type 0
-ThunksStand made layout = (k : ℕ) (id : FileId) (set : List ℕ) → slice_get layout.thunk_block_owners k ≡ Some (Some id)
-    → slice_get layout.thunk_blocks k ≡ Some set → AreThunksAt made layout k id set
+-- so stand those of each block that has an owner; and each block whose thunks have an address has one
+pub record ThunksStand (made : Made) (layout : LayoutRecord) : Type 0 where
+  pub owned : (k : ℕ) (id : FileId) (set : List ℕ) → slice_get layout.thunk_block_owners k ≡ Some (Some id) → slice_get layout.thunk_blocks k ≡ Some set
+      → AreThunksAt made layout k id set
+  pub addressed : (k a : ℕ) → slice_get layout.thunk_block_addresses k ≡ Some (Some a)
+      → (id : FileId) × (set : List ℕ) × (slice_get layout.thunk_block_owners k ≡ Some (Some id)) × (slice_get layout.thunk_blocks k ≡ Some set)
 
 -- what branches go by, as it is told
 abbrev pub told_branching : Made → LayoutRecord → Branching
@@ -257,11 +269,55 @@ told_branching made layout = record {
   live = made.live;
   config = config_for made.machine.thunks made.link;
   sets = layout.thunk_blocks;
-  users = made_users made;
+  users = layout.thunk_users;
   places = layout.thunk_block_addresses;
   addresses = layout.section_addresses;
+  deletions = layout.section_deletions;
   resolutions = layout.symbol_resolutions;
 }
+
+-- ---- the linker's own symbols
+
+-- what the symbol with this number is worth that is so in the prelude, in a script or in a synthetic file: where it stands for itself and is
+-- wanted, what it is placed at, if anything
+abbrev pub own_value : Made → LayoutRecord → FileKind → ℕ → InputSymbol → Option ℕ
+own_value made layout kind s x =
+    if is_wanted kind s x (told_flags (entries_of (made_filling made) (starts_of layout.section_part_layouts)) kind (s, x))
+    then edge_value (edges_of made.link.plan layout.section_layouts layout.segment_layouts) x.at
+    else None
+
+-- each such symbol is worth that, and has no resolution where there is none; but for redirects that are evaluated
+abbrev pub EdgesStand : Made → LayoutRecord → Type 0
+EdgesStand made layout = (id : FileId) (file : InputFile) (k : ℕ) (x : InputSymbol) → file_in made.link.groups id ≡ Some file → is_internal file.kind ≡ true
+    → slice_get file.symbols k ≡ Some x → is_redirect made.link.groups (first_symbol made.link.groups id + k) ≡ false
+    → value_at layout.symbol_resolutions (first_symbol made.link.groups id + k) ≡ own_value made layout file.kind (first_symbol made.link.groups id + k) x
+
+-- what redirects read, as it is told
+abbrev pub told_placed : Made → LayoutRecord → AllPlaced
+told_placed made layout = placed_with made layout.section_layouts layout.merged_section_layouts
+
+-- each redirect is worth its expression, by what all symbols are worth at last
+abbrev pub RedirectsStand : Made → LayoutRecord → Type 0
+RedirectsStand made layout = RedirectsHold (told_placed made layout) (value_at (placed_resolutions made)) (value_at layout.symbol_resolutions)
+
+-- ---- relaxation
+
+-- what is deleted of an input section are the bytes of some of its candidates, in order; only of a live section that is code, neither debug data
+-- nor sorted, anything is, and only where the link is to be relaxed
+pub record IsShrunkTo (made : Made) (layout : LayoutRecord) (k : ℕ) (x : Input) : Type 0 where
+  pub of : AreOf (ranges_of made.link.groups layout.section_deletions x.file x.index) x.section.relax
+  pub shrinks : IsSome (slice_get (ranges_of made.link.groups layout.section_deletions x.file x.index) 0)
+      → has_position (is_marked layout.live_marks k) x.section && is_set EXEC x.section.attrs && made.link.options.relax ≡ true
+
+abbrev pub SectionsShrink : Made → LayoutRecord → Type 0
+SectionsShrink made layout = (k : ℕ) (x : Input) → slice_get (all_inputs made.link.groups) k ≡ Some x → IsShrunkTo made layout k x
+
+-- a deleted candidate is no further from its symbol than its limit, by final addresses, where both have some
+abbrev pub DeletedCandidatesAreNear : Made → LayoutRecord → Type 0
+DeletedCandidatesAreNear made layout = (k j a b : ℕ) (x : Input) (c : RelaxCandidate) → slice_get (all_inputs made.link.groups) k ≡ Some x
+    → slice_get x.section.relax j ≡ Some c → is_gone (ranges_of made.link.groups layout.section_deletions x.file x.index) c ≡ true
+    → option_and_then (target (made_standing made)) (definition_of made.link.groups (first_symbol made.link.groups x.file + c.symbol)) ≡ Some a
+    → site (made_standing made) x.file x.index c.at ≡ Some b → abs_diff a b ≤ c.limit
 
 -- ---- sorted sections
 
@@ -300,19 +356,22 @@ pub record IsSoundInMemory (made : Made) (layout : LayoutRecord) : Type 0 where
   pub owners : OwnersAreApart made layout
   pub congruent : MemoryIsCongruent made.link layout
 
--- the placement is one of the link, and nothing of it is refused
+-- relaxation ends at the stage, and nothing of the placement that stands there is refused
 pub record PlacementStands (made : Made) : Type 0 where
-  pub placed : IsPlaced (setting made.machine made.link made.live) made.states made.records
-  pub unrefused : placement_refusal (setting made.machine made.link made.live) made.states made.records ≡ None
+  pub relaxed : IsRelaxed (made_relaxing made) made.stage
+  pub unrefused : refusal_of (made_relaxing made) made.stage ≡ None
 
--- a sound layout of what it is made of: it is all that is made of it, and the placement stands; all references are met; the live sections are those
--- that are reached, each where its part's owners let it stand, aligned; there are the starts of the buckets of what is merged, each image stands
--- in a part, with its pieces apart, and shows its inputs, nothing refers outside their data, and references into it have addresses that show what
--- they choose; each symbol that is asked for stands for a place in a live section, at its address where nothing is relaxed, or in merged data, or for
--- a number, or is a common, at the address of its bytes in a part; tables stand alone in their parts, and what a resolution tells of entries is its
--- symbol's own; the thunks of each block that has an owner stand with it in the primary part, with a range for each definition, and each live branch
--- whose target is known is near it or the thunk by which it may go; sorted sections stand last in their parts, by name; singletons stand behind the emitted sections; no section that is allocated stands outside the segments where it may not; each byte of a part has one owner; no two parts share a
--- byte of the file; and under a plain plan the same holds of memory
+-- a sound layout of what it is made of: it is all that is made of it, and the placement stands; all references are met; the live sections are
+-- those that are reached, each where its part's owners let it stand, aligned; there are the starts of the buckets of what is merged, each image
+-- stands in a part, with its pieces apart, and shows its inputs, nothing refers outside their data, and references into it have addresses that
+-- show what they choose; each symbol of an object that is asked for stands for a place in a live section, at its address,
+-- or in merged data, or for a number, or is a common, at the address of its bytes in a part; each of the linker's own stands at its edge, and each
+-- redirect is worth its expression; tables stand alone in their parts, and what a resolution tells of entries is its symbol's own; the thunks of
+-- each block that has an owner stand with it in the primary part, with a range for each definition, and each live branch whose target is known is
+-- near it or the thunk by which it may go; sections lose nothing but bytes of their candidates, and no deleted one is further from its symbol than
+-- its limit, where both have addresses; sorted sections stand last in their parts, by name; singletons stand behind the emitted sections; no
+-- section that is allocated stands outside the segments where it may not; each byte of a part has one owner; no two parts share a byte of the
+-- file; and under a plain plan the same holds of memory
 pub record IsSound (made : Made) (layout : LayoutRecord) : Type 0 where
   pub is : layout ≡ layout_of made
   pub stands : PlacementStands made
@@ -325,12 +384,16 @@ pub record IsSound (made : Made) (layout : LayoutRecord) : Type 0 where
   pub references : ReferencesShow made layout
   pub inside : merge_offsets made.link made.live ≡ []
   pub placed : SymbolsStandInLiveSections made.link made.live
-  pub valued : made.link.options.relax ≡ false → ValuesAreInLiveSections made layout
+  pub valued : ValuesAreInLiveSections made layout
   pub commons : CommonsStand made layout
+  pub edges : EdgesStand made layout
+  pub redirects : RedirectsStand made layout
   pub alone : TablesStandAlone (made_filling made)
   pub entries : EntriesStand made layout
   pub thunks : ThunksStand made layout
   pub reaching : LiveBranchesReach (told_branching made layout)
+  pub shrunk : SectionsShrink made layout
+  pub limited : DeletedCandidatesAreNear made layout
   pub ordered : SortedStandLast made
   pub singles : SinglesStandBehind made layout
   pub covered : first_outside made.link layout.section_layouts (is_emitted (made_content made)) ≡ None

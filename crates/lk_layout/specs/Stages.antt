@@ -1,5 +1,5 @@
 -- Words of private contracts: how far a link is laid out, stage by stage. What is known of a stage holds what was known before.
-use Rattle.std.specs.Prelude.{◌≡◌, [], None, Result, Ok, Err, option_map}
+use Rattle.std.specs.Prelude.{◌≡◌, false, [], Some, None, Result, Ok, Err, option_map}
 use Rattle.lk_branches.specs.Branches.{unreached}
 use Rattle.lk_branches.specs.Orders.{IsInOrder}
 use Rattle.lk_branches.specs.ThunkPlans.{IsThunkPlan}
@@ -7,6 +7,8 @@ use Rattle.lk_check.specs.FirstFault.{first_fault}
 use Rattle.lk_gc.specs.Faults.{reference_faults}
 use Rattle.lk_gc.specs.Reach.{AreLive}
 use Rattle.lk_link.specs.declared.link.LinkInput.{LinkInput}
+use Rattle.lk_gc.specs.declared.live.Live.{Live}
+use Rattle.lk_place.specs.declared.walk.Placed.{Placed}
 use Rattle.lk_link.specs.Marks.{is_marked}
 use Rattle.lk_layout.specs.Machines.{Machine}
 use Rattle.lk_link.specs.WellFormed.{IsWellFormed}
@@ -14,7 +16,9 @@ use Rattle.lk_merge.specs.Addresses.{start_addresses}
 use Rattle.lk_merge.specs.Hash.{fnv64}
 use Rattle.lk_merge.specs.LinkInputs.{link_inputs}
 use Rattle.lk_place.specs.Answers.{ArePlaced}
-use Rattle.lk_place.specs.Secondaries.{merged_records}
+use Rattle.lk_relaxing.specs.RelaxedLaws.{nothing_deleted}
+use Rattle.lk_relaxing.specs.Sites.{past_limit}
+use Rattle.lk_relaxing.specs.Stages.{IsRelaxed, Stage, filling_after, refusal_of, setting_after}
 use Rattle.lk_place.specs.Segments.{thread_local_one}
 use Rattle.lk_sizes.specs.Addresses.{block_addresses, section_addresses}
 use Rattle.lk_sizes.specs.Attributes.{all_section_attributes}
@@ -33,15 +37,14 @@ use Rattle.lk_layout.specs.declared.stages.ReachingLink.{ReachingLink}
 use Rattle.lk_layout.specs.declared.stages.SizedLink.{SizedLink}
 use Rattle.lk_layout.specs.declared.stages.SpannedLink.{SpannedLink}
 use Rattle.lk_layout.specs.declared.stages.ToldLink.{ToldLink}
-use Rattle.lk_layout.specs.CarriedWords.{IsCarried}
-use Rattle.lk_layout.specs.Defined.{Gives, joining_refusal, made_sections, made_segments, segment_refusal, setting}
-use Rattle.lk_layout.specs.Made.{Made, filling_for, made_filling, made_of}
+use Rattle.lk_layout.specs.Defined.{Gives, joining_refusal, made_joined, is_memory, made_segments, made_standing, segment_refusal, sites_refusal}
+use Rattle.lk_layout.specs.Made.{Made, filling_for, made_filling, made_of, relaxing_for}
 use Rattle.lk_layout.specs.Thunks.{made_branching, made_owners, made_places}
 use Rattle.lk_layout.specs.Merging.{merging_refusal}
+use Rattle.lk_layout.specs.Redirects.{made_redirected}
 use Rattle.lk_values.specs.Images.{AreImages}
 use Rattle.lk_values.specs.Outside.{merge_offsets}
 use Rattle.lk_values.specs.OutputContent.{output_content, output_filling}
-use Rattle.lk_values.specs.Resolutions.{symbol_resolutions}
 use Rattle.lk_values.specs.Starts.{starts_of}
 
 -- the stage is reached, or the error is the answer of the link, unless memory ran out
@@ -49,11 +52,10 @@ abbrev pub Reaches : {S : Type 0} → Machine → LinkInput → (S → Type 0) �
 Reaches machine link Is (Ok stage) = Is stage
 Reaches machine link Is (Err e) = Gives machine link (Err e)
 
--- it is well formed, and all of it is laid out
+-- it is well formed
 pub record IsChecked (link : LinkInput) : Type 0 where
   pub faultless : first_fault link ≡ None
   pub good : IsWellFormed link
-  pub carried : IsCarried link
 
 -- and these are its merged sections
 pub record IsMerged (link : LinkInput) (images : Images) : Type 0 where
@@ -77,21 +79,37 @@ pub record IsSized (machine : Machine) (link : LinkInput) (sized : SizedLink) : 
   pub order : IsInOrder link sized.thunks
   pub listed : AreThunkOwners link sized.owners.thunks
 
--- and here its parts stand
+-- and here its parts stand before anything is deleted
+abbrev pub IsPlacedFirst : Machine → LinkInput → Live → Placed → Type 0
+IsPlacedFirst machine link live first = ArePlaced (setting_after (relaxing_for machine link live) (nothing_deleted link)) first
+
+-- and here relaxation ends: this is deleted, this comes into its parts by that, and here they stand
 pub record IsPlacedLink (machine : Machine) (link : LinkInput) (placed : PlacedLink) : Type 0 where
-  pub sized : IsSized machine link placed.sized
-  pub are : ArePlaced (setting machine link placed.sized.kept.live) placed.records
+  pub kept : IsKept link placed.kept
+  pub fits : size_refusal (filling_for machine link placed.kept.live) ≡ None
+  pub thunks : IsThunkPlan machine.thunks (output_filling machine.sizes link placed.kept.live) placed.thunks
+  pub order : IsInOrder link placed.thunks
+  pub stage : Stage
+  pub relaxed : IsRelaxed (relaxing_for machine link placed.kept.live) stage
+  pub unrefused : refusal_of (relaxing_for machine link placed.kept.live) stage ≡ None
+  pub deltas : placed.deltas ≡ stage.deletions
+  pub owners : AreFilled (filling_after (relaxing_for machine link placed.kept.live) stage.deletions) placed.owners
+  pub marks : is_marked placed.owners.header.emitted ≡ is_emitted (output_content machine.sizes link placed.kept.live)
+  pub listed : AreThunkOwners link placed.owners.thunks
+  pub are : ArePlaced (setting_after (relaxing_for machine link placed.kept.live) stage.walked) placed.records
+  pub states : are.states ≡ stage.states
+  pub records : placed.records.parts ≡ stage.records
 
 -- what it is made of, once it is placed
 abbrev pub made_placed : {machine : Machine} {link : LinkInput} {placed : PlacedLink} → IsPlacedLink machine link placed → Made
-made_placed {machine} {link} {placed} is = made_of machine link placed.sized.kept.live is.are.states placed.records.parts
+made_placed {machine} {link} {placed} is = made_of machine link placed.kept.live is.stage
 
 -- and this is what its output sections and segments span
 pub record IsSpannedLink (machine : Machine) (link : LinkInput) (spanned : SpannedLink) : Type 0 where
   pub placed : IsPlacedLink machine link spanned.placed
   pub fits : joining_refusal (made_placed placed) ≡ None
   pub covered : segment_refusal (made_placed placed) ≡ None
-  pub joined : spanned.joined ≡ merged_records link.plan.sections (made_sections (made_placed placed))
+  pub joined : spanned.joined ≡ made_joined (made_placed placed)
   pub segments : spanned.segments.segments ≡ made_segments (made_placed placed)
   pub thread_local : spanned.segments.tls_layout ≡ option_map (λ l. l.sizes) (thread_local_one link.plan (made_segments (made_placed placed)))
 
@@ -101,30 +119,40 @@ made_spanned is = made_placed is.placed
 -- and here stands what is in its parts
 pub record IsAddressedLink (machine : Machine) (link : LinkInput) (addressed : AddressedLink) : Type 0 where
   pub spanned : IsSpannedLink machine link addressed.spanned
-  pub inside : merge_offsets link addressed.spanned.placed.sized.kept.live ≡ []
-  pub sections : addressed.addresses.sections.items ≡ section_addresses (made_filling (made_spanned spanned)) (starts_of addressed.spanned.placed.records.parts)
-  pub blocks : addressed.addresses.blocks.items ≡ block_addresses (made_filling (made_spanned spanned)) (starts_of addressed.spanned.placed.records.parts)
+  pub inside : merge_offsets link addressed.spanned.placed.kept.live ≡ []
+  pub sections : addressed.addresses.sections.items ≡ section_addresses (made_filling (made_spanned spanned)) (starts_of (made_spanned spanned).stage.records)
+  pub blocks : addressed.addresses.blocks.items ≡ block_addresses (made_filling (made_spanned spanned)) (starts_of (made_spanned spanned).stage.records)
   pub buckets : addressed.addresses.buckets ≡ start_addresses fnv64 (link_inputs link).outputs
-      (image_addresses (made_filling (made_spanned spanned)) (starts_of addressed.spanned.placed.records.parts))
-  pub resolutions : addressed.addresses.resolutions ≡ symbol_resolutions (made_filling (made_spanned spanned)) (starts_of addressed.spanned.placed.records.parts)
+      (image_addresses (made_filling (made_spanned spanned)) (starts_of (made_spanned spanned).stage.records))
+  pub redirected : made_redirected (made_spanned spanned) ≡ Ok addressed.addresses.resolutions
 
 abbrev pub made_addressed : {machine : Machine} {link : LinkInput} {addressed : AddressedLink} → IsAddressedLink machine link addressed → Made
 made_addressed is = made_spanned is.spanned
 
+-- no deleted candidate is past its limit, or the first is refused, unless memory ran out
+abbrev pub GivesNear : {A : Type 0} → Made → Result A LayoutError → Type 0
+GivesNear made (Ok a) = past_limit (made_standing made) ≡ []
+GivesNear made (Err e) = is_memory e ≡ false → sites_refusal made ≡ Some e
+
 -- and here the thunks of each block begin, by which all branches reach
-pub record IsReachingLink (machine : Machine) (link : LinkInput) (reaching : ReachingLink) : Type 0 where
+pub record IsBranchedLink (machine : Machine) (link : LinkInput) (reaching : ReachingLink) : Type 0 where
   pub addressed : IsAddressedLink machine link reaching.addressed
   pub places : reaching.places ≡ made_places (made_addressed addressed)
   pub reach : unreached (made_branching (made_addressed addressed)) ≡ []
 
+-- and what is deleted is near enough
+pub record IsReachingLink (machine : Machine) (link : LinkInput) (reaching : ReachingLink) : Type 0 where
+  pub branched : IsBranchedLink machine link reaching
+  pub near : past_limit (made_standing (made_addressed branched.addressed)) ≡ []
+
 abbrev pub made_reaching : {machine : Machine} {link : LinkInput} {reaching : ReachingLink} → IsReachingLink machine link reaching → Made
-made_reaching is = made_addressed is.addressed
+made_reaching is = made_addressed is.branched.addressed
 
 -- and this is told beside
 pub record IsToldLink (machine : Machine) (link : LinkInput) (told : ToldLink) : Type 0 where
   pub reaching : IsReachingLink machine link told.reaching
-  pub attributes : told.attributes ≡ all_section_attributes link told.reaching.addressed.spanned.placed.sized.kept.live
-  pub partial : told.partial_link ≡ partial_link_plan link told.reaching.addressed.spanned.placed.sized.kept.live
+  pub attributes : told.attributes ≡ all_section_attributes link told.reaching.addressed.spanned.placed.kept.live
+  pub partial : told.partial_link ≡ partial_link_plan link told.reaching.addressed.spanned.placed.kept.live
   pub owners : told.block_owners ≡ made_owners (made_reaching reaching)
 
 abbrev pub made_told : {machine : Machine} {link : LinkInput} {told : ToldLink} → IsToldLink machine link told → Made

@@ -12,14 +12,7 @@ use Rattle.lk_layout.specs.declared.error.LayoutError.{LayoutError}
 use Rattle.lk_layout.specs.declared.error.LayoutError.TheVariants as layout
 use Rattle.lk_layout.specs.declared.error.ReachKind.{ReachKind}
 use Rattle.lk_layout.specs.declared.error.ReachKind.TheVariants as reach
-use Rattle.lk_layout.specs.declared.error.Uncarried.{Uncarried}
-use Rattle.lk_layout.specs.declared.error.Uncarried.TheVariants as uncarried
 use Rattle.lk_values.specs.Texts.{merge_offset_text}
-
--- what isn't laid out yet, in a word
-unfoldable pub uncarried_text : Uncarried → List ℕ
-uncarried_text uncarried.Relax = codes "relax"
-uncarried_text uncarried.Symbol = codes "symbol"
 
 -- a number with its digits to the base of 16
 abbrev pub hexadecimal : ℕ → List ℕ
@@ -65,6 +58,7 @@ backwards_text from to =
 -- what doesn't reach, in a word
 unfoldable pub reach_text : ReachKind → List ℕ
 reach_text reach.Branch = codes "branch"
+reach_text reach.Relaxed = codes "relaxed"
 
 -- a relocation that doesn't reach, by its file, its section's index and its own
 unfoldable pub out_of_reach_text : ReachKind → FileId → ℕ → ℕ → List ℕ
@@ -85,7 +79,6 @@ abbrev pub error_text : LayoutError → List ℕ
 error_text layout.NoMemory = []
 error_text (layout.TooMany what count limit) = link_fault_text (fault.TooMany what count limit)
 error_text (layout.BadLink rule place) = link_fault_text (fault.BadLink rule place)
-error_text (layout.NotCarried what) = joined (codes "not carried: " ∷ uncarried_text what ∷ [])
 error_text (layout.MergeNotTerminated section input) = unterminated_text section input
 error_text (layout.MergeTooLarge section bucket offset len) = full_bucket_text section bucket offset len
 error_text (layout.References faults) = references_text faults

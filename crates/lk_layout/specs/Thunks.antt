@@ -1,13 +1,12 @@
 -- The thunks of a layout: the definitions that each block has some for, its owner, where they begin, and what branches go by.
-use Rattle.std.specs.Prelude.{ℕ, Bool, List, Option, map}
-use Rattle.std.specs.List.{enumerate_from}
-use Rattle.lk_branches.specs.Branches.{Branching, block_owner, block_places}
+use Rattle.std.specs.Prelude.{ℕ, Bool, List, Option}
+use Rattle.lk_branches.specs.Branches.{Branching, block_places, owners_of_blocks}
 use Rattle.lk_branches.specs.ThunkPlans.{config_for, planned_sets, planned_users}
 use Rattle.lk_link.specs.declared.ids.FileId.{FileId}
 use Rattle.lk_sizes.specs.Addresses.{primary_address, section_addresses}
 use Rattle.lk_sizes.specs.Owners.{Filling}
-use Rattle.lk_layout.specs.Made.{Made, made_filling, made_plain}
-use Rattle.lk_values.specs.Resolutions.{symbol_resolutions}
+use Rattle.lk_layout.specs.Made.{Made, made_deletions, made_filling, made_plain}
+use Rattle.lk_layout.specs.Redirects.{made_resolutions}
 use Rattle.lk_values.specs.Starts.{starts_of}
 
 -- the definitions that each block has thunks for
@@ -18,22 +17,19 @@ made_sets made = planned_sets made.machine.thunks (made_plain made)
 abbrev pub made_users : Made → List (FileId × ℕ × Bool)
 made_users made = planned_users made.machine.thunks (made_plain made)
 
--- the object that owns each of some blocks, if one does
-abbrev pub owners_of_blocks : List (List ℕ) → List (FileId × ℕ × Bool) → List (Option FileId)
-owners_of_blocks sets users = map (λ q. block_owner users q.0) (enumerate_from 0 sets)
-
+-- the object that owns each block, if one does
 abbrev pub made_owners : Made → List (Option FileId)
 made_owners made = owners_of_blocks (made_sets made) (made_users made)
 
 -- where the thunks of each block begin: where those of its owner do
 abbrev pub made_places : Made → List (Option ℕ)
-made_places made = block_places (primary_address (made_filling made) (starts_of made.records)) (made_sets made) (made_users made)
+made_places made = block_places (primary_address (made_filling made) (starts_of made.stage.records)) (made_sets made) (made_users made)
 
 -- what the branches of a layout go by
 abbrev pub made_branching : Made → Branching
 made_branching made =
     let filling : Filling = made_filling made in
-    let starts = starts_of made.records in
+    let starts = starts_of made.stage.records in
     record {
       link = made.link;
       live = made.live;
@@ -42,5 +38,6 @@ made_branching made =
       users = made_users made;
       places = made_places made;
       addresses = section_addresses filling starts;
-      resolutions = symbol_resolutions filling starts;
+      deletions = made_deletions made;
+      resolutions = made_resolutions made;
     }

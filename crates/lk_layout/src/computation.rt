@@ -1,7 +1,7 @@
 //! The layout of a whole link.
 //!
 //! Each stage looks at what the ones before it made, and none goes back: what is merged, what is live, what the live sections bring to
-//! each part, where the parts stand, and at last which sections and segments are told, what those span, the address of each live
+//! each part, where the parts stand and what relaxation deletes, and at last which sections and segments are told, what those span, the address of each live
 //! section and what each symbol stands for. A stage that refuses ends the computation, so that the answer is the first refusal in
 //! this order, or the layout.
 
@@ -10,11 +10,11 @@ ghost use Rattle.lk_layout.specs.Defined.{Gives};
 ghost use Rattle.lk_layout.specs.Machines.{platform_machine};
 ghost use Rattle.lk_layout.specs.Stages.{IsAddressedLink, IsChecked, IsKept, IsMerged, IsPlacedLink, IsReachingLink, IsSized, IsSpannedLink, IsToldLink, Reaches};
 
-use crate::carried::first_uncarried;
 use crate::error::LayoutError;
 use crate::found::{
-    found_addresses, found_places, found_records, found_sizes, found_spans, found_told,
+    check_deleted, found_addresses, found_first, found_places, found_sizes, found_spans, found_told,
 };
+use crate::headers::header_bytes;
 use crate::images::merge_images;
 use crate::layout::Layout;
 use crate::stages::{
@@ -24,7 +24,9 @@ use lk_check::check_link;
 use lk_gc::traverse_alone;
 use lk_link::gate::Gate;
 use lk_link::link::LinkInput;
+use lk_link::list::List;
 use lk_link::platform::Platform;
+use lk_relaxing::relax_owners;
 use lk_thunks::Arch;
 use lk_values::Images;
 use std::alloc::Global;
@@ -53,7 +55,7 @@ pub fn compute_alone<'data, P: Platform, A: Arch>(
     Ok(told.into_layout(link))
 }
 
-/// Looks for the first fault of a link, and for what isn't laid out yet. The platform tells of which machine the answer is.
+/// Looks for the first fault of a link. The platform tells of which machine the answer is.
 fn check<P: Platform, A: Arch>(
     link: &LinkInput,
     _platform: &P,
@@ -62,10 +64,7 @@ fn check<P: Platform, A: Arch>(
     ensures { Reaches (platform_machine (P.segment_start _platform.now) (P.table_sizes _platform.now) (A.config_of _arch.now)) link.now (λ _. IsChecked link.now) result }
 {
     check_link(link)?;
-    match first_uncarried(link) {
-        Some(what) => Err(LayoutError::NotCarried(what)),
-        None => Ok(()),
-    }
+    Ok(())
 }
 
 /// Merges what is merged of a link.
@@ -116,7 +115,7 @@ fn size<'data, P: Platform, A: Arch>(
     })
 }
 
-/// Finds where the parts and sections stand.
+/// Finds where the parts and sections stand, and what relaxation deletes of input sections.
 fn place<'data, P: Platform, A: Arch>(
     alloc: Global,
     link: &'data LinkInput,
@@ -128,8 +127,21 @@ fn place<'data, P: Platform, A: Arch>(
     ensures { Reaches (platform_machine (P.segment_start platform.now) (P.table_sizes platform.now) (A.config_of arch.now)) link.now
         (IsPlacedLink (platform_machine (P.segment_start platform.now) (P.table_sizes platform.now) (A.config_of arch.now)) link.now) result }
 {
-    let records = found_records(alloc, link, platform, arch, &sized)?;
-    Ok(PlacedLink { sized, records })
+    let headers = header_bytes(link, platform, sized.owners.header());
+    let first = found_first(alloc, link, platform, arch, &sized, headers)?;
+    let SizedLink {
+        kept,
+        owners,
+        thunks,
+    } = sized;
+    let relaxed = relax_owners(alloc, link, platform, &kept.live, owners, headers, first)?;
+    Ok(PlacedLink {
+        kept,
+        thunks,
+        owners: relaxed.owners,
+        deltas: List::from_vec(relaxed.deltas),
+        records: relaxed.placed,
+    })
 }
 
 /// Finds what the output sections and segments span.
@@ -168,7 +180,7 @@ fn address<'data, P: Platform, A: Arch>(
     Ok(AddressedLink { spanned, addresses })
 }
 
-/// Finds where the thunks of each block begin, and looks at branches.
+/// Finds where the thunks of each block begin, and looks at branches, and then at what relaxation deleted.
 fn reach<'data, P: Platform, A: Arch>(
     alloc: Global,
     link: &'data LinkInput,
@@ -181,6 +193,7 @@ fn reach<'data, P: Platform, A: Arch>(
         (IsReachingLink (platform_machine (P.segment_start platform.now) (P.table_sizes platform.now) (A.config_of arch.now)) link.now) result }
 {
     let places = found_places(alloc, link, platform, arch, &addressed)?;
+    check_deleted(alloc, link, platform, arch, &addressed.spanned.placed)?;
     Ok(ReachingLink { addressed, places })
 }
 

@@ -5,7 +5,7 @@ ghost use Rattle.std.specs.Fmt.{DisplaysOnOk};
 ghost use Rattle.lk_link.specs.declared.fault.LinkFault.TheVariants as fault;
 ghost use Rattle.lk_link.specs.Texts.{link_fault_text};
 ghost use Rattle.lk_layout.specs.Texts.{backwards_text, duplicate_text, full_bucket_text, full_region_text, low_base_text, out_of_reach_text, outside_text};
-ghost use Rattle.lk_layout.specs.Texts.{reach_text, references_text, uncarried_text, undeclared_text, unterminated_text};
+ghost use Rattle.lk_layout.specs.Texts.{reach_text, references_text, undeclared_text, unterminated_text};
 
 use crate::references::FurtherLines;
 use lk_branches::BranchPlace;
@@ -15,25 +15,19 @@ use lk_link::ids::{FileId, OutputSectionId, RegionId};
 use lk_link::list::List;
 use lk_merge::MergeError;
 use lk_place::{NoValue, PlaceError};
+use lk_relaxing::RelaxedPlace;
 use lk_sizes::SizeError;
 use lk_values::MergeOffsetPlace;
 use std::alloc::{AllocError, AllocFailed};
 use std::fmt;
-
-/// What a description may have that isn't laid out yet, in the order in which it is looked for.
-#[derive(Clone, Copy, Debug, PartialEq, Eq)]
-pub enum Uncarried {
-    /// Code that is shortened where its targets are near.
-    Relax,
-    /// A symbol of the prelude, of a synthetic file or of a script.
-    Symbol,
-}
 
 /// What doesn't reach.
 #[derive(Clone, Copy, Debug, PartialEq, Eq)]
 pub enum ReachKind {
     /// A branch: neither its target nor a thunk for it is near.
     Branch,
+    /// A candidate that relaxation deleted: its symbol is farther away than its limit.
+    Relaxed,
 }
 
 /// Why a link isn't laid out: the first refusal, in the order in which they are looked for, or want of memory
@@ -52,8 +46,6 @@ pub enum LayoutError {
         rule: Rule,
         place: Place,
     },
-    /// The description has something that isn't laid out yet.
-    NotCarried(Uncarried),
     /// The strings of a merged section don't end in a zero byte: one of the inputs of the first such output section.
     MergeNotTerminated {
         section: OutputSectionId,
@@ -111,26 +103,13 @@ pub enum LayoutError {
     },
     /// An offset at the end of a merged section's data or past it is chosen; the first of symbols, else of relocations.
     MergeOffset(MergeOffsetPlace),
-    /// A relocation doesn't reach; the first of live sections by file, section and index.
+    /// A relocation doesn't reach, or a deleted candidate; the first of live sections by file, section and index.
     OutOfReach {
         kind: ReachKind,
         file: FileId,
         section: u32,
         index: u32,
     },
-}
-
-impl Uncarried {
-    /// The word under which it is told.
-    #[tactic(auto, unfolding(crate::specs::Texts::uncarried_text))]
-    fn word(self) -> &'static str
-        ensures { result.now ≡ uncarried_text self }
-    {
-        match self {
-            Uncarried::Relax => "relax",
-            Uncarried::Symbol => "symbol",
-        }
-    }
 }
 
 impl ReachKind {
@@ -141,6 +120,7 @@ impl ReachKind {
     {
         match self {
             ReachKind::Branch => "branch",
+            ReachKind::Relaxed => "relaxed",
         }
     }
 }
@@ -304,19 +284,6 @@ fn write_out_of_reach<W: fmt::Write>(
     write!(f, "out of reach: {kind} {input} {index}")
 }
 
-/// In a word, as `relax`.
-impl fmt::Display for Uncarried {
-    ghost use Rattle.std.specs.Prelude.{Some};
-    ghost use Rattle.lk_layout.specs.Texts.{uncarried_text};
-
-    ghost output = { λ what. Some (uncarried_text what) };
-
-    fn fmt<W: fmt::Write>(&self, f: &mut fmt::Formatter<W>) -> fmt::Result {
-        let word = self.word();
-        write!(f, "{word}")
-    }
-}
-
 /// As `section 3 is in no segment`; of references that can't be met a line for each; nothing for want of memory.
 impl fmt::Display for LayoutError {
     ghost use Rattle.std.specs.Prelude.{Some};
@@ -330,7 +297,6 @@ impl fmt::Display for LayoutError {
             E::NoMemory => Ok(()),
             E::TooMany { what, count, limit } => write_too_many(f, *what, *count, *limit),
             E::BadLink { rule, place } => write_bad_link(f, *rule, *place),
-            E::NotCarried(what) => write!(f, "not carried: {what}"),
             E::MergeNotTerminated { section, input } => write_unterminated(f, *section, *input),
             E::MergeTooLarge {
                 section,
@@ -473,6 +439,22 @@ impl From<BranchPlace> for LayoutError {
             file: place.file,
             section: place.section,
             index: place.relocation,
+        }
+    }
+}
+
+impl From<RelaxedPlace> for LayoutError {
+    ghost use Rattle.std.specs.Prelude.{◌≡◌};
+    ghost use Rattle.lk_layout.specs.Errors.{site_error};
+
+    ghost from_gives = { λ place e. e ≡ site_error place };
+
+    fn from(place: RelaxedPlace) -> LayoutError {
+        LayoutError::OutOfReach {
+            kind: ReachKind::Relaxed,
+            file: place.file,
+            section: place.section,
+            index: place.candidate,
         }
     }
 }

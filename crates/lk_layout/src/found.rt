@@ -1,28 +1,34 @@
 //! What each stage of the computation finds, by the stage before it, which it borrows.
 
+ghost use Rattle.std.specs.Prelude.{◌≡◌};
+ghost use Rattle.lk_layout.specs.Headers.{header_bytes};
 ghost use Rattle.lk_layout.specs.Machines.{platform_machine};
-ghost use Rattle.lk_layout.specs.Stages.{IsAddressedLink, IsKept, IsPlacedLink, IsReachingLink, IsSized, IsSpannedLink, IsToldLink, Reaches};
+ghost use Rattle.lk_layout.specs.Stages.{IsAddressedLink, IsKept, GivesNear, IsBranchedLink, IsPlacedFirst, IsPlacedLink, IsReachingLink, IsSized, IsSpannedLink, IsToldLink, Reaches, made_placed};
 
 use crate::error::LayoutError;
-use crate::headers::header_bytes;
-use crate::positions::asked_positions;
+use crate::redirects::set_redirects;
 use crate::stages::{AddressedLink, KeptLink, PlacedLink, ReachingLink, SizedLink, SpannedLink};
-use crate::thunks::block_owners;
 use lk_branches::laws::thunk_owners_are_good;
-use lk_branches::{ThunkPlan, block_places, check_branches, plan_thunks};
+use lk_branches::{ThunkPlan, block_owners, block_places, check_branches, plan_thunks};
+use lk_edges::edges_of;
+use lk_edges::laws::segments_end_below;
 use lk_link::ids::FileId;
 use lk_link::link::LinkInput;
 use lk_link::list::List;
 use lk_link::platform::Platform;
 use lk_place::laws::parts_take_their_bytes;
 use lk_place::{
-    OutputRecordLayout, Placed, SegmentFileLayout, SegmentLayouts, compute_layout_sections,
-    compute_segment_layout, merge_secondary_parts,
+    OutputRecordLayout, Placed, SegmentFileLayout, SegmentLayouts, compute_segment_layout,
+    merge_secondary_parts,
 };
+use lk_relaxing::laws::{
+    nothing_is_past, relaxed_is_shrunk, relaxed_stands, shrunk_can_be_scanned,
+};
+use lk_relaxing::{check_sites, compute_input_section_positions, is_nothing_deleted, place_first};
 use lk_sizes::part_owners::{add_thunks, plain_owners};
-use lk_sizes::{PartOwners, PartialLinkPlan, attributes_of_contents, part_sizes};
+use lk_sizes::{PartOwners, PartialLinkPlan, attributes_of_contents};
 use lk_thunks::Arch;
-use lk_values::{Addresses, addresses_of, check_offsets};
+use lk_values::{Addresses, PlacedParts, addresses_of, check_offsets};
 use std::alloc::Global;
 
 /// Adds up what the live sections bring to each part, plans thunks by that, and adds these.
@@ -45,25 +51,29 @@ pub(crate) fn found_sizes<P: Platform, A: Arch>(
     Ok((owners, thunks))
 }
 
-/// Finds where the parts and sections stand.
-pub(crate) fn found_records<P: Platform, A: Arch>(
+/// Finds where the parts and sections stand before anything is deleted.
+pub(crate) fn found_first<P: Platform, A: Arch>(
     alloc: Global,
     link: &LinkInput,
     platform: &P,
     _arch: &A,
     sized: &SizedLink<'_>,
+    headers: u64,
 ) -> Result<Placed, LayoutError>
     requires sized { IsSized (platform_machine (P.segment_start platform.now) (P.table_sizes platform.now) (A.config_of _arch.now)) link.now sized.now }
+    requires headers { headers ≡ header_bytes (platform_machine (P.segment_start platform.now) (P.table_sizes platform.now) (A.config_of _arch.now)) link.now sized.now.kept.live }
     ensures { Reaches (platform_machine (P.segment_start platform.now) (P.table_sizes platform.now) (A.config_of _arch.now)) link.now
-        (λ q. IsPlacedLink (platform_machine (P.segment_start platform.now) (P.table_sizes platform.now) (A.config_of _arch.now)) link.now (record { sized = sized.now; records = q })) result }
+        (IsPlacedFirst (platform_machine (P.segment_start platform.now) (P.table_sizes platform.now) (A.config_of _arch.now)) link.now sized.now.kept.live) result }
 {
-    let owners = &sized.owners;
-    let sizes = part_sizes(alloc, owners)?;
-    let headers = header_bytes(link, platform, owners.header());
-    let live = &sized.kept.live;
-    let positions = asked_positions(alloc, link, live, owners, &sizes, platform)?;
-    let records = compute_layout_sections(alloc, link, &sizes, &positions, headers, platform)?;
-    Ok(records)
+    let first = place_first(
+        alloc,
+        link,
+        &sized.kept.live,
+        &sized.owners,
+        headers,
+        platform,
+    )?;
+    Ok(first)
 }
 
 /// Finds what the output sections and segments span.
@@ -80,7 +90,7 @@ pub(crate) fn found_spans<P: Platform, A: Arch>(
 {
     let sections = placed.records.sections.as_slice();
     let joined = merge_secondary_parts(alloc, link, sections)?;
-    let header = placed.sized.owners.header();
+    let header = placed.owners.header();
     let emitted = header.emitted.as_slice();
     let active = header.active_segment_ids.as_slice();
     let kind = SegmentFileLayout::FromSections;
@@ -88,26 +98,42 @@ pub(crate) fn found_spans<P: Platform, A: Arch>(
     Ok((List::from_vec(joined), segments))
 }
 
-/// Finds the addresses of what stands in the parts, and what symbols stand for.
+/// Finds the addresses of what stands in the parts, and what symbols stand for, behind all redirects.
 pub(crate) fn found_addresses<P: Platform, A: Arch>(
     alloc: Global,
     link: &LinkInput,
     platform: &P,
-    _arch: &A,
+    arch: &A,
     spanned: &SpannedLink<'_>,
 ) -> Result<Addresses, LayoutError>
-    requires spanned { IsSpannedLink (platform_machine (P.segment_start platform.now) (P.table_sizes platform.now) (A.config_of _arch.now)) link.now spanned.now }
-    ensures { Reaches (platform_machine (P.segment_start platform.now) (P.table_sizes platform.now) (A.config_of _arch.now)) link.now
-        (λ q. IsAddressedLink (platform_machine (P.segment_start platform.now) (P.table_sizes platform.now) (A.config_of _arch.now)) link.now (record { spanned = spanned.now; addresses = q })) result }
+    requires spanned { IsSpannedLink (platform_machine (P.segment_start platform.now) (P.table_sizes platform.now) (A.config_of arch.now)) link.now spanned.now }
+    ensures { Reaches (platform_machine (P.segment_start platform.now) (P.table_sizes platform.now) (A.config_of arch.now)) link.now
+        (λ q. IsAddressedLink (platform_machine (P.segment_start platform.now) (P.table_sizes platform.now) (A.config_of arch.now)) link.now (record { spanned = spanned.now; addresses = q })) result }
 {
-    // A law, which does nothing: the parts end where their owners do.
+    // Laws, which do nothing: the parts end where their owners do, also behind what is deleted, and thread-local data end in memory.
     parts_take_their_bytes();
-    let sized = &spanned.placed.sized;
-    let live = &sized.kept.live;
-    let merged = sized.kept.images.sections.as_slice();
-    let parts = spanned.placed.records.parts.as_slice();
-    let addresses = addresses_of(alloc, link, live, merged, &sized.owners, parts, platform)?;
+    relaxed_stands();
+    segments_end_below();
+    let placed = &spanned.placed;
+    let live = &placed.kept.live;
+    let merged = placed.kept.images.sections.as_slice();
+    let sections = placed.records.sections.as_slice();
+    let edges = edges_of(alloc, link, sections, spanned.segments.segments.as_slice())?;
+    let parts = PlacedParts {
+        parts: placed.records.parts.as_slice(),
+        deltas: placed.deltas.as_slice(),
+        edges: &edges,
+    };
+    let mut addresses = addresses_of(alloc, link, live, merged, &placed.owners, &parts, platform)?;
     check_offsets(link, live, merged)?;
+    set_redirects(
+        alloc,
+        link,
+        platform,
+        arch,
+        spanned,
+        &mut addresses.resolutions,
+    )?;
     Ok(addresses)
 }
 
@@ -121,22 +147,62 @@ pub(crate) fn found_places<P: Platform, A: Arch>(
 ) -> Result<List<Option<u64>>, LayoutError>
     requires addressed { IsAddressedLink (platform_machine (P.segment_start _platform.now) (P.table_sizes _platform.now) (A.config_of _arch.now)) link.now addressed.now }
     ensures { Reaches (platform_machine (P.segment_start _platform.now) (P.table_sizes _platform.now) (A.config_of _arch.now)) link.now
-        (λ q. IsReachingLink (platform_machine (P.segment_start _platform.now) (P.table_sizes _platform.now) (A.config_of _arch.now)) link.now (record { addressed = addressed.now; places = q })) result }
+        (λ q. IsBranchedLink (platform_machine (P.segment_start _platform.now) (P.table_sizes _platform.now) (A.config_of _arch.now)) link.now (record { addressed = addressed.now; places = q })) result }
 {
-    let sized = &addressed.spanned.placed.sized;
-    let plan = &sized.thunks;
+    let placed = &addressed.spanned.placed;
+    let plan = &placed.thunks;
     let found = &addressed.addresses;
     let places = block_places(alloc, plan, &found.blocks)?;
     let resolutions = &found.resolutions;
     check_branches(
         link,
-        &sized.kept.live,
+        &placed.kept.live,
         plan,
         &places,
         &found.sections,
+        placed.deltas.as_slice(),
         resolutions,
     )?;
     Ok(List::from_vec(places))
+}
+
+/// Looks at the candidates that relaxation deleted, by final addresses, if there are any.
+pub(crate) fn check_deleted<P: Platform, A: Arch>(
+    alloc: Global,
+    link: &LinkInput,
+    _platform: &P,
+    _arch: &A,
+    placed: &PlacedLink<'_>,
+) -> Result<(), LayoutError>
+    requires { IsPlacedLink (platform_machine (P.segment_start _platform.now) (P.table_sizes _platform.now) (A.config_of _arch.now)) link.now placed.now }
+    ensures { (is : IsPlacedLink (platform_machine (P.segment_start _platform.now) (P.table_sizes _platform.now) (A.config_of _arch.now)) link.now placed.now)
+        → GivesNear (made_placed is) result }
+{
+    // Laws, which do nothing: where nothing is deleted, no candidate is past its limit, and what is deleted are bytes of candidates.
+    nothing_is_past();
+    relaxed_is_shrunk();
+    shrunk_can_be_scanned();
+    let deltas = placed.deltas.as_slice();
+    if is_nothing_deleted(deltas) {
+        return Ok(());
+    }
+    let live = &placed.kept.live;
+    let (sections, symbols) = compute_input_section_positions(
+        alloc,
+        link,
+        live,
+        &placed.owners,
+        deltas,
+    )?;
+    check_sites(
+        link,
+        live,
+        &sections,
+        &symbols,
+        placed.records.parts.as_slice(),
+        deltas,
+    )?;
+    Ok(())
 }
 
 /// Finds what is told beside that: attributes, what is known of output that is linked again, and the owners of blocks.
@@ -151,10 +217,10 @@ pub(crate) fn found_told<P: Platform, A: Arch>(
     ensures { Reaches (platform_machine (P.segment_start _platform.now) (P.table_sizes _platform.now) (A.config_of _arch.now)) link.now
         (λ q. IsToldLink (platform_machine (P.segment_start _platform.now) (P.table_sizes _platform.now) (A.config_of _arch.now)) link.now (record { reaching = reaching.now; attributes = q.0; partial_link = q.1; block_owners = q.2 })) result }
 {
-    let sized = &reaching.addressed.spanned.placed.sized;
-    let attributes = attributes_of_contents(alloc, link, sized.owners.contents())?;
-    let partial_link = PartialLinkPlan::build(alloc, link, &sized.kept.live)?;
-    let block_owners = block_owners(alloc, &sized.thunks)?;
+    let placed = &reaching.addressed.spanned.placed;
+    let attributes = attributes_of_contents(alloc, link, placed.owners.contents())?;
+    let partial_link = PartialLinkPlan::build(alloc, link, &placed.kept.live)?;
+    let block_owners = block_owners(alloc, &placed.thunks)?;
     Ok((
         List::from_vec(attributes),
         partial_link,

@@ -3,18 +3,23 @@
 ghost use Rattle.lk_layout.specs.Laws.{DefinedAnswerExists, DefinedAnswerIsOne, LaidOutLinksAreWellFormed};
 ghost use Rattle.lk_layout.specs.Laws.{DefinedLayoutsAreSound, LaidOutMemoryIsDisjoint, LaidOutSectionsAreApart, ResolvedSectionsAreLive};
 ghost use Rattle.lk_layout.specs.Machines.{IsLawfulMachine, small64_machine};
-ghost use Rattle.lk_layout.specs.PositionLaws.{PlacementsGoWithoutPositions};
 
 use lk_branches::laws::{branches_reach, thunks_have_ranges};
 use lk_check::well_formed_exactly_unfaulted;
+use lk_edges::laws::others_are_no_redirects;
 use lk_gc::{live_exists, live_is_one};
 use lk_place::laws::{
-    file_ranges_are_disjoint, memory_ranges_are_disjoint, parts_take_their_bytes, placement_exists,
-    placement_is_one, plain_memory_is_congruent, plain_memory_is_disjoint, records_keep_alignments,
+    file_ranges_are_disjoint, memory_ranges_are_disjoint, parts_take_their_bytes,
+    plain_memory_is_congruent, plain_memory_is_disjoint, records_keep_alignments,
     refused_exactly_past,
+};
+use lk_relaxing::laws::{
+    deleted_sites_are_near, deletions_are_read, relaxed_exists, relaxed_is_one, relaxed_is_shrunk,
+    relaxed_stands,
 };
 use lk_sizes::laws::{live_sections_are_owners, owners_are_aligned, owners_tile_their_part};
 use lk_thunks::{Arch, Small64Arch};
+use lk_values::laws::redirects_change_values_alone;
 
 /// A law: every link has a defined answer, on every machine.
 pub fn defined_answer_exists()
@@ -22,7 +27,7 @@ pub fn defined_answer_exists()
 {
     well_formed_exactly_unfaulted();
     live_exists();
-    placement_exists();
+    relaxed_exists();
 }
 
 /// A law: the defined answer of a link is one.
@@ -31,7 +36,7 @@ pub fn defined_answer_is_one()
 {
     well_formed_exactly_unfaulted();
     live_is_one();
-    placement_is_one();
+    relaxed_is_one();
 }
 
 /// A law: a link that has a layout is well formed.
@@ -39,6 +44,7 @@ pub fn laid_out_links_are_well_formed()
     ensures { LaidOutLinksAreWellFormed }
 {
     well_formed_exactly_unfaulted();
+    relaxed_stands();
 }
 
 /// A law: a defined layout is sound, on a lawful machine.
@@ -46,6 +52,10 @@ pub fn defined_layouts_are_sound()
     ensures { DefinedLayoutsAreSound }
 {
     well_formed_exactly_unfaulted();
+    relaxed_stands();
+    relaxed_is_shrunk();
+    deletions_are_read();
+    deleted_sites_are_near();
     owners_tile_their_part();
     owners_are_aligned();
     live_sections_are_owners();
@@ -57,6 +67,8 @@ pub fn defined_layouts_are_sound()
     records_keep_alignments();
     thunks_have_ranges();
     branches_reach();
+    redirects_change_values_alone();
+    others_are_no_redirects();
 }
 
 /// A law: the machine of the small platform and architecture is lawful.
@@ -72,6 +84,7 @@ pub fn laid_out_memory_is_disjoint()
     ensures { LaidOutMemoryIsDisjoint }
 {
     well_formed_exactly_unfaulted();
+    relaxed_stands();
     memory_ranges_are_disjoint();
 }
 
@@ -79,7 +92,7 @@ pub fn laid_out_memory_is_disjoint()
 pub fn laid_out_sections_are_apart()
     ensures { LaidOutSectionsAreApart }
 {
-    well_formed_exactly_unfaulted();
+    laid_out_links_are_well_formed();
     live_sections_are_owners();
     defined_layouts_are_sound();
     laid_out_memory_is_disjoint();
@@ -89,10 +102,4 @@ pub fn laid_out_sections_are_apart()
 /// live one, unless the section is merged.
 pub fn resolved_sections_are_live()
     ensures { ResolvedSectionsAreLive }
-{}
-
-/// A law: where neither the base nor an event or a load address names a symbol, a placement is one wherever symbols stand, and is refused
-/// alike.
-pub fn placements_go_without_positions()
-    ensures { PlacementsGoWithoutPositions }
 {}

@@ -8,8 +8,9 @@ use lk_link::link::LinkInput;
 use lk_link::list::List;
 use lk_merge::{MergedStringStartAddresses, MergedStringsSection};
 use lk_place::{OutputRecordLayout, SegmentLayout};
+use lk_relax::RelaxDeltaMap;
 use lk_sizes::{InputSortedSection, PartialLinkPlan};
-use lk_thunks::ThunkBlock;
+use lk_thunks::{ThunkBlock, ThunkBlockId};
 use lk_values::{EntryFault, SymbolResolutions, entry_value};
 use std::marker::Model;
 
@@ -26,6 +27,7 @@ pub struct Layout<'data> {
     pub(crate) tls_layout: Option<OutputRecordLayout>,
     pub(crate) live_marks: List<bool>,
     pub(crate) section_addresses: List<u64>,
+    pub(crate) section_deletions: List<RelaxDeltaMap>,
     pub(crate) merged_strings: List<MergedStringsSection<'data>>,
     pub(crate) merged_string_start_addresses: MergedStringStartAddresses,
     pub(crate) symbol_resolutions: SymbolResolutions,
@@ -35,6 +37,7 @@ pub struct Layout<'data> {
     pub(crate) thunk_blocks: List<ThunkBlock>,
     pub(crate) thunk_block_owners: List<Option<FileId>>,
     pub(crate) thunk_block_addresses: List<Option<u64>>,
+    pub(crate) thunk_users: List<(FileId, ThunkBlockId, bool)>,
     pub(crate) thunk_size: u64,
 }
 
@@ -59,6 +62,7 @@ impl<'data> Model for Layout<'data> {
       tls_layout = a.tls_layout;
       live_marks = a.live_marks;
       section_addresses = a.section_addresses;
+      section_deletions = a.section_deletions;
       merged_strings = a.merged_strings;
       merged_string_start_addresses = a.merged_string_start_addresses;
       symbol_resolutions = a.symbol_resolutions;
@@ -68,6 +72,7 @@ impl<'data> Model for Layout<'data> {
       thunk_blocks = map (λ b. b.symbols) a.thunk_blocks;
       thunk_block_owners = a.thunk_block_owners;
       thunk_block_addresses = a.thunk_block_addresses;
+      thunk_users = a.thunk_users;
       thunk_size = a.thunk_size;
     } };
 }
@@ -144,6 +149,13 @@ impl<'data> Layout<'data> {
         self.section_addresses.as_slice()
     }
 
+    /// What is deleted of the sections of each file, by the file's number over all groups and the section's index.
+    pub fn section_deletions(&self) -> &[RelaxDeltaMap]
+        ensures { result.now ≡ self.now.section_deletions }
+    {
+        self.section_deletions.as_slice()
+    }
+
     /// Of each output section its merged data; pieces are lent by the link. Contracts see the list of its inputs.
     pub fn merged_strings(&self) -> &[MergedStringsSection<'data>]
         ensures { result.now ≡ self.now.merged_strings }
@@ -206,6 +218,13 @@ impl<'data> Layout<'data> {
         ensures { result.now ≡ self.now.thunk_block_addresses }
     {
         self.thunk_block_addresses.as_slice()
+    }
+
+    /// Each object that needs thunks, in the order of files, with its block, and whether it owns that.
+    pub fn thunk_users(&self) -> &[(FileId, ThunkBlockId, bool)]
+        ensures { result.now ≡ self.now.thunk_users }
+    {
+        self.thunk_users.as_slice()
     }
 
     /// The bytes of a thunk; 0 where the architecture makes none.

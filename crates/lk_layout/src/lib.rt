@@ -2,7 +2,6 @@
 //! stand for.
 #![tactic(auto)]
 
-pub mod carried;
 mod computation;
 pub mod error;
 mod found;
@@ -10,14 +9,12 @@ mod headers;
 mod images;
 pub mod laws;
 pub mod layout;
-mod positions;
+mod redirects;
 mod references;
 mod stages;
-mod thunks;
 
-pub use crate::carried::first_uncarried;
 pub use crate::computation::{compute, compute_alone};
-pub use crate::error::{LayoutError, ReachKind, Uncarried};
+pub use crate::error::{LayoutError, ReachKind};
 pub use crate::layout::Layout;
 pub use lk_gc::ReferenceFault;
 pub use lk_link::Resolution;

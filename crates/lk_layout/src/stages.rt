@@ -13,6 +13,7 @@ use lk_link::ids::FileId;
 use lk_link::link::LinkInput;
 use lk_link::list::List;
 use lk_place::{OutputRecordLayout, Placed, SegmentLayouts};
+use lk_relax::RelaxDeltaMap;
 use lk_sizes::{PartOwners, PartialLinkPlan};
 use lk_thunks::ThunkConfig;
 use lk_values::{Addresses, Images, entry_symbol};
@@ -32,10 +33,14 @@ pub(crate) struct SizedLink<'data> {
     pub(crate) thunks: ThunkPlan,
 }
 
-/// The same, with where its parts and sections stand.
+/// The same behind relaxation, with what is deleted of its sections, by file and index, and where its parts and sections stand.
 #[derive(Drop)]
 pub(crate) struct PlacedLink<'data> {
-    pub(crate) sized: SizedLink<'data>,
+    pub(crate) kept: KeptLink<'data>,
+    pub(crate) thunks: ThunkPlan,
+    /// What comes into each part by what is deleted.
+    pub(crate) owners: PartOwners,
+    pub(crate) deltas: List<RelaxDeltaMap>,
     pub(crate) records: Placed,
 }
 
@@ -83,10 +88,10 @@ impl<'data> ToldLink<'data> {
             joined,
             segments,
         } = addressed.spanned;
-        let PlacedLink { sized, records } = placed;
-        let KeptLink { images, live } = sized.kept;
-        let plan = sized.thunks;
-        let (header, sorted) = sized.owners.into_told();
+        let KeptLink { images, live } = placed.kept;
+        let records = placed.records;
+        let plan = placed.thunks;
+        let (header, sorted) = placed.owners.into_told();
         Layout {
             link,
             section_layouts: records.sections,
@@ -98,6 +103,7 @@ impl<'data> ToldLink<'data> {
             tls_layout: segments.tls_layout,
             live_marks: live.marks,
             section_addresses: List::from_vec(addresses.sections),
+            section_deletions: placed.deltas,
             merged_strings: images.sections,
             merged_string_start_addresses: addresses.buckets,
             symbol_resolutions: addresses.resolutions,
@@ -107,6 +113,7 @@ impl<'data> ToldLink<'data> {
             thunk_blocks: plan.blocks,
             thunk_block_owners: self.block_owners,
             thunk_block_addresses: reaching.places,
+            thunk_users: plan.users,
             thunk_size: size_of(plan.config),
         }
     }

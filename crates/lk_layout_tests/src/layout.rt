@@ -1,4 +1,4 @@
-//! Layouts: what is reported, refused, and not carried yet.
+//! Layouts: what is reported and refused.
 
 ghost use Rattle.std.specs.Prelude.{◌≡◌, ◌≤◌, true};
 
@@ -275,7 +275,6 @@ const REFUSED: &str = r#"
 {"plan":{"page":1,"sections":[{"attrs":1,"parts":[[1,false]]}],"events":[["sec",0]]},"groups":[[{"kind":"prelude"}],[{"kind":"object","sections":[{"slot":"must","size":1}]}]]} => 1 section 0 is in no segment
 {"plan":{"page":1,"base":["num",0],"sections":[{"attrs":1,"parts":[[1,false]]}],"segments":[{"kind":"load"}],"events":[["seg",0],["sec",0],["endseg",0]]},"groups":[[{"kind":"prelude"}],[{"kind":"object","sections":[{"slot":"must","size":18446744073709551615},{"slot":"must","size":18446744073709551615}]}]]} => 1 address overflow: part 0
 {"plan":{"page":1,"base":["num",1],"sections":[{"attrs":1,"parts":[[1,false]]}],"segments":[{"kind":"load"}],"events":[["seg",0],["sec",0],["endseg",0]]},"groups":[[{"kind":"prelude"}],[{"kind":"object","sections":[{"slot":"must","size":18446744073709551615}]}]]} => 1 address overflow: event 1
-{"options":{"relax":true},"plan":{"page":4096,"base":["num",4096],"sections":[{"name":"A","attrs":1,"parts":[[8,false]]},{"name":"B","attrs":1,"parts":[[1,false]]},{"name":"C","attrs":17,"parts":[[16,false]]}],"segments":[{"kind":"load"}],"events":[["seg",0],["sec",0],["sec",1],["sec",2],["endseg",0]]},"groups":[[{"kind":"prelude"}],[{"kind":"object","name":"a.o","sections":[{"slot":"must","part":0,"size":8},{"slot":"must","part":1,"size":7},{"slot":"must","part":2,"size":16}]}]]} => 1 not carried: relax
 {"options":{"relax":true},"plan":{"page":3},"groups":[[{"kind":"prelude"}]]} => 1 bad link: rule 2, plan
 {"plan":{"page":1},"groups":[[],[{"kind":"prelude"}]]} => 1 bad link: rule 9, file 0 0
 {"options":{"stack":7},"plan":{"page":16,"sections":[{"attrs":1,"parts":[[1,false]],"emit":"never"},{"attrs":1,"parts":[[1,false]]}],"segments":[{"kind":"load"}],"events":[["sec",0],["seg",0],["sec",1],["endseg",0]]},"groups":[[{"kind":"prelude"}],[{"kind":"object","sections":[{"slot":"must","size":3},{"slot":"must","part":1,"size":2}]}]]} => 1 section 0 is in no segment
@@ -287,14 +286,7 @@ const REFUSED: &str = r#"
 {"plan":{"page":1,"regions":[«64 of {"origin":["dot"],"length":["dot"]}»]},"groups":[[{"kind":"prelude"}]]} => 1 expression at region 0: no address
 {"plan":{"page":1,"sections":[{"parts":[[1,false]]}],"events":[["sec",0]]},"groups":[[{"kind":"prelude"}],[{"kind":"object","sections":[{"slot":"must"},{"slot":"must"},{"slot":"must","part":1}]}]]} => 1 bad link: rule 11, input 1 0 2
 {"plan":{"page":1,"sections":[{"attrs":1,"parts":[[8,false],[4,false],[2,false],[1,false]]}],"segments":[{"kind":"load"}],"events":[["seg",0],["sec",0],["endseg",0]]},"groups":[[{"kind":"prelude"}],[{"kind":"object","sections":[{"slot":"must","part":3,"size":18446744073709551615},{"slot":"must","part":3,"size":1}]}]]} => 1 address overflow: part 3
-# What is not carried: from the options to the symbols of the prelude,
-@ {"plan":{"page":16,"sections":[{"parts":[[1,false]]}],"events":[["sec",0]]},"options":{...]}]]}
-"output":"shared","relax":true},"groups":[[{"kind":"prelude","symbols":[ => 1 not carried: relax
-"relax":true},"groups":[[{"kind":"prelude","symbols":[ => 1 not carried: relax
-},"groups":[[{"kind":"prelude","symbols":[{"name":"x","at":["undefined"]} => 1 not carried: symbol
-"relax":true},"groups":[[{"kind":"prelude","symbols":[{"name":"x","at":["undefined"]} => 1 not carried: relax
-"output":"partial","relax":true},"groups":[[{"kind":"prelude","symbols":[{"name":"x","at":["undefined"]} => 1 not carried: relax
-# in a plan, behind its sections and events,
+# In a plan, behind its sections and events,
 @ {"plan":{"page":16,"sections":[{"parts":[[1,false]]}],"events":[["sec",0]]...},"groups":[[{"kind":"prelude"}]]}
 ,"custom_base":true => 1 base address (0x0) is less than the size of headers (0x40)
 ,"singletons":0 => 1 bad link: rule 5, plan
@@ -390,14 +382,4 @@ pub fn add_workers(
 #[test]
 fn every_number_of_workers_lays_out(rt: HostRuntime) -> Result<(), Fail> {
     expect_rows(&rt, rt.alloc(), Asked::Workers, TWO_SEGMENTS)
-}
-
-/// What isn't carried.
-const UNCARRIED: &str = r#"
-{"options":{"relax":true},"plan":{"page":16},"groups":[[{"kind":"prelude"}]]} => first Some(Relax)
-"#;
-
-#[test]
-fn what_is_not_carried_is_found(rt: HostRuntime) -> Result<(), Fail> {
-    expect_rows(&rt, rt.alloc(), Asked::Uncarried, UNCARRIED)
 }

@@ -12,11 +12,15 @@ mod layout;
 #[cfg(test)]
 mod merged_links;
 #[cfg(test)]
+mod own_symbols;
+#[cfg(test)]
 mod partial;
 #[cfg(test)]
 mod placements;
 #[cfg(test)]
 mod reach;
+#[cfg(test)]
+mod relaxed;
 #[cfg(test)]
 mod rows;
 #[cfg(test)]

@@ -1,6 +1,5 @@
 //! Sections that are put in order by their names, and output that is linked again.
 
-use crate::rows::{Asked, expect_rows};
 use crate::runs::expect_reports;
 use std::test::Fail;
 
@@ -89,15 +88,4 @@ end"#;
 #[test]
 fn sorted_sections_and_singletons_are_told(rt: HostRuntime) -> Result<(), Fail> {
     expect_reports(&rt, rt.alloc(), REPORTED)
-}
-
-/// One that isn't laid out yet.
-const REFUSED: &str =
-    r#"# What isn't carried yet is told as before: the prelude's symbols, in output that is linked again.
-{"options":{"output":"partial"},"plan":{"page":16,"sections":[{"name":"a","attrs":1,"parts":[[8,false]]},{"name":"t","attrs":0,"parts":[[8,false]]},{"name":"s","attrs":7,"parts":[[4,false]]},{"name":"z","attrs":1,"parts":[[1,false]],"primary":2}],"events":[["sec",0],["sec",1],["sec",2],["sec",3]],"singletons":2,"symtab_local":1},"groups":[[{"kind":"prelude","symbols":[{"at":["end",0],"name":"e0"},{"at":["end",1],"name":"e1"},{"at":["end",2],"name":"e2"},{"at":["force"],"name":"f","hidden":true}]}],[{"kind":"object","sections":[{"slot":"must","part":0,"size":4},{"slot":"must","part":2,"size":3,"name":"one"},{"slot":"must","part":3,"size":5}],"symbols":[{"at":["common",2,8],"name":"c"}]}]]} => 1 not carried: symbol
-"#;
-
-#[test]
-fn symbols_of_partial_output_are_not_carried(rt: HostRuntime) -> Result<(), Fail> {
-    expect_rows(&rt, rt.alloc(), Asked::Run, REFUSED)
 }

@@ -4,10 +4,8 @@ use crate::devices::{add_calls, add_held, add_reads, add_run, add_whole, add_wri
 use crate::layout::add_workers;
 use crate::runs::{add_end, add_words};
 use crate::words::{add_both_runs, add_generated};
-use lk_input::{InputError, read_link};
-use lk_layout::first_uncarried;
-use lk_link::LinkInput;
-use lk_test_rows::{Row, add, rows_of};
+use lk_input::read_link;
+use lk_test_rows::{Row, rows_of};
 use std::alloc::{AllocError, Global};
 use std::process::Abort;
 use std::sync::Wait;
@@ -17,8 +15,6 @@ use std::thread::Threads;
 /// What is asked about a text.
 #[derive(Clone, Copy)]
 pub enum Asked {
-    /// What isn't carried of the description that it is.
-    Uncarried,
     /// What reports are made of it by how many workers.
     Workers,
     /// How a run over it ends.
@@ -43,31 +39,17 @@ pub enum Asked {
     FaultyRun,
 }
 
-/// Adds what is answered of a link that there is.
-fn add_found(
-    rt: &(impl Threads + Wait + Sync),
-    alloc: Global,
-    line: &mut String,
-    asked: Asked,
-    link: &Result<LinkInput, InputError>,
-) -> Result<(), AllocError> {
-    match (link, asked) {
-        (Ok(link), Asked::Uncarried) => add(line, "first", &first_uncarried(link)),
-        (Ok(link), _) => add_workers(rt, alloc, line, link),
-        (Err(error), _) => write!(line, "no link: {error}"),
-    }
-}
-
 /// Adds what is answered where the text stands for a link.
 fn add_linked(
     rt: &(impl Threads + Wait + Sync),
     alloc: Global,
     line: &mut String,
-    asked: Asked,
     text: &str,
 ) -> Result<(), AllocError> {
-    let link = read_link(alloc, text.as_bytes());
-    add_found(rt, alloc, line, asked, &link)
+    match read_link(alloc, text.as_bytes()) {
+        Ok(link) => add_workers(rt, alloc, line, &link),
+        Err(error) => write!(line, "no link: {error}"),
+    }
 }
 
 /// Adds what is answered.
@@ -79,7 +61,7 @@ fn add_answer(
     text: &str,
 ) -> Result<(), AllocError> {
     match asked {
-        Asked::Uncarried | Asked::Workers => add_linked(rt, alloc, line, asked, text),
+        Asked::Workers => add_linked(rt, alloc, line, text),
         Asked::Run => add_end(alloc, line, text),
         Asked::Words => add_words(alloc, line, text),
         Asked::BothRuns => add_both_runs(rt, alloc, line, text),

@@ -40,3 +40,4 @@ mod Tables
 mod WalkLaws
 mod WalkRecords
 mod WalkSteps
+mod WithoutPositions

@@ -14,6 +14,7 @@ pub mod PlacementLaws
 pub mod Plain
 pub mod PlainScan
 pub mod Plans
+pub mod PositionLaws
 pub mod Ranges
 pub mod RegionNames
 pub mod Regions

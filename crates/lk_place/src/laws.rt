@@ -4,6 +4,7 @@ ghost use Rattle.lk_place.specs.Base.{MemoryLeavesRoom};
 ghost use Rattle.lk_place.specs.Laws.{FileRangesAreDisjoint, InsideIsPlaced, MemoryRangesAreDisjoint, OneLoadSegmentIsPlain};
 ghost use Rattle.lk_place.specs.Laws.{PlainMemoryIsCongruent, PlainMemoryIsDisjoint, RecordsKeepAlignments};
 ghost use Rattle.lk_place.specs.PlacementLaws.{LoadsGoByWhatStands, PartsTakeTheirBytes, PlacementExists, PlacementIsOne, RefusedExactlyPast};
+ghost use Rattle.lk_place.specs.PositionLaws.{AnswersGoWithoutPositions, PlacementsGoWithoutPositions};
 ghost use Rattle.lk_place.specs.Shallow.{ExpressionsAreShallow};
 
 pub use lk_expressions::laws::{constants_go_by_those_before, unnamed_read_no_symbols};
@@ -21,6 +22,16 @@ pub fn placement_is_one()
 /// A law: a section that is placed from some cursors on overflows there exactly where one of its parts ends past 2^64 - 1.
 pub fn refused_exactly_past()
     ensures { RefusedExactlyPast }
+{}
+
+/// A law: where no expression of a walk names a symbol, a placement is one wherever symbols stand, and is refused alike.
+pub fn placements_go_without_positions()
+    ensures { PlacementsGoWithoutPositions }
+{}
+
+/// A law: what is answered then by some places of symbols is what is answered by any.
+pub fn answers_go_without_positions()
+    ensures { AnswersGoWithoutPositions }
 {}
 
 /// A law: where no event is refused, the record of each part takes exactly the part's bytes in memory.

@@ -82,7 +82,7 @@ together g q (c ∷ cs) = by (g c) (q c) (together g q cs)
     by false false rest = rest
 
 -- candidates that end inside a section, each behind those before it, rise
-rise_by : (low size : ℕ) (cs : List RelaxCandidate) → low ≤ size
+pub rise_by : (low size : ℕ) (cs : List RelaxCandidate) → low ≤ size
     → ((k : ℕ) (r : RelaxCandidate) → slice_get cs k ≡ Some r → (low ≤ r.at) × (1 ≤ r.del) × (r.at + r.del ≤ size))
     → ((j k : ℕ) (q r : RelaxCandidate) → j < k → slice_get cs j ≡ Some q → slice_get cs k ≡ Some r → q.at + q.del ≤ r.at)
     → RiseWithin low size (map range_of cs)

@@ -1,5 +1,5 @@
 mod Apart
-mod CandidateLemmas
+pub mod CandidateLemmas
 mod DeltaLemmas
 mod MapLemmas
 mod Offsets
@@ -7,3 +7,4 @@ mod Rising
 mod Together
 mod SideBySide
 mod ShardLemmas
+mod PastLimits

@@ -1,8 +1,10 @@
 -- Entries with rising indexes.
-use Rattle.std.proofs.Common.{◌≡◌, ◌==◌, ◌<◌, ◌≤◌, ◌+◌, ◌∙◌, ◌∷◌, [], List, ℕ, Bool, true, false, Option, Some, None, ap, arith, cond, eq-eqb, inl, inr, ltb, ltb-true, ltb-false, ne_eqb, refl, subst, sym, one-add, option_map}
-use Rattle.std.proofs.lemmas.Bool.{cases_eq}
+use Rattle.std.proofs.Common.{◌≡◌, ◌==◌, ◌<◌, ◌≤◌, ◌+◌, ◌∙◌, ◌∷◌, [], List, ℕ, zero, suc, Bool, true, false, Option, Some, None, ap, arith, cond, eq-eqb, inl, inr, ltb, ltb-true, ltb-false, ne_eqb, refl, set, subst, sym, one-add, option_map}
+use Rattle.std.specs.Prelude.{if◌then◌else◌}
+use Rattle.std.proofs.lemmas.Bool.{cases_eq, eqb-true}
 use Rattle.std.specs.List.{find, insert, prefix_len, slice_get}
-use Rattle.lk_relax.specs.DeltaMaps.{IndexesRise}
+use Rattle.std.specs.Option.{option_map_or}
+use Rattle.lk_relax.specs.DeltaMaps.{IndexesRise, with_ranges}
 use Rattle.lk_relax.proofs.Rising.{Rises, rises_above}
 
 pub entries_rise : {X : Type 0} (low : ℕ) (es : List (ℕ × X)) → IndexesRise low es → Rises (λ (e : ℕ × X). e.0) low es
@@ -94,3 +96,79 @@ one_more_rises {X} low s x (e ∷ es) h from new = by (ltb e.0 s) (e.0 == s) ref
 pub none_mapped : {X Y : Type 0} (f : X → Y) (o : Option X) → option_map f o ≡ None → o ≡ None
 none_mapped f None e = refl
 none_mapped f (Some x) e = absurd (cc)
+
+-- ---- other ranges for a section
+
+-- the entry at a place is that of a section
+pub record IsEntry {X : Type 0} (s n : ℕ) (es : List (ℕ × X)) : Type 0 where
+  pub entry : ℕ × X
+  pub at : slice_get es n ≡ Some entry
+  pub own : entry.0 ≡ s
+
+pub entry_is : {X : Type 0} (s n : ℕ) (es : List (ℕ × X)) → option_map_or (λ (e : ℕ × X). e.0 == s) (slice_get es n) false ≡ true → IsEntry s n es
+entry_is {X} s n es is = by (slice_get es n) refl is
+  where
+    by : (o : Option (ℕ × X)) → slice_get es n ≡ o → option_map_or (λ (e : ℕ × X). e.0 == s) o false ≡ true → IsEntry s n es
+    by None at h = absurd (cc)
+    by (Some e) at h = record { entry = e; at = at; own = eqb-true e.0 s h }
+
+-- where it isn't, there is none
+pub no_entry : {X : Type 0} (s n : ℕ) (es : List (ℕ × X)) → IndexesRise 0 es → n ≡ prefix_len (λ (e : ℕ × X). ltb e.0 s) es
+    → option_map_or (λ (e : ℕ × X). e.0 == s) (slice_get es n) false ≡ false → find (λ (e : ℕ × X). e.0 == s) es ≡ None
+no_entry {X} s n es rise place not = by (slice_get es n) refl not
+  where
+    by : (o : Option (ℕ × X)) → slice_get es n ≡ o → option_map_or (λ (e : ℕ × X). e.0 == s) o false ≡ false → find (λ (e : ℕ × X). e.0 == s) es ≡ None
+    by None at h = found_none s es rise (ap (slice_get es) (sym place) ∙ at)
+    by (Some e) at h = found_other s es e rise (ap (slice_get es) (sym place) ∙ at) (λ same. absurd (let both : true ≡ false = sym (eq-eqb e.0 s same) ∙ h in cc))
+
+-- it is found
+pub entry_found : {X : Type 0} (s n : ℕ) (es : List (ℕ × X)) → IndexesRise 0 es → n ≡ prefix_len (λ (e : ℕ × X). ltb e.0 s) es → (h : IsEntry s n es)
+    → find (λ (e : ℕ × X). e.0 == s) es ≡ Some h.entry
+entry_found s n es rise place h = found_same s es h.entry rise (ap (slice_get es) (sym place) ∙ h.at) h.own
+
+-- with other ranges in its place
+pub ranges_set : (s : ℕ) (ranges : List (ℕ × ℕ)) (es : List (ℕ × List (ℕ × ℕ))) → IsEntry s (prefix_len (λ (e : ℕ × List (ℕ × ℕ)). ltb e.0 s) es) es
+    → set es (prefix_len (λ (e : ℕ × List (ℕ × ℕ)). ltb e.0 s) es) (s, ranges) ≡ with_ranges s ranges es
+ranges_set s ranges [] h = absurd (let no : None ≡ Some h.entry = h.at in cc)
+ranges_set s ranges (e ∷ es) h = by (ltb e.0 s) h (ranges_set s ranges es)
+  where
+    Entry : Type 0
+    Entry = ℕ × List (ℕ × ℕ)
+
+    m : ℕ
+    m = prefix_len (λ (x : Entry). ltb x.0 s) es
+
+    by : (b : Bool) → IsEntry s (cond b (1 + m) 0) (e ∷ es) → (IsEntry s m es → set es m (s, ranges) ≡ with_ranges s ranges es)
+        → set (e ∷ es) (cond b (1 + m) 0) (s, ranges) ≡ (if b then e ∷ with_ranges s ranges es else (s, ranges) ∷ (if e.0 == s then es else e ∷ es))
+    by true is later =
+        let rest : IsEntry s m es = record { entry = is.entry; at = ap (slice_get (e ∷ es)) (sym (one-add m)) ∙ is.at; own = is.own } in
+        ap (λ (k : ℕ). set (e ∷ es) k (s, ranges)) (one-add m) ∙ ap (λ (xs : List Entry). e ∷ xs) (later rest)
+    by false is later =
+        let first : e ≡ is.entry = let at : Some e ≡ Some is.entry = is.at in cc in
+        ap (λ b. (s, ranges) ∷ (if b then es else e ∷ es)) (sym (eq-eqb e.0 s (ap (λ (x : Entry). x.0) first ∙ is.own)))
+
+-- as one entry more
+pub ranges_inserted : (s : ℕ) (ranges : List (ℕ × ℕ)) (es : List (ℕ × List (ℕ × ℕ))) → find (λ (e : ℕ × List (ℕ × ℕ)). e.0 == s) es ≡ None
+    → insert es (prefix_len (λ (e : ℕ × List (ℕ × ℕ)). ltb e.0 s) es) (s, ranges) ≡ with_ranges s ranges es
+ranges_inserted s ranges [] none = refl
+ranges_inserted s ranges (e ∷ es) none = by (ltb e.0 s) (e.0 == s) none (ranges_inserted s ranges es)
+  where
+    Entry : Type 0
+    Entry = ℕ × List (ℕ × ℕ)
+
+    m : ℕ
+    m = prefix_len (λ (x : Entry). ltb x.0 s) es
+
+    by : (b c : Bool) → cond c (Some e) (find (λ (x : Entry). x.0 == s) es) ≡ None → (find (λ (x : Entry). x.0 == s) es ≡ None → insert es m (s, ranges) ≡ with_ranges s ranges es)
+        → insert (e ∷ es) (cond b (1 + m) 0) (s, ranges) ≡ (if b then e ∷ with_ranges s ranges es else (s, ranges) ∷ (if c then es else e ∷ es))
+    by b true new later = absurd (cc)
+    by true false new later = ap (λ (k : ℕ). insert (e ∷ es) k (s, ranges)) (one-add m) ∙ ap (λ (xs : List Entry). e ∷ xs) (later new)
+    by false false new later = refl
+
+-- indexes rise as before where an entry keeps its own
+pub set_rises : {X : Type 0} (low n : ℕ) (es : List (ℕ × X)) (e f : ℕ × X) → IndexesRise low es → slice_get es n ≡ Some e → f.0 ≡ e.0 → IndexesRise low (set es n f)
+set_rises low n [] e f h at same = absurd (cc)
+set_rises {X} low zero (x ∷ es) e f h at same =
+    let index : f.0 ≡ x.0 = let first : x ≡ e = cc in same ∙ ap (λ (y : ℕ × X). y.0) (sym first) in
+    (omega (arith, index, h.0), subst (λ (i : ℕ). IndexesRise (i + 1) es) (sym index) h.1)
+set_rises low (suc n) (x ∷ es) e f h at same = (h.0, set_rises (x.0 + 1) n es e f h.1 at same)

@@ -24,7 +24,7 @@ heads x y xs ys e = ap (λ (rs : List (ℕ × ℕ)). start rs) e
     start (r ∷ rs) = r.0
 
 -- the next deleted range is a candidate's own where the candidate is one of those that are gone
-next_is : (g : RelaxCandidate → Bool) (low high : ℕ) (ds : List Delta) (p : ℕ) (c : RelaxCandidate) (cs : List RelaxCandidate) → RiseWithin low high (map range_of (c ∷ cs))
+pub next_is : (g : RelaxCandidate → Bool) (low high : ℕ) (ds : List Delta) (p : ℕ) (c : RelaxCandidate) (cs : List RelaxCandidate) → RiseWithin low high (map range_of (c ∷ cs))
     → drop p (ranges_of ds) ≡ map range_of (filter g (c ∷ cs)) → is_next ds p c ≡ g c
 next_is g low high [] zero c cs h left = by (g c) left
   where
@@ -46,7 +46,7 @@ next_is g low high (d ∷ ds) zero c cs h left = by (g c) left
 next_is g low high (d ∷ ds) (suc p) c cs h left = next_is g low high ds p c cs h left
 
 -- behind the first of what is left
-drop_first : (rs : List (ℕ × ℕ)) (p : ℕ) (x : ℕ × ℕ) (xs : List (ℕ × ℕ)) → drop p rs ≡ x ∷ xs → drop (suc p) rs ≡ xs
+pub drop_first : (rs : List (ℕ × ℕ)) (p : ℕ) (x : ℕ × ℕ) (xs : List (ℕ × ℕ)) → drop p rs ≡ x ∷ xs → drop (suc p) rs ≡ xs
 drop_first [] zero x xs e = absurd (cc)
 drop_first [] (suc p) x xs e = absurd (cc)
 drop_first (r ∷ rs) zero x xs e = cc

@@ -56,3 +56,12 @@ shrunk told old cs = map range_of (filter (λ c. is_gone old c || goes (told c))
 -- the least number of bytes by which one is too far, if one is
 abbrev pub margin : (RelaxCandidate → Outcome) → List (ℕ × ℕ) → List RelaxCandidate → Option ℕ
 margin told old cs = least (filter_map (λ c. short_by (told c)) (filter (λ c. not (is_gone old c)) cs))
+
+-- a candidate is too far from its symbol
+abbrev pub is_short : Outcome → Bool
+is_short (Outcome.Short bytes) = true
+is_short outcome = false
+
+-- a candidate is past its limit: its bytes are gone, and it is too far
+abbrev pub is_past : (RelaxCandidate → Outcome) → List (ℕ × ℕ) → RelaxCandidate → Bool
+is_past told old c = is_gone old c && is_short (told c)

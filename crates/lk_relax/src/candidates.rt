@@ -1,9 +1,9 @@
 //! A pass over the candidates of one section.
 
 ghost use Rattle.std.specs.Prelude.{⊤, ◌≡◌, ◌==◌, ◌++◌, [], ◌∷◌, All, IfOk, OnOk, cond, false, min};
-ghost use Rattle.std.specs.List.{slice_get};
+ghost use Rattle.std.specs.List.{position, slice_get};
 ghost use Rattle.std.specs.Option.{option_copied, option_map_or};
-ghost use Rattle.lk_relax.specs.Candidates.{AreCandidates, AreOf, goes, lesser, margin, picked, range_of, ranges_in, short_by};
+ghost use Rattle.lk_relax.specs.Candidates.{AreCandidates, AreOf, goes, is_past, is_short, lesser, margin, picked, range_of, ranges_in, short_by};
 ghost use Rattle.lk_relax.specs.DeltaWords.{AreDeltas, ranges_of};
 
 use crate::deltas::{Delta, SectionRelaxDeltas};
@@ -19,6 +19,15 @@ pub enum Outcome {
     Goes,
     /// Its symbol is too far, by so many bytes.
     Short(u64),
+}
+
+impl Outcome {
+    /// Whether the symbol is too far.
+    pub fn is_short(self) -> bool
+        ensures { result ≡ is_short self }
+    {
+        matches!(self, Outcome::Short(_))
+    }
 }
 
 /// What tells the outcome of a candidate.
@@ -108,6 +117,40 @@ fn scan_beside<J: Judge>(
         }
     }
     Ok(scan)
+}
+
+/// The index of the first candidate of a section that is past its limit: its bytes are gone, and it is too far. Takes time by the number
+/// of candidates.
+pub fn first_past<J: Judge>(
+    candidates: &[RelaxCandidate],
+    deleted: &SectionRelaxDeltas,
+    judge: &J,
+) -> Option<usize>
+    requires rising { AreCandidates candidates.now }
+    requires each { All (J.asks judge.now) candidates.now }
+    requires some { AreOf deleted.now candidates.now }
+    ensures { result ≡ position (is_past (J.told judge.now) deleted.now) candidates.now }
+{
+    first_beside(candidates, deleted.deltas(), judge)
+}
+
+/// Walks the candidates and the deleted ranges side by side, up to the first candidate that is past its limit.
+fn first_beside<J: Judge>(candidates: &[RelaxCandidate], old: &[Delta], judge: &J) -> Option<usize>
+    requires rising { AreCandidates candidates.now }
+    requires each { All (J.asks judge.now) candidates.now }
+    requires some { AreOf (ranges_of old.now) candidates.now }
+    ensures { result ≡ position (is_past (J.told judge.now) (ranges_of old.now)) candidates.now }
+{
+    let mut passed = 0;
+    for (index, candidate) in candidates.iter().enumerate() {
+        if is_at(old, passed, candidate) {
+            if judge.tell(candidate).is_short() {
+                return Some(index);
+            }
+            passed += 1;
+        }
+    }
+    None
 }
 
 /// Whether the deleted range at a place is that of a candidate.

@@ -1,6 +1,6 @@
 //! What is deleted of one section. Each range stands with the bytes that are deleted before it, so that an offset is found by halving.
 
-ghost use Rattle.std.specs.Prelude.{◌≡◌, ◌≤◌, ◌++◌, ℕ, List, IfOk, OnErr, OnOk, length, nat_lt, sum_by};
+ghost use Rattle.std.specs.Prelude.{◌≡◌, ◌≤◌, ◌==◌, ◌++◌, ℕ, List, IfOk, OnErr, OnOk, length, nat_lt, sum_by};
 ghost use Rattle.std.specs.List.{prefix_len};
 ghost use Rattle.std.specs.Option.{option_copied};
 ghost use Rattle.lk_relax.specs.Deletions.{AreBoth, AreDeletions, bytes_before, mapped, mapped_by};
@@ -57,6 +57,24 @@ impl SectionRelaxDeltas {
         let ranges = sorted_ranges(alloc, self.deltas.as_slice(), additional)?;
         self.deltas = deltas_of(alloc, ranges.as_slice())?;
         Ok(())
+    }
+
+    /// Whether there are no ranges.
+    pub fn is_empty(&self) -> bool
+        ensures { result ≡ (length self.now == 0) }
+    {
+        self.deltas.is_empty()
+    }
+
+    /// The ranges, in a list of their own.
+    pub fn ranges(&self, alloc: Global) -> Result<Vec<(u64, u64)>, AllocError>
+        ensures { IfOk result (λ ranges. ranges.items ≡ self.now) }
+    {
+        let mut ranges = Vec::with_capacity(alloc, self.deltas.len())?;
+        for delta in &self.deltas {
+            ranges.push(delta.range)?;
+        }
+        Ok(ranges)
     }
 
     /// The ranges, each with the bytes that are deleted before it.

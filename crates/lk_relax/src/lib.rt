@@ -8,7 +8,7 @@ mod deltas;
 pub mod laws;
 mod shards;
 
-pub use crate::candidates::{Judge, Outcome, Scan, scan_candidates};
+pub use crate::candidates::{Judge, Outcome, Scan, first_past, scan_candidates};
 pub use crate::delta_map::RelaxDeltaMap;
 pub use crate::deltas::{SectionRelaxDeltas, opt_input_to_output};
 pub use crate::shards::split_ordered_symbol_ranges;

@@ -7,3 +7,19 @@ mod Staging
 mod ReadBack
 mod Shrinking
 mod FirstScan
+mod Emptied
+mod Keeping
+mod StillParts
+mod Stopping
+mod PastSites
+mod FirstPlaced
+pub mod Deleting
+pub mod Finding
+pub mod Falling
+pub mod Passing
+pub mod Anew
+pub mod Turning
+pub mod Ending
+pub mod Beginning
+pub mod Fitted
+pub mod FirstLooks

@@ -4,26 +4,28 @@ use Rattle.std.specs.Prelude.{if◌then◌else◌, option_and_then, slice_get}
 use Rattle.std.specs.List.{cons_option, filter_map, find}
 use Rattle.lk_link.specs.declared.ids.FileId.{FileId}
 use Rattle.lk_link.specs.declared.section.InputSection.{InputSection}
-use Rattle.lk_link.specs.Inputs.{Input, NumberedFile, inputs_from, numbered_files}
+use Rattle.lk_link.specs.declared.link.LinkInput.{LinkInput}
+use Rattle.lk_link.specs.Inputs.{Input, NumberedFile, all_inputs, inputs_from, numbered_files}
 use Rattle.lk_link.specs.Symbols.{file_number}
 use Rattle.lk_link.proofs.Elements.{map_in}
 use Rattle.lk_link.proofs.InputLemmas.{file_stands}
 use Rattle.lk_reach.proofs.Numbered.{file_of_input}
 use Rattle.lk_relax.specs.Candidates.{ranges_in}
 use Rattle.lk_relax.specs.DeltaMaps.{deltas_at}
+use Rattle.lk_relaxing.specs.LinkDeletions.{deleted_of}
 use Rattle.lk_relaxing.specs.Stages.{DeletionsAreRead, deletions_by, entry_of, file_entries}
 
-abbrev Entry : Type 0
+abbrev pub Entry : Type 0
 Entry = ℕ × List (ℕ × ℕ)
 
 abbrev is_for : ℕ → Entry → Bool
 is_for i e = e.0 == i
 
 -- the entry of a section, by its ranges
-abbrev by_ranges : ℕ → List (ℕ × ℕ) → Bool → Option Entry
+abbrev pub by_ranges : ℕ → List (ℕ × ℕ) → Bool → Option Entry
 by_ranges i ranges none = if none then None else Some (i, ranges)
 
-abbrev input : FileId → ℕ → InputSection → Input
+abbrev pub input : FileId → ℕ → InputSection → Input
 input id i s = record { file = id; index = i; section = s }
 
 -- sections behind an index have no entry for it
@@ -85,8 +87,10 @@ entry_tells i [] = refl
 entry_tells i (x ∷ xs) =
     ap (λ b. ranges_in (option_map (λ (e : Entry). e.1) (by_ranges i (x ∷ xs) b))) (ne_eqb (suc (length xs)) 0 (λ same. absurd (omega (arith, same))))
 
-pub deletions_are_read : DeletionsAreRead
-deletions_are_read link r k x there =
+-- what stands for a section is its entry, if it has one
+pub entries_are_read : (link : LinkInput) (r : Input → List (ℕ × ℕ)) (k : ℕ) (x : Input) → slice_get (all_inputs link.groups) k ≡ Some x
+    → deleted_of link.groups (deletions_by link r) x.file x.index ≡ option_map (λ (e : Entry). e.1) (entry_of r x)
+entries_are_read link r k x there =
     let f = file_of_input link.groups k x there in
     let numbered : NumberedFile = record { id = x.file; file = f.0 } in
     let stands : slice_get (deletions_by link r) (file_number link.groups x.file) ≡ Some (file_entries r numbered)
@@ -94,6 +98,7 @@ deletions_are_read link r k x there =
     let number : 0 + x.index ≡ x.index = omega arith in
     let found : find (is_for x.index) (file_entries r numbered) ≡ entry_of r x
     = subst (λ (n : ℕ). find (is_for n) (file_entries r numbered) ≡ entry_of r (input x.file n x.section)) number (entry_found r x.file 0 x.index f.0.sections x.section f.2) in
-    ap (λ o. ranges_in (option_and_then (λ (es : List Entry). deltas_at es x.index) o)) stands
-    ∙ ap (λ o. ranges_in (option_map (λ (e : Entry). e.1) o)) found
-    ∙ entry_tells x.index (r x)
+    ap (option_and_then (λ (es : List Entry). deltas_at es x.index)) stands ∙ ap (option_map (λ (e : Entry). e.1)) found
+
+pub deletions_are_read : DeletionsAreRead
+deletions_are_read link r k x there = ap ranges_in (entries_are_read link r k x there) ∙ entry_tells x.index (r x)

@@ -24,7 +24,7 @@ use Rattle.lk_relaxing.specs.LinkDeletions.{Deletions}
 use Rattle.lk_relaxing.specs.Scan.{CanBeScanned, candidates_of, ranges_of}
 
 -- what is regular isn't left out
-loaded : (s : InputSlot) → is_regular s ≡ true → is_discarded s ≡ false
+pub loaded : (s : InputSlot) → is_regular s ≡ true → is_discarded s ≡ false
 loaded slot.Discard h = absurd (cc)
 loaded slot.Unloaded h = refl
 loaded slot.MustLoad h = refl

@@ -1,21 +1,16 @@
 -- What a pass makes of a section.
-use Rattle.std.proofs.Common.{◌≡◌, ◌≤◌, ℕ, Bool, true, false, List, Option, Some, None, refl, sym, ap, subst, ◌∙◌, arith}
+use Rattle.std.proofs.Common.{◌≡◌, ◌≤◌, ℕ, Bool, true, false, List, sym, ap, subst, ◌∙◌, arith}
 use Rattle.std.specs.Prelude.{if◌then◌else◌}
 use Rattle.lk_link.specs.declared.relocation.RelaxCandidate.{RelaxCandidate}
 use Rattle.lk_relax.specs.declared.candidates.Outcome.{Outcome}
-use Rattle.lk_relax.specs.Candidates.{AreCandidates, AreOf, picked, ranges_in, shrunk}
-use Rattle.lk_relax.specs.Deletions.{mapped, mapped_by}
+use Rattle.lk_relax.specs.Candidates.{AreCandidates, AreOf, picked, shrunk}
+use Rattle.lk_relax.specs.Deletions.{mapped}
 use Rattle.lk_relax.specs.Laws.{OffsetsOnlyFall, PickedAreNew, ShrunkAreOf}
 use Rattle.lk_relaxing.specs.LinkDeletions.{Deletions, deleted_of, size_after}
 use Rattle.lk_relaxing.specs.Scan.{ranges_of, told}
 use Rattle.lk_relaxing.specs.Stages.{PassesShrink, is_among, link_of, ranges_behind, standing_at}
+use Rattle.lk_relaxing.proofs.Emptied.{mapped_in}
 use Rattle.lk_relaxing.proofs.ReadBack.{deletions_are_read}
-
--- no ranges are as none
-mapped_in : (o : Option (List (ℕ × ℕ))) (n : ℕ) → mapped_by o n ≡ mapped (ranges_in o) n
-unfolding mapped
-mapped_in None n = omega arith
-mapped_in (Some ranges) n = refl
 
 -- ranges that a pass leaves of a section, by what was deleted before
 record AreLeft (old : List (ℕ × ℕ)) (cs : List RelaxCandidate) (size : ℕ) (new : List (ℕ × ℕ)) : Type 0 where

@@ -1,6 +1,13 @@
 pub mod LinkDeletions
-pub mod Positions
+pub mod PassWords
 pub mod PositionWords
+pub mod Positions
+pub mod RelaxationWords
+pub mod Relaxed
+pub mod RelaxedLaws
 pub mod Scan
 pub mod ScanWords
+pub mod Sites
 pub mod Stages
+pub mod Stopping
+pub mod Texts

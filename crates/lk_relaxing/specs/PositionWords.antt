@@ -1,5 +1,5 @@
 -- What the code goes by: marks and a table of places, and the room behind them. Contracts of private functions speak of these.
-use Rattle.std.specs.Prelude.{◌≡◌, ℕ, ◌+◌, ◌<◌, ◌≤◌, ◌^◌, Bool, false, if◌then◌else◌, List, Option, Some, None, option_and_then, option_map, slice_get}
+use Rattle.std.specs.Prelude.{◌≡◌, ℕ, ◌+◌, ◌<◌, ◌≤◌, ◌^◌, Bool, false, if◌then◌else◌, List, [], Option, Some, None, option_and_then, option_map, slice_get}
 use Rattle.std.specs.List.{slice_index_or}
 use Rattle.lk_link.specs.declared.file.InputFile.{InputFile}
 use Rattle.lk_link.specs.declared.ids.FileId.{FileId}
@@ -10,11 +10,13 @@ use Rattle.lk_link.specs.Files.{file_in}
 use Rattle.lk_link.specs.InputSlots.{is_merge}
 use Rattle.lk_link.specs.Marks.{is_marked}
 use Rattle.lk_expressions.specs.declared.positions.SymbolPosition.{SymbolPosition}
+use Rattle.lk_expressions.specs.Named.{names_no_symbol}
 use Rattle.lk_expressions.specs.Surroundings.{flat}
 use Rattle.lk_relax.specs.Deletions.{mapped_by}
 use Rattle.lk_relax.specs.DeltaMaps.{deltas_at}
+use Rattle.lk_sizes.specs.Owners.{Filling}
 use Rattle.lk_relaxing.specs.LinkDeletions.{Deletions, size_after}
-use Rattle.lk_relaxing.specs.Positions.{has_position, position_in}
+use Rattle.lk_relaxing.specs.Positions.{has_position, position_in, section_positions, symbol_positions}
 
 -- the position of a section with a number over all files, by marks and a table of the sections' places in parts
 abbrev pub section_position_in : List Bool → List ℕ → ℕ → InputSection → Option (ℕ × ℕ)
@@ -45,3 +47,9 @@ abbrev pub HasRoom : Option (List (ℕ × List (ℕ × ℕ))) → List (Option (
 HasRoom entries positions first (at.Section i offset) = (p : ℕ × ℕ) → flat (slice_get positions (first + i)) ≡ Some p
     → (size : ℕ) × (offset ≤ size) × (p.1 + mapped_by (deleted_in entries i) size < 2 ^ 64)
 HasRoom entries positions first _ = Unit {0}
+
+-- the positions of symbols in a filling where nothing is deleted, if an expression of the walk names a symbol; else none is asked for
+abbrev pub asked_positions : Filling → List (Option SymbolPosition)
+asked_positions filling =
+    let link = filling.content.link in
+    if names_no_symbol link.plan then [] else symbol_positions link.groups [] (section_positions filling)

@@ -28,8 +28,8 @@ pub fn deleted_of<'a>(
     map_of(link, deltas, file)?.get(index as u32)
 }
 
-/// What is deleted of the sections of a file, if there is an entry for it.
-pub(crate) fn map_of<'a>(
+/// What is deleted of the sections of a file, if there is an entry for it. Takes constant time.
+pub fn map_of<'a>(
     link: &LinkInput,
     deltas: &'a [RelaxDeltaMap],
     file: FileId,

@@ -233,8 +233,8 @@ pub(crate) fn position_at(
     }
 }
 
-/// What is deleted of a section by its index, in a file of which this is deleted.
-fn deleted_in(entries: Option<&RelaxDeltaMap>, index: u32) -> Option<&SectionRelaxDeltas>
+/// What is deleted of a section by its index, in a file of which this is deleted. Takes logarithmic time.
+pub fn deleted_in(entries: Option<&RelaxDeltaMap>, index: u32) -> Option<&SectionRelaxDeltas>
     ensures { option_copied result ≡ deleted_in (option_copied entries.entry) index }
 {
     entries?.get(index)

@@ -21,23 +21,23 @@ use lk_link::{FileId, InputSection, LinkInput, PartId};
 use lk_relax::{RelaxDeltaMap, SectionRelaxDeltas, laws, scan_candidates};
 use std::alloc::{AllocError, Global};
 
-/// How all stands before a pass.
+/// How all stands before a pass, or behind the last.
 #[derive(Clone, Copy)]
-struct Before<'a> {
-    link: &'a LinkInput,
-    live: &'a Live,
+pub(crate) struct Before<'a> {
+    pub(crate) link: &'a LinkInput,
+    pub(crate) live: &'a Live,
     /// The positions of input sections, by number.
-    sections: &'a [Option<(PartId, u64)>],
-    symbols: &'a SymbolPositions,
-    parts: &'a [OutputRecordLayout],
+    pub(crate) sections: &'a [Option<(PartId, u64)>],
+    pub(crate) symbols: &'a SymbolPositions,
+    pub(crate) parts: &'a [OutputRecordLayout],
     /// What is deleted of the sections of each file, by the file's number.
-    deltas: &'a [RelaxDeltaMap],
+    pub(crate) deltas: &'a [RelaxDeltaMap],
 }
 
 /// For each of these sections of files what more is to be deleted of it, and by how many bytes the nearest candidate misses that doesn't
 /// go, if one does. All goes by the addresses before the pass: by the positions of sections and symbols, the records of the parts, and
-/// what is deleted. Takes time by the candidates of these sections, logarithmic in the symbols for each (libwild:
-/// `relaxation_scan_pass`).
+/// what is deleted. Takes time by the candidates of these sections, for each logarithmic in the files, and in what is deleted of its section
+/// (libwild: `relaxation_scan_pass`).
 pub fn relaxation_scan_pass(
     alloc: Global,
     link: &LinkInput,
@@ -96,7 +96,7 @@ fn scan_section(
 }
 
 /// What tells of the candidates of a section.
-fn judge_of<'a>(before: Before<'a>, file: FileId, index: u32) -> SectionJudge<'a>
+pub(crate) fn judge_of<'a>(before: Before<'a>, file: FileId, index: u32) -> SectionJudge<'a>
     requires good { IsWellFormed before.link.now }
     requires there { IsSome (file_in before.link.now.groups file) }
     ensures tells { (c : RelaxCandidate) → judged result c ≡ told (standing_of before.entry) file index c }
@@ -130,7 +130,7 @@ fn first_symbol(link: &LinkInput, file: FileId) -> u32
 }
 
 /// The candidates of a section of a file.
-fn candidates_of(link: &LinkInput, file: FileId, index: u32) -> &[RelaxCandidate]
+pub(crate) fn candidates_of(link: &LinkInput, file: FileId, index: u32) -> &[RelaxCandidate]
     ensures candidates { result.now ≡ candidates_of link.now.groups file index }
     ensures small { (section : InputSection) → option_and_then (λ f. slice_get f.sections index) (file_in link.now.groups file) ≡ Some section
         → section.size < 2 ^ 64 }
@@ -149,7 +149,7 @@ fn section_of(link: &LinkInput, file: FileId, index: u32) -> Option<&InputSectio
 }
 
 /// The candidates of a section, whose size has 64 bits.
-fn relax_of(section: &InputSection) -> &[RelaxCandidate]
+pub(crate) fn relax_of(section: &InputSection) -> &[RelaxCandidate]
     ensures candidates { result.now ≡ section.now.relax }
     ensures small { section.now.size < 2 ^ 64 }
 {

@@ -34,12 +34,12 @@ told_layout law from before after bytes link (Ok layout) answer holds described 
     record {
       bytes = bytes;
       holds = holds;
-      made = made_of small64_machine link sound.0 sound.1 sound.2;
+      made = made_of small64_machine link sound.0 sound.1;
       described = described;
       machine = refl;
       layout = layout;
       defined = defined;
-      sound = sound.3;
+      sound = sound.2;
       written = subst (Takes before after) (ap (λ (a : Answer). a.text) is) written;
     }
 told_layout law from before after bytes link (Err e) answer holds described defined is status written =
@@ -70,12 +70,12 @@ told_summary : SmallLayoutsAreSound → (seed size : ℕ) (before after : SinkSt
 told_summary law seed size before after (Ok layout) answer defined is status written =
     let sound = law.0 small64_machine (generated_link seed size) layout law.1 defined in
     record {
-      made = made_of small64_machine (generated_link seed size) sound.0 sound.1 sound.2;
+      made = made_of small64_machine (generated_link seed size) sound.0 sound.1;
       generated = refl;
       machine = refl;
       layout = layout;
       defined = defined;
-      sound = sound.3;
+      sound = sound.2;
       written = subst (Takes before after) (ap (λ (a : Answer). a.text) is) written;
     }
 told_summary law seed size before after (Err e) answer defined is status written =

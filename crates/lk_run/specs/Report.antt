@@ -1,6 +1,6 @@
 -- The report: the lines that tell where everything of a link stands.
 use Rattle.std.specs.Prelude.{ℕ, suc, ◌+◌, ◌*◌, ◌%◌, ◌^◌, ◌==◌, ◌&&◌, ◌||◌, not, nat_lt, Bool, false, if◌then◌else◌, List, [], ◌∷◌, ◌++◌, Option, Some}
-use Rattle.std.specs.Prelude.{None, Result, Ok, Err, codes, length, option_map, slice_get, slice_index, slice_range}
+use Rattle.std.specs.Prelude.{None, Result, Ok, Err, codes, length, option_map, slice_get, slice_range}
 use Rattle.std.specs.List.{concat, flat_map, list_any, slice_index_or}
 use Rattle.std.specs.Fmt.{decimal, digits}
 use Rattle.lk_link.specs.declared.ids.FileId.{FileId}
@@ -14,7 +14,7 @@ use Rattle.lk_layout.specs.LayoutRecord.{LayoutRecord}
 use Rattle.lk_values.specs.declared.resolution.EntryFault.{EntryFault}
 use Rattle.lk_values.specs.declared.resolution.EntryFault.TheVariants.{NotAnAddress, NotLoaded}
 use Rattle.lk_link.specs.declared.resolution.Resolution.{Resolution}
-use Rattle.lk_layout.specs.Layouts.{emitted_count, is_told_singleton, resolved_entry, told_live, told_singletons}
+use Rattle.lk_layout.specs.Layouts.{emitted_count, is_told_singleton, resolved_entry, told_live, told_section, told_singletons}
 use Rattle.lk_merge.specs.Addresses.{image_start}
 use Rattle.lk_merge.specs.Hash.{fnv64}
 use Rattle.lk_merge.specs.Image.{all_pieces, image, image_pieces, image_place}
@@ -120,14 +120,13 @@ live_line live = joined (
 abbrev pub live_lines : List LiveSection → List ℕ
 live_lines live = flat_map live_line live
 
--- an input section, told as live at an address
-abbrev pub told_at : Input → ℕ → LiveSection
-told_at x address = record { file = x.file; index = x.index; address = address; size = x.section.size }
+-- an input section, told as live at an address, so many bytes large
+abbrev pub told_at : Input → ℕ → ℕ → LiveSection
+told_at x address size = record { file = x.file; index = x.index; address = address; size = size }
 
 -- what is told of an input section with its number: its line, if it is live
-abbrev pub input_text : LayoutRecord → ℕ × Input → List ℕ
-input_text layout q =
-    if is_marked layout.live_marks q.0 then live_line (told_at q.1 (slice_index layout.section_addresses q.0)) else []
+abbrev pub input_text : LinkInput → LayoutRecord → ℕ × Input → List ℕ
+input_text link layout q = if is_marked layout.live_marks q.0 then live_line (told_section link layout q) else []
 
 -- ---- singletons
 

@@ -5,6 +5,8 @@ ghost use Rattle.std.specs.List.{list_any};
 ghost use Rattle.lk_layout.specs.Layouts.{told_live};
 ghost use Rattle.lk_link.specs.Walks.{input_of};
 ghost use Rattle.lk_link.specs.WellFormed.{IsWellFormed};
+ghost use Rattle.lk_relaxing.specs.LinkDeletions.{size_after};
+ghost use Rattle.lk_sizes.specs.Tables.{IsInput};
 ghost use Rattle.lk_run.specs.declared.line.TheConstants.{ROOM};
 ghost use Rattle.lk_run.specs.Report.{report, address_text, range_text, index_text, section_line, section_text, laid_out_text, section_lines};
 ghost use Rattle.lk_run.specs.Report.{takes_memory, part_line, part_text, told_lines, section_part_lines, part_lines};
@@ -22,6 +24,8 @@ use lk_link::marks::is_marked;
 use lk_link::plan::{PlanSection, PlanSections};
 use lk_link::{InputRef, Resolution};
 use lk_place::{OutputRecordLayout, SegmentLayout};
+use lk_relax::{RelaxDeltaMap, opt_input_to_output};
+use lk_relaxing::deleted_of;
 use std::alloc::{AllocError, Global};
 use std::fmt;
 
@@ -337,7 +341,7 @@ fn write_live(text: &mut String, link: &LinkInput, layout: &Layout<'_>) -> Resul
     write_singles(text, link, layout)
 }
 
-/// The lines of the live sections. Looks at each input section once.
+/// The lines of the live sections. Looks at each input section once, and up what is deleted of each live one.
 fn write_live_sections(
     text: &mut String,
     link: &LinkInput,
@@ -348,7 +352,7 @@ fn write_live_sections(
 {
     let mut number = 0usize;
     for input in link.groups.inputs() {
-        write_input(text, layout, number, input)?;
+        write_input(text, link, layout, number, input)?;
         number += 1;
     }
     Ok(())
@@ -357,17 +361,31 @@ fn write_live_sections(
 /// The line of the input section with this number over all files, if it is live.
 fn write_input(
     text: &mut String,
+    link: &LinkInput,
     layout: &Layout<'_>,
     number: usize,
     input: InputRef<'_>,
 ) -> Result<(), AllocError>
-    ensures { IfOk result (λ _. string_bytes text.new ≡ string_bytes text.old ++ input_text layout.now (number, input_of input.entry)) }
+    requires good { IsWellFormed link.now }
+    requires there { IsInput link.now (input_of input) }
+    ensures { IfOk result (λ _. string_bytes text.new ≡ string_bytes text.old ++ input_text link.now layout.now (number, input_of input.entry)) }
 {
     if is_marked(layout.live_marks(), number) {
         let address = address_at(layout.section_addresses(), number);
-        write_live_section(text, input, address)?;
+        let size = size_left(link, layout.section_deletions(), input);
+        write_live_section(text, input, address, size)?;
     }
     Ok(())
+}
+
+/// The size of an input section without what is deleted of it. Takes logarithmic time in the sections of its file of which something is.
+fn size_left(link: &LinkInput, deltas: &[RelaxDeltaMap], input: InputRef<'_>) -> u64
+    requires good { IsWellFormed link.now }
+    requires there { IsInput link.now (input_of input) }
+    ensures { result ≡ size_after link.now.groups deltas.now (input_of input.entry) }
+{
+    let deleted = deleted_of(link, deltas, input.file, input.index);
+    opt_input_to_output(deleted, input.section.size)
 }
 
 /// The address of the input section with this number, by a table.
@@ -383,12 +401,13 @@ fn write_live_section(
     text: &mut String,
     section: InputRef<'_>,
     address: u64,
+    size: u64,
 ) -> Result<(), AllocError>
-    ensures { IfOk result (λ _. string_bytes text.new ≡ string_bytes text.old ++ live_line (told_at (input_of section.entry) address)) }
+    ensures { IfOk result (λ _. string_bytes text.new ≡ string_bytes text.old ++ live_line (told_at (input_of section.entry) address size)) }
 {
     let mut line = Line::new();
     line.put("\n");
-    line.put_decimal(section.section.size);
+    line.put_decimal(size);
     line.put(" ");
     line.put_hexadecimal(address);
     line.put(" 0x");

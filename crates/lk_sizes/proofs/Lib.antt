@@ -31,6 +31,7 @@ pub mod OwnersLive
 pub mod OwnersOnce
 pub mod Placed
 pub mod RankSteps
+pub mod Resizing
 pub mod SortedFits
 pub mod SortedKeys
 pub mod SortedOnes

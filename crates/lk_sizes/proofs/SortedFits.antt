@@ -78,7 +78,7 @@ part_fits filling p none below =
     )
 
 -- what a live section takes is some of its part's
-takes_some : (filling : Filling) (k : ℕ) (x : Input) → slice_get (live_inputs filling.content.link filling.content.live) k ≡ Some x
+pub takes_some : (filling : Filling) (k : ℕ) (x : Input) → slice_get (live_inputs filling.content.link filling.content.live) k ≡ Some x
     → owner_bytes (part_at filling.content.link.plan.sections x.section.part) (SectionOwner x (size_of filling x)) ≤ part_size filling x.section.part
 takes_some filling k x there =
     let part = part_at filling.content.link.plan.sections x.section.part in

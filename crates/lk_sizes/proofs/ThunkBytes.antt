@@ -182,7 +182,7 @@ blocks_bring filling p h =
 -- ---- sizes
 
 -- what takes bytes of a part, but for blocks
-abbrev rest_size : Filling → ℕ → ℕ
+abbrev pub rest_size : Filling → ℕ → ℕ
 rest_size filling p =
     let link : LinkInput = filling.content.link in
     let live : Live = filling.content.live in
@@ -193,7 +193,7 @@ rest_size filling p =
     + bytes_in link p (sorted_takers filling)
     + bytes_of part (map EntryOwner (table_of link.plan.named (tables_of filling.content) p))
 
-sizes_apart : (filling : Filling) (p : ℕ)
+pub sizes_apart : (filling : Filling) (p : ℕ)
     → part_size filling p ≡ rest_size filling p + bytes_in filling.content.link p (flat_map (thunk_takers filling) (numbered_files filling.content.link.groups))
 sizes_apart filling p =
     let link : LinkInput = filling.content.link in

@@ -48,7 +48,7 @@ moved_bytes size link p xs ys moved = omega (arith, each_bytes xs, each_bytes ys
     each_bytes (z ∷ zs) = omega (arith, sum_by-cons one z zs, bytes_in-append link p (taker_by size z ∷ []) (map (taker_by size) zs), each_bytes zs)
 
 -- what live sections bring: those that stand with their files, and the sorted ones
-live_apart : (size : Input → ℕ) (link : LinkInput) (live : Live) (p : ℕ)
+pub live_apart : (size : Input → ℕ) (link : LinkInput) (live : Live) (p : ℕ)
     → live_size size link live p ≡ bytes_in link p (map (taker_by size) (unsorted_ones link live)) + bytes_in link p (map (taker_by size) (sorted_inputs link live))
 live_apart size link live p =
     let unsorted : List Input = unsorted_ones link live in

@@ -10,6 +10,7 @@ pub mod Owners
 pub mod OwnersRecord
 pub mod PartOwners
 pub mod Ranks
+pub mod Resized
 pub mod Sizing
 pub mod Sorted
 pub mod Tables

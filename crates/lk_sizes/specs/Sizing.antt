@@ -1,5 +1,5 @@
 -- What sizing answers as a whole.
-use Rattle.std.specs.Prelude.{◌≡◌, Some, None, Result, Ok, Err, unwrap_or}
+use Rattle.std.specs.Prelude.{◌≡◌, ℕ, List, Some, None, Result, Ok, Err, unwrap_or}
 use Rattle.lk_tables.specs.DynamicCounters.{AreNumbersAt}
 use Rattle.lk_sizes.specs.declared.error.SizeError.{SizeError}
 use Rattle.lk_sizes.specs.declared.error.SizeError.TheVariants.{NoMemory}
@@ -34,3 +34,7 @@ abbrev pub GivesAdded : Filling → Result OwnersRecord SizeError → Type 0
 GivesAdded filling (Ok owners) = (sum_refusal filling ≡ None) × AreFilled filling owners
 GivesAdded filling (Err NoMemory) = Unit {0}
 GivesAdded filling (Err error) = sum_refusal filling ≡ Some error
+
+-- the same filling, where input sections have these sizes
+abbrev pub with_sizes : Filling → List ℕ → Filling
+with_sizes filling sizes = record filling { sizes = sizes }

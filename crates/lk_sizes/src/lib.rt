@@ -14,6 +14,7 @@ pub mod laws;
 pub mod owners;
 pub mod part_owners;
 mod ranks;
+mod resized;
 pub mod sorted;
 
 pub use addresses::{CommonAddress, LiveSection, OwnerAddresses, owner_addresses};
@@ -28,5 +29,5 @@ pub use lk_tables::{
     PartialLinkSingletons, SymbolCopyInfo, TableTotals, dynamic_table, header_sizes, symbol_sizes,
 };
 pub use owners::{PartContents, PartTotal, content_totals, first_sizes, part_contents};
-pub use part_owners::{PartOwners, add_thunks, part_sizes, plain_owners};
+pub use part_owners::{PartOwners, add_thunks, part_sizes, plain_owners, resize_owners};
 pub use sorted::{InputSortedSection, harvest_and_sort_script_sections};

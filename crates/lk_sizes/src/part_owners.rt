@@ -5,7 +5,7 @@
 //! which sections are emitted, and so which symbols of the prelude are marked late and how many headers there are. Then the
 //! tables are whole, and the sums of all parts are looked at.
 
-ghost use Rattle.std.specs.Prelude.{◌≡◌, IfOk, length, map, option_map};
+ghost use Rattle.std.specs.Prelude.{◌≡◌, ◌≤◌, ℕ, IfOk, length, map, option_map, slice_index, unwrap_or};
 ghost use Rattle.std.specs.Option.{option_map_or};
 ghost use Rattle.lk_link.specs.Marks.{is_marked};
 ghost use Rattle.lk_link.specs.Parts.{all_parts};
@@ -14,17 +14,18 @@ ghost use Rattle.lk_link.specs.WellFormed.{IsWellFormed};
 ghost use Rattle.lk_gc.specs.Reach.{AreLive};
 ghost use Rattle.lk_sizes.specs.Emitted.{is_emitted};
 ghost use Rattle.lk_sizes.specs.Contents.{AreContentTotals, part_contents};
-ghost use Rattle.lk_sizes.specs.Owners.{AreThunkOwners, Filling, all_commons, content_of, in_link, own_sizes, plain_filling, sized_filling, with_thunks, without_thunks};
+ghost use Rattle.lk_sizes.specs.Owners.{AreThunkOwners, Filling, all_commons, content_of, in_link, in_output, own_sizes, plain_filling, sized_filling, with_thunks, without_thunks};
 ghost use Rattle.lk_sizes.specs.PartOwners.{part_sizes};
-ghost use Rattle.lk_sizes.specs.Sizing.{AreFilled, GivesAdded, GivesOwners};
+ghost use Rattle.lk_sizes.specs.Sizing.{AreFilled, GivesAdded, GivesOwners, with_sizes};
 
 use crate::blocks::add_blocks;
 use crate::error::SizeError;
 use crate::header::determine_header_sizes;
 use crate::owners::{
-    PartContents, PartTotal, content_totals, first_sizes, part_contents, sized_totals,
+    PartContents, PartTotal, add_inputs, content_totals, first_sizes, part_contents, sized_totals,
     sizes_of_contents,
 };
+use crate::resized::{contents_fit, less_bytes, resize_sections};
 use crate::sorted::{InputSortedSection, tell_sorted};
 use lk_gc::Live;
 use lk_link::{FileId, LinkInput, List, Platform};
@@ -207,6 +208,40 @@ pub fn add_thunks(
         lens: owners.lens,
         thunks,
         sizes: owners.sizes,
+    })
+}
+
+/// What was found, where input sections have other sizes by their numbers, none of them greater: each part loses what its live sections
+/// lose. Looks at each live section twice, and at each part and each sorted section once.
+pub fn resize_owners(
+    alloc: Global,
+    link: &LinkInput,
+    live: &Live,
+    owners: PartOwners,
+    sizes: &[u64],
+) -> Result<PartOwners, AllocError>
+    requires good { IsWellFormed link.now }
+    requires live { AreLive link.now live.now }
+    requires filled { (filling : Filling) × AreFilled (in_output link.now live.now filling) owners }
+    requires lesser { (k : ℕ) → slice_index sizes.now k ≤ slice_index (unwrap_or owners.sizes (own_sizes link.now)) k }
+    ensures { (filling : Filling) → AreFilled (in_output link.now live.now filling) owners
+        → IfOk result (λ resized. AreFilled (with_sizes (in_output link.now live.now filling) sizes.now) resized) }
+{
+    contents_fit(owners.contents());
+    let before = add_inputs(alloc, link, live, owners.sizes())?;
+    let after = add_inputs(alloc, link, live, Some(sizes))?;
+    let contents = less_bytes(alloc, owners.contents(), &before, &after)?;
+    let sorted = resize_sections(alloc, link, owners.sorted(), sizes)?;
+    let sizes = List::from_vec(Vec::from_slice(alloc, sizes)?);
+    Ok(PartOwners {
+        contents,
+        header: owners.header,
+        numbers: owners.numbers,
+        commons: owners.commons,
+        sorted,
+        lens: owners.lens,
+        thunks: owners.thunks,
+        sizes: Some(sizes),
     })
 }
 

@@ -76,8 +76,8 @@ fn is_late(
         && is_late_place(told, &symbol.at)
 }
 
-/// The flags of a symbol of a file of a kind, late ones included.
-pub(crate) fn late_flags(
+/// The flags of a symbol of a file of a kind, late ones included, by the output sections whose edges are told. Takes constant time.
+pub fn late_flags(
     link: &LinkInput,
     told: &[bool],
     kind: FileKind,

@@ -4,7 +4,7 @@
 //! definition that may be too far away gets the stamp of the block, so that it is taken once however many name it; the set is
 //! sorted when the block is done.
 
-ghost use Rattle.std.specs.Prelude.{◌≡◌, ◌≤◌, ◌<◌, ◌+◌, ◌^◌, ◌==◌, ◌&&◌, ◌||◌, ℕ, Bool, List, [], false, IfOk, OnOk, Some, filter, length, map, position, replicate};
+ghost use Rattle.std.specs.Prelude.{◌≡◌, ◌≤◌, ◌<◌, ◌+◌, ◌^◌, ◌==◌, ◌&&◌, ◌||◌, ℕ, Bool, List, [], true, false, IfOk, OnOk, Some, filter, length, map, position, replicate, slice_index};
 ghost use Rattle.std.specs.List.{enumerate_from, list_any, range_with_len};
 ghost use Rattle.std.specs.List.Sorted.{IsNonDecreasingBy, IsPermutation};
 ghost use Rattle.lk_link.specs.Files.{AreNumbered};
@@ -265,7 +265,17 @@ fn note(
     Ok(())
 }
 
-/// Takes in what an object needs for a symbol of its file.
+/// Whether a definition has the set's stamp already.
+fn is_noted(stamps: &[u32], stamp: u32, definition: SymbolId) -> bool
+    ensures noted { result ≡ true → definition < length stamps.now × (slice_index stamps.now definition == stamp ≡ true) }
+{
+    match stamps.get(definition.as_usize()) {
+        Some(own) => *own == stamp,
+        None => false,
+    }
+}
+
+/// Takes in what an object needs for a symbol of its file. One whose definition is taken in already isn't looked at further.
 fn add_symbol(
     by: &Planner<'_>,
     set: &mut Vec<SymbolId>,
@@ -281,6 +291,9 @@ fn add_symbol(
         → OnOk result (AreNoted stamp (λ d. test d || is_needed_for (planning_of by.now) object d (number, symbol.now)) stamps.new set.new.items) }
 {
     let definition = symbol.def.unwrap_or(number);
+    if is_noted(stamps, stamp, definition) {
+        return Ok(());
+    }
     let wanted = needs(by, object, number, symbol);
     note(set, stamps, stamp, definition, wanted)
 }

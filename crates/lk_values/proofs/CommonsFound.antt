@@ -1,6 +1,6 @@
 -- Commons are found by their symbols in a table that is in the order of these.
 use Rattle.std.proofs.Common.{◌≡◌, ℕ, zero, suc, ◌+◌, ◌<◌, ◌≤◌, ◌==◌, ◌&&◌, Bool, true, false, cond, not, if◌then◌else◌, List, [], ◌∷◌, ◌++◌, length, map, Option, Some, None, refl, sym, ap, ◌∙◌, arith, get_or, inl, inr, ltb}
-use Rattle.std.specs.Prelude.{find}
+use Rattle.std.specs.Prelude.{find, option_map}
 use Rattle.std.specs.List.{enumerate_from, flat_map, position_or_len, slice_get}
 use Rattle.std.specs.List.Sorted.{IsNonDecreasingBy, IsPartitionPoint}
 use Rattle.std.specs.Option.{option_map_or}
@@ -11,12 +11,15 @@ use Rattle.lk_link.specs.declared.flags.ValueFlags.{ValueFlags}
 use Rattle.lk_link.specs.declared.symbol.InputSymbol.{InputSymbol}
 use Rattle.lk_link.specs.declared.symbol.SymbolPlacement.{SymbolPlacement}
 use Rattle.lk_link.specs.declared.symbol.SymbolPlacement.TheVariants as at
+use Rattle.lk_link.specs.FileKinds.{is_internal}
 use Rattle.lk_link.specs.Inputs.{NumberedFile, first_input, numbered_files}
 use Rattle.lk_link.specs.Symbols.{file_number, first_symbol}
 use Rattle.lk_link.proofs.Elements.{flat_map_in, map_at, map_in}
 use Rattle.lk_link.proofs.InputLemmas.{file_stands}
 use Rattle.lk_reach.proofs.Numbered.{file_at}
 use Rattle.lk_link.specs.Symbols.{is_wanted}
+use Rattle.lk_edges.specs.Edges.{Edges, edge_value}
+use Rattle.lk_relaxing.specs.LinkDeletions.{Deletions}
 use Rattle.lk_sizes.specs.declared.addresses.CommonAddress.{CommonAddress}
 use Rattle.lk_sizes.specs.Addresses.{common_addresses, told_common}
 use Rattle.lk_sizes.specs.Owners.{IsCommonIn, all_commons, commons_of, Filling}
@@ -25,7 +28,7 @@ use Rattle.lk_sizes.proofs.Addressing.{same_number}
 use Rattle.lk_sizes.proofs.CommonOnes.{common_at_index, commons_rise}
 use Rattle.lk_link.specs.declared.resolution.Resolution.{Resolution}
 use Rattle.lk_values.specs.Entries.{EntrySetting, told_flags, with_entries}
-use Rattle.lk_values.specs.Resolutions.{Places, entries_of, file_resolutions, has_resolutions, placed_value, places_of, resolution_of}
+use Rattle.lk_values.specs.Resolutions.{Places, entries_of, file_resolutions, has_resolutions, placed_value, places_of, resolution_of, symbol_resolutions, value_of}
 use Rattle.lk_values.specs.Tables.{AreRising, common_in}
 use Rattle.lk_values.proofs.EntriesTaken.{plain_flags}
 
@@ -147,25 +150,25 @@ common_found filling starts p s size h =
 -- ---- the same resolutions by the table
 
 -- what values go by, with commons by the table
-abbrev pub places_with : Filling → List ℕ → Places
-places_with filling starts = record (places_of filling starts) { common = λ p s. common_in (common_addresses filling starts) s }
+abbrev pub places_with : Filling → Deletions → Edges → List ℕ → Places
+places_with filling deletions edges starts = record (places_of filling deletions edges starts) { common = λ p s. common_in (common_addresses filling starts) s }
 
-same_value : (filling : Filling) (starts : List ℕ) (first s : ℕ) (p : SymbolPlacement)
+same_value : (filling : Filling) (deletions : Deletions) (edges : Edges) (starts : List ℕ) (first s : ℕ) (p : SymbolPlacement)
     → ((q size : ℕ) → p ≡ at.Common q size → common_in (common_addresses filling starts) s ≡ common_address filling starts q s)
-    → placed_value (places_with filling starts) first s p ≡ placed_value (places_of filling starts) first s p
-same_value filling starts first s (at.Common q size) h = h q size refl
-same_value filling starts first s (at.Section i offset) h = refl
-same_value filling starts first s (at.Absolute n) h = refl
-same_value filling starts first s at.Undef h = refl
-same_value filling starts first s at.Dynamic h = refl
-same_value filling starts first s at.Undefined h = refl
-same_value filling starts first s at.ForceUndefined h = refl
-same_value filling starts first s (at.SectionStart o) h = refl
-same_value filling starts first s (at.SectionEnd o) h = refl
-same_value filling starts first s (at.SectionGroupEnd o) h = refl
-same_value filling starts first s at.TlsEnd h = refl
-same_value filling starts first s at.LoadBaseAddress h = refl
-same_value filling starts first s (at.Redirect e l provide) h = refl
+    → placed_value (places_with filling deletions edges starts) first s p ≡ placed_value (places_of filling deletions edges starts) first s p
+same_value filling deletions edges starts first s (at.Common q size) h = h q size refl
+same_value filling deletions edges starts first s (at.Section i offset) h = refl
+same_value filling deletions edges starts first s (at.Absolute n) h = refl
+same_value filling deletions edges starts first s at.Undef h = refl
+same_value filling deletions edges starts first s at.Dynamic h = refl
+same_value filling deletions edges starts first s at.Undefined h = refl
+same_value filling deletions edges starts first s at.ForceUndefined h = refl
+same_value filling deletions edges starts first s (at.SectionStart o) h = refl
+same_value filling deletions edges starts first s (at.SectionEnd o) h = refl
+same_value filling deletions edges starts first s (at.SectionGroupEnd o) h = refl
+same_value filling deletions edges starts first s at.TlsEnd h = refl
+same_value filling deletions edges starts first s at.LoadBaseAddress h = refl
+same_value filling deletions edges starts first s (at.Redirect e l provide) h = refl
 
 map_alike : {X Y : Type 0} (g h : ℕ × X → Y) (n : ℕ) (xs : List X) → ((k : ℕ) (x : X) → slice_get xs k ≡ Some x → g (n + k, x) ≡ h (n + k, x)) → map g (enumerate_from n xs) ≡ map h (enumerate_from n xs)
 map_alike g h n [] same = refl
@@ -180,21 +183,22 @@ flat_alike : {X Y : Type 0} (g h : X → List Y) (xs : List X) → ((k : ℕ) (x
 flat_alike g h [] same = refl
 flat_alike g h (x ∷ xs) same = ap (λ ys. ys ++ flat_map g xs) (same 0 x refl) ∙ ap (λ ys. h x ++ ys) (flat_alike g h xs (λ k y there. same (suc k) y there))
 
-one_alike : (filling : Filling) (starts : List ℕ) (f : NumberedFile) (i k : ℕ) (x : InputSymbol) → slice_get (numbered_files filling.content.link.groups) i ≡ Some f
+-- a symbol that is wanted is worth the same
+value_alike : (filling : Filling) (deletions : Deletions) (edges : Edges) (starts : List ℕ) (f : NumberedFile) (i k : ℕ) (x : InputSymbol) → slice_get (numbered_files filling.content.link.groups) i ≡ Some f
     → slice_get f.file.symbols k ≡ Some x
-    → resolution_of (places_with filling starts) (entries_of filling starts) f.file.kind (first_input filling.content.link.groups f.id) (first_symbol filling.content.link.groups f.id + k, x)
-    ≡ resolution_of (places_of filling starts) (entries_of filling starts) f.file.kind (first_input filling.content.link.groups f.id) (first_symbol filling.content.link.groups f.id + k, x)
-one_alike filling starts f i k x at_f at_k =
+    → is_wanted f.file.kind (first_symbol filling.content.link.groups f.id + k) x (told_flags (entries_of filling starts) f.file.kind (first_symbol filling.content.link.groups f.id + k, x)) ≡ true
+    → value_of (places_with filling deletions edges starts) f.file.kind (first_input filling.content.link.groups f.id) (first_symbol filling.content.link.groups f.id + k) x.at
+    ≡ value_of (places_of filling deletions edges starts) f.file.kind (first_input filling.content.link.groups f.id) (first_symbol filling.content.link.groups f.id + k) x.at
+value_alike filling deletions edges starts f i k x at_f at_k wanted =
     let s : ℕ = first_symbol filling.content.link.groups f.id + k in
     let first : ℕ = first_input filling.content.link.groups f.id in
     let by : EntrySetting = entries_of filling starts in
-    let flags : ValueFlags = told_flags by f.file.kind (s, x) in
-    let told : ℕ → Option Resolution = λ n. Some (with_entries by s flags n) in
-    let test : Bool = has_resolutions f.file.kind && is_wanted f.file.kind s x flags in
-    (elim test as (λ b. test ≡ b
-    → (if b then told (placed_value (places_with filling starts) first s x.at) else None) ≡ (if b then told (placed_value (places_of filling starts) first s x.at) else None)) [
-      | true ↦ λ given. ap told (same_value filling starts first s x.at (λ q size placed.
-          let both = and_parts (has_resolutions f.file.kind) (is_wanted f.file.kind s x flags) given in
+    let edge : Option ℕ = edge_value edges x.at in
+    elim (is_internal f.file.kind) as (λ b. is_internal f.file.kind ≡ b
+    → (if b then edge else Some (placed_value (places_with filling deletions edges starts) first s x.at))
+    ≡ (if b then edge else Some (placed_value (places_of filling deletions edges starts) first s x.at))) [
+      | true ↦ λ given. refl
+      | false ↦ λ given. ap (λ (n : ℕ). Some n) (same_value filling deletions edges starts first s x.at (λ q size placed.
           common_found filling starts q s size (record {
             file = f;
             there = (file_at filling.content.link.groups i f at_f).there;
@@ -203,16 +207,35 @@ one_alike filling starts f i k x at_f at_k =
             stands = at_k;
             number = refl;
             placed = placed;
-            wanted = ap (is_wanted f.file.kind s x) (sym (plain_flags by f.file.kind (s, x) both.0)) ∙ both.1;
+            wanted = ap (is_wanted f.file.kind s x) (sym (plain_flags by f.file.kind (s, x) given)) ∙ wanted;
           })))
-      | false ↦ λ given. refl
-    ]) refl
+    ] refl
 
-pub resolutions_alike : (filling : Filling) (starts : List ℕ)
-    → flat_map (file_resolutions (places_with filling starts) (entries_of filling starts)) (numbered_files filling.content.link.groups)
-    ≡ flat_map (file_resolutions (places_of filling starts) (entries_of filling starts)) (numbered_files filling.content.link.groups)
-resolutions_alike filling starts =
+one_alike : (filling : Filling) (deletions : Deletions) (edges : Edges) (starts : List ℕ) (f : NumberedFile) (i k : ℕ) (x : InputSymbol) → slice_get (numbered_files filling.content.link.groups) i ≡ Some f
+    → slice_get f.file.symbols k ≡ Some x
+    → resolution_of (places_with filling deletions edges starts) (entries_of filling starts) f.file.kind (first_input filling.content.link.groups f.id) (first_symbol filling.content.link.groups f.id + k, x)
+    ≡ resolution_of (places_of filling deletions edges starts) (entries_of filling starts) f.file.kind (first_input filling.content.link.groups f.id) (first_symbol filling.content.link.groups f.id + k, x)
+one_alike filling deletions edges starts f i k x at_f at_k =
+    let s : ℕ = first_symbol filling.content.link.groups f.id + k in
+    let first : ℕ = first_input filling.content.link.groups f.id in
     let by : EntrySetting = entries_of filling starts in
-    flat_alike (file_resolutions (places_with filling starts) by) (file_resolutions (places_of filling starts) by) (numbered_files filling.content.link.groups) (λ i f at_f.
+    let flags : ValueFlags = told_flags by f.file.kind (s, x) in
+    let told : Option ℕ → Option Resolution = option_map (with_entries by s flags) in
+    let value : Places → Option ℕ = λ places. value_of places f.file.kind first s x.at in
+    let test : Bool = has_resolutions f.file.kind && is_wanted f.file.kind s x flags in
+    elim test as (λ b. test ≡ b
+    → (if b then told (value (places_with filling deletions edges starts)) else None) ≡ (if b then told (value (places_of filling deletions edges starts)) else None)) [
+      | true ↦ λ given. ap told (value_alike filling deletions edges starts f i k x at_f at_k (and_parts (has_resolutions f.file.kind) (is_wanted f.file.kind s x flags) given).1)
+      | false ↦ λ given. refl
+    ] refl
+
+pub resolutions_alike : (filling : Filling) (deletions : Deletions) (edges : Edges) (starts : List ℕ)
+    → flat_map (file_resolutions (places_with filling deletions edges starts) (entries_of filling starts)) (numbered_files filling.content.link.groups)
+    ≡ symbol_resolutions filling deletions edges starts
+resolutions_alike filling deletions edges starts =
+    let by : EntrySetting = entries_of filling starts in
+    let theirs : Places = places_with filling deletions edges starts in
+    let own : Places = places_of filling deletions edges starts in
+    flat_alike (file_resolutions theirs by) (file_resolutions own by) (numbered_files filling.content.link.groups) (λ i f at_f.
     let one : Places → ℕ × InputSymbol → Option Resolution = λ places. resolution_of places by f.file.kind (first_input filling.content.link.groups f.id) in
-    map_alike (one (places_with filling starts)) (one (places_of filling starts)) (first_symbol filling.content.link.groups f.id) f.file.symbols (λ k x at_k. one_alike filling starts f i k x at_f at_k))
+    map_alike (one theirs) (one own) (first_symbol filling.content.link.groups f.id) f.file.symbols (λ k x at_k. one_alike filling deletions edges starts f i k x at_f at_k))

@@ -1,18 +1,23 @@
 -- The entries of a symbol come at the cursors, which move behind them.
-use Rattle.std.proofs.Common.{◌≡◌, ℕ, ◌+◌, ◌<◌, ◌≤◌, ◌^◌, Bool, true, false, if◌then◌else◌, List, ◌++◌, length, map, Option, Some, None, refl, sym, ap, ◌∙◌, arith}
-use Rattle.std.specs.Prelude.{is_some, option_map, slice_get, slice_index, sum_by}
-use Rattle.std.proofs.lemmas.List.Sums.{sum_by-append}
+use Rattle.std.proofs.Common.{◌≡◌, ◌⊎◌, inl, inr, ℕ, zero, suc, ◌+◌, ◌<◌, ◌≤◌, ◌^◌, ◌&&◌, ◌||◌, ◌==◌, not, Bool, true, false, if◌then◌else◌, List, [], ◌∷◌, ◌++◌, length, map, take, Option, Some, None, refl, sym, ap, ◌∙◌, arith}
+use Rattle.std.specs.Prelude.{bit_and, bit_or, is_some, option_map, slice_get, slice_index, sum_by}
+use Rattle.std.proofs.lemmas.Bool.{and_parts}
+use Rattle.std.proofs.lemmas.Nat.{and_or_apart}
+use Rattle.std.specs.List.{enumerate_from}
+use Rattle.std.proofs.lemmas.List.Sums.{sum_by-append, sum_by-cons}
 use Rattle.lk_link.specs.declared.file.FileKind.{FileKind}
 use Rattle.lk_link.specs.declared.file.FileKind.TheVariants as kind
+use Rattle.lk_link.specs.declared.flags.TheConstants.ValueFlags as flag
 use Rattle.lk_link.specs.declared.flags.ValueFlags.{ValueFlags}
-use Rattle.lk_link.specs.declared.ids.FileId.{FileId}
-use Rattle.lk_link.specs.declared.link.LinkInput.{LinkInput}
 use Rattle.lk_link.specs.declared.plan.NamedParts.{NamedParts}
 use Rattle.lk_link.specs.declared.resolution.Resolution.{Resolution}
 use Rattle.lk_link.specs.declared.symbol.InputSymbol.{InputSymbol}
 use Rattle.lk_link.specs.declared.tables.Allocation.{Allocation}
 use Rattle.lk_link.specs.declared.tables.TableCursors.{TableCursors}
+use Rattle.lk_link.specs.FileKinds.{is_internal, is_not_loaded, is_prelude}
+use Rattle.lk_link.specs.Flags.{has_resolution, resolution, table_entries, wants_table_entry}
 use Rattle.lk_link.specs.Inputs.{NumberedFile}
+use Rattle.lk_link.specs.Symbols.{can_resolve, is_canonical, is_named, is_wanted}
 use Rattle.lk_link.specs.declared.plan.PlanPart.{PlanPart}
 use Rattle.lk_link.specs.PartRules.{table_parts}
 use Rattle.lk_link.specs.Parts.{all_parts, part_at}
@@ -21,74 +26,140 @@ use Rattle.lk_link.proofs.GoodPartFields.{good_part_fields}
 use Rattle.lk_tables.specs.TableLists.{all_lists, table_of}
 use Rattle.lk_tables.proofs.PartLists.{named_parts}
 use Rattle.lk_tables.proofs.ShareSums.{sum_made}
+use Rattle.lk_edges.specs.Edges.{edge_value}
 use Rattle.lk_sizes.specs.Owners.{EntryOwner, Owner, bytes_of, content_owners, owner_bytes, Filling}
 use Rattle.lk_sizes.specs.PartOwners.{EndsFit, tables_of}
-use Rattle.lk_values.specs.OutputContent.{thunked_filling}
-use Rattle.lk_link.specs.TableSizes.{TableSizes, first_taken}
-use Rattle.lk_gc.specs.declared.live.Live.{Live}
-use Rattle.lk_reach.specs.Units.{numbered_symbols}
+use Rattle.lk_link.specs.TableSizes.{AreLawful, first_taken, is_zero}
+use Rattle.lk_reach.specs.Units.{flags_from, numbered_symbols}
 use Rattle.lk_tables.specs.Dynamic.{dynamic_index, dynamic_table}
 use Rattle.lk_tables.specs.DynamicCounters.{AreNumbersAt}
-use Rattle.lk_tables.specs.Late.{flags_at}
+use Rattle.lk_tables.specs.Late.{flags_at, is_late, is_late_place}
 use Rattle.lk_tables.specs.OwnEntries.{own_address, symbols_before_it, taken_by}
-use Rattle.lk_tables.specs.SymbolEntries.{is_resolved}
-use Rattle.lk_tables.specs.SymbolTable.{TableEntry, entry_bytes}
+use Rattle.lk_tables.specs.SymbolEntries.{allocated, is_resolved, symbol_allocation}
+use Rattle.lk_tables.specs.SymbolTable.{TableEntry, entry_bytes, entry_of}
+use Rattle.lk_tables.proofs.BySymbol.{by_number, passes_of, value_of as made_of}
+use Rattle.lk_tables.proofs.TableSums.{sum_passing}
 use Rattle.lk_tables.proofs.OwnLemmas.{cursors_move_on, cursors_reach_entries}
 use Rattle.lk_values.specs.declared.entries.NextEntries.{NextEntries}
 use Rattle.lk_values.specs.Entries.{EntrySetting, entry_in, entry_setting, got_table, plt_table, told_flags, with_entries}
 use Rattle.lk_values.specs.EntryWords.{AreNextAt, IsCursor, TableFits, TablesFit, cursor_behind, cursors_behind, first_cursors, made_at, start_of}
-use Rattle.lk_values.specs.Resolutions.{Places, has_resolutions, placed_value, resolution_of}
+use Rattle.lk_values.specs.Resolutions.{Places, has_resolutions, placed_value, resolution_of, value_of}
+use Rattle.lk_values.proofs.NothingAsked.{none_among, nothing_allocated}
 
 -- ---- flags
 
--- a file whose symbols have resolutions isn't the prelude, so that none is marked late
-pub plain_flags : (by : EntrySetting) (k : FileKind) (q : ℕ × InputSymbol) → has_resolutions k ≡ true → told_flags by k q ≡ flags_at by.live.flags q.0
+-- symbols that the linker doesn't place are marked by what refers to them alone
+pub plain_flags : (by : EntrySetting) (k : FileKind) (q : ℕ × InputSymbol) → is_internal k ≡ false → told_flags by k q ≡ flags_at by.live.flags q.0
 plain_flags by kind.Object q h = refl
 plain_flags by kind.Dynamic q h = refl
-plain_flags by kind.NotLoaded q h = absurd (cc)
+plain_flags by kind.NotLoaded q h = refl
 plain_flags by kind.Prelude q h = absurd (cc)
 plain_flags by kind.SyntheticSymbols q h = absurd (cc)
 plain_flags by kind.LinkerScript q h = absurd (cc)
 
+-- a symbol that is marked late: nothing wanted it before, and with the mark it wants no entry of a table
+pub record IsMarkedLate (by : EntrySetting) (k : FileKind) (q : ℕ × InputSymbol) : Type 0 where
+  pub unwanted : is_resolved by.live k q ≡ false
+  pub bare : wants_table_entry (told_flags by k q).0 ≡ false
+
+bare_mark : (flags : ℕ) → has_resolution flags ≡ false → wants_table_entry (bit_or flags flag.DIRECT.0) ≡ false
+bare_mark flags none =
+    let entries : bit_and flags table_entries ≡ 0 = none_among flags resolution table_entries refl (is_zero (bit_and flags resolution) none) in
+    ap (λ n. not (n == 0)) (and_or_apart table_entries flags flag.DIRECT.0 refl ∙ entries)
+
+not_true : (b : Bool) → not b ≡ true → b ≡ false
+not_true true h = cc
+not_true false h = refl
+
+not_all : (a c : Bool) → (a && false && c) ≡ false
+not_all true c = refl
+not_all false c = refl
+
+-- any other has the flags that were found for it
+pub told_by : (by : EntrySetting) (k : FileKind) (q : ℕ × InputSymbol) → (told_flags by k q ≡ flags_at by.live.flags q.0) ⊎ IsMarkedLate by k q
+told_by by k q =
+    let own : ValueFlags = flags_at by.live.flags q.0 in
+    let marked : ValueFlags = flags_from (bit_or own.0 flag.DIRECT.0) in
+    let late : Bool = is_late by.link by.told k q.0 q.1 own in
+    let unasked : Bool = is_prelude k && is_named q.1 && is_canonical q.0 q.1 && not (has_resolution own.0) in
+    elim late as (λ b. late ≡ b → ((if b then marked else own) ≡ own) ⊎ IsMarkedLate by k q) [
+      | true ↦ λ h.
+          let whole = and_parts (unasked && not by.link.options.strip_all) (is_late_place by.told q.1.at) h in
+          let there = and_parts unasked (not by.link.options.strip_all) whole.0 in
+          let last = and_parts (is_prelude k && is_named q.1 && is_canonical q.0 q.1) (not (has_resolution own.0)) there.0 in
+          let none : has_resolution own.0 ≡ false = not_true (has_resolution own.0) last.1 in
+          inr (record {
+            unwanted = ap (λ b. is_canonical q.0 q.1 && b && can_resolve k q.1) none ∙ not_all (is_canonical q.0 q.1) (can_resolve k q.1);
+            bare = ap (λ b. wants_table_entry (if b then marked else own).0) h ∙ bare_mark own.0 none;
+          })
+      | false ↦ λ h. inl refl
+    ] refl
+
+-- one that is wanted with the flags that are found is so with those that are told
+pub wanted_plain : (by : EntrySetting) (k : FileKind) (q : ℕ × InputSymbol) → is_resolved by.live k q ≡ true → is_wanted k q.0 q.1 (told_flags by k q) ≡ true
+wanted_plain by k q resolved = elim (told_by by k q) [
+  | inl plain ↦ ap (is_wanted k q.0 q.1) plain ∙ resolved
+  | inr late ↦ absurd (let no : is_resolved by.live k q ≡ false = late.unwanted in cc)
+]
+
 -- ---- resolutions
 
--- the resolution of a symbol, if it has one
-abbrev pub with_own : Places → EntrySetting → ℕ → ℕ × InputSymbol → Resolution
-with_own places by first q = with_entries by q.0 (flags_at by.live.flags q.0) (placed_value places first q.0 q.1.at)
+-- what a symbol is worth, with its entries
+abbrev pub with_own : Places → EntrySetting → FileKind → ℕ → ℕ × InputSymbol → Option Resolution
+with_own places by k first q = option_map (with_entries by q.0 (told_flags by k q)) (value_of places k first q.0 q.1.at)
 
--- what isn't wanted has none
-pub no_resolution : (places : Places) (by : EntrySetting) (k : FileKind) (first : ℕ) (q : ℕ × InputSymbol) → is_resolved by.live k q ≡ false → resolution_of places by k first q ≡ None
-no_resolution places by kind.Object first q h = ap (λ b. if b then Some (with_own places by first q) else None) h
-no_resolution places by kind.Dynamic first q h = ap (λ b. if b then Some (with_own places by first q) else None) h
-no_resolution places by kind.NotLoaded first q h = refl
-no_resolution places by kind.Prelude first q h = refl
-no_resolution places by kind.SyntheticSymbols first q h = refl
-no_resolution places by kind.LinkerScript first q h = refl
+-- what is wanted stands in a file that has resolutions
+wanted_has : (k : FileKind) (s : ℕ) (x : InputSymbol) (flags : ValueFlags) → is_wanted k s x flags ≡ true → has_resolutions k ≡ true
+wanted_has k s x flags h =
+    let may = and_parts (is_canonical s x && has_resolution flags.0) (can_resolve k x) h in
+    (and_parts (not (is_not_loaded k)) (is_named x || not (is_internal k)) may.1).0
 
--- nor has what stands in a file without resolutions
-pub none_there : (places : Places) (by : EntrySetting) (k : FileKind) (first : ℕ) (q : ℕ × InputSymbol) → has_resolutions k ≡ false → resolution_of places by k first q ≡ None
-none_there places by kind.Object first q h = absurd (cc)
-none_there places by kind.Dynamic first q h = absurd (cc)
-none_there places by kind.NotLoaded first q h = refl
-none_there places by kind.Prelude first q h = refl
-none_there places by kind.SyntheticSymbols first q h = refl
-none_there places by kind.LinkerScript first q h = refl
+-- what is wanted has a resolution, if it is worth anything
+pub has_own : (places : Places) (by : EntrySetting) (k : FileKind) (first : ℕ) (q : ℕ × InputSymbol) → is_wanted k q.0 q.1 (told_flags by k q) ≡ true
+    → resolution_of places by k first q ≡ with_own places by k first q
+has_own places by k first q wanted =
+    ap (λ b. if b && is_wanted k q.0 q.1 (told_flags by k q) then with_own places by k first q else None) (wanted_has k q.0 q.1 (told_flags by k q) wanted)
+    ∙ ap (λ b. if b then with_own places by k first q else None) wanted
 
--- what else is wanted has one
-pub has_own : (places : Places) (by : EntrySetting) (k : FileKind) (first : ℕ) (q : ℕ × InputSymbol) → has_resolutions k ≡ true → is_resolved by.live k q ≡ true
-    → resolution_of places by k first q ≡ Some (with_own places by first q)
-has_own places by kind.Object first q has h = ap (λ b. if b then Some (with_own places by first q) else None) h
-has_own places by kind.Dynamic first q has h = ap (λ b. if b then Some (with_own places by first q) else None) h
-has_own places by kind.NotLoaded first q has h = absurd (cc)
-has_own places by kind.Prelude first q has h = absurd (cc)
-has_own places by kind.SyntheticSymbols first q has h = absurd (cc)
-has_own places by kind.LinkerScript first q has h = absurd (cc)
+-- what isn't has none
+pub no_resolution : (places : Places) (by : EntrySetting) (k : FileKind) (first : ℕ) (q : ℕ × InputSymbol) → is_wanted k q.0 q.1 (told_flags by k q) ≡ false
+    → resolution_of places by k first q ≡ None
+no_resolution places by k first q unwanted =
+    ap (λ b. if has_resolutions k && b then with_own places by k first q else None) unwanted
+    ∙ (elim (has_resolutions k) as (λ b. (if b && false then with_own places by k first q else None) ≡ None) [
+      | true ↦ refl
+      | false ↦ refl
+    ])
 
--- its value is the value of where it is placed
-pub own_value : (places : Places) (by : EntrySetting) (k : FileKind) (first : ℕ) (q : ℕ × InputSymbol) → has_resolutions k ≡ true → is_resolved by.live k q ≡ true
+-- what a resolution is
+pub record IsOwn (places : Places) (by : EntrySetting) (k : FileKind) (first : ℕ) (q : ℕ × InputSymbol) (r : Resolution) : Type 0 where
+  pub wanted : is_wanted k q.0 q.1 (told_flags by k q) ≡ true
+  pub value : ℕ
+  pub worth : value_of places k first q.0 q.1.at ≡ Some value
+  pub is : r ≡ with_entries by q.0 (told_flags by k q) value
+
+worth_of : (places : Places) (by : EntrySetting) (k : FileKind) (first : ℕ) (q : ℕ × InputSymbol) (r : Resolution) (o : Option ℕ) → value_of places k first q.0 q.1.at ≡ o
+    → is_wanted k q.0 q.1 (told_flags by k q) ≡ true → option_map (with_entries by q.0 (told_flags by k q)) o ≡ Some r → IsOwn places by k first q r
+worth_of places by k first q r None worth wanted h = absurd (cc)
+worth_of places by k first q r (Some n) worth wanted h =
+    let same : r ≡ with_entries by q.0 (told_flags by k q) n = cc in
+    record { wanted = wanted; value = n; worth = worth; is = same }
+
+pub own_one : (places : Places) (by : EntrySetting) (k : FileKind) (first : ℕ) (q : ℕ × InputSymbol) (r : Resolution) → resolution_of places by k first q ≡ Some r → IsOwn places by k first q r
+own_one places by k first q r h =
+    elim (is_wanted k q.0 q.1 (told_flags by k q)) as (λ b. is_wanted k q.0 q.1 (told_flags by k q) ≡ b → IsOwn places by k first q r) [
+      | true ↦ λ wanted. worth_of places by k first q r (value_of places k first q.0 q.1.at) refl wanted (sym (has_own places by k first q wanted) ∙ h)
+      | false ↦ λ wanted. absurd (let nothing : Some r ≡ None = sym h ∙ no_resolution places by k first q wanted in cc)
+    ] refl
+
+-- the value is that of where a symbol is placed, in a file whose symbols the linker doesn't place
+pub own_value : (places : Places) (by : EntrySetting) (k : FileKind) (first : ℕ) (q : ℕ × InputSymbol) → is_internal k ≡ false → is_resolved by.live k q ≡ true
     → option_map (λ r. r.raw_value) (resolution_of places by k first q) ≡ Some (placed_value places first q.0 q.1.at)
 unfolding with_entries
-own_value places by k first q has h = ap (option_map (λ (r : Resolution). r.raw_value)) (has_own places by k first q has h)
+own_value places by k first q external resolved =
+    let told : Option ℕ → Option ℕ = λ o. option_map (λ (r : Resolution). r.raw_value) (option_map (with_entries by q.0 (told_flags by k q)) o) in
+    ap (option_map (λ (r : Resolution). r.raw_value)) (has_own places by k first q (wanted_plain by k q resolved))
+    ∙ ap (λ b. told (if b then edge_value places.edges q.1.at else Some (placed_value places first q.0 q.1.at))) external
 
 -- ---- one table
 
@@ -139,81 +210,214 @@ got_room by s f x is start = (cursors_reach_entries by.sizes.allocation by.link 
 plt_room : (by : EntrySetting) (s : ℕ) (f : NumberedFile) (x : InputSymbol) → IsNumbered by s f x → (start : ℕ) → start + plt_before by s + (own_bytes by s).plt ≤ start + entry_bytes (plt_table by)
 plt_room by s f x is start = (cursors_reach_entries by.sizes.allocation by.link by.live (record { got = start; plt = start }) s f x is.there is.wanted).1.room
 
+-- ---- by the flags that are told
+
+abbrev told_bytes : EntrySetting → FileKind → ℕ × InputSymbol → Allocation
+told_bytes by k q = by.sizes.allocation (told_flags by k q).0
+
+-- a late mark takes nothing
+late_takes : (by : EntrySetting) (k : FileKind) (q : ℕ × InputSymbol) → AreLawful by.sizes → IsMarkedLate by k q → told_bytes by k q ≡ record { got = 0; plt = 0 }
+late_takes by k q lawful late = nothing_allocated by.sizes (told_flags by k q).0 lawful late.bare
+
+-- what takes bytes isn't marked late
+pub asked_before : (by : EntrySetting) (k : FileKind) (q : ℕ × InputSymbol) → AreLawful by.sizes → is_wanted k q.0 q.1 (told_flags by k q) ≡ true
+    → (0 < (told_bytes by k q).got) ⊎ (0 < (told_bytes by k q).plt) → (is_resolved by.live k q ≡ true) × (told_flags by k q ≡ flags_at by.live.flags q.0)
+asked_before by k q lawful wanted some = elim (told_by by k q) [
+  | inl plain ↦ (ap (is_wanted k q.0 q.1) (sym plain) ∙ wanted, plain)
+  | inr late ↦ let none = late_takes by k q lawful late in elim some [
+    | inl got ↦ absurd (omega (arith, got, ap (λ (a : Allocation). a.got) none))
+    | inr plt ↦ absurd (omega (arith, plt, ap (λ (a : Allocation). a.plt) none))
+  ]
+]
+
+-- a symbol that is wanted takes the bytes for the flags that are told
+abbrev taken : EntrySetting → FileKind → ℕ × InputSymbol → Allocation
+taken by k q = symbol_allocation by.sizes.allocation by.live k q
+
+record TakesTold (by : EntrySetting) (k : FileKind) (q : ℕ × InputSymbol) : Type 0 where
+  got : (taken by k q).got ≡ (told_bytes by k q).got
+  plt : (taken by k q).plt ≡ (told_bytes by k q).plt
+
+takes_told : (by : EntrySetting) (k : FileKind) (q : ℕ × InputSymbol) → AreLawful by.sizes → is_wanted k q.0 q.1 (told_flags by k q) ≡ true → TakesTold by k q
+takes_told by k q lawful wanted =
+    let all : Allocation = own_bytes by q.0 in
+    elim (told_by by k q) [
+      | inl plain ↦
+          let resolved : is_resolved by.live k q ≡ true = ap (is_wanted k q.0 q.1) (sym plain) ∙ wanted in
+          record {
+            got = ap (λ b. if b then all.got else 0) resolved ∙ ap (λ (fl : ValueFlags). (by.sizes.allocation fl.0).got) (sym plain);
+            plt = ap (λ b. if b then all.plt else 0) resolved ∙ ap (λ (fl : ValueFlags). (by.sizes.allocation fl.0).plt) (sym plain);
+          }
+      | inr late ↦
+          let none = late_takes by k q lawful late in
+          record {
+            got = ap (λ b. if b then all.got else 0) late.unwanted ∙ sym (ap (λ (a : Allocation). a.got) none);
+            plt = ap (λ b. if b then all.plt else 0) late.unwanted ∙ sym (ap (λ (a : Allocation). a.plt) none);
+          }
+    ]
+
+-- one that isn't wanted takes none
+unwanted_before : (by : EntrySetting) (k : FileKind) (q : ℕ × InputSymbol) → is_wanted k q.0 q.1 (told_flags by k q) ≡ false → is_resolved by.live k q ≡ false
+unwanted_before by k q unwanted = elim (told_by by k q) [
+  | inl plain ↦ ap (is_wanted k q.0 q.1) (sym plain) ∙ unwanted
+  | inr late ↦ late.unwanted
+]
+
+-- ---- room
+
+-- a symbol with its number, that is wanted, where its entries come next
+pub record ComesNext (by : EntrySetting) (s : ℕ) (f : NumberedFile) (x : InputSymbol) (entries : NextEntries) : Type 0 where
+  pub there : slice_get (numbered_symbols by.link.groups) s ≡ Some (f, x)
+  pub wanted : is_wanted f.file.kind s x (told_flags by f.file.kind (s, x)) ≡ true
+  pub lawful : AreLawful by.sizes
+  pub next : AreNextAt by s entries
+
+-- what some symbols take is at most what all do
+first_bytes : {X : Type 0} (f : ℕ × X → ℕ) (o k : ℕ) (xs : List X) → sum_by f (enumerate_from o (take k xs)) ≤ sum_by f (enumerate_from o xs)
+first_bytes f o zero xs = omega arith
+first_bytes f o (suc k) [] = omega arith
+first_bytes f o (suc k) (x ∷ xs) =
+    omega (arith, first_bytes f (o + 1) k xs, sum_by-cons f (o, x) (enumerate_from (o + 1) (take k xs)), sum_by-cons f (o, x) (enumerate_from (o + 1) xs))
+
+-- all take what the table has
+got_within : (by : EntrySetting) (s : ℕ) → got_before by s ≤ entry_bytes (got_table by)
+got_within by s =
+    let all : List (NumberedFile × InputSymbol) = numbered_symbols by.link.groups in
+    let passes : NumberedFile → ℕ × InputSymbol → Bool = λ f. is_resolved by.live f.file.kind in
+    let entry : ℕ × InputSymbol → TableEntry = λ q. entry_of (allocated by.sizes.allocation by.live q).got q in
+    let bytes : entry_bytes (got_table by) ≡ sum_by (λ r. (taken_by by.sizes.allocation by.live r).got) (enumerate_from 0 all)
+    = ap entry_bytes (by_number passes entry by.link) ∙ sum_passing (passes_of passes) (made_of entry) (enumerate_from 0 all) in
+    omega (arith, bytes, first_bytes (λ r. (taken_by by.sizes.allocation by.live r).got) 0 s all)
+
+plt_within : (by : EntrySetting) (s : ℕ) → plt_before by s ≤ entry_bytes (plt_table by)
+plt_within by s =
+    let all : List (NumberedFile × InputSymbol) = numbered_symbols by.link.groups in
+    let passes : NumberedFile → ℕ × InputSymbol → Bool = λ f. is_resolved by.live f.file.kind in
+    let entry : ℕ × InputSymbol → TableEntry = λ q. entry_of (allocated by.sizes.allocation by.live q).plt q in
+    let bytes : entry_bytes (plt_table by) ≡ sum_by (λ r. (taken_by by.sizes.allocation by.live r).plt) (enumerate_from 0 all)
+    = ap entry_bytes (by_number passes entry by.link) ∙ sum_passing (passes_of passes) (made_of entry) (enumerate_from 0 all) in
+    omega (arith, bytes, first_bytes (λ r. (taken_by by.sizes.allocation by.live r).plt) 0 s all)
+
+-- so there is room for nothing at the cursor
+no_room : (named : Option ℕ) (starts : List ℕ) (table : List TableEntry) (cursor bytes before : ℕ) → IsCursor named starts before cursor → TableFits named starts table
+    → before ≤ entry_bytes table → bytes ≡ 0 → is_some named ≡ true → cursor + bytes < 2 ^ 64
+no_room None starts table cursor bytes before at fits within none some = absurd (cc)
+no_room (Some p) starts table cursor bytes before at fits within none some = omega (arith, at p refl, fits p refl, within, none)
+
 -- its entries have room at the cursors
-pub got_fits : (by : EntrySetting) (s : ℕ) (f : NumberedFile) (x : InputSymbol) (next : NextEntries) (flags : ValueFlags) → slice_get (numbered_symbols by.link.groups) s ≡ Some (f, x)
-    → is_resolved by.live f.file.kind (s, x) ≡ true → TablesFit by → AreNextAt by s next → flags ≡ flags_at by.live.flags s
-    → is_some by.link.plan.named.got ≡ true → next.cursors.got + (by.sizes.allocation flags.0).got < 2 ^ 64
-got_fits by s f x next flags there wanted fit at same some =
-    let is : IsNumbered by s f x = record { there = there; wanted = wanted } in
-    let room = room_is by.link.plan.named.got by.starts (got_table by) next.cursors.got (own_bytes by s).got (got_before by s) at.got fit.got (got_room by s f x is) some in
-    omega (arith, room, ap (λ (fl : ValueFlags). (by.sizes.allocation fl.0).got) same)
+pub got_fits : (by : EntrySetting) (s : ℕ) (f : NumberedFile) (x : InputSymbol) (next : NextEntries) → ComesNext by s f x next → TablesFit by
+    → is_some by.link.plan.named.got ≡ true → next.cursors.got + (told_bytes by f.file.kind (s, x)).got < 2 ^ 64
+got_fits by s f x next comes fit some = elim (told_by by f.file.kind (s, x)) [
+  | inl plain ↦
+      let is : IsNumbered by s f x = record { there = comes.there; wanted = ap (is_wanted f.file.kind s x) (sym plain) ∙ comes.wanted } in
+      let room = room_is by.link.plan.named.got by.starts (got_table by) next.cursors.got (own_bytes by s).got (got_before by s) comes.next.got fit.got (got_room by s f x is) some in
+      omega (arith, room, ap (λ (fl : ValueFlags). (by.sizes.allocation fl.0).got) plain)
+  | inr late ↦
+      no_room by.link.plan.named.got by.starts (got_table by) next.cursors.got (told_bytes by f.file.kind (s, x)).got (got_before by s) comes.next.got fit.got (got_within by s)
+      (ap (λ (a : Allocation). a.got) (late_takes by f.file.kind (s, x) comes.lawful late)) some
+]
 
-pub plt_fits : (by : EntrySetting) (s : ℕ) (f : NumberedFile) (x : InputSymbol) (next : NextEntries) (flags : ValueFlags) → slice_get (numbered_symbols by.link.groups) s ≡ Some (f, x)
-    → is_resolved by.live f.file.kind (s, x) ≡ true → TablesFit by → AreNextAt by s next → flags ≡ flags_at by.live.flags s
-    → is_some by.link.plan.named.plt ≡ true → next.cursors.plt + (by.sizes.allocation flags.0).plt < 2 ^ 64
-plt_fits by s f x next flags there wanted fit at same some =
-    let is : IsNumbered by s f x = record { there = there; wanted = wanted } in
-    let room = room_is by.link.plan.named.plt by.starts (plt_table by) next.cursors.plt (own_bytes by s).plt (plt_before by s) at.plt fit.plt (plt_room by s f x is) some in
-    omega (arith, room, ap (λ (fl : ValueFlags). (by.sizes.allocation fl.0).plt) same)
+pub plt_fits : (by : EntrySetting) (s : ℕ) (f : NumberedFile) (x : InputSymbol) (next : NextEntries) → ComesNext by s f x next → TablesFit by
+    → is_some by.link.plan.named.plt ≡ true → next.cursors.plt + (told_bytes by f.file.kind (s, x)).plt < 2 ^ 64
+plt_fits by s f x next comes fit some = elim (told_by by f.file.kind (s, x)) [
+  | inl plain ↦
+      let is : IsNumbered by s f x = record { there = comes.there; wanted = ap (is_wanted f.file.kind s x) (sym plain) ∙ comes.wanted } in
+      let room = room_is by.link.plan.named.plt by.starts (plt_table by) next.cursors.plt (own_bytes by s).plt (plt_before by s) comes.next.plt fit.plt (plt_room by s f x is) some in
+      omega (arith, room, ap (λ (fl : ValueFlags). (by.sizes.allocation fl.0).plt) plain)
+  | inr late ↦
+      no_room by.link.plan.named.plt by.starts (plt_table by) next.cursors.plt (told_bytes by f.file.kind (s, x)).plt (plt_before by s) comes.next.plt fit.plt (plt_within by s)
+      (ap (λ (a : Allocation). a.plt) (late_takes by f.file.kind (s, x) comes.lawful late)) some
+]
 
--- what is made at the cursors is its resolution
-pub made_is : (places : Places) (by : EntrySetting) (first s value : ℕ) (f : NumberedFile) (x : InputSymbol) (next : NextEntries) (flags : ValueFlags) (index : Option ℕ)
-    → slice_get (numbered_symbols by.link.groups) s ≡ Some (f, x) → has_resolutions f.file.kind ≡ true → is_resolved by.live f.file.kind (s, x) ≡ true → AreNextAt by s next
-    → flags ≡ flags_at by.live.flags s → value ≡ placed_value places first s x.at → index ≡ dynamic_index (dynamic_table by.link by.live by.told) s
-    → Some (made_at by.link.plan.named next.cursors (by.sizes.allocation flags.0) flags value index) ≡ resolution_of places by f.file.kind first (s, x)
+-- ---- what is made
+
+no_entry : (named : Option ℕ) (starts : List ℕ) (table : List TableEntry) (s cursor bytes : ℕ) → bytes ≡ 0
+    → (if is_some named then first_taken cursor bytes else None) ≡ entry_in named starts table s bytes
+no_entry None starts table s cursor bytes none = refl
+no_entry (Some p) starts table s cursor bytes none = ap (first_taken cursor) none ∙ sym (ap (first_taken (own_address (slice_index starts p) table s)) none)
+
+got_made : (by : EntrySetting) (s : ℕ) (f : NumberedFile) (x : InputSymbol) (next : NextEntries) → ComesNext by s f x next
+    → (if is_some by.link.plan.named.got then first_taken next.cursors.got (told_bytes by f.file.kind (s, x)).got else None)
+    ≡ entry_in by.link.plan.named.got by.starts (got_table by) s (told_bytes by f.file.kind (s, x)).got
+got_made by s f x next comes =
+    let bytes : ℕ = (told_bytes by f.file.kind (s, x)).got in
+    elim (told_by by f.file.kind (s, x)) [
+      | inl plain ↦
+          let is : IsNumbered by s f x = record { there = comes.there; wanted = ap (is_wanted f.file.kind s x) (sym plain) ∙ comes.wanted } in
+          entry_is by.link.plan.named.got by.starts (got_table by) s next.cursors.got bytes (got_before by s) comes.next.got (got_own by s f x is)
+      | inr late ↦ no_entry by.link.plan.named.got by.starts (got_table by) s next.cursors.got bytes (ap (λ (a : Allocation). a.got) (late_takes by f.file.kind (s, x) comes.lawful late))
+    ]
+
+plt_made : (by : EntrySetting) (s : ℕ) (f : NumberedFile) (x : InputSymbol) (next : NextEntries) → ComesNext by s f x next
+    → (if is_some by.link.plan.named.plt then first_taken next.cursors.plt (told_bytes by f.file.kind (s, x)).plt else None)
+    ≡ entry_in by.link.plan.named.plt by.starts (plt_table by) s (told_bytes by f.file.kind (s, x)).plt
+plt_made by s f x next comes =
+    let bytes : ℕ = (told_bytes by f.file.kind (s, x)).plt in
+    elim (told_by by f.file.kind (s, x)) [
+      | inl plain ↦
+          let is : IsNumbered by s f x = record { there = comes.there; wanted = ap (is_wanted f.file.kind s x) (sym plain) ∙ comes.wanted } in
+          entry_is by.link.plan.named.plt by.starts (plt_table by) s next.cursors.plt bytes (plt_before by s) comes.next.plt (plt_own by s f x is)
+      | inr late ↦ no_entry by.link.plan.named.plt by.starts (plt_table by) s next.cursors.plt bytes (ap (λ (a : Allocation). a.plt) (late_takes by f.file.kind (s, x) comes.lawful late))
+    ]
+
+-- what is made at the cursors is the symbol with its entries
+pub made_is : (by : EntrySetting) (s value : ℕ) (f : NumberedFile) (x : InputSymbol) (next : NextEntries) (flags : ValueFlags) (index : Option ℕ) → ComesNext by s f x next
+    → flags ≡ told_flags by f.file.kind (s, x) → index ≡ dynamic_index (dynamic_table by.link by.live by.told) s
+    → made_at by.link.plan.named next.cursors (by.sizes.allocation flags.0) flags value index ≡ with_entries by s (told_flags by f.file.kind (s, x)) value
 unfolding with_entries
-made_is places by first s value f x next flags index there has wanted at is_flags is_value is_index =
-    let is : IsNumbered by s f x = record { there = there; wanted = wanted } in
+made_is by s value f x next flags index comes is_flags is_index =
     let named : NamedParts = by.link.plan.named in
-    let own : ValueFlags = flags_at by.live.flags s in
-    let placed : ℕ = placed_value places first s x.at in
+    let own : ValueFlags = told_flags by f.file.kind (s, x) in
     let number : Option ℕ = dynamic_index (dynamic_table by.link by.live by.told) s in
-    let bytes : Allocation = own_bytes by s in
-    let got = entry_is named.got by.starts (got_table by) s next.cursors.got bytes.got (got_before by s) at.got (got_own by s f x is) in
-    let plt = entry_is named.plt by.starts (plt_table by) s next.cursors.plt bytes.plt (plt_before by s) at.plt (plt_own by s f x is) in
-    let made : ValueFlags → ℕ → Option ℕ → Option Resolution = λ fl n i. Some (made_at named next.cursors (by.sizes.allocation fl.0) fl n i) in
-    let whole : Option ℕ → Option ℕ → Option Resolution = λ g p. Some (record { raw_value = placed; flags = own; dynamic = number; got = g; plt = p }) in
-    ap (λ (fl : ValueFlags). made fl value index) is_flags ∙ ap (λ (n : ℕ). made own n index) is_value ∙ ap (made own placed) is_index
-    ∙ ap (λ (g : Option ℕ). whole g (if is_some named.plt then first_taken next.cursors.plt bytes.plt else None)) got
-    ∙ ap (whole (entry_in named.got by.starts (got_table by) s bytes.got)) plt
-    ∙ sym (has_own places by f.file.kind first (s, x) has wanted)
+    let bytes : Allocation = told_bytes by f.file.kind (s, x) in
+    let whole : Option ℕ → Option ℕ → Resolution = λ g p. record { raw_value = value; flags = own; dynamic = number; got = g; plt = p } in
+    ap (λ (fl : ValueFlags). made_at named next.cursors (by.sizes.allocation fl.0) fl value index) is_flags
+    ∙ ap (made_at named next.cursors bytes own value) is_index
+    ∙ ap (λ (g : Option ℕ). whole g (if is_some named.plt then first_taken next.cursors.plt bytes.plt else None)) (got_made by s f x next comes)
+    ∙ ap (whole (entry_in named.got by.starts (got_table by) s bytes.got)) (plt_made by s f x next comes)
 
 -- ---- the next one
 
-more : (by : EntrySetting) (s : ℕ) (f : NumberedFile) (x : InputSymbol) → slice_get (numbered_symbols by.link.groups) s ≡ Some (f, x)
-    → (got_before by (s + 1) ≡ got_before by s + (taken_by by.sizes.allocation by.live (s, (f, x))).got) × (plt_before by (s + 1) ≡ plt_before by s + (taken_by by.sizes.allocation by.live (s, (f, x))).plt)
-more by s f x there =
+record GoOn (by : EntrySetting) (s : ℕ) (k : FileKind) (x : InputSymbol) : Type 0 where
+  got : got_before by (s + 1) ≡ got_before by s + (taken by k (s, x)).got
+  plt : plt_before by (s + 1) ≡ plt_before by s + (taken by k (s, x)).plt
+
+go_on : (by : EntrySetting) (s : ℕ) (f : NumberedFile) (x : InputSymbol) → slice_get (numbered_symbols by.link.groups) s ≡ Some (f, x) → GoOn by s f.file.kind x
+go_on by s f x there =
     let moved = cursors_move_on by.sizes.allocation by.link by.live (record { got = 0; plt = 0 }) s f x there in
-    let got : 0 + got_before by (s + 1) ≡ 0 + got_before by s + (taken_by by.sizes.allocation by.live (s, (f, x))).got = ap (λ (c : TableCursors). c.got) moved in
-    let plt : 0 + plt_before by (s + 1) ≡ 0 + plt_before by s + (taken_by by.sizes.allocation by.live (s, (f, x))).plt = ap (λ (c : TableCursors). c.plt) moved in
-    (omega (arith, got), omega (arith, plt))
+    let got : 0 + got_before by (s + 1) ≡ 0 + got_before by s + (taken by f.file.kind (s, x)).got = ap (λ (c : TableCursors). c.got) moved in
+    let plt : 0 + plt_before by (s + 1) ≡ 0 + plt_before by s + (taken by f.file.kind (s, x)).plt = ap (λ (c : TableCursors). c.plt) moved in
+    record { got = omega (arith, got); plt = omega (arith, plt) }
 
 -- behind what takes entries
-pub next_taken : (by : EntrySetting) (s : ℕ) (f : NumberedFile) (x : InputSymbol) (old new : NextEntries) (flags : ValueFlags) → slice_get (numbered_symbols by.link.groups) s ≡ Some (f, x)
-    → is_resolved by.live f.file.kind (s, x) ≡ true → AreNextAt by s old → AreNumbersAt by.link by.live by.told (s + 1) new.numbers → flags ≡ flags_at by.live.flags s
+pub next_taken : (by : EntrySetting) (s : ℕ) (f : NumberedFile) (x : InputSymbol) (old new : NextEntries) (flags : ValueFlags) → ComesNext by s f x old
+    → AreNumbersAt by.link by.live by.told (s + 1) new.numbers → flags ≡ told_flags by f.file.kind (s, x)
     → new.cursors ≡ cursors_behind by.link.plan.named old.cursors (by.sizes.allocation flags.0) → AreNextAt by (s + 1) new
-next_taken by s f x old new flags there wanted at numbers is_flags moved =
+next_taken by s f x old new flags comes numbers is_flags moved =
     let named : NamedParts = by.link.plan.named in
-    let bytes : Allocation = own_bytes by s in
+    let bytes : Allocation = told_bytes by f.file.kind (s, x) in
     let on : new.cursors ≡ cursors_behind named old.cursors bytes = moved ∙ ap (λ (fl : ValueFlags). cursors_behind named old.cursors (by.sizes.allocation fl.0)) is_flags in
-    let sums = more by s f x there in
-    let got : got_before by (s + 1) ≡ got_before by s + bytes.got = sums.0 ∙ ap (λ b. got_before by s + (if b then bytes.got else 0)) wanted in
-    let plt : plt_before by (s + 1) ≡ plt_before by s + bytes.plt = sums.1 ∙ ap (λ b. plt_before by s + (if b then bytes.plt else 0)) wanted in
+    let more = go_on by s f x comes.there in
+    let told = takes_told by f.file.kind (s, x) comes.lawful comes.wanted in
     record {
       numbers = numbers;
-      got = cursor_on named.got by.starts (got_before by s) bytes.got (got_before by (s + 1)) old.cursors.got new.cursors.got at.got (ap (λ (c : TableCursors). c.got) on) got;
-      plt = cursor_on named.plt by.starts (plt_before by s) bytes.plt (plt_before by (s + 1)) old.cursors.plt new.cursors.plt at.plt (ap (λ (c : TableCursors). c.plt) on) plt;
+      got = cursor_on named.got by.starts (got_before by s) bytes.got (got_before by (s + 1)) old.cursors.got new.cursors.got comes.next.got (ap (λ (c : TableCursors). c.got) on)
+          (omega (arith, more.got, told.got));
+      plt = cursor_on named.plt by.starts (plt_before by s) bytes.plt (plt_before by (s + 1)) old.cursors.plt new.cursors.plt comes.next.plt (ap (λ (c : TableCursors). c.plt) on)
+          (omega (arith, more.plt, told.plt));
     }
 
 -- behind what takes none
 pub next_kept : (by : EntrySetting) (s : ℕ) (f : NumberedFile) (x : InputSymbol) (old new : NextEntries) → slice_get (numbered_symbols by.link.groups) s ≡ Some (f, x)
-    → is_resolved by.live f.file.kind (s, x) ≡ false → AreNextAt by s old → AreNumbersAt by.link by.live by.told (s + 1) new.numbers → new.cursors ≡ old.cursors → AreNextAt by (s + 1) new
-next_kept by s f x old new there wanted at numbers same =
+    → is_wanted f.file.kind s x (told_flags by f.file.kind (s, x)) ≡ false → AreNextAt by s old → AreNumbersAt by.link by.live by.told (s + 1) new.numbers → new.cursors ≡ old.cursors
+    → AreNextAt by (s + 1) new
+next_kept by s f x old new there unwanted at numbers same =
     let named : NamedParts = by.link.plan.named in
     let bytes : Allocation = own_bytes by s in
-    let sums = more by s f x there in
-    let got : got_before by (s + 1) ≡ got_before by s + 0 = sums.0 ∙ ap (λ b. got_before by s + (if b then bytes.got else 0)) wanted in
-    let plt : plt_before by (s + 1) ≡ plt_before by s + 0 = sums.1 ∙ ap (λ b. plt_before by s + (if b then bytes.plt else 0)) wanted in
+    let resolved : is_resolved by.live f.file.kind (s, x) ≡ false = unwanted_before by f.file.kind (s, x) unwanted in
+    let more = go_on by s f x there in
+    let got : got_before by (s + 1) ≡ got_before by s + 0 = more.got ∙ ap (λ b. got_before by s + (if b then bytes.got else 0)) resolved in
+    let plt : plt_before by (s + 1) ≡ plt_before by s + 0 = more.plt ∙ ap (λ b. plt_before by s + (if b then bytes.plt else 0)) resolved in
     record {
       numbers = numbers;
       got = cursor_stays named.got by.starts (got_before by s) (got_before by (s + 1)) old.cursors.got new.cursors.got at.got (ap (λ (c : TableCursors). c.got) same) (omega (arith, got));
@@ -257,9 +461,11 @@ table_ends filling starts k p table good count fit named there =
     omega (arith, fit p below, more, whole)
 
 -- where parts end below 2^64, so do got and plt
-pub tables_fit : (sizes : TableSizes) (link : LinkInput) (live : Live) (thunks : List (FileId × ℕ)) (told : List Bool) (starts : List ℕ) → IsWellFormed link → length starts ≡ length (all_parts link.plan.sections)
-    → EndsFit (thunked_filling sizes link live thunks) starts → TablesFit (entry_setting sizes link live told starts)
-tables_fit sizes link live thunks told starts good count fit = record {
-  got = λ p named. table_ends (thunked_filling sizes link live thunks) starts 0 p (got_table (entry_setting sizes link live told starts)) good count fit (ap (λ (o : Option ℕ). Some o) named) refl;
-  plt = λ p named. table_ends (thunked_filling sizes link live thunks) starts 1 p (plt_table (entry_setting sizes link live told starts)) good count fit (ap (λ (o : Option ℕ). Some o) named) refl;
-}
+pub tables_fit : (filling : Filling) (told : List Bool) (starts : List ℕ) → IsWellFormed filling.content.link → length starts ≡ length (all_parts filling.content.link.plan.sections)
+    → EndsFit filling starts → TablesFit (entry_setting filling.content.sizes filling.content.link filling.content.live told starts)
+tables_fit filling told starts good count fit =
+    let by : EntrySetting = entry_setting filling.content.sizes filling.content.link filling.content.live told starts in
+    record {
+      got = λ p named. table_ends filling starts 0 p (got_table by) good count fit (ap (λ (o : Option ℕ). Some o) named) refl;
+      plt = λ p named. table_ends filling starts 1 p (plt_table by) good count fit (ap (λ (o : Option ℕ). Some o) named) refl;
+    }

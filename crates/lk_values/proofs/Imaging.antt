@@ -9,7 +9,6 @@ use Rattle.std.proofs.lemmas.List.Sums.{sum_by_more_le}
 use Rattle.std.proofs.lemmas.List.{length-map}
 use Rattle.std.proofs.lemmas.List.FromFn.{length-enumerate_from}
 use Rattle.std.proofs.lemmas.Option.{get_or_from_slice_get, slice_get_within}
-use Rattle.lk_link.specs.declared.ids.FileId.{FileId}
 use Rattle.lk_link.specs.declared.link.LinkInput.{LinkInput}
 use Rattle.lk_link.specs.declared.plan.PlanPart.{PlanPart}
 use Rattle.lk_link.specs.declared.plan.PlanSection.{PlanSection}
@@ -20,7 +19,6 @@ use Rattle.lk_link.specs.WellFormed.{IsWellFormed}
 use Rattle.lk_link.proofs.Elements.{filter_at, map_at, map_in, numbered_at}
 use Rattle.lk_link.proofs.Numbers.{made_at}
 use Rattle.lk_link.proofs.PartNumbers.{first_part-le}
-use Rattle.lk_gc.specs.declared.live.Live.{Live}
 use Rattle.lk_merge.specs.Addresses.{ImagesFit}
 use Rattle.lk_merge.specs.Hash.{fnv64}
 use Rattle.lk_merge.specs.Image.{all_buckets, all_pieces, firsts_behind, image}
@@ -34,10 +32,9 @@ use Rattle.lk_sizes.specs.Owners.{ImageOwner, Owner, bytes_of, owner_address, ow
 use Rattle.lk_sizes.specs.PartOwners.{EndsFit, owners_of}
 use Rattle.lk_sizes.proofs.ImagePlaces.{images_stand_where_inputs_go}
 use Rattle.lk_sizes.proofs.ImageStarts.{IsFirst, image_is_first}
-use Rattle.lk_values.specs.OutputContent.{image_lens, lens_of, thunked_filling}
+use Rattle.lk_values.specs.OutputContent.{image_lens, lens_of}
 use Rattle.lk_values.specs.Resolutions.{found_or_0, merged_value}
 use Rattle.lk_values.proofs.Placing.{size-le}
-use Rattle.lk_link.specs.TableSizes.{TableSizes}
 
 -- ---- lengths
 
@@ -108,30 +105,31 @@ has_part link s k y good there =
 -- ---- room
 
 -- the address of an image that has a part
-pub record StandsAt (sizes : TableSizes) (link : LinkInput) (live : Live) (thunks : List (FileId × ℕ)) (starts : List ℕ) (s p : ℕ) : Type 0 where
-  pub first : IsFirst (thunked_filling sizes link live thunks) s p
-  pub address : slice_index (image_addresses (thunked_filling sizes link live thunks) starts) s ≡ slice_index starts p
+pub record StandsAt (filling : Filling) (starts : List ℕ) (s p : ℕ) : Type 0 where
+  pub first : IsFirst filling s p
+  pub address : slice_index (image_addresses filling starts) s ≡ slice_index starts p
 
-address_in_part : (sizes : TableSizes) (link : LinkInput) (live : Live) (thunks : List (FileId × ℕ)) (starts : List ℕ) (s p n : ℕ) (o : Option ℕ) → o ≡ Some p → image_number (thunked_filling sizes link live thunks) s p ≡ n
-    → option_map_or (λ q. owner_address (slice_index starts q) (part_at link.plan.sections q) (owners_of (thunked_filling sizes link live thunks) q) (image_number (thunked_filling sizes link live thunks) s q)) o 0
-    ≡ owner_address (slice_index starts p) (part_at link.plan.sections p) (owners_of (thunked_filling sizes link live thunks) p) n
-address_in_part sizes link live thunks starts s p n o is number =
-    ap (λ (r : Option ℕ). option_map_or (λ q. owner_address (slice_index starts q) (part_at link.plan.sections q) (owners_of (thunked_filling sizes link live thunks) q) (image_number (thunked_filling sizes link live thunks) s q)) r 0) is
-    ∙ ap (owner_address (slice_index starts p) (part_at link.plan.sections p) (owners_of (thunked_filling sizes link live thunks) p)) number
+address_in_part : (filling : Filling) (starts : List ℕ) (s p n : ℕ) (o : Option ℕ) → o ≡ Some p → image_number filling s p ≡ n
+    → option_map_or (λ q. owner_address (slice_index starts q) (part_at filling.content.link.plan.sections q) (owners_of filling q) (image_number filling s q)) o 0
+    ≡ owner_address (slice_index starts p) (part_at filling.content.link.plan.sections p) (owners_of filling p) n
+address_in_part filling starts s p n o is number =
+    let sections = filling.content.link.plan.sections in
+    ap (λ (r : Option ℕ). option_map_or (λ q. owner_address (slice_index starts q) (part_at sections q) (owners_of filling q) (image_number filling s q)) r 0) is
+    ∙ ap (owner_address (slice_index starts p) (part_at sections p) (owners_of filling p)) number
 
-address_at : (sizes : TableSizes) (link : LinkInput) (live : Live) (thunks : List (FileId × ℕ)) (starts : List ℕ) (s : ℕ) → s < length link.plan.sections
-    → slice_index (image_addresses (thunked_filling sizes link live thunks) starts) s ≡ image_address (thunked_filling sizes link live thunks) starts s
-address_at sizes link live thunks starts s below =
-    made_at (image_address (thunked_filling sizes link live thunks) starts) 0 link.plan.sections 0 s below ∙ ap (image_address (thunked_filling sizes link live thunks) starts) (zero-add s)
+address_at : (filling : Filling) (starts : List ℕ) (s : ℕ) → s < length filling.content.link.plan.sections
+    → slice_index (image_addresses filling starts) s ≡ image_address filling starts s
+address_at filling starts s below =
+    made_at (image_address filling starts) 0 filling.content.link.plan.sections 0 s below ∙ ap (image_address filling starts) (zero-add s)
 
-pub stands_at : (sizes : TableSizes) (link : LinkInput) (live : Live) (thunks : List (FileId × ℕ)) (starts : List ℕ) (s p : ℕ) → s < length link.plan.sections → image_part link s ≡ Some p → StandsAt sizes link live thunks starts s p
-stands_at sizes link live thunks starts s p below is =
-    let filling : Filling = thunked_filling sizes link live thunks in
+pub stands_at : (filling : Filling) (starts : List ℕ) (s p : ℕ) → s < length filling.content.link.plan.sections → image_part filling.content.link s ≡ Some p → StandsAt filling starts s p
+stands_at filling starts s p below is =
+    let link : LinkInput = filling.content.link in
     let first = image_is_first filling s p below is in
     let none : owner_address (slice_index starts p) (part_at link.plan.sections p) (owners_of filling p) 0 ≡ slice_index starts p = omega arith in
     record {
       first = first;
-      address = address_at sizes link live thunks starts s below ∙ address_in_part sizes link live thunks starts s p 0 (image_part link s) is first.number ∙ none;
+      address = address_at filling starts s below ∙ address_in_part filling starts s p 0 (image_part link s) is first.number ∙ none;
     }
 
 -- the first owner of a part ends where the part does, or before
@@ -145,37 +143,43 @@ no_image : length (image fnv64 []) ≡ 0
 unfolding all_buckets firsts_behind
 no_image = refl
 
-image_fits : (sizes : TableSizes) (link : LinkInput) (live : Live) (thunks : List (FileId × ℕ)) (starts : List ℕ) (s : ℕ) (inputs : List MergeInput) → IsWellFormed link → length starts ≡ length (all_parts link.plan.sections)
-    → EndsFit (thunked_filling sizes link live thunks) starts → slice_get (link_inputs link).outputs s ≡ Some inputs → (o : Option ℕ) → image_part link s ≡ o
-    → slice_index (image_addresses (thunked_filling sizes link live thunks) starts) s + length (image fnv64 (all_pieces inputs)) < 2 ^ 64
-image_fits sizes link live thunks starts s inputs good count fit there (Some p) is =
-    let filling : Filling = thunked_filling sizes link live thunks in
+image_fits : (filling : Filling) (starts : List ℕ) (s : ℕ) (inputs : List MergeInput) → filling.content.merged_lens ≡ image_lens filling.content.link → IsWellFormed filling.content.link
+    → length starts ≡ length (all_parts filling.content.link.plan.sections) → EndsFit filling starts → slice_get (link_inputs filling.content.link).outputs s ≡ Some inputs
+    → (o : Option ℕ) → image_part filling.content.link s ≡ o → slice_index (image_addresses filling starts) s + length (image fnv64 (all_pieces inputs)) < 2 ^ 64
+image_fits filling starts s inputs lens good count fit there (Some p) is =
+    let link : LinkInput = filling.content.link in
     let at = inputs_at link s inputs there in
-    let stands = stands_at sizes link live thunks starts s p at.0 is in
+    let stands = stands_at filling starts s p at.0 is in
     let part : PlanPart = part_at link.plan.sections p in
-    let len : ℕ = slice_index (image_lens link) s in
+    let len : ℕ = slice_index filling.content.merged_lens s in
     let bytes = first_fits part (owners_of filling p) (ImageOwner s len) stands.first.owner in
     let within : p < length starts = omega (arith, stands.first.below, first_part-le link.plan.sections (s + 1), count) in
-    omega (arith, stands.address, len_at link s inputs there, bytes, size-le part len, fit p within)
-image_fits sizes link live thunks starts s [] good count fit there None is =
+    omega (arith, stands.address, ap (λ (ls : List ℕ). slice_index ls s) lens, len_at link s inputs there, bytes, size-le part len, fit p within)
+image_fits filling starts s [] lens good count fit there None is =
+    let link : LinkInput = filling.content.link in
     let at = inputs_at link s [] there in
-    let address : slice_index (image_addresses (thunked_filling sizes link live thunks) starts) s ≡ 0
-    = address_at sizes link live thunks starts s at.0
-    ∙ ap (λ (o : Option ℕ). option_map_or (λ q. owner_address (slice_index starts q) (part_at link.plan.sections q) (owners_of (thunked_filling sizes link live thunks) q) (image_number (thunked_filling sizes link live thunks) s q)) o 0) is in
+    let address : slice_index (image_addresses filling starts) s ≡ 0
+    = address_at filling starts s at.0
+    ∙ ap (λ (o : Option ℕ). option_map_or (λ q. owner_address (slice_index starts q) (part_at link.plan.sections q) (owners_of filling q) (image_number filling s q)) o 0) is in
     omega (arith, address, no_image)
-image_fits sizes link live thunks starts s (y ∷ ys) good count fit there None is =
+image_fits filling starts s (y ∷ ys) lens good count fit there None is =
+    let link : LinkInput = filling.content.link in
     let at = inputs_at link s (y ∷ ys) there in
     let has = has_part link s 0 y good (ap (λ (xs : List MergeInput). slice_get xs 0) (sym at.1)) in
     let both : None ≡ Some has.part = sym is ∙ has.is in
     absurd (cc)
 
-pub images_fit : (sizes : TableSizes) (link : LinkInput) (live : Live) (thunks : List (FileId × ℕ)) (starts : List ℕ) → IsWellFormed link → length starts ≡ length (all_parts link.plan.sections)
-    → EndsFit (thunked_filling sizes link live thunks) starts → ImagesFit (link_inputs link).outputs (image_addresses (thunked_filling sizes link live thunks) starts)
-images_fit sizes link live thunks starts good count fit = record {
-  count = length-map (enumerate_from 0 link.plan.sections) (λ (q : ℕ × PlanSection). image_address (thunked_filling sizes link live thunks) starts q.0)
-      ∙ length-enumerate_from 0 link.plan.sections ∙ sym (outputs_count link);
-  ends = λ s inputs there. image_fits sizes link live thunks starts s inputs good count fit there (image_part link s) refl;
-}
+-- images have room where parts end below 2^64
+pub images_fit : (filling : Filling) (starts : List ℕ) → filling.content.merged_lens ≡ image_lens filling.content.link → IsWellFormed filling.content.link
+    → length starts ≡ length (all_parts filling.content.link.plan.sections) → EndsFit filling starts
+    → ImagesFit (link_inputs filling.content.link).outputs (image_addresses filling starts)
+images_fit filling starts lens good count fit =
+    let link : LinkInput = filling.content.link in
+    record {
+      count = length-map (enumerate_from 0 link.plan.sections) (λ (q : ℕ × PlanSection). image_address filling starts q.0)
+          ∙ length-enumerate_from 0 link.plan.sections ∙ sym (outputs_count link);
+      ends = λ s inputs there. image_fits filling starts s inputs lens good count fit there (image_part link s) refl;
+    }
 
 -- ---- values of symbols, by where images start
 

@@ -8,3 +8,4 @@ pub mod Imaging
 pub mod PartCounts
 pub mod Placing
 pub mod Pushing
+pub mod ValuesSet

@@ -14,7 +14,7 @@ use Rattle.lk_link.specs.TableSizes.{AreLawful, TableSizes, first_taken, is_zero
 use Rattle.lk_values.specs.EntryWords.{cursor_behind, cursors_behind, made_at}
 
 -- where none of several flags is set, none of fewer is
-none_among : (flags all some : ℕ) → bit_and all some ≡ some → bit_and flags all ≡ 0 → bit_and flags some ≡ 0
+pub none_among : (flags all some : ℕ) → bit_and all some ≡ some → bit_and flags all ≡ 0 → bit_and flags some ≡ 0
 none_among flags all some among none =
     ap (bit_and flags) (sym among) ∙ sym (and_assoc some flags all) ∙ ap (λ n. bit_and n some) none ∙ and_zero_l some
 

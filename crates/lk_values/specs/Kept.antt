@@ -1,8 +1,9 @@
 -- How what symbols stand for is kept: words of private contracts and of an invariant.
-use Rattle.std.specs.Prelude.{◌≡◌, ℕ, ◌+◌, ◌-◌, ◌<◌, ◌==◌, if◌then◌else◌, List, Option, Some, None, length, nat_lt, slice_get}
+use Rattle.std.specs.Prelude.{◌≡◌, ℕ, ◌+◌, ◌-◌, ◌<◌, ◌==◌, if◌then◌else◌, List, Option, Some, None, length, nat_lt, option_map, slice_get}
 use Rattle.lk_link.specs.declared.resolution.Resolution.{Resolution}
 use Rattle.lk_values.specs.declared.kept.Kept.{Kept}
 use Rattle.lk_values.specs.declared.kept.TheConstants.{KEPT_WHOLE, NO_RESOLUTION}
+use Rattle.lk_values.specs.Stores.{valued}
 
 -- a number as it is kept: one more, and 0 for none, if that is below what may stand in place of it
 abbrev pub short_index : Option ℕ → Option ℕ
@@ -15,18 +16,18 @@ told_index n = if n == 0 then None else Some (n - 1)
 
 -- a resolution without entries, by what is kept of it
 abbrev pub told_short : Kept → Resolution
-told_short kept = record { raw_value = kept.raw_value; flags = kept.flags; dynamic = told_index kept.dynamic; got = None; plt = None }
+told_short kept = record { raw_value = kept.raw_value; flags = record { 0 = kept.flags_or_place }; dynamic = told_index kept.dynamic; got = None; plt = None }
 
--- what a symbol stands for, by what is kept of it, beside the resolutions that are kept whole
+-- what a symbol stands for, by what is kept of it, beside the resolutions that are kept whole: of these all but the value
 abbrev pub told_of : List Resolution → Kept → Option Resolution
 told_of wholes kept =
     if kept.dynamic == NO_RESOLUTION then None
-    else if kept.dynamic == KEPT_WHOLE then slice_get wholes kept.raw_value
+    else if kept.dynamic == KEPT_WHOLE then option_map (valued kept.raw_value) (slice_get wholes kept.flags_or_place)
     else Some (told_short kept)
 
 -- what is kept whole has its place among those
 abbrev pub IsWithin : List Resolution → Kept → Type 0
-IsWithin wholes kept = kept.dynamic ≡ KEPT_WHOLE → kept.raw_value < length wholes
+IsWithin wholes kept = kept.dynamic ≡ KEPT_WHOLE → kept.flags_or_place < length wholes
 
 -- a resolution is kept in short, and told so beside any others
 pub record IsShort (kept : Kept) (resolution : Resolution) : Type 0 where

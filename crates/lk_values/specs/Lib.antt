@@ -1,3 +1,4 @@
+pub mod AtHand
 pub mod Entries
 pub mod EntryWords
 pub mod Images
@@ -7,5 +8,7 @@ pub mod Outside
 pub mod OutsideWords
 pub mod Resolutions
 pub mod Starts
+pub mod StoreLaws
+pub mod Stores
 pub mod Tables
 pub mod Texts

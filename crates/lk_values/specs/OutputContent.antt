@@ -29,3 +29,7 @@ output_filling sizes link live = plain_filling (output_content sizes link live)
 -- the same with blocks of thunks, by the files that own them
 abbrev pub thunked_filling : TableSizes → LinkInput → Live → List (FileId × ℕ) → Filling
 thunked_filling sizes link live thunks = with_thunks (output_filling sizes link live) thunks
+
+-- what fills the parts of a layout, by any blocks of thunks and any sizes of input sections
+abbrev pub in_layout : TableSizes → LinkInput → Live → Filling → Filling
+in_layout sizes link live filling = record filling { content = output_content sizes link live }

@@ -1,6 +1,6 @@
 //! What has an address in the output: live sections, blocks of thunks, merged data, and symbols.
 
-ghost use Rattle.std.specs.Prelude.{◌≡◌, ◌+◌, ◌<◌, ◌^◌, ℕ, IfOk, List, length, slice_index};
+ghost use Rattle.std.specs.Prelude.{◌≡◌, ◌+◌, ◌<◌, ◌^◌, ℕ, IfOk, length, slice_index};
 ghost use Rattle.lk_gc.specs.Reach.{AreLive};
 ghost use Rattle.lk_link.specs.Parts.{all_parts};
 ghost use Rattle.lk_link.specs.WellFormed.{IsWellFormed};
@@ -10,8 +10,10 @@ ghost use Rattle.lk_merge.specs.Hash.{fnv64};
 ghost use Rattle.lk_merge.specs.LinkInputs.{link_inputs};
 ghost use Rattle.lk_sizes.specs.Images.{image_addresses};
 ghost use Rattle.lk_sizes.specs.Addresses.{block_addresses, section_addresses};
+ghost use Rattle.lk_sizes.specs.Owners.{Filling};
 ghost use Rattle.lk_sizes.specs.Sizing.{AreFilled};
-ghost use Rattle.lk_values.specs.OutputContent.{thunked_filling};
+ghost use Rattle.lk_relaxing.specs.LinkDeletions.{sizes_after};
+ghost use Rattle.lk_values.specs.OutputContent.{in_layout};
 ghost use Rattle.lk_values.specs.Starts.{IsPlaced, starts_of};
 ghost use Rattle.lk_values.specs.Resolutions.{symbol_resolutions};
 ghost use Rattle.lk_values.specs.Tables.{AreMergedOf};
@@ -19,10 +21,12 @@ ghost use Rattle.lk_values.specs.Tables.{AreMergedOf};
 use crate::merged::Merged;
 use crate::resolution::{Tables, resolve_all};
 use crate::symbol_resolutions::SymbolResolutions;
+use lk_edges::Edges;
 use lk_gc::Live;
-use lk_link::{FileId, LinkInput, Platform};
+use lk_link::{LinkInput, Platform};
 use lk_merge::{MergedStringStartAddresses, MergedStringsSection};
 use lk_place::OutputRecordLayout;
+use lk_relax::RelaxDeltaMap;
 use lk_sizes::{OwnerAddresses, PartOwners, image_addresses, owner_addresses};
 use std::alloc::{AllocError, Global};
 
@@ -39,37 +43,48 @@ pub struct Addresses {
     pub resolutions: SymbolResolutions,
 }
 
-/// The addresses of live sections, of blocks of thunks and of merged data, and what symbols stand for, by what was found of the parts and
-/// the records of all parts. Looks at each input section, each block and each symbol once.
+/// Where the parts of a link stand, what is deleted of its sections, and what its own symbols stand at.
+#[derive(Clone, Copy)]
+pub struct PlacedParts<'a> {
+    pub parts: &'a [OutputRecordLayout],
+    /// Of each file, by its number over all groups; files past the end lose nothing.
+    pub deltas: &'a [RelaxDeltaMap],
+    pub edges: &'a Edges<'a>,
+}
+
+/// The addresses of live sections, of blocks of thunks and of merged data, and what symbols stand for, by what was found of the parts, for
+/// the sizes that are left behind what is deleted. Looks at each input section, each block and each symbol once.
 pub fn addresses_of<P: Platform>(
     alloc: Global,
     link: &LinkInput,
     live: &Live,
     merged: &[MergedStringsSection<'_>],
     owners: &PartOwners,
-    parts: &[OutputRecordLayout],
+    placed: &PlacedParts<'_>,
     platform: &P,
 ) -> Result<Addresses, AllocError>
     requires good { IsWellFormed link.now }
     requires live { AreLive link.now live.now }
     requires merged { merged.now ≡ (link_inputs link.now).outputs }
-    requires each { length parts.now ≡ length (all_parts link.now.plan.sections) }
-    requires placed { (thunks : List (FileId × ℕ)) × IsPlaced (thunked_filling (P.table_sizes platform.now) link.now live.now thunks) owners.now parts.now }
-    ensures sections { (thunks : List (FileId × ℕ)) → AreFilled (thunked_filling (P.table_sizes platform.now) link.now live.now thunks) owners.now
+    requires each { length placed.now.parts.now ≡ length (all_parts link.now.plan.sections) }
+    requires placed { (filling : Filling) × IsPlaced (in_layout (P.table_sizes platform.now) link.now live.now filling) owners.now placed.now.parts.now
+        × (filling.sizes ≡ sizes_after link.now.groups placed.now.deltas.now) }
+    ensures sections { (filling : Filling) → AreFilled (in_layout (P.table_sizes platform.now) link.now live.now filling) owners.now
         → IfOk result (λ told. told.sections.items
-        ≡ section_addresses (thunked_filling (P.table_sizes platform.now) link.now live.now thunks) (starts_of parts.now)) }
-    ensures blocks { (thunks : List (FileId × ℕ)) → AreFilled (thunked_filling (P.table_sizes platform.now) link.now live.now thunks) owners.now
+        ≡ section_addresses (in_layout (P.table_sizes platform.now) link.now live.now filling) (starts_of placed.now.parts.now)) }
+    ensures blocks { (filling : Filling) → AreFilled (in_layout (P.table_sizes platform.now) link.now live.now filling) owners.now
         → IfOk result (λ told. told.blocks.items
-        ≡ block_addresses (thunked_filling (P.table_sizes platform.now) link.now live.now thunks) (starts_of parts.now)) }
-    ensures buckets { (thunks : List (FileId × ℕ)) → AreFilled (thunked_filling (P.table_sizes platform.now) link.now live.now thunks) owners.now
+        ≡ block_addresses (in_layout (P.table_sizes platform.now) link.now live.now filling) (starts_of placed.now.parts.now)) }
+    ensures buckets { (filling : Filling) → AreFilled (in_layout (P.table_sizes platform.now) link.now live.now filling) owners.now
         → IfOk result (λ told. told.buckets ≡ start_addresses fnv64 (link_inputs link.now).outputs
-        (image_addresses (thunked_filling (P.table_sizes platform.now) link.now live.now thunks) (starts_of parts.now))) }
+        (image_addresses (in_layout (P.table_sizes platform.now) link.now live.now filling) (starts_of placed.now.parts.now))) }
     ensures belong { IfOk result (λ told. AreMergedOf link.now merged.now told.buckets) }
-    ensures resolutions { (thunks : List (FileId × ℕ)) → AreFilled (thunked_filling (P.table_sizes platform.now) link.now live.now thunks) owners.now
+    ensures resolutions { (filling : Filling) → AreFilled (in_layout (P.table_sizes platform.now) link.now live.now filling) owners.now
         → IfOk result (λ told. told.resolutions
-        ≡ symbol_resolutions (thunked_filling (P.table_sizes platform.now) link.now live.now thunks) (starts_of parts.now)) }
+        ≡ symbol_resolutions (in_layout (P.table_sizes platform.now) link.now live.now filling) placed.now.deltas.now placed.now.edges.now
+        (starts_of placed.now.parts.now)) }
 {
-    let starts = starts_of(alloc, parts)?;
+    let starts = starts_of(alloc, placed.parts)?;
     let found = owner_addresses(alloc, link, live, owners, &starts)?;
     let OwnerAddresses {
         sections,
@@ -79,19 +94,20 @@ pub fn addresses_of<P: Platform>(
     let places = image_addresses(alloc, link, owners.contents(), &starts)?;
     let buckets = MergedStringStartAddresses::compute(alloc, merged, &places)?;
     let tables = Tables {
+        merged: Merged {
+            link,
+            sections: merged,
+            starts: &buckets,
+        },
         live,
-        marks: live.marks.as_slice(),
         addresses: sections.as_slice(),
+        deltas: placed.deltas,
         commons: commons.as_slice(),
+        edges: placed.edges,
         told: owners.header().told.as_slice(),
         starts: &starts,
     };
-    let merged = Merged {
-        link,
-        sections: merged,
-        starts: &buckets,
-    };
-    let resolutions = resolve_all(alloc, platform, tables, merged, owners.numbers())?;
+    let resolutions = resolve_all(alloc, platform, &tables, owners.numbers())?;
     Ok(Addresses {
         sections,
         blocks: owned,

@@ -15,9 +15,10 @@ pub(crate) const KEPT_WHOLE: u32 = 4_294_967_294;
 /// What is kept of what a symbol stands for.
 #[derive(Clone, Copy)]
 pub(crate) struct Kept {
-    /// The value; of a resolution that is kept whole its place among those.
+    /// The value, also of a resolution that is kept whole.
     pub(crate) raw_value: u64,
-    pub(crate) flags: ValueFlags,
+    /// The flags; of a resolution that is kept whole its place among those, where its flags stand.
+    pub(crate) flags_or_place: u32,
     /// One more than the number in the dynamic symbol table, and 0 for none; or what stands in place of it.
     pub(crate) dynamic: u32,
 }
@@ -31,11 +32,15 @@ impl Kept {
             return None;
         }
         if self.dynamic == KEPT_WHOLE {
-            return wholes.get(self.raw_value as usize).copied();
+            let whole = wholes.get(self.flags_or_place as usize)?;
+            return Some(Resolution {
+                raw_value: self.raw_value,
+                ..*whole
+            });
         }
         Some(Resolution {
             raw_value: self.raw_value,
-            flags: self.flags,
+            flags: ValueFlags(self.flags_or_place),
             dynamic: self.dynamic.checked_sub(1),
             got: None,
             plt: None,
@@ -55,7 +60,7 @@ pub(crate) fn keep(
     let Some(resolution) = resolution else {
         return Ok(Kept {
             raw_value: 0,
-            flags: ValueFlags(0),
+            flags_or_place: 0,
             dynamic: NO_RESOLUTION,
         });
     };
@@ -76,7 +81,7 @@ fn short(resolution: Resolution) -> Option<Kept>
     let dynamic = short_index(resolution.dynamic)?;
     Some(Kept {
         raw_value: resolution.raw_value,
-        flags: resolution.flags,
+        flags_or_place: resolution.flags.0,
         dynamic,
     })
 }
@@ -92,17 +97,19 @@ fn short_index(dynamic: Option<u32>) -> Option<u32>
     }
 }
 
-/// Adds a resolution to those that are kept whole.
+/// Adds a resolution to those that are kept whole; refused as want of memory where 2^32 are kept so.
 fn keep_whole(wholes: &mut Vec<Resolution>, resolution: Resolution) -> Result<Kept, AllocError>
     ensures told { IfOk result (λ kept. told_of wholes.new.items kept ≡ Some resolution) }
     ensures within { IfOk result (λ kept. IsWithin wholes.new.items kept) }
     ensures stays { StaysTold wholes.old.items wholes.new.items }
 {
-    let place = wholes.len() as u64;
+    let Ok(place) = u32::try_from(wholes.len()) else {
+        return Err(AllocError);
+    };
     wholes.push(resolution)?;
     Ok(Kept {
-        raw_value: place,
-        flags: resolution.flags,
+        raw_value: resolution.raw_value,
+        flags_or_place: place,
         dynamic: KEPT_WHOLE,
     })
 }

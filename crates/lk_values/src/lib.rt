@@ -6,12 +6,13 @@ pub mod addresses;
 mod entries;
 pub mod images;
 mod kept;
+pub mod laws;
 mod merged;
 pub mod outside;
 pub mod resolution;
 pub mod symbol_resolutions;
 
-pub use crate::addresses::{Addresses, addresses_of};
+pub use crate::addresses::{Addresses, PlacedParts, addresses_of};
 pub use crate::images::{Images, image_lens};
 pub use crate::outside::{MergeOffsetPlace, check_offsets};
 pub use crate::resolution::{EntryFault, entry_symbol, entry_value};

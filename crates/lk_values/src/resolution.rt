@@ -1,14 +1,16 @@
 //! The values that symbols have in the output.
 //!
 //! A table has the address of each live input section, by its number over all files. One pass over the symbols, file by file,
-//! gives each that stands for itself and is asked for its value: a place in a live section is the section's address and the
-//! offset there, a common has the address that it has among the owners of its part, a number stays, and what is defined nowhere, or in a dynamic file, is 0. A named symbol in a merged section stands where its piece does,
-//! which takes logarithmic time; any other symbol takes constant time.
+//! gives each that stands for itself and is asked for its value. In objects and dynamic files a place in a live section is the section's
+//! address and where its offset goes by what is deleted, a common has the address that it has among the owners of its part, a number stays,
+//! and what is defined nowhere, or in a dynamic file, is 0. In the prelude, in scripts and in synthetic files a symbol stands at its edge. A
+//! named symbol in a merged section stands where its piece does, which takes logarithmic time, and so do a common, and an offset in a file of
+//! whose sections something is deleted; any other symbol takes constant time.
 
 ghost use Rattle.std.specs.Prelude.{◌≡◌, ◌+◌, ◌<◌, ◌^◌, ◌++◌, IfOk, OnOk, Some, true, map, length, slice_get, slice_index};
-ghost use Rattle.std.specs.List.{enumerate_from, flat_map, slice_index_or};
+ghost use Rattle.std.specs.List.{enumerate_from, flat_map};
 ghost use Rattle.lk_link.specs.Files.{file_in};
-ghost use Rattle.lk_link.specs.Inputs.{first_input, numbered_files};
+ghost use Rattle.lk_link.specs.Inputs.{first_input, input_number, numbered_files};
 ghost use Rattle.lk_link.specs.Marks.{is_marked};
 ghost use Rattle.lk_link.specs.Symbols.{first_symbol};
 ghost use Rattle.lk_link.specs.Walks.{file_of};
@@ -16,23 +18,27 @@ ghost use Rattle.lk_link.specs.WellFormed.{IsWellFormed};
 ghost use Rattle.lk_reach.specs.Units.{numbered_symbols};
 ghost use Rattle.lk_tables.specs.DynamicCounters.{AreNumbersAt};
 ghost use Rattle.lk_tables.specs.Late.{flags_at};
-ghost use Rattle.lk_values.specs.Entries.{entry_setting};
-ghost use Rattle.lk_values.specs.EntryWords.{AreNextAt, TablesFit, first_cursors, start_of};
-ghost use Rattle.lk_values.specs.Resolutions.{entry_symbol, entry_value, file_resolutions, has_resolutions, placed_value, resolution_of};
-ghost use Rattle.lk_values.specs.Tables.{AreMergedOf, AreRising, HasRoom, HaveRoom, common_in, place_in, places_in};
+ghost use Rattle.lk_values.specs.EntryWords.{AreNextAt, first_cursors, start_of};
+ghost use Rattle.lk_values.specs.Resolutions.{entry_symbol, entry_value, file_resolutions, placed_value, resolution_of, value_of};
+ghost use Rattle.lk_values.specs.AtHand.{AreAtHand, IsAtHand, StandsAtHand, places_at_hand, setting_at_hand};
+ghost use Rattle.lk_values.specs.Tables.{AreMergedOf, AreRising, IsInside, common_in, place_in};
 
 use crate::entries::{NextEntries, take_entries};
 use crate::merged::{Merged, merged_value};
 use crate::symbol_resolutions::SymbolResolutions;
+use lk_edges::Edges;
 use lk_gc::Live;
-use lk_link::file::FileKind;
 use lk_link::marks::is_marked;
 use lk_link::{
     FileRef, InputSymbol, LinkInput, PartId, Platform, Resolution, SymbolId, SymbolPlacement,
     TableCursors, ValueFlags,
 };
+use lk_relax::{RelaxDeltaMap, opt_input_to_output};
+use lk_relaxing::deletions::map_of;
+use lk_relaxing::positions::deleted_in;
 use lk_sizes::CommonAddress;
 use lk_tables::DynamicNumbers;
+use lk_tables::symbol_table::late_flags;
 use std::alloc::{AllocError, Global};
 
 /// Why the entry has no address.
@@ -62,53 +68,60 @@ pub fn entry_symbol(link: &LinkInput) -> Option<SymbolId>
     link.groups.definition(link.options.entry?)
 }
 
-/// What is known by number.
+/// What symbols are resolved by: what is merged of their link, what is live of it, and what is known by number.
 #[derive(Clone, Copy)]
 pub(crate) struct Tables<'a> {
+    pub(crate) merged: Merged<'a>,
     pub(crate) live: &'a Live,
-    /// Of each input section whether it is live.
-    pub(crate) marks: &'a [bool],
-    /// Of each live one its address.
+    /// Of each live input section its address.
     pub(crate) addresses: &'a [u64],
+    /// Of each file what is deleted of its sections.
+    pub(crate) deltas: &'a [RelaxDeltaMap],
     /// Of each common that takes bytes its address, in the order of symbols.
     pub(crate) commons: &'a [CommonAddress],
+    /// What the symbols stand at that the linker itself places.
+    pub(crate) edges: &'a Edges<'a>,
     /// Of each output section whether its edges are told.
     pub(crate) told: &'a [bool],
     /// Of each part where it starts.
     pub(crate) starts: &'a [u64],
 }
 
-/// For each symbol of a link its resolution, if it has one. `numbers` are those of the first symbol in the dynamic symbol table.
+/// A file whose symbols are resolved.
+#[derive(Clone, Copy)]
+pub(crate) struct FileAtHand<'a> {
+    file: FileRef<'a>,
+    /// The number of its first input section.
+    first_input: usize,
+    /// The number of its first symbol.
+    first_symbol: u32,
+    /// What is deleted of its sections, if there is an entry for it.
+    entries: Option<&'a RelaxDeltaMap>,
+}
+
+/// For each symbol of the link its resolution, if it has one. `numbers` are the next in the dynamic symbol table at the first.
 pub(crate) fn resolve_all<P: Platform>(
     alloc: Global,
     platform: &P,
-    tables: Tables<'_>,
-    merged: Merged<'_>,
+    tables: &Tables<'_>,
     numbers: DynamicNumbers,
 ) -> Result<SymbolResolutions, AllocError>
-    requires belong { AreMergedOf merged.link.now merged.sections.now merged.starts.now }
-    requires rising { AreRising tables.commons.now }
-    requires room { HaveRoom tables.marks.now tables.addresses.now merged.link.now.groups }
-    requires tables_fit { TablesFit (entry_setting (P.table_sizes platform.now) merged.link.now tables.live.now tables.told.now tables.starts.now) }
-    requires numbers { AreNumbersAt merged.link.now tables.live.now tables.told.now 0 numbers }
-    ensures { IfOk result (λ resolutions. resolutions ≡ flat_map (file_resolutions (places_in tables.entry.marks.now tables.entry.addresses.now tables.entry.commons.now merged.entry.link.now merged.entry.starts.now)
-        (entry_setting (P.table_sizes platform.now) merged.entry.link.now tables.entry.live.now tables.entry.told.now tables.entry.starts.now)) (numbered_files merged.entry.link.now.groups)) }
+    requires tables { AreAtHand (P.table_sizes platform.now) tables.now }
+    requires numbers { AreNumbersAt tables.now.merged.link.now tables.now.live.now tables.now.told.now 0 numbers }
+    ensures { IfOk result (λ resolutions. resolutions ≡ flat_map (file_resolutions (places_at_hand tables.now) (setting_at_hand (P.table_sizes platform.now) tables.now))
+        (numbered_files tables.now.merged.link.now.groups)) }
 {
-    let groups = &merged.link.groups;
-    let mut resolutions = SymbolResolutions::with_capacity(alloc, groups.symbol_count() as usize)?;
+    let link = tables.merged.link;
+    let mut resolutions = SymbolResolutions::with_capacity(
+        alloc,
+        link.groups.symbol_count() as usize,
+    )?;
     let mut entries = NextEntries {
         numbers,
-        cursors: first_cursors(merged.link, tables.starts),
+        cursors: first_cursors(link, tables.starts),
     };
-    for file in groups.files() {
-        push_file_resolutions(
-            &mut resolutions,
-            platform,
-            tables,
-            merged,
-            &mut entries,
-            file,
-        )?;
+    for file in link.groups.files() {
+        push_file_resolutions(&mut resolutions, platform, tables, &mut entries, file)?;
     }
     Ok(resolutions)
 }
@@ -147,37 +160,36 @@ fn start_at(starts: &[u64], number: usize) -> u64
 fn push_file_resolutions<P: Platform>(
     resolutions: &mut SymbolResolutions,
     platform: &P,
-    tables: Tables<'_>,
-    merged: Merged<'_>,
+    tables: &Tables<'_>,
     next: &mut NextEntries,
     file: FileRef<'_>,
 ) -> Result<(), AllocError>
-    requires belong { AreMergedOf merged.link.now merged.sections.now merged.starts.now }
-    requires rising { AreRising tables.commons.now }
-    requires there { file_in merged.link.now.groups file.id ≡ Some file.file.now }
-    requires room { HaveRoom tables.marks.now tables.addresses.now merged.link.now.groups }
-    requires tables_fit { TablesFit (entry_setting (P.table_sizes platform.now) merged.link.now tables.live.now tables.told.now tables.starts.now) }
-    requires next { AreNextAt (entry_setting (P.table_sizes platform.now) merged.link.now tables.live.now tables.told.now tables.starts.now)
-        (first_symbol merged.link.now.groups file.id) next.now }
-    ensures pushed { OnOk result (resolutions.new ≡ resolutions.old ++ file_resolutions (places_in tables.entry.marks.now tables.entry.addresses.now tables.entry.commons.now merged.entry.link.now merged.entry.starts.now)
-        (entry_setting (P.table_sizes platform.now) merged.entry.link.now tables.entry.live.now tables.entry.told.now tables.entry.starts.now) (file_of file.entry)) }
-    ensures moved { OnOk result (AreNextAt (entry_setting (P.table_sizes platform.now) merged.entry.link.now tables.entry.live.now tables.entry.told.now tables.entry.starts.now)
-        (first_symbol merged.entry.link.now.groups file.entry.id + length file.entry.file.now.symbols) next.new) }
+    requires tables { AreAtHand (P.table_sizes platform.now) tables.now }
+    requires there { file_in tables.now.merged.link.now.groups file.id ≡ Some file.file.now }
+    requires next { AreNextAt (setting_at_hand (P.table_sizes platform.now) tables.now) (first_symbol tables.now.merged.link.now.groups file.id) next.now }
+    ensures pushed { OnOk result (resolutions.new
+        ≡ resolutions.old ++ file_resolutions (places_at_hand tables.now) (setting_at_hand (P.table_sizes platform.now) tables.now) (file_of file.entry)) }
+    ensures moved { OnOk result (AreNextAt (setting_at_hand (P.table_sizes platform.now) tables.now)
+        (first_symbol tables.now.merged.link.now.groups file.entry.id + length file.entry.file.now.symbols) next.new) }
 {
-    let first = first_input_of(merged.link, file);
-    let number = first_symbol_of(merged.link, file);
-    let symbols = file.file.symbols.as_slice();
-    push_resolutions(
-        resolutions,
-        platform,
-        tables,
-        merged,
-        next,
+    let at_hand = file_at_hand(tables, file);
+    push_resolutions(resolutions, platform, tables, next, &at_hand)
+}
+
+/// A file with what is found of it once.
+fn file_at_hand<'a>(tables: &Tables<'a>, file: FileRef<'a>) -> FileAtHand<'a>
+    requires good { IsWellFormed tables.now.merged.link.now }
+    requires there { file_in tables.now.merged.link.now.groups file.id ≡ Some file.file.now }
+    ensures file { result.file ≡ file.entry }
+    ensures found { IsAtHand tables.now result }
+{
+    let link = tables.merged.link;
+    FileAtHand {
         file,
-        first,
-        number,
-        symbols,
-    )
+        first_input: first_input_of(link, file),
+        first_symbol: first_symbol_of(link, file),
+        entries: map_of(link, tables.deltas, file.id),
+    }
 }
 
 /// The number of a file's first input section.
@@ -206,44 +218,25 @@ fn first_symbol_of(link: &LinkInput, file: FileRef<'_>) -> u32
     }
 }
 
-/// Whether symbols of such a file may have resolutions: of an object, or of a dynamic file.
-fn has_resolutions(kind: FileKind) -> bool
-    ensures { result ≡ has_resolutions kind }
-{
-    kind.is_object() || kind.is_dynamic()
-}
-
-/// Adds for each of the symbols of a file its resolution, if it has one. `first` is the number of the file's first input section,
-/// `number` that of its first symbol.
+/// Adds for each symbol of a file its resolution, if it has one.
 fn push_resolutions<P: Platform>(
     resolutions: &mut SymbolResolutions,
     platform: &P,
-    tables: Tables<'_>,
-    merged: Merged<'_>,
+    tables: &Tables<'_>,
     next: &mut NextEntries,
-    file: FileRef<'_>,
-    first: usize,
-    number: u32,
-    symbols: &[InputSymbol],
+    at_hand: &FileAtHand<'_>,
 ) -> Result<(), AllocError>
-    requires belong { AreMergedOf merged.link.now merged.sections.now merged.starts.now }
-    requires rising { AreRising tables.commons.now }
-    requires there { file_in merged.link.now.groups file.id ≡ Some file.file.now }
-    requires symbols { symbols.now ≡ file.file.now.symbols }
-    requires first { first ≡ first_input merged.link.now.groups file.id }
-    requires few { first < 2 ^ 32 }
-    requires number { number ≡ first_symbol merged.link.now.groups file.id }
-    requires numbers { number + length symbols.now < 2 ^ 32 }
-    requires room { HaveRoom tables.marks.now tables.addresses.now merged.link.now.groups }
-    requires tables_fit { TablesFit (entry_setting (P.table_sizes platform.now) merged.link.now tables.live.now tables.told.now tables.starts.now) }
-    requires next { AreNextAt (entry_setting (P.table_sizes platform.now) merged.link.now tables.live.now tables.told.now tables.starts.now) number next.now }
-    ensures pushed { OnOk result (resolutions.new ≡ resolutions.old ++ map (resolution_of (places_in tables.entry.marks.now tables.entry.addresses.now tables.entry.commons.now merged.entry.link.now merged.entry.starts.now)
-        (entry_setting (P.table_sizes platform.now) merged.entry.link.now tables.entry.live.now tables.entry.told.now tables.entry.starts.now) file.entry.file.now.kind first) (enumerate_from number symbols.now)) }
-    ensures moved { OnOk result (AreNextAt (entry_setting (P.table_sizes platform.now) merged.entry.link.now tables.entry.live.now tables.entry.told.now tables.entry.starts.now) (number + length symbols.now) next.new) }
+    requires tables { AreAtHand (P.table_sizes platform.now) tables.now }
+    requires file { IsAtHand tables.now at_hand.now }
+    requires next { AreNextAt (setting_at_hand (P.table_sizes platform.now) tables.now) at_hand.now.first_symbol next.now }
+    ensures pushed { OnOk result (resolutions.new ≡ resolutions.old ++ map (resolution_of (places_at_hand tables.now) (setting_at_hand (P.table_sizes platform.now) tables.now)
+        at_hand.now.file.file.now.kind at_hand.now.first_input) (enumerate_from at_hand.now.first_symbol at_hand.now.file.file.now.symbols)) }
+    ensures moved { OnOk result (AreNextAt (setting_at_hand (P.table_sizes platform.now) tables.now) (at_hand.now.first_symbol + length at_hand.now.file.file.now.symbols) next.new) }
 {
+    let symbols = at_hand.file.file.symbols.as_slice();
     for (index, symbol) in symbols.iter().enumerate() {
-        let own = number + index as u32;
-        let resolution = resolve(platform, tables, merged, next, first, file, own, symbol);
+        let number = at_hand.first_symbol + index as u32;
+        let resolution = resolve(platform, tables, next, at_hand, number, symbol);
         resolutions.push(resolution)?;
     }
     Ok(())
@@ -259,39 +252,36 @@ pub(crate) fn flags_at(live: &Live, number: u32) -> ValueFlags
     }
 }
 
-/// The resolution of a symbol of a file, with this number, if it has one. What it takes in tables is taken, whether or not its file
-/// has resolutions.
+/// The resolution of a symbol of a file, with this number, if it has one. What it takes in tables is taken, whether or not it is worth
+/// anything.
 fn resolve<P: Platform>(
     platform: &P,
-    tables: Tables<'_>,
-    merged: Merged<'_>,
+    tables: &Tables<'_>,
     next: &mut NextEntries,
-    first: usize,
-    file: FileRef<'_>,
+    at_hand: &FileAtHand<'_>,
     number: u32,
     symbol: &InputSymbol,
 ) -> Option<Resolution>
-    requires belong { AreMergedOf merged.link.now merged.sections.now merged.starts.now }
-    requires rising { AreRising tables.commons.now }
-    requires of_file { file_in merged.link.now.groups file.id ≡ Some file.file.now }
-    requires few { first < 2 ^ 32 }
-    requires room { HasRoom tables.marks.now tables.addresses.now first symbol.now.at }
-    requires there { slice_get (numbered_symbols merged.link.now.groups) number ≡ Some (file_of file, symbol.now) }
-    requires tables_fit { TablesFit (entry_setting (P.table_sizes platform.now) merged.link.now tables.live.now tables.told.now tables.starts.now) }
-    requires next { AreNextAt (entry_setting (P.table_sizes platform.now) merged.link.now tables.live.now tables.told.now tables.starts.now) number next.now }
-    ensures value { result ≡ resolution_of (places_in tables.entry.marks.now tables.entry.addresses.now tables.entry.commons.now merged.entry.link.now merged.entry.starts.now)
-        (entry_setting (P.table_sizes platform.now) merged.entry.link.now tables.entry.live.now tables.entry.told.now tables.entry.starts.now) file.entry.file.now.kind first (number, symbol.now) }
-    ensures moved { AreNextAt (entry_setting (P.table_sizes platform.now) merged.entry.link.now tables.entry.live.now tables.entry.told.now tables.entry.starts.now) (number + 1) next.new }
+    requires tables { AreAtHand (P.table_sizes platform.now) tables.now }
+    requires file { IsAtHand tables.now at_hand.now }
+    requires there { slice_get (numbered_symbols tables.now.merged.link.now.groups) number ≡ Some (file_of at_hand.now.file, symbol.now) }
+    requires stands { StandsAtHand tables.now at_hand.now symbol.now.at }
+    requires next { AreNextAt (setting_at_hand (P.table_sizes platform.now) tables.now) number next.now }
+    ensures value { result ≡ resolution_of (places_at_hand tables.now) (setting_at_hand (P.table_sizes platform.now) tables.now)
+        at_hand.now.file.file.now.kind at_hand.now.first_input (number, symbol.now) }
+    ensures moved { AreNextAt (setting_at_hand (P.table_sizes platform.now) tables.now) (number + 1) next.new }
 {
-    let (link, live) = (merged.link, tables.live);
+    let (link, told) = (tables.merged.link, tables.told);
+    let file = at_hand.file;
     let kind = file.file.kind;
     let id = SymbolId::from_u32(number);
-    let dynamic = next.numbers.take(link, live, tables.told, file, id, symbol);
-    let flags = flags_at(live, number);
+    let dynamic = next.numbers.take(link, tables.live, told, file, id, symbol);
+    let flags = late_flags(link, told, kind, id, symbol, flags_at(tables.live, number));
     if !symbol.is_wanted(kind, id, flags) {
         return None;
     }
-    let raw_value = symbol_value(tables, merged, file, first, number, symbol);
+    let value = symbol_value(tables, at_hand, number, symbol);
+    let raw_value = value.unwrap_or(0);
     let named = &link.plan.named;
     let made = take_entries(
         platform,
@@ -301,35 +291,52 @@ fn resolve<P: Platform>(
         raw_value,
         dynamic,
     );
-    if has_resolutions(kind) {
-        Some(made)
-    } else {
-        None
+    match value {
+        Some(_) => Some(made),
+        None => None,
     }
 }
 
-/// The value of a symbol of a file, with this number.
+/// What a symbol of a file, with this number, is worth by its placement, if anything.
 fn symbol_value(
-    tables: Tables<'_>,
-    merged: Merged<'_>,
-    file: FileRef<'_>,
-    first: usize,
+    tables: &Tables<'_>,
+    at_hand: &FileAtHand<'_>,
+    number: u32,
+    symbol: &InputSymbol,
+) -> Option<u64>
+    requires belong { AreMergedOf tables.now.merged.link.now tables.now.merged.sections.now tables.now.merged.starts.now }
+    requires rising { AreRising tables.now.commons.now }
+    requires file { IsAtHand tables.now at_hand.now }
+    requires there { slice_get (numbered_symbols tables.now.merged.link.now.groups) number ≡ Some (file_of at_hand.now.file, symbol.now) }
+    requires stands { StandsAtHand tables.now at_hand.now symbol.now.at }
+    ensures { result ≡ value_of (places_at_hand tables.now) at_hand.now.file.file.now.kind at_hand.now.first_input number symbol.now.at }
+{
+    if at_hand.file.file.kind.is_internal() {
+        tables.edges.value(&symbol.at)
+    } else {
+        Some(placed_value(tables, at_hand, number, symbol))
+    }
+}
+
+/// The value of a symbol that the linker doesn't place, by its placement.
+fn placed_value(
+    tables: &Tables<'_>,
+    at_hand: &FileAtHand<'_>,
     number: u32,
     symbol: &InputSymbol,
 ) -> u64
-    requires belong { AreMergedOf merged.link.now merged.sections.now merged.starts.now }
-    requires of_file { file_in merged.link.now.groups file.id ≡ Some file.file.now }
-    requires there { slice_get (numbered_symbols merged.link.now.groups) number ≡ Some (file_of file, symbol.now) }
-    requires rising { AreRising tables.commons.now }
-    requires few { first < 2 ^ 32 }
-    requires room { HasRoom tables.marks.now tables.addresses.now first symbol.now.at }
-    ensures { result ≡ placed_value (places_in tables.entry.marks.now tables.entry.addresses.now tables.entry.commons.now merged.entry.link.now merged.entry.starts.now) first number symbol.now.at }
+    requires belong { AreMergedOf tables.now.merged.link.now tables.now.merged.sections.now tables.now.merged.starts.now }
+    requires rising { AreRising tables.now.commons.now }
+    requires file { IsAtHand tables.now at_hand.now }
+    requires there { slice_get (numbered_symbols tables.now.merged.link.now.groups) number ≡ Some (file_of at_hand.now.file, symbol.now) }
+    requires stands { StandsAtHand tables.now at_hand.now symbol.now.at }
+    ensures { result ≡ placed_value (places_at_hand tables.now) at_hand.now.first_input number symbol.now.at }
 {
     match &symbol.at {
         SymbolPlacement::Section { index, offset } => {
-            match address_at(tables, first + *index as usize, *offset) {
+            match address_at(tables, at_hand, *index, *offset) {
                 Some(address) => address,
-                None => merged_value(merged, file, symbol),
+                None => merged_value(tables.merged, at_hand.file, symbol),
             }
         }
         SymbolPlacement::Common { .. } => common_address(tables.commons, number),
@@ -350,14 +357,18 @@ fn common_address(commons: &[CommonAddress], symbol: u32) -> u64
     }
 }
 
-/// The address at an offset of an input section, by its number; none where the section isn't live.
-fn address_at(tables: Tables<'_>, number: usize, offset: u64) -> Option<u64>
-    requires room { is_marked tables.marks.now number ≡ true → slice_index_or tables.addresses.now number 0 + offset < 2 ^ 64 }
-    ensures { result ≡ place_in tables.entry.marks.now tables.entry.addresses.now number offset }
+/// The address at an offset of an input section of a file, by its index; none where the section isn't live.
+fn address_at(tables: &Tables<'_>, at_hand: &FileAtHand<'_>, index: u32, offset: u64) -> Option<u64>
+    requires file { IsAtHand tables.now at_hand.now }
+    requires stands { is_marked tables.now.live.now.marks (input_number tables.now.merged.link.now.groups at_hand.now.file.id index) ≡ true
+        → IsInside tables.now.merged.link.now.groups tables.now.deltas.now tables.now.addresses.now at_hand.now.file.id index offset }
+    ensures { result ≡ place_in tables.now.merged.link.now.groups tables.now.deltas.now tables.now.live.now.marks tables.now.addresses.now (at_hand.now.first_input + index) offset }
 {
-    if !is_marked(tables.marks, number) {
+    let number = at_hand.first_input + index as usize;
+    if !is_marked(tables.live.marks.as_slice(), number) {
         return None;
     }
     let address = tables.addresses.get(number).copied().unwrap_or(0);
-    Some(address + offset)
+    let moved = opt_input_to_output(deleted_in(at_hand.entries, index), offset);
+    Some(address + moved)
 }

@@ -2,8 +2,10 @@
 
 ghost use Rattle.std.specs.Prelude.{◌≡◌, ◌++◌, ◌∷◌, [], IfOk, OnOk, length};
 ghost use Rattle.lk_values.specs.Resolutions.{resolution_at};
+ghost use Rattle.lk_values.specs.Stores.{with_raw_value};
 
 use crate::kept::{Kept, keep};
+use lk_edges::{KnownValues, SymbolValues};
 use lk_link::{Resolution, SymbolId};
 use std::alloc::{AllocError, Global};
 use std::marker::Model;
@@ -70,4 +72,38 @@ impl SymbolResolutions {
         let kept = self.kept.as_slice().get(number).copied()?;
         kept.told(self.wholes.as_slice())
     }
+
+    /// Sets the value of a symbol, if it has a resolution. Takes constant time.
+    pub fn set_raw_value(&mut self, symbol: SymbolId, value: u64)
+        ensures { self.new ≡ with_raw_value self.old symbol value }
+    {
+        let number = symbol.as_usize();
+        if number < self.kept.len() {
+            self.kept[number].raw_value = value;
+        }
+    }
+}
+
+impl KnownValues for SymbolResolutions {
+    ghost use Rattle.lk_values.specs.Stores.{raw_value_of};
+
+    ghost value_of = { raw_value_of };
+
+    fn value(&self, symbol: SymbolId) -> Option<u64> {
+        Some(self.get(symbol)?.raw_value)
+    }
+}
+
+impl SymbolValues for SymbolResolutions {
+    ghost use Rattle.lk_edges.specs.Stores.{kept_alone};
+    ghost use Rattle.std.proofs.Common.{refl};
+    ghost use Rattle.lk_values.specs.Stores.{valued, with_raw_value};
+
+    ghost with_value = { with_raw_value };
+
+    fn set_value(&mut self, symbol: SymbolId, value: u64) {
+        self.set_raw_value(symbol, value);
+    }
+
+    ghost sets_alone = { kept_alone (λ r. r.raw_value) (λ r n. valued n r) (λ r n. refl) };
 }

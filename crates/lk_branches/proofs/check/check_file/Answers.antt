@@ -3,7 +3,7 @@ use Rattle.std.specs.List.{slice_get}
 use Rattle.std.proofs.lemmas.Option.{slice_get-get_or}
 use Rattle.lk_link.specs.declared.section.InputSection.{InputSection}
 use Rattle.lk_link.specs.Walks.{file_of}
-use Rattle.lk_reach.proofs.SymbolNumbers.{first_within, inputs_few, sections_few, symbols_few}
+use Rattle.lk_reach.proofs.SymbolNumbers.{inputs_few, sections_few, symbols_few}
 use Rattle.lk_values.proofs.Stopping.{all_gone, exit, one_more, stops_at}
 use Rattle.lk_branches.specs.declared.check.BranchPlace.{BranchPlace}
 use Rattle.lk_branches.specs.Branches.{section_unreached}
@@ -15,19 +15,6 @@ input_start-requires c = omega (arith, inputs_few c.args.by.now.link.now c.requi
 
 pub symbol_id_range-requires : goal.symbol_id_range-requires
 symbol_id_range-requires c = symbols_few c.args.by.now.link.now c.requires.good
-
-pub overflow_add-number : goal.overflow_add-number
-overflow_add-number c =
-    let link = c.args.by.now.link.now in
-    omega (
-      arith,
-      c.in-Some.ensures.1,
-      first_within link.groups c.args.file.id,
-      inputs_few link c.requires.good,
-      sections_few link c.args.file.id c.args.file.file.now c.requires.good c.requires.there,
-      c.loop-index-test.true,
-      ap length c.as_slice-section-items.ensures,
-    )
 
 pub overflow_cast-index : goal.overflow_cast-index
 overflow_cast-index c =

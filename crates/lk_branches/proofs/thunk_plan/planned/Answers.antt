@@ -52,8 +52,8 @@ build-requires-clause-room c =
     let from = c.requires.filled in
     (start_is c.args.link.now c.args.live.now c.args.config from.0 from.1 c.in_ok-start.start c.requires.good c.requires.lawful from.3 (c.in_ok-start.ensures from.0 from.1 from.2)).1
 
-pub block_owners-requires : goal.block_owners-requires
-block_owners-requires c = record {
+pub owners_among-requires : goal.owners_among-requires
+owners_among-requires c = record {
   small = c.requires.lawful.small;
   few = subst (All (λ (set : List ℕ). length set < 2 ^ 32))
       (sym (ap (map (λ (b : ThunkBlock). b.symbols)) c.deref.ensures.value ∙ c.in_ok-blocks.ensures.sets))

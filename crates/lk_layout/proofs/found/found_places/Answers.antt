@@ -5,7 +5,7 @@ use Rattle.lk_branches.specs.declared.check.BranchPlace.{BranchPlace}
 use Rattle.lk_link.specs.declared.link.LinkInput.{LinkInput}
 use Rattle.lk_layout.specs.Machines.{platform_machine}
 use Rattle.lk_layout.specs.Made.{Made}
-use Rattle.lk_layout.specs.Stages.{IsReachingLink, Reaches, made_addressed}
+use Rattle.lk_layout.specs.Stages.{IsBranchedLink, Reaches, made_addressed}
 use Rattle.lk_layout.specs.Thunks.{made_branching, made_places}
 use Rattle.lk_layout.proofs.Answering.{err_exit, unreached_refused}
 use Rattle.lk_layout.proofs.Branching.{branching_is, places_are}
@@ -18,12 +18,12 @@ returns-in_err-check_branches g c =
     let link : LinkInput = c.args.link.now in
     let made : Made = made_addressed c.requires.addressed in
     let stand : c.in_ok-places.places.items ≡ made_places made = places_are machine link c.args.addressed.now c.requires.addressed c.deref.result.now c.in_ok-places.places.items c.deref.ensures.value c.in_ok-places.ensures in
-    let all = branching_is machine link c.args.addressed.now c.requires.addressed c.deref-2.result.now c.deref-3.result.now (c.deref-2.ensures.value ∙ stand) c.deref-3.ensures.value in
+    let all = branching_is machine link c.args.addressed.now c.requires.addressed c.deref-2.result.now c.deref-3.result.now c.as_slice.result.now (c.deref-2.ensures.value ∙ stand) c.deref-3.ensures.value c.as_slice.ensures in
     let at : BranchPlace = c.in_err-check_branches.field-0.0 in
     let first : slice_get (unreached (made_branching made)) 0 ≡ Some at = ap (λ (by : Branching). slice_get (unreached by) 0) (sym all) ∙ c.in_err-check_branches.ensures in
-    err_exit (Reaches machine link (λ q. IsReachingLink machine link (record { addressed = c.args.addressed.now; places = q }))) _ c.from_residual-in_err-check_branches.result c.from_residual-in_err-check_branches.ensures.1 (λ e is.
+    err_exit (Reaches machine link (λ q. IsBranchedLink machine link (record { addressed = c.args.addressed.now; places = q }))) _ c.from_residual-in_err-check_branches.result c.from_residual-in_err-check_branches.ensures.1 (λ e is.
     from_spanned machine link c.args.addressed.now.spanned (Err e) c.requires.addressed.spanned (λ some.
-    unreached_refused made at e c.requires.addressed.inside first is))
+    unreached_refused made c.args.addressed.now.addresses.resolutions at e c.requires.addressed.inside c.requires.addressed.redirected first is))
 
 pub returns : goal.returns
 returns g c =
@@ -31,7 +31,7 @@ returns g c =
     let link : LinkInput = c.args.link.now in
     let made : Made = made_addressed c.requires.addressed in
     let stand : c.in_ok-places.places.items ≡ made_places made = places_are machine link c.args.addressed.now c.requires.addressed c.deref.result.now c.in_ok-places.places.items c.deref.ensures.value c.in_ok-places.ensures in
-    let all = branching_is machine link c.args.addressed.now c.requires.addressed c.deref-2.result.now c.deref-3.result.now (c.deref-2.ensures.value ∙ stand) c.deref-3.ensures.value in
+    let all = branching_is machine link c.args.addressed.now c.requires.addressed c.deref-2.result.now c.deref-3.result.now c.as_slice.result.now (c.deref-2.ensures.value ∙ stand) c.deref-3.ensures.value c.as_slice.ensures in
     record {
       addressed = c.requires.addressed;
       places = c.from_vec.ensures ∙ stand;

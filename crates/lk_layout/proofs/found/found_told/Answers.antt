@@ -1,12 +1,13 @@
 use Rattle.std.proofs.Common.{ℕ, List, length, ap, ◌∙◌}
 use Rattle.lk_branches.specs.ThunkPlans.{planned_sets}
 use Rattle.lk_sizes.specs.Owners.{Filling}
-use Rattle.lk_layout.specs.Thunks.{owners_of_blocks}
+use Rattle.lk_branches.specs.Branches.{owners_of_blocks}
 use Rattle.lk_values.specs.OutputContent.{output_filling}
 use Rattle.lk_link.specs.declared.link.LinkInput.{LinkInput}
 use Rattle.lk_layout.specs.Machines.{platform_machine}
 use Rattle.lk_sizes.specs.Contents.{contents_of}
-use Rattle.lk_layout.specs.Made.{filling_for}
+use Rattle.lk_layout.specs.Made.{Made, made_filling}
+use Rattle.lk_layout.specs.Stages.{made_reaching}
 use Rattle.lk_values.proofs.PartCounts.{length-by_part}
 use Rattle.lk_layout.proofs.found.found_told.Goals as goal
 
@@ -14,20 +15,21 @@ pub attributes_of_contents-requires-clause-count : goal.attributes_of_contents-r
 attributes_of_contents-requires-clause-count g c =
     let machine = platform_machine (g.P.Platform.segment_start c.args._platform.now) (g.P.Platform.table_sizes c.args._platform.now) (g.A.Arch.config_of c.args._arch.now) in
     let link : LinkInput = c.args.link.now in
-    ap length (c.contents.ensures ∙ c.requires.reaching.addressed.spanned.placed.sized.owners.contents)
-    ∙ length-by_part (contents_of (filling_for machine link c.args.reaching.now.addressed.spanned.placed.sized.kept.live)) link
+    let made : Made = made_reaching c.requires.reaching in
+    ap length (c.contents.ensures ∙ c.requires.reaching.branched.addressed.spanned.placed.owners.contents)
+    ∙ length-by_part (contents_of (made_filling made)) link
 
 pub returns : goal.returns
 returns g c =
     let machine = platform_machine (g.P.Platform.segment_start c.args._platform.now) (g.P.Platform.table_sizes c.args._platform.now) (g.A.Arch.config_of c.args._arch.now) in
-    let filling = filling_for machine c.args.link.now c.args.reaching.now.addressed.spanned.placed.sized.kept.live in
-    let plain : Filling = output_filling machine.sizes c.args.link.now c.args.reaching.now.addressed.spanned.placed.sized.kept.live in
-    let plan = c.requires.reaching.addressed.spanned.placed.sized.thunks in
+    let filling : Filling = made_filling (made_reaching c.requires.reaching) in
+    let plain : Filling = output_filling machine.sizes c.args.link.now c.args.reaching.now.addressed.spanned.placed.kept.live in
+    let plan = c.requires.reaching.branched.addressed.spanned.placed.thunks in
     record {
       reaching = c.requires.reaching;
-      attributes = c.from_vec.ensures ∙ c.in_ok-attributes.ensures.contents filling (c.contents.ensures ∙ c.requires.reaching.addressed.spanned.placed.sized.owners.contents);
+      attributes = c.from_vec.ensures ∙ c.in_ok-attributes.ensures.contents filling (c.contents.ensures ∙ c.requires.reaching.branched.addressed.spanned.placed.owners.contents);
       partial = c.in_ok-partial_link.ensures;
       owners = c.from_vec-2.ensures ∙ c.in_ok-block_owners.ensures
-          ∙ ap (λ (sets : List (List ℕ)). owners_of_blocks sets c.args.reaching.now.addressed.spanned.placed.sized.thunks.users) plan.sets
+          ∙ ap (λ (sets : List (List ℕ)). owners_of_blocks sets c.args.reaching.now.addressed.spanned.placed.thunks.users) plan.sets
           ∙ ap (owners_of_blocks (planned_sets machine.thunks plain)) plan.users;
     }

@@ -3,4 +3,4 @@ use Rattle.lk_layout.proofs.laws.laid_out_sections_are_apart.Goals as goal
 
 pub returns : goal.returns
 returns c =
-    laid_out_apart c.well_formed_exactly_unfaulted.ensures c.live_sections_are_owners.ensures c.defined_layouts_are_sound.ensures c.laid_out_memory_is_disjoint.ensures
+    laid_out_apart c.laid_out_links_are_well_formed.ensures c.live_sections_are_owners.ensures c.defined_layouts_are_sound.ensures c.laid_out_memory_is_disjoint.ensures

@@ -8,6 +8,6 @@ use Rattle.lk_run.proofs.report.write_live_sections.Given as goal
 -- the texts of the input sections so far are written
 abbrev pub invariant-loop-input : goal.invariant-loop-input
 invariant-loop-input l = record {
-  written : string_bytes l.text ≡ string_bytes l.initial.text ++ flat_map (input_text l.layout) (enumerate_from 0 (map input_of l.yielded));
+  written : string_bytes l.text ≡ string_bytes l.initial.text ++ flat_map (input_text l.link l.layout) (enumerate_from 0 (map input_of l.yielded));
   number : l.number ≡ length l.yielded;
 }

@@ -1,6 +1,5 @@
 use Rattle.std.proofs.Common.{◌≡◌, length, map}
-use Rattle.std.specs.Prelude.{is_some, string_bytes}
-use Rattle.std.specs.List.{count_by}
+use Rattle.std.specs.Prelude.{string_bytes}
 use Rattle.lk_layout.specs.Layouts.{emitted_count, is_told_singleton}
 use Rattle.lk_link.specs.Walks.{input_of}
 use Rattle.lk_run.proofs.SingleLines.{AreWritten}

@@ -1,79 +1,124 @@
-use Rattle.std.proofs.Common.{◌≡◌, ◌+◌, ℕ, Bool, true, false, List, Some, refl, sym, ap, subst, ◌∙◌}
+use Rattle.std.proofs.Common.{◌≡◌, ◌+◌, ◌<◌, ◌^◌, ℕ, Bool, true, false, List, Option, Some, refl, sym, ap, subst, ◌∙◌}
+use Rattle.std.specs.Prelude.{option_map, unwrap_or}
 use Rattle.lk_link.specs.declared.file.FileKind.{FileKind}
 use Rattle.lk_link.specs.declared.flags.ValueFlags.{ValueFlags}
-use Rattle.lk_link.specs.declared.link.LinkInput.{LinkInput}
 use Rattle.lk_link.specs.declared.resolution.Resolution.{Resolution}
 use Rattle.lk_link.specs.declared.symbol.InputSymbol.{InputSymbol}
 use Rattle.lk_link.specs.Inputs.{NumberedFile}
-use Rattle.lk_link.specs.Walks.{file_of}
-use Rattle.lk_gc.specs.declared.live.Live.{Live}
-use Rattle.lk_tables.specs.declared.numbers.DynamicNumbers.{DynamicNumbers}
 use Rattle.lk_link.specs.Symbols.{is_wanted}
+use Rattle.lk_link.specs.Walks.{file_of}
+use Rattle.lk_tables.specs.declared.numbers.DynamicNumbers.{DynamicNumbers}
 use Rattle.lk_tables.specs.Dynamic.{dynamic_index, dynamic_table}
 use Rattle.lk_tables.specs.DynamicCounters.{AreNumbersAt}
-use Rattle.lk_tables.specs.Late.{flags_at}
-use Rattle.lk_tables.specs.SymbolEntries.{is_resolved}
-use Rattle.lk_values.specs.Entries.{EntrySetting, entry_setting}
-use Rattle.lk_values.specs.Resolutions.{Places, has_resolutions}
-use Rattle.lk_values.specs.Tables.{places_in}
-use Rattle.lk_values.proofs.EntriesTaken.{got_fits, made_is, next_kept, next_taken, plt_fits}
+use Rattle.lk_tables.specs.Late.{flags_at, late_flags}
+use Rattle.lk_values.specs.AtHand.{places_at_hand, setting_at_hand}
+use Rattle.lk_values.specs.Entries.{EntrySetting, told_flags, with_entries}
+use Rattle.lk_values.specs.Resolutions.{Places}
+use Rattle.lk_values.proofs.EntriesTaken.{ComesNext, got_fits, has_own, made_is, next_kept, next_taken, plt_fits}
 use Rattle.lk_values.proofs.resolution.resolve.Goals as goal
 
+-- the flags that are read are those that are told
+are_told : (by : EntrySetting) (k : FileKind) (s id : ℕ) (x : InputSymbol) (own flags : ValueFlags) → id ≡ s → own ≡ flags_at by.live.flags s → flags ≡ late_flags by.link by.told k id x own
+    → flags ≡ told_flags by k (s, x)
+are_told by k s id x own flags number found late =
+    late ∙ ap (λ (n : ℕ). late_flags by.link by.told k n x own) number ∙ ap (late_flags by.link by.told k s x) found
+
 -- what was tested, by number and flags
-tested : (k : FileKind) (live : Live) (s id : ℕ) (x : InputSymbol) (flags : ValueFlags) (a b : Bool) → a ≡ is_wanted k id x flags → id ≡ s → flags ≡ flags_at live.flags s → a ≡ b → is_resolved live k (s, x) ≡ b
-tested k live s id x flags a b test number own is =
-    ap (is_wanted k s x) (sym own) ∙ ap (λ (n : ℕ). is_wanted k n x flags) (sym number) ∙ sym test ∙ is
+tested : (by : EntrySetting) (k : FileKind) (s id : ℕ) (x : InputSymbol) (flags : ValueFlags) (a b : Bool) → id ≡ s → flags ≡ told_flags by k (s, x) → a ≡ is_wanted k id x flags → a ≡ b
+    → is_wanted k s x (told_flags by k (s, x)) ≡ b
+tested by k s id x flags a b number told test is =
+    ap (is_wanted k s x) (sym told) ∙ ap (λ (n : ℕ). is_wanted k n x flags) (sym number) ∙ sym test ∙ is
 
 -- the numbers behind a symbol
-behind : (link : LinkInput) (live : Live) (told : List Bool) (s id : ℕ) (numbers : DynamicNumbers) → id ≡ s → AreNumbersAt link live told (id + 1) numbers → AreNumbersAt link live told (s + 1) numbers
-behind link live told s id numbers same at = subst (λ (n : ℕ). AreNumbersAt link live told (n + 1) numbers) same at
-
-pub take_entries-made-requires-clause-got : goal.take_entries-made-requires-clause-got
-take_entries-made-requires-clause-got g c =
-    let by : EntrySetting = entry_setting (g.P.Platform.table_sizes c.args.platform.now) c.args.merged.link.now c.args.tables.live.now c.args.tables.told.now c.args.tables.starts.now in
-    let wanted = tested c.args.file.file.now.kind c.args.tables.live.now c.args.number c.from_u32-id.result c.args.symbol.now c.flags_at-flags.result _ true c.is_wanted.ensures c.from_u32-id.ensures c.flags_at-flags.ensures c.if-not-is_wanted.false in
-    got_fits by c.args.number (file_of c.args.file) c.args.symbol.now c.args.next.now c.flags_at-flags.result c.requires.there wanted c.requires.tables_fit c.requires.next c.flags_at-flags.ensures
-
-pub take_entries-made-requires-clause-plt : goal.take_entries-made-requires-clause-plt
-take_entries-made-requires-clause-plt g c =
-    let by : EntrySetting = entry_setting (g.P.Platform.table_sizes c.args.platform.now) c.args.merged.link.now c.args.tables.live.now c.args.tables.told.now c.args.tables.starts.now in
-    let wanted = tested c.args.file.file.now.kind c.args.tables.live.now c.args.number c.from_u32-id.result c.args.symbol.now c.flags_at-flags.result _ true c.is_wanted.ensures c.from_u32-id.ensures c.flags_at-flags.ensures c.if-not-is_wanted.false in
-    plt_fits by c.args.number (file_of c.args.file) c.args.symbol.now c.args.next.now c.flags_at-flags.result c.requires.there wanted c.requires.tables_fit c.requires.next c.flags_at-flags.ensures
+behind : (by : EntrySetting) (s id : ℕ) (numbers : DynamicNumbers) → id ≡ s → AreNumbersAt by.link by.live by.told (id + 1) numbers → AreNumbersAt by.link by.live by.told (s + 1) numbers
+behind by s id numbers same at = subst (λ (n : ℕ). AreNumbersAt by.link by.live by.told (n + 1) numbers) same at
 
 pub returns-then-not-is_wanted-clause-moved : goal.returns-then-not-is_wanted-clause-moved
 returns-then-not-is_wanted-clause-moved g c =
-    let by : EntrySetting = entry_setting (g.P.Platform.table_sizes c.args.platform.now) c.args.merged.link.now c.args.tables.live.now c.args.tables.told.now c.args.tables.starts.now in
-    let wanted = tested c.args.file.file.now.kind c.args.tables.live.now c.args.number c.from_u32-id.result c.args.symbol.now c.flags_at-flags.result _ false c.is_wanted.ensures c.from_u32-id.ensures c.flags_at-flags.ensures c.if-not-is_wanted.true in
-    next_kept by c.args.number (file_of c.args.file) c.args.symbol.now c.args.next.now _ c.requires.there wanted c.requires.next
-    (behind c.args.merged.link.now c.args.tables.live.now c.args.tables.told.now c.args.number c.from_u32-id.result c.take-dynamic.new.self c.from_u32-id.ensures c.take-dynamic.ensures.moved) refl
-
-pub returns-then-has_resolutions-clause-value : goal.returns-then-has_resolutions-clause-value
-returns-then-has_resolutions-clause-value g c =
-    let by : EntrySetting = entry_setting (g.P.Platform.table_sizes c.args.platform.now) c.args.merged.link.now c.args.tables.live.now c.args.tables.told.now c.args.tables.starts.now in
-    let places : Places = places_in c.args.tables.marks.now c.args.tables.addresses.now c.args.tables.commons.now c.args.merged.link.now c.args.merged.starts.now in
-    let live : Live = c.args.tables.live.now in
-    let f : NumberedFile = file_of c.args.file in
+    let by : EntrySetting = setting_at_hand (g.P.Platform.table_sizes c.args.platform.now) c.args.tables.now in
+    let f : NumberedFile = file_of c.args.at_hand.now.file in
+    let s : ℕ = c.args.number in
     let x : InputSymbol = c.args.symbol.now in
-    let wanted = tested f.file.kind live c.args.number c.from_u32-id.result x c.flags_at-flags.result _ true c.is_wanted.ensures c.from_u32-id.ensures c.flags_at-flags.ensures c.if-not-is_wanted.false in
-    let has : has_resolutions f.file.kind ≡ true = sym c.has_resolutions.ensures ∙ c.if-has_resolutions.true in
-    let table : List ℕ = dynamic_table c.args.merged.link.now live c.args.tables.told.now in
-    let index : c.take-dynamic.result ≡ dynamic_index table c.args.number = c.take-dynamic.ensures.index ∙ ap (dynamic_index table) c.from_u32-id.ensures in
-    ap (λ (r : Resolution). Some r) c.take_entries-made.ensures.made
-    ∙ made_is places by c.args.first c.args.number c.symbol_value-raw_value.result f x c.args.next.now c.flags_at-flags.result c.take-dynamic.result c.requires.there has wanted c.requires.next
-    c.flags_at-flags.ensures c.symbol_value-raw_value.ensures index
+    let told = are_told by f.file.kind s c.from_u32-id.result x c.flags_at.result c.late_flags-flags.result c.from_u32-id.ensures c.flags_at.ensures c.late_flags-flags.ensures in
+    let unwanted = tested by f.file.kind s c.from_u32-id.result x c.late_flags-flags.result _ false c.from_u32-id.ensures told c.is_wanted.ensures c.if-not-is_wanted.true in
+    next_kept by s f x c.args.next.now _ c.requires.there unwanted c.requires.next
+    (behind by s c.from_u32-id.result c.take-dynamic.new.self c.from_u32-id.ensures c.take-dynamic.ensures.moved) refl
 
-pub returns-then-has_resolutions-clause-moved : goal.returns-then-has_resolutions-clause-moved
-returns-then-has_resolutions-clause-moved g c =
-    let by : EntrySetting = entry_setting (g.P.Platform.table_sizes c.args.platform.now) c.args.merged.link.now c.args.tables.live.now c.args.tables.told.now c.args.tables.starts.now in
-    let wanted = tested c.args.file.file.now.kind c.args.tables.live.now c.args.number c.from_u32-id.result c.args.symbol.now c.flags_at-flags.result _ true c.is_wanted.ensures c.from_u32-id.ensures c.flags_at-flags.ensures c.if-not-is_wanted.false in
-    next_taken by c.args.number (file_of c.args.file) c.args.symbol.now c.args.next.now _ c.flags_at-flags.result c.requires.there wanted c.requires.next
-    (behind c.args.merged.link.now c.args.tables.live.now c.args.tables.told.now c.args.number c.from_u32-id.result c.take-dynamic.new.self c.from_u32-id.ensures c.take-dynamic.ensures.moved)
-    c.flags_at-flags.ensures c.take_entries-made.ensures.moved
+pub take_entries-made-requires-clause-got : goal.take_entries-made-requires-clause-got
+take_entries-made-requires-clause-got g c =
+    let by : EntrySetting = setting_at_hand (g.P.Platform.table_sizes c.args.platform.now) c.args.tables.now in
+    let f : NumberedFile = file_of c.args.at_hand.now.file in
+    let s : ℕ = c.args.number in
+    let x : InputSymbol = c.args.symbol.now in
+    let flags : ValueFlags = c.late_flags-flags.result in
+    let told = are_told by f.file.kind s c.from_u32-id.result x c.flags_at.result flags c.from_u32-id.ensures c.flags_at.ensures c.late_flags-flags.ensures in
+    let wanted = tested by f.file.kind s c.from_u32-id.result x flags _ true c.from_u32-id.ensures told c.is_wanted.ensures c.if-not-is_wanted.false in
+    let comes : ComesNext by s f x c.args.next.now
+    = record { there = c.requires.there; wanted = wanted; lawful = g.met.P.Platform.sizes_are_lawful c.args.platform.now; next = c.requires.next } in
+    let fits = got_fits by s f x c.args.next.now comes c.requires.tables.fit in
+    λ some. subst (λ (fl : ValueFlags). c.args.next.now.cursors.got + (by.sizes.allocation fl.0).got < 2 ^ 64) (sym told) (fits some)
 
-pub returns-else-has_resolutions-clause-moved : goal.returns-else-has_resolutions-clause-moved
-returns-else-has_resolutions-clause-moved g c =
-    let by : EntrySetting = entry_setting (g.P.Platform.table_sizes c.args.platform.now) c.args.merged.link.now c.args.tables.live.now c.args.tables.told.now c.args.tables.starts.now in
-    let wanted = tested c.args.file.file.now.kind c.args.tables.live.now c.args.number c.from_u32-id.result c.args.symbol.now c.flags_at-flags.result _ true c.is_wanted.ensures c.from_u32-id.ensures c.flags_at-flags.ensures c.if-not-is_wanted.false in
-    next_taken by c.args.number (file_of c.args.file) c.args.symbol.now c.args.next.now _ c.flags_at-flags.result c.requires.there wanted c.requires.next
-    (behind c.args.merged.link.now c.args.tables.live.now c.args.tables.told.now c.args.number c.from_u32-id.result c.take-dynamic.new.self c.from_u32-id.ensures c.take-dynamic.ensures.moved)
-    c.flags_at-flags.ensures c.take_entries-made.ensures.moved
+pub take_entries-made-requires-clause-plt : goal.take_entries-made-requires-clause-plt
+take_entries-made-requires-clause-plt g c =
+    let by : EntrySetting = setting_at_hand (g.P.Platform.table_sizes c.args.platform.now) c.args.tables.now in
+    let f : NumberedFile = file_of c.args.at_hand.now.file in
+    let s : ℕ = c.args.number in
+    let x : InputSymbol = c.args.symbol.now in
+    let flags : ValueFlags = c.late_flags-flags.result in
+    let told = are_told by f.file.kind s c.from_u32-id.result x c.flags_at.result flags c.from_u32-id.ensures c.flags_at.ensures c.late_flags-flags.ensures in
+    let wanted = tested by f.file.kind s c.from_u32-id.result x flags _ true c.from_u32-id.ensures told c.is_wanted.ensures c.if-not-is_wanted.false in
+    let comes : ComesNext by s f x c.args.next.now
+    = record { there = c.requires.there; wanted = wanted; lawful = g.met.P.Platform.sizes_are_lawful c.args.platform.now; next = c.requires.next } in
+    let fits = plt_fits by s f x c.args.next.now comes c.requires.tables.fit in
+    λ some. subst (λ (fl : ValueFlags). c.args.next.now.cursors.plt + (by.sizes.allocation fl.0).plt < 2 ^ 64) (sym told) (fits some)
+
+pub returns-in-Some-clause-value : goal.returns-in-Some-clause-value
+returns-in-Some-clause-value g c =
+    let by : EntrySetting = setting_at_hand (g.P.Platform.table_sizes c.args.platform.now) c.args.tables.now in
+    let f : NumberedFile = file_of c.args.at_hand.now.file in
+    let s : ℕ = c.args.number in
+    let x : InputSymbol = c.args.symbol.now in
+    let flags : ValueFlags = c.late_flags-flags.result in
+    let told = are_told by f.file.kind s c.from_u32-id.result x c.flags_at.result flags c.from_u32-id.ensures c.flags_at.ensures c.late_flags-flags.ensures in
+    let wanted = tested by f.file.kind s c.from_u32-id.result x flags _ true c.from_u32-id.ensures told c.is_wanted.ensures c.if-not-is_wanted.false in
+    let comes : ComesNext by s f x c.args.next.now
+    = record { there = c.requires.there; wanted = wanted; lawful = g.met.P.Platform.sizes_are_lawful c.args.platform.now; next = c.requires.next } in
+    let places : Places = places_at_hand c.args.tables.now in
+    let first : ℕ = c.args.at_hand.now.first_input in
+    let table : List ℕ = dynamic_table by.link by.live by.told in
+    let index : c.take-dynamic.result ≡ dynamic_index table s = c.take-dynamic.ensures.index ∙ ap (dynamic_index table) c.from_u32-id.ensures in
+    let own : Option ℕ → Option Resolution = option_map (with_entries by s (told_flags by f.file.kind (s, x))) in
+    let raw : c.unwrap_or-raw_value.result ≡ c.in-Some.field-0 = c.unwrap_or-raw_value.ensures ∙ ap (λ o. unwrap_or o 0) c.in-Some.is in
+    ap (λ (r : Resolution). Some r)
+    (c.take_entries-made.ensures.made ∙ made_is by s c.unwrap_or-raw_value.result f x c.args.next.now flags c.take-dynamic.result comes told index)
+    ∙ ap (λ n. own (Some n)) raw
+    ∙ ap own (sym c.in-Some.is ∙ c.symbol_value-value.ensures)
+    ∙ sym (has_own places by f.file.kind first (s, x) wanted)
+
+pub returns-in-Some-clause-moved : goal.returns-in-Some-clause-moved
+returns-in-Some-clause-moved g c =
+    let by : EntrySetting = setting_at_hand (g.P.Platform.table_sizes c.args.platform.now) c.args.tables.now in
+    let f : NumberedFile = file_of c.args.at_hand.now.file in
+    let s : ℕ = c.args.number in
+    let x : InputSymbol = c.args.symbol.now in
+    let flags : ValueFlags = c.late_flags-flags.result in
+    let told = are_told by f.file.kind s c.from_u32-id.result x c.flags_at.result flags c.from_u32-id.ensures c.flags_at.ensures c.late_flags-flags.ensures in
+    let wanted = tested by f.file.kind s c.from_u32-id.result x flags _ true c.from_u32-id.ensures told c.is_wanted.ensures c.if-not-is_wanted.false in
+    let comes : ComesNext by s f x c.args.next.now
+    = record { there = c.requires.there; wanted = wanted; lawful = g.met.P.Platform.sizes_are_lawful c.args.platform.now; next = c.requires.next } in
+    next_taken by s f x c.args.next.now _ flags comes
+    (behind by s c.from_u32-id.result c.take-dynamic.new.self c.from_u32-id.ensures c.take-dynamic.ensures.moved) told c.take_entries-made.ensures.moved
+
+pub returns-in-None-clause-moved : goal.returns-in-None-clause-moved
+returns-in-None-clause-moved g c =
+    let by : EntrySetting = setting_at_hand (g.P.Platform.table_sizes c.args.platform.now) c.args.tables.now in
+    let f : NumberedFile = file_of c.args.at_hand.now.file in
+    let s : ℕ = c.args.number in
+    let x : InputSymbol = c.args.symbol.now in
+    let flags : ValueFlags = c.late_flags-flags.result in
+    let told = are_told by f.file.kind s c.from_u32-id.result x c.flags_at.result flags c.from_u32-id.ensures c.flags_at.ensures c.late_flags-flags.ensures in
+    let wanted = tested by f.file.kind s c.from_u32-id.result x flags _ true c.from_u32-id.ensures told c.is_wanted.ensures c.if-not-is_wanted.false in
+    let comes : ComesNext by s f x c.args.next.now
+    = record { there = c.requires.there; wanted = wanted; lawful = g.met.P.Platform.sizes_are_lawful c.args.platform.now; next = c.requires.next } in
+    next_taken by s f x c.args.next.now _ flags comes
+    (behind by s c.from_u32-id.result c.take-dynamic.new.self c.from_u32-id.ensures c.take-dynamic.ensures.moved) told c.take_entries-made.ensures.moved

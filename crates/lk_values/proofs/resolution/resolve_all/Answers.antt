@@ -8,34 +8,33 @@ use Rattle.lk_link.specs.Symbols.{first_symbol, symbols_in}
 use Rattle.lk_link.specs.Walks.{file_of}
 use Rattle.lk_reach.proofs.Numbered.{are_numbered, file_at}
 use Rattle.lk_reach.proofs.WalkLemmas.{all_files_done, file_turn, one_file_more}
-use Rattle.lk_values.specs.Entries.{EntrySetting, entry_setting}
+use Rattle.lk_values.specs.AtHand.{places_at_hand, setting_at_hand}
+use Rattle.lk_values.specs.Entries.{EntrySetting}
 use Rattle.lk_values.specs.EntryWords.{AreNextAt}
 use Rattle.lk_values.specs.Resolutions.{file_resolutions}
-use Rattle.lk_values.specs.Tables.{places_in}
 use Rattle.lk_values.proofs.EntriesTaken.{first_next}
 use Rattle.lk_values.proofs.Pushing.{first_is}
 use Rattle.lk_values.proofs.Stopping.{files_so_far}
 use Rattle.lk_values.proofs.resolution.resolve_all.Goals as goal
 
 pub files-file-items-requires : goal.files-file-items-requires
-files-file-items-requires g c = are_numbered c.args.merged.link.now c.requires.belong.good
+files-file-items-requires g c = are_numbered c.args.tables.now.merged.link.now c.requires.tables.belong.good
 
 pub loop-file-init : goal.loop-file-init
 loop-file-init g c =
-    let by : EntrySetting = entry_setting (g.P.Platform.table_sizes c.args.platform.now) c.args.merged.link.now c.args.tables.live.now c.args.tables.told.now c.args.tables.starts.now in
+    let by : EntrySetting = setting_at_hand (g.P.Platform.table_sizes c.args.platform.now) c.args.tables.now in
     record { pushed = c.in_ok-resolutions.ensures; next = first_next by _ c.requires.numbers c.first_cursors.ensures }
 
 pub push_file_resolutions-requires-clause-there : goal.push_file_resolutions-requires-clause-there
 push_file_resolutions-requires-clause-there g c =
-    let groups = c.args.merged.link.now.groups in
+    let groups = c.args.tables.now.merged.link.now.groups in
     let at = file_turn (numbered_files groups) c.into_iter-file-iterator.result c.loop-file.file-iterator c.next.new.self c.loop-file.yielded c.in-Some.file (cc) c.loop-file.yielded_by c.in-Some.ensures.steps in
     (file_at groups _ (file_of c.in-Some.file) at).there
 
 pub push_file_resolutions-requires-clause-next : goal.push_file_resolutions-requires-clause-next
 push_file_resolutions-requires-clause-next g c =
-    let link = c.args.merged.link.now in
-    let groups = link.groups in
-    let by : EntrySetting = entry_setting (g.P.Platform.table_sizes c.args.platform.now) link c.args.tables.live.now c.args.tables.told.now c.args.tables.starts.now in
+    let groups = c.args.tables.now.merged.link.now.groups in
+    let by : EntrySetting = setting_at_hand (g.P.Platform.table_sizes c.args.platform.now) c.args.tables.now in
     let begins : c.into_iter-file-iterator.result ≡ numbered_files groups = cc in
     let at = file_turn (numbered_files groups) c.into_iter-file-iterator.result c.loop-file.file-iterator c.next.new.self c.loop-file.yielded c.in-Some.file begins c.loop-file.yielded_by c.in-Some.ensures.steps in
     let far = files_so_far (numbered_files groups) c.into_iter-file-iterator.result c.loop-file.file-iterator c.loop-file.yielded begins c.loop-file.yielded_by in
@@ -45,15 +44,13 @@ push_file_resolutions-requires-clause-next g c =
 
 pub loop-file-preserved : goal.loop-file-preserved
 loop-file-preserved g c =
-    let link = c.args.merged.link.now in
-    let groups = link.groups in
-    let by : EntrySetting = entry_setting (g.P.Platform.table_sizes c.args.platform.now) link c.args.tables.live.now c.args.tables.told.now c.args.tables.starts.now in
+    let groups = c.args.tables.now.merged.link.now.groups in
+    let by : EntrySetting = setting_at_hand (g.P.Platform.table_sizes c.args.platform.now) c.args.tables.now in
     let begins : c.into_iter-file-iterator.result ≡ numbered_files groups = cc in
     let x = c.in-Some.file in
     let done = c.loop-file.yielded in
     let count : NumberedFile → ℕ = λ f. symbols_in f.file in
-    let of_file : NumberedFile → List (Option Resolution)
-    = file_resolutions (places_in c.args.tables.marks.now c.args.tables.addresses.now c.args.tables.commons.now c.args.merged.link.now c.args.merged.starts.now) by in
+    let of_file : NumberedFile → List (Option Resolution) = file_resolutions (places_at_hand c.args.tables.now) by in
     let at = file_turn (numbered_files groups) c.into_iter-file-iterator.result c.loop-file.file-iterator c.next.new.self done x begins c.loop-file.yielded_by c.in-Some.ensures.steps in
     let far = files_so_far (numbered_files groups) c.into_iter-file-iterator.result c.loop-file.file-iterator done begins c.loop-file.yielded_by in
     let first : first_symbol groups x.id ≡ sum_by count (map file_of done) = first_is groups (length done) (file_of x) at ∙ ap (sum_by count) (sym far) in
@@ -67,8 +64,7 @@ loop-file-preserved g c =
 
 pub returns : goal.returns
 returns g c =
-    let files : List NumberedFile = numbered_files c.args.merged.link.now.groups in
+    let files : List NumberedFile = numbered_files c.args.tables.now.merged.link.now.groups in
     let done = all_files_done files c.into_iter-file-iterator.result c.loop-file.file-iterator c.next.new.self c.loop-file.yielded (cc) c.loop-file.yielded_by c.in-None.ensures.steps in
     c.loop-file.invariant.pushed
-    ∙ ap (flat_map (file_resolutions (places_in c.args.tables.marks.now c.args.tables.addresses.now c.args.tables.commons.now c.args.merged.link.now c.args.merged.starts.now)
-    (entry_setting (g.P.Platform.table_sizes c.args.platform.now) c.args.merged.link.now c.args.tables.live.now c.args.tables.told.now c.args.tables.starts.now))) done
+    ∙ ap (flat_map (file_resolutions (places_at_hand c.args.tables.now) (setting_at_hand (g.P.Platform.table_sizes c.args.platform.now) c.args.tables.now))) done

@@ -1,0 +1,202 @@
+-- Where expressions name no symbol, values and placements are the same wherever symbols stand.
+use Rattle.std.proofs.Common.{◌≡◌, ℕ, zero, suc, ◌+◌, ◌-◌, Bool, true, List, [], ◌∷◌, length, Option, Some, None, Result, Ok, Err, refl, sym, ap, ◌∙◌}
+use Rattle.std.specs.Prelude.{◌&&◌, option_map, slice_get}
+use Rattle.std.specs.List.{list_all, slice_index_or}
+use Rattle.std.proofs.lemmas.Bool.{and_parts}
+use Rattle.lk_link.specs.declared.plan.OrderEvent.{OrderEvent}
+use Rattle.lk_link.specs.declared.plan.OrderEvent.TheVariants.{Section, SegmentEnd, SegmentStart, SetLocation, SetLocationRelative, SetSectionAddress}
+use Rattle.lk_link.specs.declared.plan.Plan.{Plan}
+use Rattle.lk_link.specs.declared.plan.PlanSection.{PlanSection}
+use Rattle.lk_link.specs.Expressions.{Term}
+use Rattle.lk_link.specs.Inside.{placed_section}
+use Rattle.lk_link.specs.PlanSections.{no_section, primary_of, section_at}
+use Rattle.lk_link.proofs.Places.{all_at}
+use Rattle.lk_expressions.proofs.Unnamed.{unnamed_read_no_symbols}
+use Rattle.lk_place.specs.declared.cursors.Cursors.{Cursors}
+use Rattle.lk_place.specs.declared.error.PlaceError.{PlaceError}
+use Rattle.lk_place.specs.declared.error.PlaceError.TheVariants as place
+use Rattle.lk_place.specs.declared.error.Refusal.{Refusal}
+use Rattle.lk_expressions.specs.declared.positions.SymbolPosition.{SymbolPosition}
+use Rattle.lk_place.specs.Answers.{IsRefused}
+use Rattle.lk_expressions.specs.Expressions.{Valued, expression_value}
+use Rattle.lk_expressions.specs.Named.{loads_by_none, moves_by_none, names_no_symbol, names_none}
+use Rattle.lk_place.specs.Locations.{awaiting, behind_start}
+use Rattle.lk_place.specs.PlacedBefore.{Known, Standing, dot_of, early_known, early_value, refusing}
+use Rattle.lk_place.specs.Placement.{CarriesOut, IsPlaced, IsPlacedBefore, Passes, Places, PlacesSection, either_refusal, first_refusal, known_before, load_by, load_given, load_refusal, loading, moved, numbered, placement_refusal, refusal_behind_move, refusal_of, section_left, section_overflow, section_refusal, section_start, standing_with, state_at, step_refusal}
+use Rattle.lk_place.specs.InRegions.{past_region, stands_in}
+use Rattle.lk_expressions.specs.Records.{Record}
+use Rattle.lk_place.specs.Setting.{Setting}
+use Rattle.lk_place.specs.Start.{start}
+use Rattle.lk_expressions.specs.Surroundings.{Early, early_operand}
+use Rattle.lk_place.specs.PositionLaws.{AnswersGoWithoutPositions, PlacementsGoWithoutPositions, with_positions}
+
+-- ---- of all
+
+-- where all of some things pass, so does one of them, or what stands in for one that isn't there, if that does
+all_or : {X : Type 0} (p : X → Bool) (xs : List X) (k : ℕ) (d : X) → list_all p xs ≡ true → p d ≡ true → p (slice_index_or xs k d) ≡ true
+all_or p [] k d all h = h
+all_or p (y ∷ ys) zero d all h = (and_parts (p y) (list_all p ys) all).0
+all_or p (y ∷ ys) (suc k) d all h = all_or p ys k d (and_parts (p y) (list_all p ys) all).1 h
+
+-- ---- expressions
+
+-- an expression that names no symbol has one value wherever symbols stand
+values_alike : (known : Early) (positions : List (Option SymbolPosition)) (e : Term) → names_none e ≡ true
+    → expression_value (early_operand (record known { positions = positions })) e ≡ expression_value (early_operand known) e
+values_alike known positions e none = unnamed_read_no_symbols.early known known.groups known.constants positions e none
+
+-- ---- events
+
+-- the load addresses of a plan's sections name no symbol
+abbrev LoadWithoutSymbols : Setting → Type 0
+LoadWithoutSymbols setting = (s : ℕ) → loads_by_none (section_at setting.plan.sections s) ≡ true
+
+early_alike : (setting : Setting) (positions : List (Option SymbolPosition)) (standing : Standing) (from : Cursors) (e : Term) → names_none e ≡ true
+    → early_value (with_positions setting positions) standing from e ≡ early_value setting standing from e
+early_alike setting positions standing from e none = values_alike (early_known setting standing (dot_of from)) positions e none
+
+given_alike : (setting : Setting) (positions : List (Option SymbolPosition)) (s : ℕ) (standing : Standing) (behind : Cursors) (section : PlanSection) → loads_by_none section ≡ true
+    → load_by (with_positions setting positions) s standing behind section.at ≡ load_by setting s standing behind section.at
+given_alike setting positions s standing behind section none =
+    elim section.at as (λ e. loads_by_none (record section { at = e }) ≡ true → load_by (with_positions setting positions) s standing behind e ≡ load_by setting s standing behind e) [
+      | None ↦ λ h. refl
+      | Some e ↦ λ h. ap (loading s) (early_alike setting positions standing behind e h)
+    ] none
+
+load_alike : (setting : Setting) (positions : List (Option SymbolPosition)) (standing : Standing) (s : ℕ) (from : Cursors) → LoadWithoutSymbols setting
+    → load_given (with_positions setting positions) standing s from ≡ load_given setting standing s from
+load_alike setting positions standing s from loads =
+    given_alike setting positions s (standing_with setting standing s (section_start setting s from)) (section_left setting s from) (section_at setting.plan.sections s) (loads s)
+
+moved_alike : (setting : Setting) (positions : List (Option SymbolPosition)) (known : Known) (e : OrderEvent) (from : Cursors) → moves_by_none e ≡ true
+    → moved (with_positions setting positions) known e from ≡ moved setting known e from
+moved_alike setting positions known (SegmentStart i) from none = refl
+moved_alike setting positions known (SegmentEnd i) from none = refl
+moved_alike setting positions known (Section s) from none = refl
+moved_alike setting positions known (SetLocation x) from none =
+    ap (λ (v : Valued). awaiting from (refusing v)) (early_alike setting positions known.standing from x none)
+moved_alike setting positions known (SetLocationRelative x s) from none =
+    ap (λ (v : Valued). awaiting from (behind_start (known.standing.section (primary_of setting.plan.sections s)) (refusing v))) (early_alike setting positions known.standing from x none)
+moved_alike setting positions known (SetSectionAddress x) from none =
+    ap (λ (v : Valued). awaiting from (refusing v)) (early_alike setting positions known.standing from x none)
+
+section_alike : (setting : Setting) (positions : List (Option SymbolPosition)) (standing : Standing) (s : Option ℕ) (from : Cursors) → LoadWithoutSymbols setting
+    → section_refusal (with_positions setting positions) standing s from ≡ section_refusal setting standing s from
+section_alike setting positions standing None from loads = refl
+section_alike setting positions standing (Some s) from loads =
+    ap (λ (load : Result (Option ℕ) Refusal). either_refusal (either_refusal (section_overflow setting s from) (load_refusal load)) (past_region setting (stands_in setting.plan s) (section_left setting s from).memory))
+    (load_alike setting positions standing s from loads)
+
+behind_alike : (setting : Setting) (positions : List (Option SymbolPosition)) (standing : Standing) (s : Option ℕ) (r : Result Cursors Refusal) → LoadWithoutSymbols setting
+    → refusal_behind_move (with_positions setting positions) standing s r ≡ refusal_behind_move setting standing s r
+behind_alike setting positions standing s (Ok entered) loads = section_alike setting positions standing s entered loads
+behind_alike setting positions standing s (Err refusal) loads = refl
+
+-- an event is refused alike
+event_alike : (setting : Setting) (positions : List (Option SymbolPosition)) (known : Known) (k : ℕ) (e : OrderEvent) (from : Cursors) → LoadWithoutSymbols setting → moves_by_none e ≡ true
+    → step_refusal (with_positions setting positions) known k e from ≡ step_refusal setting known k e from
+event_alike setting positions known k e from loads none =
+    ap (option_map (numbered k)) (
+    ap (refusal_behind_move (with_positions setting positions) known.standing (placed_section e)) (moved_alike setting positions known e from none)
+    ∙ behind_alike setting positions known.standing (placed_section e) (moved setting known e from) loads)
+
+at_alike : (setting : Setting) (positions : List (Option SymbolPosition)) (known : Known) (k : ℕ) (o : Option OrderEvent) (from : Cursors) → LoadWithoutSymbols setting
+    → ((e : OrderEvent) → o ≡ Some e → moves_by_none e ≡ true) → refusal_of (with_positions setting positions) known k o from ≡ refusal_of setting known k o from
+at_alike setting positions known k None from loads none = refl
+at_alike setting positions known k (Some e) from loads none = event_alike setting positions known k e from loads (none e refl)
+
+-- and places what it places
+places_alike : (setting : Setting) (positions : List (Option SymbolPosition)) (standing : Standing) (s : Option ℕ) (from : Cursors) (records : List Record) (to : Cursors) → LoadWithoutSymbols setting
+    → Places setting standing s from records to → Places (with_positions setting positions) standing s from records to
+places_alike setting positions standing None from records to loads h = h
+places_alike setting positions standing (Some s) from records to loads h =
+    let placed : PlacesSection (with_positions setting positions) s from records to = record { walked = h.placed.walked; resting = h.placed.resting; leaves = h.placed.leaves } in
+    record { placed = placed; load = h.load; given = load_alike setting positions standing s from loads ∙ h.given; loaded = h.loaded }
+
+steps_alike : (setting : Setting) (positions : List (Option SymbolPosition)) (known : Known) (e : OrderEvent) (from : Cursors) (records : List Record) (to : Cursors) → LoadWithoutSymbols setting
+    → moves_by_none e ≡ true → CarriesOut setting known e from records to → CarriesOut (with_positions setting positions) known e from records to
+steps_alike setting positions known e from records to loads none h = record {
+  entered = h.entered;
+  moves = moved_alike setting positions known e from none ∙ h.moves;
+  places = places_alike setting positions known.standing (placed_section e) h.entered records to loads h.places;
+}
+
+passes_alike : (setting : Setting) (positions : List (Option SymbolPosition)) (states : List Cursors) (records : List Record) (k : ℕ) (e : OrderEvent) → LoadWithoutSymbols setting
+    → moves_by_none e ≡ true → Passes setting states records k e → Passes (with_positions setting positions) states records k e
+passes_alike setting positions states records k e loads none h =
+    let known : Known = known_before setting states records k in
+    record {
+      unrefused = event_alike setting positions known k e (state_at states k) loads none ∙ h.unrefused;
+      steps = steps_alike setting positions known e (state_at states k) records (state_at states (k + 1)) loads none h.steps;
+    }
+
+-- ---- placements
+
+spoken : (plan : Plan) → names_no_symbol plan ≡ true → (names_none plan.base ≡ true) × (list_all moves_by_none plan.events ≡ true) × (list_all loads_by_none plan.sections ≡ true)
+spoken plan none =
+    let first = and_parts (names_none plan.base && list_all moves_by_none plan.events) (list_all loads_by_none plan.sections) none in
+    let second = and_parts (names_none plan.base) (list_all moves_by_none plan.events) first.0 in
+    (second.0, second.1, first.1)
+
+moving : (plan : Plan) (k : ℕ) (e : OrderEvent) → names_no_symbol plan ≡ true → slice_get plan.events k ≡ Some e → moves_by_none e ≡ true
+moving plan k e none there = all_at moves_by_none plan.events k e (spoken plan none).1 there
+
+loading_none : (setting : Setting) → names_no_symbol setting.plan ≡ true → LoadWithoutSymbols setting
+loading_none setting none s = all_or loads_by_none setting.plan.sections s no_section (spoken setting.plan none).2 refl
+
+-- a placement is refused alike
+refusal_alike : (setting : Setting) (positions : List (Option SymbolPosition)) (states : List Cursors) (records : List Record) → names_no_symbol setting.plan ≡ true
+    → placement_refusal (with_positions setting positions) states records ≡ placement_refusal setting states records
+refusal_alike setting positions states records none =
+    let k : ℕ = length states - 1 in
+    ap (first_refusal (start setting)) (
+    at_alike setting positions (known_before setting states records k) k (slice_get setting.plan.events k) (state_at states k) (loading_none setting none) (λ e there. moving setting.plan k e none there))
+
+before_too : (setting : Setting) (positions : List (Option SymbolPosition)) (n p : ℕ) → IsPlacedBefore setting n p → IsPlacedBefore (with_positions setting positions) n p
+before_too setting positions n p h = record { k = h.k; s = h.s; j = h.j; early = h.early; places = h.places; within = h.within; is = h.is }
+
+-- and is one
+pub placements_alike : PlacementsGoWithoutPositions
+placements_alike setting positions states records none h =
+    let other : Setting = with_positions setting positions in
+    let alike = refusal_alike setting positions states records none in
+    let is : IsPlaced other states records = record {
+      begins = h.begins;
+      within = h.within;
+      steps = λ k e below there. passes_alike setting positions states records k e (loading_none setting none) (moving setting.plan k e none there) (h.steps k e below there);
+      ends = λ unrefused. h.ends (sym alike ∙ unrefused);
+      each = h.each;
+      others = λ p away. h.others p (λ before. away (before_too setting positions (length states - 1) p before));
+    } in
+    (is, alike)
+
+-- ---- what is answered
+
+refused_alike : (setting : Setting) (positions : List (Option SymbolPosition)) (e : PlaceError) → names_no_symbol setting.plan ≡ true → IsRefused setting e → IsRefused (with_positions setting positions) e
+refused_alike setting positions e none h =
+    let both = placements_alike setting positions h.states h.records none h.is in
+    record { states = h.states; records = h.records; is = both.0; refused = both.1 ∙ h.refused }
+
+-- what a placement answers that goes by no places of symbols is what it answers by any
+pub gives_alike : AnswersGoWithoutPositions
+gives_alike setting positions (Ok placed) none h =
+    let both = placements_alike setting positions h.states placed.parts none h.is in
+    record {
+      states = h.states;
+      is = both.0;
+      unrefused = both.1 ∙ h.unrefused;
+      sections = h.sections;
+      base = h.base;
+      based = h.based;
+      counters = h.counters;
+    }
+gives_alike setting positions (Err place.NoMemory) none h = tt
+gives_alike setting positions (Err (place.AddressOverflow at)) none h = refused_alike setting positions (place.AddressOverflow at) none h
+gives_alike setting positions (Err (place.RegionDuplicate region)) none h = refused_alike setting positions (place.RegionDuplicate region) none h
+gives_alike setting positions (Err (place.Expression at cause)) none h = refused_alike setting positions (place.Expression at cause) none h
+gives_alike setting positions (Err (place.RegionUnknown s)) none h = refused_alike setting positions (place.RegionUnknown s) none h
+gives_alike setting positions (Err (place.RegionOverflow region by)) none h = refused_alike setting positions (place.RegionOverflow region by) none h
+gives_alike setting positions (Err (place.OutsideRegion event address)) none h = refused_alike setting positions (place.OutsideRegion event address) none h
+gives_alike setting positions (Err (place.LocationBackwards from to)) none h = refused_alike setting positions (place.LocationBackwards from to) none h
+gives_alike setting positions (Err (place.BaseTooLow base headers)) none h = refused_alike setting positions (place.BaseTooLow base headers) none h
+gives_alike setting positions (Err (place.SectionOutsideSegments s)) none h = refused_alike setting positions (place.SectionOutsideSegments s) none h

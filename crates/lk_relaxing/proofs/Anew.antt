@@ -1,0 +1,40 @@
+-- All parts are placed anew.
+use Rattle.std.proofs.Common.{◌≡◌, ℕ, List, Option, Result, Ok, Err, ap, ◌∙◌}
+use Rattle.std.specs.Result.{IsErrAnd}
+use Rattle.lk_expressions.specs.declared.positions.SymbolPosition.{SymbolPosition}
+use Rattle.lk_place.specs.declared.error.PlaceError.{PlaceError}
+use Rattle.lk_place.specs.declared.error.PlaceError.TheVariants.{AddressOverflow, BaseTooLow, Expression, LocationBackwards, NoMemory, OutsideRegion, RegionDuplicate, RegionOverflow, RegionUnknown, SectionOutsideSegments}
+use Rattle.lk_place.specs.Answers.{GivesPlaced}
+use Rattle.lk_place.specs.Setting.{setting_of}
+use Rattle.lk_sizes.specs.PartOwners.{part_sizes}
+use Rattle.lk_relaxing.specs.declared.passes.InHand.{InHand}
+use Rattle.lk_relaxing.specs.declared.passes.Passed.{Passed}
+use Rattle.lk_relaxing.specs.LinkDeletions.{Deletions}
+use Rattle.lk_relaxing.specs.Positions.{section_positions, symbol_positions}
+use Rattle.lk_relaxing.specs.RelaxationWords.{GivesAnew}
+use Rattle.lk_relaxing.specs.Stages.{Relaxing, filling_after, link_of, setting_after}
+
+-- what is handed on is what is placed then
+pub setting_is : (by : Relaxing) (deltas : Deletions) (seen sizes : List ℕ) (positions : List (Option SymbolPosition)) (sections : List (Option (ℕ × ℕ))) → seen ≡ sizes → sizes ≡ part_sizes (filling_after by deltas)
+    → sections ≡ section_positions (filling_after by deltas) → positions ≡ symbol_positions (link_of by).groups deltas sections
+    → setting_of (link_of by) by.target seen by.headers positions ≡ setting_after by deltas
+setting_is by deltas seen sizes positions sections same sized stand are =
+    ap (λ (ns : List ℕ). setting_of (link_of by) by.target ns by.headers positions) (same ∙ sized)
+    ∙ ap (setting_of (link_of by) by.target (part_sizes (filling_after by deltas)) by.headers) (are ∙ ap (symbol_positions (link_of by).groups deltas) stand)
+
+pub refused_anew : (by : Relaxing) (passed : Passed) (e : PlaceError) → GivesPlaced (setting_after by passed.deltas.items) (Err e) → GivesAnew by passed (Err e)
+refused_anew by passed NoMemory h = tt
+refused_anew by passed (AddressOverflow place) h = h
+refused_anew by passed (RegionDuplicate region) h = h
+refused_anew by passed (Expression place cause) h = h
+refused_anew by passed (RegionUnknown s) h = h
+refused_anew by passed (RegionOverflow region by_bytes) h = h
+refused_anew by passed (OutsideRegion event address) h = h
+refused_anew by passed (LocationBackwards from to) h = h
+refused_anew by passed (BaseTooLow base headers) h = h
+refused_anew by passed (SectionOutsideSegments s) h = h
+
+-- the exit of a `?`
+pub anew_exit : (by : Relaxing) (passed : Passed) (P : PlaceError → Type 0) (answer : Result InHand PlaceError) → IsErrAnd answer P → ((e : PlaceError) → P e → GivesAnew by passed (Err e)) → GivesAnew by passed answer
+anew_exit by passed P (Ok hand) h f = absurd h
+anew_exit by passed P (Err e) h f = f e h
