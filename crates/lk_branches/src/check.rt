@@ -7,7 +7,6 @@
 ghost use Rattle.std.specs.Prelude.{◌≡◌, ◌+◌, ◌<◌, ◌^◌, ℕ, All, Option, Some, None, if◌then◌else◌, is_some, map, option_and_then, option_map, slice_get, slice_index};
 ghost use Rattle.std.specs.List.{flat_map};
 ghost use Rattle.lk_link.specs.Files.{file_in};
-ghost use Rattle.lk_link.specs.Flags.{has_flag};
 ghost use Rattle.lk_link.specs.Inputs.{input_number, numbered_files};
 ghost use Rattle.lk_link.specs.Symbols.{first_symbol};
 ghost use Rattle.lk_link.specs.Walks.{file_of};
@@ -367,12 +366,5 @@ fn target_of(resolution: Resolution) -> Option<u64>
 fn is_given_later(flags: ValueFlags) -> bool
     ensures { result ≡ is_given_later flags }
 {
-    has_flag(flags, ValueFlags::ABSOLUTE) || has_flag(flags, ValueFlags::DYNAMIC)
-}
-
-/// Whether a flag is among some.
-fn has_flag(flags: ValueFlags, one: ValueFlags) -> bool
-    ensures { result ≡ has_flag one.0 flags.0 }
-{
-    flags.0 & one.0 == one.0
+    flags.is_absolute() || flags.is_dynamic()
 }

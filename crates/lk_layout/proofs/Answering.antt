@@ -4,6 +4,7 @@ use Rattle.std.specs.Prelude.{option_map, slice_get}
 use Rattle.std.specs.Result.{IsErrAnd}
 use Rattle.lk_check.specs.FirstFault.{check_of, first_fault}
 use Rattle.lk_link.specs.declared.fault.LinkFault.{LinkFault}
+use Rattle.lk_link.specs.declared.flags.ValueFlags.{ValueFlags}
 use Rattle.lk_link.specs.declared.ids.FileId.{FileId}
 use Rattle.lk_link.specs.declared.link.LinkInput.{LinkInput}
 use Rattle.lk_layout.specs.Machines.{Machine}
@@ -32,7 +33,9 @@ use Rattle.lk_relaxing.specs.LinkDeletions.{Deletions}
 use Rattle.lk_relaxing.specs.Sites.{past_limit}
 use Rattle.lk_sizes.specs.declared.sorted.InputSortedSection.{InputSortedSection}
 use Rattle.lk_sizes.specs.Emitted.{active_segments, is_emitted}
+use Rattle.lk_tables.specs.declared.header_info.HeaderInfo.{HeaderInfo}
 use Rattle.lk_tables.specs.declared.partial_link.PartialLinkPlan.{PartialLinkPlan}
+use Rattle.lk_layout.specs.declared.group_starts.GroupStarts.{GroupStarts}
 use Rattle.lk_layout.specs.Made.{Made, made_content}
 use Rattle.lk_layout.specs.Redirects.{made_redirected, redirects_refusal, refused_by}
 use Rattle.lk_layout.specs.Stages.{Reaches}
@@ -176,8 +179,8 @@ past_refused made resolutions e inside redirected reach refused =
 
 -- layouts with the same lists are the same
 pub same_layout : (link : LinkInput) (s s' j j' r r' : List Record) (t t' : List ℕ) (i i' : List (Option ℕ)) (g g' : List SegmentLayout) (h h' : Option Record)
-    (m : List Bool) (l l' : List ℕ) (x x' : Deletions) (d d' : List (List MergeInput)) (b b' : List ℕ) (v v' : List (Option Resolution)) (e e' : Option ℕ) (o o' : List InputSortedSection) (p p' : Option PartialLinkPlan) (k k' : List (List ℕ)) (n n' : List (Option FileId)) (a a' : List (Option ℕ)) (u u' : List (FileId × ℕ × Bool)) (z z' : ℕ)
-    → s ≡ s' → j ≡ j' → r ≡ r' → t ≡ t' → i ≡ i' → g ≡ g' → h ≡ h' → l ≡ l' → x ≡ x' → d ≡ d' → b ≡ b' → v ≡ v' → e ≡ e' → o ≡ o' → p ≡ p' → k ≡ k' → n ≡ n' → a ≡ a' → u ≡ u' → z ≡ z'
+    (m : List Bool) (l l' : List ℕ) (x x' : Deletions) (d d' : List (List MergeInput)) (b b' : List ℕ) (v v' : List (Option Resolution)) (e e' : Option ℕ) (o o' : List InputSortedSection) (p p' : Option PartialLinkPlan) (k k' : List (List ℕ)) (n n' : List (Option FileId)) (a a' : List (Option ℕ)) (u u' : List (FileId × ℕ × Bool)) (z z' : ℕ) (w w' : HeaderInfo) (y y' : ℕ) (q q' : GroupStarts) (f f' : List ValueFlags)
+    → s ≡ s' → j ≡ j' → r ≡ r' → t ≡ t' → i ≡ i' → g ≡ g' → h ≡ h' → l ≡ l' → x ≡ x' → d ≡ d' → b ≡ b' → v ≡ v' → e ≡ e' → o ≡ o' → p ≡ p' → k ≡ k' → n ≡ n' → a ≡ a' → u ≡ u' → z ≡ z' → w ≡ w' → y ≡ y' → q ≡ q' → f ≡ f'
     → ◌≡◌ {A = LayoutRecord} (record {
       link = link;
       section_layouts = s;
@@ -185,6 +188,7 @@ pub same_layout : (link : LinkInput) (s s' j j' r r' : List Record) (t t' : List
       section_part_layouts = r;
       section_attributes = t;
       output_section_indexes = i;
+      header_info = w;
       segment_layouts = g;
       tls_layout = h;
       live_marks = m;
@@ -193,6 +197,7 @@ pub same_layout : (link : LinkInput) (s s' j j' r r' : List Record) (t t' : List
       merged_strings = d;
       merged_string_start_addresses = b;
       symbol_resolutions = v;
+      flags = f;
       entry_symbol_id = e;
       script_sorted_sections = o;
       partial_link = p;
@@ -201,6 +206,8 @@ pub same_layout : (link : LinkInput) (s s' j j' r r' : List Record) (t t' : List
       thunk_block_addresses = a;
       thunk_users = u;
       thunk_size = z;
+      dynsym_start_index = y;
+      group_starts = q;
     })
     (record {
       link = link;
@@ -209,6 +216,7 @@ pub same_layout : (link : LinkInput) (s s' j j' r r' : List Record) (t t' : List
       section_part_layouts = r';
       section_attributes = t';
       output_section_indexes = i';
+      header_info = w';
       segment_layouts = g';
       tls_layout = h';
       live_marks = m;
@@ -217,6 +225,7 @@ pub same_layout : (link : LinkInput) (s s' j j' r r' : List Record) (t t' : List
       merged_strings = d';
       merged_string_start_addresses = b';
       symbol_resolutions = v';
+      flags = f';
       entry_symbol_id = e';
       script_sorted_sections = o';
       partial_link = p';
@@ -225,5 +234,7 @@ pub same_layout : (link : LinkInput) (s s' j j' r r' : List Record) (t t' : List
       thunk_block_addresses = a';
       thunk_users = u';
       thunk_size = z';
+      dynsym_start_index = y';
+      group_starts = q';
     })
-same_layout link s s' j j' r r' t t' i i' g g' h h' m l l' x x' d d' b b' v v' e e' o o' p p' k k' n n' a a' u u' z z' es ej er et ei eg eh el ex ed eb ev ee eo ep ek en ea eu ez = cc
+same_layout link s s' j j' r r' t t' i i' g g' h h' m l l' x x' d d' b b' v v' e e' o o' p p' k k' n n' a a' u u' z z' w w' y y' q q' f f' es ej er et ei eg eh el ex ed eb ev ee eo ep ek en ea eu ez ew ey eq ef = cc

@@ -57,7 +57,7 @@ part_fits refused machine link layout laid p within =
     (first_none (section_overflow s t step.steps.entered) (load_refusal (load_given s standing t step.steps.entered)) placing) at.place at.within in
     subst (λ q. mem_end (record_at laid.stage.records q) < 2 ^ 64) (sym at.is) fit.mem
 
-owners_fit : RefusedExactlyPast → PartsTakeTheirBytes → (machine : Machine) (link : LinkInput) (layout : LayoutRecord) (laid : IsLaidOut machine link layout) → EndsFit (made_filling (made_by laid)) (starts_of laid.stage.records)
+pub owners_fit : RefusedExactlyPast → PartsTakeTheirBytes → (machine : Machine) (link : LinkInput) (layout : LayoutRecord) (laid : IsLaidOut machine link layout) → EndsFit (made_filling (made_by laid)) (starts_of laid.stage.records)
 owners_fit refused mass machine link layout laid =
     ends_fit (made_filling (made_by laid)) laid.stage.records (starts_of laid.stage.records) refl
     (λ p below.

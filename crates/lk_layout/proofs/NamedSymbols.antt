@@ -54,21 +54,21 @@ use Rattle.lk_layout.proofs.Resolving.{ObjectsAreTold, made_at, made_entries, ob
 
 -- ---- what the symbol names
 
--- a symbol of a file that is placed in a merged section
-record Stands (link : LinkInput) (id : FileId) (file : InputFile) (i offset k : ℕ) (x : InputSymbol) (section : InputSection) : Type 0 where
-  there : file_in link.groups id ≡ Some file
-  at_k : slice_get file.symbols k ≡ Some x
-  placed : x.at ≡ at.Section i offset
-  at_i : slice_get file.sections i ≡ Some section
-  merged : is_merge section.slot ≡ true
-  named : (length x.name == 0) ≡ false
+-- a symbol of a file that is placed in a merged section, with a name or without one
+pub record Stands (link : LinkInput) (id : FileId) (file : InputFile) (i offset k : ℕ) (x : InputSymbol) (section : InputSection) (unnamed : Bool) : Type 0 where
+  pub there : file_in link.groups id ≡ Some file
+  pub at_k : slice_get file.symbols k ≡ Some x
+  pub placed : x.at ≡ at.Section i offset
+  pub at_i : slice_get file.sections i ≡ Some section
+  pub merged : is_merge section.slot ≡ true
+  pub named : (length x.name == 0) ≡ unnamed
 
-abbrev place_of : LinkInput → FileId → ℕ → ℕ → InputSection → MergePlace
-place_of link id i offset section = record { number = input_number link.groups id i; section = section; offset = offset; named = true }
+abbrev pub place_of : LinkInput → FileId → ℕ → ℕ → InputSection → Bool → MergePlace
+place_of link id i offset section unnamed = record { number = input_number link.groups id i; section = section; offset = offset; named = not unnamed }
 
-names : (link : LinkInput) (id : FileId) (file : InputFile) (i offset k : ℕ) (x : InputSymbol) (section : InputSection) → Stands link id file i offset k x section
-    → symbol_place link.groups (first_symbol link.groups id + k) ≡ Some (place_of link id i offset section)
-names link id file i offset k x section s =
+pub names : (link : LinkInput) (id : FileId) (file : InputFile) (i offset k : ℕ) (x : InputSymbol) (section : InputSection) (unnamed : Bool) → Stands link id file i offset k x section unnamed
+    → symbol_place link.groups (first_symbol link.groups id + k) ≡ Some (place_of link id i offset section unnamed)
+names link id file i offset k x section unnamed s =
     let groups = link.groups in
     let number : ℕ = first_symbol groups id + k in
     let f : NumberedFile = record { id = id; file = file } in
@@ -80,8 +80,8 @@ names link id file i offset k x section s =
     ap (λ (o : Option (NumberedFile × InputSymbol)). option_and_then (merge_place groups) o) numbered
     ∙ ap (placed_in groups f (not (length x.name == 0))) s.placed
     ∙ ap (λ (b : Bool). placed_in groups f (not b) (at.Section i offset)) s.named
-    ∙ ap (λ (o : Option InputSection). option_and_then (made true) o) s.at_i
-    ∙ ap (λ (b : Bool). if b then Some (here true section) else None) s.merged
+    ∙ ap (λ (o : Option InputSection). option_and_then (made (not unnamed)) o) s.at_i
+    ∙ ap (λ (b : Bool). if b then Some (here (not unnamed) section) else None) s.merged
 
 -- ---- it stands inside the data
 
@@ -93,7 +93,7 @@ pub has_none : (places : List MergeOffsetPlace) (n : ℕ) (place : MergeOffsetPl
 has_none [] n place is h = absurd (cc)
 has_none (x ∷ places) n place is h = absurd (cc)
 
-stands_inside : (link : LinkInput) (live : Live) (id : FileId) (file : InputFile) (i offset k : ℕ) (x : InputSymbol) (section : InputSection) → Stands link id file i offset k x section
+stands_inside : (link : LinkInput) (live : Live) (id : FileId) (file : InputFile) (i offset k : ℕ) (x : InputSymbol) (section : InputSection) → Stands link id file i offset k x section false
     → is_resolved live file.kind (first_symbol link.groups id + k, x) ≡ true → merge_offsets link live ≡ [] → offset < length section.bytes
 stands_inside link live id file i offset k x section s resolved inside =
     elim (cases_lt offset (length section.bytes)) [
@@ -104,7 +104,7 @@ stands_inside link live id file i offset k x section s resolved inside =
           let number : ℕ = first + k in
           let f : NumberedFile = record { id = id; file = file } in
           let outside : stands_outside link number ≡ true
-          = ap is_symbol_outside (names link id file i offset k x section s)
+          = ap is_symbol_outside (names link id file i offset k x section false s)
           ∙ ap not (past_tells offset (length section.bytes) past) in
           let one : slice_get (symbol_outside link live file.kind (number, x)) 0 ≡ Some (OfSymbol number)
           = ap (λ b. slice_get (if b && stands_outside link number then OfSymbol number ∷ [] else []) 0) resolved
@@ -118,7 +118,7 @@ stands_inside link live id file i offset k x section s resolved inside =
 -- ---- its value
 
 -- a merged section isn't live
-not_live : (link : LinkInput) (live : Live) (k : ℕ) (x : Input) → AreLive link live → slice_get (all_inputs link.groups) k ≡ Some x → is_merge x.section.slot ≡ true → is_marked live.marks k ≡ false
+pub not_live : (link : LinkInput) (live : Live) (k : ℕ) (x : Input) → AreLive link live → slice_get (all_inputs link.groups) k ≡ Some x → is_merge x.section.slot ≡ true → is_marked live.marks k ≡ false
 not_live link live k x are there merged =
     false_from_ne_true (is_marked live.marks k) (λ set.
     let lives : IsLive link x = (are.marks k x there).0 set in
@@ -134,9 +134,9 @@ named_symbols_show machine link layout laid objects id file i offset section the
     let first : ℕ = first_input groups id in
     let number : ℕ = first_symbol groups id + r.index in
     let x : InputSymbol = r.symbol in
-    let s : Stands link id file i offset r.index x section = record { there = there; at_k = r.there; placed = placed; at_i = at_i; merged = merged; named = named } in
-    let place : MergePlace = place_of link id i offset section in
-    let is : symbol_place groups number ≡ Some place = names link id file i offset r.index x section s in
+    let s : Stands link id file i offset r.index x section false = record { there = there; at_k = r.there; placed = placed; at_i = at_i; merged = merged; named = named } in
+    let place : MergePlace = place_of link id i offset section false in
+    let is : symbol_place groups number ≡ Some place = names link id file i offset r.index x section false s in
     let t : ℕ = output_of link section in
     let at_t = output_at link t (output_there link place laid.good (symbol_place_is link number place is)).1 in
     let inside : offset < length section.bytes = stands_inside link live id file i offset r.index x section s r.resolved laid.inside in

@@ -22,13 +22,13 @@ abbrev pub can_lose : Relaxing → ℕ × Input → Bool
 can_lose by q = has_position (is_marked by.filling.content.live.marks q.0) q.1.section && is_set EXEC q.1.section.attrs && (link_of by).options.relax
 
 -- it is so if a stage looks at it, and if something is deleted of it there
-record IsScanned (by : Relaxing) (k : ℕ) (x : Input) (a : Stage) : Type 0 where
-  scan : is_among a.scan x ≡ true → can_lose by (k, x) ≡ true
-  lost : IsSome (slice_get (ranges_of (link_of by).groups a.deletions x.file x.index) 0) → can_lose by (k, x) ≡ true
+pub record IsScanned (by : Relaxing) (k : ℕ) (x : Input) (a : Stage) : Type 0 where
+  pub scan : is_among a.scan x ≡ true → can_lose by (k, x) ≡ true
+  pub lost : IsSome (slice_get (ranges_of (link_of by).groups a.deletions x.file x.index) 0) → can_lose by (k, x) ≡ true
 
 -- ---- among sections
 
-all_three : (a b c : Bool) → (a && b && c) ≡ true → (a ≡ true) × (b ≡ true) × (c ≡ true)
+pub all_three : (a b c : Bool) → (a && b && c) ≡ true → (a ≡ true) × (b ≡ true) × (c ≡ true)
 all_three true true c h = (refl, refl, h)
 all_three true false c h = absurd (cc)
 all_three false b c h = absurd (cc)
@@ -95,7 +95,7 @@ nothing_first : (ranges : List (ℕ × ℕ)) → ranges ≡ [] → IsSome (slice
 nothing_first [] none some = absurd (cc)
 nothing_first (r ∷ rs) none some = absurd (cc)
 
-first_scanned : DeletionsAreRead → (by : Relaxing) (k : ℕ) (x : Input) (a : Stage) → slice_get (all_inputs (link_of by).groups) k ≡ Some x → IsFirst by a → IsScanned by k x a
+pub first_scanned : DeletionsAreRead → (by : Relaxing) (k : ℕ) (x : Input) (a : Stage) → slice_get (all_inputs (link_of by).groups) k ≡ Some x → IsFirst by a → IsScanned by k x a
 first_scanned read by k x a there first =
     let named : List (FileId × ℕ) = map (λ q. (q.1.file, q.1.index)) (filter (can_shrink by) (enumerate_from 0 (all_inputs (link_of by).groups))) in
     let looked : (relaxed : Bool) → (link_of by).options.relax ≡ relaxed → is_among (if relaxed then named else []) x ≡ true → can_lose by (k, x) ≡ true
@@ -111,7 +111,7 @@ first_scanned read by k x a there first =
 
 -- ---- behind passes
 
-pass_scanned : DeletionsAreRead → (by : Relaxing) (k : ℕ) (x : Input) (a b : Stage) → slice_get (all_inputs (link_of by).groups) k ≡ Some x → IsPass by a b → IsScanned by k x a → IsScanned by k x b
+pub pass_scanned : DeletionsAreRead → (by : Relaxing) (k : ℕ) (x : Input) (a b : Stage) → slice_get (all_inputs (link_of by).groups) k ≡ Some x → IsPass by a b → IsScanned by k x a → IsScanned by k x b
 pass_scanned read by k x a b there pass h =
     let groups : List (List InputFile) = (link_of by).groups in
     let old : List (ℕ × ℕ) = ranges_of groups a.deletions x.file x.index in

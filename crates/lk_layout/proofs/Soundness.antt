@@ -32,27 +32,32 @@ use Rattle.lk_relaxing.specs.RelaxedLaws.{RelaxedIsShrunk, RelaxedStands}
 use Rattle.lk_relaxing.specs.Sites.{DeletedSitesAreNear}
 use Rattle.lk_relaxing.specs.Stages.{DeletionsAreRead, setting_after}
 use Rattle.lk_place.specs.Setting.{Setting}
-use Rattle.lk_layout.specs.Defined.{layout_of, made_standing}
+use Rattle.lk_layout.specs.Defined.{layout_of}
 use Rattle.lk_layout.specs.LayoutRecord.{LayoutRecord}
 use Rattle.lk_values.specs.Starts.{starts_of}
 use Rattle.lk_layout.specs.Machines.{IsLawfulMachine, Machine}
 use Rattle.lk_layout.specs.Layouts.{told_live}
 use Rattle.lk_layout.specs.Laws.{DefinedLayoutsAreSound, LaidOutLinksAreWellFormed, LaidOutMemoryIsDisjoint, LaidOutSectionsAreApart}
 use Rattle.lk_layout.specs.Redirects.{made_resolutions, placed_resolutions, placed_with}
-use Rattle.lk_layout.specs.Sound.{DeletedCandidatesAreNear, EdgesStand, SectionsShrink, OwnersAreApart, RedirectsStand, IsInSection, IsSharedOut, IsSound, IsTold, LiveSectionsAreAligned, LiveSectionsAreApart, MemoryIsCongruent, part_record}
+use Rattle.lk_layout.specs.Sound.{DeletedCandidatesAreNear, EdgesStand, FlagsStand, NumbersStand, ResolutionsStand, SectionsShrink, SortedAreTold, OwnersAreApart, RedirectsStand, IsInSection, IsSharedOut, IsSound, IsTold, LiveSectionsAreAligned, LiveSectionsAreApart, MemoryIsCongruent, part_record}
+use Rattle.lk_layout.proofs.BySymbol.{flags_stand, resolutions_stand}
+use Rattle.lk_layout.proofs.CandidatesNear.{candidates_near}
 use Rattle.lk_layout.proofs.CommonsStand.{commons_stand}
 use Rattle.lk_layout.proofs.EntriesStand.{entries_stand}
 use Rattle.lk_layout.proofs.TablesAlone.{tables_alone}
-use Rattle.lk_layout.proofs.ThunksTold.{branches_reach, thunks_stand}
+use Rattle.lk_layout.proofs.ThunkAddresses.{thunks_stand}
+use Rattle.lk_layout.proofs.ThunksTold.{branches_reach}
 use Rattle.lk_branches.specs.BranchLaws.{BranchesReach, ThunksHaveRanges}
 use Rattle.lk_layout.proofs.Fitting.{buckets_start}
 use Rattle.lk_layout.proofs.LaidOut.{IsLaidOut, made_by, laid_out}
 use Rattle.lk_layout.proofs.ImagesShow.{images_stand}
 use Rattle.lk_layout.proofs.NamedSymbols.{named_symbols_show}
+use Rattle.lk_layout.proofs.NumbersStand.{numbers_stand}
 use Rattle.lk_layout.proofs.OwnSymbols.{edges_stand, redirects_stand}
 use Rattle.lk_layout.proofs.PartStarts.{part_starts}
 use Rattle.lk_layout.proofs.SinglesBehind.{singles_stand}
 use Rattle.lk_layout.proofs.SortedLast.{sorted_stand_last}
+use Rattle.lk_layout.proofs.SortedTold.{sorted_are_told}
 use Rattle.lk_layout.proofs.ReferencesShow.{references_show}
 use Rattle.lk_layout.proofs.OnlyScanned.{only_scanned_lose}
 use Rattle.lk_layout.proofs.ToldSizes.{told_live_are}
@@ -264,12 +269,6 @@ sections_shrink shrunk read machine link layout laid =
     } in
     subst (SectionsShrink (made_by laid)) (sym laid.same) at_end
 
-candidates_near : DeletedSitesAreNear → (machine : Machine) (link : LinkInput) (layout : LayoutRecord) (laid : IsLaidOut machine link layout) → DeletedCandidatesAreNear (made_by laid) layout
-candidates_near near machine link layout laid =
-    let at_end : DeletedCandidatesAreNear (made_by laid) (layout_of (made_by laid)) = λ k j a b x c there at gone to from.
-    near (made_standing (made_by laid)) k j a b x c laid.near there at gone to from in
-    subst (DeletedCandidatesAreNear (made_by laid)) (sym laid.same) at_end
-
 -- what is laid out is sound
 is_sound : RelaxedIsShrunk → DeletionsAreRead → DeletedSitesAreNear → OwnersTileTheirPart → OwnersAreAligned → LiveSectionsAreOwners → PartsTakeTheirBytes → RefusedExactlyPast → FileRangesAreDisjoint → PlainMemoryIsDisjoint → PlainMemoryIsCongruent → RecordsKeepAlignments → ThunksHaveRanges → BranchesReach
     → RedirectsChangeValuesAlone → OthersAreNoRedirects → (machine : Machine) (link : LinkInput) (layout : LayoutRecord) (laid : IsLaidOut machine link layout) → IsLawfulMachine machine → IsSound (made_by laid) layout
@@ -277,6 +276,8 @@ is_sound shrunk read near tile aligned owners mass refused file memory in_step k
     let made : Made = made_by laid in
     let records : List Record = layout.section_part_layouts in
     let behind = changed redirects machine link layout laid in
+    let values = redirects (placed_with made (made_sections made) (made_joined made)) (placed_resolutions made) (made_resolutions made) laid.redirected in
+    let flags : FlagsStand made (layout_of made) = flags_stand made laid.are_live in
     let objects = objects_told others made layout behind in
     let alone = tables_alone (made_filling (made_by laid)) laid.good laid.are_live in
     record {
@@ -293,17 +294,20 @@ is_sound shrunk read near tile aligned owners mass refused file memory in_step k
       placed = resolved_sections_are_live link laid.live laid.good laid.are_live laid.met;
       valued = values_are_in_live_sections made layout (deletions_are machine link layout laid) (shown_at machine link layout laid) objects
           (resolved_sections_are_live link laid.live laid.good laid.are_live laid.met);
+      flags = subst (FlagsStand made) (sym laid.same) flags;
+      given = subst (ResolutionsStand made) (sym laid.same) (resolutions_stand made flags values);
+      numbers = subst (NumbersStand made) (sym laid.same) (numbers_stand others made laid.are_live values);
       commons = commons_stand tile aligned machine link layout laid objects;
-      edges = subst (EdgesStand made) (sym laid.same)
-          (edges_stand made (redirects (placed_with made (made_sections made) (made_joined made)) (placed_resolutions made) (made_resolutions made) laid.redirected));
+      edges = subst (EdgesStand made) (sym laid.same) (edges_stand made flags values);
       redirects = subst (RedirectsStand made) (sym laid.same) (redirects_stand made laid.redirected);
       alone = alone;
       entries = entries_stand machine link layout laid lawful.sizes alone behind;
-      thunks = thunks_stand ranges machine link layout laid lawful;
+      thunks = thunks_stand refused mass ranges machine link layout laid lawful;
       reaching = branches_reach reach machine link layout laid;
       shrunk = sections_shrink shrunk read machine link layout laid;
-      limited = candidates_near near machine link layout laid;
+      limited = subst (DeletedCandidatesAreNear made) (sym laid.same) (candidates_near others read shrunk near refused mass machine link layout laid values);
       ordered = sorted_stand_last (made_by laid);
+      sorted = subst (SortedAreTold made) (sym laid.same) (sorted_are_told owners made);
       singles = singles_stand machine link layout laid;
       covered = covered machine link layout laid;
       aligned = sections_aligned tile aligned owners machine link layout laid;

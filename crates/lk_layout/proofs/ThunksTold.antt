@@ -31,7 +31,7 @@ use Rattle.lk_values.specs.Starts.{starts_of}
 use Rattle.lk_layout.specs.LayoutRecord.{LayoutRecord}
 use Rattle.lk_layout.specs.Machines.{IsLawfulMachine, Machine}
 use Rattle.lk_layout.specs.Made.{Made, filling_for, made_filling, made_plain}
-use Rattle.lk_layout.specs.Sound.{AreThunksAt, ThunksStand, part_record, told_branching}
+use Rattle.lk_layout.specs.Sound.{AreThunksAt, part_record, told_branching}
 use Rattle.lk_layout.specs.Thunks.{made_branching, made_owners, made_places, made_sets, made_users}
 use Rattle.lk_layout.proofs.LaidOut.{IsLaidOut, made_by}
 
@@ -101,7 +101,7 @@ its_file thunks filling j k id at =
     file_there None h = absurd (cc)
     file_there (Some file) h = (file, refl)
 
-thunks_owned : ThunksHaveRanges → (machine : Machine) (link : LinkInput) (layout : LayoutRecord) (laid : IsLaidOut machine link layout) → IsLawfulMachine machine
+pub thunks_owned : ThunksHaveRanges → (machine : Machine) (link : LinkInput) (layout : LayoutRecord) (laid : IsLaidOut machine link layout) → IsLawfulMachine machine
     → (k : ℕ) (id : FileId) (set : List ℕ) → slice_get layout.thunk_block_owners k ≡ Some (Some id) → slice_get layout.thunk_blocks k ≡ Some set → AreThunksAt (made_by laid) layout k id set
 thunks_owned ranges machine link layout laid lawful k id set owner_at set_at =
     let made : Made = made_by laid in
@@ -139,7 +139,7 @@ owner_of_place : (place : FileId → ℕ) (o : Option FileId) (a : ℕ) → opti
 owner_of_place place None a h = absurd (cc)
 owner_of_place place (Some id) a h = (id, refl)
 
-thunks_addressed : (machine : Machine) (link : LinkInput) (layout : LayoutRecord) (laid : IsLaidOut machine link layout) (k a : ℕ) → slice_get layout.thunk_block_addresses k ≡ Some (Some a)
+pub thunks_addressed : (machine : Machine) (link : LinkInput) (layout : LayoutRecord) (laid : IsLaidOut machine link layout) (k a : ℕ) → slice_get layout.thunk_block_addresses k ≡ Some (Some a)
     → (id : FileId) × (set : List ℕ) × (slice_get layout.thunk_block_owners k ≡ Some (Some id)) × (slice_get layout.thunk_blocks k ≡ Some set)
 thunks_addressed machine link layout laid k a at =
     let made : Made = made_by laid in
@@ -156,13 +156,6 @@ thunks_addressed machine link layout laid k a at =
       ap (λ (l : LayoutRecord). slice_get l.thunk_block_owners k) laid.same ∙ owned,
       ap (λ (l : LayoutRecord). slice_get l.thunk_blocks k) laid.same ∙ (numbered_at 0 sets k from.0 from.1).1,
     )
-
-pub thunks_stand : ThunksHaveRanges → (machine : Machine) (link : LinkInput) (layout : LayoutRecord) (laid : IsLaidOut machine link layout) → IsLawfulMachine machine
-    → ThunksStand (made_by laid) layout
-thunks_stand ranges machine link layout laid lawful = record {
-  owned = thunks_owned ranges machine link layout laid lawful;
-  addressed = thunks_addressed machine link layout laid;
-}
 
 -- ---- branches
 

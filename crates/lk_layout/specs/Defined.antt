@@ -17,17 +17,21 @@ use Rattle.lk_place.specs.Secondaries.{merge_refusal}
 use Rattle.lk_place.specs.Segments.{segments_refusal, thread_local_one}
 use Rattle.lk_sizes.specs.Attributes.{all_section_attributes, by_section}
 use Rattle.lk_sizes.specs.Contents.{size_refusal}
-use Rattle.lk_sizes.specs.Emitted.{active_segments, is_emitted, output_index}
+use Rattle.lk_sizes.specs.Emitted.{active_segments, is_emitted, output_index, told_marks}
 use Rattle.lk_sizes.specs.Images.{image_addresses}
 use Rattle.lk_sizes.specs.Addresses.{section_addresses}
 use Rattle.lk_sizes.specs.Harvest.{sorted_sections}
+use Rattle.lk_sizes.specs.Header.{header_info}
 use Rattle.lk_tables.specs.Singletons.{partial_link_plan}
 use Rattle.lk_relaxing.specs.Scan.{Standing}
 use Rattle.lk_relaxing.specs.Sites.{past_limit}
 use Rattle.lk_relaxing.specs.Stages.{IsRelaxed, Stage, refusal_of, standing_at}
 use Rattle.lk_layout.specs.declared.error.LayoutError.{LayoutError}
 use Rattle.lk_layout.specs.declared.error.LayoutError.TheVariants.{NoMemory, References}
+use Rattle.lk_layout.specs.DynsymStart.{dynsym_start}
+use Rattle.lk_layout.specs.GroupStarts.{group_starts}
 use Rattle.lk_layout.specs.LayoutRecord.{LayoutRecord}
+use Rattle.lk_layout.specs.Flags.{made_flags}
 use Rattle.lk_layout.specs.Errors.{branch_error, fault_error, offset_error, place_error, site_error, size_error}
 use Rattle.lk_layout.specs.Merging.{merging_refusal}
 use Rattle.lk_values.specs.Outside.{merge_offsets}
@@ -107,6 +111,7 @@ layout_of made =
       section_part_layouts = made.stage.records;
       section_attributes = all_section_attributes link made.live;
       output_section_indexes = by_section (output_index filling.content) link;
+      header_info = header_info filling.content;
       segment_layouts = made_segments made;
       tls_layout = option_map (λ l. l.sizes) (thread_local_one link.plan (made_segments made));
       live_marks = made.live.marks;
@@ -115,6 +120,7 @@ layout_of made =
       merged_strings = (link_inputs link).outputs;
       merged_string_start_addresses = start_addresses fnv64 (link_inputs link).outputs (image_addresses filling starts);
       symbol_resolutions = made_resolutions made;
+      flags = made_flags made;
       entry_symbol_id = entry_symbol link;
       script_sorted_sections = sorted_sections link made.live filling.sizes;
       partial_link = partial_link_plan link made.live;
@@ -123,6 +129,8 @@ layout_of made =
       thunk_block_addresses = made_places made;
       thunk_users = made_users made;
       thunk_size = thunk_size (config_for made.machine.thunks made.link);
+      dynsym_start_index = dynsym_start filling.content;
+      group_starts = group_starts made.machine.sizes link made.live (told_marks filling.content);
     }
 
 -- ---- the answer

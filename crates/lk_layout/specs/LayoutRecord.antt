@@ -1,5 +1,6 @@
 -- What a layout holds, as contracts see it: its link, and where everything of it stands.
 use Rattle.std.specs.Prelude.{ℕ, Bool, List, Option}
+use Rattle.lk_link.specs.declared.flags.ValueFlags.{ValueFlags}
 use Rattle.lk_link.specs.declared.ids.FileId.{FileId}
 use Rattle.lk_link.specs.declared.link.LinkInput.{LinkInput}
 use Rattle.lk_link.specs.declared.resolution.Resolution.{Resolution}
@@ -8,6 +9,8 @@ use Rattle.lk_merge.specs.Pieces.{MergeInput}
 use Rattle.lk_place.specs.declared.segments.SegmentLayout.{SegmentLayout}
 use Rattle.lk_relaxing.specs.LinkDeletions.{Deletions}
 use Rattle.lk_sizes.specs.declared.sorted.InputSortedSection.{InputSortedSection}
+use Rattle.lk_layout.specs.declared.group_starts.GroupStarts.{GroupStarts}
+use Rattle.lk_tables.specs.declared.header_info.HeaderInfo.{HeaderInfo}
 use Rattle.lk_tables.specs.declared.partial_link.PartialLinkPlan.{PartialLinkPlan}
 
 pub record LayoutRecord : Type 0 where
@@ -19,6 +22,8 @@ pub record LayoutRecord : Type 0 where
   -- of each output section its attributes, and its index in the output, if it is emitted
   pub section_attributes : List ℕ
   pub output_section_indexes : List (Option ℕ)
+  -- which output sections are emitted and which segments are active, and how many headers there are
+  pub header_info : HeaderInfo
   -- of each active segment; and of the thread-local one
   pub segment_layouts : List SegmentLayout
   pub tls_layout : Option Record
@@ -32,6 +37,8 @@ pub record LayoutRecord : Type 0 where
   pub merged_string_start_addresses : List ℕ
   -- of each symbol, by number, what it stands for
   pub symbol_resolutions : List (Option Resolution)
+  -- of each symbol, by number, its own flags, late marks included
+  pub flags : List ValueFlags
   -- the symbol that stands for the one where the program starts
   pub entry_symbol_id : Option ℕ
   -- the live sections that are put in order by their names, in that order
@@ -47,3 +54,7 @@ pub record LayoutRecord : Type 0 where
   pub thunk_users : List (FileId × ℕ × Bool)
   -- the bytes of a thunk
   pub thunk_size : ℕ
+  -- how many entries of the dynamic symbol table stand before the exports
+  pub dynsym_start_index : ℕ
+  -- where each group begins in the tables of symbols, and behind all of them that of the epilogue
+  pub group_starts : GroupStarts

@@ -1,6 +1,6 @@
 -- What a layout answers.
-use Rattle.std.specs.Prelude.{ℕ, ◌&&◌, Bool, List, Option, Result, filter, is_some, length, map, slice_index, sum_by}
-use Rattle.std.specs.List.{count_by, enumerate_from}
+use Rattle.std.specs.Prelude.{ℕ, ◌+◌, ◌*◌, ◌&&◌, Bool, List, None, Option, Result, filter, is_some, length, map, option_and_then, slice_index, sum_by}
+use Rattle.std.specs.List.{count_by, enumerate_from, slice_index_or}
 use Rattle.lk_gc.specs.Slots.{is_singleton}
 use Rattle.lk_link.specs.declared.link.LinkInput.{LinkInput}
 use Rattle.lk_link.specs.Inputs.{Input, all_inputs}
@@ -8,6 +8,7 @@ use Rattle.lk_link.specs.Marks.{is_marked}
 use Rattle.lk_sizes.specs.declared.addresses.LiveSection.{LiveSection}
 use Rattle.lk_gc.specs.Reach.{marked}
 use Rattle.lk_relaxing.specs.LinkDeletions.{size_after}
+use Rattle.lk_relaxing.specs.Scan.{as_address}
 use Rattle.lk_layout.specs.LayoutRecord.{LayoutRecord}
 use Rattle.lk_values.specs.declared.resolution.EntryFault.{EntryFault}
 use Rattle.lk_values.specs.Resolutions.{entry_address}
@@ -40,6 +41,11 @@ told_singletons link layout = map (λ q. q.1) (filter (is_told_singleton link la
 -- the thunks of all blocks together
 abbrev pub thunk_count : LayoutRecord → ℕ
 thunk_count layout = sum_by length layout.thunk_blocks
+
+-- where the thunk at a place of a block begins: as many thunks behind the block's start as stand before it; none where the block has no address
+abbrev pub thunk_address : LayoutRecord → ℕ → ℕ → Option ℕ
+thunk_address layout block place =
+    option_and_then (λ begin. as_address (begin + place * layout.thunk_size)) (slice_index_or layout.thunk_block_addresses block None)
 
 -- where the program starts
 abbrev pub resolved_entry : LayoutRecord → Result (Option ℕ) EntryFault

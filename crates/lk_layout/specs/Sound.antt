@@ -1,5 +1,5 @@
 -- What a layout keeps apart, and what it keeps in step.
-use Rattle.std.specs.Prelude.{◌≡◌, ◌≢◌, ◌⊎◌, ◌&&◌, if◌then◌else◌, [], List, IsSome, Option, option_and_then, ℕ, ◌+◌, ◌%◌, ◌<◌, ◌≤◌, ◌==◌, Bool, true, false, Some, None, Ok, length, map, option_map, pos, slice_get, slice_index}
+use Rattle.std.specs.Prelude.{◌≡◌, ◌≢◌, ◌⊎◌, ◌&&◌, ◌||◌, not, if◌then◌else◌, [], List, IsSome, Option, is_some, option_and_then, ℕ, ◌+◌, ◌%◌, ◌<◌, ◌≤◌, ◌==◌, Bool, true, false, Some, None, Ok, length, map, option_map, pos, slice_get, slice_index}
 use Rattle.std.specs.Int.{◌∣◌, abs_diff}
 use Rattle.std.specs.Option.{ForSome}
 use Rattle.lk_link.specs.declared.file.FileKind.{FileKind}
@@ -12,18 +12,20 @@ use Rattle.lk_link.specs.declared.relocation.Relocation.{Relocation}
 use Rattle.lk_link.specs.declared.resolution.Resolution.{Resolution}
 use Rattle.lk_link.specs.declared.section.InputSection.{InputSection}
 use Rattle.lk_link.specs.declared.symbol.InputSymbol.{InputSymbol}
+use Rattle.lk_link.specs.declared.symbol.SymbolPlacement.{SymbolPlacement}
 use Rattle.lk_link.specs.declared.symbol.SymbolPlacement.TheVariants as at
 use Rattle.lk_link.specs.FileKinds.{is_internal, is_object}
 use Rattle.lk_link.specs.Files.{file_in}
-use Rattle.lk_link.specs.Inputs.{Input, all_inputs, input_number}
+use Rattle.lk_link.specs.Inputs.{Input, NumberedFile, all_inputs, input_number}
 use Rattle.lk_link.specs.InputSlots.{is_merge, is_regular}
 use Rattle.lk_link.specs.Marks.{is_marked}
+use Rattle.lk_link.specs.NumberedSymbols.{numbered_symbol}
 use Rattle.lk_link.specs.PartRules.{table_parts}
 use Rattle.lk_link.specs.Parts.{all_parts, part_at, part_sections}
 use Rattle.lk_link.specs.PlanSections.{is_file_backed, is_set}
 use Rattle.lk_link.specs.Relocations.{resolution_flags}
 use Rattle.lk_link.specs.Symbols.{definition_of, first_symbol, is_wanted}
-use Rattle.lk_edges.specs.Edges.{edge_value, edges_of}
+use Rattle.lk_edges.specs.Edges.{Edges, edge_value, edges_of}
 use Rattle.lk_edges.specs.Redirects.{AllPlaced, RedirectsHold, is_redirect}
 use Rattle.lk_gc.specs.declared.live.Live.{Live}
 use Rattle.lk_gc.specs.Faults.{reference_faults}
@@ -41,32 +43,33 @@ use Rattle.lk_expressions.specs.Records.{Record, record_at}
 use Rattle.lk_relax.specs.Candidates.{AreOf, is_gone}
 use Rattle.lk_relaxing.specs.LinkDeletions.{output_offset}
 use Rattle.lk_relaxing.specs.Positions.{has_position}
-use Rattle.lk_relaxing.specs.Scan.{ranges_of, site, target}
+use Rattle.lk_relaxing.specs.Scan.{ranges_of}
 use Rattle.lk_relaxing.specs.Stages.{IsRelaxed, refusal_of}
 use Rattle.lk_place.specs.Segments.{alignment_inside, first_outside}
 use Rattle.lk_sizes.specs.declared.addresses.LiveSection.{LiveSection}
-use Rattle.lk_sizes.specs.Emitted.{is_emitted}
+use Rattle.lk_sizes.specs.Emitted.{is_emitted, told_marks}
 use Rattle.lk_sizes.specs.Addresses.{live_sections}
-use Rattle.lk_sizes.specs.Owners.{CommonOwner, EntryOwner, Filling, ImageOwner, IsCommonIn, Owner, SectionOwner, bytes_of, owner_address}
-use Rattle.lk_sizes.specs.PartOwners.{owners_of, tables_of, thunk_number}
+use Rattle.lk_sizes.specs.Owners.{CommonOwner, EntryOwner, Filling, ImageOwner, IsCommonIn, Owner, SectionOwner, bytes_of, owner_address, size_of}
+use Rattle.lk_sizes.specs.PartOwners.{owner_number, owners_of, tables_of, thunk_number}
+use Rattle.lk_tables.specs.Late.{flags_at, late_flags}
 use Rattle.lk_tables.specs.Singletons.{singletons}
 use Rattle.lk_tables.specs.SymbolTable.{SymbolEntry}
 use Rattle.lk_tables.specs.TableLaws.{HasLastEntry}
 use Rattle.lk_tables.specs.TableLists.{table_of}
-use Rattle.lk_sizes.specs.Sorted.{before}
+use Rattle.lk_sizes.specs.Harvest.{sorted_section}
+use Rattle.lk_sizes.specs.Sorted.{IsByName, before}
 use Rattle.lk_sizes.specs.Tiles.{HasByte, IsTiled}
 use Rattle.lk_tables.specs.SymbolEntries.{is_resolved}
 use Rattle.lk_layout.specs.LayoutRecord.{LayoutRecord}
 use Rattle.lk_values.specs.Starts.{starts_of}
-use Rattle.lk_layout.specs.Defined.{layout_of, made_standing}
-use Rattle.lk_layout.specs.Layouts.{emitted_count, told_live, told_singletons}
+use Rattle.lk_layout.specs.Defined.{layout_of}
+use Rattle.lk_layout.specs.Layouts.{emitted_count, thunk_address, told_live, told_singletons}
 use Rattle.lk_values.specs.Outside.{merge_offsets}
-use Rattle.lk_values.specs.Entries.{told_flags}
-use Rattle.lk_values.specs.Resolutions.{entries_of, resolution_at}
+use Rattle.lk_values.specs.Resolutions.{resolution_at}
 use Rattle.lk_layout.specs.Made.{Made, made_content, made_filling, made_relaxing}
 use Rattle.lk_layout.specs.Redirects.{placed_resolutions, placed_with, value_at}
 use Rattle.lk_branches.specs.BranchLaws.{HaveRanges, LiveBranchesReach}
-use Rattle.lk_branches.specs.Branches.{Branching}
+use Rattle.lk_branches.specs.Branches.{Branching, thunk_in, thunks_of}
 use Rattle.lk_branches.specs.ThunkPlans.{config_for, thunk_size}
 
 -- the record of the part with this number over all sections
@@ -135,6 +138,47 @@ ValuesAreInLiveSections made layout = (id : FileId) (file : InputFile) (i offset
     → file_in made.link.groups id ≡ Some file → (s : IsResolvedIn made.link made.live id file i) → s.symbol.at ≡ at.Section i offset
     → slice_get file.sections i ≡ Some section → is_merge section.slot ≡ false → (l : LiveSection) × IsToldOf made.link layout id i l
     × (option_map (λ r. r.raw_value) (resolution_at layout.symbol_resolutions (first_symbol made.link.groups id + s.index)) ≡ Some (l.address + output_offset made.link.groups layout.section_deletions id i offset))
+
+-- ---- resolutions
+
+-- the edges at which the linker's own symbols stand, by the records that are told
+abbrev pub told_edges : Made → LayoutRecord → Edges
+told_edges made layout = edges_of made.link.plan layout.section_layouts layout.segment_layouts
+
+-- the flags that are told of a symbol are those that the live have of it, with its late mark, if it gets one
+abbrev pub FlagsStand : Made → LayoutRecord → Type 0
+FlagsStand made layout = (s : ℕ) (f : NumberedFile) (x : InputSymbol) → numbered_symbol made.link.groups s ≡ Some (f, x)
+    → flags_at layout.flags s ≡ late_flags made.link (told_marks (made_content made)) f.file.kind s x (flags_at made.live.flags s)
+
+-- whether a symbol placed so in a file of this kind is worth anything: in the prelude, in a script or in a synthetic file where it stands at
+-- something, in any other always
+abbrev pub is_worth : Made → LayoutRecord → FileKind → SymbolPlacement → Bool
+is_worth made layout kind placement = not (is_internal kind) || is_some (edge_value (told_edges made layout) placement)
+
+-- a symbol has a resolution exactly where it is wanted, by the flags that are told, and is worth anything; and that tells these flags
+pub record ResolutionsStand (made : Made) (layout : LayoutRecord) : Type 0 where
+  pub given : (s : ℕ) (f : NumberedFile) (x : InputSymbol) → numbered_symbol made.link.groups s ≡ Some (f, x)
+      → is_some (resolution_at layout.symbol_resolutions s)
+      ≡ (is_wanted f.file.kind s x (flags_at layout.flags s) && is_worth made layout f.file.kind x.at)
+  pub flags : (s : ℕ) (f : NumberedFile) (x : InputSymbol) (r : Resolution) → numbered_symbol made.link.groups s ≡ Some (f, x)
+      → resolution_at layout.symbol_resolutions s ≡ Some r → r.flags ≡ flags_at layout.flags s
+
+-- the number that a symbol of an object or of a dynamic file is worth that stands nowhere in the output: its own, if it is absolute; 0, if it is
+-- defined nowhere, or by a dynamic file
+abbrev pub number_of : SymbolPlacement → Option ℕ
+number_of (at.Absolute n) = Some n
+number_of at.Undef = Some 0
+number_of at.Dynamic = Some 0
+number_of _ = None
+
+-- such a one is worth that, if it has a resolution; and one without a name in merged data is worth 0, if it has one
+pub record NumbersStand (made : Made) (layout : LayoutRecord) : Type 0 where
+  pub nowhere : (s n value : ℕ) (f : NumberedFile) (x : InputSymbol) → numbered_symbol made.link.groups s ≡ Some (f, x)
+      → is_internal f.file.kind ≡ false → number_of x.at ≡ Some n → value_at layout.symbol_resolutions s ≡ Some value → value ≡ n
+  pub unnamed : (s i offset value : ℕ) (f : NumberedFile) (x : InputSymbol) (section : InputSection)
+      → numbered_symbol made.link.groups s ≡ Some (f, x) → is_internal f.file.kind ≡ false → (length x.name == 0) ≡ true
+      → x.at ≡ at.Section i offset → slice_get f.file.sections i ≡ Some section → is_merge section.slot ≡ true
+      → value_at layout.symbol_resolutions s ≡ Some value → value ≡ 0
 
 -- ---- commons
 
@@ -255,13 +299,6 @@ pub record AreThunksAt (made : Made) (layout : LayoutRecord) (k : ℕ) (id : Fil
   pub told : slice_get layout.thunk_block_addresses k ≡ Some (Some (owner_address (part_record layout part).mem_offset (part_at made.link.plan.sections part)
       (owners_of (made_filling made) part) (thunk_number (made_filling made) part id)))
 
--- so stand those of each block that has an owner; and each block whose thunks have an address has one
-pub record ThunksStand (made : Made) (layout : LayoutRecord) : Type 0 where
-  pub owned : (k : ℕ) (id : FileId) (set : List ℕ) → slice_get layout.thunk_block_owners k ≡ Some (Some id) → slice_get layout.thunk_blocks k ≡ Some set
-      → AreThunksAt made layout k id set
-  pub addressed : (k a : ℕ) → slice_get layout.thunk_block_addresses k ≡ Some (Some a)
-      → (id : FileId) × (set : List ℕ) × (slice_get layout.thunk_block_owners k ≡ Some (Some id)) × (slice_get layout.thunk_blocks k ≡ Some set)
-
 -- what branches go by, as it is told
 abbrev pub told_branching : Made → LayoutRecord → Branching
 told_branching made layout = record {
@@ -276,15 +313,23 @@ told_branching made layout = record {
   resolutions = layout.symbol_resolutions;
 }
 
+-- so stand those of each block that has an owner; each block whose thunks have an address has one; and the address that is told of the thunk
+-- for each definition of a block is the one that branches go by: there is one exactly where the block's thunks have an address
+pub record ThunksStand (made : Made) (layout : LayoutRecord) : Type 0 where
+  pub owned : (k : ℕ) (id : FileId) (set : List ℕ) → slice_get layout.thunk_block_owners k ≡ Some (Some id) → slice_get layout.thunk_blocks k ≡ Some set
+      → AreThunksAt made layout k id set
+  pub addressed : (k a : ℕ) → slice_get layout.thunk_block_addresses k ≡ Some (Some a)
+      → (id : FileId) × (set : List ℕ) × (slice_get layout.thunk_block_owners k ≡ Some (Some id)) × (slice_get layout.thunk_blocks k ≡ Some set)
+  pub each : (k place d : ℕ) (set : List ℕ) → slice_get layout.thunk_blocks k ≡ Some set → slice_get set place ≡ Some d
+      → thunk_address layout k place ≡ option_and_then (thunk_in layout.thunk_size d) (thunks_of (told_branching made layout) k)
+
 -- ---- the linker's own symbols
 
 -- what the symbol with this number is worth that is so in the prelude, in a script or in a synthetic file: where it stands for itself and is
 -- wanted, what it is placed at, if anything
 abbrev pub own_value : Made → LayoutRecord → FileKind → ℕ → InputSymbol → Option ℕ
 own_value made layout kind s x =
-    if is_wanted kind s x (told_flags (entries_of (made_filling made) (starts_of layout.section_part_layouts)) kind (s, x))
-    then edge_value (edges_of made.link.plan layout.section_layouts layout.segment_layouts) x.at
-    else None
+    if is_wanted kind s x (flags_at layout.flags s) then edge_value (told_edges made layout) x.at else None
 
 -- each such symbol is worth that, and has no resolution where there is none; but for redirects that are evaluated
 abbrev pub EdgesStand : Made → LayoutRecord → Type 0
@@ -312,12 +357,31 @@ pub record IsShrunkTo (made : Made) (layout : LayoutRecord) (k : ℕ) (x : Input
 abbrev pub SectionsShrink : Made → LayoutRecord → Type 0
 SectionsShrink made layout = (k : ℕ) (x : Input) → slice_get (all_inputs made.link.groups) k ≡ Some x → IsShrunkTo made layout k x
 
--- a deleted candidate is no further from its symbol than its limit, by final addresses, where both have some
+-- where a symbol placed so in a file stands by what is told: at its number, if it is absolute; in a live section at that one's address, and
+-- from there where its offset goes by what is deleted
+abbrev pub told_place : Made → LayoutRecord → FileId → SymbolPlacement → Option ℕ
+told_place made layout id (at.Section i offset) =
+    if is_marked layout.live_marks (input_number made.link.groups id i)
+    then Some (slice_index layout.section_addresses (input_number made.link.groups id i) + output_offset made.link.groups layout.section_deletions id i offset)
+    else None
+told_place made layout id (at.Absolute n) = Some n
+told_place made layout id _ = None
+
+-- a candidate of an input section, with the section's number, is within its limit: what stands for its symbol stands no further than that from
+-- where the candidate does; and that is its value, if it has one
+pub record IsWithinLimit (made : Made) (layout : LayoutRecord) (k : ℕ) (x : Input) (c : RelaxCandidate) : Type 0 where
+  pub definition : ℕ
+  pub stands_for : definition_of made.link.groups (first_symbol made.link.groups x.file + c.symbol) ≡ Some definition
+  pub place : ℕ
+  pub at : option_and_then (λ q. told_place made layout q.0.id q.1.at) (numbered_symbol made.link.groups definition) ≡ Some place
+  pub near : abs_diff place (slice_index layout.section_addresses k + output_offset made.link.groups layout.section_deletions x.file x.index c.at) ≤ c.limit
+  pub valued : (value : ℕ) → value_at layout.symbol_resolutions definition ≡ Some value → value ≡ place
+
+-- so is each whose bytes are deleted
 abbrev pub DeletedCandidatesAreNear : Made → LayoutRecord → Type 0
-DeletedCandidatesAreNear made layout = (k j a b : ℕ) (x : Input) (c : RelaxCandidate) → slice_get (all_inputs made.link.groups) k ≡ Some x
+DeletedCandidatesAreNear made layout = (k j : ℕ) (x : Input) (c : RelaxCandidate) → slice_get (all_inputs made.link.groups) k ≡ Some x
     → slice_get x.section.relax j ≡ Some c → is_gone (ranges_of made.link.groups layout.section_deletions x.file x.index) c ≡ true
-    → option_and_then (target (made_standing made)) (definition_of made.link.groups (first_symbol made.link.groups x.file + c.symbol)) ≡ Some a
-    → site (made_standing made) x.file x.index c.at ≡ Some b → abs_diff a b ≤ c.limit
+    → IsWithinLimit made layout k x c
 
 -- ---- sorted sections
 
@@ -338,6 +402,14 @@ pub record SortedStandLast (made : Made) : Type 0 where
       → is_sorted_owner o ≡ false → is_table_owner o ≡ false → is_sorted_owner q ≡ true → j < k
   pub by_name : (p j k : ℕ) (x y : Input) (n m : ℕ) → slice_get (owners_of (made_filling made) p) j ≡ Some (SectionOwner x n)
       → slice_get (owners_of (made_filling made) p) k ≡ Some (SectionOwner y m) → x.section.sorted ≡ true → y.section.sorted ≡ true → before x y ≡ true → j < k
+
+-- the sorted sections that are told are the live ones, each once, in that order, and with what each takes as an owner of its part
+pub record SortedAreTold (made : Made) (layout : LayoutRecord) : Type 0 where
+  pub inputs : List Input
+  pub by_name : IsByName made.link made.live inputs
+  pub told : layout.script_sorted_sections ≡ map (sorted_section made.link (made_filling made).sizes) inputs
+  pub owners : (k : ℕ) (x : Input) → slice_get inputs k ≡ Some x
+      → slice_get (owners_of (made_filling made) x.section.part) (owner_number (made_filling made) x) ≡ Some (SectionOwner x (size_of (made_filling made) x))
 
 -- ---- singletons
 
@@ -364,12 +436,12 @@ pub record PlacementStands (made : Made) : Type 0 where
 -- a sound layout of what it is made of: it is all that is made of it, and the placement stands; all references are met; the live sections are
 -- those that are reached, each where its part's owners let it stand, aligned; there are the starts of the buckets of what is merged, each image
 -- stands in a part, with its pieces apart, and shows its inputs, nothing refers outside their data, and references into it have addresses that
--- show what they choose; each symbol of an object that is asked for stands for a place in a live section, at its address,
--- or in merged data, or for a number, or is a common, at the address of its bytes in a part; each of the linker's own stands at its edge, and each
--- redirect is worth its expression; tables stand alone in their parts, and what a resolution tells of entries is its symbol's own; the thunks of
--- each block that has an owner stand with it in the primary part, with a range for each definition, and each live branch whose target is known is
--- near it or the thunk by which it may go; sections lose nothing but bytes of their candidates, and no deleted one is further from its symbol than
--- its limit, where both have addresses; sorted sections stand last in their parts, by name; singletons stand behind the emitted sections; no
+-- show what they choose; symbols have resolutions, with their flags, exactly where they are wanted and worth anything; each symbol of an
+-- object that is asked for stands for a place in a live section, at its address, or in merged data, or for a number, or is a common, at the address
+-- of its bytes in a part; each of the linker's own stands at its edge, and each redirect is worth its expression; tables stand alone in their
+-- parts, and what a resolution tells of entries is its symbol's own; the thunks of each block that has an owner stand with it in the primary part, with a range for each definition, and each live branch whose target is known is
+-- near it or the thunk by which it may go; sections lose nothing but bytes of their candidates, and each deleted one is within its limit by the
+-- addresses that are told; sorted sections stand last in their parts, by name, and are told so; singletons stand behind the emitted sections; no
 -- section that is allocated stands outside the segments where it may not; each byte of a part has one owner; no two parts share a byte of the
 -- file; and under a plain plan the same holds of memory
 pub record IsSound (made : Made) (layout : LayoutRecord) : Type 0 where
@@ -385,6 +457,9 @@ pub record IsSound (made : Made) (layout : LayoutRecord) : Type 0 where
   pub inside : merge_offsets made.link made.live ≡ []
   pub placed : SymbolsStandInLiveSections made.link made.live
   pub valued : ValuesAreInLiveSections made layout
+  pub flags : FlagsStand made layout
+  pub given : ResolutionsStand made layout
+  pub numbers : NumbersStand made layout
   pub commons : CommonsStand made layout
   pub edges : EdgesStand made layout
   pub redirects : RedirectsStand made layout
@@ -395,6 +470,7 @@ pub record IsSound (made : Made) (layout : LayoutRecord) : Type 0 where
   pub shrunk : SectionsShrink made layout
   pub limited : DeletedCandidatesAreNear made layout
   pub ordered : SortedStandLast made
+  pub sorted : SortedAreTold made layout
   pub singles : SinglesStandBehind made layout
   pub covered : first_outside made.link layout.section_layouts (is_emitted (made_content made)) ≡ None
   pub aligned : LiveSectionsAreAligned made layout

@@ -24,7 +24,7 @@ use Rattle.lk_sizes.specs.Addresses.{block_addresses, section_addresses}
 use Rattle.lk_sizes.specs.Attributes.{all_section_attributes}
 use Rattle.lk_sizes.specs.Images.{image_addresses}
 use Rattle.lk_tables.specs.Singletons.{partial_link_plan}
-use Rattle.lk_sizes.specs.Emitted.{is_emitted}
+use Rattle.lk_sizes.specs.Emitted.{is_emitted, told_marks}
 use Rattle.lk_sizes.specs.Contents.{size_refusal}
 use Rattle.lk_sizes.specs.Owners.{AreThunkOwners}
 use Rattle.lk_sizes.specs.Sizing.{AreFilled}
@@ -38,6 +38,7 @@ use Rattle.lk_layout.specs.declared.stages.SizedLink.{SizedLink}
 use Rattle.lk_layout.specs.declared.stages.SpannedLink.{SpannedLink}
 use Rattle.lk_layout.specs.declared.stages.ToldLink.{ToldLink}
 use Rattle.lk_layout.specs.Defined.{Gives, joining_refusal, made_joined, is_memory, made_segments, made_standing, segment_refusal, sites_refusal}
+use Rattle.lk_layout.specs.GroupStarts.{group_starts}
 use Rattle.lk_layout.specs.Made.{Made, filling_for, made_filling, made_of, relaxing_for}
 use Rattle.lk_layout.specs.Thunks.{made_branching, made_owners, made_places}
 use Rattle.lk_layout.specs.Merging.{merging_refusal}
@@ -154,6 +155,8 @@ pub record IsToldLink (machine : Machine) (link : LinkInput) (told : ToldLink) :
   pub attributes : told.attributes ≡ all_section_attributes link told.reaching.addressed.spanned.placed.kept.live
   pub partial : told.partial_link ≡ partial_link_plan link told.reaching.addressed.spanned.placed.kept.live
   pub owners : told.block_owners ≡ made_owners (made_reaching reaching)
+  pub starts : told.group_starts ≡ group_starts machine.sizes link told.reaching.addressed.spanned.placed.kept.live
+      (told_marks (output_content machine.sizes link told.reaching.addressed.spanned.placed.kept.live))
 
 abbrev pub made_told : {machine : Machine} {link : LinkInput} {told : ToldLink} → IsToldLink machine link told → Made
 made_told is = made_reaching is.reaching

@@ -197,7 +197,8 @@ fn reach<'data, P: Platform, A: Arch>(
     Ok(ReachingLink { addressed, places })
 }
 
-/// Finds what is told beside that: attributes, what is known of output that is linked again, and the owners of blocks.
+/// Finds what is told beside that: attributes, what is known of output that is linked again, the owners of blocks, and where groups begin
+/// in the tables of symbols.
 fn tell<'data, P: Platform, A: Arch>(
     alloc: Global,
     link: &'data LinkInput,
@@ -209,7 +210,7 @@ fn tell<'data, P: Platform, A: Arch>(
     ensures { Reaches (platform_machine (P.segment_start platform.now) (P.table_sizes platform.now) (A.config_of arch.now)) link.now
         (IsToldLink (platform_machine (P.segment_start platform.now) (P.table_sizes platform.now) (A.config_of arch.now)) link.now) result }
 {
-    let (attributes, partial_link, block_owners) = found_told(
+    let (attributes, partial_link, block_owners, group_starts) = found_told(
         alloc, link, platform, arch, &reaching,
     )?;
     Ok(ToldLink {
@@ -217,6 +218,7 @@ fn tell<'data, P: Platform, A: Arch>(
         attributes,
         partial_link,
         block_owners,
+        group_starts,
     })
 }
 

@@ -6,6 +6,7 @@ ghost use Rattle.lk_layout.specs.Machines.{platform_machine};
 ghost use Rattle.lk_layout.specs.Stages.{IsAddressedLink, IsKept, GivesNear, IsBranchedLink, IsPlacedFirst, IsPlacedLink, IsReachingLink, IsSized, IsSpannedLink, IsToldLink, Reaches, made_placed};
 
 use crate::error::LayoutError;
+use crate::group_starts::{GroupStarts, group_starts};
 use crate::redirects::set_redirects;
 use crate::stages::{AddressedLink, KeptLink, PlacedLink, ReachingLink, SizedLink, SpannedLink};
 use lk_branches::laws::thunk_owners_are_good;
@@ -205,25 +206,38 @@ pub(crate) fn check_deleted<P: Platform, A: Arch>(
     Ok(())
 }
 
-/// Finds what is told beside that: attributes, what is known of output that is linked again, and the owners of blocks.
+/// Finds what is told beside that: attributes, what is known of output that is linked again, the owners of blocks, and where
+/// groups begin in the tables of symbols.
 pub(crate) fn found_told<P: Platform, A: Arch>(
     alloc: Global,
     link: &LinkInput,
-    _platform: &P,
+    platform: &P,
     _arch: &A,
     reaching: &ReachingLink<'_>,
-) -> Result<(List<u32>, Option<PartialLinkPlan>, List<Option<FileId>>), LayoutError>
-    requires reaching { IsReachingLink (platform_machine (P.segment_start _platform.now) (P.table_sizes _platform.now) (A.config_of _arch.now)) link.now reaching.now }
-    ensures { Reaches (platform_machine (P.segment_start _platform.now) (P.table_sizes _platform.now) (A.config_of _arch.now)) link.now
-        (λ q. IsToldLink (platform_machine (P.segment_start _platform.now) (P.table_sizes _platform.now) (A.config_of _arch.now)) link.now (record { reaching = reaching.now; attributes = q.0; partial_link = q.1; block_owners = q.2 })) result }
+) -> Result<
+    (
+        List<u32>,
+        Option<PartialLinkPlan>,
+        List<Option<FileId>>,
+        GroupStarts,
+    ),
+    LayoutError,
+>
+    requires reaching { IsReachingLink (platform_machine (P.segment_start platform.now) (P.table_sizes platform.now) (A.config_of _arch.now)) link.now reaching.now }
+    ensures { Reaches (platform_machine (P.segment_start platform.now) (P.table_sizes platform.now) (A.config_of _arch.now)) link.now
+        (λ q. IsToldLink (platform_machine (P.segment_start platform.now) (P.table_sizes platform.now) (A.config_of _arch.now)) link.now (record { reaching = reaching.now; attributes = q.0; partial_link = q.1; block_owners = q.2; group_starts = q.3 })) result }
 {
     let placed = &reaching.addressed.spanned.placed;
     let attributes = attributes_of_contents(alloc, link, placed.owners.contents())?;
     let partial_link = PartialLinkPlan::build(alloc, link, &placed.kept.live)?;
     let block_owners = block_owners(alloc, &placed.thunks)?;
+    let header = placed.owners.header();
+    let told = header.told.as_slice();
+    let starts = group_starts(alloc, link, platform, &placed.kept.live, told)?;
     Ok((
         List::from_vec(attributes),
         partial_link,
         List::from_vec(block_owners),
+        starts,
     ))
 }

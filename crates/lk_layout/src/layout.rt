@@ -1,15 +1,18 @@
 //! The layout of a link.
 
-ghost use Rattle.std.specs.Prelude.{◌≡◌, ◌-◌, ◌^◌, length, map, min, option_map, sum_by};
-ghost use Rattle.lk_layout.specs.Layouts.{resolved_entry, thunk_count};
+ghost use Rattle.std.specs.Prelude.{◌≡◌, ◌-◌, ◌^◌, None, length, map, min, option_map, sum_by};
+ghost use Rattle.std.specs.List.{slice_index_or};
+ghost use Rattle.lk_layout.specs.Layouts.{resolved_entry, thunk_address, thunk_count};
 
+use crate::group_starts::GroupStarts;
+use lk_link::ValueFlags;
 use lk_link::ids::{FileId, SymbolId};
 use lk_link::link::LinkInput;
 use lk_link::list::List;
 use lk_merge::{MergedStringStartAddresses, MergedStringsSection};
 use lk_place::{OutputRecordLayout, SegmentLayout};
 use lk_relax::RelaxDeltaMap;
-use lk_sizes::{InputSortedSection, PartialLinkPlan};
+use lk_sizes::{HeaderInfo, InputSortedSection, PartialLinkPlan};
 use lk_thunks::{ThunkBlock, ThunkBlockId};
 use lk_values::{EntryFault, SymbolResolutions, entry_value};
 use std::marker::Model;
@@ -18,11 +21,11 @@ use std::marker::Model;
 #[derive(Drop)]
 pub struct Layout<'data> {
     pub(crate) link: &'data LinkInput,
-    pub(crate) section_layouts: List<OutputRecordLayout>,
+    pub(crate) section_layouts: Vec<OutputRecordLayout>,
     pub(crate) merged_section_layouts: List<OutputRecordLayout>,
-    pub(crate) section_part_layouts: List<OutputRecordLayout>,
+    pub(crate) section_part_layouts: Vec<OutputRecordLayout>,
     pub(crate) section_attributes: List<u32>,
-    pub(crate) output_section_indexes: List<Option<u32>>,
+    pub(crate) header_info: HeaderInfo,
     pub(crate) segment_layouts: List<SegmentLayout>,
     pub(crate) tls_layout: Option<OutputRecordLayout>,
     pub(crate) live_marks: List<bool>,
@@ -31,6 +34,7 @@ pub struct Layout<'data> {
     pub(crate) merged_strings: List<MergedStringsSection<'data>>,
     pub(crate) merged_string_start_addresses: MergedStringStartAddresses,
     pub(crate) symbol_resolutions: SymbolResolutions,
+    pub(crate) flags: List<ValueFlags>,
     pub(crate) entry_symbol_id: Option<SymbolId>,
     pub(crate) script_sorted_sections: List<InputSortedSection>,
     pub(crate) partial_link: Option<PartialLinkPlan>,
@@ -39,6 +43,8 @@ pub struct Layout<'data> {
     pub(crate) thunk_block_addresses: List<Option<u64>>,
     pub(crate) thunk_users: List<(FileId, ThunkBlockId, bool)>,
     pub(crate) thunk_size: u64,
+    pub(crate) dynsym_start_index: u32,
+    pub(crate) group_starts: GroupStarts,
 }
 
 impl<'data> Model for Layout<'data> {
@@ -46,6 +52,7 @@ impl<'data> Model for Layout<'data> {
     ghost use Rattle.std.specs.Coded.{codes};
     ghost use Rattle.lk_link.specs.contracts.link.LinkInput as link_input;
     ghost use Rattle.lk_layout.specs.LayoutRecord.{LayoutRecord};
+    ghost use Rattle.lk_layout.specs.Movable.{CanMove};
 
     ghost Value = { LayoutRecord };
 
@@ -53,11 +60,12 @@ impl<'data> Model for Layout<'data> {
 
     ghost view = { λ a. record {
       link = a.link.now;
-      section_layouts = a.section_layouts;
+      section_layouts = a.section_layouts.items;
       merged_section_layouts = a.merged_section_layouts;
-      section_part_layouts = a.section_part_layouts;
+      section_part_layouts = a.section_part_layouts.items;
       section_attributes = a.section_attributes;
-      output_section_indexes = a.output_section_indexes;
+      output_section_indexes = a.header_info.output_section_indexes;
+      header_info = a.header_info;
       segment_layouts = a.segment_layouts;
       tls_layout = a.tls_layout;
       live_marks = a.live_marks;
@@ -66,6 +74,7 @@ impl<'data> Model for Layout<'data> {
       merged_strings = a.merged_strings;
       merged_string_start_addresses = a.merged_string_start_addresses;
       symbol_resolutions = a.symbol_resolutions;
+      flags = a.flags;
       entry_symbol_id = a.entry_symbol_id;
       script_sorted_sections = a.script_sorted_sections;
       partial_link = a.partial_link;
@@ -74,7 +83,11 @@ impl<'data> Model for Layout<'data> {
       thunk_block_addresses = a.thunk_block_addresses;
       thunk_users = a.thunk_users;
       thunk_size = a.thunk_size;
+      dynsym_start_index = a.dynsym_start_index;
+      group_starts = a.group_starts;
     } };
+
+    ghost invariant = { λ a. CanMove a.link.now a.header_info a.section_layouts.items a.section_part_layouts.items };
 }
 
 impl<'data> Layout<'data> {
@@ -118,7 +131,14 @@ impl<'data> Layout<'data> {
     pub fn output_section_indexes(&self) -> &[Option<u32>]
         ensures { result.now ≡ self.now.output_section_indexes }
     {
-        self.output_section_indexes.as_slice()
+        self.header_info.output_section_indexes.as_slice()
+    }
+
+    /// Which output sections are emitted and which segments are active, and what headers there are (libwild: `HeaderInfo`).
+    pub fn header_info(&self) -> &HeaderInfo
+        ensures { result.now ≡ self.now.header_info }
+    {
+        &self.header_info
     }
 
     /// Of each active segment, by number, what it spans.
@@ -220,6 +240,17 @@ impl<'data> Layout<'data> {
         self.thunk_block_addresses.as_slice()
     }
 
+    /// Where the thunk at a place of a block, by its number, begins in memory: behind those before it; a place behind the last thunk is
+    /// told as if there were one. None exactly where the block has no address, and where the number passes 2^64 - 1, which that of a
+    /// thunk of a computed layout doesn't. Takes constant time.
+    pub fn thunk_address(&self, block: usize, place: usize) -> Option<u64>
+        ensures { result ≡ thunk_address self.now block place }
+    {
+        let begin = start_of(self.thunk_block_addresses.as_slice(), block)?;
+        let behind = (place as u64).checked_mul(self.thunk_size)?;
+        begin.checked_add(behind)
+    }
+
     /// Each object that needs thunks, in the order of files, with its block, and whether it owns that.
     pub fn thunk_users(&self) -> &[(FileId, ThunkBlockId, bool)]
         ensures { result.now ≡ self.now.thunk_users }
@@ -232,6 +263,13 @@ impl<'data> Layout<'data> {
         ensures { result ≡ self.now.thunk_size }
     {
         self.thunk_size
+    }
+
+    /// Where each group begins in the tables of symbols, and behind all of them that of the epilogue.
+    pub(crate) fn group_starts(&self) -> &GroupStarts
+        ensures { result.now ≡ self.now.group_starts }
+    {
+        &self.group_starts
     }
 
     /// The thunks of all blocks together; a sum past 2^64 - 1 is given as that.
@@ -254,6 +292,13 @@ impl<'data> Layout<'data> {
             None => Ok(None),
         }
     }
+}
+
+/// Where the block with this number begins, if it has an address.
+fn start_of(addresses: &[Option<u64>], block: usize) -> Option<u64>
+    ensures { result ≡ slice_index_or addresses.now block None }
+{
+    addresses.get(block).copied().unwrap_or(None)
 }
 
 /// The thunks of some blocks; a sum past 2^64 - 1 is given as that.

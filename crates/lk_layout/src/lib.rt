@@ -4,18 +4,31 @@
 
 mod computation;
 pub mod error;
+mod file_ranges;
+pub mod files;
 mod found;
+pub mod group_layouts;
+pub mod group_starts;
 mod headers;
 mod images;
+mod in_range;
+mod late_marks;
 pub mod laws;
 pub mod layout;
+mod queries;
+pub mod query_laws;
 mod redirects;
 mod references;
+pub mod section_resolution;
 mod stages;
 
 pub use crate::computation::{compute, compute_alone};
 pub use crate::error::{LayoutError, ReachKind};
+pub use crate::files::FileLayout;
+pub use crate::group_layouts::{GroupLayout, GroupLayouts};
+pub use crate::in_range::ResolutionsInRange;
 pub use crate::layout::Layout;
+pub use crate::section_resolution::SectionResolution;
 pub use lk_gc::ReferenceFault;
 pub use lk_link::Resolution;
 pub use lk_merge::{MergedStringStartAddresses, MergedStringsSection};

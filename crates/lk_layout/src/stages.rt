@@ -2,19 +2,23 @@
 
 ghost use Rattle.std.specs.Prelude.{◌≡◌};
 ghost use Rattle.lk_layout.specs.Defined.{layout_of};
+ghost use Rattle.lk_layout.specs.DynsymStart.{first_export};
 ghost use Rattle.lk_layout.specs.Machines.{Machine};
 ghost use Rattle.lk_branches.specs.ThunkPlans.{thunk_size};
 ghost use Rattle.lk_layout.specs.Stages.{IsToldLink, made_told};
 
+use crate::group_starts::GroupStarts;
+use crate::late_marks::with_late_marks;
 use crate::layout::Layout;
 use lk_branches::ThunkPlan;
 use lk_gc::Live;
 use lk_link::ids::FileId;
 use lk_link::link::LinkInput;
 use lk_link::list::List;
+use lk_place::laws::file_ranges_are_disjoint;
 use lk_place::{OutputRecordLayout, Placed, SegmentLayouts};
 use lk_relax::RelaxDeltaMap;
-use lk_sizes::{PartOwners, PartialLinkPlan};
+use lk_sizes::{DynamicNumbers, PartOwners, PartialLinkPlan};
 use lk_thunks::ThunkConfig;
 use lk_values::{Addresses, Images, entry_symbol};
 
@@ -66,20 +70,25 @@ pub(crate) struct ReachingLink<'data> {
     pub(crate) places: List<Option<u64>>,
 }
 
-/// The same, with the attributes of its output sections, what is known of output that is linked again, and the owners of blocks.
+/// The same, with the attributes of its output sections, what is known of output that is linked again, the owners of blocks, and where
+/// its groups begin in the tables of symbols.
 #[derive(Drop)]
 pub(crate) struct ToldLink<'data> {
     pub(crate) reaching: ReachingLink<'data>,
     pub(crate) attributes: List<u32>,
     pub(crate) partial_link: Option<PartialLinkPlan>,
     pub(crate) block_owners: List<Option<FileId>>,
+    pub(crate) group_starts: GroupStarts,
 }
 
 impl<'data> ToldLink<'data> {
     /// The layout that these make together.
     pub(crate) fn into_layout(self, link: &'data LinkInput) -> Layout<'data>
+        requires told { (machine : Machine) × IsToldLink machine link.now self }
         ensures { (machine : Machine) (is : IsToldLink machine link.now self.entry) → result ≡ layout_of (made_told is) }
     {
+        // A law, which does nothing: no two parts share a byte of the file, so that each section takes what its parts take.
+        file_ranges_are_disjoint();
         let reaching = self.reaching;
         let addressed = reaching.addressed;
         let addresses = addressed.addresses;
@@ -91,14 +100,16 @@ impl<'data> ToldLink<'data> {
         let KeptLink { images, live } = placed.kept;
         let records = placed.records;
         let plan = placed.thunks;
+        let dynsym_start_index = first_export(link, placed.owners.numbers());
         let (header, sorted) = placed.owners.into_told();
+        let flags = with_late_marks(link, header.told.as_slice(), live.flags);
         Layout {
             link,
-            section_layouts: records.sections,
+            section_layouts: records.sections.into_vec(),
             merged_section_layouts: joined,
-            section_part_layouts: records.parts,
+            section_part_layouts: records.parts.into_vec(),
             section_attributes: self.attributes,
-            output_section_indexes: header.output_section_indexes,
+            header_info: header,
             segment_layouts: segments.segments,
             tls_layout: segments.tls_layout,
             live_marks: live.marks,
@@ -107,6 +118,7 @@ impl<'data> ToldLink<'data> {
             merged_strings: images.sections,
             merged_string_start_addresses: addresses.buckets,
             symbol_resolutions: addresses.resolutions,
+            flags,
             entry_symbol_id: entry_symbol(link),
             script_sorted_sections: sorted,
             partial_link: self.partial_link,
@@ -115,6 +127,8 @@ impl<'data> ToldLink<'data> {
             thunk_block_addresses: reaching.places,
             thunk_users: plan.users,
             thunk_size: size_of(plan.config),
+            dynsym_start_index,
+            group_starts: self.group_starts,
         }
     }
 }
@@ -126,5 +140,16 @@ fn size_of(config: Option<ThunkConfig>) -> u64
     match config {
         Some(config) => config.thunk_size,
         None => 0,
+    }
+}
+
+/// The number of the first export in the dynamic symbol table, by the numbers at the first symbol; 0 where there is no such table.
+fn first_export(link: &LinkInput, numbers: DynamicNumbers) -> u32
+    ensures { result ≡ first_export link.now numbers }
+{
+    if link.options.output.is_loaded_dynamically() {
+        numbers.export
+    } else {
+        0
     }
 }

@@ -6,6 +6,8 @@ mod commons;
 #[cfg(test)]
 mod devices;
 #[cfg(test)]
+mod files;
+#[cfg(test)]
 mod groups;
 #[cfg(test)]
 mod layout;
@@ -17,6 +19,8 @@ mod own_symbols;
 mod partial;
 #[cfg(test)]
 mod placements;
+#[cfg(test)]
+mod queries;
 #[cfg(test)]
 mod reach;
 #[cfg(test)]

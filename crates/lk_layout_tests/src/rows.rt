@@ -1,7 +1,9 @@
 //! What rows ask here, and that the answers are theirs.
 
 use crate::devices::{add_calls, add_held, add_reads, add_run, add_whole, add_writes};
+use crate::files::{add_moved, add_told};
 use crate::layout::add_workers;
+use crate::queries::add_queries;
 use crate::runs::{add_end, add_words};
 use crate::words::{add_both_runs, add_generated};
 use lk_input::read_link;
@@ -19,6 +21,10 @@ pub enum Asked {
     Workers,
     /// How a run over it ends.
     Run,
+    /// What the layout of it tells of starts.
+    Starts,
+    /// What it tells of symbols.
+    Symbols,
     /// What command its words are, and how a run with them ends.
     Words,
     /// How runs with its words end, alone and by workers.
@@ -37,6 +43,10 @@ pub enum Asked {
     Calls,
     /// How a run over failing devices ends.
     FaultyRun,
+    /// What is told where a section is moved in the file; the words for it stand in front of the link.
+    Moved,
+    /// What is told of the groups of its layout.
+    Groups,
 }
 
 /// Adds what is answered where the text stands for a link.
@@ -52,6 +62,23 @@ fn add_linked(
     }
 }
 
+/// Adds what is told where a section is moved, by the words in front of the text that stands for a link.
+fn add_worded(alloc: Global, line: &mut String, text: &str) -> Result<(), AllocError> {
+    let (words, text) = text.split_once(" / ").unwrap_or(("", text));
+    match read_link(alloc, text.as_bytes()) {
+        Ok(link) => add_moved(alloc, line, &link, words),
+        Err(error) => write!(line, "no link: {error}"),
+    }
+}
+
+/// Adds what is told of groups where the text stands for a link.
+fn add_all_groups(alloc: Global, line: &mut String, text: &str) -> Result<(), AllocError> {
+    match read_link(alloc, text.as_bytes()) {
+        Ok(link) => add_told(alloc, line, &link),
+        Err(error) => write!(line, "no link: {error}"),
+    }
+}
+
 /// Adds what is answered.
 fn add_answer(
     rt: &(impl Threads + Wait + Sync),
@@ -63,6 +90,7 @@ fn add_answer(
     match asked {
         Asked::Workers => add_linked(rt, alloc, line, text),
         Asked::Run => add_end(alloc, line, text),
+        Asked::Starts | Asked::Symbols => add_queries(alloc, line, asked, text),
         Asked::Words => add_words(alloc, line, text),
         Asked::BothRuns => add_both_runs(rt, alloc, line, text),
         Asked::Generated => add_generated(alloc, line, text),
@@ -72,6 +100,8 @@ fn add_answer(
         Asked::Writes => add_writes(alloc, line, text),
         Asked::Calls => add_calls(line, text),
         Asked::FaultyRun => add_run(rt, alloc, line, text),
+        Asked::Moved => add_worded(alloc, line, text),
+        Asked::Groups => add_all_groups(alloc, line, text),
     }
 }
 

@@ -1,4 +1,4 @@
-//! Tests of the passes by their own calls: the traversal, merging, sizes, tables and placement. There is nothing else here.
+//! Tests of the passes by their own calls: the traversal, merging, sizes, tables, placement and relaxation. There is nothing else here.
 #![tactic(auto)]
 
 #[cfg(test)]
@@ -19,6 +19,8 @@ mod owned;
 mod partial;
 #[cfg(test)]
 mod placed;
+#[cfg(test)]
+mod relaxed;
 #[cfg(test)]
 mod rows;
 #[cfg(test)]

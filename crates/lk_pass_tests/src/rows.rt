@@ -5,6 +5,7 @@ use crate::kept::add_traversals;
 use crate::made::{hand_made_link, sized_link};
 use crate::merging::add_merged_by_workers;
 use crate::placed::{Spanned, add_placed};
+use crate::relaxed::add_relaxed;
 use crate::shown::{Shown, add_shown};
 use crate::walked::add_walk;
 use lk_input::{InputError, read_link};
@@ -35,6 +36,8 @@ pub enum Asked {
     Walked,
     /// What the linker's own symbols stand at, and what redirects come to.
     Edged,
+    /// What relaxation deletes, and where all is placed then.
+    Relaxed,
 }
 
 /// The link that a text stands for.
@@ -101,6 +104,7 @@ fn add_answer(
         Asked::Placed(asked) => add_placed(alloc, line, asked, text),
         Asked::Walked => add_walk(alloc, line, text),
         Asked::Edged => add_edged(alloc, line, text),
+        Asked::Relaxed => add_relaxed(alloc, line, text),
         _ => add_linked(rt, alloc, line, asked, text),
     }
 }

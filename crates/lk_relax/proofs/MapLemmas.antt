@@ -1,174 +1,76 @@
--- Entries with rising indexes.
-use Rattle.std.proofs.Common.{◌≡◌, ◌==◌, ◌<◌, ◌≤◌, ◌+◌, ◌∙◌, ◌∷◌, [], List, ℕ, zero, suc, Bool, true, false, Option, Some, None, ap, arith, cond, eq-eqb, inl, inr, ltb, ltb-true, ltb-false, ne_eqb, refl, set, subst, sym, one-add, option_map}
+-- What a map of entries by indexes answers.
+use Rattle.std.proofs.Common.{◌≡◌, ◌==◌, ◌∙◌, ◌∷◌, [], List, ℕ, Bool, true, false, Less, Equal, Greater, Option, Some, None, ap, arith, cond, eq-eqb, ltb-true, ltb-false, nat_lt, ne_eqb, option_map, refl, suc, sym, ◌+◌}
+use Rattle.std.specs.BTreeMap.{insert_entry, is_at}
+use Rattle.std.specs.List.{find, insert, prefix_len}
+use Rattle.std.specs.Map.{lookup}
+use Rattle.std.specs.Ordering.{is_eq, match_ordering, nat_cmp}
 use Rattle.std.specs.Prelude.{if◌then◌else◌}
-use Rattle.std.proofs.lemmas.Bool.{cases_eq, eqb-true}
-use Rattle.std.specs.List.{find, insert, prefix_len, slice_get}
-use Rattle.std.specs.Option.{option_map_or}
-use Rattle.lk_relax.specs.DeltaMaps.{IndexesRise, with_ranges}
-use Rattle.lk_relax.proofs.Rising.{Rises, rises_above}
+use Rattle.std.proofs.lemmas.Bool.{eqb-true}
+use Rattle.lk_relax.specs.DeltaMaps.{deltas_at, with_entry, with_ranges}
 
-pub entries_rise : {X : Type 0} (low : ℕ) (es : List (ℕ × X)) → IndexesRise low es → Rises (λ (e : ℕ × X). e.0) low es
-entries_rise low [] h = tt
-entries_rise {X} low (e ∷ es) h = (h.0, rises_above (λ (x : ℕ × X). x.0) (e.0 + 1) e.0 es (omega arith) (entries_rise (e.0 + 1) es h.1))
+abbrev pub Entry : Type 0
+Entry = ℕ × List (ℕ × ℕ)
 
--- an entry, if it is one for this section
-only : {X : Type 0} → ℕ → Option (ℕ × X) → Option (ℕ × X)
-only s None = None
-only s (Some e) = cond (e.0 == s) (Some e) None
-
--- no entry is for a section below where they rise from
-none_below : {X : Type 0} (low s : ℕ) (es : List (ℕ × X)) → IndexesRise low es → s < low → find (λ (e : ℕ × X). e.0 == s) es ≡ None
-none_below low s [] h below = refl
-none_below {X} low s (e ∷ es) h below =
-    ap (λ b. cond b (Some e) (find (λ (x : ℕ × X). x.0 == s) es)) (ne_eqb e.0 s (λ same. absurd (omega (arith, same, below, h.0))))
-    ∙ none_below (e.0 + 1) s es h.1 (omega (arith, below, h.0))
-
--- an entry stands behind those of lower indexes
-found_behind : {X : Type 0} (low s : ℕ) (es : List (ℕ × X)) → IndexesRise low es
-    → find (λ (e : ℕ × X). e.0 == s) es ≡ only s (slice_get es (prefix_len (λ (e : ℕ × X). ltb e.0 s) es))
-unfolding only
-found_behind low s [] h = refl
-found_behind {X} low s (e ∷ es) h = by (ltb e.0 s) refl (found_behind (e.0 + 1) s es h.1)
+-- numbers that compare as equal are
+same_index : (s k : ℕ) → is_eq (nat_cmp s k) ≡ (k == s)
+same_index s k = by (nat_lt s k) (s == k) refl refl
   where
-    here : (b : Bool) → (e.0 == s) ≡ b → s ≤ e.0 → cond b (Some e) (find (λ (x : ℕ × X). x.0 == s) es) ≡ cond b (Some e) None
-    here true at past = refl
-    here false at past = none_below (e.0 + 1) s es h.1 (omega (arith, past))
+    by : (b c : Bool) → nat_lt s k ≡ b → (s == k) ≡ c → is_eq (cond b Less (cond c Equal Greater)) ≡ (k == s)
+    by true c lt same = sym (ne_eqb k s (λ is. absurd (omega (arith, ltb-true s k lt, is))))
+    by false true lt same = sym (eq-eqb k s (sym (eqb-true s k same)))
+    by false false lt same = sym (ne_eqb k s (λ is. let both : true ≡ false = sym (eq-eqb s k (sym is)) ∙ same in absurd (cc)))
 
-    by : (b : Bool) → ltb e.0 s ≡ b
-        → find (λ (x : ℕ × X). x.0 == s) es ≡ only s (slice_get es (prefix_len (λ (x : ℕ × X). ltb x.0 s) es))
-        → find (λ (x : ℕ × X). x.0 == s) (e ∷ es) ≡ only s (slice_get (e ∷ es) (prefix_len (λ (x : ℕ × X). ltb x.0 s) (e ∷ es)))
-    by true at later =
-        let below : e.0 < s = ltb-true e.0 s at in
-        let m = prefix_len (λ (x : ℕ × X). ltb x.0 s) es in
-        ap (λ b. cond b (Some e) (find (λ (x : ℕ × X). x.0 == s) es)) (ne_eqb e.0 s (λ same. absurd (omega (arith, same, below))))
-        ∙ later
-        ∙ sym (ap (λ b. only s (slice_get (e ∷ es) (cond b (1 + m) 0))) at ∙ ap (λ k. only s (slice_get (e ∷ es) k)) (one-add m))
-    by false at later =
-        here (e.0 == s) refl (ltb-false e.0 s at) ∙ sym (ap (λ b. only s (slice_get (e ∷ es) (cond b (1 + prefix_len (λ (x : ℕ × X). ltb x.0 s) es) 0))) at)
-
--- what is found of a section: the entry behind those of lower indexes, if it is that section's
-pub found_none : {X : Type 0} (s : ℕ) (es : List (ℕ × X)) → IndexesRise 0 es → slice_get es (prefix_len (λ (e : ℕ × X). ltb e.0 s) es) ≡ None
-    → find (λ (e : ℕ × X). e.0 == s) es ≡ None
-unfolding only
-found_none s es h at = found_behind 0 s es h ∙ ap (only s) at
-
-pub found_same : {X : Type 0} (s : ℕ) (es : List (ℕ × X)) (e : ℕ × X) → IndexesRise 0 es → slice_get es (prefix_len (λ (x : ℕ × X). ltb x.0 s) es) ≡ Some e
-    → e.0 ≡ s → find (λ (x : ℕ × X). x.0 == s) es ≡ Some e
-unfolding only
-found_same s es e h at same = found_behind 0 s es h ∙ ap (only s) at ∙ ap (λ b. cond b (Some e) None) (eq-eqb e.0 s same)
-
-pub found_other : {X : Type 0} (s : ℕ) (es : List (ℕ × X)) (e : ℕ × X) → IndexesRise 0 es → slice_get es (prefix_len (λ (x : ℕ × X). ltb x.0 s) es) ≡ Some e
-    → (e.0 ≡ s → ⊥) → find (λ (x : ℕ × X). x.0 == s) es ≡ None
-unfolding only
-found_other s es e h at other = found_behind 0 s es h ∙ ap (only s) at ∙ ap (λ b. cond b (Some e) None) (ne_eqb e.0 s other)
-
--- with one more entry behind those of lower indexes they still rise
-pub one_more_rises : {X : Type 0} (low s : ℕ) (x : X) (es : List (ℕ × X)) → IndexesRise low es → low ≤ s → find (λ (e : ℕ × X). e.0 == s) es ≡ None
-    → IndexesRise low (insert es (prefix_len (λ (e : ℕ × X). ltb e.0 s) es) (s, x))
-one_more_rises low s x [] h from new = (from, tt)
-one_more_rises {X} low s x (e ∷ es) h from new = by (ltb e.0 s) (e.0 == s) refl refl new (one_more_rises (e.0 + 1) s x es h.1)
+-- what is found of a section
+pub found : (s : ℕ) (es : List Entry) → lookup (is_at (nat_cmp s)) es ≡ deltas_at es s
+found s [] = refl
+found s (e ∷ es) = ap (λ b. cond b (Some e.1) (lookup (is_at (nat_cmp s)) es)) (same_index s e.0) ∙ by (e.0 == s) (found s es)
   where
-    m : ℕ
-    m = prefix_len (λ (y : ℕ × X). ltb y.0 s) es
+    by : (b : Bool) → lookup (is_at (nat_cmp s)) es ≡ deltas_at es s
+        → cond b (Some e.1) (lookup (is_at (nat_cmp s)) es) ≡ option_map (λ (x : Entry). x.1) (cond b (Some e) (find (λ (x : Entry). x.0 == s) es))
+    by true later = refl
+    by false later = later
 
-    by : (b c : Bool) → ltb e.0 s ≡ b → (e.0 == s) ≡ c → cond c (Some e) (find (λ (y : ℕ × X). y.0 == s) es) ≡ None
-        → (e.0 + 1 ≤ s → find (λ (y : ℕ × X). y.0 == s) es ≡ None → IndexesRise (e.0 + 1) (insert es m (s, x)))
-        → IndexesRise low (insert (e ∷ es) (prefix_len (λ (y : ℕ × X). ltb y.0 s) (e ∷ es)) (s, x))
-    by b true at same none later = absurd (cc)
-    by true false at same none later =
-        let below : e.0 < s = ltb-true e.0 s at in
-        subst (λ k. IndexesRise low (insert (e ∷ es) k (s, x))) (sym (ap (λ b. cond b (1 + m) 0) at ∙ one-add m))
-        (h.0, later (omega (arith, below)) none)
-    by false false at same none later =
-        let past : s ≤ e.0 = ltb-false e.0 s at in
-        subst (λ k. IndexesRise low (insert (e ∷ es) k (s, x))) (sym (ap (λ b. cond b (1 + m) 0) at)) (
-          from,
-          (
-            elim (cases_eq e.0 s) [
-              | inl equal ↦ absurd (let both : true ≡ false = sym (eq-eqb e.0 s equal) ∙ same in cc)
-              | inr other ↦ omega (arith, past, other)
-            ],
-            h.1,
-          ),
-        )
+-- other ranges for a section
+pub put : (s : ℕ) (ranges : List (ℕ × ℕ)) (es : List Entry) → insert_entry nat_cmp es s ranges ≡ with_ranges s ranges es
+put s ranges [] = refl
+put s ranges (e ∷ es) = by (nat_lt s e.0) (s == e.0) (nat_lt e.0 s) refl refl refl (put s ranges es)
+  where
+    by : (a b c : Bool) → nat_lt s e.0 ≡ a → (s == e.0) ≡ b → nat_lt e.0 s ≡ c → insert_entry nat_cmp es s ranges ≡ with_ranges s ranges es
+        → match_ordering (cond a Less (cond b Equal Greater)) ((s, ranges) ∷ e ∷ es) ((e.0, ranges) ∷ es) (e ∷ insert_entry nat_cmp es s ranges)
+        ≡ (if c then e ∷ with_ranges s ranges es else (s, ranges) ∷ (if e.0 == s then es else e ∷ es))
+    by true b true lt same gt later = absurd (omega (arith, ltb-true s e.0 lt, ltb-true e.0 s gt))
+    by true b false lt same gt later =
+        ap (λ x. (s, ranges) ∷ (if x then es else e ∷ es)) (sym (ne_eqb e.0 s (λ is. absurd (omega (arith, ltb-true s e.0 lt, is)))))
+    by false true true lt same gt later = absurd (omega (arith, eqb-true s e.0 same, ltb-true e.0 s gt))
+    by false true false lt same gt later =
+        let is : e.0 ≡ s = sym (eqb-true s e.0 same) in
+        ap (λ (n : ℕ). (n, ranges) ∷ es) is ∙ ap (λ x. (s, ranges) ∷ (if x then es else e ∷ es)) (sym (eq-eqb e.0 s is))
+    by false false true lt same gt later = ap (λ (xs : List Entry). e ∷ xs) later
+    by false false false lt same gt later =
+        let is : s ≡ e.0 = omega (arith, ltb-false s e.0 lt, ltb-false e.0 s gt) in
+        absurd (let both : true ≡ false = sym (eq-eqb s e.0 is) ∙ same in cc)
 
 -- what is found is none where what is deleted of it is
-pub none_mapped : {X Y : Type 0} (f : X → Y) (o : Option X) → option_map f o ≡ None → o ≡ None
+none_mapped : {X Y : Type 0} (f : X → Y) (o : Option X) → option_map f o ≡ None → o ≡ None
 none_mapped f None e = refl
 none_mapped f (Some x) e = absurd (cc)
 
--- ---- other ranges for a section
-
--- the entry at a place is that of a section
-pub record IsEntry {X : Type 0} (s n : ℕ) (es : List (ℕ × X)) : Type 0 where
-  pub entry : ℕ × X
-  pub at : slice_get es n ≡ Some entry
-  pub own : entry.0 ≡ s
-
-pub entry_is : {X : Type 0} (s n : ℕ) (es : List (ℕ × X)) → option_map_or (λ (e : ℕ × X). e.0 == s) (slice_get es n) false ≡ true → IsEntry s n es
-entry_is {X} s n es is = by (slice_get es n) refl is
-  where
-    by : (o : Option (ℕ × X)) → slice_get es n ≡ o → option_map_or (λ (e : ℕ × X). e.0 == s) o false ≡ true → IsEntry s n es
-    by None at h = absurd (cc)
-    by (Some e) at h = record { entry = e; at = at; own = eqb-true e.0 s h }
-
--- where it isn't, there is none
-pub no_entry : {X : Type 0} (s n : ℕ) (es : List (ℕ × X)) → IndexesRise 0 es → n ≡ prefix_len (λ (e : ℕ × X). ltb e.0 s) es
-    → option_map_or (λ (e : ℕ × X). e.0 == s) (slice_get es n) false ≡ false → find (λ (e : ℕ × X). e.0 == s) es ≡ None
-no_entry {X} s n es rise place not = by (slice_get es n) refl not
-  where
-    by : (o : Option (ℕ × X)) → slice_get es n ≡ o → option_map_or (λ (e : ℕ × X). e.0 == s) o false ≡ false → find (λ (e : ℕ × X). e.0 == s) es ≡ None
-    by None at h = found_none s es rise (ap (slice_get es) (sym place) ∙ at)
-    by (Some e) at h = found_other s es e rise (ap (slice_get es) (sym place) ∙ at) (λ same. absurd (let both : true ≡ false = sym (eq-eqb e.0 s same) ∙ h in cc))
-
--- it is found
-pub entry_found : {X : Type 0} (s n : ℕ) (es : List (ℕ × X)) → IndexesRise 0 es → n ≡ prefix_len (λ (e : ℕ × X). ltb e.0 s) es → (h : IsEntry s n es)
-    → find (λ (e : ℕ × X). e.0 == s) es ≡ Some h.entry
-entry_found s n es rise place h = found_same s es h.entry rise (ap (slice_get es) (sym place) ∙ h.at) h.own
-
--- with other ranges in its place
-pub ranges_set : (s : ℕ) (ranges : List (ℕ × ℕ)) (es : List (ℕ × List (ℕ × ℕ))) → IsEntry s (prefix_len (λ (e : ℕ × List (ℕ × ℕ)). ltb e.0 s) es) es
-    → set es (prefix_len (λ (e : ℕ × List (ℕ × ℕ)). ltb e.0 s) es) (s, ranges) ≡ with_ranges s ranges es
-ranges_set s ranges [] h = absurd (let no : None ≡ Some h.entry = h.at in cc)
-ranges_set s ranges (e ∷ es) h = by (ltb e.0 s) h (ranges_set s ranges es)
-  where
-    Entry : Type 0
-    Entry = ℕ × List (ℕ × ℕ)
-
-    m : ℕ
-    m = prefix_len (λ (x : Entry). ltb x.0 s) es
-
-    by : (b : Bool) → IsEntry s (cond b (1 + m) 0) (e ∷ es) → (IsEntry s m es → set es m (s, ranges) ≡ with_ranges s ranges es)
-        → set (e ∷ es) (cond b (1 + m) 0) (s, ranges) ≡ (if b then e ∷ with_ranges s ranges es else (s, ranges) ∷ (if e.0 == s then es else e ∷ es))
-    by true is later =
-        let rest : IsEntry s m es = record { entry = is.entry; at = ap (slice_get (e ∷ es)) (sym (one-add m)) ∙ is.at; own = is.own } in
-        ap (λ (k : ℕ). set (e ∷ es) k (s, ranges)) (one-add m) ∙ ap (λ (xs : List Entry). e ∷ xs) (later rest)
-    by false is later =
-        let first : e ≡ is.entry = let at : Some e ≡ Some is.entry = is.at in cc in
-        ap (λ b. (s, ranges) ∷ (if b then es else e ∷ es)) (sym (eq-eqb e.0 s (ap (λ (x : Entry). x.0) first ∙ is.own)))
-
 -- as one entry more
-pub ranges_inserted : (s : ℕ) (ranges : List (ℕ × ℕ)) (es : List (ℕ × List (ℕ × ℕ))) → find (λ (e : ℕ × List (ℕ × ℕ)). e.0 == s) es ≡ None
-    → insert es (prefix_len (λ (e : ℕ × List (ℕ × ℕ)). ltb e.0 s) es) (s, ranges) ≡ with_ranges s ranges es
-ranges_inserted s ranges [] none = refl
-ranges_inserted s ranges (e ∷ es) none = by (ltb e.0 s) (e.0 == s) none (ranges_inserted s ranges es)
+inserted : (s : ℕ) (ranges : List (ℕ × ℕ)) (es : List Entry) → find (λ (e : Entry). e.0 == s) es ≡ None → with_ranges s ranges es ≡ with_entry s ranges es
+inserted s ranges [] none = refl
+inserted s ranges (e ∷ es) none = by (nat_lt e.0 s) (e.0 == s) none (inserted s ranges es)
   where
-    Entry : Type 0
-    Entry = ℕ × List (ℕ × ℕ)
-
     m : ℕ
-    m = prefix_len (λ (x : Entry). ltb x.0 s) es
+    m = prefix_len (λ (x : Entry). nat_lt x.0 s) es
 
-    by : (b c : Bool) → cond c (Some e) (find (λ (x : Entry). x.0 == s) es) ≡ None → (find (λ (x : Entry). x.0 == s) es ≡ None → insert es m (s, ranges) ≡ with_ranges s ranges es)
-        → insert (e ∷ es) (cond b (1 + m) 0) (s, ranges) ≡ (if b then e ∷ with_ranges s ranges es else (s, ranges) ∷ (if c then es else e ∷ es))
+    one_more : 1 + m ≡ suc m
+    one_more = omega arith
+
+    by : (b c : Bool) → cond c (Some e) (find (λ (x : Entry). x.0 == s) es) ≡ None → (find (λ (x : Entry). x.0 == s) es ≡ None → with_ranges s ranges es ≡ insert es m (s, ranges))
+        → (if b then e ∷ with_ranges s ranges es else (s, ranges) ∷ (if c then es else e ∷ es)) ≡ insert (e ∷ es) (cond b (1 + m) 0) (s, ranges)
     by b true new later = absurd (cc)
-    by true false new later = ap (λ (k : ℕ). insert (e ∷ es) k (s, ranges)) (one-add m) ∙ ap (λ (xs : List Entry). e ∷ xs) (later new)
+    by true false new later = ap (λ (xs : List Entry). e ∷ xs) (later new) ∙ sym (ap (λ (k : ℕ). insert (e ∷ es) k (s, ranges)) one_more)
     by false false new later = refl
 
--- indexes rise as before where an entry keeps its own
-pub set_rises : {X : Type 0} (low n : ℕ) (es : List (ℕ × X)) (e f : ℕ × X) → IndexesRise low es → slice_get es n ≡ Some e → f.0 ≡ e.0 → IndexesRise low (set es n f)
-set_rises low n [] e f h at same = absurd (cc)
-set_rises {X} low zero (x ∷ es) e f h at same =
-    let index : f.0 ≡ x.0 = let first : x ≡ e = cc in same ∙ ap (λ (y : ℕ × X). y.0) (sym first) in
-    (omega (arith, index, h.0), subst (λ (i : ℕ). IndexesRise (i + 1) es) (sym index) h.1)
-set_rises low (suc n) (x ∷ es) e f h at same = (h.0, set_rises (x.0 + 1) n es e f h.1 at same)
+pub entered : (s : ℕ) (ranges : List (ℕ × ℕ)) (es : List Entry) → deltas_at es s ≡ None → insert_entry nat_cmp es s ranges ≡ with_entry s ranges es
+entered s ranges es new = put s ranges es ∙ inserted s ranges es (none_mapped (λ (e : Entry). e.1) (find (λ (e : Entry). e.0 == s) es) new)

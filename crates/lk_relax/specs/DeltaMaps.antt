@@ -1,11 +1,6 @@
 -- What is deleted of the sections of a file, by their indexes.
-use Rattle.std.specs.Prelude.{ℕ, ◌+◌, ◌≤◌, ◌==◌, if◌then◌else◌, List, [], ◌∷◌, Option, find, nat_lt, option_map}
+use Rattle.std.specs.Prelude.{ℕ, ◌==◌, if◌then◌else◌, List, [], ◌∷◌, Option, find, nat_lt, option_map}
 use Rattle.std.specs.List.{insert, prefix_len}
-
--- indexes rise strictly from a number on
-abbrev pub IndexesRise : {X : Type 0} → ℕ → List (ℕ × X) → Type 0
-IndexesRise low [] = Unit {0}
-IndexesRise low (e ∷ es) = (low ≤ e.0) × IndexesRise (e.0 + 1) es
 
 -- what is deleted of the section with an index, if there is an entry for it
 abbrev pub deltas_at : List (ℕ × List (ℕ × ℕ)) → ℕ → Option (List (ℕ × ℕ))

@@ -59,6 +59,37 @@ impl SectionRelaxDeltas {
         Ok(())
     }
 
+    /// The same ranges, in memory of their own.
+    pub(crate) fn copied(&self, alloc: Global) -> Result<SectionRelaxDeltas, AllocError>
+        ensures { IfOk result (λ deltas. deltas ≡ self.now) }
+    {
+        let mut deltas = Vec::with_capacity(alloc, self.deltas.len())?;
+        deltas.extend_from_slice(self.deltas.as_slice())?;
+        Ok(SectionRelaxDeltas { deltas })
+    }
+
+    /// A law: the ranges rise and are apart.
+    pub(crate) fn are_deletions(&self)
+        ensures { AreDeletions self.now }
+    {
+        // Reading the ranges tells that they are.
+        let _ranges = self.deltas.as_slice();
+    }
+
+    /// These ranges and more, which with these can be put in rising order, apart.
+    pub(crate) fn merged(
+        &self,
+        alloc: Global,
+        more: &SectionRelaxDeltas,
+    ) -> Result<SectionRelaxDeltas, AllocError>
+        requires apart { (all : List (ℕ × ℕ)) × AreBoth self.now more.now all }
+        ensures { (all : List (ℕ × ℕ)) → AreBoth self.now more.now all → IfOk result (λ both. both ≡ all) }
+    {
+        let mut both = self.copied(alloc)?;
+        both.merge_additional(&more.ranges(alloc)?)?;
+        Ok(both)
+    }
+
     /// Whether there are no ranges.
     pub fn is_empty(&self) -> bool
         ensures { result ≡ (length self.now == 0) }

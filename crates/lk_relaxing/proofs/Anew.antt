@@ -7,11 +7,11 @@ use Rattle.lk_place.specs.declared.error.PlaceError.TheVariants.{AddressOverflow
 use Rattle.lk_place.specs.Answers.{GivesPlaced}
 use Rattle.lk_place.specs.Setting.{setting_of}
 use Rattle.lk_sizes.specs.PartOwners.{part_sizes}
-use Rattle.lk_relaxing.specs.declared.passes.InHand.{InHand}
 use Rattle.lk_relaxing.specs.declared.passes.Passed.{Passed}
+use Rattle.lk_relaxing.specs.declared.relaxation.Places.{Places}
 use Rattle.lk_relaxing.specs.LinkDeletions.{Deletions}
 use Rattle.lk_relaxing.specs.Positions.{section_positions, symbol_positions}
-use Rattle.lk_relaxing.specs.RelaxationWords.{GivesAnew}
+use Rattle.lk_relaxing.specs.RelaxationWords.{GivesAnew, GivesPlaces}
 use Rattle.lk_relaxing.specs.Stages.{Relaxing, filling_after, link_of, setting_after}
 
 -- what is handed on is what is placed then
@@ -22,7 +22,25 @@ setting_is by deltas seen sizes positions sections same sized stand are =
     ap (λ (ns : List ℕ). setting_of (link_of by) by.target ns by.headers positions) (same ∙ sized)
     ∙ ap (setting_of (link_of by) by.target (part_sizes (filling_after by deltas)) by.headers) (are ∙ ap (symbol_positions (link_of by).groups deltas) stand)
 
-pub refused_anew : (by : Relaxing) (passed : Passed) (e : PlaceError) → GivesPlaced (setting_after by passed.deltas.items) (Err e) → GivesAnew by passed (Err e)
+pub refused_places : (by : Relaxing) (deletions : Deletions) (e : PlaceError) → GivesPlaced (setting_after by deletions) (Err e) → GivesPlaces by deletions (Err e)
+refused_places by deletions NoMemory h = tt
+refused_places by deletions (AddressOverflow place) h = h
+refused_places by deletions (RegionDuplicate region) h = h
+refused_places by deletions (Expression place cause) h = h
+refused_places by deletions (RegionUnknown s) h = h
+refused_places by deletions (RegionOverflow region by_bytes) h = h
+refused_places by deletions (OutsideRegion event address) h = h
+refused_places by deletions (LocationBackwards from to) h = h
+refused_places by deletions (BaseTooLow base headers) h = h
+refused_places by deletions (SectionOutsideSegments s) h = h
+
+-- the exit of a `?`
+pub places_exit : (by : Relaxing) (deletions : Deletions) (P : PlaceError → Type 0) (answer : Result Places PlaceError) → IsErrAnd answer P → ((e : PlaceError) → P e → GivesPlaces by deletions (Err e)) → GivesPlaces by deletions answer
+places_exit by deletions P (Ok places) h f = absurd h
+places_exit by deletions P (Err e) h f = f e h
+
+-- all are placed anew where that is refused
+pub refused_anew : (by : Relaxing) (passed : Passed) (e : PlaceError) → GivesPlaces by passed.deltas.items (Err e) → GivesAnew by passed (Err e)
 refused_anew by passed NoMemory h = tt
 refused_anew by passed (AddressOverflow place) h = h
 refused_anew by passed (RegionDuplicate region) h = h
@@ -33,8 +51,3 @@ refused_anew by passed (OutsideRegion event address) h = h
 refused_anew by passed (LocationBackwards from to) h = h
 refused_anew by passed (BaseTooLow base headers) h = h
 refused_anew by passed (SectionOutsideSegments s) h = h
-
--- the exit of a `?`
-pub anew_exit : (by : Relaxing) (passed : Passed) (P : PlaceError → Type 0) (answer : Result InHand PlaceError) → IsErrAnd answer P → ((e : PlaceError) → P e → GivesAnew by passed (Err e)) → GivesAnew by passed answer
-anew_exit by passed P (Ok hand) h f = absurd h
-anew_exit by passed P (Err e) h f = f e h

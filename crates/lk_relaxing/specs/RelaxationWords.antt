@@ -22,10 +22,12 @@ use Rattle.lk_sizes.specs.OwnersRecord.{OwnersRecord}
 use Rattle.lk_sizes.specs.Sizing.{AreFilled}
 use Rattle.lk_relaxing.specs.declared.passes.InHand.{InHand}
 use Rattle.lk_relaxing.specs.declared.passes.Passed.{Passed}
+use Rattle.lk_relaxing.specs.declared.passes.Shrunk.{Shrunk}
+use Rattle.lk_relaxing.specs.declared.relaxation.Places.{Places}
 use Rattle.lk_relaxing.specs.declared.relaxation.RelaxedParts.{RelaxedParts}
 use Rattle.lk_relaxing.specs.declared.relaxation.Turned.{Turned}
 use Rattle.lk_relaxing.specs.declared.relaxation.Turned.TheVariants.{Last, Next}
-use Rattle.lk_relaxing.specs.LinkDeletions.{Deletions}
+use Rattle.lk_relaxing.specs.LinkDeletions.{Deletions, sizes_after}
 use Rattle.lk_relaxing.specs.PassWords.{AreWhole, StandOnce}
 use Rattle.lk_relaxing.specs.Positions.{has_position, section_positions, symbol_positions}
 use Rattle.lk_relaxing.specs.RelaxedLaws.{IsShrunk}
@@ -60,6 +62,15 @@ end_of hand = record { owners = hand.owners; deltas = hand.deltas; placed = hand
 pub record IsInHand (by : Relaxing) (left : ℕ) (hand : InHand) : Type 0 where
   pub is : IsStage by hand
   pub leads : (z : Stage) → LeadsTo by left (stage_in hand is) z → IsRelaxed by z
+
+-- a pass over what is looked at at a stage deletes what more goes, leaves all else in hand as it was, and tells this
+pub record HasShrunk (by : Relaxing) (a : Stage) (old new : InHand) (shrunk : Shrunk) : Type 0 where
+  pub deleted : new.deltas.items ≡ shrink_pass by a
+  pub sizes : shrunk.sizes.items ≡ sizes_after (link_of by).groups (shrink_pass by a)
+  pub scan : shrunk.scan.items ≡ filter (is_near by a) a.scan
+  pub fall : min shrunk.fall (2 ^ 64) ≡ min (fall_of by a) (2 ^ 64)
+  pub owners : new.owners ≡ old.owners
+  pub placed : new.placed ≡ old.placed
 
 -- a pass over what is looked at at a stage leaves this, and the placement as it was
 pub record IsPassed (by : Relaxing) (a : Stage) (hand : InHand) (passed : Passed) : Type 0 where
@@ -105,6 +116,18 @@ GivesTurn by a hand (Ok (Last parts)) = IsStill by a hand parts
 GivesTurn by a hand (Ok (Next next)) = IsNext by a next
 GivesTurn by a hand (Err NoMemory) = Unit {0}
 GivesTurn by a hand (Err error) = TurnRefused by a error
+
+-- where all stands by what is deleted
+pub record ArePlaces (by : Relaxing) (deletions : Deletions) (places : Places) : Type 0 where
+  pub stands : ArePlaced (setting_after by deletions) places.placed
+  pub sections : places.sections.items ≡ section_positions (filling_after by deletions)
+  pub symbols : places.symbols ≡ symbol_positions (link_of by).groups deletions places.sections.items
+
+-- it does so, or that is refused; nothing is said for want of memory
+abbrev pub GivesPlaces : Relaxing → Deletions → Result Places PlaceError → Type 0
+GivesPlaces by deletions (Ok places) = ArePlaces by deletions places
+GivesPlaces by deletions (Err NoMemory) = Unit {0}
+GivesPlaces by deletions (Err error) = IsRefused (setting_after by deletions) error
 
 -- all parts are placed anew by what is deleted behind a pass
 pub record IsAnew (by : Relaxing) (passed : Passed) (hand : InHand) : Type 0 where

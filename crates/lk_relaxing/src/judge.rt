@@ -121,9 +121,20 @@ fn site_in(
 ) -> Option<u64>
     ensures { result ≡ site_in parts.now position (option_copied deleted.entry) offset }
 {
-    let (part, start) = position?;
-    let moved = opt_input_to_output(deleted, offset);
-    address_in(parts, part, start.checked_add(moved)?)
+    match position {
+        Some(place) => {
+            let moved = opt_input_to_output(deleted, offset);
+            address_behind(parts, place, moved)
+        }
+        None => None,
+    }
+}
+
+/// The address at so many bytes behind a place in a part, if it is below 2^64.
+fn address_behind(parts: &[OutputRecordLayout], place: (PartId, u64), moved: u64) -> Option<u64>
+    ensures { result ≡ address_in parts.now place.0 (place.1 + moved) }
+{
+    address_in(parts, place.0, place.1.checked_add(moved)?)
 }
 
 /// The address at so many bytes from a part's start, if it is below 2^64.

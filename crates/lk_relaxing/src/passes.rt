@@ -8,11 +8,11 @@ ghost use Rattle.lk_link.specs.Parts.{part_at};
 ghost use Rattle.lk_link.specs.Sizes.{capacity};
 ghost use Rattle.lk_link.specs.Symbols.{file_number};
 ghost use Rattle.lk_link.specs.WellFormed.{IsWellFormed};
-ghost use Rattle.lk_relax.specs.Deletions.{AreBoth, AreDeletions};
+ghost use Rattle.lk_relax.specs.Deletions.{AreBoth};
 ghost use Rattle.lk_gc.specs.Reach.{AreLive};
 ghost use Rattle.lk_sizes.specs.Owners.{own_sizes};
 ghost use Rattle.lk_relaxing.specs.PassWords.{IsFound, deleted_by, fall_between, is_within, near_ones, standing_with, with_deleted};
-ghost use Rattle.lk_relaxing.specs.RelaxationWords.{IsPassed, IsStage, stage_in};
+ghost use Rattle.lk_relaxing.specs.RelaxationWords.{HasShrunk, IsPassed, IsStage, stage_in};
 ghost use Rattle.lk_relaxing.specs.Relaxed.{for_link};
 ghost use Rattle.lk_relaxing.specs.Scan.{Standing, ranges_of, scanned};
 ghost use Rattle.lk_relaxing.specs.Stages.{Relaxing, standing_at};
@@ -55,6 +55,17 @@ pub(crate) struct Passed {
     pub(crate) fall: u128,
 }
 
+/// What a pass leaves beside what is deleted.
+#[derive(Drop)]
+pub(crate) struct Shrunk {
+    /// The sizes of all input sections behind it.
+    pub(crate) sizes: Vec<u64>,
+    /// The sections to be looked at again.
+    pub(crate) scan: Vec<(FileId, u32)>,
+    /// By how many bytes capacities fell; a number past 2^64 - 1 may be given as another such.
+    pub(crate) fall: u128,
+}
+
 /// A pass over the sections that a stage looks at. Takes time by their candidates, and by all input sections.
 pub(crate) fn pass(
     alloc: Global,
@@ -69,26 +80,39 @@ pub(crate) fn pass(
         → IfOk result (IsPassed (for_link link.now live.now by) (stage_in hand is) hand) }
 {
     laws::sizes_fall_by_passes();
-    let found = look(alloc, link, live, &hand)?;
-    let InHand {
-        owners,
-        deltas,
-        placed,
-        ..
-    } = hand;
-    let mut deltas = deltas;
-    delete_found(alloc, link, &found, &mut deltas)?;
-    let sizes = sizes_after(alloc, link, &deltas)?;
-    let fall = fall_between(link, owners.sizes(), &sizes);
+    let mut hand = hand;
+    let shrunk = shrink(alloc, link, live, &mut hand)?;
+    match resize_owners(alloc, link, live, hand.owners, &shrunk.sizes) {
+        Ok(owners) => Ok(Passed {
+            owners,
+            deltas: hand.deltas,
+            placed: hand.placed,
+            scan: shrunk.scan,
+            fall: shrunk.fall,
+        }),
+        Err(error) => Err(error),
+    }
+}
+
+/// Deletes what more goes of the sections that a stage looks at.
+fn shrink(
+    alloc: Global,
+    link: &LinkInput,
+    live: &Live,
+    hand: &mut InHand,
+) -> Result<Shrunk, AllocError>
+    requires good { IsWellFormed link.now }
+    requires live { AreLive link.now live.now }
+    requires stage { (by : Relaxing) × IsStage (for_link link.now live.now by) hand.old }
+    ensures { (by : Relaxing) (is : IsStage (for_link link.now live.now by) hand.old)
+        → IfOk result (HasShrunk (for_link link.now live.now by) (stage_in hand.old is) hand.old hand.new) }
+{
+    let found = look(alloc, link, live, hand)?;
+    delete_found(link, &found, &mut hand.deltas)?;
+    let sizes = sizes_after(alloc, link, &hand.deltas)?;
+    let fall = fall_between(link, hand.owners.sizes(), &sizes);
     let scan = near_sections(alloc, &found, fall)?;
-    let owners = resize_owners(alloc, link, live, owners, &sizes)?;
-    Ok(Passed {
-        owners,
-        deltas,
-        placed,
-        scan,
-        fall,
-    })
+    Ok(Shrunk { sizes, scan, fall })
 }
 
 /// What more is to be deleted of the sections that a stage looks at.
@@ -117,7 +141,6 @@ fn look(
 
 /// Deletes what more was found in sections of files.
 fn delete_found(
-    alloc: Global,
     link: &LinkInput,
     found: &[(FileId, u32, SectionRelaxDeltas, Option<u64>)],
     deltas: &mut Vec<RelaxDeltaMap>,
@@ -133,14 +156,13 @@ fn delete_found(
     for one in found {
         // Reading the section's size tells that its candidates can go.
         let _candidates = candidates_of(link, one.0, one.1);
-        delete_more(alloc, link, one.0, one.1, &one.2, deltas)?;
+        delete_more(link, one.0, one.1, &one.2, deltas)?;
     }
     Ok(())
 }
 
 /// Deletes more of a section of a file.
 fn delete_more(
-    alloc: Global,
     link: &LinkInput,
     file: FileId,
     section: u32,
@@ -149,7 +171,6 @@ fn delete_more(
 ) -> Result<(), AllocError>
     requires there { IsSome (file_in link.now.groups file) }
     requires entry { file_number link.now.groups file < length deltas.old.items }
-    requires rising { AreDeletions more.now }
     requires apart { (all : List (ℕ × ℕ)) × AreBoth (ranges_of link.now.groups deltas.old.items file section) more.now all }
     ensures { (all : List (ℕ × ℕ)) → AreBoth (ranges_of link.now.groups deltas.old.items file section) more.now all
         → OnOk result (deltas.new.items ≡ (if length more.now == 0 then deltas.old.items else with_deleted link.now.groups deltas.old.items file section all)) }
@@ -157,9 +178,8 @@ fn delete_more(
     if more.is_empty() {
         return Ok(());
     }
-    let ranges = more.ranges(alloc)?;
     if let Some(number) = link.groups.file_number(file) {
-        deltas[number].delete(section, &ranges)?;
+        deltas[number].delete(section, more)?;
     }
     Ok(())
 }

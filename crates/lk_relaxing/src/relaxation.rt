@@ -9,7 +9,7 @@ ghost use Rattle.lk_gc.specs.Reach.{AreLive};
 ghost use Rattle.lk_sizes.specs.Contents.{size_refusal};
 ghost use Rattle.lk_sizes.specs.Owners.{AreThunkOwners, Filling, in_output, own_sizes};
 ghost use Rattle.lk_sizes.specs.Sizing.{AreFilled};
-ghost use Rattle.lk_relaxing.specs.RelaxationWords.{Fits, GivesAnew, GivesTurn, IsStage, can_shrink_by, end_of, first_sections, stage_in};
+ghost use Rattle.lk_relaxing.specs.RelaxationWords.{Fits, GivesAnew, GivesPlaces, GivesTurn, IsStage, can_shrink_by, end_of, first_sections, stage_in};
 ghost use Rattle.lk_relaxing.specs.Relaxed.{ArePlacedFirst, GivesRelaxedLink, GivesRelaxedParts, own_filling, relaxing};
 ghost use Rattle.lk_relaxing.specs.RelaxedLaws.{nothing_deleted};
 ghost use Rattle.lk_relaxing.specs.Stages.{IsFirst, filling_after};
@@ -18,10 +18,11 @@ use crate::deletions::sizes_after;
 use crate::laws;
 use crate::passes::{InHand, Passed, pass};
 use crate::positions::compute_input_section_positions;
+use lk_expressions::SymbolPositions;
 use lk_gc::Live;
 use lk_link::marks::is_marked;
 use lk_link::plan::attributes;
-use lk_link::{FileId, InputSection, LinkInput, Platform};
+use lk_link::{FileId, InputSection, LinkInput, PartId, Platform};
 use lk_place::{PlaceError, Placed, compute_layout_sections};
 use lk_relax::RelaxDeltaMap;
 use lk_sizes::{PartOwners, SizeError, add_thunks, part_sizes, plain_owners};
@@ -49,6 +50,15 @@ pub struct Relaxed {
     /// What is deleted of the sections of each file, by the file's number over all groups.
     pub deltas: Vec<RelaxDeltaMap>,
     pub placed: Placed,
+}
+
+/// Where all stands.
+#[derive(Drop)]
+pub(crate) struct Places {
+    /// The positions of all input sections, and of all symbols.
+    pub(crate) sections: Vec<Option<(PartId, u64)>>,
+    pub(crate) symbols: SymbolPositions,
+    pub(crate) placed: Placed,
 }
 
 /// What comes of a pass.
@@ -258,22 +268,53 @@ fn place_anew<P: Platform>(
         → AreFilled (filling_after (relaxing (P.segment_start platform.now) headers (in_output link.now live.now filling)) passed.deltas.items) passed.owners
         → GivesAnew (relaxing (P.segment_start platform.now) headers (in_output link.now live.now filling)) passed result }
 {
-    let Passed {
-        owners,
-        deltas,
-        scan,
-        ..
-    } = passed;
-    let (sections, symbols) = compute_input_section_positions(alloc, link, live, &owners, &deltas)?;
-    let sizes = part_sizes(alloc, &owners)?;
+    match make_places(
+        alloc,
+        link,
+        platform,
+        live,
+        headers,
+        &passed.owners,
+        &passed.deltas,
+    ) {
+        Ok(places) => Ok(InHand {
+            owners: passed.owners,
+            deltas: passed.deltas,
+            placed: places.placed,
+            scan: passed.scan,
+            sections: places.sections,
+            symbols: places.symbols,
+        }),
+        Err(error) => Err(error),
+    }
+}
+
+/// Where all stands by what comes into the parts behind what is deleted.
+fn make_places<P: Platform>(
+    alloc: Global,
+    link: &LinkInput,
+    platform: &P,
+    live: &Live,
+    headers: u64,
+    owners: &PartOwners,
+    deltas: &[RelaxDeltaMap],
+) -> Result<Places, PlaceError>
+    requires good { IsWellFormed link.now }
+    requires live { AreLive link.now live.now }
+    requires thunks { AreThunkOwners link.now owners.now.thunks }
+    requires filled { (filling : Filling)
+        × AreFilled (filling_after (relaxing (P.segment_start platform.now) headers (in_output link.now live.now filling)) deltas.now) owners.now }
+    ensures { (filling : Filling)
+        → AreFilled (filling_after (relaxing (P.segment_start platform.now) headers (in_output link.now live.now filling)) deltas.now) owners.now
+        → GivesPlaces (relaxing (P.segment_start platform.now) headers (in_output link.now live.now filling)) deltas.now result }
+{
+    let (sections, symbols) = compute_input_section_positions(alloc, link, live, owners, deltas)?;
+    let sizes = part_sizes(alloc, owners)?;
     let placed = compute_layout_sections(alloc, link, &sizes, &symbols, headers, platform)?;
-    Ok(InHand {
-        owners,
-        deltas,
-        placed,
-        scan,
+    Ok(Places {
         sections,
         symbols,
+        placed,
     })
 }
 

@@ -1,7 +1,7 @@
 -- The report: the lines that tell where everything of a link stands.
-use Rattle.std.specs.Prelude.{ℕ, suc, ◌+◌, ◌*◌, ◌%◌, ◌^◌, ◌==◌, ◌&&◌, ◌||◌, not, nat_lt, Bool, false, if◌then◌else◌, List, [], ◌∷◌, ◌++◌, Option, Some}
-use Rattle.std.specs.Prelude.{None, Result, Ok, Err, codes, length, option_map, slice_get, slice_range}
-use Rattle.std.specs.List.{concat, flat_map, list_any, slice_index_or}
+use Rattle.std.specs.Prelude.{ℕ, suc, ◌+◌, ◌%◌, ◌^◌, ◌==◌, ◌&&◌, ◌||◌, not, nat_lt, Bool, false, if◌then◌else◌, List, [], ◌∷◌, ◌++◌, Option, Some}
+use Rattle.std.specs.Prelude.{None, Result, Ok, Err, codes, length, slice_get, slice_range}
+use Rattle.std.specs.List.{concat, flat_map, list_any}
 use Rattle.std.specs.Fmt.{decimal, digits}
 use Rattle.lk_link.specs.declared.ids.FileId.{FileId}
 use Rattle.lk_link.specs.declared.link.LinkInput.{LinkInput}
@@ -14,7 +14,7 @@ use Rattle.lk_layout.specs.LayoutRecord.{LayoutRecord}
 use Rattle.lk_values.specs.declared.resolution.EntryFault.{EntryFault}
 use Rattle.lk_values.specs.declared.resolution.EntryFault.TheVariants.{NotAnAddress, NotLoaded}
 use Rattle.lk_link.specs.declared.resolution.Resolution.{Resolution}
-use Rattle.lk_layout.specs.Layouts.{emitted_count, is_told_singleton, resolved_entry, told_live, told_section, told_singletons}
+use Rattle.lk_layout.specs.Layouts.{emitted_count, is_told_singleton, resolved_entry, thunk_address, told_live, told_section, told_singletons}
 use Rattle.lk_merge.specs.Addresses.{image_start}
 use Rattle.lk_merge.specs.Hash.{fnv64}
 use Rattle.lk_merge.specs.Image.{all_pieces, image, image_pieces, image_place}
@@ -210,21 +210,17 @@ block_lines owners = each block_text 0 owners
 unfoldable pub thunk_line : ℕ → ℕ → Option ℕ → List ℕ
 thunk_line b s address = joined (codes "thunk " ∷ decimal b ∷ codes " " ∷ decimal s ∷ codes " " ∷ address_text address ∷ codes "\n" ∷ [])
 
--- where the thunk at a place of a block stands, by where the block does and how long a thunk is, within 64 bits
-abbrev pub thunk_address : Option ℕ → ℕ → ℕ → Option ℕ
-thunk_address block k size = option_map (λ a. bytes_behind a (k * size)) block
+-- the lines of a block's thunks, each with the address that the layout has for it
+abbrev pub block_thunks : LayoutRecord → ℕ → List ℕ → List ℕ
+block_thunks layout b symbols = each (λ k s. thunk_line b s (thunk_address layout b k)) 0 symbols
 
--- the lines of a block's thunks
-abbrev pub block_thunks : ℕ → List ℕ → Option ℕ → ℕ → List ℕ
-block_thunks b symbols address size = each (λ k s. thunk_line b s (thunk_address address k size)) 0 symbols
-
--- those of all blocks, by number
-abbrev pub thunk_lines : List (List ℕ) → List (Option ℕ) → ℕ → List ℕ
-thunk_lines sets addresses size = each (λ b set. block_thunks b set (slice_index_or addresses b None) size) 0 sets
+-- those of blocks with these sets, by number
+abbrev pub thunk_lines : LayoutRecord → List (List ℕ) → List ℕ
+thunk_lines layout sets = each (block_thunks layout) 0 sets
 
 -- the lines on thunks: of the blocks that files own, and then of all thunks
 abbrev pub thunk_report : LayoutRecord → List ℕ
-thunk_report layout = block_lines layout.thunk_block_owners ++ thunk_lines layout.thunk_blocks layout.thunk_block_addresses layout.thunk_size
+thunk_report layout = block_lines layout.thunk_block_owners ++ thunk_lines layout layout.thunk_blocks
 
 -- ---- symbols and the entry
 

@@ -1,8 +1,7 @@
 //! The lines of the report on thunks: the blocks that files own, and then the thunks of all blocks.
 
-ghost use Rattle.std.specs.Prelude.{◌≡◌, ◌++◌, string_bytes, IfOk, None, map};
-ghost use Rattle.std.specs.List.{slice_index_or};
-ghost use Rattle.lk_run.specs.Report.{block_line, block_lines, block_text, block_thunks, thunk_address, thunk_line, thunk_lines, thunk_report};
+ghost use Rattle.std.specs.Prelude.{◌≡◌, ◌++◌, string_bytes, IfOk, map};
+ghost use Rattle.lk_run.specs.Report.{block_line, block_lines, block_text, block_thunks, thunk_line, thunk_lines, thunk_report};
 
 use lk_layout::Layout;
 use lk_link::{FileId, SymbolId};
@@ -22,8 +21,7 @@ pub(crate) fn write_thunks(text: &mut String, layout: &Layout<'_>) -> Result<(),
     ensures { IfOk result (λ _. string_bytes text.new ≡ string_bytes text.old ++ thunk_report layout.now) }
 {
     write_blocks(text, layout.thunk_block_owners())?;
-    let addresses = layout.thunk_block_addresses();
-    write_all(text, layout.thunk_blocks(), addresses, layout.thunk_size())
+    write_all(text, layout, layout.thunk_blocks())
 }
 
 /// The lines of the blocks that a file owns, by number.
@@ -49,52 +47,34 @@ fn write_block(text: &mut String, number: usize, owner: Option<FileId>) -> Resul
     write!(text, "block {number} {group} {file}\n")
 }
 
-/// The lines of the thunks of all blocks, by number, by where the blocks stand and how long a thunk is.
+/// The lines of the thunks of a layout's blocks, by number.
 fn write_all(
     text: &mut String,
+    layout: &Layout<'_>,
     blocks: &[ThunkBlock],
-    addresses: &[Option<u64>],
-    size: u64,
 ) -> Result<(), AllocError>
-    ensures { IfOk result (λ _. string_bytes text.new ≡ string_bytes text.old ++ thunk_lines (map (λ b. b.symbols) blocks.now) addresses.now size) }
+    ensures { IfOk result (λ _. string_bytes text.new ≡ string_bytes text.old ++ thunk_lines layout.now (map (λ b. b.symbols) blocks.now)) }
 {
     for (number, block) in blocks.iter().enumerate() {
-        let address = address_of(addresses, number);
-        write_thunks_of(text, number, block.symbols.as_slice(), address, size)?;
+        write_thunks_of(text, layout, number, block.symbols.as_slice())?;
     }
     Ok(())
 }
 
-/// Where the block with this number stands, if somebody owns it.
-fn address_of(addresses: &[Option<u64>], number: usize) -> Option<u64>
-    ensures { result ≡ slice_index_or addresses.now number None }
-{
-    addresses.get(number).copied().unwrap_or(None)
-}
-
-/// The lines of a block's thunks, in the order of their symbols, one thunk behind the other.
+/// The lines of a block's thunks, in the order of their symbols.
 fn write_thunks_of(
     text: &mut String,
+    layout: &Layout<'_>,
     block: usize,
     symbols: &[SymbolId],
-    address: Option<u64>,
-    size: u64,
 ) -> Result<(), AllocError>
-    ensures { IfOk result (λ _. string_bytes text.new ≡ string_bytes text.old ++ block_thunks block symbols.now address size) }
+    ensures { IfOk result (λ _. string_bytes text.new ≡ string_bytes text.old ++ block_thunks layout.now block symbols.now) }
 {
     for (place, symbol) in symbols.iter().enumerate() {
-        let address = thunk_address(address, place, size);
+        let address = layout.thunk_address(block, place);
         write_thunk(text, block, *symbol, address)?;
     }
     Ok(())
-}
-
-/// Where the thunk at a place of a block stands, if the block stands anywhere.
-fn thunk_address(block: Option<u64>, place: usize, size: u64) -> Option<u64>
-    ensures { result ≡ thunk_address block place size }
-{
-    let behind = (place as u64).wrapping_mul(size);
-    Some(block?.wrapping_add(behind))
 }
 
 /// The line of a thunk.

@@ -1,5 +1,5 @@
 -- Places in live input sections: their addresses by a table, and the room behind them.
-use Rattle.std.proofs.Common.{◌≡◌, ℕ, zero, suc, ◌+◌, ◌<◌, ◌≤◌, ◌^◌, Bool, true, false, cond, List, [], ◌∷◌, length, map, Option, Some, None, refl, sym, ap, subst, ◌∙◌, arith, get_or}
+use Rattle.std.proofs.Common.{◌≡◌, ℕ, zero, suc, ◌+◌, ◌<◌, ◌≤◌, ◌^◌, Bool, true, false, cond, List, [], ◌∷◌, length, map, Option, Some, None, refl, ap, ◌∙◌, arith, get_or}
 use Rattle.std.specs.Prelude.{if◌then◌else◌, option_map, slice_get}
 use Rattle.std.specs.Int.{next_multiple_of}
 use Rattle.std.specs.List.{flat_map, slice_index, slice_index_or}
@@ -18,7 +18,7 @@ use Rattle.lk_link.specs.declared.symbol.SymbolPlacement.{SymbolPlacement}
 use Rattle.lk_link.specs.declared.symbol.SymbolPlacement.TheVariants as at
 use Rattle.lk_link.specs.Files.{file_in}
 use Rattle.lk_link.specs.declared.resolution.Resolution.{Resolution}
-use Rattle.lk_link.specs.Inputs.{Input, all_inputs, first_input, input_number, numbered_files}
+use Rattle.lk_link.specs.Inputs.{Input, all_inputs, input_number, numbered_files}
 use Rattle.lk_link.specs.InputSlots.{can_be_kept, is_merge}
 use Rattle.lk_link.specs.Marks.{is_marked}
 use Rattle.lk_link.specs.Parts.{all_parts}
@@ -35,7 +35,7 @@ use Rattle.lk_merge.specs.Addresses.{image_start}
 use Rattle.lk_sizes.specs.declared.addresses.CommonAddress.{CommonAddress}
 use Rattle.lk_sizes.specs.Addresses.{common_addresses, section_addresses}
 use Rattle.lk_sizes.specs.Header.{header_info}
-use Rattle.lk_sizes.specs.Owners.{Filling, own_sizes, size_of}
+use Rattle.lk_sizes.specs.Owners.{Filling, size_of}
 use Rattle.lk_sizes.specs.PartOwners.{EndsFit, live_address}
 use Rattle.lk_sizes.proofs.LiveOnes.{live_goes}
 use Rattle.lk_sizes.proofs.Numbering.{table_at}
@@ -44,7 +44,7 @@ use Rattle.lk_relaxing.proofs.Positioned.{ends_within}
 use Rattle.lk_values.specs.Starts.{TakeTheirBytes, starts_of}
 use Rattle.lk_values.specs.Entries.{entry_setting}
 use Rattle.lk_values.specs.Resolutions.{Places, address_at, file_resolutions, images_at, merged_value, symbol_resolutions}
-use Rattle.lk_values.specs.Tables.{AllStandInside, HasRoom, HaveRoom, StandsInside, common_in, place_in}
+use Rattle.lk_values.specs.Tables.{AllStandInside, StandsInside, common_in, place_in}
 use Rattle.lk_values.proofs.CommonsFound.{places_with, resolutions_alike}
 
 -- ---- the table
@@ -168,35 +168,6 @@ all_inside filling deletions starts sizes good are count fit = λ id file there 
     let is : IsSetting filling starts = record { good = good; are_live = are; count = count; fit = fit } in
     placement_inside filling deletions starts id file x.at is sizes there (symbol_of link id k file x good there (slice_get-get_or file.symbols k d lt)).there
 
--- where nothing is deleted, they have room
-nothing_lost : (link : LinkInput) → sizes_after link.groups [] ≡ own_sizes link
-unfolding own_sizes
-nothing_lost link = refl
-
-room_inside : (groups : List (List InputFile)) (marks : List Bool) (addresses : List ℕ) (id : FileId) (p : SymbolPlacement) → StandsInside groups [] marks addresses id p
-    → HasRoom marks addresses (first_input groups id) p
-room_inside groups marks addresses id (at.Section i offset) h = λ set. let r = h set in omega (arith, r.inside, r.room)
-room_inside groups marks addresses id (at.Common p n) h = tt
-room_inside groups marks addresses id (at.Absolute n) h = tt
-room_inside groups marks addresses id at.Undef h = tt
-room_inside groups marks addresses id at.Dynamic h = tt
-room_inside groups marks addresses id at.Undefined h = tt
-room_inside groups marks addresses id at.ForceUndefined h = tt
-room_inside groups marks addresses id (at.SectionStart s) h = tt
-room_inside groups marks addresses id (at.SectionEnd s) h = tt
-room_inside groups marks addresses id (at.SectionGroupEnd s) h = tt
-room_inside groups marks addresses id at.TlsEnd h = tt
-room_inside groups marks addresses id at.LoadBaseAddress h = tt
-room_inside groups marks addresses id (at.Redirect e l provide) h = tt
-
-pub have_room : (filling : Filling) (starts : List ℕ) → filling.sizes ≡ own_sizes filling.content.link → IsWellFormed filling.content.link → AreLive filling.content.link filling.content.live
-    → length starts ≡ length (all_parts filling.content.link.plan.sections) → EndsFit filling starts
-    → HaveRoom filling.content.live.marks (section_addresses filling starts) filling.content.link.groups
-have_room filling starts sizes good are count fit = λ id file there k d lt.
-    let link : LinkInput = filling.content.link in
-    let inside = all_inside filling [] starts (sizes ∙ sym (nothing_lost link)) good are count fit in
-    room_inside link.groups filling.content.live.marks (section_addresses filling starts) id (get_or file.symbols k d).at (inside id file there k d lt)
-
 -- ---- what a computation of them has
 
 -- parts that take the bytes of their owners, and end below 2^64, have owners that do
@@ -210,11 +181,6 @@ ends_fit filling records starts is fit takes p below =
 pub starts_count : (link : LinkInput) (records : List Record) (starts : List ℕ) → starts ≡ starts_of records → length records ≡ length (all_parts link.plan.sections)
     → length starts ≡ length (all_parts link.plan.sections)
 starts_count link records starts is each = ap length is ∙ length-map records (λ (r : Record). r.mem_offset) ∙ each
-
--- the same room by tables that are read
-pub room_by : (marks read : List Bool) (addresses table : List ℕ) (groups : List (List InputFile)) → read ≡ marks → table ≡ addresses → HaveRoom marks addresses groups → HaveRoom read table groups
-room_by marks read addresses table groups is_marks is_table h =
-    subst (λ (ms : List Bool). HaveRoom ms table groups) (sym is_marks) (subst (λ (ns : List ℕ). HaveRoom marks ns groups) (sym is_table) h)
 
 -- resolutions by tables that are read are those that are defined
 pub resolutions_by : (filling : Filling) (deletions : Deletions) (edges : Edges) (starts own addresses buckets : List ℕ) (commons : List CommonAddress) (told : List Bool) (items : List (Option Resolution))

@@ -9,7 +9,7 @@ use Rattle.lk_link.specs.declared.section.InputSection.{InputSection}
 use Rattle.lk_link.specs.declared.symbol.SymbolPlacement.{SymbolPlacement}
 use Rattle.lk_link.specs.declared.symbol.SymbolPlacement.TheVariants as at
 use Rattle.lk_link.specs.Files.{file_in}
-use Rattle.lk_link.specs.Inputs.{all_inputs, first_input, input_number}
+use Rattle.lk_link.specs.Inputs.{all_inputs, input_number}
 use Rattle.lk_link.specs.Marks.{is_marked}
 use Rattle.lk_link.specs.declared.link.LinkInput.{LinkInput}
 use Rattle.lk_link.specs.WellFormed.{IsWellFormed}
@@ -44,17 +44,6 @@ StandsInside groups deletions marks addresses id _ = Unit {0}
 abbrev pub AllStandInside : List (List InputFile) → Deletions → List Bool → List ℕ → Type 0
 AllStandInside groups deletions marks addresses = (id : FileId) (file : InputFile) → file_in groups id ≡ Some file
     → All (λ x. StandsInside groups deletions marks addresses id x.at) file.symbols
-
--- a place in a marked section lies below 2^64 where nothing is deleted; `first` is the number of the file's first section
-abbrev pub HasRoom : List Bool → List ℕ → ℕ → SymbolPlacement → Type 0
-HasRoom marks addresses first (at.Section i offset) = is_marked marks (first + i) ≡ true
-    → slice_index_or addresses (first + i) 0 + offset < 2 ^ 64
-HasRoom marks addresses first _ = Unit {0}
-
--- so does the place of each symbol
-abbrev pub HaveRoom : List Bool → List ℕ → List (List InputFile) → Type 0
-HaveRoom marks addresses groups = (id : FileId) (file : InputFile) → file_in groups id ≡ Some file
-    → All (λ x. HasRoom marks addresses (first_input groups id) x.at) file.symbols
 
 -- ---- merged sections and commons
 

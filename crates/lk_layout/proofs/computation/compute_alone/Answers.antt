@@ -48,6 +48,11 @@ returns-in_err-told g c =
     let machine = platform_machine (g.P.Platform.segment_start c.args.platform.now) (g.P.Platform.table_sizes c.args.platform.now) (g.A.Arch.config_of c.args.arch.now) in
     handed_on machine c.args.link.now c.in_err-told.field-0.0 c.from_residual-in_err-told.result c.from_residual-in_err-told.ensures.1 c.in_err-told.ensures
 
+pub into_layout-requires : goal.into_layout-requires
+into_layout-requires g c = record {
+  told = (platform_machine (g.P.Platform.segment_start c.args.platform.now) (g.P.Platform.table_sizes c.args.platform.now) (g.A.Arch.config_of c.args.arch.now), c.in_ok-told.ensures);
+}
+
 pub returns : goal.returns
 returns g c =
     let machine = platform_machine (g.P.Platform.segment_start c.args.platform.now) (g.P.Platform.table_sizes c.args.platform.now) (g.A.Arch.config_of c.args.arch.now) in

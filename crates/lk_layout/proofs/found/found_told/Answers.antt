@@ -1,9 +1,11 @@
 use Rattle.std.proofs.Common.{ℕ, List, length, ap, ◌∙◌}
 use Rattle.lk_branches.specs.ThunkPlans.{planned_sets}
 use Rattle.lk_sizes.specs.Owners.{Filling}
+use Rattle.lk_tables.specs.declared.header_info.HeaderInfo.{HeaderInfo}
 use Rattle.lk_branches.specs.Branches.{owners_of_blocks}
 use Rattle.lk_values.specs.OutputContent.{output_filling}
 use Rattle.lk_link.specs.declared.link.LinkInput.{LinkInput}
+use Rattle.lk_layout.specs.GroupStarts.{group_starts}
 use Rattle.lk_layout.specs.Machines.{platform_machine}
 use Rattle.lk_sizes.specs.Contents.{contents_of}
 use Rattle.lk_layout.specs.Made.{Made, made_filling}
@@ -13,7 +15,7 @@ use Rattle.lk_layout.proofs.found.found_told.Goals as goal
 
 pub attributes_of_contents-requires-clause-count : goal.attributes_of_contents-requires-clause-count
 attributes_of_contents-requires-clause-count g c =
-    let machine = platform_machine (g.P.Platform.segment_start c.args._platform.now) (g.P.Platform.table_sizes c.args._platform.now) (g.A.Arch.config_of c.args._arch.now) in
+    let machine = platform_machine (g.P.Platform.segment_start c.args.platform.now) (g.P.Platform.table_sizes c.args.platform.now) (g.A.Arch.config_of c.args._arch.now) in
     let link : LinkInput = c.args.link.now in
     let made : Made = made_reaching c.requires.reaching in
     ap length (c.contents.ensures ∙ c.requires.reaching.branched.addressed.spanned.placed.owners.contents)
@@ -21,10 +23,11 @@ attributes_of_contents-requires-clause-count g c =
 
 pub returns : goal.returns
 returns g c =
-    let machine = platform_machine (g.P.Platform.segment_start c.args._platform.now) (g.P.Platform.table_sizes c.args._platform.now) (g.A.Arch.config_of c.args._arch.now) in
+    let machine = platform_machine (g.P.Platform.segment_start c.args.platform.now) (g.P.Platform.table_sizes c.args.platform.now) (g.A.Arch.config_of c.args._arch.now) in
     let filling : Filling = made_filling (made_reaching c.requires.reaching) in
     let plain : Filling = output_filling machine.sizes c.args.link.now c.args.reaching.now.addressed.spanned.placed.kept.live in
     let plan = c.requires.reaching.branched.addressed.spanned.placed.thunks in
+    let told = c.as_slice-told.ensures ∙ ap (λ (h : HeaderInfo). h.told) (c.header-header.ensures ∙ c.requires.reaching.branched.addressed.spanned.placed.owners.header) in
     record {
       reaching = c.requires.reaching;
       attributes = c.from_vec.ensures ∙ c.in_ok-attributes.ensures.contents filling (c.contents.ensures ∙ c.requires.reaching.branched.addressed.spanned.placed.owners.contents);
@@ -32,4 +35,5 @@ returns g c =
       owners = c.from_vec-2.ensures ∙ c.in_ok-block_owners.ensures
           ∙ ap (λ (sets : List (List ℕ)). owners_of_blocks sets c.args.reaching.now.addressed.spanned.placed.thunks.users) plan.sets
           ∙ ap (owners_of_blocks (planned_sets machine.thunks plain)) plan.users;
+      starts = c.in_ok-starts.ensures ∙ ap (group_starts machine.sizes c.args.link.now c.args.reaching.now.addressed.spanned.placed.kept.live) told;
     }

@@ -23,7 +23,7 @@ delete_more-requires c =
     let one : Found = c.one-item.result in
     let is = is_one c.good_candidates_can_go.ensures link ds by scan c.args.found.now i one c.requires.good c.candidates_of-candidates.ensures.small h c.loop-one-test.true c.one-item.is in
     let asked = is_asked c.picked_can_go.ensures c.picked_are_new.ensures link ds c.loop-one.deltas.items by scan i one is (c.loop-one.invariant by scan h) in
-    record { there = asked.there; entry = asked.entry; rising = asked.rising; apart = (all_of link ds by is.x, asked.apart) }
+    record { there = asked.there; entry = asked.entry; apart = (all_of link ds by is.x, asked.apart) }
 
 pub loop-one-preserved : goal.loop-one-preserved
 loop-one-preserved c = λ by scan h.

@@ -1,50 +1,36 @@
-use Rattle.std.proofs.Common.{Err, refl, length, ap, sym, subst, ◌∙◌}
-use Rattle.lk_place.specs.Answers.{ArePlaced, GivesPlaced}
-use Rattle.lk_place.specs.Setting.{Setting}
-use Rattle.lk_place.specs.declared.error.PlaceError.{PlaceError}
-use Rattle.lk_sizes.specs.Owners.{Filling, in_output}
-use Rattle.lk_relaxing.specs.Positions.{symbol_positions}
-use Rattle.lk_relaxing.specs.RelaxationWords.{GivesAnew}
+use Rattle.std.proofs.Common.{Err, refl, sym, subst}
+use Rattle.lk_sizes.specs.Owners.{in_output}
+use Rattle.lk_sizes.specs.Sizing.{AreFilled}
+use Rattle.lk_relaxing.specs.LinkDeletions.{Deletions}
+use Rattle.lk_relaxing.specs.RelaxationWords.{ArePlaces, GivesPlaces}
 use Rattle.lk_relaxing.specs.Relaxed.{relaxing}
 use Rattle.lk_relaxing.specs.Stages.{Relaxing, filling_after}
-use Rattle.lk_relaxing.proofs.Anew.{anew_exit, refused_anew, setting_is}
-use Rattle.lk_relaxing.proofs.NoStarts.{length-part_sizes}
+use Rattle.lk_relaxing.proofs.Anew.{refused_anew}
 use Rattle.lk_relaxing.proofs.relaxation.place_anew.Goals as goal
 
-pub compute_input_section_positions-requires-clause-filled : goal.compute_input_section_positions-requires-clause-filled
-compute_input_section_positions-requires-clause-filled g c =
+pub make_places-requires-clause-filled : goal.make_places-requires-clause-filled
+make_places-requires-clause-filled g c =
     let by : Relaxing = relaxing (g.P.Platform.segment_start c.args.platform.now) c.args.headers (in_output c.args.link.now c.args.live.now c.requires.filled.0) in
-    (filling_after by c.args.passed.deltas.items, c.requires.filled.1)
+    (c.requires.filled.0, subst (λ (ds : Deletions). AreFilled (filling_after by ds) c.args.passed.owners) (sym c.deref.ensures.value) c.requires.filled.1)
 
-pub compute_layout_sections-requires-clause-each : goal.compute_layout_sections-requires-clause-each
-compute_layout_sections-requires-clause-each g c =
-    let by : Relaxing = relaxing (g.P.Platform.segment_start c.args.platform.now) c.args.headers (in_output c.args.link.now c.args.live.now c.requires.filled.0) in
-    let filling : Filling = filling_after by c.args.passed.deltas.items in
-    ap length (c.deref-2.ensures.value ∙ c.in_ok-sizes.ensures.sizes filling c.requires.filled.1.contents) ∙ length-part_sizes filling
-
-pub returns-in_err-placed : goal.returns-in_err-placed
-returns-in_err-placed g c = λ found h.
+pub returns-in-Ok : goal.returns-in-Ok
+returns-in-Ok g c = λ found h.
     let by : Relaxing = relaxing (g.P.Platform.segment_start c.args.platform.now) c.args.headers (in_output c.args.link.now c.args.live.now found) in
-    let deltas = c.args.passed.deltas.items in
-    let filling : Filling = filling_after by deltas in
-    let symbols = c.in_ok-sections.ensures.symbols ∙ ap (λ ds. symbol_positions c.args.link.now.groups ds c.in_ok-sections.sections.items) c.deref.ensures.value in
-    let is = setting_is by deltas c.deref-2.result.now c.in_ok-sizes.sizes.items c.in_ok-sections.symbols c.in_ok-sections.sections.items c.deref-2.ensures.value (c.in_ok-sizes.ensures.sizes filling h.contents) (c.in_ok-sections.ensures.sections filling h) symbols in
-    anew_exit by c.args.passed _ c.from_residual-in_err-placed.result c.from_residual-in_err-placed.ensures.1
-    (λ e same. subst (λ (x : PlaceError). GivesAnew by c.args.passed (Err x)) (sym same)
-    (refused_anew by c.args.passed c.in_err-placed.field-0.0 (subst (λ (s : Setting). GivesPlaced s (Err c.in_err-placed.field-0.0)) is c.in_err-placed.ensures)))
-
-pub returns : goal.returns
-returns g c = λ found h.
-    let by : Relaxing = relaxing (g.P.Platform.segment_start c.args.platform.now) c.args.headers (in_output c.args.link.now c.args.live.now found) in
-    let deltas = c.args.passed.deltas.items in
-    let filling : Filling = filling_after by deltas in
-    let symbols = c.in_ok-sections.ensures.symbols ∙ ap (λ ds. symbol_positions c.args.link.now.groups ds c.in_ok-sections.sections.items) c.deref.ensures.value in
-    let is = setting_is by deltas c.deref-2.result.now c.in_ok-sizes.sizes.items c.in_ok-sections.symbols c.in_ok-sections.sections.items c.deref-2.ensures.value (c.in_ok-sizes.ensures.sizes filling h.contents) (c.in_ok-sections.ensures.sections filling h) symbols in
+    let same = c.deref.ensures.value in
+    let filled = subst (λ (ds : Deletions). AreFilled (filling_after by ds) c.args.passed.owners) (sym same) h in
+    let are = subst (λ (ds : Deletions). ArePlaces by ds c.in-Ok.places) same (c.in-Ok.ensures found filled) in
     record {
       owners = refl;
       deltas = refl;
       scan = refl;
-      stands = subst (λ (s : Setting). ArePlaced s c.in_ok-placed.placed) is c.in_ok-placed.ensures;
-      sections = c.in_ok-sections.ensures.sections filling h;
-      symbols = symbols;
+      stands = are.stands;
+      sections = are.sections;
+      symbols = are.symbols;
     }
+
+pub returns-in-Err : goal.returns-in-Err
+returns-in-Err g c = λ found h.
+    let by : Relaxing = relaxing (g.P.Platform.segment_start c.args.platform.now) c.args.headers (in_output c.args.link.now c.args.live.now found) in
+    let same = c.deref.ensures.value in
+    let filled = subst (λ (ds : Deletions). AreFilled (filling_after by ds) c.args.passed.owners) (sym same) h in
+    refused_anew by c.args.passed c.in-Err.error (subst (λ (ds : Deletions). GivesPlaces by ds (Err c.in-Err.error)) same (c.in-Err.ensures found filled))

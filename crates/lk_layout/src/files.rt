@@ -1,0 +1,222 @@
+//! What is told of files: lent by a layout and its link, and made when it is asked for.
+
+ghost use Rattle.std.specs.Prelude.{◌≡◌, IsSome, MatchOption, None, Some, drop, option_map};
+ghost use Rattle.std.specs.Fmt.{DisplaysOnOk};
+ghost use Rattle.lk_gc.specs.StateTexts.{placed_name};
+ghost use Rattle.lk_link.specs.Files.{file_in};
+ghost use Rattle.lk_link.specs.Inputs.{first_input};
+ghost use Rattle.lk_layout.specs.Files.{IsFileLayout, IsLayoutBy, IsPreludeLayout};
+ghost use Rattle.lk_layout.specs.SectionResolutions.{resolutions_of};
+
+use crate::layout::Layout;
+use crate::section_resolution::SectionResolutions;
+use lk_link::{FileId, FileKind, InputFile, SymbolId, SymbolIdRange, Text};
+use lk_sizes::HeaderInfo;
+use std::fmt;
+
+/// The linker's own file (libwild: `PreludeLayout`).
+#[derive(Drop)]
+pub struct PreludeLayout<'a> {
+    /// The symbol that stands for the one where the program starts; none where the options name none.
+    pub entry_symbol_id: Option<SymbolId>,
+    /// What the output tells of the linker, if the options give it.
+    pub identity: Option<&'a str>,
+    /// Which output sections are emitted and which segments are active, and what headers there are.
+    pub header_info: &'a HeaderInfo,
+}
+
+/// An object (libwild: `ObjectLayout`).
+#[derive(Drop)]
+pub struct ObjectLayout<'a> {
+    pub file_id: FileId,
+    pub symbol_id_range: SymbolIdRange,
+    pub name: &'a str,
+    /// Where its sections stand, by index.
+    pub section_resolutions: SectionResolutions<'a>,
+}
+
+/// A shared object (libwild: `DynamicLayout`).
+#[derive(Drop)]
+pub struct DynamicLayout<'a> {
+    pub file_id: FileId,
+    pub symbol_id_range: SymbolIdRange,
+    /// By what name the output refers to it: the file's.
+    pub lib_name: &'a str,
+}
+
+/// A linker script.
+#[derive(Drop)]
+pub struct LinkerScriptLayout<'a> {
+    pub file_id: FileId,
+    pub symbol_id_range: SymbolIdRange,
+    pub name: &'a str,
+}
+
+/// Symbols that the linker makes.
+#[derive(Drop)]
+pub struct SyntheticSymbolsLayout {
+    pub file_id: FileId,
+    pub symbol_id_range: SymbolIdRange,
+}
+
+/// What comes behind all files (libwild: `EpilogueLayout`).
+#[derive(Drop)]
+pub struct EpilogueLayout {
+    /// How many entries of the dynamic symbol table stand before the exports; 0 where no dynamic linker loads the output.
+    pub dynsym_start_index: u32,
+}
+
+/// A file of any kind, as it is laid out (libwild: `FileLayout`).
+#[derive(Drop)]
+pub enum FileLayout<'a> {
+    Prelude(PreludeLayout<'a>),
+    Object(ObjectLayout<'a>),
+    Dynamic(DynamicLayout<'a>),
+    SyntheticSymbols(SyntheticSymbolsLayout),
+    Epilogue(EpilogueLayout),
+    LinkerScript(LinkerScriptLayout<'a>),
+    NotLoaded,
+}
+
+/// Writes the name of a file with its number.
+fn write_placed<W: fmt::Write>(f: &mut fmt::Formatter<W>, name: &str, id: FileId) -> fmt::Result
+    ensures { DisplaysOnOk W.write_str_gives f.old result (Some (placed_name name.now id)) f.new }
+{
+    write!(f, "{name} ({id})")
+}
+
+/// As `<prelude>`, `<epilogue>`, `<synthetic>` or `<not loaded>`, as `a.o (1.0)` with group and index, or as the name of a script.
+impl fmt::Display for FileLayout<'_> {
+    ghost use Rattle.std.specs.Prelude.{Some};
+    ghost use Rattle.lk_layout.specs.FileTexts.{layout_name};
+
+    ghost output = { λ layout. Some (layout_name layout) };
+
+    fn fmt<W: fmt::Write>(&self, f: &mut fmt::Formatter<W>) -> fmt::Result {
+        match self {
+            FileLayout::Prelude(_) => f.write_str("<prelude>"),
+            FileLayout::Object(object) => write_placed(f, object.name, object.file_id),
+            FileLayout::Dynamic(dynamic) => write_placed(f, dynamic.lib_name, dynamic.file_id),
+            FileLayout::SyntheticSymbols(_) => f.write_str("<synthetic>"),
+            FileLayout::Epilogue(_) => f.write_str("<epilogue>"),
+            FileLayout::LinkerScript(script) => f.write_str(script.name),
+            FileLayout::NotLoaded => f.write_str("<not loaded>"),
+        }
+    }
+}
+
+/// The same text.
+impl fmt::Debug for FileLayout<'_> {
+    ghost use Rattle.std.specs.Prelude.{Some};
+    ghost use Rattle.lk_layout.specs.FileTexts.{layout_name};
+
+    ghost debug_output = { λ layout. Some (layout_name layout) };
+
+    fn fmt<W: fmt::Write>(&self, f: &mut fmt::Formatter<W>) -> fmt::Result {
+        write!(f, "{self}")
+    }
+}
+
+/// Those behind the first so many.
+fn behind_first<T>(items: &[T], first: usize) -> &[T]
+    ensures { result.now ≡ drop first items.now }
+{
+    if first <= items.len() {
+        let (_, rest) = items.split_at(first);
+        rest
+    } else {
+        let (_, rest) = items.split_at(items.len());
+        rest
+    }
+}
+
+/// A text, lent, if there is one.
+fn text_of(text: &Option<Text>) -> Option<&str>
+    ensures { option_map (λ s. s.now) result ≡ text.now }
+{
+    match text {
+        Some(text) => Some(text.as_str()),
+        None => None,
+    }
+}
+
+impl<'data> Layout<'data> {
+    /// What is told of the linker's own file.
+    pub fn prelude(&self) -> PreludeLayout<'_>
+        ensures { IsPreludeLayout self.now result }
+    {
+        PreludeLayout {
+            entry_symbol_id: self.entry_symbol_id,
+            identity: text_of(&self.link.options.identity),
+            header_info: &self.header_info,
+        }
+    }
+
+    /// Where the sections of a file stand, of which there are so many, and the first has this number.
+    fn resolutions_from(&self, first: usize, count: usize) -> SectionResolutions<'_>
+        ensures { result ≡ resolutions_of (drop first self.now.live_marks) (drop first self.now.section_addresses) count }
+    {
+        SectionResolutions {
+            marks: behind_first(self.live_marks.as_slice(), first),
+            addresses: behind_first(self.section_addresses.as_slice(), first),
+            count,
+        }
+    }
+
+    /// What is told of a file with this number, whose symbols have these numbers, and whose first section has this one.
+    fn layout_by(
+        &self,
+        id: FileId,
+        file: &'data InputFile,
+        symbol_id_range: SymbolIdRange,
+        first: usize,
+    ) -> FileLayout<'_>
+        requires first { first ≡ first_input self.now.link.groups id }
+        ensures { IsLayoutBy self.now id file.now symbol_id_range result }
+    {
+        let name = file.name.as_str();
+        match file.kind {
+            FileKind::Prelude => FileLayout::Prelude(self.prelude()),
+            FileKind::Object => FileLayout::Object(ObjectLayout {
+                file_id: id,
+                symbol_id_range,
+                name,
+                section_resolutions: self.resolutions_from(first, file.sections.len()),
+            }),
+            FileKind::Dynamic => FileLayout::Dynamic(DynamicLayout {
+                file_id: id,
+                symbol_id_range,
+                lib_name: name,
+            }),
+            FileKind::LinkerScript => FileLayout::LinkerScript(LinkerScriptLayout {
+                file_id: id,
+                symbol_id_range,
+                name,
+            }),
+            FileKind::SyntheticSymbols => FileLayout::SyntheticSymbols(SyntheticSymbolsLayout {
+                file_id: id,
+                symbol_id_range,
+            }),
+            FileKind::NotLoaded => FileLayout::NotLoaded,
+        }
+    }
+
+    /// What is told of a file, if there is one with this number.
+    pub(crate) fn find_file(&self, id: FileId) -> Option<FileLayout<'_>>
+        ensures { MatchOption result (file_in self.now.link.groups id ≡ None) (IsFileLayout self.now id) }
+    {
+        let groups = &self.link.groups;
+        let file = groups.file(id)?;
+        let symbol_id_range = groups.symbol_id_range(id)?;
+        let first = groups.input_start(id)?;
+        Some(self.layout_by(id, file, symbol_id_range, first))
+    }
+
+    /// What is told of a file of the link. Takes constant time and no memory.
+    pub fn file_layout(&self, id: FileId) -> FileLayout<'_>
+        requires there { IsSome (file_in self.now.link.groups id) }
+        ensures { IsFileLayout self.now id result }
+    {
+        self.find_file(id).unwrap()
+    }
+}
