@@ -1,5 +1,5 @@
 -- Which state a file has in the traversal.
-use Rattle.std.specs.Prelude.{◌≡◌, Some}
+use Rattle.std.specs.Prelude.{◌≡◌, ℕ, Some, slice_get}
 use Rattle.lk_link.specs.declared.file.FileKind.TheVariants as kind
 use Rattle.lk_link.specs.declared.file.InputFile.{InputFile}
 use Rattle.lk_link.specs.declared.ids.FileId.{FileId}
@@ -8,6 +8,7 @@ use Rattle.lk_link.specs.declared.link.LinkInput.{LinkInput}
 use Rattle.lk_link.specs.Files.{file_in}
 use Rattle.lk_link.specs.Symbols.{AreSymbolsOf}
 use Rattle.lk_gc.specs.declared.states.FileLayoutState.{FileLayoutState}
+use Rattle.lk_gc.specs.declared.states.GroupState.{GroupState}
 use Rattle.lk_gc.specs.declared.states.FileLayoutState.TheVariants as state
 
 -- a state is that of a file with this number, whose symbols have these numbers; no file is the epilogue
@@ -27,3 +28,8 @@ pub record IsStateOf (link : LinkInput) (id : FileId) (s : FileLayoutState) : Ty
   pub range : SymbolIdRange
   pub symbols : AreSymbolsOf link.groups id range
   pub state : IsStateBy file id range s
+
+-- a state is that of the group of a link with this number: it has its files
+pub record IsGroupStateOf (link : LinkInput) (g : ℕ) (s : GroupState) : Type 0 where
+  pub files : slice_get link.groups g ≡ Some s.files.now
+  pub group : s.group ≡ g

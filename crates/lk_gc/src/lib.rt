@@ -21,8 +21,9 @@ pub use lk_reach::{
 };
 pub use primary::primary_references;
 pub use states::{
-    DynamicLayoutState, EpilogueLayoutState, FileLayoutState, HandlerData, LinkerScriptLayoutState,
-    ObjectLayoutState, PreludeLayoutState, SymbolRequestHandler, SyntheticSymbolsLayoutState,
+    DynamicLayoutState, EpilogueLayoutState, FileLayoutState, GroupState, HandlerData,
+    LinkerScriptLayoutState, ObjectLayoutState, PreludeLayoutState, SymbolRequestHandler,
+    SyntheticSymbolsLayoutState,
 };
 pub use traversal::{traverse, traverse_alone};
 pub use work::{GcLoadRequest, LocalWorkQueue, WorkItem};

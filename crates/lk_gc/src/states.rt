@@ -1,7 +1,8 @@
 //! Files in the traversal: what each is called, which symbols it has, and what it adds to what waits where one of its symbols is
 //! asked for.
 
-ghost use Rattle.std.specs.Prelude.{◌≡◌, ◌++◌, OnErr, OnOk, Some};
+ghost use Rattle.std.specs.Prelude.{◌≡◌, ◌++◌, None, OnErr, OnOk, Some, MatchOption, slice_get};
+ghost use Rattle.std.specs.Fmt.{DisplaysOnOk};
 ghost use Rattle.lk_link.specs.Files.{file_in};
 ghost use Rattle.lk_link.specs.SymbolRanges.{IsWithin};
 ghost use Rattle.lk_link.specs.Symbols.{definition_of};
@@ -9,7 +10,8 @@ ghost use Rattle.lk_link.specs.WellFormed.{IsWellFormed};
 ghost use Rattle.lk_link.specs.declared.ids.FileId.{FileId};
 ghost use Rattle.lk_link.specs.declared.ids.SymbolIdRange.{SymbolIdRange};
 ghost use Rattle.lk_reach.specs.Units.{follows};
-ghost use Rattle.lk_gc.specs.States.{IsStateBy};
+ghost use Rattle.lk_gc.specs.States.{IsGroupStateOf, IsStateBy};
+ghost use Rattle.lk_gc.specs.StateTexts.{file_name, files_name};
 ghost use Rattle.lk_gc.specs.Work.{items_of};
 ghost use Rattle.lk_reach.specs.declared.units.Unit.TheVariants.{Sym};
 
@@ -111,6 +113,13 @@ pub enum FileLayoutState<'data> {
     NotLoaded,
 }
 
+/// A group of files in the traversal, lent by the link (libwild: `GroupState`).
+#[derive(Drop)]
+pub struct GroupState<'data> {
+    pub files: &'data [InputFile],
+    pub group: u32,
+}
+
 impl<'data> FileLayoutState<'data> {
     ghost use Rattle.std.specs.Prelude.{◌≡◌, MatchOption, None};
     ghost use Rattle.lk_link.specs.Files.{file_in};
@@ -165,6 +174,19 @@ fn state_of(
             })
         }
         FileKind::NotLoaded => FileLayoutState::NotLoaded,
+    }
+}
+
+impl<'data> GroupState<'data> {
+    /// The state of the group of a link that has this number, if there is one. Takes constant time and no memory.
+    pub fn of_group(link: &'data LinkInput, group: u32) -> Option<GroupState<'data>>
+        ensures { MatchOption result (slice_get link.now.groups group ≡ None) (IsGroupStateOf link.now group) }
+    {
+        let files = link.groups.as_slice().get(group as usize)?;
+        Some(GroupState {
+            files: files.as_slice(),
+            group,
+        })
     }
 }
 
@@ -340,6 +362,47 @@ impl fmt::Display for FileLayoutState<'_> {
             FileLayoutState::Epilogue(state) => fmt::Display::fmt(state, f),
             FileLayoutState::LinkerScript(state) => fmt::Display::fmt(state, f),
             FileLayoutState::NotLoaded => f.write_str("<not-loaded>"),
+        }
+    }
+}
+
+/// Writes what a file of the traversal is called.
+fn write_file<W: fmt::Write>(f: &mut fmt::Formatter<W>, file: &InputFile, id: FileId) -> fmt::Result
+    ensures { DisplaysOnOk W.write_str_gives f.old result (Some (file_name file.now id)) f.new }
+{
+    let name = file.name.as_str();
+    match file.kind {
+        FileKind::Prelude => f.write_str("<prelude>"),
+        FileKind::Object | FileKind::Dynamic => write!(f, "{name} ({id})"),
+        FileKind::SyntheticSymbols => f.write_str("<synthetic>"),
+        FileKind::LinkerScript => f.write_str(name),
+        FileKind::NotLoaded => f.write_str("<not-loaded>"),
+    }
+}
+
+/// Writes how many files a group has.
+fn write_count<W: fmt::Write>(f: &mut fmt::Formatter<W>, count: usize) -> fmt::Result
+    ensures { DisplaysOnOk W.write_str_gives f.old result (Some (files_name count)) f.new }
+{
+    write!(
+        f,
+        "Group with {count} files. Rerun with WILD_FILES_PER_GROUP=1"
+    )
+}
+
+/// One file as that file, else as `Group with 2 files. Rerun with WILD_FILES_PER_GROUP=1`.
+impl fmt::Display for GroupState<'_> {
+    ghost use Rattle.std.specs.Prelude.{Some};
+    ghost use Rattle.lk_gc.specs.StateTexts.{group_name};
+
+    ghost output = { λ state. Some (group_name state.files.now state.group) };
+
+    fn fmt<W: fmt::Write>(&self, f: &mut fmt::Formatter<W>) -> fmt::Result {
+        let group = self.group;
+        if self.files.len() == 1 {
+            write_file(f, &self.files[0], FileId { group, file: 0 })
+        } else {
+            write_count(f, self.files.len())
         }
     }
 }

@@ -6,7 +6,6 @@ use Rattle.std.proofs.lemmas.List.{append-nil, drop_all, take_all}
 use Rattle.lk_link.specs.declared.link.LinkInput.{LinkInput}
 use Rattle.lk_link.specs.declared.plan.PlanSection.{PlanSection}
 use Rattle.lk_link.specs.Marks.{is_marked}
-use Rattle.lk_link.specs.Parts.{all_parts}
 use Rattle.lk_expressions.specs.Records.{Record}
 use Rattle.lk_place.specs.declared.error.PlaceError.{PlaceError}
 use Rattle.lk_place.specs.declared.error.PlaceError.TheVariants as place
@@ -25,10 +24,9 @@ use Rattle.lk_layout.specs.Errors.{place_error}
 use Rattle.lk_layout.specs.FileRanges.{AreHeld, file_bytes, moved_parts, moved_sections}
 use Rattle.lk_layout.specs.Machines.{Machine}
 use Rattle.lk_layout.specs.Made.{relaxing_for}
-use Rattle.lk_layout.specs.Movable.{CanMove, CanRefresh}
+use Rattle.lk_layout.specs.Movable.{CanMove}
 use Rattle.lk_layout.specs.Stages.{IsToldLink}
 use Rattle.lk_layout.proofs.HeldParts.{sections_hold}
-use Rattle.lk_layout.proofs.MovedEnds.{MovesTo}
 use Rattle.lk_layout.proofs.Moving.{moved_count, sections_count, sections_move, still_held, still_joined}
 use Rattle.lk_layout.proofs.OneAnswer.{none_of}
 use Rattle.lk_layout.proofs.SameMemory.{refused_alike, same_memories}

@@ -22,6 +22,7 @@ use Rattle.lk_link.specs.declared.symbol.SymbolPlacement.{SymbolPlacement}
 use Rattle.lk_link.specs.declared.symbol.SymbolPlacement.TheVariants as at
 use Rattle.lk_link.specs.FileKinds.{is_internal}
 use Rattle.lk_link.specs.Files.{first_some}
+use Rattle.lk_link.specs.declared.flags.ValueFlags.{ValueFlags}
 use Rattle.lk_link.specs.Flags.{has_flag}
 use Rattle.lk_link.specs.Inputs.{Input, NumberedFile, all_inputs, first_input, input_number}
 use Rattle.lk_link.specs.Marks.{is_marked}
@@ -52,7 +53,7 @@ use Rattle.lk_sizes.specs.Addresses.{section_addresses}
 use Rattle.lk_sizes.specs.Owners.{Filling}
 use Rattle.lk_sizes.specs.PartOwners.{live_address}
 use Rattle.lk_sizes.proofs.Numbering.{table_at}
-use Rattle.lk_tables.specs.Late.{flags_at}
+use Rattle.lk_tables.specs.Late.{flags_at, late_flags}
 use Rattle.lk_values.specs.Resolutions.{address_at, placed_value}
 use Rattle.lk_values.specs.Starts.{starts_of}
 use Rattle.lk_values.specs.StoreLaws.{ChangesValuesAlone}
@@ -61,7 +62,7 @@ use Rattle.lk_layout.specs.LayoutRecord.{LayoutRecord}
 use Rattle.lk_layout.specs.Machines.{Machine}
 use Rattle.lk_layout.specs.Made.{Made, made_deletions, made_filling, relaxing_for}
 use Rattle.lk_layout.specs.Redirects.{made_resolutions, placed_resolutions}
-use Rattle.lk_layout.specs.Sound.{DeletedCandidatesAreNear, told_place}
+use Rattle.lk_layout.specs.Sound.{DeletedCandidatesAreNear, FlagsStand, HasPosition, told_place}
 use Rattle.lk_layout.proofs.BySymbol.{IsOfFile, of_its_file, worth_by_place}
 use Rattle.lk_layout.proofs.LaidOut.{IsLaidOut, made_by}
 use Rattle.lk_layout.proofs.OnlyScanned.{IsScanned, all_three, first_scanned, only_scanned_lose, pass_scanned}
@@ -70,12 +71,9 @@ use Rattle.lk_layout.proofs.TargetPlaces.{IsPositioned, candidates_rise, marked_
 
 -- ---- what can be near
 
--- a placement has an address for relaxation: a number, or a place in a section that has a position
+-- a placement has an address for relaxation, by what is live
 abbrev HasPlace : LinkInput → Live → FileId → SymbolPlacement → Type 0
-HasPlace link live id (at.Section i offset) = (y : Input) × (slice_get (all_inputs link.groups) (input_number link.groups id i) ≡ Some y)
-    × (has_position (is_marked live.marks (input_number link.groups id i)) y.section ≡ true)
-HasPlace link live id (at.Absolute n) = Unit {0}
-HasPlace link live id _ = ⊥
+HasPlace link live id p = HasPosition link live.marks id p
 
 -- what stands for a symbol: nothing may take its place, and it has one
 record HasAim (link : LinkInput) (live : Live) (s : ℕ) : Type 0 where
@@ -357,22 +355,31 @@ not_internal link live id at.TlsEnd place h = place
 not_internal link live id at.LoadBaseAddress place h = place
 not_internal link live id (at.Redirect e l provide) place h = place
 
-outside : (link : LinkInput) (live : Live) (id : FileId) (k : FileKind) (p : SymbolPlacement) → HasPlace link live id p → is_placement_in k p ≡ true → is_internal k ≡ false
-outside link live id kind.Object p place h = refl
-outside link live id kind.Dynamic p place h = refl
-outside link live id kind.NotLoaded p place h = refl
-outside link live id kind.Prelude p place h = absurd (not_internal link live id p place h)
-outside link live id kind.SyntheticSymbols p place h = absurd (not_internal link live id p place h)
-outside link live id kind.LinkerScript p place h = absurd (not_internal link live id p place h)
+not_own : (link : LinkInput) (live : Live) (id : FileId) (k : FileKind) (p : SymbolPlacement) → HasPlace link live id p → is_placement_in k p ≡ true → is_internal k ≡ false
+not_own link live id kind.Object p place h = refl
+not_own link live id kind.Dynamic p place h = refl
+not_own link live id kind.NotLoaded p place h = refl
+not_own link live id kind.Prelude p place h = absurd (not_internal link live id p place h)
+not_own link live id kind.SyntheticSymbols p place h = absurd (not_internal link live id p place h)
+not_own link live id kind.LinkerScript p place h = absurd (not_internal link live id p place h)
 
 -- where something is gone of a section, something is deleted of it
 some_gone : (ranges : List (ℕ × ℕ)) (c : RelaxCandidate) → is_gone ranges c ≡ true → IsSome (slice_get ranges 0)
 some_gone [] c h = absurd (cc)
 some_gone (r ∷ rs) c h = refl
 
+-- no symbol of another file than the linker's own is marked late
+not_late : (link : LinkInput) (told : List Bool) (k : FileKind) (s : ℕ) (x : InputSymbol) (flags : ValueFlags) → is_internal k ≡ false → late_flags link told k s x flags ≡ flags
+not_late link told kind.Object s x flags h = refl
+not_late link told kind.Dynamic s x flags h = refl
+not_late link told kind.NotLoaded s x flags h = refl
+not_late link told kind.SyntheticSymbols s x flags h = refl
+not_late link told kind.LinkerScript s x flags h = refl
+not_late link told kind.Prelude s x flags h = absurd (cc)
+
 pub candidates_near : OthersAreNoRedirects → DeletionsAreRead → RelaxedIsShrunk → DeletedSitesAreNear → RefusedExactlyPast → PartsTakeTheirBytes → (machine : Machine) (link : LinkInput) (layout : LayoutRecord) (laid : IsLaidOut machine link layout)
-    → ChangesValuesAlone link.groups (placed_resolutions (made_by laid)) (made_resolutions (made_by laid)) → DeletedCandidatesAreNear (made_by laid) (layout_of (made_by laid))
-candidates_near others read shrunk near refused mass machine link layout laid changed k j x c there here gone =
+    → ChangesValuesAlone link.groups (placed_resolutions (made_by laid)) (made_resolutions (made_by laid)) → FlagsStand (made_by laid) (layout_of (made_by laid)) → DeletedCandidatesAreNear (made_by laid) (layout_of (made_by laid))
+candidates_near others read shrunk near refused mass machine link layout laid changed flags k j x c there here gone =
     let groups : List (List InputFile) = link.groups in
     let made : Made = made_by laid in
     let rel : Relaxing = relaxing_for machine link laid.live in
@@ -396,14 +403,20 @@ candidates_near others read shrunk near refused mass machine link layout laid ch
     let from : site (made_standing made) x.file x.index c.at ≡ Some (slice_index table k + moved)
     = site_is shrunk refused mass machine link layout laid x.file own.0 x.index c.at x.section positioned (omega (arith, (good.in_relax j c here).1))
     ∙ ap (λ (n : ℕ). Some (slice_index table n + moved)) number in
+    let outside : is_internal aim.file.file.kind ≡ false
+    = not_own link laid.live aim.file.id aim.file.file.kind aim.symbol.at aim.place (symbol_of link aim.file.id is.index aim.file.file aim.symbol laid.good is.there is.at).of_kind in
     record {
       definition = aim.definition;
       stands_for = aim.stands_for;
+      file = aim.file;
+      symbol = aim.symbol;
+      named = aim.named;
+      own = ap (λ (f : ValueFlags). has_flag flag.INTERPOSABLE.0 f.0)
+          (flags aim.definition aim.file aim.symbol aim.named ∙ not_late link _ aim.file.file.kind aim.definition aim.symbol (flags_at laid.live.flags aim.definition) outside) ∙ aim.own;
+      position = aim.place;
       place = stands.place;
-      at = ap (option_and_then (λ (q : NumberedFile × InputSymbol). told_place made (layout_of made) q.0.id q.1.at)) aim.named ∙ stands.told;
+      at = stands.told;
       near = near (made_standing made) k j stands.place (slice_index table k + moved) x c laid.near there here gone (ap (option_and_then (target (made_standing made))) aim.stands_for ∙ stands.aimed) from;
       valued = λ value told.
-          worth_by_place others made changed aim.definition value aim.file aim.symbol aim.named
-          (outside link laid.live aim.file.id aim.file.file.kind aim.symbol.at aim.place (symbol_of link aim.file.id is.index aim.file.file aim.symbol laid.good is.there is.at).of_kind) told
-          ∙ stands.worth;
+          worth_by_place others made changed aim.definition value aim.file aim.symbol aim.named outside told ∙ stands.worth;
     }

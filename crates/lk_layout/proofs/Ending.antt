@@ -1,9 +1,8 @@
 -- Thread-local data of a defined layout ends in memory.
-use Rattle.std.proofs.Common.{◌≡◌, ◌∙◌, ◌<◌, ◌^◌, ℕ, Bool, true, false, if◌then◌else◌, Option, Some, None, Ok, refl, sym, ap, subst, arith, option_and_then, option_map}
+use Rattle.std.proofs.Common.{◌≡◌, ◌<◌, ◌^◌, ℕ, Bool, true, false, if◌then◌else◌, Option, Some, None, Ok, refl, sym, ap, subst, arith, option_and_then, option_map}
 use Rattle.std.specs.Prelude.{nat_lt}
 use Rattle.std.specs.Int.{next_multiple_of}
 use Rattle.std.proofs.lemmas.Bool.{ltb-true}
-use Rattle.lk_link.specs.declared.link.LinkInput.{LinkInput}
 use Rattle.lk_expressions.specs.Records.{Record, mem_end}
 use Rattle.lk_place.specs.declared.error.PlaceError.{PlaceError}
 use Rattle.lk_place.specs.declared.segments.SegmentFileLayout.TheVariants.{FromSections}
@@ -12,10 +11,9 @@ use Rattle.lk_place.specs.Segments.{end_refusal, segments_refusal, thread_local_
 use Rattle.lk_edges.specs.EdgeLaws.{SegmentsEndBelow}
 use Rattle.lk_sizes.specs.Emitted.{active_segments, is_emitted}
 use Rattle.lk_layout.specs.declared.error.LayoutError.{LayoutError}
-use Rattle.lk_layout.specs.Defined.{IsDefined, Unless, branch_refusal, fault_refusal, joining_refusal, layout_of, made_sections, made_segments, offsets_refusal, references_refusal, segment_refusal, sites_refusal, sizes_refusal, walk_refusal}
+use Rattle.lk_layout.specs.Defined.{Unless, branch_refusal, fault_refusal, joining_refusal, layout_of, made_sections, made_segments, offsets_refusal, references_refusal, segment_refusal, sites_refusal, sizes_refusal, walk_refusal}
 use Rattle.lk_layout.specs.Errors.{place_error}
 use Rattle.lk_layout.specs.LayoutRecord.{LayoutRecord}
-use Rattle.lk_layout.specs.Machines.{Machine}
 use Rattle.lk_layout.specs.Made.{Made, made_content, made_of}
 use Rattle.lk_layout.specs.Merging.{merging_refusal}
 use Rattle.lk_layout.specs.Queries.{aligned_end}

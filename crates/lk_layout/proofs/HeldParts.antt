@@ -1,16 +1,15 @@
 -- A section takes at least the bytes of the file that its parts take, and so it does where its parts follow one another.
-use Rattle.std.proofs.Common.{◌≡◌, ◌≢◌, ◌⊎◌, ℕ, zero, suc, ◌+◌, ◌-◌, ◌≤◌, ◌<◌, Bool, true, false, List, [], ◌∷◌, ◌++◌, length, take, drop, map, refl, sym, ap, subst, ◌∙◌, arith, inl, inr, add-one, zero-add}
-use Rattle.std.specs.Prelude.{if◌then◌else◌, fold, max, min, nat_lt, slice_index_or, slice_range, sum_by}
+use Rattle.std.proofs.Common.{◌≡◌, ◌≢◌, ◌⊎◌, ℕ, zero, suc, ◌+◌, ◌-◌, ◌≤◌, ◌<◌, List, [], ◌∷◌, length, drop, map, refl, ap, subst, ◌∙◌, arith, inl, inr, zero-add}
+use Rattle.std.specs.Prelude.{if◌then◌else◌, fold, max, min, nat_lt, slice_index_or, sum_by}
 use Rattle.std.specs.List.{enumerate_from}
-use Rattle.std.proofs.lemmas.Bool.{cases_Bool, cases_lt, ltb-true}
+use Rattle.std.proofs.lemmas.Bool.{cases_Bool, ltb-true}
 use Rattle.std.proofs.lemmas.Bool.Decides.{nat_tests}
-use Rattle.std.proofs.lemmas.List.{get_or-drop, get_or-map, get_or-take, length-drop, length-map, length-take}
+use Rattle.std.proofs.lemmas.List.{get_or-drop, get_or-map, get_or-take, length-map, length-take}
 use Rattle.std.proofs.lemmas.List.FromFn.{get_or-enumerate_from, length-enumerate_from}
 use Rattle.std.proofs.lemmas.List.Sums.{sum_by-cons}
 use Rattle.lk_link.specs.declared.plan.PlanSection.{PlanSection}
-use Rattle.lk_link.specs.Parts.{all_parts, first_part}
+use Rattle.lk_link.specs.Parts.{first_part}
 use Rattle.lk_link.specs.PlanSections.{no_section, section_at}
-use Rattle.lk_link.proofs.PartNumbers.{first_part-le, first_part-rises}
 use Rattle.lk_expressions.specs.Records.{Record, file_end, nowhere, record_at}
 use Rattle.lk_place.specs.Ranges.{FileIsDisjoint, IsInFile}
 use Rattle.lk_place.specs.Segments.{greatest, hull, least, part_records, section_record, section_records}

@@ -10,10 +10,12 @@ mod EntriesStand
 mod FewHeaders
 mod FileSections
 mod Fitting
+mod GroupsBegin
 mod HeldParts
 mod ImagesShow
 mod LaidOut
 mod LateMarks
+mod MemoryStays
 mod MovedEnds
 mod Moving
 mod NamedSymbols
@@ -41,5 +43,6 @@ mod TablesAlone
 mod TargetPlaces
 mod ThunkAddresses
 mod ThunksTold
+mod UsersFound
 mod ToldSizes
 mod Valued

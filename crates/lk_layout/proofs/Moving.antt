@@ -1,6 +1,6 @@
 -- A section that is moved in the file, with its parts.
-use Rattle.std.proofs.Common.{◌≡◌, ℕ, zero, suc, ◌+◌, ◌-◌, ◌≤◌, ◌<◌, ◌^◌, Bool, true, false, List, [], ◌∷◌, ◌++◌, None, length, take, drop, map, refl, sym, ap, subst, ◌∙◌, arith, inl, inr}
-use Rattle.std.specs.Prelude.{◌==◌, max, nat_lt, slice_range, slice_set, sum, sum_by}
+use Rattle.std.proofs.Common.{◌≡◌, ℕ, zero, suc, ◌+◌, ◌-◌, ◌≤◌, ◌<◌, ◌^◌, true, List, [], ◌∷◌, ◌++◌, None, length, take, drop, map, refl, sym, ap, subst, ◌∙◌, arith, inl, inr}
+use Rattle.std.specs.Prelude.{◌==◌, max, slice_range, slice_set, sum, sum_by}
 use Rattle.std.specs.List.{list_all}
 use Rattle.std.proofs.lemmas.Bool.{cases_Bool, eqb-true}
 use Rattle.std.proofs.lemmas.Bool.Decides.{nat_tests}
@@ -42,7 +42,7 @@ run_sizes start [] = refl
 run_sizes start (r ∷ rs) = ap (λ (ns : List ℕ). r.file_size ∷ ns) (run_sizes (start + r.file_size) rs)
 
 -- a list is what stands before two places in it, between them, and behind
-put_back : (first behind : ℕ) (rs : List Record) → first ≤ behind → take first rs ++ (slice_range rs first behind ++ drop behind rs) ≡ rs
+pub put_back : (first behind : ℕ) (rs : List Record) → first ≤ behind → take first rs ++ (slice_range rs first behind ++ drop behind rs) ≡ rs
 put_back first behind rs rise =
     let e : first + (behind - first) ≡ behind = omega (arith, rise) in
     let last : drop behind rs ≡ drop (behind - first) (drop first rs) = ap (λ n. drop n rs) (sym e) ∙ sym (drop-drop (behind - first) first rs) in

@@ -1,5 +1,5 @@
 -- No refusal of segments reads a range of the file.
-use Rattle.std.proofs.Common.{◌≡◌, ℕ, ◌+◌, ◌-◌, ◌^◌, Bool, true, false, cond, List, [], ◌∷◌, Option, Some, None, filter, map, refl, sym, ap, subst, ◌∙◌}
+use Rattle.std.proofs.Common.{◌≡◌, ℕ, ◌+◌, ◌-◌, ◌^◌, Bool, true, false, List, [], ◌∷◌, Option, Some, None, filter, map, refl, sym, ap, subst, ◌∙◌}
 use Rattle.std.specs.Prelude.{◌&&◌, ◌||◌, not, if◌then◌else◌, find, nat_lt}
 use Rattle.std.specs.Int.{next_multiple_of}
 use Rattle.std.specs.List.{filter_map}
@@ -28,7 +28,7 @@ pub record SameMemory (a b : Record) : Type 0 where
 abbrev pub SameMemories : List Record → List Record → Type 0
 SameMemories xs ys = (s : ℕ) → SameMemory (record_at xs s) (record_at ys s)
 
-same_record : (a : Record) → SameMemory a a
+pub same_record : (a : Record) → SameMemory a a
 same_record a = record { size = refl; start = refl; alignment = refl }
 
 -- a number of each record that is alike is alike over a list
@@ -89,7 +89,7 @@ in_any_file : (kind : SegmentFileLayout) (plan : Plan) (xs : List Record) (emitt
 in_any_file kind.FromSections plan xs emitted k r = same_record r
 in_any_file kind.Compacted plan xs emitted k r = record { size = refl; start = refl; alignment = refl }
 
-layouts_alike : (here there : SegmentFileLayout) (plan : Plan) (stack : ℕ) (xs ys : List Record) (emitted : ℕ → Bool) → SameMemories xs ys → (k : ℕ)
+pub layouts_alike : (here there : SegmentFileLayout) (plan : Plan) (stack : ℕ) (xs ys : List Record) (emitted : ℕ → Bool) → SameMemories xs ys → (k : ℕ)
     → SameMemory (segment_layout here plan stack xs emitted k).sizes (segment_layout there plan stack ys emitted k).sizes
 layouts_alike here there plan stack xs ys emitted same k =
     let left = in_any_file here plan xs emitted k (segment_record plan stack xs emitted k) in

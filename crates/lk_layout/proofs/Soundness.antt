@@ -1,5 +1,5 @@
 -- A defined layout is sound.
-use Rattle.std.proofs.Common.{◌≡◌, ℕ, zero, suc, ◌%◌, ◌<◌, List, [], ◌∷◌, length, Some, None, sym, ap, subst, ◌∙◌, inl, inr, arith}
+use Rattle.std.proofs.Common.{◌≡◌, ℕ, zero, suc, ◌%◌, ◌<◌, List, [], ◌∷◌, length, Some, None, refl, sym, ap, subst, ◌∙◌, inl, inr, arith}
 use Rattle.std.specs.Prelude.{slice_get, slice_index}
 use Rattle.std.specs.Int.{◌∣◌}
 use Rattle.std.specs.List.{AllByRecursion, slice_index_or}
@@ -33,6 +33,7 @@ use Rattle.lk_relaxing.specs.Sites.{DeletedSitesAreNear}
 use Rattle.lk_relaxing.specs.Stages.{DeletionsAreRead, setting_after}
 use Rattle.lk_place.specs.Setting.{Setting}
 use Rattle.lk_layout.specs.Defined.{layout_of}
+use Rattle.lk_layout.specs.GroupPlaces.{GroupsBegin}
 use Rattle.lk_layout.specs.LayoutRecord.{LayoutRecord}
 use Rattle.lk_values.specs.Starts.{starts_of}
 use Rattle.lk_layout.specs.Machines.{IsLawfulMachine, Machine}
@@ -48,7 +49,8 @@ use Rattle.lk_layout.proofs.TablesAlone.{tables_alone}
 use Rattle.lk_layout.proofs.ThunkAddresses.{thunks_stand}
 use Rattle.lk_layout.proofs.ThunksTold.{branches_reach}
 use Rattle.lk_branches.specs.BranchLaws.{BranchesReach, ThunksHaveRanges}
-use Rattle.lk_layout.proofs.Fitting.{buckets_start}
+use Rattle.lk_layout.proofs.Fitting.{buckets_start, owners_fit}
+use Rattle.lk_layout.proofs.GroupsBegin.{groups_begin}
 use Rattle.lk_layout.proofs.LaidOut.{IsLaidOut, made_by, laid_out}
 use Rattle.lk_layout.proofs.ImagesShow.{images_stand}
 use Rattle.lk_layout.proofs.NamedSymbols.{named_symbols_show}
@@ -61,7 +63,8 @@ use Rattle.lk_layout.proofs.SortedTold.{sorted_are_told}
 use Rattle.lk_layout.proofs.ReferencesShow.{references_show}
 use Rattle.lk_layout.proofs.OnlyScanned.{only_scanned_lose}
 use Rattle.lk_layout.proofs.ToldSizes.{told_live_are}
-use Rattle.lk_values.proofs.Placing.{size-le}
+use Rattle.lk_link.proofs.GoodPartFields.{good_part_fields}
+use Rattle.lk_values.proofs.Placing.{size-le, starts_count}
 use Rattle.lk_layout.proofs.Resolved.{resolved_sections_are_live}
 use Rattle.lk_layout.proofs.Resolving.{objects_told}
 use Rattle.lk_layout.proofs.Settings.{part_size_at, ready, takes}
@@ -302,10 +305,12 @@ is_sound shrunk read near tile aligned owners mass refused file memory in_step k
       redirects = subst (RedirectsStand made) (sym laid.same) (redirects_stand made laid.redirected);
       alone = alone;
       entries = entries_stand machine link layout laid lawful.sizes alone behind;
+      grouped = subst (GroupsBegin made) (sym laid.same) (groups_begin made (starts_of laid.stage.records) laid.good alone (owners_fit refused mass machine link layout laid)
+          (λ k p named. omega (arith, (good_part_fields link laid.good).in_range k p named, starts_count link laid.stage.records (starts_of laid.stage.records) refl laid.stands.placed.each)));
       thunks = thunks_stand refused mass ranges machine link layout laid lawful;
       reaching = branches_reach reach machine link layout laid;
       shrunk = sections_shrink shrunk read machine link layout laid;
-      limited = subst (DeletedCandidatesAreNear made) (sym laid.same) (candidates_near others read shrunk near refused mass machine link layout laid values);
+      limited = subst (DeletedCandidatesAreNear made) (sym laid.same) (candidates_near others read shrunk near refused mass machine link layout laid values flags);
       ordered = sorted_stand_last (made_by laid);
       sorted = subst (SortedAreTold made) (sym laid.same) (sorted_are_told owners made);
       singles = singles_stand machine link layout laid;

@@ -1,7 +1,7 @@
 -- Output sections that are moved in the file: what their records and those of their parts are then.
-use Rattle.std.specs.Prelude.{◌≡◌, ◌≤◌, ◌<◌, ℕ, ◌+◌, ◌^◌, ◌++◌, All, List, [], ◌∷◌, None, Option, Some, drop, if◌then◌else◌, length, nat_lt, slice_set, sum_by, take}
+use Rattle.std.specs.Prelude.{◌≤◌, ◌<◌, ℕ, ◌+◌, ◌^◌, ◌++◌, List, [], ◌∷◌, None, Option, Some, drop, if◌then◌else◌, length, nat_lt, slice_set, sum_by, take}
 use Rattle.lk_link.specs.declared.plan.PlanSection.{PlanSection}
-use Rattle.lk_link.specs.Parts.{all_parts, first_part}
+use Rattle.lk_link.specs.Parts.{first_part}
 use Rattle.lk_expressions.specs.Records.{Record, record_at}
 use Rattle.lk_place.specs.Segments.{part_records}
 

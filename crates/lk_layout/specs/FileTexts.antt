@@ -1,13 +1,11 @@
 -- What files and groups of a layout are called.
-use Rattle.std.specs.Prelude.{List, ℕ, ◌==◌, [], ◌∷◌, None, Option, Some, codes, if◌then◌else◌, length, option_map, slice_get, unwrap_or}
-use Rattle.std.specs.Fmt.{decimal}
+use Rattle.std.specs.Prelude.{List, ℕ, ◌==◌, None, Option, Some, codes, if◌then◌else◌, length, option_map, slice_get, unwrap_or}
 use Rattle.std.specs.Option.{option_map_or}
 use Rattle.lk_link.specs.declared.file.FileKind.TheVariants as kind
 use Rattle.lk_link.specs.declared.file.InputFile.{InputFile}
 use Rattle.lk_link.specs.declared.file.FileKind.{FileKind}
 use Rattle.lk_link.specs.declared.ids.FileId.{FileId}
-use Rattle.lk_link.specs.Texts.{joined}
-use Rattle.lk_gc.specs.StateTexts.{epilogue_name, placed_name, prelude_name, script_name, synthetic_name}
+use Rattle.lk_gc.specs.StateTexts.{epilogue_name, files_name, placed_name, prelude_name, script_name, synthetic_name}
 use Rattle.lk_layout.specs.declared.files.FileLayout.{FileLayout}
 use Rattle.lk_layout.specs.declared.files.FileLayout.TheVariants as layout
 
@@ -36,10 +34,6 @@ kind_name kind.NotLoaded name id = unloaded_name
 
 abbrev pub file_name : InputFile → FileId → List ℕ
 file_name file id = kind_name file.kind file.name id
-
--- what several files of a group are called together
-abbrev pub files_name : ℕ → List ℕ
-files_name count = joined (codes "Group with " ∷ decimal count ∷ codes " files. Rerun with WILD_FILES_PER_GROUP=1" ∷ [])
 
 -- the name of the one file of a group, if there is one alone
 abbrev pub only_name : ℕ → List InputFile → Option (List ℕ)

@@ -1,18 +1,20 @@
 -- What is told of the files of a layout.
 use Rattle.std.specs.Prelude.{◌≡◌, ◌==◌, ℕ, List, MatchOption, Option, None, Some, drop, if◌then◌else◌, length, option_map, slice_get}
+use Rattle.std.specs.Option.{option_copied}
 use Rattle.lk_link.specs.declared.file.FileKind.TheVariants as kind
 use Rattle.lk_link.specs.declared.file.InputFile.{InputFile}
 use Rattle.lk_link.specs.declared.ids.FileId.{FileId}
 use Rattle.lk_link.specs.declared.ids.SymbolIdRange.{SymbolIdRange}
 use Rattle.lk_link.specs.Files.{file_in}
 use Rattle.lk_link.specs.Inputs.{first_input}
-use Rattle.lk_link.specs.Symbols.{AreSymbolsOf}
+use Rattle.lk_link.specs.Symbols.{AreSymbolsOf, file_number}
 use Rattle.lk_layout.specs.declared.files.FileLayout.{FileLayout}
 use Rattle.lk_layout.specs.declared.files.FileLayout.TheVariants as layout
 use Rattle.lk_layout.specs.declared.files.ObjectLayout.{ObjectLayout}
 use Rattle.lk_layout.specs.declared.files.PreludeLayout.{PreludeLayout}
 use Rattle.lk_layout.specs.LayoutRecord.{LayoutRecord}
 use Rattle.lk_layout.specs.SectionResolutions.{resolutions_of}
+use Rattle.lk_layout.specs.ThunkUsers.{block_for, owns_block}
 
 -- the entry, what the output tells of the linker, and the headers
 pub record IsPreludeLayout (all : LayoutRecord) (p : PreludeLayout) : Type 0 where
@@ -26,12 +28,17 @@ file_resolutions all id file =
     let first = first_input all.link.groups id in
     resolutions_of (drop first all.live_marks) (drop first all.section_addresses) (length file.sections)
 
--- an object's number, its symbols' numbers, its name, and where its sections stand
+-- an object's number, its symbols' numbers, its name, its sections, where they stand, and what is deleted of them; and its block of thunks,
+-- and whether it owns that: the first block and no, where it needs none
 pub record IsObjectLayout (all : LayoutRecord) (id : FileId) (file : InputFile) (range : SymbolIdRange) (o : ObjectLayout) : Type 0 where
   pub number : o.file_id ≡ id
   pub symbols : o.symbol_id_range ≡ range
   pub name : o.name.now ≡ file.name
+  pub sections : o.sections.now ≡ file.sections
   pub resolutions : o.section_resolutions ≡ file_resolutions all id file
+  pub deleted : option_copied o.section_relax_deltas ≡ slice_get all.section_deletions (file_number all.link.groups id)
+  pub block : o.thunk_block_id ≡ block_for all.thunk_users id
+  pub owns : o.owns_thunk_block ≡ owns_block all.thunk_users id
 
 -- by the kind of a file with this number, whose symbols have these numbers; no file is the epilogue
 abbrev pub IsLayoutBy : LayoutRecord → FileId → InputFile → SymbolIdRange → FileLayout → Type 0

@@ -5,6 +5,7 @@ pub mod FileRanges
 pub mod FileTexts
 pub mod Files
 pub mod Flags
+pub mod GroupPlaces
 pub mod GroupStarts
 pub mod Groups
 pub mod Headers
@@ -29,3 +30,5 @@ pub mod Spans
 pub mod Stages
 pub mod Texts
 pub mod Thunks
+pub mod ThunkUsers
+pub mod ToldMemory

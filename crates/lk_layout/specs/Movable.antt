@@ -1,5 +1,5 @@
 -- What a layout keeps, so that its sections can be moved in the file.
-use Rattle.std.specs.Prelude.{◌≡◌, ◌<◌, ℕ, All, List, None, length}
+use Rattle.std.specs.Prelude.{◌≡◌, ◌<◌, All, List, None, length}
 use Rattle.lk_link.specs.declared.link.LinkInput.{LinkInput}
 use Rattle.lk_link.specs.Marks.{is_marked}
 use Rattle.lk_link.specs.Parts.{all_parts}

@@ -1,5 +1,5 @@
 -- What a layout answers of symbols, of its sections' starts, and of thread-local data.
-use Rattle.std.specs.Prelude.{◌≡◌, ℕ, ◌-◌, ◌≤◌, ◌<◌, Bool, bit_or, List, Option, Some, None, drop, filter, map, option_and_then, option_map, slice_get, slice_index, take}
+use Rattle.std.specs.Prelude.{◌≡◌, ℕ, ◌-◌, ◌≤◌, ◌<◌, bit_or, List, Option, Some, None, drop, filter, map, option_and_then, option_map, slice_get, slice_index, take}
 use Rattle.std.specs.Int.{next_multiple_of}
 use Rattle.std.specs.List.{enumerate_from}
 use Rattle.std.specs.Option.{option_map_or}

@@ -1,5 +1,5 @@
 -- Laws on what a layout answers: statements that functions of their own prove.
-use Rattle.std.specs.Prelude.{ℕ, ◌<◌, ◌^◌, Ok}
+use Rattle.std.specs.Prelude.{◌<◌, ◌^◌, Ok}
 use Rattle.lk_link.specs.declared.link.LinkInput.{LinkInput}
 use Rattle.lk_layout.specs.Defined.{IsDefined}
 use Rattle.lk_layout.specs.LayoutRecord.{LayoutRecord}

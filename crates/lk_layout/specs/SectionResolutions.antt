@@ -1,5 +1,5 @@
 -- Where the input sections of a file stand.
-use Rattle.std.specs.Prelude.{ℕ, ◌==◌, ◌-◌, ◌^◌, Bool, if◌then◌else◌, List, None, Option, Some, map, slice_index}
+use Rattle.std.specs.Prelude.{ℕ, ◌==◌, Bool, if◌then◌else◌, List, None, Option, Some, map, slice_index}
 use Rattle.std.specs.List.{range_with_len}
 use Rattle.lk_link.specs.declared.resolution.Resolution.{Resolution}
 use Rattle.lk_link.specs.Marks.{is_marked}

@@ -4,6 +4,7 @@ use Rattle.std.specs.Int.{◌∣◌, abs_diff}
 use Rattle.std.specs.Option.{ForSome}
 use Rattle.lk_link.specs.declared.file.FileKind.{FileKind}
 use Rattle.lk_link.specs.declared.file.InputFile.{InputFile}
+use Rattle.lk_link.specs.declared.flags.TheConstants.ValueFlags as flag
 use Rattle.lk_link.specs.declared.ids.FileId.{FileId}
 use Rattle.lk_link.specs.declared.link.LinkInput.{LinkInput}
 use Rattle.lk_link.specs.declared.plan.attributes.TheConstants.{EXEC}
@@ -16,6 +17,7 @@ use Rattle.lk_link.specs.declared.symbol.SymbolPlacement.{SymbolPlacement}
 use Rattle.lk_link.specs.declared.symbol.SymbolPlacement.TheVariants as at
 use Rattle.lk_link.specs.FileKinds.{is_internal, is_object}
 use Rattle.lk_link.specs.Files.{file_in}
+use Rattle.lk_link.specs.Flags.{has_flag}
 use Rattle.lk_link.specs.Inputs.{Input, NumberedFile, all_inputs, input_number}
 use Rattle.lk_link.specs.InputSlots.{is_merge, is_regular}
 use Rattle.lk_link.specs.Marks.{is_marked}
@@ -63,6 +65,7 @@ use Rattle.lk_tables.specs.SymbolEntries.{is_resolved}
 use Rattle.lk_layout.specs.LayoutRecord.{LayoutRecord}
 use Rattle.lk_values.specs.Starts.{starts_of}
 use Rattle.lk_layout.specs.Defined.{layout_of}
+use Rattle.lk_layout.specs.GroupPlaces.{GroupsBegin}
 use Rattle.lk_layout.specs.Layouts.{emitted_count, thunk_address, told_live, told_singletons}
 use Rattle.lk_values.specs.Outside.{merge_offsets}
 use Rattle.lk_values.specs.Resolutions.{resolution_at}
@@ -367,13 +370,26 @@ told_place made layout id (at.Section i offset) =
 told_place made layout id (at.Absolute n) = Some n
 told_place made layout id _ = None
 
--- a candidate of an input section, with the section's number, is within its limit: what stands for its symbol stands no further than that from
--- where the candidate does; and that is its value, if it has one
+-- a symbol placed so in a file has a position: it is absolute, or stands in a section that is live, neither debug data nor merged, and not put in
+-- order by its name
+abbrev pub HasPosition : LinkInput → List Bool → FileId → SymbolPlacement → Type 0
+HasPosition link marks id (at.Section i offset) = (x : Input) × (slice_get (all_inputs link.groups) (input_number link.groups id i) ≡ Some x)
+    × (has_position (is_marked marks (input_number link.groups id i)) x.section ≡ true)
+HasPosition link marks id (at.Absolute n) = Unit {0}
+HasPosition link marks id _ = ⊥
+
+-- a candidate of an input section, with the section's number, is within its limit: nothing may take the place of what stands for its symbol, by
+-- the flags that are told; that has a position, no further than the limit from where the candidate stands; and that is its value, if it has one
 pub record IsWithinLimit (made : Made) (layout : LayoutRecord) (k : ℕ) (x : Input) (c : RelaxCandidate) : Type 0 where
   pub definition : ℕ
   pub stands_for : definition_of made.link.groups (first_symbol made.link.groups x.file + c.symbol) ≡ Some definition
+  pub file : NumberedFile
+  pub symbol : InputSymbol
+  pub named : numbered_symbol made.link.groups definition ≡ Some (file, symbol)
+  pub own : has_flag flag.INTERPOSABLE.0 (flags_at layout.flags definition).0 ≡ false
+  pub position : HasPosition made.link layout.live_marks file.id symbol.at
   pub place : ℕ
-  pub at : option_and_then (λ q. told_place made layout q.0.id q.1.at) (numbered_symbol made.link.groups definition) ≡ Some place
+  pub at : told_place made layout file.id symbol.at ≡ Some place
   pub near : abs_diff place (slice_index layout.section_addresses k + output_offset made.link.groups layout.section_deletions x.file x.index c.at) ≤ c.limit
   pub valued : (value : ℕ) → value_at layout.symbol_resolutions definition ≡ Some value → value ≡ place
 
@@ -439,7 +455,7 @@ pub record PlacementStands (made : Made) : Type 0 where
 -- show what they choose; symbols have resolutions, with their flags, exactly where they are wanted and worth anything; each symbol of an
 -- object that is asked for stands for a place in a live section, at its address, or in merged data, or for a number, or is a common, at the address
 -- of its bytes in a part; each of the linker's own stands at its edge, and each redirect is worth its expression; tables stand alone in their
--- parts, and what a resolution tells of entries is its symbol's own; the thunks of each block that has an owner stand with it in the primary part, with a range for each definition, and each live branch whose target is known is
+-- parts, what a resolution tells of entries is its symbol's own, and groups begin there behind the entries of those before; the thunks of each block that has an owner stand with it in the primary part, with a range for each definition, and each live branch whose target is known is
 -- near it or the thunk by which it may go; sections lose nothing but bytes of their candidates, and each deleted one is within its limit by the
 -- addresses that are told; sorted sections stand last in their parts, by name, and are told so; singletons stand behind the emitted sections; no
 -- section that is allocated stands outside the segments where it may not; each byte of a part has one owner; no two parts share a byte of the
@@ -465,6 +481,7 @@ pub record IsSound (made : Made) (layout : LayoutRecord) : Type 0 where
   pub redirects : RedirectsStand made layout
   pub alone : TablesStandAlone (made_filling made)
   pub entries : EntriesStand made layout
+  pub grouped : GroupsBegin made layout
   pub thunks : ThunksStand made layout
   pub reaching : LiveBranchesReach (told_branching made layout)
   pub shrunk : SectionsShrink made layout

@@ -3,7 +3,8 @@
 //! Each stage looks at what the ones before it made, and none goes back: what is merged, what is live, what the live sections bring to
 //! each part, where the parts stand and what relaxation deletes, and at last which sections and segments are told, what those span, the address of each live
 //! section and what each symbol stands for. A stage that refuses ends the computation, so that the answer is the first refusal in
-//! this order, or the layout.
+//! this order, or the layout. A stage finds on what it borrows, and then moves what it got on, or drops it by
+//! name: where a function that owns so much leaves that to its end, the prover follows each of its fields there, for minutes.
 
 ghost use Rattle.std.specs.Prelude.{◌≤◌, ℕ};
 ghost use Rattle.lk_layout.specs.Defined.{Gives};
@@ -12,7 +13,7 @@ ghost use Rattle.lk_layout.specs.Stages.{IsAddressedLink, IsChecked, IsKept, IsM
 
 use crate::error::LayoutError;
 use crate::found::{
-    check_deleted, found_addresses, found_first, found_places, found_sizes, found_spans, found_told,
+    found_addresses, found_first, found_reaching, found_sizes, found_spans, found_told,
 };
 use crate::headers::header_bytes;
 use crate::images::merge_images;
@@ -156,12 +157,17 @@ fn span<'data, P: Platform, A: Arch>(
     ensures { Reaches (platform_machine (P.segment_start platform.now) (P.table_sizes platform.now) (A.config_of arch.now)) link.now
         (IsSpannedLink (platform_machine (P.segment_start platform.now) (P.table_sizes platform.now) (A.config_of arch.now)) link.now) result }
 {
-    let (joined, segments) = found_spans(alloc, link, platform, arch, &placed)?;
-    Ok(SpannedLink {
-        placed,
-        joined,
-        segments,
-    })
+    match found_spans(alloc, link, platform, arch, &placed) {
+        Ok((joined, segments)) => Ok(SpannedLink {
+            placed,
+            joined,
+            segments,
+        }),
+        Err(error) => {
+            drop(placed);
+            Err(error)
+        }
+    }
 }
 
 /// Finds the addresses of what stands in the parts, and what symbols stand for.
@@ -176,8 +182,13 @@ fn address<'data, P: Platform, A: Arch>(
     ensures { Reaches (platform_machine (P.segment_start platform.now) (P.table_sizes platform.now) (A.config_of arch.now)) link.now
         (IsAddressedLink (platform_machine (P.segment_start platform.now) (P.table_sizes platform.now) (A.config_of arch.now)) link.now) result }
 {
-    let addresses = found_addresses(alloc, link, platform, arch, &spanned)?;
-    Ok(AddressedLink { spanned, addresses })
+    match found_addresses(alloc, link, platform, arch, &spanned) {
+        Ok(addresses) => Ok(AddressedLink { spanned, addresses }),
+        Err(error) => {
+            drop(spanned);
+            Err(error)
+        }
+    }
 }
 
 /// Finds where the thunks of each block begin, and looks at branches, and then at what relaxation deleted.
@@ -192,9 +203,13 @@ fn reach<'data, P: Platform, A: Arch>(
     ensures { Reaches (platform_machine (P.segment_start platform.now) (P.table_sizes platform.now) (A.config_of arch.now)) link.now
         (IsReachingLink (platform_machine (P.segment_start platform.now) (P.table_sizes platform.now) (A.config_of arch.now)) link.now) result }
 {
-    let places = found_places(alloc, link, platform, arch, &addressed)?;
-    check_deleted(alloc, link, platform, arch, &addressed.spanned.placed)?;
-    Ok(ReachingLink { addressed, places })
+    match found_reaching(alloc, link, platform, arch, &addressed) {
+        Ok(places) => Ok(ReachingLink { addressed, places }),
+        Err(error) => {
+            drop(addressed);
+            Err(error)
+        }
+    }
 }
 
 /// Finds what is told beside that: attributes, what is known of output that is linked again, the owners of blocks, and where groups begin
@@ -210,16 +225,19 @@ fn tell<'data, P: Platform, A: Arch>(
     ensures { Reaches (platform_machine (P.segment_start platform.now) (P.table_sizes platform.now) (A.config_of arch.now)) link.now
         (IsToldLink (platform_machine (P.segment_start platform.now) (P.table_sizes platform.now) (A.config_of arch.now)) link.now) result }
 {
-    let (attributes, partial_link, block_owners, group_starts) = found_told(
-        alloc, link, platform, arch, &reaching,
-    )?;
-    Ok(ToldLink {
-        reaching,
-        attributes,
-        partial_link,
-        block_owners,
-        group_starts,
-    })
+    match found_told(alloc, link, platform, arch, &reaching) {
+        Ok((attributes, partial_link, block_owners, group_starts)) => Ok(ToldLink {
+            reaching,
+            attributes,
+            partial_link,
+            block_owners,
+            group_starts,
+        }),
+        Err(error) => {
+            drop(reaching);
+            Err(error)
+        }
+    }
 }
 
 /// The layout of a link: the defined answer, unless memory runs out (libwild: `layout::compute`). With 0 or 1 workers it

@@ -118,7 +118,7 @@ impl<'data> Layout<'data> {
 
     /// Tells anew what sections span with their secondaries and what segments span, by the records that sections have now, in this kind
     /// of file (libwild: `refresh_file_layouts`). No call changes the memory of a section, so what is made anew spans the memory that it
-    /// spanned; no contract says that. Where memory runs out, the layout is as it was; nothing else is refused. Takes as long as `merge_secondary_parts` and `compute_segment_layout`.
+    /// spanned, by a law (`memory_stays`). Where memory runs out, the layout is as it was; nothing else is refused. Takes as long as `merge_secondary_parts` and `compute_segment_layout`.
     pub fn refresh_file_layouts(
         &mut self,
         alloc: Global,

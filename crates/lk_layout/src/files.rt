@@ -1,17 +1,21 @@
 //! What is told of files: lent by a layout and its link, and made when it is asked for.
 
-ghost use Rattle.std.specs.Prelude.{◌≡◌, IsSome, MatchOption, None, Some, drop, option_map};
+ghost use Rattle.std.specs.Prelude.{◌≡◌, IsSome, MatchOption, None, Some, drop, option_map, slice_get};
+ghost use Rattle.std.specs.Option.{option_copied};
 ghost use Rattle.std.specs.Fmt.{DisplaysOnOk};
 ghost use Rattle.lk_gc.specs.StateTexts.{placed_name};
 ghost use Rattle.lk_link.specs.Files.{file_in};
 ghost use Rattle.lk_link.specs.Inputs.{first_input};
-ghost use Rattle.lk_layout.specs.Files.{IsFileLayout, IsLayoutBy, IsPreludeLayout};
+ghost use Rattle.lk_link.specs.Symbols.{file_number};
+ghost use Rattle.lk_layout.specs.Files.{IsFileLayout, IsLayoutBy, IsObjectLayout, IsPreludeLayout};
 ghost use Rattle.lk_layout.specs.SectionResolutions.{resolutions_of};
 
 use crate::layout::Layout;
 use crate::section_resolution::SectionResolutions;
-use lk_link::{FileId, FileKind, InputFile, SymbolId, SymbolIdRange, Text};
+use lk_link::{FileId, FileKind, InputFile, InputSection, SymbolId, SymbolIdRange, Text};
+use lk_relax::RelaxDeltaMap;
 use lk_sizes::HeaderInfo;
+use lk_thunks::ThunkBlockId;
 use std::fmt;
 
 /// The linker's own file (libwild: `PreludeLayout`).
@@ -31,8 +35,16 @@ pub struct ObjectLayout<'a> {
     pub file_id: FileId,
     pub symbol_id_range: SymbolIdRange,
     pub name: &'a str,
+    /// Its sections, as the description has them.
+    pub sections: &'a [InputSection],
     /// Where its sections stand, by index.
     pub section_resolutions: SectionResolutions<'a>,
+    /// What is deleted of its sections, by index; with none, nothing is.
+    pub section_relax_deltas: Option<&'a RelaxDeltaMap>,
+    /// The block by whose thunks its branches may go; `ThunkBlockId::FIRST` where it needs none.
+    pub thunk_block_id: ThunkBlockId,
+    /// Whether the thunks of that block stand behind its bytes; never where it needs none.
+    pub owns_thunk_block: bool,
 }
 
 /// A shared object (libwild: `DynamicLayout`).
@@ -163,6 +175,40 @@ impl<'data> Layout<'data> {
         }
     }
 
+    /// What is told of an object with this number, whose symbols have these numbers, and whose first section has this one.
+    fn object_by(
+        &self,
+        id: FileId,
+        file: &'data InputFile,
+        symbol_id_range: SymbolIdRange,
+        first: usize,
+    ) -> ObjectLayout<'_>
+        requires there { file_in self.now.link.groups id ≡ Some file.now }
+        requires first { first ≡ first_input self.now.link.groups id }
+        ensures { IsObjectLayout self.now id file.now symbol_id_range result }
+    {
+        let (thunk_block_id, owns_thunk_block) = self.thunk_users.block_for(id);
+        ObjectLayout {
+            file_id: id,
+            symbol_id_range,
+            name: file.name.as_str(),
+            sections: file.sections.as_slice(),
+            section_resolutions: self.resolutions_from(first, file.sections.len()),
+            section_relax_deltas: self.deletions_of(id),
+            thunk_block_id,
+            owns_thunk_block,
+        }
+    }
+
+    /// What is deleted of the sections of a file with this number, if anything is told of it.
+    fn deletions_of(&self, id: FileId) -> Option<&RelaxDeltaMap>
+        requires there { IsSome (file_in self.now.link.groups id) }
+        ensures { option_copied result ≡ slice_get self.now.section_deletions (file_number self.now.link.groups id) }
+    {
+        let number = self.link.groups.file_number(id)?;
+        self.section_deletions.get(number)
+    }
+
     /// What is told of a file with this number, whose symbols have these numbers, and whose first section has this one.
     fn layout_by(
         &self,
@@ -171,18 +217,16 @@ impl<'data> Layout<'data> {
         symbol_id_range: SymbolIdRange,
         first: usize,
     ) -> FileLayout<'_>
+        requires there { file_in self.now.link.groups id ≡ Some file.now }
         requires first { first ≡ first_input self.now.link.groups id }
         ensures { IsLayoutBy self.now id file.now symbol_id_range result }
     {
         let name = file.name.as_str();
         match file.kind {
             FileKind::Prelude => FileLayout::Prelude(self.prelude()),
-            FileKind::Object => FileLayout::Object(ObjectLayout {
-                file_id: id,
-                symbol_id_range,
-                name,
-                section_resolutions: self.resolutions_from(first, file.sections.len()),
-            }),
+            FileKind::Object => {
+                FileLayout::Object(self.object_by(id, file, symbol_id_range, first))
+            }
             FileKind::Dynamic => FileLayout::Dynamic(DynamicLayout {
                 file_id: id,
                 symbol_id_range,
@@ -212,7 +256,7 @@ impl<'data> Layout<'data> {
         Some(self.layout_by(id, file, symbol_id_range, first))
     }
 
-    /// What is told of a file of the link. Takes constant time and no memory.
+    /// What is told of a file of the link. Takes logarithmic time in the objects that need thunks, and no memory.
     pub fn file_layout(&self, id: FileId) -> FileLayout<'_>
         requires there { IsSome (file_in self.now.link.groups id) }
         ensures { IsFileLayout self.now id result }

@@ -139,7 +139,7 @@ pub(crate) fn found_addresses<P: Platform, A: Arch>(
 }
 
 /// Finds where the thunks of each block begin, and looks at branches.
-pub(crate) fn found_places<P: Platform, A: Arch>(
+fn found_places<P: Platform, A: Arch>(
     alloc: Global,
     link: &LinkInput,
     _platform: &P,
@@ -168,7 +168,7 @@ pub(crate) fn found_places<P: Platform, A: Arch>(
 }
 
 /// Looks at the candidates that relaxation deleted, by final addresses, if there are any.
-pub(crate) fn check_deleted<P: Platform, A: Arch>(
+fn check_deleted<P: Platform, A: Arch>(
     alloc: Global,
     link: &LinkInput,
     _platform: &P,
@@ -204,6 +204,23 @@ pub(crate) fn check_deleted<P: Platform, A: Arch>(
         deltas,
     )?;
     Ok(())
+}
+
+/// Finds where the thunks of each block begin, and looks at branches, and then at what relaxation deleted.
+pub(crate) fn found_reaching<P: Platform, A: Arch>(
+    alloc: Global,
+    link: &LinkInput,
+    platform: &P,
+    arch: &A,
+    addressed: &AddressedLink<'_>,
+) -> Result<List<Option<u64>>, LayoutError>
+    requires addressed { IsAddressedLink (platform_machine (P.segment_start platform.now) (P.table_sizes platform.now) (A.config_of arch.now)) link.now addressed.now }
+    ensures { Reaches (platform_machine (P.segment_start platform.now) (P.table_sizes platform.now) (A.config_of arch.now)) link.now
+        (λ q. IsReachingLink (platform_machine (P.segment_start platform.now) (P.table_sizes platform.now) (A.config_of arch.now)) link.now (record { addressed = addressed.now; places = q })) result }
+{
+    let places = found_places(alloc, link, platform, arch, addressed)?;
+    check_deleted(alloc, link, platform, arch, &addressed.spanned.placed)?;
+    Ok(places)
 }
 
 /// Finds what is told beside that: attributes, what is known of output that is linked again, the owners of blocks, and where

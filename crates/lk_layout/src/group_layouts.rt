@@ -6,7 +6,8 @@ ghost use Rattle.std.specs.Option.{option_map_or};
 ghost use Rattle.lk_layout.specs.declared.files.FileLayout.TheVariants.{Epilogue};
 ghost use Rattle.lk_layout.specs.Groups.{IsGroup};
 ghost use Rattle.lk_layout.specs.Files.{IsEpilogueFile, IsFileLayout, IsGroupFile};
-ghost use Rattle.lk_layout.specs.FileTexts.{file_count_in, files_name, layout_name, only_name_in};
+ghost use Rattle.lk_gc.specs.StateTexts.{files_name};
+ghost use Rattle.lk_layout.specs.FileTexts.{file_count_in, layout_name, only_name_in};
 
 use crate::files::{EpilogueLayout, FileLayout};
 use crate::layout::Layout;
@@ -59,7 +60,8 @@ impl<'a, 'data> GroupFiles<'a, 'data> {
         }
     }
 
-    /// What is told of the file with this number in the group, if there is one. Takes constant time.
+    /// What is told of the file with this number in the group, if there is one. Takes logarithmic time in the objects that need
+    /// thunks.
     pub fn get(&self, file: u32) -> Option<FileLayout<'a>>
         ensures { IsGroupFile self.now.layout.now self.now.group file result }
     {

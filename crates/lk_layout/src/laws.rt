@@ -3,6 +3,7 @@
 ghost use Rattle.lk_layout.specs.Laws.{DefinedAnswerExists, DefinedAnswerIsOne, LaidOutLinksAreWellFormed};
 ghost use Rattle.lk_layout.specs.Laws.{DefinedLayoutsAreSound, LaidOutMemoryIsDisjoint, LaidOutSectionsAreApart, ResolvedSectionsAreLive};
 ghost use Rattle.lk_layout.specs.Machines.{IsLawfulMachine, small64_machine};
+ghost use Rattle.lk_layout.specs.ToldMemory.{MemoryStays};
 
 use lk_branches::laws::{branches_reach, thunks_have_ranges};
 use lk_check::well_formed_exactly_unfaulted;
@@ -103,3 +104,12 @@ pub fn laid_out_sections_are_apart()
 pub fn resolved_sections_are_live()
     ensures { ResolvedSectionsAreLive }
 {}
+
+/// A law: where sections are moved in the file, and where segments and sections with their secondaries are told anew, all that is told
+/// of memory stays: where each record starts there, and how many bytes it spans.
+pub fn memory_stays()
+    ensures { MemoryStays }
+{
+    well_formed_exactly_unfaulted();
+    relaxed_stands();
+}

@@ -5,6 +5,7 @@ ghost use Rattle.std.specs.List.{slice_index_or};
 ghost use Rattle.lk_layout.specs.Layouts.{resolved_entry, thunk_address, thunk_count};
 
 use crate::group_starts::GroupStarts;
+use crate::thunk_users::ThunkUsers;
 use lk_link::ValueFlags;
 use lk_link::ids::{FileId, SymbolId};
 use lk_link::link::LinkInput;
@@ -41,7 +42,7 @@ pub struct Layout<'data> {
     pub(crate) thunk_blocks: List<ThunkBlock>,
     pub(crate) thunk_block_owners: List<Option<FileId>>,
     pub(crate) thunk_block_addresses: List<Option<u64>>,
-    pub(crate) thunk_users: List<(FileId, ThunkBlockId, bool)>,
+    pub(crate) thunk_users: ThunkUsers,
     pub(crate) thunk_size: u64,
     pub(crate) dynsym_start_index: u32,
     pub(crate) group_starts: GroupStarts,

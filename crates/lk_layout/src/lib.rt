@@ -21,6 +21,7 @@ mod redirects;
 mod references;
 pub mod section_resolution;
 mod stages;
+mod thunk_users;
 
 pub use crate::computation::{compute, compute_alone};
 pub use crate::error::{LayoutError, ReachKind};

@@ -10,6 +10,7 @@ ghost use Rattle.lk_layout.specs.Stages.{IsToldLink, made_told};
 use crate::group_starts::GroupStarts;
 use crate::late_marks::with_late_marks;
 use crate::layout::Layout;
+use crate::thunk_users::ThunkUsers;
 use lk_branches::ThunkPlan;
 use lk_gc::Live;
 use lk_link::ids::FileId;
@@ -125,7 +126,7 @@ impl<'data> ToldLink<'data> {
             thunk_blocks: plan.blocks,
             thunk_block_owners: self.block_owners,
             thunk_block_addresses: reaching.places,
-            thunk_users: plan.users,
+            thunk_users: ThunkUsers::new(plan.users),
             thunk_size: size_of(plan.config),
             dynsym_start_index,
             group_starts: self.group_starts,

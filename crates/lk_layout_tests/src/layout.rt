@@ -362,7 +362,9 @@ fn told_layout<R: Threads + Wait + Sync, G: Gate + Sync>(
     requires { 2 ≤ workers → G.may_enter gate.now }
 {
     let answer = compute(rt, alloc, link, &Small64, &Small64Arch, workers, gate);
-    told_answer(alloc, link, &answer)
+    let told = told_answer(alloc, link, &answer);
+    drop(answer);
+    told
 }
 
 /// Adds the reports that workers make.

@@ -179,7 +179,9 @@ fn add_answers(
     link: &LinkInput,
 ) -> Result<(), AllocError> {
     let answer = compute_alone(alloc, link, &Small64, &Small64Arch);
-    add_answer(alloc, line, asked, number, &answer)
+    let added = add_answer(alloc, line, asked, number, &answer);
+    drop(answer);
+    added
 }
 
 /// Adds what the layout of a description tells, behind which stands a number.

@@ -9,8 +9,8 @@ use crate::rows::{Asked, expect_rows};
 use crate::shown::Shown;
 use lk_check::check_link;
 use lk_gc::{
-    EpilogueLayoutState, ExportSymbolsMode, FileLayoutState, GcError, Live, LocalWorkQueue,
-    SymbolRequestHandler, can_export_global_def, export_symbols_mode, traverse,
+    EpilogueLayoutState, ExportSymbolsMode, FileLayoutState, GcError, GroupState, Live,
+    LocalWorkQueue, SymbolRequestHandler, can_export_global_def, export_symbols_mode, traverse,
 };
 use lk_link::{FileId, InputSymbol, LinkInput, NoGate, SymbolId};
 use lk_test_rows::add;
@@ -19,15 +19,21 @@ use std::sync::Wait;
 use std::test::Fail;
 use std::thread::Threads;
 
-/// What each file is called, and what waits once each of its symbols that stand for themselves is loaded: of the prelude and of
+/// What each file and each group is called, and what waits once each symbol of a file that stands for itself is loaded: of the prelude and of
 /// dynamic files nothing, of an object the section, of a script a redirect's symbols and what is exported, of a synthetic file
 /// the candidates. Files that aren't loaded, and the epilogue, load nothing.
 const LOADS: &str = r#"
 @ {"plan":{"page":16,"sections":[{"attrs":1,"parts":[[1,false]]},{"attrs":1,"parts":[[1,false]]}],"events":[["sec",0],["sec",1]]},"groups":[[{"kind":"prelude","symbols":[{"at":["redirect",["sym",1],["none"],false],"name":"p"}]}],[...]]}
-{"kind":"object","name":"a.o","symbols":[{"at":["sec",1,0]},{"at":["undef"],"def":1},{"at":["common",0,4]},{"at":["abs",7]}],"sections":[{"slot":"unloaded"},{"slot":"unloaded","size":4}]} => <prelude> loads [] a.o (1.0) loads [LoadGcUnit(GcLoadRequest { file_id: FileId { group: 1, file: 0 }, gc_unit: SectionGcUnit { index: 1 } })] loads [] loads [] <epilogue>
-{"kind":"notloaded","name":"n"},{"kind":"dynamic","name":"c.so","symbols":[{"at":["dyn"],"name":"f"},{"at":["undef"],"def":1}]} => <prelude> loads [] <not-loaded> c.so (1.1) loads [] <epilogue>
-{"kind":"script","name":"s.ld","symbols":[{"at":["redirect",["add",["sym",2],["sym",4]],["start",0],true],"name":"r"},{"at":["start",0],"name":"e"},{"at":["redirect",["sym",3],["end",1],false],"name":"h","hidden":true},{"at":["end",0]},{"at":["undefined"],"name":"u"}]} => <prelude> loads [] s.ld loads [LoadGlobalSymbol(SymbolId { number: 1 }), LoadGlobalSymbol(SymbolId { number: 2 }), LoadGlobalSymbol(SymbolId { number: 4 }), ExportDynamic(SymbolId { number: 1 })] loads [ExportDynamic(SymbolId { number: 2 })] loads [LoadGlobalSymbol(SymbolId { number: 3 }), LoadGlobalSymbol(SymbolId { number: 3 })] loads [] loads [ExportDynamic(SymbolId { number: 5 })] <epilogue>
-{"kind":"synthetic","name":"x","symbols":[{"at":["start",0]},{"at":["end",1]},{"at":["groupend",0]},{"at":["tlsend"]},{"at":["start",1],"def":1}],"candidates":[[0,1,1,0],[1,1,1,1],[0,1,1,1]]},{"kind":"object","name":"b.o","sections":[{"slot":"unloaded"},{"slot":"must"}]} => <prelude> loads [] <synthetic> loads [LoadGcUnit(GcLoadRequest { file_id: FileId { group: 1, file: 1 }, gc_unit: SectionGcUnit { index: 0 } }), LoadGcUnit(GcLoadRequest { file_id: FileId { group: 1, file: 1 }, gc_unit: SectionGcUnit { index: 1 } })] loads [LoadGcUnit(GcLoadRequest { file_id: FileId { group: 1, file: 1 }, gc_unit: SectionGcUnit { index: 1 } })] loads [LoadGcUnit(GcLoadRequest { file_id: FileId { group: 1, file: 1 }, gc_unit: SectionGcUnit { index: 0 } }), LoadGcUnit(GcLoadRequest { file_id: FileId { group: 1, file: 1 }, gc_unit: SectionGcUnit { index: 1 } })] loads [] b.o (1.1) <epilogue>
+{"kind":"object","name":"a.o","symbols":[{"at":["sec",1,0]},{"at":["undef"],"def":1},{"at":["common",0,4]},{"at":["abs",7]}],"sections":[{"slot":"unloaded"},{"slot":"unloaded","size":4}]} => <prelude> loads [] a.o (1.0) loads [LoadGcUnit(GcLoadRequest { file_id: FileId { group: 1, file: 0 }, gc_unit: SectionGcUnit { index: 1 } })] loads [] loads [] <epilogue> group <prelude> group a.o (1.0)
+{"kind":"notloaded","name":"n"},{"kind":"dynamic","name":"c.so","symbols":[{"at":["dyn"],"name":"f"},{"at":["undef"],"def":1}]} => <prelude> loads [] <not-loaded> c.so (1.1) loads [] <epilogue> group <prelude> group Group with 2 files. Rerun with WILD_FILES_PER_GROUP=1
+{"kind":"script","name":"s.ld","symbols":[{"at":["redirect",["add",["sym",2],["sym",4]],["start",0],true],"name":"r"},{"at":["start",0],"name":"e"},{"at":["redirect",["sym",3],["end",1],false],"name":"h","hidden":true},{"at":["end",0]},{"at":["undefined"],"name":"u"}]} => <prelude> loads [] s.ld loads [LoadGlobalSymbol(SymbolId { number: 1 }), LoadGlobalSymbol(SymbolId { number: 2 }), LoadGlobalSymbol(SymbolId { number: 4 }), ExportDynamic(SymbolId { number: 1 })] loads [ExportDynamic(SymbolId { number: 2 })] loads [LoadGlobalSymbol(SymbolId { number: 3 }), LoadGlobalSymbol(SymbolId { number: 3 })] loads [] loads [ExportDynamic(SymbolId { number: 5 })] <epilogue> group <prelude> group s.ld
+{"kind":"synthetic","name":"x","symbols":[{"at":["start",0]},{"at":["end",1]},{"at":["groupend",0]},{"at":["tlsend"]},{"at":["start",1],"def":1}],"candidates":[[0,1,1,0],[1,1,1,1],[0,1,1,1]]},{"kind":"object","name":"b.o","sections":[{"slot":"unloaded"},{"slot":"must"}]} => <prelude> loads [] <synthetic> loads [LoadGcUnit(GcLoadRequest { file_id: FileId { group: 1, file: 1 }, gc_unit: SectionGcUnit { index: 0 } }), LoadGcUnit(GcLoadRequest { file_id: FileId { group: 1, file: 1 }, gc_unit: SectionGcUnit { index: 1 } })] loads [LoadGcUnit(GcLoadRequest { file_id: FileId { group: 1, file: 1 }, gc_unit: SectionGcUnit { index: 1 } })] loads [LoadGcUnit(GcLoadRequest { file_id: FileId { group: 1, file: 1 }, gc_unit: SectionGcUnit { index: 0 } }), LoadGcUnit(GcLoadRequest { file_id: FileId { group: 1, file: 1 }, gc_unit: SectionGcUnit { index: 1 } })] loads [] b.o (1.1) <epilogue> group <prelude> group Group with 2 files. Rerun with WILD_FILES_PER_GROUP=1
+@ {"plan":{"page":16},"groups":[[{"kind":"prelude"}],[...]]}
+{"kind":"notloaded","name":"n"} => <prelude> <not-loaded> <epilogue> group <prelude> group <not-loaded>
+{"kind":"dynamic","name":"c.so"} => <prelude> c.so (1.0) <epilogue> group <prelude> group c.so (1.0)
+{"kind":"synthetic","name":"x"} => <prelude> <synthetic> <epilogue> group <prelude> group <synthetic>
+@ {"plan":{"page":16},"groups":[[{"kind":"prelude"}],[]],"options":{...}}
+"output":"static" => <prelude> <epilogue> group <prelude> group Group with 0 files. Rerun with WILD_FILES_PER_GROUP=1
 "#;
 
 /// In which mode each of three files exports: the prelude, a file that is out of no archive, and one out of an archive, its
@@ -151,7 +157,15 @@ fn add_file(
     }
 }
 
-/// Adds the same of the first files of two groups of a link that is well formed, and behind them the epilogue.
+/// Adds what a group is called.
+fn add_group_name(line: &mut String, link: &LinkInput, group: u32) -> Result<(), AllocError> {
+    match GroupState::of_group(link, group) {
+        Some(state) => write!(line, " group {state}"),
+        None => Ok(()),
+    }
+}
+
+/// Adds the same of the first files of two groups of a link that is well formed, behind them the epilogue, and what the groups are called.
 pub fn add_states(alloc: Global, line: &mut String, link: &LinkInput) -> Result<(), AllocError> {
     if check_link(link).is_err() {
         return Ok(());
@@ -162,7 +176,11 @@ pub fn add_states(alloc: Global, line: &mut String, link: &LinkInput) -> Result<
         }
     }
     let behind = FileLayoutState::Epilogue(EpilogueLayoutState {});
-    write!(line, " {behind}")
+    write!(line, " {behind}")?;
+    for group in 0..3 {
+        add_group_name(line, link, group)?;
+    }
+    Ok(())
 }
 
 /// Adds the name of a symbol, and in which modes it can be exported.

@@ -14,15 +14,19 @@ use Rattle.lk_expressions.specs.Records.{Record}
 use Rattle.lk_place.specs.declared.cursors.Cursors.{Cursors}
 use Rattle.lk_place.specs.declared.error.PlaceError.{PlaceError}
 use Rattle.lk_place.specs.declared.error.PlaceError.TheVariants.{NoMemory}
+use Rattle.lk_place.specs.declared.walk.Placed.{Placed}
 use Rattle.lk_place.specs.Answers.{ArePlaced, IsRefused}
 use Rattle.lk_sizes.specs.declared.error.SizeError.{SizeError}
 use Rattle.lk_sizes.specs.declared.error.SizeError.TheVariants.{AddressOverflow}
-use Rattle.lk_sizes.specs.Owners.{AreThunkOwners}
+use Rattle.lk_sizes.specs.Owners.{AreThunkOwners, Filling}
 use Rattle.lk_sizes.specs.OwnersRecord.{OwnersRecord}
 use Rattle.lk_sizes.specs.Sizing.{AreFilled}
 use Rattle.lk_relaxing.specs.declared.passes.InHand.{InHand}
 use Rattle.lk_relaxing.specs.declared.passes.Passed.{Passed}
 use Rattle.lk_relaxing.specs.declared.passes.Shrunk.{Shrunk}
+use Rattle.lk_relaxing.specs.declared.relaxation.Begun.{Begun}
+use Rattle.lk_relaxing.specs.declared.relaxation.Begun.TheVariants as begun
+use Rattle.lk_relaxing.specs.declared.relaxation.Looks.{Looks}
 use Rattle.lk_relaxing.specs.declared.relaxation.Places.{Places}
 use Rattle.lk_relaxing.specs.declared.relaxation.RelaxedParts.{RelaxedParts}
 use Rattle.lk_relaxing.specs.declared.relaxation.Turned.{Turned}
@@ -30,7 +34,7 @@ use Rattle.lk_relaxing.specs.declared.relaxation.Turned.TheVariants.{Last, Next}
 use Rattle.lk_relaxing.specs.LinkDeletions.{Deletions, sizes_after}
 use Rattle.lk_relaxing.specs.PassWords.{AreWhole, StandOnce}
 use Rattle.lk_relaxing.specs.Positions.{has_position, section_positions, symbol_positions}
-use Rattle.lk_relaxing.specs.RelaxedLaws.{IsShrunk}
+use Rattle.lk_relaxing.specs.RelaxedLaws.{IsShrunk, nothing_deleted}
 use Rattle.lk_relaxing.specs.Stages.{IsPass, IsRelaxed, LeadsTo, Relaxing, Stage, fall_of, filling_after, is_near, link_of, refusal_of, setting_after, shrink_pass}
 
 -- a stage whose placement goes by all that is deleted
@@ -156,6 +160,32 @@ first_sections link live =
     if link.options.relax
     then map (λ q. (q.1.file, q.1.index)) (filter (λ q. can_shrink_by live.marks (q.0, q.1.section)) (enumerate_from 0 (all_inputs link.groups)))
     else []
+
+-- ---- how relaxation begins
+
+-- what the first pass over a filling goes by, where nothing is deleted
+pub record AreLooks (filling : Filling) (looks : Looks) : Type 0 where
+  pub deltas : looks.deltas.items ≡ nothing_deleted filling.content.link
+  pub scan : looks.scan.items ≡ first_sections filling.content.link filling.content.live
+  pub sections : looks.sections.items ≡ section_positions filling
+  pub symbols : looks.symbols ≡ symbol_positions filling.content.link.groups looks.deltas.items looks.sections.items
+
+-- relaxation begins so: there is nothing to look at, or this
+abbrev pub HasBegun : Filling → Begun → Type 0
+HasBegun filling (begun.Ended deltas) =
+    (deltas.items ≡ nothing_deleted filling.content.link) × (length (first_sections filling.content.link filling.content.live) ≡ 0)
+HasBegun filling (begun.Looks looks) = AreLooks filling looks
+
+-- what is in hand for it, with what comes into the parts and the placement
+abbrev pub in_hand : OwnersRecord → Placed → Looks → InHand
+in_hand owners placed looks = record {
+  owners = owners;
+  deltas = looks.deltas;
+  placed = placed;
+  scan = looks.scan;
+  sections = looks.sections;
+  symbols = looks.symbols;
+}
 
 -- ---- sizes that fit
 

@@ -9,7 +9,7 @@ ghost use Rattle.lk_gc.specs.Reach.{AreLive};
 ghost use Rattle.lk_sizes.specs.Contents.{size_refusal};
 ghost use Rattle.lk_sizes.specs.Owners.{AreThunkOwners, Filling, in_output, own_sizes};
 ghost use Rattle.lk_sizes.specs.Sizing.{AreFilled};
-ghost use Rattle.lk_relaxing.specs.RelaxationWords.{Fits, GivesAnew, GivesPlaces, GivesTurn, IsStage, can_shrink_by, end_of, first_sections, stage_in};
+ghost use Rattle.lk_relaxing.specs.RelaxationWords.{Fits, GivesAnew, GivesPlaces, GivesTurn, HasBegun, IsStage, can_shrink_by, end_of, first_sections, in_hand, stage_in};
 ghost use Rattle.lk_relaxing.specs.Relaxed.{ArePlacedFirst, GivesRelaxedLink, GivesRelaxedParts, own_filling, relaxing};
 ghost use Rattle.lk_relaxing.specs.RelaxedLaws.{nothing_deleted};
 ghost use Rattle.lk_relaxing.specs.Stages.{IsFirst, filling_after};
@@ -50,6 +50,27 @@ pub struct Relaxed {
     /// What is deleted of the sections of each file, by the file's number over all groups.
     pub deltas: Vec<RelaxDeltaMap>,
     pub placed: Placed,
+}
+
+/// What relaxation begins with, where nothing is deleted: an empty map for each file.
+#[derive(Drop)]
+pub(crate) enum Begun {
+    /// No section can lose bytes, and this is the end.
+    Ended(Vec<RelaxDeltaMap>),
+    /// Some can, and the first pass looks at them.
+    Looks(Looks),
+}
+
+/// What the first pass goes by, beside what comes into the parts and the placement.
+#[derive(Drop)]
+pub(crate) struct Looks {
+    /// An empty map for each file.
+    pub(crate) deltas: Vec<RelaxDeltaMap>,
+    /// The sections that it looks at.
+    pub(crate) scan: Vec<(FileId, u32)>,
+    /// The positions of all input sections, and of all symbols.
+    pub(crate) sections: Vec<Option<(PartId, u64)>>,
+    pub(crate) symbols: SymbolPositions,
 }
 
 /// Where all stands.
@@ -96,25 +117,18 @@ pub fn relax_owners<P: Platform>(
 {
     laws::nothing_deleted_leaves_all();
     laws::first_is_shrunk();
-    let deltas = no_deltas(alloc, link)?;
-    let scan = first_scan(alloc, link, live)?;
-    if scan.is_empty() {
-        return Ok(RelaxedParts {
+    match begin(alloc, link, live, &owners) {
+        Ok(Begun::Ended(deltas)) => Ok(RelaxedParts {
             owners,
             deltas,
             placed: first,
-        });
+        }),
+        Ok(Begun::Looks(looks)) => {
+            let hand = in_hand(owners, first, looks);
+            make_passes(alloc, link, platform, live, headers, hand)
+        }
+        Err(error) => Err(PlaceError::from(error)),
     }
-    let (sections, symbols) = compute_input_section_positions(alloc, link, live, &owners, &deltas)?;
-    let hand = InHand {
-        owners,
-        deltas,
-        placed: first,
-        scan,
-        sections,
-        symbols,
-    };
-    make_passes(alloc, link, platform, live, headers, hand)
 }
 
 /// Relaxes a link that is sized by its description, with the images and the blocks of thunks that are so many bytes long, and whose
@@ -174,6 +188,51 @@ fn fitting(found: Result<PartOwners, SizeError>) -> Result<PartOwners, AllocErro
         Ok(owners) => Ok(owners),
         Err(SizeError::NoMemory) => Err(AllocError),
         Err(SizeError::AddressOverflow { .. }) => unreachable!(),
+    }
+}
+
+/// What relaxation begins with. What this answers holds no part of what comes into the parts, so that all that can lack memory is behind
+/// when that moves on.
+fn begin(
+    alloc: Global,
+    link: &LinkInput,
+    live: &Live,
+    owners: &PartOwners,
+) -> Result<Begun, AllocError>
+    requires good { IsWellFormed link.now }
+    requires live { AreLive link.now live.now }
+    requires thunks { AreThunkOwners link.now owners.now.thunks }
+    requires own { unwrap_or owners.now.sizes (own_sizes link.now) ≡ own_sizes link.now }
+    requires filled { (filling : Filling) × AreFilled (in_output link.now live.now filling) owners.now }
+    ensures { (filling : Filling) → AreFilled (in_output link.now live.now filling) owners.now
+        → IfOk result (HasBegun (in_output link.now live.now filling)) }
+{
+    laws::nothing_deleted_leaves_all();
+    let deltas = no_deltas(alloc, link)?;
+    let scan = first_scan(alloc, link, live)?;
+    if scan.is_empty() {
+        return Ok(Begun::Ended(deltas));
+    }
+    let (sections, symbols) = compute_input_section_positions(alloc, link, live, owners, &deltas)?;
+    Ok(Begun::Looks(Looks {
+        deltas,
+        scan,
+        sections,
+        symbols,
+    }))
+}
+
+/// The first stage: with what comes into the parts, and its placement.
+fn in_hand(owners: PartOwners, first: Placed, looks: Looks) -> InHand
+    ensures { result ≡ in_hand owners first looks }
+{
+    InHand {
+        owners,
+        deltas: looks.deltas,
+        placed: first,
+        scan: looks.scan,
+        sections: looks.sections,
+        symbols: looks.symbols,
     }
 }
 

@@ -24,20 +24,20 @@ fn sum_up(
     alloc: Global,
     seed: u64,
     size: u32,
-    computed: Result<Layout<'_>, LayoutError>,
+    computed: &Result<Layout<'_>, LayoutError>,
 ) -> Result<Answer, AllocError>
-    requires { Gives small64_machine (generated_link seed size) computed }
+    requires { Gives small64_machine (generated_link seed size) computed.now }
     ensures { IfOk result (IsGeneratedAnswer seed size) }
 {
     match computed {
         Ok(layout) => Ok(Answer {
             status: Status::LaidOut,
-            text: Text::from_string(summary_text(alloc, seed, size, &layout)?),
+            text: Text::from_string(summary_text(alloc, seed, size, layout)?),
         }),
         Err(LayoutError::NoMemory) => Err(AllocError),
         Err(fault) => Ok(Answer {
             status: Status::Refused,
-            text: Text::from_string(fault_text(alloc, &fault)?),
+            text: Text::from_string(fault_text(alloc, fault)?),
         }),
     }
 }
@@ -47,10 +47,10 @@ fn tell_summed_up<K: Sink>(
     alloc: Global,
     seed: u64,
     size: u32,
-    computed: Result<Layout<'_>, LayoutError>,
+    computed: &Result<Layout<'_>, LayoutError>,
     sink: &mut K,
 ) -> Status
-    requires { Gives small64_machine (generated_link seed size) computed }
+    requires { Gives small64_machine (generated_link seed size) computed.now }
     ensures { IsGeneratedRun seed size (K.state sink.old) (K.state sink.new) result }
 {
     match sum_up(alloc, seed, size, computed) {
@@ -68,7 +68,10 @@ pub(crate) fn run_gen<K: Sink>(alloc: Global, seed: u64, size: u32, sink: &mut K
     match generate_link(alloc, seed, size) {
         Ok(link) => {
             let computed = compute_alone(alloc, &link, &Small64, &Small64Arch);
-            tell_summed_up(alloc, seed, size, computed, sink)
+            let status = tell_summed_up(alloc, seed, size, &computed, sink);
+            drop(computed);
+            drop(link);
+            status
         }
         Err(_) => Status::NoMemory,
     }

@@ -91,9 +91,9 @@ fn read_source<S: Source>(alloc: Global, source: &mut S) -> Result<Reading, Stat
 fn answer_computed(
     alloc: Global,
     link: &LinkInput,
-    computed: Result<Layout<'_>, LayoutError>,
+    computed: &Result<Layout<'_>, LayoutError>,
 ) -> Result<Answer, AllocError>
-    requires { Gives small64_machine link.now computed }
+    requires { Gives small64_machine link.now computed.now }
     ensures { IfOk result (λ answer. IsAnswerToReading (Ok link.now) answer) }
 {
     // A law, which does nothing: what has a layout is well formed.
@@ -101,12 +101,12 @@ fn answer_computed(
     match computed {
         Ok(layout) => Ok(Answer {
             status: Status::LaidOut,
-            text: Text::from_string(report_text(alloc, link, &layout)?),
+            text: Text::from_string(report_text(alloc, link, layout)?),
         }),
         Err(LayoutError::NoMemory) => Err(AllocError),
         Err(fault) => Ok(Answer {
             status: Status::Refused,
-            text: Text::from_string(fault_text(alloc, &fault)?),
+            text: Text::from_string(fault_text(alloc, fault)?),
         }),
     }
 }
@@ -125,10 +125,10 @@ pub(crate) fn tell<K: Sink>(sink: &mut K, answer: &Answer) -> Status
 fn tell_computed<K: Sink>(
     alloc: Global,
     link: &LinkInput,
-    computed: Result<Layout<'_>, LayoutError>,
+    computed: &Result<Layout<'_>, LayoutError>,
     sink: &mut K,
 ) -> Status
-    requires { Gives small64_machine link.now computed }
+    requires { Gives small64_machine link.now computed.now }
     ensures { IsLinkToldBy result link.now (K.state sink.old) (K.state sink.new) }
 {
     match answer_computed(alloc, link, computed) {
@@ -153,7 +153,10 @@ fn lay_out<R: Threads + Wait + Sync, S: Source, K: Sink, G: Gate + Sync>(
         Ok(Reading::Link(link)) => {
             let workers = u32::from(workers);
             let computed = compute(rt, alloc, &link, &Small64, &Small64Arch, workers, gate);
-            tell_computed(alloc, &link, computed, sink)
+            let status = tell_computed(alloc, &link, &computed, sink);
+            drop(computed);
+            drop(link);
+            status
         }
         Ok(Reading::Fault(answer)) => tell(sink, &answer),
         Err(status) => status,
@@ -167,7 +170,10 @@ fn lay_out_alone<S: Source, K: Sink>(alloc: Global, source: &mut S, sink: &mut K
     match read_source(alloc, source) {
         Ok(Reading::Link(link)) => {
             let computed = compute_alone(alloc, &link, &Small64, &Small64Arch);
-            tell_computed(alloc, &link, computed, sink)
+            let status = tell_computed(alloc, &link, &computed, sink);
+            drop(computed);
+            drop(link);
+            status
         }
         Ok(Reading::Fault(answer)) => tell(sink, &answer),
         Err(status) => status,

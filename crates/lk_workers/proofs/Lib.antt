@@ -1,4 +1,6 @@
 mod Asked
+mod Closing
+mod Covering
 mod Doing
 mod GroupFiles
 mod Making

@@ -1,8 +1,18 @@
-//! What a traversal came to.
+//! What a traversal came to, and whether that is all: a group is closed where none of its asks is open.
 
-ghost use Rattle.std.specs.Prelude.{◌≡◌};
+ghost use Rattle.std.specs.Prelude.{◌≡◌, ◌<◌, All, false, IfNone, IfSome, Some, slice_index};
+ghost use Rattle.std.specs.List.{list_all};
+ghost use Rattle.lk_link.specs.Files.{file_in};
+ghost use Rattle.lk_link.specs.Flags.{has_flag};
+ghost use Rattle.lk_link.specs.Walks.{file_of};
+ghost use Rattle.lk_reach.specs.Marks.{IsInside, IsUnit, symbols_in_all, word_of};
+ghost use Rattle.lk_workers.specs.Asked.{AreListsOf};
+ghost use Rattle.lk_workers.specs.Closings.{are_groups_closed, is_ask_met, is_file_closed, is_group_closed, is_unit_closed, is_unit_done, section_units, symbol_units};
 
 use lk_flags::Reach;
+use lk_link::marks::is_marked;
+use lk_link::{FileId, FileRef, LinkInput, SymbolId, ValueFlags};
+use lk_reach::{Ask, Successors, Unit, file_roots, section_number, successors};
 use std::marker::{Model, PhantomData};
 
 /// The units that are done at the end, and the words of flags. What is done is reached, and words have what was handed in and nothing
@@ -38,5 +48,163 @@ impl<J: Reach> Closed<J> {
         ensures { result.now ≡ self.now.words }
     {
         self.words.as_slice()
+    }
+
+    /// Whether a unit is done.
+    fn is_done(&self, link: &LinkInput, unit: &Unit) -> bool
+        requires link { AreListsOf J.lists link.now }
+        requires there { IsUnit link.now.groups unit.now }
+        ensures { result ≡ is_unit_done self.now link.now.groups unit.now }
+    {
+        match *unit {
+            Unit::Sym(symbol) => is_marked(self.done.as_slice(), symbol.as_usize()),
+            Unit::Sec(file, index) => match section_number(link, file, index) {
+                Some(number) => is_marked(self.done.as_slice(), number),
+                None => false,
+            },
+        }
+    }
+
+    /// Whether a symbol has these flags.
+    fn has_flags(&self, link: &LinkInput, symbol: SymbolId, flags: ValueFlags) -> bool
+        requires link { AreListsOf J.lists link.now }
+        requires there { symbol < symbols_in_all link.now.groups }
+        ensures { result ≡ has_flag flags.0 (slice_index self.now.words (word_of symbol)) }
+    {
+        let flags = u64::from(flags.0);
+        self.words[symbol.as_usize() + 1] & flags == flags
+    }
+
+    /// Whether an ask isn't open.
+    fn is_met(&self, link: &LinkInput, ask: Ask) -> bool
+        requires link { AreListsOf J.lists link.now }
+        requires inside { IsInside link.now.groups ask }
+        ensures { result ≡ is_ask_met self.now link.now.groups ask }
+    {
+        match ask {
+            Ask::Reference(symbol, flags) => {
+                self.is_done(link, &Unit::Sym(symbol)) && self.has_flags(link, symbol, flags)
+            }
+            Ask::Section(file, index) => self.is_done(link, &Unit::Sec(file, index)),
+            Ask::Mark(symbol, flags) => self.has_flags(link, symbol, flags),
+        }
+    }
+
+    /// Whether none of these asks is open.
+    fn are_met(&self, link: &LinkInput, asks: Successors<'_>) -> bool
+        requires link { AreListsOf J.lists link.now }
+        requires inside { All (IsInside link.now.groups) asks }
+        ensures { result ≡ list_all (is_ask_met self.now link.now.groups) asks.entry }
+    {
+        for ask in asks {
+            if !self.is_met(link, ask) {
+                return false;
+            }
+        }
+        true
+    }
+
+    /// Whether a unit has no open ask.
+    fn is_unit_closed(&self, link: &LinkInput, unit: Unit) -> bool
+        requires link { AreListsOf J.lists link.now }
+        requires there { IsUnit link.now.groups unit }
+        ensures { result ≡ is_unit_closed self.now link.now unit }
+    {
+        if !self.is_done(link, &unit) {
+            return true;
+        }
+        self.are_met(link, successors(link, unit))
+    }
+
+    /// Whether no symbol of a file has an open ask.
+    fn are_symbols_closed(&self, link: &LinkInput, file: FileRef<'_>) -> bool
+        requires link { AreListsOf J.lists link.now }
+        requires there { file_in link.now.groups file.id ≡ Some file.file.now }
+        ensures { result ≡ list_all (is_unit_closed self.now link.now) (symbol_units link.now.groups (file_of file.entry)) }
+    {
+        let Some(symbols) = link.groups.symbol_id_range(file.id) else {
+            return false;
+        };
+        for place in 0..symbols.len() {
+            if !self.is_unit_closed(link, Unit::Sym(symbols.offset_to_id(place))) {
+                return false;
+            }
+        }
+        true
+    }
+
+    /// Whether no section of a file has an open ask.
+    fn are_sections_closed(&self, link: &LinkInput, file: FileRef<'_>) -> bool
+        requires link { AreListsOf J.lists link.now }
+        requires there { file_in link.now.groups file.id ≡ Some file.file.now }
+        ensures { result ≡ list_all (is_unit_closed self.now link.now) (section_units (file_of file.entry)) }
+    {
+        for index in 0..file.file.sections.len() {
+            if !self.is_unit_closed(link, Unit::Sec(file.id, index as u32)) {
+                return false;
+            }
+        }
+        true
+    }
+
+    /// Whether a file has no open ask.
+    fn is_file_closed(&self, link: &LinkInput, file: FileRef<'_>) -> bool
+        requires link { AreListsOf J.lists link.now }
+        requires there { file_in link.now.groups file.id ≡ Some file.file.now }
+        ensures { result ≡ is_file_closed self.now link.now (file_of file.entry) }
+    {
+        self.are_met(link, file_roots(link, file))
+            && self.are_symbols_closed(link, file)
+            && self.are_sections_closed(link, file)
+    }
+
+    /// Whether a group of the traversal's link has no open ask: the units that its files and its done units ask for are done, and the
+    /// flags that they set are in the words. Takes no memory; looks at each unit of the group, and at each ask of those that are done.
+    pub fn is_closed(&self, link: &LinkInput, group: u32) -> bool
+        requires { AreListsOf J.lists link.now }
+        ensures { result ≡ is_group_closed self.now link.now group }
+    {
+        let Some(files) = link.groups.as_slice().get(group as usize) else {
+            return true;
+        };
+        let files = files.as_slice();
+        for index in 0..files.len() {
+            let id = FileId {
+                group,
+                file: index as u32,
+            };
+            let file = &files[index];
+            if !self.is_file_closed(link, FileRef { id, file }) {
+                return false;
+            }
+        }
+        true
+    }
+
+    /// Whether no group of the traversal's link has an open ask. Takes no memory.
+    pub fn is_whole(&self, link: &LinkInput) -> bool
+        requires { AreListsOf J.lists link.now }
+        ensures { result ≡ are_groups_closed self.now link.now }
+    {
+        for group in 0..link.groups.len() {
+            if !self.is_closed(link, group as u32) {
+                return false;
+            }
+        }
+        true
+    }
+
+    /// The marks and the words, where no group has an open ask: then they are all that is reached, and all flags. Takes no memory.
+    pub fn into_whole(self, link: &LinkInput) -> Option<(Vec<bool>, Vec<u64>)>
+        requires { AreListsOf J.lists link.now }
+        ensures marks { IfSome result (λ r. r.0.items ≡ J.lists.units) }
+        ensures words { IfSome result (λ r. r.1.items ≡ J.lists.words) }
+        ensures none { IfNone result (are_groups_closed self link.now ≡ false) }
+    {
+        if !self.is_whole(link) {
+            return None;
+        }
+        let Closed { done, words, of: _ } = self;
+        Some((done, words))
     }
 }

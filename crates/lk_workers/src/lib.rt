@@ -16,4 +16,4 @@ pub use slot::WorkerSlot;
 pub use state::GroupState;
 pub use traversal::Traversal;
 pub use work::{GcLoadRequest, LocalWorkQueue, WorkItem};
-pub use workers::run_all;
+pub use workers::{run_all, walk_by_workers};

@@ -1,11 +1,15 @@
-//! Workers, which run groups until none can run.
+//! Workers, which run groups until none can run, and what is reached by them.
 
 ghost use Rattle.std.specs.Prelude.{◌≡◌, IfOk};
+ghost use Rattle.lk_link.specs.WellFormed.{IsWellFormed};
+ghost use Rattle.lk_reach.specs.Marks.{flag_words, reached_marks};
+ghost use Rattle.lk_workers.specs.Asked.{AreListsOf};
 
 use crate::traversal::Traversal;
 use lk_flags::{FlagPass, Reach};
-use lk_link::Gate;
+use lk_link::{Gate, LinkInput};
 use std::alloc::{AllocError, Global};
+use std::marker::Brand;
 use std::sync::Wait;
 use std::thread::{Threads, map_vec};
 
@@ -61,4 +65,44 @@ pub fn run_all<J: Reach + Send + Sync, R: Threads + Wait + Sync, G: Gate + Sync>
         traversal.join(&mut pass, other);
     }
     Ok(pass)
+}
+
+/// What is reached of a link with these lists, and all flags, as so many workers find it.
+fn walk<J: Reach + Send + Sync, R: Threads + Wait + Sync, G: Gate + Sync>(
+    rt: &R,
+    alloc: Global,
+    link: &LinkInput,
+    workers: u32,
+    gate: &G,
+) -> Result<(Vec<bool>, Vec<u64>), AllocError>
+    requires lists { AreListsOf J.lists link.now }
+    requires gate { G.may_enter gate.now }
+    ensures marks { IfOk result (λ r. r.0.items ≡ J.lists.units) }
+    ensures words { IfOk result (λ r. r.1.items ≡ J.lists.words) }
+{
+    let (traversal, pass) = Traversal::<J>::new(alloc, link)?;
+    let pass = run_all(&traversal, rt, alloc, pass, workers, gate)?;
+    match traversal.close(pass).into_whole(link) {
+        Some(found) => Ok(found),
+        None => Err(AllocError),
+    }
+}
+
+/// What is reached of a link: for each unit whether it is, and behind a spare word the flags of each symbol, as so many workers find it,
+/// each on a thread of its own. The gate is entered before each step. A worker that finds no memory gives up what it was about to do,
+/// and goes on; where anything is open at the end, memory ran out. With no worker nothing is found where anything is asked for
+/// (libwild: `traverse_reference_graph`).
+pub fn walk_by_workers<R: Threads + Wait + Sync, G: Gate + Sync>(
+    rt: &R,
+    alloc: Global,
+    link: &LinkInput,
+    workers: u32,
+    gate: &G,
+) -> Result<(Vec<bool>, Vec<u64>), AllocError>
+    requires well_formed { IsWellFormed link.now }
+    requires gate { G.may_enter gate.now }
+    ensures marks { IfOk result (λ r. r.0.items ≡ reached_marks link.now) }
+    ensures words { IfOk result (λ r. r.1.items ≡ flag_words link.now) }
+{
+    walk::<Brand, R, G>(rt, alloc, link, workers, gate)
 }

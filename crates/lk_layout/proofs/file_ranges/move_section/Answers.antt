@@ -1,4 +1,3 @@
-use Rattle.std.proofs.Common.{sym}
 use Rattle.lk_layout.proofs.Moving.{parts_are}
 use Rattle.lk_layout.proofs.file_ranges.move_section.Goals as goal
 

@@ -1,5 +1,4 @@
-use Rattle.std.proofs.Common.{◌≡◌, length, arith, refl, ap, sym, ◌∙◌}
-use Rattle.std.specs.List.{slice_index_or}
+use Rattle.std.proofs.Common.{length, arith, refl, ap, ◌∙◌}
 use Rattle.std.proofs.lemmas.Bool.Decides.{nat_tests}
 use Rattle.lk_layout.proofs.Starting.{all_starts, turn}
 use Rattle.lk_layout.proofs.group_starts.starts_in.Goals as goal

@@ -1,4 +1,4 @@
-use Rattle.std.proofs.Common.{◌≡◌, ◌+◌, ◌<◌, ◌^◌, drop, map, sum_by, take}
+use Rattle.std.proofs.Common.{◌≡◌, ◌+◌, drop, map, sum_by, take}
 use Rattle.std.specs.List.{range_with_len}
 use Rattle.lk_layout.specs.GroupStarts.{capped, files_before, taken_before}
 use Rattle.lk_layout.proofs.group_starts.starts_in.Given as goal

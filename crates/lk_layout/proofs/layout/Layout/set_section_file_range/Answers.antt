@@ -1,4 +1,4 @@
-use Rattle.std.proofs.Common.{◌≡◌, ◌<◌, ◌^◌, ◌+◌, length, ap, subst, arith}
+use Rattle.std.proofs.Common.{◌<◌, ◌^◌, ◌+◌, length, ap, arith}
 use Rattle.lk_layout.specs.FileRanges.{file_bytes}
 use Rattle.lk_layout.specs.LayoutRecord.{LayoutRecord}
 use Rattle.lk_layout.proofs.CanMoves.{has_room, writes_back}

@@ -9,6 +9,7 @@ use Rattle.lk_layout.proofs.Answering.{same_layout}
 use Rattle.lk_layout.proofs.CanMoves.{same_can_move, told_can_move}
 use Rattle.lk_layout.proofs.DynsymStart.{dynsym_is, numbers_before}
 use Rattle.lk_layout.proofs.PlacedSites.{sections_are}
+use Rattle.lk_layout.proofs.UsersFound.{users_in_order}
 use Rattle.lk_layout.proofs.stages.ToldLink.into_layout.Goals as goal
 
 pub returns : goal.returns
@@ -35,7 +36,7 @@ returns c machine is =
     placed.thunks.sets
     is.owners
     is.reaching.branched.places
-    placed.thunks.users
+    (c.new.ensures ∙ placed.thunks.users)
     (c.size_of.ensures ∙ ap thunk_size placed.thunks.config)
     (c.into_told-header.ensures.header ∙ placed.owners.header)
     (c.first_export-dynsym_start_index.ensures
@@ -52,3 +53,7 @@ invariant_of-result c =
 
 pub with_late_marks-flags-requires : goal.with_late_marks-flags-requires
 with_late_marks-flags-requires c = c.requires.told.1.reaching.branched.addressed.spanned.placed.kept.merged.checked.good
+
+pub new-requires : goal.new-requires
+new-requires c =
+    users_in_order c.args.link.now c.args.self.reaching.addressed.spanned.placed.thunks.users c.requires.told.1.reaching.branched.addressed.spanned.placed.order.users
