@@ -10,11 +10,12 @@ class Form:
     those parts. segments: the kind, and the first and the last output section inside. inputs: weight, slot,
     output section, attributes, greatest size, and relocations on average. kinds: the kinds of relocations,
     and whether a thunk may stand in. extras: what else there is, of "groups" of sections, "dynamic" files,
-    a "common" in each object, and the linker's "own" files, a script, and sections that are sorted.
+    a "common" in each object, and the linker's "own" files, a script, and sections that are sorted. far: a line
+    like those of inputs, of code further away than branches reach; one object in four has a section of it.
     """
 
-    def __init__(self, outputs, segments, inputs, kinds, options, extras=()):
-        self.outputs, self.segments, self.options = outputs, segments, options
+    def __init__(self, outputs, segments, inputs, kinds, options, extras=(), far=None):
+        self.outputs, self.segments, self.options, self.far = outputs, segments, options, far
         self.extras = frozenset(extras)
         self.lines = inputs
         self.inputs = [line[1:] for line in inputs for _ in range(line[0])]
@@ -29,41 +30,56 @@ class Form:
             first += len(alignments)
 
 
-WHOLE = Form(
-    outputs=(
-        (".headers", ALLOCATED, (8, 4), ("file_header", "program_headers")),
-        (".dynsym", ALLOCATED, (8,), ("dynsym",)),
-        (".dynstr", ALLOCATED, (1,), ("dynstr",)),
-        (".rodata", ALLOCATED, (32, 16, 8, 4, 1), ()),
-        (".rodata.str", ALLOCATED, (1,), ()),
-        (".eh_frame", ALLOCATED, (8,), ()),
-        (".init", ALLOCATED | EXECUTABLE, (4,), ()),
-        (".plt", ALLOCATED | EXECUTABLE, (16,), ("plt",)),
-        (".text", ALLOCATED | EXECUTABLE, (64, 32, 16, 8, 4, 2, 1), ()),
-        (".tdata", ALLOCATED | WRITABLE | THREAD_LOCAL, (8,), ()),
-        (".tbss", ALLOCATED | WRITABLE | THREAD_LOCAL | ZERO_FILL, (8,), ()),
-        (".init_array", ALLOCATED | WRITABLE, (8,), ()),
-        (".data.rel.ro", ALLOCATED | WRITABLE, (32, 8), ()),
-        (".got", ALLOCATED | WRITABLE, (8,), ("got",)),
-        (".data", ALLOCATED | WRITABLE, (32, 16, 8, 4, 1), ()),
-        (".bss", ALLOCATED | WRITABLE | ZERO_FILL, (64, 32, 8, 1), ()),
-        (".comment", 0, (1,), ("comment",)),
-        (".debug_info", 0, (1,), ()),
-        (".debug_line", 0, (1,), ()),
-        (".debug_str", 0, (1,), ()),
-        (".symtab", 0, (8, 4), ("symtab_local", "symtab_global")),
-        (".strtab", 0, (1,), ("strtab",)),
-        (".shstrtab", 0, (1,), ("shstrtab",)),
-        (".section_headers", 0, (8,), ("section_headers",)),
-    ),
-    segments=(
+# The output sections of a link with all tables, before and behind where far code stands.
+HEADERS_TO_CODE = (
+    (".headers", ALLOCATED, (8, 4), ("file_header", "program_headers")),
+    (".dynsym", ALLOCATED, (8,), ("dynsym",)),
+    (".dynstr", ALLOCATED, (1,), ("dynstr",)),
+    (".rodata", ALLOCATED, (32, 16, 8, 4, 1), ()),
+    (".rodata.str", ALLOCATED, (1,), ()),
+    (".eh_frame", ALLOCATED, (8,), ()),
+    (".init", ALLOCATED | EXECUTABLE, (4,), ()),
+    (".plt", ALLOCATED | EXECUTABLE, (16,), ("plt",)),
+    (".text", ALLOCATED | EXECUTABLE, (64, 32, 16, 8, 4, 2, 1), ()),
+)
+DATA_TO_TABLES = (
+    (".tdata", ALLOCATED | WRITABLE | THREAD_LOCAL, (8,), ()),
+    (".tbss", ALLOCATED | WRITABLE | THREAD_LOCAL | ZERO_FILL, (8,), ()),
+    (".init_array", ALLOCATED | WRITABLE, (8,), ()),
+    (".data.rel.ro", ALLOCATED | WRITABLE, (32, 8), ()),
+    (".got", ALLOCATED | WRITABLE, (8,), ("got",)),
+    (".data", ALLOCATED | WRITABLE, (32, 16, 8, 4, 1), ()),
+    (".bss", ALLOCATED | WRITABLE | ZERO_FILL, (64, 32, 8, 1), ()),
+    (".comment", 0, (1,), ("comment",)),
+    (".debug_info", 0, (1,), ()),
+    (".debug_line", 0, (1,), ()),
+    (".debug_str", 0, (1,), ()),
+    (".symtab", 0, (8, 4), ("symtab_local", "symtab_global")),
+    (".strtab", 0, (1,), ("strtab",)),
+    (".shstrtab", 0, (1,), ("shstrtab",)),
+    (".section_headers", 0, (8,), ("section_headers",)),
+)
+
+
+def all_segments(last_code):
+    """The segments round these, of which the one of code ends with that output section."""
+    return (
         ("load", ".headers", ".eh_frame"),
-        ("load", ".init", ".text"),
+        ("load", ".init", last_code),
         ("load", ".tdata", ".bss"),
         ("other", ".tdata", ".got"),
         ("tls", ".tdata", ".tbss"),
         ("stack", None, None),
+    )
+
+
+WHOLE = Form(
+    outputs=(
+        *HEADERS_TO_CODE,
+        (".text.far", ALLOCATED | EXECUTABLE, (16,), ("primary",)),
+        *DATA_TO_TABLES,
     ),
+    segments=all_segments(".text.far"),
     inputs=(
         (42, "unloaded", ".text", EXECUTABLE, 700, 10),
         (11, "unloaded", ".rodata", 0, 300, 3),
@@ -93,6 +109,7 @@ WHOLE = Form(
         '"strip_names":["__unused_start","__unused_end"],"identity":"measured","stack":8388608,"entry":%d}'
     ),
     extras=("groups", "dynamic", "own"),
+    far=("unloaded", ".text.far", EXECUTABLE, 1 << 20, 10),
 )
 
 LINKED = Form(
@@ -163,8 +180,8 @@ GROUPED = Form(
 
 # A shared object: what `GROUPED` has, thread-local data, and a part for each table. Every symbol that others may name is exported.
 TABLED = Form(
-    outputs=WHOLE.outputs,
-    segments=WHOLE.segments,
+    outputs=(*HEADERS_TO_CODE, *DATA_TO_TABLES),
+    segments=all_segments(".text"),
     inputs=WHOLE.lines,
     kinds=WHOLE.pairs,
     options=(

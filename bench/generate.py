@@ -22,7 +22,7 @@ file of it is held at a time. SHAPE says what the bytes go to:
     named     strings that are merged, each with a symbol that a relocation names
     grouped   linked ones with section groups, merge data, debug data, dynamic files and commons
     tabled    the same, thread-local data, and all tables, of which a good part of the symbols has entries
-    whole     the same with a script, and symbols of the linker, but without commons
+    whole     the same with a script, symbols of the linker, and thunks for far code, but without commons
     sorted    sections that are sorted by their names, of which there are 20,000
     singles   output that is linked again, of which a fifth of the sections stay output sections of their own
     branches  4 GiB of code, and branches that reach 128 MiB: mostly in their own file

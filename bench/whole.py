@@ -4,6 +4,7 @@ Per object some 25 sections, with about 3 symbols and 8 relocations for each, an
 bytes. The link keeps every rule. What an object refers to stands in it or in a file before it.
 """
 
+from attributes import EXECUTABLE
 from forms import WHOLE
 
 ADDENDS = (-4, -4, -4, 0, 0, 0, 8, 16)
@@ -17,6 +18,10 @@ UNDEFINED_SHARE, LOCAL_SHARE, GROUP_SHARE, RELAX_SHARE = 0.4, 0.25, 0.15, 0.03
 MOST_KNOWN = 4096
 MOST_CANDIDATES = 1000
 LAST_BYTES = 20_000
+# What planning leaves free of the range of a branch. The range is that and as many bytes as the description has: far code takes some
+# eight times as many, and all other sections together half.
+SPARED = 2_097_152
+FAR_SHARE = 0.25
 
 
 def joined(texts):
@@ -152,6 +157,8 @@ class Section:
     def __init__(self, rng, form, index):
         # The first one of an object is code, so that the link has an entry.
         line = form.inputs[0] if index == 0 else rng.choice(form.inputs)
+        if index == 1 and form.far and chance(rng, FAR_SHARE):
+            line = form.far
         self.index = index
         self.slot, self.output, self.attributes, largest, relocations = line
         self.data = self.merge_data(rng, largest) if self.slot == "merge" else None
@@ -248,6 +255,8 @@ class Object:
             bits = self.rng.getrandbits(32)
             symbol, most = self.targets[(bits >> 9) % len(self.targets)]
             kind, thunkable = self.form.kinds[bits % len(self.form.kinds)]
+            # Where branches are looked at, only code has some.
+            thunkable = thunkable and (self.form.far is None or section.attributes & EXECUTABLE != 0)
             addend = ADDENDS[bits >> 6 & 7] if most is None else (bits >> 9) % (most + 1)
             yield '[%d,"%s",%d,%d,%s]' % (
                 number * section.size // section.relocations,
@@ -318,6 +327,8 @@ def put_whole_link(writer, rng, total, group_files, page, base, form):
     """The whole description."""
     link = Link(writer, rng, form)
     options = form.options % first_object_symbol(form)
+    if form.far:
+        options = '%s,"branch_range":%d}' % (options[:-1], SPARED + max(1, total))
     writer.put('{"options":%s,\n"plan":%s,\n' % (options, plan_text(form, page, base)))
     writer.put('"groups":[\n')
     link.put_first_files()

@@ -8,7 +8,8 @@ usage: compare.py PROGRAM COUNT [SEED [FIRST]]
        compare.py PROGRAM --shortened COUNT [SEED]
 
 Runs PROGRAM on the random descriptions of the numbers FIRST to FIRST + COUNT - 1, and where FIRST is
-0 on the fixed ones too, and shows each one on which status or bytes differ from the reference's. Ends
+0 on the fixed ones too, on each one with the words `layout 0`, `layout 1`, `layout 2` and `layout 8`. Shows
+each one on which status or bytes differ from the reference's, which are the same for all of these. Ends
 with 1 if there was one. The same SEED and number give the same description.
 
 With --places, the descriptions are some small ones, changed at every place of their text: cut there, with
@@ -30,7 +31,8 @@ from cases.small import every_small_link
 from program import program_answer
 from rules.refusal import LAID_OUT
 
-WORDS = ["layout", "0"]
+# No worker, one, two, and more than most of the descriptions have groups.
+WORKERS = (0, 1, 2, 8)
 MOST_SHOWN = 2000
 LISTED = {"--places": changed_at_every_place, "--small": every_small_link}
 
@@ -59,19 +61,33 @@ class Comparison:
         self.kinds = collections.Counter()
         self.mismatches = 0
 
-    def compare(self, name, data, words=WORDS):
-        wanted = reference.answer(words, data)
-        try:
-            got = program_answer(self.program, words, data)
-        except BrokenPipeError:
-            got = None, b"(input not read)"
+    def compare(self, name, data):
+        """Compares a description, which has one answer, with what the program gives by each number of workers."""
+        wanted = reference.answer(["layout", "0"], data)
+        self.compare_by(name, data, wanted, [["layout", str(workers)] for workers in WORKERS])
+
+    def compare_words(self, words):
+        """Compares words behind which nothing is read."""
+        self.compare_by(" ".join(words), b"", reference.answer(words, b""), [words])
+
+    def compare_by(self, name, data, wanted, ways):
+        """Compares an answer with what the program gives by each of these words, up to the first that differs."""
         self.kinds[kind_of(*wanted)] += 1
-        if got != wanted:
-            self.mismatches += 1
-            print("MISMATCH %s, input of %d bytes:" % (name, len(data)))
-            print(shown(data))
-            print("wanted status %s:\n%s" % (wanted[0], shown(wanted[1])))
-            print("got status %s:\n%s" % (got[0], shown(got[1])))
+        for words in ways:
+            try:
+                got = program_answer(self.program, words, data)
+            except BrokenPipeError:
+                got = None, b"(input not read)"
+            if got != wanted:
+                self.show(name, data, words, wanted, got)
+                return
+
+    def show(self, name, data, words, wanted, got):
+        self.mismatches += 1
+        print("MISMATCH %s, words %s, input of %d bytes:" % (name, " ".join(words), len(data)))
+        print(shown(data))
+        print("wanted status %s:\n%s" % (wanted[0], shown(wanted[1])))
+        print("got status %s:\n%s" % (got[0], shown(got[1])))
 
     def summary(self):
         for kind, count in self.kinds.most_common():
@@ -91,7 +107,7 @@ def compare_generated(program, count):
     numbers = random.Random(count)
     for _ in range(count):
         seed, size = numbers.getrandbits(numbers.randint(0, 64)), numbers.randint(1, 300)
-        comparison.compare("gen %d %d" % (seed, size), b"", ["gen", str(seed), str(size)])
+        comparison.compare_words(["gen", str(seed), str(size)])
     return comparison
 
 

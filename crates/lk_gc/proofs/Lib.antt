@@ -7,4 +7,3 @@ pub mod Living
 pub mod Marks
 pub mod PrimaryLemmas
 pub mod PrimaryReach
-pub mod WorkLemmas

@@ -9,4 +9,3 @@ pub mod Slots
 pub mod StateTexts
 pub mod States
 pub mod Texts
-pub mod Work

@@ -46,6 +46,10 @@ slot_by link live s slot.MustLoadDebugInfo = if live then after.LoadedDebugInfo 
 abbrev pub slot_after : LinkInput → Bool → InputSection → SectionSlot
 slot_after link live s = slot_by link live s s.slot
 
+-- so many bytes long
+abbrev pub sized_slot : LinkInput → Bool → InputSection → ℕ → SectionSlot
+sized_slot link live s size = slot_after link live (record s { size = size })
+
 -- what becomes of the section of a file with an index, if there is one (libwild: `SectionSlot`)
 abbrev pub live_slot : LinkInput → Live → FileId → ℕ → Option SectionSlot
 live_slot link live id i =

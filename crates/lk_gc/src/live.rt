@@ -5,7 +5,7 @@ ghost use Rattle.std.specs.Iterator.{YieldsFirstBy, item_count};
 ghost use Rattle.lk_link.specs.Files.{AreNumbered};
 ghost use Rattle.lk_link.specs.WellFormed.{IsWellFormed};
 ghost use Rattle.lk_gc.specs.Reach.{live_inputs};
-ghost use Rattle.lk_gc.specs.Slots.{is_singleton, live_slot, loaded_slot, slot_after};
+ghost use Rattle.lk_gc.specs.Slots.{is_singleton, live_slot, loaded_slot, sized_slot};
 
 use lk_link::marks::is_marked;
 use lk_link::{
@@ -43,15 +43,16 @@ impl Live {
     {
         let section = link.groups.file(file)?.sections.get(index)?;
         let number = link.groups.input_start(file)? + index;
-        Some(slot_after(link, is_marked(self.marks.as_slice(), number), section))
+        let live = is_marked(self.marks.as_slice(), number);
+        Some(slot_after(link, live, section, section.size))
     }
 }
 
-/// What becomes of a section, which is live or isn't.
-fn slot_after(link: &LinkInput, live: bool, section: &InputSection) -> SectionSlot
-    ensures { result ≡ slot_after link.now live section.now }
+/// What becomes of a section, which is live or isn't, and is so many bytes long.
+pub fn slot_after(link: &LinkInput, live: bool, section: &InputSection, size: u64) -> SectionSlot
+    ensures { result ≡ sized_slot link.now live section.now size }
 {
-    let kept = Section { size: section.size };
+    let kept = Section { size };
     let waiting = UnloadedSection {
         needs_sorting: section.sorted,
     };
@@ -63,15 +64,14 @@ fn slot_after(link: &LinkInput, live: bool, section: &InputSection) -> SectionSl
         InputSlot::DebugInfo if !live => SectionSlot::UnloadedDebugInfo { must_load: false },
         InputSlot::MustLoadDebugInfo if !live => SectionSlot::UnloadedDebugInfo { must_load: true },
         InputSlot::DebugInfo | InputSlot::MustLoadDebugInfo => SectionSlot::LoadedDebugInfo(kept),
-        InputSlot::Unloaded | InputSlot::MustLoad => loaded_slot(link, section),
+        InputSlot::Unloaded | InputSlot::MustLoad => loaded_slot(link, section, kept),
     }
 }
 
 /// What becomes of a section that is loaded for what it holds.
-fn loaded_slot(link: &LinkInput, section: &InputSection) -> SectionSlot
-    ensures { result ≡ loaded_slot link.now section.now }
+fn loaded_slot(link: &LinkInput, section: &InputSection, kept: Section) -> SectionSlot
+    ensures { result ≡ loaded_slot link.now (record section.now { size = kept.size }) }
 {
-    let kept = Section { size: section.size };
     if is_singleton(link, section) {
         SectionSlot::PartialLinkSingleton(kept)
     } else if section.sorted {

@@ -12,12 +12,12 @@ ghost use Rattle.lk_link.specs.declared.ids.SymbolIdRange.{SymbolIdRange};
 ghost use Rattle.lk_reach.specs.Units.{follows};
 ghost use Rattle.lk_gc.specs.States.{IsGroupStateOf, IsStateBy};
 ghost use Rattle.lk_gc.specs.StateTexts.{file_name, files_name};
-ghost use Rattle.lk_gc.specs.Work.{items_of};
 ghost use Rattle.lk_reach.specs.declared.units.Unit.TheVariants.{Sym};
+ghost use Rattle.lk_workers.specs.Work.{items_of};
 
-use crate::work::LocalWorkQueue;
 use lk_link::{FileId, FileKind, InputFile, LinkInput, SymbolId, SymbolIdRange};
 use lk_reach::{Unit, successors};
+use lk_workers::LocalWorkQueue;
 use std::alloc::AllocError;
 use std::fmt;
 

@@ -1,8 +1,9 @@
-//! The traversal of a link on the caller's own thread.
+//! The traversal of a link: on the caller's own thread, or by workers.
 
 ghost use Rattle.std.specs.Prelude.{◌≡◌, ◌≤◌};
 ghost use Rattle.lk_link.specs.WellFormed.{IsWellFormed};
 ghost use Rattle.lk_gc.specs.Reach.{GivesLive};
+ghost use Rattle.lk_reach.specs.Marks.{IsWalked};
 
 use crate::error::GcError;
 use crate::faults::reference_faults;
@@ -10,6 +11,7 @@ use crate::keep::live_after;
 use crate::live::Live;
 use lk_link::{Gate, LinkInput, List};
 use lk_reach::Walk;
+use lk_workers::walk_by_workers;
 use std::alloc::Global;
 use std::sync::Wait;
 use std::thread::Threads;
@@ -22,25 +24,44 @@ pub fn traverse_alone(alloc: Global, link: &LinkInput) -> Result<Live, GcError>
     ensures { GivesLive link.now result }
 {
     let walk = Walk::over(alloc, link)?;
+    live_of(alloc, link, &walk)
+}
+
+/// The same by workers, each on a thread of its own, for which the caller waits. A worker takes a group of files that can run and
+/// goes on with it until nothing is left to do there; what other groups have to do is left in their slots, and a group that was
+/// left something can run again. The gate is entered before each step. A worker that finds no memory gives up what it was about to
+/// do and goes on: then memory ran out. Which worker did what, and in which order, shows nowhere in the answer. Takes a slot and a
+/// state for each group, twice a mark for each unit, twice a word and once a number for each symbol, and what waits for groups. With
+/// 0 or 1 workers all is done on the caller's own thread: that never calls the gate, and asks for no leave to enter it (libwild:
+/// `traverse_reference_graph`).
+pub fn traverse<R: Threads + Wait + Sync, G: Gate + Sync>(
+    rt: &R,
+    alloc: Global,
+    link: &LinkInput,
+    workers: u32,
+    gate: &G,
+) -> Result<Live, GcError>
+    requires well_formed { IsWellFormed link.now }
+    requires gate { 2 ≤ workers → G.may_enter gate.now }
+    ensures { GivesLive link.now result }
+{
+    if workers < 2 {
+        return traverse_alone(alloc, link);
+    }
+    let (marks, words) = walk_by_workers(rt, alloc, link, workers, gate)?;
+    let walk = Walk::of_parts(alloc, marks, words);
+    live_of(alloc, link, &walk)
+}
+
+/// What is live after a walk over all that is reached, where no reference is at fault; else all that are.
+fn live_of(alloc: Global, link: &LinkInput, walk: &Walk) -> Result<Live, GcError>
+    requires well_formed { IsWellFormed link.now }
+    requires walked { IsWalked link.now walk.now }
+    ensures { GivesLive link.now result }
+{
     let faults = reference_faults(alloc, link, walk.marks.as_slice())?;
     if !faults.is_empty() {
         return Err(GcError::References(List::from_vec(faults)));
     }
-    Ok(live_after(alloc, link, &walk)?)
-}
-
-/// The same with workers (libwild: `traverse_reference_graph`). With 0 or 1 of them it never calls the gate, and asks for no leave
-/// to enter it. Every number of workers runs on the caller today.
-pub fn traverse<R: Threads + Wait + Sync, G: Gate + Sync>(
-    _rt: &R,
-    alloc: Global,
-    link: &LinkInput,
-    _workers: u32,
-    _gate: &G,
-) -> Result<Live, GcError>
-    requires well_formed { IsWellFormed link.now }
-    requires gate { 2 ≤ _workers → G.may_enter _gate.now }
-    ensures { GivesLive link.now result }
-{
-    traverse_alone(alloc, link)
+    Ok(live_after(alloc, link, walk)?)
 }

@@ -1,10 +1,13 @@
+pub mod Digits
 pub mod Expressions
 pub mod Fixed
 pub mod Known
+pub mod KnownFiles
 pub mod KnownSections
 pub mod LargeMembers
 pub mod Lists
 pub mod Objects
+pub mod Placements
 pub mod Plain
 pub mod Relocations
 pub mod Steps

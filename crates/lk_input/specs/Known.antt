@@ -1,7 +1,7 @@
 -- Objects of which each known member is read where it stands: the words of private contracts.
 use Rattle.std.specs.Prelude.{◌≡◌, ℕ, List, [], false, Option, Some, None, Result, Ok, Err, ⊤, option_map, unwrap_or}
 use Rattle.json.specs.Token.{Token}
-use Rattle.serde_json.specs.Data.{Data, Members, no_members, put}
+use Rattle.serde_json.specs.Data.{Data, Members, put}
 use Rattle.serde_json.specs.Find.{get_member}
 use Rattle.lk_link.specs.declared.symbol.InputSymbol.{InputSymbol}
 use Rattle.lk_input.specs.declared.read.fail.Fail.{Fail}
@@ -18,10 +18,11 @@ Keeps kept key depth before old (Ok _) now new =
     (d : Data) × (data_at depth old ≡ Some (d, new)) × ((ms : Members) → before ≡ kept ms → now ≡ kept (put key d ms))
 Keeps kept key depth before old (Err e) now new = Lacks e (data_at depth old)
 
--- all members of an object were read, and this is kept of them
-abbrev pub Gathers : {K : Type 0} → (Members → K) → ℕ → List Token → Result K Fail → List Token → Type 0
-Gathers kept depth old (Ok known) new = (ms : Members) × (members_at no_members depth old ≡ Some (ms, new)) × (known ≡ kept ms)
-Gathers kept depth old (Err e) new = Lacks e (members_at no_members depth old)
+-- all members of an object were read: of whatever members something was kept before, it is now kept of them with these
+abbrev pub Gathers : {K : Type 0} → (Members → K) → ℕ → K → List Token → Result ⊤ Fail → K → List Token → Type 0
+Gathers kept depth before old (Ok _) now new =
+    (found : Members) → before ≡ kept found → (ms : Members) × (members_at found depth old ≡ Some (ms, new)) × (now ≡ kept ms)
+Gathers kept depth before old (Err e) now new = (found : Members) → before ≡ kept found → Lacks e (members_at found depth old)
 
 -- what was kept of a member that must be there
 abbrev pub kept_needed : {A : Type 0} → List ℕ → Option (Result A Path) → Result A Path

@@ -1,4 +1,6 @@
+pub mod Kept
 pub mod Known
+pub mod KnownFiles
 pub mod KnownSections
 pub mod Large
 pub mod LargeMembers

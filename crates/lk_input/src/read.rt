@@ -1,13 +1,12 @@
 //! A link description from JSON.
 //!
-//! The tokens of the text are read one after the other. A symbol, a section and a relocation are read from their tokens into their
-//! records: each member that the format knows, or item, is read where it stands, and kept as what it gives, or as the path of the
-//! first wrong shape in it. What else may be large (groups, files and their lists) is made where it stands, too. The options, the
-//! plan and the small members of a file are kept as one small JSON value, and that is then read type by type: each type says which
-//! members or items it has, in the order of the format, and reads them by a few common steps (a member that must be there, one
-//! with a default, an item of a fixed list, a list, one of these texts). The first value of a wrong shape, in that order, refuses
-//! the description, once the text is known to be JSON to its end. Its path is put together on the way out, one step at each level,
-//! so that a good description pays nothing for it.
+//! The tokens of the text are read one after the other. A file, a symbol, a section and a relocation are read from their tokens into
+//! their records: each member that the format knows, or item, is read where it stands, and kept as what it gives, or as the path of
+//! the first wrong shape in it. What else may be large (groups and lists) is made where it stands, too. The options and the plan are
+//! kept as one small JSON value, and that is then read type by type: each type says which members or items it has, in the order of
+//! the format, and reads them by a few common steps (a member that must be there, one with a default, an item of a fixed list, a
+//! list, one of these texts). The first value of a wrong shape, in that order, refuses the description, once the text is known to be
+//! JSON to its end. Its path is put together on the way out, one step at each level, so that a good description pays nothing for it.
 
 ghost use Rattle.std.specs.Prelude.{◌≡◌, ◌∷◌};
 ghost use Rattle.json.specs.Json.{parse_map};
@@ -20,17 +19,20 @@ ghost use Rattle.lk_input.specs.ReadingSteps.{Reads};
 ghost use Rattle.lk_input.specs.Tokens.{data_at, Stands, as_is};
 
 mod described;
+mod digits;
 mod error;
 mod event;
 mod expression;
 mod fail;
 mod file;
 mod fixed;
+mod kept;
 mod known;
 mod large;
 mod member;
 mod options;
 mod output_section;
+mod placement;
 mod plain;
 mod plan;
 mod relocation;
@@ -42,6 +44,7 @@ mod tokens;
 mod word;
 
 use crate::read::fail::Fail;
+use crate::read::kept::Kept;
 use crate::read::large::{Large, kept_or, reread, stream_members};
 use crate::read::member::{object_or_empty, required};
 use crate::read::stream::{Streamed, misfit_from, settled};
@@ -82,7 +85,7 @@ impl Word for LinkKey {
 /// The large member of the description.
 #[derive(Drop)]
 struct LinkMembers {
-    groups: Option<Result<InputGroups, Text>>,
+    groups: Kept<InputGroups>,
 }
 
 impl Large for LinkMembers {
@@ -91,7 +94,9 @@ impl Large for LinkMembers {
     ghost kept = { link_kept };
 
     fn none() -> LinkMembers {
-        LinkMembers { groups: None }
+        LinkMembers {
+            groups: Kept::none(),
+        }
     }
 
     fn take(

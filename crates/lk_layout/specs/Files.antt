@@ -14,6 +14,7 @@ use Rattle.lk_layout.specs.declared.files.ObjectLayout.{ObjectLayout}
 use Rattle.lk_layout.specs.declared.files.PreludeLayout.{PreludeLayout}
 use Rattle.lk_layout.specs.LayoutRecord.{LayoutRecord}
 use Rattle.lk_layout.specs.SectionResolutions.{resolutions_of}
+use Rattle.lk_layout.specs.SectionSlots.{SlotsRecord}
 use Rattle.lk_layout.specs.ThunkUsers.{block_for, owns_block}
 
 -- the entry, what the output tells of the linker, and the headers
@@ -28,13 +29,22 @@ file_resolutions all id file =
     let first = first_input all.link.groups id in
     resolutions_of (drop first all.live_marks) (drop first all.section_addresses) (length file.sections)
 
--- an object's number, its symbols' numbers, its name, its sections, where they stand, and what is deleted of them; and its block of thunks,
+-- what became of the sections of a file
+abbrev pub file_slots : LayoutRecord → FileId → InputFile → SlotsRecord
+file_slots all id file = record {
+  link = all.link;
+  sections = file.sections;
+  marks = drop (first_input all.link.groups id) all.live_marks;
+  deleted = slice_get all.section_deletions (file_number all.link.groups id);
+}
+
+-- an object's number, its symbols' numbers, its name, what became of its sections, where they stand, and what is deleted of them; its block of thunks,
 -- and whether it owns that: the first block and no, where it needs none
 pub record IsObjectLayout (all : LayoutRecord) (id : FileId) (file : InputFile) (range : SymbolIdRange) (o : ObjectLayout) : Type 0 where
   pub number : o.file_id ≡ id
   pub symbols : o.symbol_id_range ≡ range
   pub name : o.name.now ≡ file.name
-  pub sections : o.sections.now ≡ file.sections
+  pub sections : o.sections ≡ file_slots all id file
   pub resolutions : o.section_resolutions ≡ file_resolutions all id file
   pub deleted : option_copied o.section_relax_deltas ≡ slice_get all.section_deletions (file_number all.link.groups id)
   pub block : o.thunk_block_id ≡ block_for all.thunk_users id

@@ -25,6 +25,7 @@ pub mod Movable
 pub mod Redirects
 pub mod Refreshed
 pub mod SectionResolutions
+pub mod SectionSlots
 pub mod Sound
 pub mod Spans
 pub mod Stages

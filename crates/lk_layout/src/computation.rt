@@ -16,13 +16,13 @@ use crate::found::{
     found_addresses, found_first, found_reaching, found_sizes, found_spans, found_told,
 };
 use crate::headers::header_bytes;
-use crate::images::merge_images;
+use crate::images::{merge_images, merge_images_by_workers};
 use crate::layout::Layout;
 use crate::stages::{
     AddressedLink, KeptLink, PlacedLink, ReachingLink, SizedLink, SpannedLink, ToldLink,
 };
 use lk_check::check_link;
-use lk_gc::traverse_alone;
+use lk_gc::{traverse, traverse_alone};
 use lk_link::gate::Gate;
 use lk_link::link::LinkInput;
 use lk_link::list::List;
@@ -47,6 +47,20 @@ pub fn compute_alone<'data, P: Platform, A: Arch>(
     check(link, platform, arch)?;
     let images = merge(alloc, link, platform, arch)?;
     let kept = keep(alloc, link, platform, arch, images)?;
+    lay_out(alloc, link, platform, arch, kept)
+}
+
+/// The layout of a link of which this is kept.
+fn lay_out<'data, P: Platform, A: Arch>(
+    alloc: Global,
+    link: &'data LinkInput,
+    platform: &P,
+    arch: &A,
+    kept: KeptLink<'data>,
+) -> Result<Layout<'data>, LayoutError>
+    requires kept { IsKept link.now kept }
+    ensures { Gives (platform_machine (P.segment_start platform.now) (P.table_sizes platform.now) (A.config_of arch.now)) link.now result }
+{
     let sized = size(alloc, link, platform, arch, kept)?;
     let placed = place(alloc, link, platform, arch, sized)?;
     let spanned = span(alloc, link, platform, arch, placed)?;
@@ -240,19 +254,77 @@ fn tell<'data, P: Platform, A: Arch>(
     }
 }
 
-/// The layout of a link: the defined answer, unless memory runs out (libwild: `layout::compute`). With 0 or 1 workers it
-/// never calls the gate: it then asks for no leave to enter it. Every number of workers runs on the caller today.
+/// No more workers than these are started; a greater number counts as this.
+const MOST_WORKERS: u32 = 64;
+
+/// Merges what is merged of a link by so many workers.
+fn merge_by_workers<
+    'data,
+    R: Threads + Wait + Sync,
+    P: Platform + Sync,
+    A: Arch + Sync,
+    G: Gate + Sync,
+>(
+    rt: &R,
+    alloc: Global,
+    link: &'data LinkInput,
+    _platform: &P,
+    _arch: &A,
+    workers: u32,
+    gate: &G,
+) -> Result<Images<'data>, LayoutError>
+    requires checked { IsChecked link.now }
+    requires gate { 2 ≤ workers → G.may_enter gate.now }
+    ensures { Reaches (platform_machine (P.segment_start _platform.now) (P.table_sizes _platform.now) (A.config_of _arch.now)) link.now (IsMerged link.now) result }
+{
+    merge_images_by_workers(rt, alloc, link, workers.min(MOST_WORKERS), gate)
+}
+
+/// Finds what is live by so many workers, and the references that can't be met.
+fn keep_by_workers<
+    'data,
+    R: Threads + Wait + Sync,
+    P: Platform + Sync,
+    A: Arch + Sync,
+    G: Gate + Sync,
+>(
+    rt: &R,
+    alloc: Global,
+    link: &'data LinkInput,
+    _platform: &P,
+    _arch: &A,
+    images: Images<'data>,
+    workers: u32,
+    gate: &G,
+) -> Result<KeptLink<'data>, LayoutError>
+    requires merged { IsMerged link.now images }
+    requires gate { 2 ≤ workers → G.may_enter gate.now }
+    ensures { Reaches (platform_machine (P.segment_start _platform.now) (P.table_sizes _platform.now) (A.config_of _arch.now)) link.now (IsKept link.now) result }
+{
+    let live = traverse(rt, alloc, link, workers.min(MOST_WORKERS), gate)?;
+    Ok(KeptLink { images, live })
+}
+
+/// The layout of a link: the defined answer, unless memory runs out (libwild: `layout::compute`). With two or more workers as many threads,
+/// 64 at most, merge strings and then find what is reached, and the gate is entered before their steps; all else is done on the caller's
+/// thread, which waits for them. With 0 or 1 it never calls the gate: it then asks for no leave to enter it.
 pub fn compute<'data, R: Threads + Wait + Sync, P: Platform + Sync, A: Arch + Sync, G: Gate + Sync>(
-    _rt: &R,
+    rt: &R,
     alloc: Global,
     link: &'data LinkInput,
     platform: &P,
     arch: &A,
-    _workers: u32,
-    _gate: &G,
+    workers: u32,
+    gate: &G,
 ) -> Result<Layout<'data>, LayoutError>
-    requires gate { 2 ≤ _workers → G.may_enter _gate.now }
+    requires gate { 2 ≤ workers → G.may_enter gate.now }
     ensures { Gives (platform_machine (P.segment_start platform.now) (P.table_sizes platform.now) (A.config_of arch.now)) link.now result }
 {
-    compute_alone(alloc, link, platform, arch)
+    if workers < 2 {
+        return compute_alone(alloc, link, platform, arch);
+    }
+    check(link, platform, arch)?;
+    let images = merge_by_workers(rt, alloc, link, platform, arch, workers, gate)?;
+    let kept = keep_by_workers(rt, alloc, link, platform, arch, images, workers, gate)?;
+    lay_out(alloc, link, platform, arch, kept)
 }

@@ -117,8 +117,9 @@ impl<'data> Layout<'data> {
     }
 
     /// Tells anew what sections span with their secondaries and what segments span, by the records that sections have now, in this kind
-    /// of file (libwild: `refresh_file_layouts`). No call changes the memory of a section, so what is made anew spans the memory that it
-    /// spanned, by a law (`memory_stays`). Where memory runs out, the layout is as it was; nothing else is refused. Takes as long as `merge_secondary_parts` and `compute_segment_layout`.
+    /// of file (libwild: `refresh_file_layouts`). Of a defined layout, and of what such calls make of one, the memory that is told stays, by a
+    /// law (`memory_stays`). Where memory runs out, the layout is as it was; nothing else is refused. Takes as long as
+    /// `merge_secondary_parts` and `compute_segment_layout`.
     pub fn refresh_file_layouts(
         &mut self,
         alloc: Global,

@@ -7,12 +7,13 @@ ghost use Rattle.lk_gc.specs.StateTexts.{placed_name};
 ghost use Rattle.lk_link.specs.Files.{file_in};
 ghost use Rattle.lk_link.specs.Inputs.{first_input};
 ghost use Rattle.lk_link.specs.Symbols.{file_number};
-ghost use Rattle.lk_layout.specs.Files.{IsFileLayout, IsLayoutBy, IsObjectLayout, IsPreludeLayout};
+ghost use Rattle.lk_layout.specs.Files.{IsFileLayout, IsLayoutBy, IsObjectLayout, IsPreludeLayout, file_slots};
 ghost use Rattle.lk_layout.specs.SectionResolutions.{resolutions_of};
 
 use crate::layout::Layout;
 use crate::section_resolution::SectionResolutions;
-use lk_link::{FileId, FileKind, InputFile, InputSection, SymbolId, SymbolIdRange, Text};
+use crate::section_slots::SectionSlots;
+use lk_link::{FileId, FileKind, InputFile, SymbolId, SymbolIdRange, Text};
 use lk_relax::RelaxDeltaMap;
 use lk_sizes::HeaderInfo;
 use lk_thunks::ThunkBlockId;
@@ -35,8 +36,8 @@ pub struct ObjectLayout<'a> {
     pub file_id: FileId,
     pub symbol_id_range: SymbolIdRange,
     pub name: &'a str,
-    /// Its sections, as the description has them.
-    pub sections: &'a [InputSection],
+    /// What became of its sections, by index.
+    pub sections: SectionSlots<'a>,
     /// Where its sections stand, by index.
     pub section_resolutions: SectionResolutions<'a>,
     /// What is deleted of its sections, by index; with none, nothing is.
@@ -175,6 +176,20 @@ impl<'data> Layout<'data> {
         }
     }
 
+    /// What became of the sections of a file with this number, of which the first has this one.
+    fn slots_from(&self, id: FileId, file: &'data InputFile, first: usize) -> SectionSlots<'_>
+        requires there { IsSome (file_in self.now.link.groups id) }
+        requires first { first ≡ first_input self.now.link.groups id }
+        ensures { result ≡ file_slots self.now id file.now }
+    {
+        SectionSlots {
+            link: self.link,
+            sections: file.sections.as_slice(),
+            marks: behind_first(self.live_marks.as_slice(), first),
+            deleted: self.deletions_of(id),
+        }
+    }
+
     /// What is told of an object with this number, whose symbols have these numbers, and whose first section has this one.
     fn object_by(
         &self,
@@ -192,7 +207,7 @@ impl<'data> Layout<'data> {
             file_id: id,
             symbol_id_range,
             name: file.name.as_str(),
-            sections: file.sections.as_slice(),
+            sections: self.slots_from(id, file, first),
             section_resolutions: self.resolutions_from(first, file.sections.len()),
             section_relax_deltas: self.deletions_of(id),
             thunk_block_id,

@@ -20,6 +20,7 @@ pub mod query_laws;
 mod redirects;
 mod references;
 pub mod section_resolution;
+pub mod section_slots;
 mod stages;
 mod thunk_users;
 

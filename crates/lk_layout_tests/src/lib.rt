@@ -12,6 +12,8 @@ mod groups;
 #[cfg(test)]
 mod layout;
 #[cfg(test)]
+mod lent;
+#[cfg(test)]
 mod merged_links;
 #[cfg(test)]
 mod own_symbols;

@@ -71,6 +71,22 @@ symbol 0 0x1ffffc 16448 got - plt - dyn -
 entry -
 end
 
+# The owner of a block of thunks gets smaller pass by pass: its thunks come nearer with what stands behind them, and each pass lets a further candidate go.
+{"options":{"relax":true,"branch_range":2097153},"plan":{"page":1,"sections":[{"attrs":5,"parts":[[1,false]]}],"segments":[{"kind":"load"}],"events":[["seg",0],["sec",0],["endseg",0]],"primary":0},"groups":[[{"kind":"prelude"}],[{"kind":"object","symbols":[{"at":["undef"],"def":2},{"at":["abs",4000000]}],"sections":[{"slot":"must","size":20,"attrs":4,"relax":[[0,0,31,4],[4,0,31,4],[8,0,28,2]],"relocs":[[16,"Relative",1,0,true]]},{"slot":"unloaded","size":3000000,"attrs":4}]}],[{"kind":"object","symbols":[{"at":["sec",0,0]}],"sections":[{"slot":"must","size":4,"attrs":4,"relocs":[[0,"Relative",0,0,false]]}]}]]}
+0 layout
+section 0 index 0 mem 0x0 30 file 0x0 30 align 1 lma 0x0 attrs 5
+part 0 mem 0x0 30 file 0x0 30 align 1
+segment 0 mem 0x0 30 file 0x0 30 align 1
+live 1 0 0 0x0 10
+live 2 0 0 0x1a 4
+block 0 1 0
+block 1 2 0
+thunk 0 1 0xa
+symbol 1 0x3d0900 16448 got - plt - dyn -
+symbol 2 0x1a 64 got - plt - dyn -
+entry -
+end
+
 # A redirect reads final sizes and values, and an edge the end behind what is deleted.
 {"options":{"relax":true},"plan":{"page":1,"base":["num",4096],"sections":[{"attrs":5,"parts":[[1,false]]},{"attrs":1,"parts":[[1,false]]}],"segments":[{"kind":"load"}],"events":[["seg",0],["sec",0],["sec",1],["endseg",0]]},"groups":[[{"kind":"prelude","symbols":[{"at":["end",0],"name":"etext"}]}],[{"kind":"script","symbols":[{"at":["redirect",["add",["sizeof",0],["sym",2]],["none"],false],"name":"x"}]}],[{"kind":"object","sections":[{"slot":"must","part":0,"size":16,"attrs":4,"relax":[[4,0,18446744073709551615,4]]},{"slot":"must","part":1,"size":4}],"symbols":[{"at":["sec",0,16]}]}]]}
 0 layout

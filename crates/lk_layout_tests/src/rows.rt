@@ -3,8 +3,9 @@
 use crate::devices::{add_calls, add_held, add_reads, add_run, add_whole, add_writes};
 use crate::files::{add_moved, add_told};
 use crate::layout::add_workers;
+use crate::lent::add_lent;
 use crate::queries::add_queries;
-use crate::runs::{add_end, add_words};
+use crate::runs::{add_end, add_lock_step, add_words};
 use crate::words::{add_both_runs, add_generated};
 use lk_input::read_link;
 use lk_test_rows::{Row, rows_of};
@@ -19,6 +20,8 @@ use std::thread::Threads;
 pub enum Asked {
     /// What reports are made of it by how many workers.
     Workers,
+    /// Whether a run over it by two workers in lock step tells what one by none does.
+    LockStep,
     /// How a run over it ends.
     Run,
     /// What the layout of it tells of starts.
@@ -47,6 +50,8 @@ pub enum Asked {
     Moved,
     /// What is told of the groups of its layout.
     Groups,
+    /// What its layout lends.
+    Lent,
 }
 
 /// Adds what is answered where the text stands for a link.
@@ -79,6 +84,14 @@ fn add_all_groups(alloc: Global, line: &mut String, text: &str) -> Result<(), Al
     }
 }
 
+/// Adds what is lent where the text stands for a link.
+fn add_all_lent(alloc: Global, line: &mut String, text: &str) -> Result<(), AllocError> {
+    match read_link(alloc, text.as_bytes()) {
+        Ok(link) => add_lent(alloc, line, &link),
+        Err(error) => write!(line, "no link: {error}"),
+    }
+}
+
 /// Adds what is answered.
 fn add_answer(
     rt: &(impl Threads + Wait + Sync),
@@ -89,6 +102,7 @@ fn add_answer(
 ) -> Result<(), AllocError> {
     match asked {
         Asked::Workers => add_linked(rt, alloc, line, text),
+        Asked::LockStep => add_lock_step(rt, alloc, line, text),
         Asked::Run => add_end(alloc, line, text),
         Asked::Starts | Asked::Symbols => add_queries(alloc, line, asked, text),
         Asked::Words => add_words(alloc, line, text),
@@ -102,6 +116,7 @@ fn add_answer(
         Asked::FaultyRun => add_run(rt, alloc, line, text),
         Asked::Moved => add_worded(alloc, line, text),
         Asked::Groups => add_all_groups(alloc, line, text),
+        Asked::Lent => add_all_lent(alloc, line, text),
     }
 }
 

@@ -1,9 +1,9 @@
 //! Runs over devices in memory.
 
 use crate::rows::expect_text;
-use lk_link::NoGate;
+use lk_link::{Gate, NoGate};
 use lk_run::{MemorySink, MemorySource, Status, read_words, run, run_alone};
-use lk_test_rows::{Frame, NO_FRAME, add, frame_of, framed};
+use lk_test_rows::{Frame, LockStep, NO_FRAME, add, frame_of, framed};
 use std::alloc::{AllocError, Global};
 use std::process::Abort;
 use std::str;
@@ -46,17 +46,45 @@ pub fn told(alloc: Global, words: &[String], input: &str) -> Result<String, Allo
     told_end(alloc, status, &sink)
 }
 
-/// The same of a run by as many workers as the words ask for.
+/// The same of a run by as many workers as the words ask for, which enter a gate before each of their steps.
+fn told_through<G: Gate + Sync>(
+    rt: &(impl Threads + Wait + Sync),
+    alloc: Global,
+    words: &[String],
+    input: &str,
+    gate: &G,
+) -> Result<String, AllocError>
+    requires { G.may_enter gate.now }
+{
+    let mut source = MemorySource::new(input.as_bytes().to_vec(alloc)?, 100, Vec::new(alloc));
+    let mut sink = MemorySink::new(alloc, ROOM, 7, Vec::new(alloc))?;
+    let status = run(rt, alloc, words, &mut source, &mut sink, gate);
+    told_end(alloc, Some(status), &sink)
+}
+
+/// The same without a gate.
 pub fn told_by_workers(
     rt: &(impl Threads + Wait + Sync),
     alloc: Global,
     words: &[String],
     input: &str,
 ) -> Result<String, AllocError> {
-    let mut source = MemorySource::new(input.as_bytes().to_vec(alloc)?, 100, Vec::new(alloc));
-    let mut sink = MemorySink::new(alloc, ROOM, 7, Vec::new(alloc))?;
-    let status = run(rt, alloc, words, &mut source, &mut sink, &NoGate);
-    told_end(alloc, Some(status), &sink)
+    told_through(rt, alloc, words, input, &NoGate)
+}
+
+/// Adds whether two workers in lock step tell what none does, and whether they waited too long for each other.
+pub fn add_lock_step(
+    rt: &(impl Threads + Wait + Sync),
+    alloc: Global,
+    line: &mut String,
+    input: &str,
+) -> Result<(), AllocError> {
+    let gate = LockStep::new();
+    let words = words_of(alloc, "layout 2")?;
+    let by_two = told_through(rt, alloc, &words, input, &gate)?;
+    let alone = ended(alloc, input)?;
+    add(line, "alike", &(by_two.as_str() == alone.as_str()))?;
+    add(line, "waited too long", &gate.has_waited_too_long())
 }
 
 /// How `layout 0` ends over an input.

@@ -113,6 +113,16 @@ fn the_number_of_workers_changes_nothing(rt: HostRuntime) -> Result<(), Fail> {
     expect_rows(&rt, rt.alloc(), Asked::BothRuns, WORKERS)
 }
 
+/// Two groups of a hundred units each, of which two workers take one in turn.
+const LOCK_STEP: &str = r#"
+{"plan":{"page":16,"sections":[{"attrs":1,"parts":[[1,false]]}],"events":[["sec",0]]},"groups":[[{"kind":"prelude"}],[{"kind":"object","sections":[«100 of {"slot":"must"}»]}],[{"kind":"object","sections":[«100 of {"slot":"must"}»]}]]} => alike true waited too long false
+"#;
+
+#[test]
+fn two_workers_run_in_lock_step(rt: HostRuntime) -> Result<(), Fail> {
+    expect_rows(&rt, rt.alloc(), Asked::LockStep, LOCK_STEP)
+}
+
 /// Adds how a run with the words of a row ends, whose source is empty.
 pub fn add_generated(alloc: Global, line: &mut String, row: &str) -> Result<(), AllocError> {
     line.push_str(told(alloc, &words_of(alloc, row)?, "")?.as_str())

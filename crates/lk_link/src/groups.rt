@@ -10,7 +10,7 @@ ghost use Rattle.lk_link.specs.Inputs.{InputsFollow};
 ghost use Rattle.lk_link.specs.Symbols.{all_files, FilesHaveNumbers, SymbolsFollow, SymbolsHaveFiles};
 ghost use Rattle.lk_link.specs.declared.file.InputFile.{InputFile};
 
-use crate::ends::{last_end, place_of, push_end, start_at};
+use crate::ends::{guesses_of, last_end, place_near, push_end, start_at};
 use crate::file::InputFile;
 use crate::ids::{FileId, SymbolId, SymbolIdRange};
 use crate::list::List;
@@ -29,6 +29,9 @@ pub struct InputGroups {
     symbol_ends: Vec<usize>,
     /// Where the sections of each file end, numbered over all files.
     section_ends: Vec<usize>,
+    /// Guesses at the groups of files, and at the files of symbols.
+    file_guesses: Vec<u32>,
+    symbol_guesses: Vec<u32>,
 }
 
 impl Model for InputGroups {
@@ -78,6 +81,8 @@ impl InputGroups {
             file_ends: Vec::new(alloc),
             symbol_ends: Vec::new(alloc),
             section_ends: Vec::new(alloc),
+            file_guesses: Vec::new(alloc),
+            symbol_guesses: Vec::new(alloc),
         }
     }
 
@@ -88,11 +93,15 @@ impl InputGroups {
         let file_ends = ends_of_groups(alloc, groups.as_slice())?;
         let file_count = last_end(file_ends.as_slice());
         let ends = ends_of_files(alloc, groups.as_slice(), file_count)?;
+        let file_guesses = guesses_of(alloc, file_ends.as_slice())?;
+        let symbol_guesses = guesses_of(alloc, ends.symbols.as_slice())?;
         Ok(InputGroups {
             groups,
             file_ends,
             symbol_ends: ends.symbols,
             section_ends: ends.sections,
+            file_guesses,
+            symbol_guesses,
         })
     }
 
@@ -144,7 +153,11 @@ impl InputGroups {
     pub fn symbol(&self, id: SymbolId) -> Option<&InputSymbol>
         ensures { option_copied result ≡ symbol_at self.now id }
     {
-        let (file, index) = place_of(self.symbol_ends.as_slice(), id.as_u32() as usize)?;
+        let (file, index) = place_near(
+            self.symbol_ends.as_slice(),
+            self.symbol_guesses.as_slice(),
+            id.as_u32() as usize,
+        )?;
         self.file_at(file)?.symbols.get(index)
     }
 
@@ -202,8 +215,16 @@ impl InputGroups {
         requires { AreNumbered self.now }
         ensures { MatchOption result (symbol_count (all_files self.now) ≤ id) (λ file. IsSymbolIn self.now file id) }
     {
-        let (number, _) = place_of(self.symbol_ends.as_slice(), id.as_u32() as usize)?;
-        let (group, file) = place_of(self.file_ends.as_slice(), number)?;
+        let (number, _) = place_near(
+            self.symbol_ends.as_slice(),
+            self.symbol_guesses.as_slice(),
+            id.as_u32() as usize,
+        )?;
+        let (group, file) = place_near(
+            self.file_ends.as_slice(),
+            self.file_guesses.as_slice(),
+            number,
+        )?;
         Some(FileId {
             group: group as u32,
             file: file as u32,
@@ -240,8 +261,16 @@ impl InputGroups {
         requires { AreNumbered self.now }
         ensures { MatchOption result (symbol_count (all_files self.now) ≤ id) (λ p. IsSymbolAt self.now p.0 p.1 id) }
     {
-        let (number, index) = place_of(self.symbol_ends.as_slice(), id.as_u32() as usize)?;
-        let (group, file) = place_of(self.file_ends.as_slice(), number)?;
+        let (number, index) = place_near(
+            self.symbol_ends.as_slice(),
+            self.symbol_guesses.as_slice(),
+            id.as_u32() as usize,
+        )?;
+        let (group, file) = place_near(
+            self.file_ends.as_slice(),
+            self.file_guesses.as_slice(),
+            number,
+        )?;
         let file = FileId {
             group: group as u32,
             file: file as u32,
@@ -273,7 +302,11 @@ impl InputGroups {
         requires { number < 2 ^ 64 - 1 }
         ensures { option_copied result ≡ slice_get (all_files self.now) number }
     {
-        let (group, file) = place_of(self.file_ends.as_slice(), number)?;
+        let (group, file) = place_near(
+            self.file_ends.as_slice(),
+            self.file_guesses.as_slice(),
+            number,
+        )?;
         self.groups.as_slice()[group].get(file)
     }
 }

@@ -22,7 +22,7 @@ no_list b = refl
 pub fine : (section limit b : ℕ) → bucket_refusal section limit b [] ≡ None
 fine section limit b = refl
 
-took_none : (section limit b : ℕ) → HasTaken section limit b (bucket_list fnv64 [] b) (empty_state section limit b)
+pub took_none : (section limit b : ℕ) → HasTaken section limit b (bucket_list fnv64 [] b) (empty_state section limit b)
 took_none section limit b = subst (λ l. HasTaken section limit b l (empty_state section limit b)) (sym (no_list b)) (record {
   refusal = sym (fine section limit b);
   holds = λ _. refl;

@@ -1,12 +1,12 @@
 -- The groups of inputs hold each offset and each piece once.
 use Rattle.std.proofs.Common.{◌≡◌, ℕ, zero, suc, ◌<◌, ◌≤◌, Bool, true, false, cond, ◌&&◌, leb, ltb, List, [], ◌∷◌, ◌++◌, map, filter, Some, refl, sym, ap, ◌∙◌, subst, arith, inl, inr, ⊎_elim}
-use Rattle.std.specs.List.{flat_map, slice_get}
+use Rattle.std.specs.List.{flat_map, list_all, slice_get}
 use Rattle.std.proofs.lemmas.Bool.{cases_lt, le-leb, le-ltb, lt-leb, lt-ltb}
 use Rattle.std.proofs.lemmas.List.{map-append}
 use Rattle.lk_merge.specs.declared.groups.SectionGroup.{SectionGroup}
 use Rattle.lk_merge.specs.Groups.{AreGroups, CutsNoConstant, GroupsCover, IsGroupEnd, IsWholeOrOutside, group_pieces}
 use Rattle.lk_merge.specs.Inputs.{Located, located, padded_total}
-use Rattle.lk_merge.specs.Pieces.{Piece, MergeInput}
+use Rattle.lk_merge.specs.Pieces.{Piece, MergeInput, is_terminated}
 use Rattle.lk_merge.proofs.GoodPieces.{good_pieces}
 use Rattle.lk_merge.proofs.GroupsThere.{groups_there}
 use Rattle.lk_merge.proofs.InputLemmas.{pieces_located_from}
@@ -125,7 +125,7 @@ module _ (xs : List MergeInput) (size : ℕ) where
 
 -- ---- pieces
 
-abbrev in_range : ℕ → ℕ → Located → Bool
+abbrev pub in_range : ℕ → ℕ → Located → Bool
 in_range a b l = leb a l.start && ltb l.start b
 
 in_step : (a b : ℕ) (l : Located) (ls : List Located) (t : Bool) → in_range a b l ≡ t → filter (in_range a b) (l ∷ ls) ≡ cond t (l ∷ filter (in_range a b) ls) (filter (in_range a b) ls)
@@ -136,7 +136,7 @@ from_step : (a : ℕ) (l : Located) (ls : List Located) (t : Bool) → leb a l.s
 from_step a l ls t e = ap (λ c. cond c (l ∷ filter (λ (x : Located). leb a x.start) ls) (filter (λ (x : Located). leb a x.start) ls)) e
 
 -- all pieces start at an offset or behind it
-abbrev AllFrom : ℕ → List Located → Type 0
+abbrev pub AllFrom : ℕ → List Located → Type 0
 AllFrom b ls = (k : ℕ) (l : Located) → slice_get ls k ≡ Some l → b ≤ l.start
 
 inside : (a b : ℕ) (l : Located) → a ≤ l.start → l.start < b → in_range a b l ≡ true
@@ -149,7 +149,7 @@ and_false false = refl
 past : (a b : ℕ) (l : Located) → b ≤ l.start → in_range a b l ≡ false
 past a b l far = ap (λ t. leb a l.start && t) (le-ltb l.start b far) ∙ and_false (leb a l.start)
 
-none_inside : (a b : ℕ) (ls : List Located) → AllFrom b ls → filter (in_range a b) ls ≡ []
+pub none_inside : (a b : ℕ) (ls : List Located) → AllFrom b ls → filter (in_range a b) ls ≡ []
 none_inside a b [] h = refl
 none_inside a b (l ∷ ls) h = in_step a b l ls false (past a b l (h 0 l refl)) ∙ none_inside a b ls (λ k m e. h (suc k) m e)
 
@@ -201,6 +201,26 @@ pieces_from xs size start (g ∷ gs) rise below h =
     ∙ sym (map-append piece (filter (in_range g.start g.end) (located xs)) (filter (λ (x : Located). leb g.end x.start) (located xs)))
     ∙ ap (map piece) (cut_range g.start g.end (located xs) rise (omega (arith, some)))
     ∙ ap (λ n. map piece (filter (λ (x : Located). leb n x.start) (located xs))) f.starts
+
+-- the same for the pieces in their places
+located_from_on : (xs : List MergeInput) (size start : ℕ) (gs : List SectionGroup) → Rise (located xs) → ((k : ℕ) (l : Located) → slice_get (located xs) k ≡ Some l → l.start < padded_total xs)
+    → AreGroups xs size start gs → flat_map (λ (x : SectionGroup). filter (in_range x.start x.end) (located xs)) gs ≡ filter (λ (x : Located). leb start x.start) (located xs)
+located_from_on xs size start [] rise below h =
+    let end = no_group xs size start h in
+    sym (none_from start (located xs) (λ k l e. let less = below k l e in omega (arith, less, end)))
+located_from_on xs size start (g ∷ gs) rise below h =
+    let f = first_group xs size start g gs h in
+    let some = f.some in
+    ap (λ (ls : List Located). filter (in_range g.start g.end) (located xs) ++ ls) (located_from_on xs size g.end gs rise below f.rest)
+    ∙ cut_range g.start g.end (located xs) rise (omega (arith, some)) ∙ ap (λ n. filter (λ (x : Located). leb n x.start) (located xs)) f.starts
+
+pub located_in_groups : (xs : List MergeInput) (size : ℕ) (gs : List SectionGroup) → list_all is_terminated xs ≡ true → AreGroups xs size 0 gs
+    → flat_map (λ (x : SectionGroup). filter (in_range x.start x.end) (located xs)) gs ≡ located xs
+located_in_groups xs size gs terminated h =
+    let good_ones = good_pieces xs terminated in
+    located_from_on xs size 0 gs (rise_from 0 0 xs good_ones)
+    (λ k l e. let b = between_from 0 0 xs k l good_ones e in let some = b.some in let to = b.to in omega (arith, some, to)) h
+    ∙ all_from (located xs)
 
 -- ---- the law
 

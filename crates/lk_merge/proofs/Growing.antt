@@ -89,7 +89,7 @@ entries_stay done more = entries_stay_of (pieces_in done) more done (λ l k h. a
 
 -- ---- the buckets with one more piece
 
-bucket_more : (ps : List Piece) (p : Piece) (b : ℕ) (t : Bool) → eqb (fnv64 p % 16) b ≡ t
+pub bucket_more : (ps : List Piece) (p : Piece) (b : ℕ) (t : Bool) → eqb (fnv64 p % 16) b ≡ t
     → in_bucket fnv64 b (ps ++ p ∷ []) ≡ in_bucket fnv64 b ps ++ cond t (p ∷ []) []
 bucket_more ps p b t h = filter-append _ ps (p ∷ []) ∙ ap (λ c. in_bucket fnv64 b ps ++ cond c (p ∷ []) []) h
 
@@ -110,15 +110,15 @@ fit_before section limit ps p h b small = by (bucket_refusal section limit b (bu
         absurd (let some : Some error ≡ None = sym later ∙ ap (bucket_refusal section limit b) (sym (own_list ps p b f)) ∙ h b small in cc)
     by (Some error) e false f = ap (bucket_refusal section limit b) (sym (other_list ps p b f)) ∙ h b small
 
-some_same : {X : Type 0} (x y : X) → Some x ≡ Some y → x ≡ y
+pub some_same : {X : Type 0} (x y : X) → Some x ≡ Some y → x ≡ y
 some_same x y e = cc
 
-set_at : {X : Type 0} (xs : List X) (i : ℕ) (y : X) → i < length xs → slice_get (set xs i y) i ≡ Some y
+pub set_at : {X : Type 0} (xs : List X) (i : ℕ) (y : X) → i < length xs → slice_get (set xs i y) i ≡ Some y
 set_at [] i y h = absurd (omega arith)
 set_at (x ∷ xs) zero y h = refl
 set_at (x ∷ xs) (suc i) y h = set_at xs i y (omega arith)
 
-set_other : {X : Type 0} (xs : List X) (i j : ℕ) (y : X) → j ≢ i → slice_get (set xs i y) j ≡ slice_get xs j
+pub set_other : {X : Type 0} (xs : List X) (i j : ℕ) (y : X) → j ≢ i → slice_get (set xs i y) j ≡ slice_get xs j
 set_other [] i j y h = refl
 set_other (x ∷ xs) zero zero y h = absurd (h refl)
 set_other (x ∷ xs) zero (suc j) y h = refl

@@ -42,15 +42,18 @@ pub merged_first : (section limit : ℕ) (ss : List StringMergeInputSection) (me
     → HasMerged section limit (located (map input_of (take 0 ss))) merging
 merged_first section limit ss merging h = subst (λ l. HasMerged section limit l merging) (sym (located_none 0 0)) h
 
-pub merged_next : (section limit total : ℕ) (ss : List StringMergeInputSection) (k : ℕ) (s : StringMergeInputSection) (old new : Merges) → AreInputs total ss → k < length ss → s ≡ get_or ss k s
-    → HasMerged section limit (located (map input_of (take k ss)) ++ located_in k s.start_input_offset (pieces_of (input_of s))) new
-    → HasMerged section limit (located (map input_of (take (k + 1) ss))) new
-merged_next section limit total ss k s old new h within is merged =
+-- the pieces of one input more
+pub located_next : (total : ℕ) (ss : List StringMergeInputSection) (k : ℕ) (s : StringMergeInputSection) → AreInputs total ss → k < length ss → s ≡ get_or ss k s
+    → located (map input_of (take (k + 1) ss)) ≡ located (map input_of (take k ss)) ++ located_in k s.start_input_offset (pieces_of (input_of s))
+located_next total ss k s h within is =
     let before : List MergeInput = map input_of (take k ss) in
     let count : length before ≡ k = length-map (take k ss) input_of ∙ length-take-le k ss (omega arith) in
     let start : s.start_input_offset ≡ 0 + padded_total before = input_starts total ss k s h within is ∙ omega arith in
     let more : map input_of (take (k + 1) ss) ≡ before ++ input_of s ∷ []
     = ap (map input_of) (take_more ss k s within ∙ ap (λ (x : StringMergeInputSection). take k ss ++ x ∷ []) (sym is)) ∙ map-append input_of (take k ss) (s ∷ []) in
-    let all : located (map input_of (take (k + 1) ss)) ≡ located before ++ located_in k s.start_input_offset (pieces_of (input_of s))
-    = ap located more ∙ located_from_push 0 0 k before (input_of s) (omega (arith, count)) ∙ ap (λ n. located before ++ located_in k n (pieces_of (input_of s))) (sym start) in
-    subst (λ l. HasMerged section limit l new) (sym all) merged
+    ap located more ∙ located_from_push 0 0 k before (input_of s) (omega (arith, count)) ∙ ap (λ n. located before ++ located_in k n (pieces_of (input_of s))) (sym start)
+
+pub merged_next : (section limit total : ℕ) (ss : List StringMergeInputSection) (k : ℕ) (s : StringMergeInputSection) (old new : Merges) → AreInputs total ss → k < length ss → s ≡ get_or ss k s
+    → HasMerged section limit (located (map input_of (take k ss)) ++ located_in k s.start_input_offset (pieces_of (input_of s))) new
+    → HasMerged section limit (located (map input_of (take (k + 1) ss))) new
+merged_next section limit total ss k s old new h within is merged = subst (λ l. HasMerged section limit l new) (sym (located_next total ss k s h within is)) merged

@@ -28,10 +28,10 @@ firsts_same xs ys (p ∷ ps) same =
 
 module _ (hash : Piece → ℕ) (inputs : List MergeInput) (gs : List SectionGroup) where
   -- the pieces of the first so many groups
-  front : ℕ → List Piece
+  unfoldable pub front : ℕ → List Piece
   front g = flat_map (group_pieces inputs) (take g gs)
 
-  front_more : (g : ℕ) → g < length gs → front (g + 1) ≡ front g ++ pieces_of_group inputs gs g
+  pub front_more : (g : ℕ) → g < length gs → front (g + 1) ≡ front g ++ pieces_of_group inputs gs g
   unfolding front
   front_more g there =
       let x : SectionGroup = get_or gs g (record { start = 0; end = 0 }) in
@@ -47,7 +47,7 @@ module _ (hash : Piece → ℕ) (inputs : List MergeInput) (gs : List SectionGro
   grown b first more = ap (firsts_behind []) (filter-append _ first more) ∙ firsts-append [] (in_bucket hash b first) (in_bucket hash b more)
 
   -- what the matrix makes a bucket hold is what merging keeps
-  held_is : (b g : ℕ) → g ≤ length gs → held_of (grid_of hash inputs gs) b g ≡ bucket_list hash (front g) b
+  pub held_is : (b g : ℕ) → g ≤ length gs → held_of (grid_of hash inputs gs) b g ≡ bucket_list hash (front g) b
   unfolding held_of front
   held_is b zero within = sym (firsts_none [])
   held_is b (suc g) within =

@@ -69,7 +69,7 @@ fn group_end(inputs: &[StringMergeInputSection<'_>], total: u64, start: u64, siz
 }
 
 /// The index of the input that an offset is in; all inputs end at `total`. Takes logarithmic time.
-fn input_at(inputs: &[StringMergeInputSection<'_>], total: u64, at: u64) -> usize
+pub(crate) fn input_at(inputs: &[StringMergeInputSection<'_>], total: u64, at: u64) -> usize
     requires inputs { AreInputs total inputs.now }
     requires within { at < total }
     ensures { IsInputAt (map input_of inputs.now) at result }

@@ -1,7 +1,10 @@
 //! Laws on pieces and on images.
 
+ghost use Rattle.std.specs.Prelude.{◌≡◌};
+ghost use Rattle.std.specs.Ordering.{nat_cmp};
 ghost use Rattle.lk_merge.specs.Groups.{GroupsCover};
 ghost use Rattle.lk_merge.specs.Matrix.{MatrixMerges};
+ghost use Rattle.lk_merge.specs.MatrixSteps.{CallsAreSteps};
 ghost use Rattle.lk_merge.specs.Image.{BucketsGrow};
 ghost use Rattle.lk_merge.specs.Inputs.{PiecesAreLocated};
 ghost use Rattle.lk_merge.specs.MergedReferences.{MergedReferencesShow};
@@ -10,6 +13,9 @@ ghost use Rattle.lk_merge.specs.OffsetsOutside.{OutsideIsRefused};
 ghost use Rattle.lk_merge.specs.OutputAddresses.{MergedAddressesShow};
 ghost use Rattle.lk_merge.specs.Pieces.{PiecesAreOne};
 ghost use Rattle.lk_merge.specs.Places.{BucketsStart, ImageIsDistinct, OffsetsHavePlaces, PiecesHavePlaces};
+
+use crate::offset::LinearInputOffset;
+use std::cmp::Ordering;
 
 /// A law: an input has pieces exactly where it is terminated, and they are the ones that are found.
 pub fn pieces_are_one()
@@ -72,6 +78,11 @@ pub fn matrix_merges()
     ensures { MatrixMerges }
 {}
 
+/// A law: what cells answer to strings and to buckets that come to them, and what buckets make of a group, are steps of that matrix.
+pub fn calls_are_steps<J>()
+    ensures { CallsAreSteps J }
+{}
+
 /// A law: at the address of a reference the image shows what the input has, from the chosen offset to its piece's end.
 pub fn merged_addresses_show()
     ensures { MergedAddressesShow }
@@ -89,3 +100,10 @@ pub fn merged_references_show()
 pub fn outside_is_refused()
     ensures { OutsideIsRefused }
 {}
+
+/// A law: offsets into all inputs compare as their numbers.
+pub fn offsets_compare_as_numbers(a: LinearInputOffset, b: LinearInputOffset) -> Ordering
+    ensures { result ≡ nat_cmp a b }
+{
+    a.cmp(&b)
+}

@@ -34,14 +34,17 @@ const STRINGS_AT_ONCE: usize = 256;
 
 /// A bucket while pieces are added, and why it has stopped.
 #[derive(Drop)]
-struct BucketState<'data> {
-    bucket: MergeStringsSectionBucket<'data>,
-    refusal: Option<MergeError>,
+pub struct BucketState<'data> {
+    pub(crate) bucket: MergeStringsSectionBucket<'data>,
+    pub(crate) refusal: Option<MergeError>,
 }
 
 impl<'data> BucketState<'data> {
     /// Adds a piece, and tells its place; none where the bucket has stopped.
-    fn add(&mut self, string: MergeString<'data>) -> Result<Option<BucketOffset>, AllocError>
+    pub(crate) fn add(
+        &mut self,
+        string: MergeString<'data>,
+    ) -> Result<Option<BucketOffset>, AllocError>
         requires { 0 < length string.bytes.now }
         ensures { IfOk result (λ place. (section limit b : ℕ) (pieces : List Piece) → HasTaken section limit b (firsts_behind [] pieces) self.old
             → HasTaken section limit b (firsts_behind [] (pieces ++ string.entry.bytes.now ∷ [])) self.new
@@ -66,8 +69,8 @@ impl<'data> BucketState<'data> {
 /// What the pieces of an output section so far have made.
 #[derive(Drop)]
 pub(crate) struct Merging<'data> {
-    buckets: Vec<BucketState<'data>>,
-    entries: Vec<PieceEntry>,
+    pub(crate) buckets: Vec<BucketState<'data>>,
+    pub(crate) entries: Vec<PieceEntry>,
 }
 
 impl<'data> Merging<'data> {
@@ -186,7 +189,7 @@ impl<'data> Merging<'data> {
     }
 
     /// The merged section of these inputs, whose pieces have been added; refused where a bucket has stopped.
-    fn finish(
+    pub(crate) fn finish(
         self,
         alloc: Global,
         inputs: StringMergeInputSections<'data>,
@@ -234,7 +237,7 @@ fn take_strings<'data>(
 }
 
 /// The first of some inputs whose strings don't end in a zero byte.
-fn first_unterminated(sections: &[StringMergeInputSection<'_>]) -> Option<usize>
+pub(crate) fn first_unterminated(sections: &[StringMergeInputSection<'_>]) -> Option<usize>
     ensures { result ≡ position (λ s. not (is_terminated (input_of s))) sections.now }
 {
     sections.iter().position(|s| !s.is_terminated())

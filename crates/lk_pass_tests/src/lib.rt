@@ -33,3 +33,5 @@ mod tables;
 mod traversal;
 #[cfg(test)]
 mod walked;
+#[cfg(test)]
+mod workers;

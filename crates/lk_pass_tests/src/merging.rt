@@ -9,7 +9,8 @@ ghost use Rattle.lk_merge.specs.LinkInputs.{link_inputs};
 use crate::rows::{Asked, expect_rows, expect_text};
 use crate::shown::Shown;
 use lk_check::check_link;
-use lk_link::{FileId, LinkInput, List, NoGate, OutputSectionId, Relocation, SymbolId};
+use lk_input::read_link;
+use lk_link::{FileId, Gate, LinkInput, List, NoGate, OutputSectionId, Relocation, SymbolId};
 use lk_merge::{
     BucketOffset, LinearInputOffset, MergeError, MergeString, MergeStringsSectionBucket,
     MergedStringStartAddresses, MergedStringsSection, StringMergeInputSections, StringMergeInputs,
@@ -19,8 +20,9 @@ use lk_merge::{
 use lk_test_rows::add;
 use std::alloc::{AllocError, Global};
 use std::sync::Wait;
+use std::sync::atomic::{AtomicU64, Ordering};
 use std::test::Fail;
-use std::thread::Threads;
+use std::thread::{Threads, yield_now};
 
 /// What is told of merging.
 #[derive(Clone, Copy)]
@@ -134,11 +136,34 @@ const ADDRESSES: &str = r#"
 [0,"Absolute",1,2,false] => address (Ok(Some(4098)), Ok(Some(4098)))
 "#;
 
-/// What so many workers keep, and what is kept on the caller alone; and the refusals.
+/// What is kept on the caller alone, and where offsets are, or the refusal; and whether so many workers tell the same.
 const BY_WORKERS: &str = r#"
 @ {"plan":{"page":16,"sections":[{"attrs":1,"parts":[[1,false]]}],"events":[["sec",0]]},"groups":[[{"kind":"prelude"}],[{"kind":"object","sections":[{"slot":"merge","strings":true,"data":"..."}]}]]}
-610062006100 => workers 0 section (16, 2, 3, 6, 4) bucket (4, 2) piece [97, 0] bucket (15, 2) piece [98, 0] workers 2 section (16, 2, 3, 6, 4) bucket (4, 2) piece [97, 0] bucket (15, 2) piece [98, 0] workers 8 section (16, 2, 3, 6, 4) bucket (4, 2) piece [97, 0] bucket (15, 2) piece [98, 0] alone section (16, 2, 3, 6, 4) bucket (4, 2) piece [97, 0] bucket (15, 2) piece [98, 0]
-610062 => workers 0 refused NotTerminated { section: OutputSectionId { number: 0 }, input: 0 } workers 2 refused NotTerminated { section: OutputSectionId { number: 0 }, input: 0 } workers 8 refused NotTerminated { section: OutputSectionId { number: 0 }, input: 0 } alone refused NotTerminated { section: OutputSectionId { number: 0 }, input: 0 }
+610062006100 => section (16, 2, 3, 6, 4) bucket (4, 2) piece [97, 0] bucket (15, 2) piece [98, 0] start 0 4:0 4:1 15:0 15:1 4:0 4:1 - - - 0 alike 2 alike 8 alike
+62006100 => section (16, 2, 2, 4, 4) bucket (4, 2) piece [97, 0] bucket (15, 2) piece [98, 0] start 0 15:0 15:1 4:0 4:1 - - - - - 0 alike 2 alike 8 alike
+ => section (16, 0, 0, 0, 0) start 0 - - - - - - - - - 0 alike 2 alike 8 alike
+616263 | 610062 => refused NotTerminated { section: OutputSectionId { number: 0 }, input: 0 } 0 alike 2 alike 8 alike
+# In groups of 256 bytes: strings longer than a group, constants behind them, one that ends with a group, equal ones in several groups, and inputs without bytes.
+@ {"options":{"merge_group":256},"plan":{"page":16,"sections":[{"attrs":1,"parts":[[1,false]]}],"events":[["sec",0]]},"groups":[[{"kind":"prelude"}],[{"kind":"object","sections":[...]}]]}
+{"slot":"merge","data":"01020304"},{"slot":"merge","data":"01020304"} => section (16, 1, 2, 8, 4) bucket (13, 4) piece [1, 2, 3, 4] start 0 13:0 13:1 13:2 13:3 - - - - - start 256 13:0 13:1 13:2 13:3 - - - - - 0 alike 2 alike 8 alike
+{"slot":"merge","strings":true,"data":"«299 times 61»00"},{"slot":"merge","strings":true,"data":"«299 times 61»00"} => section (16, 1, 2, 600, 300) bucket (14, 300) piece [97, 97, 97, 97, 97, 97, 97, 97, 97, 97, 97, 97, 97, 97, 97, 97, 97, 97, 97, 97, 97, 97, 97, 97, 97, 97, 97, 97, 97, 97, 97, 97, 97, 97, 97, 97, 97, 97, 97, 97, 97, 97, 97, 97, 97, 97, 97, 97, 97, 97, 97, 97, 97, 97, 97, 97, 97, 97, 97, 97, 97, 97, 97, 97, 97, 97, 97, 97, 97, 97, 97, 97, 97, 97, 97, 97, 97, 97, 97, 97, 97, 97, 97, 97, 97, 97, 97, 97, 97, 97, 97, 97, 97, 97, 97, 97, 97, 97, 97, 97, 97, 97, 97, 97, 97, 97, 97, 97, 97, 97, 97, 97, 97, 97, 97, 97, 97, 97, 97, 97, 97, 97, 97, 97, 97, 97, 97, 97, 97, 97, 97, 97, 97, 97, 97, 97, 97, 97, 97, 97, 97, 97, 97, 97, 97, 97, 97, 97, 97, 97, 97, 97, 97, 97, 97, 97, 97, 97, 97, 97, 97, 97, 97, 97, 97, 97, 97, 97, 97, 97, 97, 97, 97, 97, 97, 97, 97, 97, 97, 97, 97, 97, 97, 97, 97, 97, 97, 97, 97, 97, 97, 97, 97, 97, 97, 97, 97, 97, 97, 97, 97, 97, 97, 97, 97, 97, 97, 97, 97, 97, 97, 97, 97, 97, 97, 97, 97, 97, 97, 97, 97, 97, 97, 97, 97, 97, 97, 97, 97, 97, 97, 97, 97, 97, 97, 97, 97, 97, 97, 97, 97, 97, 97, 97, 97, 97, 97, 97, 97, 97, 97, 97, 97, 97, 97, 97, 97, 97, 97, 97, 97, 97, 97, 97, 97, 97, 97, 97, 97, 97, 97, 97, 97, 97, 97, 97, 97, 97, 97, 97, 97, 97, 97, 97, 97, 97, 97, 97, 97, 97, 97, 97, 97, 97, 97, 97, 97, 97, 97, 0] start 0 14:0 14:1 14:2 14:3 14:4 14:5 14:6 14:7 - start 512 14:0 14:1 14:2 14:3 14:4 14:5 14:6 14:7 - 0 alike 2 alike 8 alike
+{"slot":"merge","strings":true,"data":"«299 times 61»00"},{"slot":"merge","data":"6162"},{"slot":"merge","strings":true,"data":"616200"} => section (16, 3, 3, 305, 305) bucket (10, 2) piece [97, 98] bucket (14, 303) piece [97, 97, 97, 97, 97, 97, 97, 97, 97, 97, 97, 97, 97, 97, 97, 97, 97, 97, 97, 97, 97, 97, 97, 97, 97, 97, 97, 97, 97, 97, 97, 97, 97, 97, 97, 97, 97, 97, 97, 97, 97, 97, 97, 97, 97, 97, 97, 97, 97, 97, 97, 97, 97, 97, 97, 97, 97, 97, 97, 97, 97, 97, 97, 97, 97, 97, 97, 97, 97, 97, 97, 97, 97, 97, 97, 97, 97, 97, 97, 97, 97, 97, 97, 97, 97, 97, 97, 97, 97, 97, 97, 97, 97, 97, 97, 97, 97, 97, 97, 97, 97, 97, 97, 97, 97, 97, 97, 97, 97, 97, 97, 97, 97, 97, 97, 97, 97, 97, 97, 97, 97, 97, 97, 97, 97, 97, 97, 97, 97, 97, 97, 97, 97, 97, 97, 97, 97, 97, 97, 97, 97, 97, 97, 97, 97, 97, 97, 97, 97, 97, 97, 97, 97, 97, 97, 97, 97, 97, 97, 97, 97, 97, 97, 97, 97, 97, 97, 97, 97, 97, 97, 97, 97, 97, 97, 97, 97, 97, 97, 97, 97, 97, 97, 97, 97, 97, 97, 97, 97, 97, 97, 97, 97, 97, 97, 97, 97, 97, 97, 97, 97, 97, 97, 97, 97, 97, 97, 97, 97, 97, 97, 97, 97, 97, 97, 97, 97, 97, 97, 97, 97, 97, 97, 97, 97, 97, 97, 97, 97, 97, 97, 97, 97, 97, 97, 97, 97, 97, 97, 97, 97, 97, 97, 97, 97, 97, 97, 97, 97, 97, 97, 97, 97, 97, 97, 97, 97, 97, 97, 97, 97, 97, 97, 97, 97, 97, 97, 97, 97, 97, 97, 97, 97, 97, 97, 97, 97, 97, 97, 97, 97, 97, 97, 97, 97, 97, 97, 97, 97, 97, 97, 97, 97, 97, 97, 97, 97, 97, 97, 0] piece [97, 98, 0] start 0 14:0 14:1 14:2 14:3 14:4 14:5 14:6 14:7 - start 512 10:0 10:1 - - - - - - - start 768 14:300 14:301 14:302 - - - - - - 0 alike 2 alike 8 alike
+{"slot":"merge","strings":true,"data":"«128 times 6100»6200"},{"slot":"merge","data":""},{"slot":"merge","strings":true,"data":""},{"slot":"merge","strings":true,"data":"62006100"} => section (16, 2, 131, 262, 4) bucket (4, 2) piece [97, 0] bucket (15, 2) piece [98, 0] start 0 4:0 4:1 4:0 4:1 4:0 4:1 4:0 4:1 - start 512 15:0 15:1 4:0 4:1 - - - - - start 512 15:0 15:1 4:0 4:1 - - - - - start 512 15:0 15:1 4:0 4:1 - - - - - 0 alike 2 alike 8 alike
+{"slot":"merge","strings":true,"data":"«255 times 61»006200"},{"slot":"merge","strings":true,"data":"6200"} => section (16, 2, 3, 260, 258) bucket (2, 256) piece [97, 97, 97, 97, 97, 97, 97, 97, 97, 97, 97, 97, 97, 97, 97, 97, 97, 97, 97, 97, 97, 97, 97, 97, 97, 97, 97, 97, 97, 97, 97, 97, 97, 97, 97, 97, 97, 97, 97, 97, 97, 97, 97, 97, 97, 97, 97, 97, 97, 97, 97, 97, 97, 97, 97, 97, 97, 97, 97, 97, 97, 97, 97, 97, 97, 97, 97, 97, 97, 97, 97, 97, 97, 97, 97, 97, 97, 97, 97, 97, 97, 97, 97, 97, 97, 97, 97, 97, 97, 97, 97, 97, 97, 97, 97, 97, 97, 97, 97, 97, 97, 97, 97, 97, 97, 97, 97, 97, 97, 97, 97, 97, 97, 97, 97, 97, 97, 97, 97, 97, 97, 97, 97, 97, 97, 97, 97, 97, 97, 97, 97, 97, 97, 97, 97, 97, 97, 97, 97, 97, 97, 97, 97, 97, 97, 97, 97, 97, 97, 97, 97, 97, 97, 97, 97, 97, 97, 97, 97, 97, 97, 97, 97, 97, 97, 97, 97, 97, 97, 97, 97, 97, 97, 97, 97, 97, 97, 97, 97, 97, 97, 97, 97, 97, 97, 97, 97, 97, 97, 97, 97, 97, 97, 97, 97, 97, 97, 97, 97, 97, 97, 97, 97, 97, 97, 97, 97, 97, 97, 97, 97, 97, 97, 97, 97, 97, 97, 97, 97, 97, 97, 97, 97, 97, 97, 97, 97, 97, 97, 97, 97, 97, 97, 97, 97, 97, 97, 97, 97, 97, 97, 97, 97, 97, 97, 97, 97, 97, 97, 97, 97, 97, 97, 97, 97, 0] bucket (15, 2) piece [98, 0] start 0 2:0 2:1 2:2 2:3 2:4 2:5 2:6 2:7 - start 512 15:0 15:1 - - - - - - - 0 alike 2 alike 8 alike
+# One string, whose last byte isn't zero behind one that is, and of two that of the second.
+{"slot":"merge","data":"6162"},{"slot":"merge","strings":true,"data":"6100"},{"slot":"merge","strings":true,"data":"6162"} => refused NotTerminated { section: OutputSectionId { number: 0 }, input: 2 } 0 alike 2 alike 8 alike
+# How long buckets may be: of two strings in one bucket, in groups of their own.
+@ {"options":{"merge_group":256,"bucket_limit":...},"plan":{"page":16,"sections":[{"attrs":1,"parts":[[1,false]]}],"events":[["sec",0]]},"groups":[[{"kind":"prelude"}],[{"kind":"object","sections":[{"slot":"merge","strings":true,"data":"6100"},{"slot":"merge","strings":true,"data":"7100"}]}]]}
+4 => section (16, 2, 2, 4, 4) bucket (4, 4) piece [97, 0] piece [113, 0] start 0 4:0 4:1 - - - - - - - start 256 4:2 4:3 - - - - - - - 0 alike 2 alike 8 alike
+3 => refused TooLarge { section: OutputSectionId { number: 0 }, bucket: 4, offset: 2, len: 2 } 0 alike 2 alike 8 alike
+1 => refused TooLarge { section: OutputSectionId { number: 0 }, bucket: 4, offset: 0, len: 2 } 0 alike 2 alike 8 alike
+# Two output sections: the first refusal is told, be it of the second input of the first section.
+@ {"options":{"merge_group":256},"plan":{"page":16,"sections":[{"attrs":1,"parts":[[1,false]]},{"attrs":1,"parts":[[1,false]]}],"events":[["sec",0],["sec",1]]},"groups":[[{"kind":"prelude"}],[{"kind":"object","sections":[...]}]]}
+{"slot":"merge","part":1,"strings":true,"data":"61"},{"slot":"merge","strings":true,"data":"6100"},{"slot":"merge","strings":true,"data":"61"} => refused NotTerminated { section: OutputSectionId { number: 0 }, input: 1 } 0 alike 2 alike 8 alike
+{"slot":"merge","part":1,"strings":true,"data":"61"},{"slot":"merge","strings":true,"data":"6100"} => refused NotTerminated { section: OutputSectionId { number: 1 }, input: 0 } 0 alike 2 alike 8 alike
+@ {"options":{"merge_group":256,"bucket_limit":3},"plan":{"page":16,"sections":[{"attrs":1,"parts":[[1,false]]},{"attrs":1,"parts":[[1,false]]}],"events":[["sec",0],["sec",1]]},"groups":[[{"kind":"prelude"}],[{"kind":"object","sections":[...]}]]}
+{"slot":"merge","part":1,"strings":true,"data":"61"},{"slot":"merge","strings":true,"data":"6100"},{"slot":"merge","strings":true,"data":"7100"} => refused TooLarge { section: OutputSectionId { number: 0 }, bucket: 4, offset: 2, len: 2 } 0 alike 2 alike 8 alike
+{"slot":"merge","strings":true,"data":"61"},{"slot":"merge","part":1,"strings":true,"data":"6100"},{"slot":"merge","part":1,"strings":true,"data":"7100"} => refused NotTerminated { section: OutputSectionId { number: 0 }, input: 0 } 0 alike 2 alike 8 alike
 "#;
 
 /// What is kept of a section with the bytes that are told second, whose size is what is told first.
@@ -344,47 +369,106 @@ fn add_started(
     add_addresses(line, link, merged, &starts)
 }
 
-/// Adds what is kept, or why nothing is merged.
-fn add_merged(
-    line: &mut String,
+/// What is kept, and where offsets are; or why nothing is merged.
+fn told_merged(
+    alloc: Global,
+    inputs: &StringMergeInputs<'_>,
     merged: &Result<List<MergedStringsSection<'_>>, MergeError>,
-) -> Result<(), AllocError> {
+) -> Result<String, AllocError> {
+    let mut text = String::new(alloc);
     match merged {
         Ok(merged) => {
-            for section in merged.as_slice() {
-                add_kept(line, section)?;
-            }
-            Ok(())
+            add_outputs(alloc, &mut text, Merging::Kept, inputs, merged.as_slice())?;
+            add_outputs(alloc, &mut text, Merging::Places, inputs, merged.as_slice())?;
         }
-        Err(MergeError::NoMemory) => Err(AllocError),
-        Err(error) => add(line, "refused", error),
+        Err(MergeError::NoMemory) => return Err(AllocError),
+        Err(error) => add(&mut text, "refused", error)?,
     }
+    Ok(text)
 }
 
-/// Adds what so many workers keep.
+/// Adds whether so many workers tell the same, or what they tell.
 fn add_by(
     rt: &(impl Threads + Wait + Sync),
     alloc: Global,
     line: &mut String,
     inputs: &StringMergeInputs<'_>,
     workers: u32,
+    alone: &str,
 ) -> Result<(), AllocError> {
-    add(line, "workers", &workers)?;
-    add_merged(line, &merge_strings(rt, alloc, inputs, workers, &NoGate))
+    let merged = merge_strings(rt, alloc, inputs, workers, &NoGate);
+    let text = told_merged(alloc, inputs, &merged)?;
+    if text.as_str() == alone {
+        write!(line, " {workers} alike")
+    } else {
+        write!(line, " {workers} tell {text}")
+    }
 }
 
-/// Adds what workers keep, and what is kept on the caller alone.
+/// How often a group looks for another at most.
+const LOOKS: u32 = 30_000_000;
+
+/// A gate at which two groups go in step: each stays there until the other has come as often, for a while.
+#[derive(Drop)]
+struct InStep {
+    first: AtomicU64,
+    second: AtomicU64,
+    met: AtomicU64,
+}
+
+impl Gate for InStep {
+    fn enter(&self, group: u32) {
+        let (own, other) = if group == 0 {
+            (&self.first, &self.second)
+        } else {
+            (&self.second, &self.first)
+        };
+        let before = own.fetch_add(1, Ordering::SeqCst);
+        for _ in 0..LOOKS {
+            if other.load(Ordering::SeqCst) > before {
+                self.met.fetch_add(1, Ordering::SeqCst);
+                return;
+            }
+            yield_now();
+        }
+    }
+}
+
+/// How often each of two groups comes to the gate, and how often they meet there, and what two workers keep.
+fn told_in_step(
+    rt: &(impl Threads + Wait + Sync),
+    alloc: Global,
+    link: &LinkInput,
+) -> Result<String, AllocError> {
+    if check_link(link).is_err() {
+        return Ok(String::new(alloc));
+    }
+    let inputs = StringMergeInputs::new(alloc, link)?;
+    let gate = InStep {
+        first: AtomicU64::new(0),
+        second: AtomicU64::new(0),
+        met: AtomicU64::new(0),
+    };
+    let mut text = told_merged(alloc, &inputs, &merge_strings(rt, alloc, &inputs, 2, &gate))?;
+    for count in [&gate.first, &gate.second, &gate.met] {
+        add(&mut text, "came", &count.load(Ordering::SeqCst))?;
+    }
+    Ok(text)
+}
+
+/// Adds what is kept on the caller alone, and what workers tell.
 fn add_by_all(
     rt: &(impl Threads + Wait + Sync),
     alloc: Global,
     line: &mut String,
     inputs: &StringMergeInputs<'_>,
 ) -> Result<(), AllocError> {
-    add_by(rt, alloc, line, inputs, 0)?;
-    add_by(rt, alloc, line, inputs, 2)?;
-    add_by(rt, alloc, line, inputs, 8)?;
-    line.push_str(" alone")?;
-    add_merged(line, &merge_strings_alone(alloc, inputs))
+    let alone = told_merged(alloc, inputs, &merge_strings_alone(alloc, inputs))?;
+    line.push_str(alone.as_str())?;
+    for workers in [0, 2, 8] {
+        add_by(rt, alloc, line, inputs, workers, alone.as_str())?;
+    }
+    Ok(())
 }
 
 /// Adds what workers keep of a link that is well formed, and what is kept on the caller alone.
@@ -433,6 +517,23 @@ fn merged_sections_hold_distinct_pieces(rt: HostRuntime) -> Result<(), Fail> {
 #[test]
 fn every_number_of_workers_merges(rt: HostRuntime) -> Result<(), Fail> {
     expect_rows(&rt, rt.alloc(), Asked::MergedByWorkers, BY_WORKERS)
+}
+
+/// Two constants, each in a group of its own.
+const TWO_GROUPS: &str =
+    r#"{"options":{"merge_group":1},"plan":{"page":16,"sections":[{"attrs":1,"parts":[[1,false]]}],"events":[["sec",0]]},"groups":[[{"kind":"prelude"}],[{"kind":"object","sections":[{"slot":"merge","data":"01020304"},{"slot":"merge","data":"6162"}]}]]}"#;
+
+#[test]
+fn two_workers_fill_groups_in_step(rt: HostRuntime) -> Result<(), Fail> {
+    let alloc = rt.alloc();
+    let text = match read_link(alloc, TWO_GROUPS.as_bytes()) {
+        Ok(link) => told_in_step(&rt, alloc, &link)?,
+        Err(error) => format!(in alloc; "no link: {error}")?,
+    };
+    let want =
+        "section (16, 2, 2, 6, 6) bucket (10, 2) piece [97, 98] bucket (13, 4) piece [1, 2, 3, 4] start 0 13:0 13:1 13:2 13:3 - - - - - start 256 10:0 10:1 - - - - - - - came 16 came 16 came 32";
+    expect_text(&rt, text.as_str(), want);
+    Ok(())
 }
 
 #[test]

@@ -14,14 +14,16 @@ ghost use Rattle.lk_sizes.specs.Sizing.{AreFilled};
 ghost use Rattle.lk_relaxing.specs.Relaxed.{ArePlacedFirst, own_filling, relaxing};
 
 use crate::placed::add_records;
-use crate::rows::{Asked, expect_rows};
+use crate::rows::{Asked, expect_rows, expect_text};
 use lk_check::check_link;
 use lk_expressions::{OutputRecordLayout, SymbolPositions};
 use lk_gc::{Live, traverse_alone};
 use lk_input::read_link;
-use lk_link::{FileId, LinkInput, PartId, Platform, Small64, SymbolId};
+use lk_link::{FileId, LinkInput, PartId, PlanPart, Platform, Section, Small64, SymbolId};
 use lk_place::{PlaceError, Placed};
-use lk_relax::{RelaxDeltaMap, SectionRelaxDeltas};
+use lk_relax::{
+    RelaxDeltaMap, SectionRelaxDeltas, opt_input_to_output, split_ordered_symbol_ranges,
+};
 use lk_relaxing::{
     Relaxed, compute_input_section_positions, perform_iterative_relaxation, place_first,
     relaxation_scan_pass,
@@ -40,6 +42,8 @@ false => sections 0:0 1:0 symbols 1:0 0:4 0:6 0:8 found 1/0 4+4 sizes [16, 4] de
 @ {"options":{"relax":true},"plan":{"page":1,"base":["num",4096],"sections":[{"attrs":5,"parts":[[1,false]]},{"attrs":1,"parts":[[1,false]]}],"segments":[{"kind":"load"}],"events":[["seg",0],["sec",0],["sec",1],["endseg",0]]},"groups":[[{"kind":"prelude"}],[{"kind":"object","sections":[{"slot":"must","part":0,"size":16,"attrs":4,"relax":[...]},{"slot":"must","part":1,"size":4}],"symbols":[{"at":["sec",1,0]}]}]]}
  => sections 0:0 1:0 symbols 1:0 found sizes [16, 4] deleted parts 4096,16,0,16,1 4112,4,16,4,1
 [4,0,11,4] => sections 0:0 1:0 symbols 1:0 found 1/0 short 1 sizes [16, 4] deleted parts 4096,16,0,16,1 4112,4,16,4,1
+[4,0,100,4] => sections 0:0 1:0 symbols 1:0 found 1/0 4+4 sizes [12, 4] deleted 1/0 4+4 parts 4096,12,0,12,1 4108,4,12,4,1
+[4,0,5,4] => sections 0:0 1:0 symbols 1:0 found 1/0 short 7 sizes [16, 4] deleted parts 4096,16,0,16,1 4112,4,16,4,1
 [4,0,0,4] => sections 0:0 1:0 symbols 1:0 found 1/0 short 12 sizes [16, 4] deleted parts 4096,16,0,16,1 4112,4,16,4,1
 [4,0,18446744073709551615,4] => sections 0:0 1:0 symbols 1:0 found 1/0 4+4 sizes [12, 4] deleted 1/0 4+4 parts 4096,12,0,12,1 4108,4,12,4,1
 # Candidates that touch, at the start and at the end; and a section that goes whole, in three pieces, and its part with it.
@@ -403,4 +407,78 @@ fn passes_delete_what_is_near(rt: HostRuntime) -> Result<(), Fail> {
 #[test]
 fn passes_go_by_what_stands_for_symbols(rt: HostRuntime) -> Result<(), Fail> {
     expect_rows(&rt, rt.alloc(), Asked::Relaxed, TARGETS)
+}
+
+/// Adds where offsets of a section go of which nothing is deleted.
+fn add_kept(line: &mut String) -> Result<(), AllocError> {
+    for offset in [0, 4, 6, 8, 16] {
+        let place = opt_input_to_output(None, offset);
+        write!(line, " {place}")?;
+    }
+    Ok(())
+}
+
+/// Adds where they go where ranges are deleted.
+fn add_moved(line: &mut String, deltas: &SectionRelaxDeltas) -> Result<(), AllocError> {
+    for offset in [0, 4, 6, 8, 16] {
+        let place = opt_input_to_output(Some(deltas), offset);
+        write!(line, " {place}")?;
+    }
+    Ok(())
+}
+
+/// Where offsets go where nothing is deleted, four bytes are, and three ranges, of which two touch.
+fn told_offsets(alloc: Global) -> Result<String, AllocError> {
+    let one = SectionRelaxDeltas::new(alloc, &[(4, 4)])?;
+    let three = SectionRelaxDeltas::new(alloc, &[(0, 1), (4, 2), (6, 2)])?;
+    let mut line = String::new(alloc);
+    add_kept(&mut line)?;
+    add_moved(&mut line, &one)?;
+    add_moved(&mut line, &three)?;
+    Ok(line)
+}
+
+#[test]
+fn offsets_go_by_what_is_deleted_before_them(rt: HostRuntime) -> Result<(), Fail> {
+    let told = told_offsets(rt.alloc())?;
+    expect_text(&rt, told.as_str(), " 0 4 6 8 16 0 4 4 4 12 0 3 3 3 11");
+    Ok(())
+}
+
+/// What ranges cut out of five numbers, one of them without items.
+fn told_shards(alloc: Global) -> Result<String, AllocError> {
+    let mut numbers = [1, 2, 3, 4, 5];
+    let shards = split_ordered_symbol_ranges(alloc, &mut numbers, &[0..2, 2..2, 4..5])?;
+    let mut line = String::new(alloc);
+    for (start, items) in &shards {
+        write!(line, " {start} {items:?}")?;
+    }
+    Ok(line)
+}
+
+#[test]
+fn symbols_are_cut_by_ranges(rt: HostRuntime) -> Result<(), Fail> {
+    let told = told_shards(rt.alloc())?;
+    expect_text(&rt, told.as_str(), " 0 [1, 2] 0 [] 4 [5]");
+    Ok(())
+}
+
+/// What 7 bytes, and the most, take in a part of this alignment.
+fn told_capacities(alloc: Global, packed: bool) -> Result<String, AllocError> {
+    let part = PlanPart {
+        alignment: 8,
+        packed,
+    };
+    let few = Section { size: 7 }.capacity(&part);
+    let most = Section { size: u64::MAX }.capacity(&part);
+    format!(in alloc; "{few:?} {most:?}")
+}
+
+#[test]
+fn sizes_are_rounded_up(rt: HostRuntime) -> Result<(), Fail> {
+    let plain = told_capacities(rt.alloc(), false)?;
+    let packed = told_capacities(rt.alloc(), true)?;
+    expect_text(&rt, plain.as_str(), "Some(8) None");
+    expect_text(&rt, packed.as_str(), "Some(7) Some(18446744073709551615)");
+    Ok(())
 }

@@ -8,6 +8,7 @@ use crate::placed::{Spanned, add_placed};
 use crate::relaxed::add_relaxed;
 use crate::shown::{Shown, add_shown};
 use crate::walked::add_walk;
+use crate::workers::{add_by_turns, add_in_lock_step};
 use lk_input::{InputError, read_link};
 use lk_link::LinkInput;
 use lk_test_rows::{Row, rows_of};
@@ -28,6 +29,10 @@ pub enum Asked {
     OfSized(Shown),
     /// What is live of it by how many workers.
     Traversals,
+    /// What its groups come to that run in turn, and what a slot answers.
+    Turns,
+    /// What two workers find in lock step.
+    LockStep,
     /// What is merged of it by how many workers.
     MergedByWorkers,
     /// What its records span.
@@ -62,6 +67,8 @@ fn add_of(
             add_shown(alloc, line, shown, link)
         }
         Asked::Traversals => add_traversals(rt, alloc, line, link),
+        Asked::Turns => add_by_turns(rt, alloc, line, link),
+        Asked::LockStep => add_in_lock_step(rt, alloc, line, link),
         _ => add_merged_by_workers(rt, alloc, line, link),
     }
 }

@@ -1,6 +1,8 @@
 pub mod ClosedWords
 pub mod EdgeLemmas
+pub mod FewFlags
 pub mod GroupLemmas
+pub mod KindFlags
 pub mod LiveWalk
 pub mod MarkLemmas
 pub mod Numbered

@@ -1,4 +1,4 @@
--- Marks set one flag, for which no symbol gets a resolution: a symbol that gets one is referred to, so it is reached.
+-- Marks set one flag, for which no symbol gets a resolution: a symbol that gets one is referred to, so it is reached. References set flags of 32 bits.
 use Rattle.std.proofs.Common.{◌≡◌, ℕ, zero, suc, ◌+◌, ◌^◌, ◌<◌, Bool, true, false, ◌&&◌, if◌then◌else◌, List, [], ◌∷◌, Option, Some, None, filter, sym, ap, ◌∙◌, subst, inl, inr, arith, option_and_then}
 use Rattle.std.specs.Prelude.{◌==◌, option_map, refl, unwrap_or}
 use Rattle.std.specs.Int.{bit_at}
@@ -43,12 +43,13 @@ use Rattle.lk_link.specs.Expressions.{postfix}
 use Rattle.lk_link.specs.SymbolPlacements.{edge_of, section_of}
 use Rattle.lk_reach.specs.Placements.{is_defined}
 use Rattle.lk_reach.specs.Units.{candidate_ask, candidate_asks, event_asks, is_script_root, is_shown, kind_asks, location_asks, script_redirect_asks, script_symbol_asks, shown_ask, wanted_symbol_asks, AskFlag, AskFor, ask_for, asked_definition, asked_members, asked_references, definition_ask, dynamic_ask, entry_asks, own_asks, prelude_symbol_asks, token_ask, token_asks, export_asks, export_roots, file_roots, flags_from, flags_of, follows, group_asks, is_other, is_primary_section, is_root, kind_roots, local_definition, member_asks, numbered_symbols, range_mark, reference, relocation_asks, roots, section_references, section_roots, symbol_asks}
+use Rattle.lk_reach.proofs.KindFlags.{kind_few}
 use Rattle.lk_reach.proofs.ReachLemmas.{reach_more, reach_root}
 
--- ---- marks set one flag, which is none of these
+-- ---- marks set one flag, which is none of these, and references set flags of 32 bits
 
 abbrev pub IsPlainAsk : Ask → Type 0
-IsPlainAsk (Reference s f) = Unit {0}
+IsPlainAsk (Reference s f) = f.0 < 2 ^ 32
 IsPlainAsk (Section id i) = Unit {0}
 IsPlainAsk (Mark s f) = f.0 ≡ 2 ^ 14
 
@@ -65,7 +66,7 @@ plain_unless true x k a plain h = absurd (cc)
 relocation_plain : (primary : Bool) (first : ℕ) (symbols : List InputSymbol) (r : Relocation) (k : ℕ) (a : Ask) → slice_get (relocation_asks primary first symbols r) k ≡ Some a → IsPlainAsk a
 relocation_plain primary first symbols r k a h =
     elim (append_at (option_to_list (reference first symbols r)) (option_to_list (range_mark primary first r)) k a h) [
-      | inl refers ↦ plain_unless (resolution_flags r.kind == 0) (Reference (local_definition first symbols r.symbol) (flags_from (resolution_flags r.kind))) k a tt refers
+      | inl refers ↦ plain_unless (resolution_flags r.kind == 0) (Reference (local_definition first symbols r.symbol) (flags_from (resolution_flags r.kind))) k a (kind_few r.kind) refers
       | inr marks ↦ plain_if (primary && r.thunkable) (Mark (first + r.symbol) flag.HAS_RANGE_LIMITED_REL) marks.0 a refl marks.2
     ]
 
@@ -84,7 +85,7 @@ placed_plain id (Some i) (suc k) a h = absurd (cc)
 
 entry_plain : (o : Option ℕ) (k : ℕ) (a : Ask) → slice_get (option_to_list (option_map (λ s. Reference s flag.DIRECT) o)) k ≡ Some a → IsPlainAsk a
 entry_plain None k a h = absurd (cc)
-entry_plain (Some s) zero a h = let same : Reference s flag.DIRECT ≡ a = cc in subst IsPlainAsk same tt
+entry_plain (Some s) zero a h = let same : Reference s flag.DIRECT ≡ a = cc in subst IsPlainAsk same (omega arith)
 entry_plain (Some s) (suc k) a h = absurd (cc)
 
 token_plain : (groups : List (List InputFile)) (t : Token) (k : ℕ) (a : Ask) → slice_get (option_to_list (token_ask groups t)) k ≡ Some a → IsPlainAsk a
@@ -99,7 +100,7 @@ token_plain groups (token.Operand operand.SizeOfHeaders) k a h = absurd (cc)
 token_plain groups (token.Operator o) k a h = absurd (cc)
 
 redirect_plain : (groups : List (List InputFile)) (s : ℕ) (tokens : List Token) (k : ℕ) (a : Ask) → slice_get (Reference s flag.DIRECT ∷ token_asks groups tokens) k ≡ Some a → IsPlainAsk a
-redirect_plain groups s tokens zero a h = let same : Reference s flag.DIRECT ≡ a = cc in subst IsPlainAsk same tt
+redirect_plain groups s tokens zero a h = let same : Reference s flag.DIRECT ≡ a = cc in subst IsPlainAsk same (omega arith)
 redirect_plain groups s tokens (suc k) a h =
     let at = flat_map_at (λ t. option_to_list (token_ask groups t)) tokens k a h in
     token_plain groups at.from at.inner a at.gives
@@ -126,7 +127,7 @@ script_redirect_plain groups s at.LoadBaseAddress k a h = absurd (cc)
 script_plain : (groups : List (List InputFile)) (s : ℕ) (x : InputSymbol) (k : ℕ) (a : Ask) → slice_get (script_symbol_asks groups s x) k ≡ Some a → IsPlainAsk a
 script_plain groups s x k a h = elim (append_at (script_redirect_asks groups s x.at) (option_to_list (shown_ask s x)) k a h) [
   | inl own ↦ script_redirect_plain groups s x.at k a own
-  | inr shown ↦ plain_if (is_shown x) (Reference s flag.EXPORT_DYNAMIC) shown.0 a tt shown.2
+  | inr shown ↦ plain_if (is_shown x) (Reference s flag.EXPORT_DYNAMIC) shown.0 a (omega arith) shown.2
 ]
 
 kind_asks_plain : (groups : List (List InputFile)) (s : ℕ) (id : FileId) (file : InputFile) (x : InputSymbol) (of : FileKind) (k : ℕ) (a : Ask) → slice_get (kind_asks groups s id file x of) k ≡ Some a → IsPlainAsk a
@@ -183,7 +184,7 @@ own_plain groups s x (at.Redirect e l provide) k a h =
       | true ↦ λ among. redirect_plain groups s (postfix e) k a among
       | false ↦ λ among. absurd (cc)
     ] h
-own_plain groups s x at.ForceUndefined k a h = plain_if (is_defined groups (unwrap_or x.def s)) (Reference (unwrap_or x.def s) flag.DIRECT) k a tt h
+own_plain groups s x at.ForceUndefined k a h = plain_if (is_defined groups (unwrap_or x.def s)) (Reference (unwrap_or x.def s) flag.DIRECT) k a (omega arith) h
 own_plain groups s x (at.Section i o) k a h = absurd (cc)
 own_plain groups s x (at.Common q n) k a h = absurd (cc)
 own_plain groups s x (at.Absolute n) k a h = absurd (cc)
@@ -202,15 +203,15 @@ exports_plain link f None k a h = absurd (cc)
 exports_plain link f (Some m) k a h =
     let ask : ℕ × InputSymbol → Ask = λ q. Reference q.0 flag.EXPORT_DYNAMIC in
     let x = map_at ask (filter (is_exported (list_for link.options m) f.file.sections) (enumerate_from (first_symbol link.groups f.id) f.file.symbols)) k a h in
-    subst IsPlainAsk x.2 tt
+    subst IsPlainAsk x.2 (omega arith)
 
 definition_plain : (link : LinkInput) (d : ℕ) (q : InputFile × InputSymbol) (of : FileKind) (k : ℕ) (a : Ask) → slice_get (option_to_list (definition_ask link d q of)) k ≡ Some a → IsPlainAsk a
 definition_plain link d q kind.Prelude k a h = absurd (cc)
-definition_plain link d q kind.Object k a h = plain_if (is_exported (list_for link.options mode.All) q.0.sections (d, q.1)) (Reference d flag.EXPORT_DYNAMIC) k a tt h
+definition_plain link d q kind.Object k a h = plain_if (is_exported (list_for link.options mode.All) q.0.sections (d, q.1)) (Reference d flag.EXPORT_DYNAMIC) k a (omega arith) h
 definition_plain link d q kind.Dynamic k a h = absurd (cc)
 definition_plain link d q kind.NotLoaded k a h = absurd (cc)
 definition_plain link d q kind.SyntheticSymbols k a h = absurd (cc)
-definition_plain link d q kind.LinkerScript k a h = plain_if (is_own_definition d q.1) (Reference d (flags_from 0)) k a tt h
+definition_plain link d q kind.LinkerScript k a h = plain_if (is_own_definition d q.1) (Reference d (flags_from 0)) k a (omega arith) h
 
 defined_plain : (link : LinkInput) (d : ℕ) (o : Option (NumberedFile × InputSymbol)) (k : ℕ) (a : Ask)
     → slice_get (option_to_list (option_and_then (λ q. definition_ask link d (q.0.file, q.1) q.0.file.kind) o)) k ≡ Some a → IsPlainAsk a
@@ -261,7 +262,7 @@ kind_plain link f kind.LinkerScript k a h = elim (append_at (wanted_symbol_asks 
   | inl own ↦
       let ask : ℕ × InputSymbol → Ask = λ q. Reference q.0 (flags_from 0) in
       let x = map_at ask (filter is_script_root (enumerate_from (first_symbol link.groups f.id) f.file.symbols)) k a own in
-      subst IsPlainAsk x.2 tt
+      subst IsPlainAsk x.2 (omega arith)
   | inr locations ↦
       let at = flat_map_at (event_asks link.groups) link.plan.events locations.0 a locations.2 in
       event_plain link.groups at.from at.inner a at.gives

@@ -198,7 +198,7 @@ start_sized link w h = record {
 }
 
 -- flags that are handed in are few
-handed_few : (link : LinkInput) → IsWellFormed link → AreFew (handed_in link)
+pub handed_few : (link : LinkInput) → IsWellFormed link → AreFew (handed_in link)
 handed_few link wf zero d lt = omega arith
 handed_few link wf (suc k) d lt =
     let symbols = all_symbols link.groups in

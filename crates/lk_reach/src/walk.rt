@@ -54,6 +54,18 @@ impl Walk {
         Ok(walk)
     }
 
+    /// A walk that is at its end, of its marks and words; takes no memory.
+    pub fn of_parts(alloc: Global, marks: Vec<bool>, words: Vec<u64>) -> Walk
+        ensures marks { result.marks ≡ marks }
+        ensures words { result.words ≡ words }
+    {
+        Walk {
+            marks,
+            words,
+            stack: Vec::new(alloc),
+        }
+    }
+
     /// A walk at its start: nothing is asked for, and symbols have the flags that are handed in.
     fn new(alloc: Global, link: &LinkInput) -> Result<Walk, AllocError>
         requires { IsWellFormed link.now }

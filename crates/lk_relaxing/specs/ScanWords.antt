@@ -1,10 +1,10 @@
 -- What the code goes by: what a judge of one section holds. Contracts of private functions speak of these.
-use Rattle.std.specs.Prelude.{ℕ, ◌+◌, ◌-◌, ◌<◌, ◌^◌, if◌then◌else◌, List, [], Option, nat_le, option_and_then}
+use Rattle.std.specs.Prelude.{◌≡◌, ℕ, ◌+◌, ◌-◌, ◌<◌, ◌^◌, if◌then◌else◌, List, [], Option, nat_le, option_and_then, slice_get}
 use Rattle.std.specs.Option.{option_copied}
 use Rattle.lk_link.specs.declared.link.LinkInput.{LinkInput}
 use Rattle.lk_link.specs.declared.relocation.RelaxCandidate.{RelaxCandidate}
 use Rattle.lk_gc.specs.declared.live.Live.{Live}
-use Rattle.lk_link.specs.Symbols.{definition_of}
+use Rattle.lk_link.specs.Symbols.{definition_of, symbol_at}
 use Rattle.lk_expressions.specs.declared.positions.SymbolPosition.{SymbolPosition}
 use Rattle.lk_expressions.specs.Records.{Record}
 use Rattle.lk_relax.specs.declared.candidates.Outcome.{Outcome}
@@ -33,9 +33,10 @@ judged j c =
     outcome_by (option_and_then (target_in j.link.now j.live.now j.symbols.now j.parts.now) (definition_of j.link.now.groups (j.first + c.symbol)))
     (site_in j.parts.now j.position (option_copied j.deleted) c.at) c.limit
 
--- it tells of candidates whose symbols have numbers of 32 bits
-abbrev pub IsNumbered : SectionJudge → RelaxCandidate → Type 0
-IsNumbered j c = j.first + c.symbol < 2 ^ 32
+-- it tells of candidates of symbols of its file, which have numbers of 32 bits
+pub record IsNumbered (j : SectionJudge) (c : RelaxCandidate) : Type 0 where
+  pub few : j.first + c.symbol < 2 ^ 32
+  pub own : symbol_at j.link.now.groups (j.first + c.symbol) ≡ slice_get j.own.now c.symbol
 
 -- how all stands, by what is lent
 abbrev pub standing_of : Before → Standing

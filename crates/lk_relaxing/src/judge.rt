@@ -13,7 +13,7 @@ ghost use Rattle.lk_relaxing.specs.ScanWords.{IsNumbered, by_distance, judged, s
 use lk_expressions::{OutputRecordLayout, SymbolPositions};
 use lk_gc::Live;
 use lk_link::relocation::RelaxCandidate;
-use lk_link::{LinkInput, PartId, SymbolId, SymbolPlacement, ValueFlags};
+use lk_link::{InputSymbol, LinkInput, PartId, SymbolId, SymbolPlacement, ValueFlags};
 use lk_relax::{Judge, Outcome, SectionRelaxDeltas, opt_input_to_output};
 
 /// What comes of the candidates of one section, by the addresses before the pass.
@@ -25,6 +25,8 @@ pub(crate) struct SectionJudge<'a> {
     pub(crate) parts: &'a [OutputRecordLayout],
     /// The number of the file's first symbol.
     pub(crate) first: u32,
+    /// The file's symbols.
+    pub(crate) own: &'a [InputSymbol],
     /// The section's position.
     pub(crate) position: Option<(PartId, u64)>,
     /// What is deleted of it.
@@ -39,52 +41,57 @@ impl<'a> Judge for SectionJudge<'a> {
     ghost asks = { IsNumbered };
 
     fn tell(&self, candidate: &RelaxCandidate) -> Outcome {
-        let symbol = SymbolId::from_u32(self.first + candidate.symbol);
-        let target = definition_target(self.link, self.live, self.symbols, self.parts, symbol);
+        let target = own_target(self, candidate.symbol);
         let site = site_in(self.parts, self.position, self.deleted, candidate.at);
         outcome_by(target, site, candidate.limit)
     }
 }
 
-/// The address of what stands for a symbol, if it has one.
-fn definition_target(
-    link: &LinkInput,
-    live: &Live,
-    symbols: &SymbolPositions,
-    parts: &[OutputRecordLayout],
-    symbol: SymbolId,
-) -> Option<u64>
-    ensures { result ≡ option_and_then (target_in link.now live.now symbols.now parts.now) (definition_of link.now.groups symbol) }
+/// The address of what stands for a symbol of the file with this index, if it has one. Only one that another file defines is looked up.
+fn own_target(judge: &SectionJudge<'_>, index: u32) -> Option<u64>
+    requires few { judge.now.first + index < 2 ^ 32 }
+    requires own { symbol_at judge.now.link.now.groups (judge.now.first + index) ≡ slice_get judge.now.own.now index }
+    ensures { result ≡ option_and_then (target_in judge.now.link.now judge.now.live.now judge.now.symbols.now judge.now.parts.now)
+        (definition_of judge.now.link.now.groups (judge.now.first + index)) }
 {
-    target(link, live, symbols, parts, link.groups.definition(symbol)?)
+    let symbol = judge.own.get(index as usize)?;
+    match symbol.def {
+        Some(definition) => target(judge, definition, absolute_at(judge.link, definition)),
+        None => {
+            let number = SymbolId::from_u32(judge.first + index);
+            target(judge, number, absolute_value(&symbol.at))
+        }
+    }
 }
 
 /// The address of a symbol: the number that it is, or where it stands; none if it has none, or another may take its place.
 #[tactic(auto, unfolding(lk_link::specs::Files::first_some))]
-fn target(
-    link: &LinkInput,
-    live: &Live,
-    symbols: &SymbolPositions,
-    parts: &[OutputRecordLayout],
-    symbol: SymbolId,
-) -> Option<u64>
-    ensures { result ≡ target_in link.now live.now symbols.now parts.now symbol }
+fn target(judge: &SectionJudge<'_>, symbol: SymbolId, absolute: Option<u64>) -> Option<u64>
+    requires { absolute ≡ option_and_then (λ x. absolute_value x.at) (symbol_at judge.now.link.now.groups symbol) }
+    ensures { result ≡ target_in judge.now.link.now judge.now.live.now judge.now.symbols.now judge.now.parts.now symbol }
 {
-    let flags = flags_at(live.flags.as_slice(), symbol.as_usize());
+    let flags = flags_at(judge.live.flags.as_slice(), symbol.as_usize());
     if flags.is_interposable() {
         return None;
     }
-    match absolute_value(link, symbol) {
+    match absolute {
         Some(value) => Some(value),
-        None => address_of(symbols, parts, symbol),
+        None => address_of(judge.symbols, judge.parts, symbol),
     }
 }
 
-/// The number that a symbol is, if it is absolute.
-fn absolute_value(link: &LinkInput, symbol: SymbolId) -> Option<u64>
+/// The number that a symbol of any file is, if it is absolute.
+fn absolute_at(link: &LinkInput, symbol: SymbolId) -> Option<u64>
     ensures { result ≡ option_and_then (λ x. absolute_value x.at) (symbol_at link.now.groups symbol) }
 {
-    match &link.groups.symbol(symbol)?.at {
+    absolute_value(&link.groups.symbol(symbol)?.at)
+}
+
+/// The number that stands in a symbol's place, if it is absolute.
+fn absolute_value(placement: &SymbolPlacement) -> Option<u64>
+    ensures { result ≡ absolute_value placement.now }
+{
+    match placement {
         SymbolPlacement::Absolute(value) => Some(*value),
         _ => None,
     }

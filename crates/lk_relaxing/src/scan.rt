@@ -5,6 +5,7 @@ ghost use Rattle.std.specs.Option.{option_copied};
 ghost use Rattle.lk_link.specs.Files.{file_in};
 ghost use Rattle.lk_link.specs.Symbols.{first_symbol};
 ghost use Rattle.lk_link.specs.WellFormed.{IsWellFormed};
+ghost use Rattle.lk_link.specs.declared.file.InputFile.{InputFile};
 ghost use Rattle.lk_link.specs.declared.relocation.RelaxCandidate.{RelaxCandidate};
 ghost use Rattle.lk_link.specs.declared.section.InputSection.{InputSection};
 ghost use Rattle.lk_relaxing.specs.LinkDeletions.{deleted_of};
@@ -17,7 +18,7 @@ use crate::positions::{first_number, position_at};
 use lk_expressions::{OutputRecordLayout, SymbolPositions};
 use lk_gc::Live;
 use lk_link::relocation::RelaxCandidate;
-use lk_link::{FileId, InputSection, LinkInput, PartId};
+use lk_link::{FileId, InputSection, InputSymbol, LinkInput, PartId};
 use lk_relax::{RelaxDeltaMap, SectionRelaxDeltas, laws, scan_candidates};
 use std::alloc::{AllocError, Global};
 
@@ -101,6 +102,8 @@ pub(crate) fn judge_of<'a>(before: Before<'a>, file: FileId, index: u32) -> Sect
     requires there { IsSome (file_in before.link.now.groups file) }
     ensures tells { (c : RelaxCandidate) → judged result c ≡ told (standing_of before.entry) file index c }
     ensures first { result.first ≡ first_symbol before.entry.link.now.groups file }
+    ensures link { result.link.now ≡ before.entry.link.now }
+    ensures own { (there : InputFile) → file_in before.entry.link.now.groups file ≡ Some there → result.own.now ≡ there.symbols }
     ensures deleted { option_copied result.deleted ≡ deleted_of before.entry.link.now.groups before.entry.deltas.now file index }
 {
     SectionJudge {
@@ -109,6 +112,7 @@ pub(crate) fn judge_of<'a>(before: Before<'a>, file: FileId, index: u32) -> Sect
         symbols: before.symbols,
         parts: before.parts,
         first: first_symbol(before.link, file),
+        own: symbols_of(before.link, file),
         position: position_at(
             before.sections,
             first_number(before.link, file) + index as usize,
@@ -126,6 +130,16 @@ fn first_symbol(link: &LinkInput, file: FileId) -> u32
     match link.groups.symbol_id_range(file) {
         Some(range) => range.start,
         None => 0,
+    }
+}
+
+/// The symbols of a file.
+fn symbols_of(link: &LinkInput, file: FileId) -> &[InputSymbol]
+    ensures { (there : InputFile) → file_in link.now.groups file ≡ Some there → result.now ≡ there.symbols }
+{
+    match link.groups.file(file) {
+        Some(file) => file.symbols.as_slice(),
+        None => &[],
     }
 }
 

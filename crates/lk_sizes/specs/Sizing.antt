@@ -8,6 +8,7 @@ use Rattle.lk_sizes.specs.Emitted.{told_marks}
 use Rattle.lk_sizes.specs.Harvest.{sorted_sections}
 use Rattle.lk_sizes.specs.Header.{header_info}
 use Rattle.lk_sizes.specs.Owners.{Filling, all_commons, own_sizes}
+use Rattle.lk_sizes.specs.declared.part_owners.ResizedLists.{ResizedLists}
 use Rattle.lk_sizes.specs.OwnersRecord.{OwnersRecord}
 
 -- what was found is that of a filling: the contents of the parts, what headers tell, the numbers of dynamic symbols at the
@@ -38,3 +39,9 @@ GivesAdded filling (Err error) = sum_refusal filling ≡ Some error
 -- the same filling, where input sections have these sizes
 abbrev pub with_sizes : Filling → List ℕ → Filling
 with_sizes filling sizes = record filling { sizes = sizes }
+
+-- what of it goes by the sizes of input sections
+pub record IsResized (filling : Filling) (resized : ResizedLists) : Type 0 where
+  pub contents : resized.contents ≡ part_contents filling
+  pub sorted : resized.sorted ≡ sorted_sections filling.content.link filling.content.live filling.sizes
+  pub sizes : resized.sizes ≡ filling.sizes

@@ -16,7 +16,7 @@ ghost use Rattle.lk_sizes.specs.Emitted.{is_emitted};
 ghost use Rattle.lk_sizes.specs.Contents.{AreContentTotals, part_contents};
 ghost use Rattle.lk_sizes.specs.Owners.{AreThunkOwners, Filling, all_commons, content_of, in_link, in_output, own_sizes, plain_filling, sized_filling, with_thunks, without_thunks};
 ghost use Rattle.lk_sizes.specs.PartOwners.{part_sizes};
-ghost use Rattle.lk_sizes.specs.Sizing.{AreFilled, GivesAdded, GivesOwners, with_sizes};
+ghost use Rattle.lk_sizes.specs.Sizing.{AreFilled, GivesAdded, GivesOwners, IsResized, with_sizes};
 
 use crate::blocks::add_blocks;
 use crate::error::SizeError;
@@ -52,6 +52,17 @@ pub struct PartOwners {
     thunks: List<(FileId, u64)>,
     /// The sizes of input sections, by number, where they aren't those of the description.
     sizes: Option<List<u64>>,
+}
+
+/// What goes by the sizes of input sections.
+#[derive(Drop)]
+pub(crate) struct ResizedLists {
+    /// What comes into each part.
+    pub(crate) contents: List<PartContents>,
+    /// The sorted sections, in the order in which they stand in their parts.
+    pub(crate) sorted: List<InputSortedSection>,
+    /// The sizes of input sections, by number.
+    pub(crate) sizes: List<u64>,
 }
 
 impl Model for PartOwners {
@@ -197,18 +208,30 @@ pub fn add_thunks(
     ensures { (filling : Filling) → AreFilled (without_thunks (in_link link.now filling)) owners
         → GivesAdded (with_thunks (in_link link.now filling) thunk_owners.now) result }
 {
-    let contents = add_blocks(alloc, link, owners.contents.as_slice(), thunk_owners)?;
-    let thunks = List::from_vec(Vec::from_slice(alloc, thunk_owners)?);
-    Ok(PartOwners {
-        contents,
-        header: owners.header,
-        numbers: owners.numbers,
-        commons: owners.commons,
-        sorted: owners.sorted,
-        lens: owners.lens,
-        thunks,
-        sizes: owners.sizes,
-    })
+    let thunks = match Vec::from_slice(alloc, thunk_owners) {
+        Ok(thunks) => List::from_vec(thunks),
+        Err(error) => {
+            drop(owners);
+            return Err(SizeError::from(error));
+        }
+    };
+    match add_blocks(alloc, link, owners.contents.as_slice(), thunk_owners) {
+        Ok(contents) => Ok(PartOwners {
+            contents,
+            header: owners.header,
+            numbers: owners.numbers,
+            commons: owners.commons,
+            sorted: owners.sorted,
+            lens: owners.lens,
+            thunks,
+            sizes: owners.sizes,
+        }),
+        Err(error) => {
+            drop(owners);
+            drop(thunks);
+            Err(error)
+        }
+    }
 }
 
 /// What was found, where input sections have other sizes by their numbers, none of them greater: each part loses what its live sections
@@ -227,21 +250,49 @@ pub fn resize_owners(
     ensures { (filling : Filling) → AreFilled (in_output link.now live.now filling) owners
         → IfOk result (λ resized. AreFilled (with_sizes (in_output link.now live.now filling) sizes.now) resized) }
 {
+    match resize(alloc, link, live, &owners, sizes) {
+        Ok(resized) => Ok(PartOwners {
+            contents: resized.contents,
+            header: owners.header,
+            numbers: owners.numbers,
+            commons: owners.commons,
+            sorted: resized.sorted,
+            lens: owners.lens,
+            thunks: owners.thunks,
+            sizes: Some(resized.sizes),
+        }),
+        Err(error) => {
+            drop(owners);
+            Err(error)
+        }
+    }
+}
+
+/// What of what was found goes by the sizes of input sections, by these sizes.
+fn resize(
+    alloc: Global,
+    link: &LinkInput,
+    live: &Live,
+    owners: &PartOwners,
+    sizes: &[u64],
+) -> Result<ResizedLists, AllocError>
+    requires good { IsWellFormed link.now }
+    requires live { AreLive link.now live.now }
+    requires filled { (filling : Filling) × AreFilled (in_output link.now live.now filling) owners.now }
+    requires lesser { (k : ℕ) → slice_index sizes.now k ≤ slice_index (unwrap_or owners.now.sizes (own_sizes link.now)) k }
+    ensures { (filling : Filling) → AreFilled (in_output link.now live.now filling) owners.now
+        → IfOk result (IsResized (with_sizes (in_output link.now live.now filling) sizes.now)) }
+{
     contents_fit(owners.contents());
     let before = add_inputs(alloc, link, live, owners.sizes())?;
     let after = add_inputs(alloc, link, live, Some(sizes))?;
     let contents = less_bytes(alloc, owners.contents(), &before, &after)?;
     let sorted = resize_sections(alloc, link, owners.sorted(), sizes)?;
     let sizes = List::from_vec(Vec::from_slice(alloc, sizes)?);
-    Ok(PartOwners {
+    Ok(ResizedLists {
         contents,
-        header: owners.header,
-        numbers: owners.numbers,
-        commons: owners.commons,
         sorted,
-        lens: owners.lens,
-        thunks: owners.thunks,
-        sizes: Some(sizes),
+        sizes,
     })
 }
 

@@ -1,3 +1,4 @@
+pub mod HomeNumbers
 pub mod Lawful
 pub mod Noting
 pub mod Places

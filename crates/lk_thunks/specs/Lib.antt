@@ -2,6 +2,7 @@ pub mod BlockLaws
 pub mod Blocks
 pub mod Building
 pub mod Configs
+pub mod Homes
 pub mod Noting
 pub mod Ranges
 pub mod Reach

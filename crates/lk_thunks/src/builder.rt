@@ -12,6 +12,7 @@ ghost use Rattle.lk_thunks.specs.ThunkSets.{thunk_sets};
 
 use crate::arch::ThunkConfig;
 use crate::blocks::{ThunkBlockId, assigned_of, thunk_blocks};
+use crate::homes::home_numbers;
 use crate::ranges::{file_ranges, object_ranges, with_bytes};
 use crate::sets::{Planner, ThunkBlock, named_elsewhere, thunk_sets};
 use lk_gc::Live;
@@ -99,7 +100,7 @@ impl ThunkLayoutBuilder {
     }
     /// The thunks of each block, one block at least, and each object with its block and whether it owns it, by objects that
     /// stand end to end from an address on. `start` and the primary bytes of all files are at most 2^64 - 1 together. Takes
-    /// four bytes a symbol while it works (libwild: `build`).
+    /// ten bytes a symbol while it works (libwild: `build`).
     pub fn build(
         &self,
         alloc: Global,
@@ -116,11 +117,13 @@ impl ThunkLayoutBuilder {
         let objects = with_bytes(alloc, &ranges)?;
         let blocks = thunk_blocks(alloc, &objects, self.branch_range)?;
         let elsewhere = named_elsewhere(alloc, link, live)?;
+        let homes = home_numbers(alloc, link)?;
         let by = Planner {
             link,
             live,
             range: self.branch_range,
             ranges: &ranges,
+            homes: &homes,
         };
         let sets = thunk_sets(alloc, &by, &objects, &blocks, &elsewhere)?;
         let users = assigned_of(alloc, &objects, &blocks)?;

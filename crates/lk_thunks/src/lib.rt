@@ -9,6 +9,7 @@
 pub mod arch;
 pub mod blocks;
 pub mod builder;
+pub mod homes;
 pub mod laws;
 pub mod ranges;
 pub mod reach;

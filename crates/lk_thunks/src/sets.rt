@@ -7,23 +7,19 @@
 ghost use Rattle.std.specs.Prelude.{◌≡◌, ◌≤◌, ◌<◌, ◌+◌, ◌^◌, ◌==◌, ◌&&◌, ◌||◌, ℕ, Bool, List, [], true, false, IfOk, OnOk, Some, filter, length, map, position, replicate, slice_index};
 ghost use Rattle.std.specs.List.{enumerate_from, list_any, range_with_len};
 ghost use Rattle.std.specs.List.Sorted.{IsNonDecreasingBy, IsPermutation};
-ghost use Rattle.lk_link.specs.Files.{AreNumbered};
 ghost use Rattle.lk_link.specs.Flags.{has_flag};
 ghost use Rattle.lk_link.specs.Marks.{is_marked};
 ghost use Rattle.lk_link.specs.declared.symbol.InputSymbol.{InputSymbol};
-ghost use Rattle.lk_link.specs.Walks.{file_of};
 ghost use Rattle.lk_link.specs.WellFormed.{IsWellFormed};
-ghost use Rattle.lk_gc.specs.PrimaryMarks.{is_primary_symbol};
+ghost use Rattle.lk_thunks.specs.Homes.{home_numbers};
 ghost use Rattle.lk_thunks.specs.Noting.{AreElsewhere, AreFresh, AreNoted, planning_of};
 ghost use Rattle.lk_thunks.specs.SetLaws.{IsPlaceFor, IsRising};
-ghost use Rattle.lk_thunks.specs.ThunkSets.{flags_at, home_in, home_of, is_in_window, is_indirect, is_needed_for, needs, needs_thunk, range_of, sets_of, thunk_set};
+ghost use Rattle.lk_thunks.specs.ThunkSets.{flags_at, home_of, is_in_window, is_indirect, is_needed_for, needs, needs_thunk, sets_of, thunk_set};
 
 use crate::blocks::{Block, objects_of};
-use lk_gc::reaching::is_primary_section;
+use crate::homes::{number_at, range_told};
 use lk_gc::{Live, primary_references};
-use lk_link::{
-    FileId, FileRef, InputFile, InputSymbol, LinkInput, List, SymbolId, SymbolPlacement, ValueFlags,
-};
+use lk_link::{FileId, InputSymbol, LinkInput, List, SymbolId, ValueFlags};
 use std::alloc::{AllocError, Global};
 use std::fmt;
 use std::marker::Model;
@@ -141,6 +137,8 @@ pub(crate) struct Planner<'a> {
     pub(crate) range: u64,
     /// Where the primary bytes of each file begin and end, by the file's number.
     pub(crate) ranges: &'a [(FileId, u64, u64)],
+    /// In which file each symbol is at home.
+    pub(crate) homes: &'a [u32],
 }
 
 /// Whether a flag is among some.
@@ -168,57 +166,20 @@ fn is_indirect(live: &Live, symbol: SymbolId) -> bool
     has_flag(flags, ValueFlags::IFUNC) || has_flag(flags, ValueFlags::DYNAMIC)
 }
 
-/// Whether a symbol of a file stands in a section of the primary part.
-fn is_primary_symbol(link: &LinkInput, file: &InputFile, symbol: &InputSymbol) -> bool
-    ensures { result ≡ is_primary_symbol link.now file.now symbol.now }
-{
-    match &symbol.at {
-        SymbolPlacement::Section { index, .. } => match file.sections.get(*index as usize) {
-            Some(section) => is_primary_section(link, section),
-            None => false,
-        },
-        _ => false,
-    }
-}
-
-/// Where the primary bytes of a file stand, if there is such a file.
-fn range_of(by: &Planner<'_>, file: FileId) -> Option<(FileId, u64, u64)>
-    ensures { result ≡ range_of (planning_of by.now) file }
-{
-    let number = by.link.groups.file_number(file)?;
-    by.ranges.get(number).copied()
-}
-
 /// Where the file of a symbol stands, if the symbol is in the primary part and isn't indirect.
-fn home_in(
-    by: &Planner<'_>,
-    number: SymbolId,
-    file: FileRef<'_>,
-    symbol: &InputSymbol,
-) -> Option<(FileId, u64, u64)>
-    ensures { result ≡ home_in (planning_of by.now) (number, file_of file.entry, symbol.now) }
-{
-    if is_primary_symbol(by.link, file.file, symbol) && !is_indirect(by.live, number) {
-        range_of(by, file.id)
-    } else {
-        None
-    }
-}
-
-/// The same for a symbol by its number.
 fn home_of(by: &Planner<'_>, definition: SymbolId) -> Option<(FileId, u64, u64)>
-    requires { AreNumbered by.now.link.now.groups }
+    requires { by.now.homes.now ≡ home_numbers by.now.link.now }
     ensures { result ≡ home_of (planning_of by.now) definition }
 {
-    match by.link.groups.symbol_in_file(definition) {
-        Some(known) => home_in(by, known.number, known.file, known.symbol),
-        None => None,
+    if is_indirect(by.live, definition) {
+        return None;
     }
+    range_told(by.ranges, number_at(by.homes, definition.as_usize()))
 }
 
 /// Whether all branches of an object reach a definition by themselves, as far as the planning knows.
 fn is_in_window(by: &Planner<'_>, object: (FileId, u64, u64), definition: SymbolId) -> bool
-    requires { AreNumbered by.now.link.now.groups }
+    requires { by.now.homes.now ≡ home_numbers by.now.link.now }
     ensures { result ≡ is_in_window (planning_of by.now) object definition }
 {
     match home_of(by, definition) {
@@ -238,7 +199,7 @@ fn needs(
     number: SymbolId,
     symbol: &InputSymbol,
 ) -> bool
-    requires { AreNumbered by.now.link.now.groups }
+    requires { by.now.homes.now ≡ home_numbers by.now.link.now }
     ensures { result ≡ needs (planning_of by.now) object (number, symbol.now) }
 {
     has_flag(flags_at(by.live, number), ValueFlags::HAS_RANGE_LIMITED_REL)
@@ -285,7 +246,7 @@ fn add_symbol(
     number: SymbolId,
     symbol: &InputSymbol,
 ) -> Result<(), AllocError>
-    requires { AreNumbered by.now.link.now.groups }
+    requires { by.now.homes.now ≡ home_numbers by.now.link.now }
     ensures count { length stamps.new ≡ length stamps.old }
     ensures noted { (test : ℕ → Bool) → AreNoted stamp test stamps.old set.old.items
         → OnOk result (AreNoted stamp (λ d. test d || is_needed_for (planning_of by.now) object d (number, symbol.now)) stamps.new set.new.items) }
@@ -308,7 +269,7 @@ fn add_symbols(
     first: u32,
     symbols: &[InputSymbol],
 ) -> Result<(), AllocError>
-    requires numbered { AreNumbered by.now.link.now.groups }
+    requires homes { by.now.homes.now ≡ home_numbers by.now.link.now }
     requires numbers { first + length symbols.now < 2 ^ 32 }
     ensures count { length stamps.new ≡ length stamps.old }
     ensures noted { (test : ℕ → Bool) → AreNoted stamp test stamps.old set.old.items
@@ -331,6 +292,7 @@ fn add_object(
     object: (FileId, u64, u64),
 ) -> Result<(), AllocError>
     requires good { IsWellFormed by.now.link.now }
+    requires homes { by.now.homes.now ≡ home_numbers by.now.link.now }
     ensures count { length stamps.new ≡ length stamps.old }
     ensures noted { (test : ℕ → Bool) → AreNoted stamp test stamps.old set.old.items
         → OnOk result (AreNoted stamp (λ d. test d || needs_thunk (planning_of by.now) d object) stamps.new set.new.items) }
@@ -399,6 +361,7 @@ fn thunk_set(
     elsewhere: &[bool],
 ) -> Result<ThunkBlock, AllocError>
     requires good { IsWellFormed by.now.link.now }
+    requires homes { by.now.homes.now ≡ home_numbers by.now.link.now }
     requires number { number + 1 < 2 ^ 32 }
     requires marks { AreElsewhere by.now.link.now by.now.live.now elsewhere.now }
     requires stamps { AreFresh (planning_of by.now) number stamps.old }
@@ -432,6 +395,7 @@ pub(crate) fn thunk_sets(
     elsewhere: &[bool],
 ) -> Result<Vec<ThunkBlock>, AllocError>
     requires good { IsWellFormed by.now.link.now }
+    requires homes { by.now.homes.now ≡ home_numbers by.now.link.now }
     requires few { length blocks.now + 1 < 2 ^ 32 }
     requires marks { AreElsewhere by.now.link.now by.now.live.now elsewhere.now }
     ensures { IfOk result (λ sets. map (λ b. b.symbols) sets.items ≡ sets_of (planning_of by.now) objects.now blocks.now) }

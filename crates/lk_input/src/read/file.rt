@@ -3,8 +3,7 @@
 ghost use Rattle.std.specs.Prelude.{◌≡◌, ◌∷◌};
 ghost use Rattle.json.specs.Json.{parse_map};
 ghost use Rattle.json.specs.Reads.{token_of};
-ghost use Rattle.serde_json.specs.View.{view};
-ghost use Rattle.lk_input.specs.LargeMembers.{file_large, file_kept, kept_sections, file_from};
+ghost use Rattle.lk_input.specs.KnownFiles.{file_from, file_kept, kept_sections};
 ghost use Rattle.lk_input.specs.ReadingFiles.{file_key_text, file_kind_text, all_file_kinds, candidate_of};
 ghost use Rattle.lk_input.specs.ReadingFiles.{file_candidates_of, input_file_of, groups_of};
 ghost use Rattle.lk_input.specs.ReadingSteps.{Reads, one_of};
@@ -13,9 +12,12 @@ ghost use Rattle.lk_input.specs.Tokens.{data_at, Stands, as_is};
 use crate::read::described::{Described, one_of};
 use crate::read::error::InputError;
 use crate::read::fail::Fail;
-use crate::read::large::{Large, kept_or, reread, stream_members};
-use crate::read::member::{at_most, defaulted, element, fixed_list, required};
-use crate::read::stream::{Streamed, misfit_from, settled};
+use crate::read::kept::Kept;
+use crate::read::known::{Known, kept_needed, pass_value, stream_known};
+use crate::read::large::{kept_or, reread};
+use crate::read::member::{at_most, element, fixed_list};
+use crate::read::plain::{Plain, plain_word, stream_plain};
+use crate::read::stream::{Streamed, misfit_from, settled, stream_value};
 use crate::read::tokens::deeper;
 use crate::read::word::Word;
 use json::{Reader, Token};
@@ -75,22 +77,39 @@ impl Word for FileKind {
     }
 }
 
+/// All kinds of files.
+const FILE_KINDS: [FileKind; 6] = [
+    FileKind::Prelude,
+    FileKind::Object,
+    FileKind::Dynamic,
+    FileKind::NotLoaded,
+    FileKind::SyntheticSymbols,
+    FileKind::LinkerScript,
+];
+
 impl Described for FileKind {
     ghost described = { one_of file_kind_text all_file_kinds };
 
     fn read(alloc: Global, value: &Value) -> Result<FileKind, InputError> {
-        one_of(
-            alloc,
-            value,
-            &[
-                FileKind::Prelude,
-                FileKind::Object,
-                FileKind::Dynamic,
-                FileKind::NotLoaded,
-                FileKind::SyntheticSymbols,
-                FileKind::LinkerScript,
-            ],
-        )
+        one_of(alloc, value, &FILE_KINDS)
+    }
+}
+
+impl Plain for FileKind {
+    fn plain(token: Token<'_>) -> Option<FileKind> {
+        plain_word(token, &FILE_KINDS)
+    }
+}
+
+impl Streamed for FileKind {
+    ghost streamed = { one_of file_kind_text all_file_kinds };
+
+    fn stream(
+        alloc: Global,
+        reader: &mut Reader<'_>,
+        depth: usize,
+    ) -> Result<Result<FileKind, Text>, Fail> {
+        stream_plain(alloc, reader, depth)
     }
 }
 
@@ -122,22 +141,44 @@ impl Described for Candidates {
     }
 }
 
-/// The large members of a file.
-#[derive(Drop)]
-pub(crate) struct FileMembers {
-    symbols: Option<Result<List<InputSymbol>, Text>>,
-    sections: Option<Result<InputSections, Text>>,
+impl Streamed for Candidates {
+    ghost streamed = { file_candidates_of };
+
+    fn stream(
+        alloc: Global,
+        reader: &mut Reader<'_>,
+        depth: usize,
+    ) -> Result<Result<Candidates, Text>, Fail> {
+        stream_value(alloc, reader, depth)
+    }
 }
 
-impl Large for FileMembers {
-    ghost is_large = { file_large };
+/// The members of a file, each as what is read of it.
+#[derive(Drop)]
+pub(crate) struct FileMembers {
+    kind: Kept<FileKind>,
+    name: Kept<Text>,
+    symbols: Kept<List<InputSymbol>>,
+    sections: Kept<InputSections>,
+    archive: Kept<bool>,
+    export: Kept<bool>,
+    check: Kept<bool>,
+    candidates: Kept<Candidates>,
+}
 
+impl Known for FileMembers {
     ghost kept = { file_kept };
 
     fn none() -> FileMembers {
         FileMembers {
-            symbols: None,
-            sections: None,
+            kind: Kept::none(),
+            name: Kept::none(),
+            symbols: Kept::none(),
+            sections: Kept::none(),
+            archive: Kept::none(),
+            export: Kept::none(),
+            check: Kept::none(),
+            candidates: Kept::none(),
         }
     }
 
@@ -147,15 +188,25 @@ impl Large for FileMembers {
         key: &str,
         reader: &mut Reader<'_>,
         depth: usize,
-    ) -> Result<bool, Fail> {
-        if key == FileKey::Symbols.text() {
-            reread(alloc, &mut self.symbols, reader, depth)?;
-            Ok(true)
+    ) -> Result<(), Fail> {
+        if key == FileKey::Kind.text() {
+            reread(alloc, &mut self.kind, reader, depth)
+        } else if key == FileKey::Name.text() {
+            reread(alloc, &mut self.name, reader, depth)
+        } else if key == FileKey::Symbols.text() {
+            reread(alloc, &mut self.symbols, reader, depth)
         } else if key == FileKey::Sections.text() {
-            reread(alloc, &mut self.sections, reader, depth)?;
-            Ok(true)
+            reread(alloc, &mut self.sections, reader, depth)
+        } else if key == FileKey::Archive.text() {
+            reread(alloc, &mut self.archive, reader, depth)
+        } else if key == FileKey::Export.text() {
+            reread(alloc, &mut self.export, reader, depth)
+        } else if key == FileKey::Check.text() {
+            reread(alloc, &mut self.check, reader, depth)
+        } else if key == FileKey::Candidates.text() {
+            reread(alloc, &mut self.candidates, reader, depth)
         } else {
-            Ok(false)
+            pass_value(alloc, reader, depth)
         }
     }
 }
@@ -163,7 +214,7 @@ impl Large for FileMembers {
 /// The sections of a file of this kind: only objects have any.
 fn kept_sections(
     alloc: Global,
-    kept: Option<Result<InputSections, Text>>,
+    kept: Kept<InputSections>,
     kind: FileKind,
 ) -> Result<InputSections, InputError>
     ensures { Reads result (kept_sections kind kept) }
@@ -175,21 +226,20 @@ fn kept_sections(
     }
 }
 
-/// A file, of its large members and the object of the others.
-#[tactic(auto, unfolding(crate::specs::LargeMembers::file_from))]
-fn file_from(alloc: Global, large: FileMembers, others: &Value) -> Result<InputFile, InputError>
-    ensures { Reads result (file_from large (view others.now)) }
+/// A file, of what was kept of its members.
+#[tactic(auto, unfolding(crate::specs::KnownFiles::file_from))]
+fn file_from(alloc: Global, known: FileMembers) -> Result<InputFile, InputError>
+    ensures { Reads result (file_from known) }
 {
-    let FileMembers { symbols, sections } = large;
-    let kind = required(alloc, others, FileKey::Kind)?;
-    let name = defaulted(alloc, others, FileKey::Name, Text::new(alloc))?;
-    let symbols = kept_or(alloc, symbols, FileKey::Symbols, List::new(alloc))?;
-    let sections = kept_sections(alloc, sections, kind)?;
-    let archive = defaulted(alloc, others, FileKey::Archive, false)?;
-    let export = defaulted(alloc, others, FileKey::Export, false)?;
-    let check = defaulted(alloc, others, FileKey::Check, false)?;
+    let kind = kept_needed(alloc, known.kind, FileKey::Kind)?;
+    let name = kept_or(alloc, known.name, FileKey::Name, Text::new(alloc))?;
+    let symbols = kept_or(alloc, known.symbols, FileKey::Symbols, List::new(alloc))?;
+    let sections = kept_sections(alloc, known.sections, kind)?;
+    let archive = kept_or(alloc, known.archive, FileKey::Archive, false)?;
+    let export = kept_or(alloc, known.export, FileKey::Export, false)?;
+    let check = kept_or(alloc, known.check, FileKey::Check, false)?;
     let no_candidates = Candidates::empty(alloc);
-    let candidates = defaulted(alloc, others, FileKey::Candidates, no_candidates)?;
+    let candidates = kept_or(alloc, known.candidates, FileKey::Candidates, no_candidates)?;
     Ok(InputFile {
         kind,
         name,
@@ -215,8 +265,14 @@ fn stream_file(
     match token {
         Token::BeginObject => {
             let depth = deeper(depth)?;
-            let (large, others) = stream_members::<FileMembers>(alloc, reader, depth)?;
-            settled(file_from(alloc, large, &Value::Object(others)))
+            let mut known = FileMembers::none();
+            match stream_known(alloc, &mut known, reader, depth) {
+                Ok(()) => settled(file_from(alloc, known)),
+                Err(fail) => {
+                    drop(known);
+                    Err(fail)
+                }
+            }
         }
         token => misfit_from(alloc, token, reader, depth),
     }

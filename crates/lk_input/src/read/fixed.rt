@@ -34,7 +34,7 @@ pub(crate) trait Elements: Sized + Drop {
 }
 
 /// Passes over the items up to the end of a list.
-fn pass_others(alloc: Global, reader: &mut Reader<'_>, depth: usize) -> Result<(), Fail>
+pub(crate) fn pass_others(alloc: Global, reader: &mut Reader<'_>, depth: usize) -> Result<(), Fail>
     ensures { Stands as_is result (parse_map anything (items_at depth reader.old)) reader.new }
 {
     drop(items_from(alloc, reader, depth)?);

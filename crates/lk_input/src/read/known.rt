@@ -12,6 +12,7 @@ ghost use Rattle.json.specs.Json.{parse_map};
 
 use crate::read::error::InputError;
 use crate::read::fail::Fail;
+use crate::read::kept::Kept;
 use crate::read::tokens::value_at;
 use crate::read::word::{Step, Word};
 use json::Reader;
@@ -38,19 +39,19 @@ pub(crate) trait Known: Sized + Drop {
         ensures { Keeps kept key.now depth self.old reader.old result self.new reader.new };
 }
 
-/// What is kept of the members up to the end of an object.
+/// Reads the members up to the end of an object, each in place of what was kept of it.
 pub(crate) fn stream_known<K: Known>(
     alloc: Global,
+    known: &mut K,
     reader: &mut Reader<'_>,
     depth: usize,
-) -> Result<K, Fail>
-    ensures { Gathers K.kept depth reader.old result reader.new }
+) -> Result<(), Fail>
+    ensures { Gathers K.kept depth known.old reader.old result known.new reader.new }
 {
-    let mut known = K::none();
     'members: while let Some(key) = reader.next_key()? {
         known.take(alloc, key, reader, depth)?;
     }
-    Ok(known)
+    Ok(())
 }
 
 /// Passes over the value that stands next.
@@ -62,14 +63,15 @@ pub(crate) fn pass_value(alloc: Global, reader: &mut Reader<'_>, depth: usize) -
 }
 
 /// What was kept of a member that must be there.
+#[inline(always)]
 pub(crate) fn kept_needed<T: Drop, K: Word>(
     alloc: Global,
-    kept: Option<Result<T, Text>>,
+    kept: Kept<T>,
     key: K,
 ) -> Result<T, InputError>
     ensures { Reads result (kept_needed (K.spelling key) kept) }
 {
-    let path = match kept {
+    let path = match kept.taken() {
         Some(Ok(member)) => return Ok(member),
         Some(Err(path)) => path,
         None => Text::new(alloc),
@@ -78,14 +80,15 @@ pub(crate) fn kept_needed<T: Drop, K: Word>(
 }
 
 /// What was kept of one that may be there.
+#[inline(always)]
 pub(crate) fn kept_optional<T: Drop, K: Word>(
     alloc: Global,
-    kept: Option<Result<T, Text>>,
+    kept: Kept<T>,
     key: K,
 ) -> Result<Option<T>, InputError>
     ensures { Reads result (kept_optional (K.spelling key) kept) }
 {
-    match kept {
+    match kept.taken() {
         Some(Ok(member)) => Ok(Some(member)),
         Some(Err(path)) => Err(InputError::Shape(path).below(alloc, Step::Member(key.text()))),
         None => Ok(None),

@@ -15,6 +15,7 @@ ghost use Rattle.lk_input.specs.Large.{Taken, Rereads, Adds, Splits, kept_or};
 
 use crate::read::error::InputError;
 use crate::read::fail::Fail;
+use crate::read::kept::Kept;
 use crate::read::stream::Streamed;
 use crate::read::tokens::{put_member, value_at};
 use crate::read::word::{Step, Word};
@@ -50,14 +51,17 @@ pub(crate) trait Large: Sized + Drop {
 /// Reads a large member in place of what was kept of it.
 pub(crate) fn reread<T: Streamed>(
     alloc: Global,
-    kept: &mut Option<Result<T, Text>>,
+    kept: &mut Kept<T>,
     reader: &mut Reader<'_>,
     depth: usize,
 ) -> Result<(), Fail>
     ensures { Rereads T.streamed depth reader.old result kept.new reader.new }
 {
-    *kept = None;
-    *kept = Some(T::stream(alloc, reader, depth)?);
+    *kept = Kept::none();
+    *kept = match T::stream(alloc, reader, depth)? {
+        Ok(member) => Kept::read(member),
+        Err(path) => Kept::wrong(alloc, path)?,
+    };
     Ok(())
 }
 
@@ -98,15 +102,16 @@ pub(crate) fn stream_members<L: Large>(
 }
 
 /// What was kept of a large member, or the default.
+#[inline(always)]
 pub(crate) fn kept_or<T: Drop, K: Word>(
     alloc: Global,
-    kept: Option<Result<T, Text>>,
+    kept: Kept<T>,
     key: K,
     other: T,
 ) -> Result<T, InputError>
     ensures { Reads result (kept_or other (K.spelling key) kept) }
 {
-    match kept {
+    match kept.taken() {
         Some(Ok(member)) => Ok(member),
         Some(Err(path)) => Err(InputError::Shape(path).below(alloc, Step::Member(key.text()))),
         None => Ok(other),

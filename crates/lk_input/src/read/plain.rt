@@ -9,9 +9,10 @@ ghost use Rattle.lk_input.specs.ReadingSteps.{index_of, number_of, one_of, signe
 ghost use Rattle.lk_input.specs.Tokens.{Stands, as_is, data_at};
 
 use crate::read::described::{Described, word_of};
+use crate::read::digits::{plain_number, plain_signed};
 use crate::read::fail::Fail;
 use crate::read::stream::{Streamed, settled};
-use crate::read::tokens::{number_in, value_from};
+use crate::read::tokens::value_from;
 use crate::read::word::Word;
 use json::{Reader, Token};
 use lk_link::ids::{PartId, SymbolId};
@@ -26,6 +27,7 @@ pub(crate) trait Plain: Described {
 }
 
 /// What is read of the value that stands next, mostly of its one token.
+#[inline(always)]
 #[tactic(auto, using(crate::proofs::Objects::objects))]
 pub(crate) fn stream_plain<T: Plain>(
     alloc: Global,
@@ -70,7 +72,7 @@ pub(crate) fn plain_word<W: Word>(token: Token<'_>, words: &[W]) -> Option<W>
 impl Plain for u64 {
     fn plain(token: Token<'_>) -> Option<u64> {
         match token {
-            Token::Number(text) => number_in(text)?.as_u64(),
+            Token::Number(text) => plain_number(text),
             _ => None,
         }
     }
@@ -86,7 +88,7 @@ fn small(number: u64) -> Option<u32>
 impl Plain for u32 {
     fn plain(token: Token<'_>) -> Option<u32> {
         match token {
-            Token::Number(text) => small(number_in(text)?.as_u64()?),
+            Token::Number(text) => small(plain_number(text)?),
             _ => None,
         }
     }
@@ -95,7 +97,7 @@ impl Plain for u32 {
 impl Plain for i64 {
     fn plain(token: Token<'_>) -> Option<i64> {
         match token {
-            Token::Number(text) => number_in(text)?.as_i64(),
+            Token::Number(text) => plain_signed(text),
             _ => None,
         }
     }
@@ -113,6 +115,7 @@ impl Plain for bool {
 impl Streamed for u64 {
     ghost streamed = { number_of };
 
+    #[inline(always)]
     fn stream(
         alloc: Global,
         reader: &mut Reader<'_>,
@@ -125,6 +128,7 @@ impl Streamed for u64 {
 impl Streamed for u32 {
     ghost streamed = { index_of };
 
+    #[inline(always)]
     fn stream(
         alloc: Global,
         reader: &mut Reader<'_>,
@@ -199,6 +203,7 @@ impl Streamed for Text {
 impl Streamed for i64 {
     ghost streamed = { signed_of };
 
+    #[inline(always)]
     fn stream(
         alloc: Global,
         reader: &mut Reader<'_>,
@@ -211,6 +216,7 @@ impl Streamed for i64 {
 impl Streamed for bool {
     ghost streamed = { truth_of };
 
+    #[inline(always)]
     fn stream(
         alloc: Global,
         reader: &mut Reader<'_>,

@@ -14,6 +14,7 @@ ghost use Rattle.lk_input.specs.Tokens.{data_at, Stands, as_is};
 use crate::read::described::{Described, one_of, wanted};
 use crate::read::error::InputError;
 use crate::read::fail::Fail;
+use crate::read::kept::Kept;
 use crate::read::known::{Known, kept_needed, kept_optional, pass_value, stream_known};
 use crate::read::large::{kept_or, reread};
 use crate::read::plain::{Plain, described_from, plain_word, stream_plain};
@@ -210,7 +211,7 @@ impl Streamed for Hexadecimal {
 /// What a section in this slot holds: the data of a merge section, and nothing of others.
 fn data_kept(
     alloc: Global,
-    kept: Option<Result<Hexadecimal, Text>>,
+    kept: Kept<Hexadecimal>,
     slot: InputSlot,
 ) -> Result<List<u8>, InputError>
     ensures { Reads result (data_kept slot kept) }
@@ -238,17 +239,17 @@ fn size_in(slot: InputSlot, size: u64, bytes: &List<u8>) -> u64
 /// The members of a section, each as what is read of it.
 #[derive(Drop)]
 pub(crate) struct SectionMembers {
-    name: Option<Result<Text, Text>>,
-    slot: Option<Result<InputSlot, Text>>,
-    part: Option<Result<PartId, Text>>,
-    size: Option<Result<u64, Text>>,
-    bytes: Option<Result<Hexadecimal, Text>>,
-    strings: Option<Result<bool, Text>>,
-    sorted: Option<Result<bool, Text>>,
-    attrs: Option<Result<u32, Text>>,
-    group: Option<Result<u32, Text>>,
-    relocs: Option<Result<List<Relocation>, Text>>,
-    relax: Option<Result<List<RelaxCandidate>, Text>>,
+    name: Kept<Text>,
+    slot: Kept<InputSlot>,
+    part: Kept<PartId>,
+    size: Kept<u64>,
+    bytes: Kept<Hexadecimal>,
+    strings: Kept<bool>,
+    sorted: Kept<bool>,
+    attrs: Kept<u32>,
+    group: Kept<u32>,
+    relocs: Kept<List<Relocation>>,
+    relax: Kept<List<RelaxCandidate>>,
 }
 
 impl Known for SectionMembers {
@@ -256,17 +257,17 @@ impl Known for SectionMembers {
 
     fn none() -> SectionMembers {
         SectionMembers {
-            name: None,
-            slot: None,
-            part: None,
-            size: None,
-            bytes: None,
-            strings: None,
-            sorted: None,
-            attrs: None,
-            group: None,
-            relocs: None,
-            relax: None,
+            name: Kept::none(),
+            slot: Kept::none(),
+            part: Kept::none(),
+            size: Kept::none(),
+            bytes: Kept::none(),
+            strings: Kept::none(),
+            sorted: Kept::none(),
+            attrs: Kept::none(),
+            group: Kept::none(),
+            relocs: Kept::none(),
+            relax: Kept::none(),
         }
     }
 
@@ -352,8 +353,14 @@ fn stream_section(
     match token {
         Token::BeginObject => {
             let depth = deeper(depth)?;
-            let known = stream_known::<SectionMembers>(alloc, reader, depth)?;
-            settled(section_from(alloc, known))
+            let mut known = SectionMembers::none();
+            match stream_known(alloc, &mut known, reader, depth) {
+                Ok(()) => settled(section_from(alloc, known)),
+                Err(fail) => {
+                    drop(known);
+                    Err(fail)
+                }
+            }
         }
         token => misfit_from(alloc, token, reader, depth),
     }

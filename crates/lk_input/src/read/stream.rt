@@ -1,6 +1,6 @@
 //! Lists, read where they stand.
 
-ghost use Rattle.std.specs.Prelude.{◌≡◌, [], ◌∷◌, Err, Result, List as Items, ℕ};
+ghost use Rattle.std.specs.Prelude.{◌≡◌, [], ◌∷◌, ◌++◌, Err, OnOk, Result, List as Items, ℕ};
 ghost use Rattle.json.specs.Json.{parse_map};
 ghost use Rattle.json.specs.Reads.{token_of};
 ghost use Rattle.serde_json.specs.Data.{Data};
@@ -15,7 +15,7 @@ use crate::read::word::Step;
 use json::{Reader, Token};
 use lk_link::list::List;
 use lk_link::text::Text;
-use std::alloc::Global;
+use std::alloc::{AllocError, Global};
 
 /// What is read where it stands among the tokens of a text.
 pub(crate) trait Streamed: Sized + Drop {
@@ -80,6 +80,19 @@ fn stream_list<T: Streamed>(
     }
 }
 
+/// Puts an item behind others. The first gets room for itself alone, since many lists have one item, and it needn't be given back.
+#[inline(always)]
+fn add_item<T: Drop>(items: &mut Vec<T>, item: T) -> Result<(), AllocError>
+    ensures { OnOk result (items.new.items ≡ items.old.items ++ item ∷ []) }
+{
+    if items.is_empty() && items.reserve_exact(1).is_err() {
+        drop(item);
+        return Err(AllocError);
+    }
+    items.push(item)?;
+    Ok(())
+}
+
 /// The items up to the end of a list. Once one has a wrong shape, the others are read for the sake of the text alone.
 fn stream_items<T: Streamed>(
     alloc: Global,
@@ -91,7 +104,7 @@ fn stream_items<T: Streamed>(
     let mut items = Vec::new(alloc);
     'items: while !reader.take_end_array() {
         match T::stream(alloc, reader, depth)? {
-            Ok(item) => items.push(item)?,
+            Ok(item) => add_item(&mut items, item)?,
             Err(path) => {
                 let path = path_below(alloc, Step::Item(items.len()), &path)?;
                 pass_items::<T>(alloc, reader, depth)?;

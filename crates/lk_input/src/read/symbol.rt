@@ -13,10 +13,11 @@ ghost use Rattle.lk_input.specs.Tokens.{Stands, as_is, data_at};
 use crate::read::described::{Described, one_of};
 use crate::read::error::InputError;
 use crate::read::fail::Fail;
+use crate::read::kept::Kept;
 use crate::read::known::{Known, kept_needed, kept_optional, pass_value, stream_known};
 use crate::read::large::{kept_or, reread};
 use crate::read::member::{alone, at_most, double, element, fixed_list, single};
-use crate::read::stream::{Streamed, misfit_from, settled, stream_value};
+use crate::read::stream::{Streamed, misfit_from, settled};
 use crate::read::tokens::deeper;
 use crate::read::word::Word;
 use json::{Reader, Token};
@@ -133,7 +134,7 @@ impl Word for PlacementForm {
 }
 
 /// The placements of all kinds of files; which are a file's own is no matter of reading.
-const PLACEMENTS: [PlacementForm; 13] = [
+pub(crate) const PLACEMENTS: [PlacementForm; 13] = [
     PlacementForm::Section,
     PlacementForm::Common,
     PlacementForm::Absolute,
@@ -175,7 +176,7 @@ fn redirect_of(alloc: Global, value: &Value) -> Result<SymbolPlacement, InputErr
 
 /// The placement that begins so.
 #[tactic(auto, unfolding(crate::specs::ReadingSymbols::placement_in))]
-fn placement_in(
+pub(crate) fn placement_in(
     alloc: Global,
     value: &Value,
     form: PlacementForm,
@@ -248,13 +249,13 @@ impl Word for SymbolKey {
 /// The members of a symbol, each as what is read of it.
 #[derive(Drop)]
 pub(crate) struct SymbolMembers {
-    name: Option<Result<Text, Text>>,
-    at: Option<Result<SymbolPlacement, Text>>,
-    def: Option<Result<SymbolId, Text>>,
-    flags: Option<Result<u32, Text>>,
-    local: Option<Result<bool, Text>>,
-    weak: Option<Result<bool, Text>>,
-    hidden: Option<Result<bool, Text>>,
+    name: Kept<Text>,
+    at: Kept<SymbolPlacement>,
+    def: Kept<SymbolId>,
+    flags: Kept<u32>,
+    local: Kept<bool>,
+    weak: Kept<bool>,
+    hidden: Kept<bool>,
 }
 
 impl Known for SymbolMembers {
@@ -262,13 +263,13 @@ impl Known for SymbolMembers {
 
     fn none() -> SymbolMembers {
         SymbolMembers {
-            name: None,
-            at: None,
-            def: None,
-            flags: None,
-            local: None,
-            weak: None,
-            hidden: None,
+            name: Kept::none(),
+            at: Kept::none(),
+            def: Kept::none(),
+            flags: Kept::none(),
+            local: Kept::none(),
+            weak: Kept::none(),
+            hidden: Kept::none(),
         }
     }
 
@@ -322,18 +323,6 @@ fn symbol_from(alloc: Global, known: SymbolMembers) -> Result<InputSymbol, Input
     })
 }
 
-impl Streamed for SymbolPlacement {
-    ghost streamed = { symbol_placement_of };
-
-    fn stream(
-        alloc: Global,
-        reader: &mut Reader<'_>,
-        depth: usize,
-    ) -> Result<Result<SymbolPlacement, Text>, Fail> {
-        stream_value(alloc, reader, depth)
-    }
-}
-
 /// The symbol that begins with this token, if it begins an object.
 #[tactic(auto, using(crate::proofs::Objects::objects))]
 fn stream_symbol(
@@ -347,8 +336,14 @@ fn stream_symbol(
     match token {
         Token::BeginObject => {
             let depth = deeper(depth)?;
-            let known = stream_known::<SymbolMembers>(alloc, reader, depth)?;
-            settled(symbol_from(alloc, known))
+            let mut known = SymbolMembers::none();
+            match stream_known(alloc, &mut known, reader, depth) {
+                Ok(()) => settled(symbol_from(alloc, known)),
+                Err(fail) => {
+                    drop(known);
+                    Err(fail)
+                }
+            }
         }
         token => misfit_from(alloc, token, reader, depth),
     }

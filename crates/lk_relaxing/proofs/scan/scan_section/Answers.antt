@@ -8,7 +8,7 @@ use Rattle.lk_relax.specs.declared.candidates.Outcome.{Outcome}
 use Rattle.lk_relaxing.specs.LinkDeletions.{deleted_of}
 use Rattle.lk_relaxing.specs.Scan.{candidates_of, told}
 use Rattle.lk_relaxing.specs.ScanWords.{judged, standing_of}
-use Rattle.lk_relaxing.proofs.Scanning.{are_good}
+use Rattle.lk_relaxing.proofs.Scanning.{are_good, are_numbered}
 use Rattle.lk_relaxing.proofs.scan.scan_section.Goals as goal
 
 pub scan_candidates-requires-clause-rising : goal.scan_candidates-requires-clause-rising
@@ -21,7 +21,8 @@ scan_candidates-requires-clause-each c =
     let before = c.args.before in
     let cs : List RelaxCandidate = c.candidates_of-candidates.result.now in
     let good = are_good c.good_candidates_can_go.ensures before.link.now before.deltas.now c.args.file c.args.index cs c.requires.good c.requires.there c.candidates_of-candidates.ensures.candidates c.candidates_of-candidates.ensures.small in
-    subst (λ (n : ℕ). All (λ (x : RelaxCandidate). n + x.symbol < 2 ^ 32) cs) (sym c.judge_of-judge.ensures.first) good.few
+    are_numbered before.link.now before.deltas.now c.args.file c.args.index cs c.judge_of-judge.result c.requires.there.file good c.requires.there.there
+    c.judge_of-judge.ensures.first c.judge_of-judge.ensures.link (c.judge_of-judge.ensures.own c.requires.there.file c.requires.there.there)
 
 pub new-requires : goal.new-requires
 new-requires c =

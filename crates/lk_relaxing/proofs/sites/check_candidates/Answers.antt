@@ -4,6 +4,7 @@ use Rattle.lk_link.specs.declared.section.InputSection.{InputSection}
 use Rattle.lk_link.proofs.GoodInputs.{lists_of}
 use Rattle.lk_relaxing.specs.Scan.{told}
 use Rattle.lk_relaxing.specs.ScanWords.{judged, standing_of}
+use Rattle.lk_relaxing.proofs.Scanning.{are_numbered}
 use Rattle.lk_relaxing.proofs.PastSites.{found_first, found_none, good_there, is_asked, same_section}
 use Rattle.lk_relaxing.proofs.sites.check_candidates.Goals as goal
 
@@ -14,9 +15,11 @@ first_past-requires-clause-rising c =
 
 pub first_past-requires-clause-each : goal.first_past-requires-clause-each
 first_past-requires-clause-each c =
-    subst (λ (n : ℕ). All (λ (x : RelaxCandidate). n + x.symbol < 2 ^ 32) c.relax_of.result.now) (sym c.judge_of-judge.ensures.first)
-    (good_there c.good_candidates_can_go.ensures c.args.by.link.now c.args.by.deltas.now c.args.file c.args.index c.args.section.now c.relax_of.result.now
-    c.requires.good c.requires.can c.requires.section c.relax_of.ensures.candidates c.relax_of.ensures.small).few
+    let by = c.args.by in
+    let good = good_there c.good_candidates_can_go.ensures by.link.now by.deltas.now c.args.file c.args.index c.args.section.now c.relax_of.result.now
+    c.requires.good c.requires.can c.requires.section c.relax_of.ensures.candidates c.relax_of.ensures.small in
+    are_numbered by.link.now by.deltas.now c.args.file c.args.index c.relax_of.result.now c.judge_of-judge.result c.requires.can.file good c.requires.can.there
+    c.judge_of-judge.ensures.first c.judge_of-judge.ensures.link (c.judge_of-judge.ensures.own c.requires.can.file c.requires.can.there)
 
 pub overflow_cast-result : goal.overflow_cast-result
 overflow_cast-result c =

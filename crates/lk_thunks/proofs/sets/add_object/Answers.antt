@@ -3,15 +3,11 @@ use Rattle.lk_thunks.specs.Noting.{planning_of}
 use Rattle.lk_thunks.proofs.Noting.{object_noted}
 use Rattle.lk_link.specs.Symbols.{AreSymbolsOf, first_symbol}
 use Rattle.lk_link.proofs.SymbolLemmas.{symbols_within}
-use Rattle.lk_reach.proofs.Numbered.{are_numbered}
 use Rattle.lk_reach.proofs.SymbolNumbers.{symbols_few}
 use Rattle.lk_thunks.proofs.sets.add_object.Goals as goal
 
 pub symbol_id_range-requires : goal.symbol_id_range-requires
 symbol_id_range-requires c = symbols_few c.args.by.now.link.now c.requires.good
-
-pub add_symbols-requires-clause-numbered : goal.add_symbols-requires-clause-numbered
-add_symbols-requires-clause-numbered c = are_numbered c.args.by.now.link.now c.requires.good
 
 pub add_symbols-requires-clause-numbers : goal.add_symbols-requires-clause-numbers
 add_symbols-requires-clause-numbers c =

@@ -1,7 +1,7 @@
 use Rattle.std.proofs.Common.{◌≡◌, Some, Err, refl, ap, ◌∙◌, arith}
 use Rattle.json.specs.Json.{read_key}
 use Rattle.json.proofs.Grammar.{read_key-shorter}
-use Rattle.serde_json.specs.Data.{no_members, put}
+use Rattle.serde_json.specs.Data.{put}
 use Rattle.lk_input.specs.declared.read.fail.Fail.TheVariants.{NotJson}
 use Rattle.lk_input.specs.Tokens.{data_at, members_at}
 use Rattle.lk_input.proofs.Tokens.{and_next, data_at-shorter, members_at-next, members_at-over, members_at-no_key}
@@ -9,25 +9,26 @@ use Rattle.lk_input.proofs.Values.{lacks-so}
 use Rattle.lk_input.proofs.read.known.stream_known.Goals as goal
 
 pub members-init : goal.members-init
-members-init g c = (no_members, refl, c.none-known.ensures)
+members-init g c = λ found is. (found, refl, is)
 
 pub returns-in_err-key : goal.returns-in_err-key
 returns-in_err-key g c =
     let l = c.members in
     let gone : c.from_residual.result ≡ Err NotJson = grind arith in
-    rw gone (l.invariant.1 ∙ members_at-no_key l.invariant.0 c.args.depth l.reader c.in_err-key.ensures.value)
+    rw gone (λ found is. let i = l.invariant found is in i.1 ∙ members_at-no_key i.0 c.args.depth l.reader c.in_err-key.ensures.value)
 
 pub returns-in_err-take : goal.returns-in_err-take
 returns-in_err-take g c =
     let l = c.members in
-    let ms = l.invariant.0 in
     let k = c.in-Some.key.now in
     let s = c.next_key.new.self in
     let key : read_key l.reader ≡ Some (Some k, s) = grind arith in
     let e = c.in_err-take.field-0.0 in
     let gone : c.from_residual-in_err-take.result ≡ Err e = grind arith in
-    rw gone (lacks-so e (data_at c.args.depth s) _ c.in_err-take.ensures
-    (λ none. l.invariant.1 ∙ members_at-next ms c.args.depth l.reader k s key ∙ ap (and_next (λ d r. members_at (put k d ms) c.args.depth r)) none))
+    rw gone (λ found is.
+    let i = l.invariant found is in
+    lacks-so e (data_at c.args.depth s) _ c.in_err-take.ensures
+    (λ none. i.1 ∙ members_at-next i.0 c.args.depth l.reader k s key ∙ ap (and_next (λ d r. members_at (put k d i.0) c.args.depth r)) none))
 
 pub members-smaller : goal.members-smaller
 members-smaller g c =
@@ -40,17 +41,18 @@ members-smaller g c =
 pub members-preserved : goal.members-preserved
 members-preserved g c =
     let l = c.members in
-    let ms = l.invariant.0 in
     let k = c.in-Some.key.now in
     let s = c.next_key.new.self in
     let key : read_key l.reader ≡ Some (Some k, s) = grind arith in
-    let read = c.in_ok-take.ensures in (
-      put k read.0 ms,
-      l.invariant.1 ∙ members_at-next ms c.args.depth l.reader k s key ∙ ap (and_next (λ d r. members_at (put k d ms) c.args.depth r)) read.1,
-      read.2 ms l.invariant.2,
+    let read = c.in_ok-take.ensures in
+    λ found is.
+    let i = l.invariant found is in (
+      put k read.0 i.0,
+      i.1 ∙ members_at-next i.0 c.args.depth l.reader k s key ∙ ap (and_next (λ d r. members_at (put k d i.0) c.args.depth r)) read.1,
+      read.2 i.0 i.2,
     )
 
 pub returns : goal.returns
 returns g c =
     let l = c.members in
-    (l.invariant.0, l.invariant.1 ∙ members_at-over l.invariant.0 c.args.depth l.reader c.next_key.new.self (grind arith), l.invariant.2)
+    λ found is. let i = l.invariant found is in (i.0, i.1 ∙ members_at-over i.0 c.args.depth l.reader c.next_key.new.self (grind arith), i.2)

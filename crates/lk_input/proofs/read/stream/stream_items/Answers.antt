@@ -34,7 +34,7 @@ items-preserved g c =
     let going : (after_end_array l.reader ≡ None) × (c.take_end_array.new.self ≡ l.reader) = grind arith in
     let read = made f (data_at c.args.depth c.take_end_array.new.self) c.in_ok-item.field-0 r c.in_ok-item.ensures in
     l.invariant ∙ list-passed (after_items f xs) (after_items f (xs ++ x ∷ [])) c.args.depth l.reader r read.0 going.0 (rw (← going.1) read.1) (item-read f xs x read.0 (read.2 ∙ c.in-Ok.is))
-    ∙ ap (λ ys. parse_map (after_items f ys) (items_at c.args.depth r)) (sym c.in_ok-push-in-Ok.ensures.items)
+    ∙ ap (λ ys. parse_map (after_items f ys) (items_at c.args.depth r)) (sym c.in_ok-add_item-in-Ok.ensures)
 
 pub returns-in_err-pass_items-in-Err : goal.returns-in_err-pass_items-in-Err
 returns-in_err-pass_items-in-Err g c =

@@ -1,4 +1,4 @@
-use Rattle.std.proofs.Common.{◌≡◌, ◌∷◌, Some, Err, sym, ap, ◌∙◌, arith}
+use Rattle.std.proofs.Common.{◌∷◌, Some, sym, ap, ◌∙◌}
 use Rattle.json.specs.Json.{parse_map}
 use Rattle.json.specs.Reads.{token_of}
 use Rattle.serde_json.specs.Data.{no_members}
@@ -7,29 +7,28 @@ use Rattle.lk_input.specs.ReadingSymbols.{input_symbol_of}
 use Rattle.lk_input.specs.Tokens.{data_at, members_at}
 use Rattle.lk_input.proofs.Known.{symbol-kept, symbol_wants_object}
 use Rattle.lk_input.proofs.Objects.{object-read, object-none, no_object, settled-stands}
-use Rattle.lk_input.proofs.Values.{fails-so}
+use Rattle.lk_input.proofs.Values.{lacks-so}
 use Rattle.lk_input.proofs.read.symbol.stream_symbol.Goals as goal
 
-pub returns-in_err-known-in-BeginObject : goal.returns-in_err-known-in-BeginObject
-returns-in_err-known-in-BeginObject c =
+pub returns-in-Err : goal.returns-in-Err
+returns-in-Err c =
     let ts = c.args.reader.now in
     let d = c.in_ok-depth-in-BeginObject.depth in
-    let fail = c.in_err-known-in-BeginObject in
-    let gone : c.from_residual-in_err-known-in-BeginObject.result ≡ Err fail.field-0.0 = grind arith in
+    let lacks = (rw c.in-Err.is at c.stream_known.ensures) no_members c.none-known.ensures in
     let begins = ap (λ k. parse_map input_symbol_of (data_at c.args.depth (token_of k ∷ ts))) c.in-BeginObject.is in
-    fails-so _ _ _ (members_at no_members d ts) _ _ gone fail.ensures (λ none. begins ∙ object-none input_symbol_of c.args.depth d ts c.in_ok-depth-in-BeginObject.ensures none)
+    lacks-so c.in-Err.fail (members_at no_members d ts) _ lacks (λ none. begins ∙ object-none input_symbol_of c.args.depth d ts c.in_ok-depth-in-BeginObject.ensures none)
 
-pub returns-in_ok-known-in-BeginObject : goal.returns-in_ok-known-in-BeginObject
-returns-in_ok-known-in-BeginObject c =
+pub returns-in-Ok : goal.returns-in-Ok
+returns-in-Ok c =
     let ts = c.args.reader.now in
     let d = c.in_ok-depth-in-BeginObject.depth in
     let rest = c.stream_known.new.reader in
-    let found = c.in_ok-known-in-BeginObject in
-    let all = found.ensures in
+    let all = (rw c.in-Ok.is at c.stream_known.ensures) no_members c.none-known.ensures in
     let begins = ap (λ k. parse_map input_symbol_of (data_at c.args.depth (token_of k ∷ ts))) c.in-BeginObject.is in
     let read = object-read input_symbol_of c.args.depth d ts rest all.0 c.in_ok-depth-in-BeginObject.ensures all.1 in
     let same = symbol-kept all.0 ∙ ap symbol_from (sym all.2) in
-    rw c.settled.ensures (settled-stands c.symbol_from.result (symbol_from found.known) _ rest c.symbol_from.ensures (begins ∙ read ∙ ap (λ y. Some (y, rest)) same))
+    rw c.settled.ensures
+    (settled-stands c.symbol_from.result (symbol_from c.stream_known.new.known) _ rest c.symbol_from.ensures (begins ∙ read ∙ ap (λ y. Some (y, rest)) same))
 
 pub returns-in_default : goal.returns-in_default
 returns-in_default c = rw (no_object input_symbol_of symbol_wants_object c.args.depth c.args.token c.args.reader.now c.in_default.not-BeginObject) c.misfit_from.ensures

@@ -1,13 +1,9 @@
-use Rattle.std.proofs.Common.{◌≡◌, Some, ap, sym, arith}
-use Rattle.serde_json.specs.Read.{number_of as written}
-use Rattle.serde_json.specs.View.{number_view}
-use Rattle.lk_input.specs.ReadingSteps.{signed_of, wanted}
-use Rattle.lk_input.proofs.Plain.{plain-number-by}
+use Rattle.std.proofs.Common.{refl}
+use Rattle.serde_json.specs.Find.{as_i64}
+use Rattle.lk_input.specs.ReadingSteps.{signed_of}
+use Rattle.lk_input.proofs.Plain.{plain-number-written}
 use Rattle.lk_input.proofs.read.plain.I64Plain.plain.Goals as goal
 
-pub returns-in_ok-number_in-in-Number : goal.returns-in_ok-number_in-in-Number
-returns-in_ok-number_in-in-Number c =
-    let text = c.in-Number.text.now in
-    let n = number_view c.in_ok-number_in-in-Number.field-0 in
-    let read : written text ≡ Some n = grind arith in
-    rw c.in-Number.is (plain-number-by signed_of text n c.as_i64.result read (ap wanted (sym c.as_i64.ensures)))
+pub returns-in-Number : goal.returns-in-Number
+returns-in-Number c =
+    rw c.in-Number.is (plain-number-written signed_of as_i64 c.in-Number.text.now c.plain_signed.result (λ n. refl) c.plain_signed.ensures)

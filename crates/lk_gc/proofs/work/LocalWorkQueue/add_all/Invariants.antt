@@ -1,7 +1,0 @@
-use Rattle.std.proofs.Common.{◌≡◌, ◌++◌}
-use Rattle.lk_gc.specs.Work.{items_of}
-use Rattle.lk_gc.proofs.work.LocalWorkQueue.add_all.Given as goal
-
--- what the asks so far add stands behind what waited before
-abbrev pub invariant-loop-ask : goal.invariant-loop-ask
-invariant-loop-ask l = l.self ≡ l.fn.self ++ items_of l.yielded

@@ -1,0 +1,18 @@
+use Rattle.lk_layout.specs.Machines.{platform_machine}
+use Rattle.lk_layout.proofs.Answering.{handed_on}
+use Rattle.lk_layout.proofs.computation.compute.Goals as goal
+
+pub returns-in_err-check : goal.returns-in_err-check
+returns-in_err-check g c =
+    let machine = platform_machine (g.P.Platform.segment_start c.args.platform.now) (g.P.Platform.table_sizes c.args.platform.now) (g.A.Arch.config_of c.args.arch.now) in
+    handed_on machine c.args.link.now c.in_err-check.field-0.0 c.from_residual.result c.from_residual.ensures.1 c.in_err-check.ensures
+
+pub returns-in_err-images : goal.returns-in_err-images
+returns-in_err-images g c =
+    let machine = platform_machine (g.P.Platform.segment_start c.args.platform.now) (g.P.Platform.table_sizes c.args.platform.now) (g.A.Arch.config_of c.args.arch.now) in
+    handed_on machine c.args.link.now c.in_err-images.field-0.0 c.from_residual-in_err-images.result c.from_residual-in_err-images.ensures.1 c.in_err-images.ensures
+
+pub returns-in_err-kept : goal.returns-in_err-kept
+returns-in_err-kept g c =
+    let machine = platform_machine (g.P.Platform.segment_start c.args.platform.now) (g.P.Platform.table_sizes c.args.platform.now) (g.A.Arch.config_of c.args.arch.now) in
+    handed_on machine c.args.link.now c.in_err-kept.field-0.0 c.from_residual-in_err-kept.result c.from_residual-in_err-kept.ensures.1 c.in_err-kept.ensures

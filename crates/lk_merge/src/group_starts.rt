@@ -1,0 +1,191 @@
+//! Where the pieces of groups start, and the offset map that they make with the places of the pieces.
+//!
+//! A group alone knows where its pieces start, and a bucket alone where its pieces stand. So the map's entries come from both: the pieces of
+//! all groups, in order, each with the next place of its bucket.
+
+ghost use Rattle.std.specs.Prelude.{◌≡◌, ◌++◌, ◌∷◌, ◌<◌, [], List, Some, Vec, IfOk, IfSome, OnOk, length, map, slice_get};
+ghost use Rattle.lk_merge.specs.GroupStarts.{ArePlaces, HasEntries};
+ghost use Rattle.lk_merge.specs.Inputs.{Located, located};
+ghost use Rattle.lk_merge.specs.MatrixWork.{IsWork, group_located, located_place};
+ghost use Rattle.lk_merge.specs.MergingTables.{entry_of, pieces_in};
+
+use crate::bucket::BUCKETS;
+use crate::matrix_work::Brings;
+use crate::offset::BucketOffset;
+use crate::offset_map::PieceEntry;
+use std::alloc::{AllocError, Global};
+use std::marker::{Model, PhantomData};
+use std::sync::Mutex;
+
+/// Where the pieces of a group start, once they are told. It lies behind a lock.
+#[derive(Drop)]
+pub struct GroupStarts<J: Brings> {
+    group: usize,
+    starts: Option<Vec<PieceEntry>>,
+    of: PhantomData<J>,
+}
+
+impl<J: Brings> Model for GroupStarts<J> {
+    ghost use Rattle.std.specs.Prelude.{◌≡◌, IfSome, map, option_map};
+    ghost use Rattle.lk_merge.specs.StartsValue.{StartsValue};
+    ghost use Rattle.lk_merge.specs.MatrixWork.{IsWork, group_located, located_place};
+
+    ghost Value = { StartsValue };
+
+    ghost view = { λ a. record { group = a.group; starts = option_map (λ s. s.items) a.starts } };
+
+    ghost invariant = { λ a. IfSome a.starts (λ s. s.items ≡ map located_place (group_located J.work a.group)) };
+}
+
+impl<J: Brings> GroupStarts<J> {
+    /// Not told yet.
+    pub fn new(group: usize) -> GroupStarts<J> {
+        GroupStarts {
+            group,
+            starts: None,
+            of: PhantomData,
+        }
+    }
+
+    /// The group.
+    pub fn group(&self) -> usize
+        ensures { result ≡ self.now.group }
+    {
+        self.group
+    }
+
+    /// The starts are told.
+    pub(crate) fn tell(&mut self, starts: Vec<PieceEntry>)
+        requires { starts.items ≡ map located_place (group_located J.work self.old.group) }
+        ensures { self.new.group ≡ self.old.group }
+    {
+        self.starts = Some(starts);
+    }
+
+    /// What was told.
+    pub(crate) fn into_starts(self) -> Option<Vec<PieceEntry>>
+        ensures { IfSome result (λ s. s.items ≡ map located_place (group_located J.work self.group)) }
+    {
+        let GroupStarts {
+            group: _,
+            starts,
+            of: _,
+        } = self;
+        starts
+    }
+}
+
+/// Entries so far, and how many places of each bucket they have taken.
+#[derive(Drop)]
+pub(crate) struct Entries {
+    places: Vec<Vec<BucketOffset>>,
+    taken: Vec<usize>,
+    entries: Vec<PieceEntry>,
+}
+
+impl Entries {
+    /// No entries yet.
+    fn new(alloc: Global, places: Vec<Vec<BucketOffset>>) -> Result<Entries, AllocError>
+        ensures { IfOk result (λ e. (all : List Located) → ArePlaces (pieces_in all) places.items → HasEntries all [] e) }
+    {
+        let taken = vec![in alloc; 0usize; BUCKETS]?;
+        let entries = Vec::with_capacity(alloc, count_places(places.as_slice()))?;
+        Ok(Entries {
+            places,
+            taken,
+            entries,
+        })
+    }
+
+    /// Adds the entry of the next piece, which has its start and its bucket.
+    fn add(&mut self, start: PieceEntry) -> Result<(), AllocError>
+        ensures { OnOk result ((all done rest : List Located) (l : Located) → all ≡ done ++ l ∷ rest → start ≡ located_place l
+            → HasEntries all done self.old → HasEntries all (done ++ l ∷ []) self.new) }
+    {
+        let bucket = start.place.bucket();
+        if bucket >= self.taken.len() {
+            return Err(AllocError);
+        }
+        let taken = self.taken[bucket];
+        let Some(place) = place_at(self.places.as_slice(), bucket, taken) else {
+            return Err(AllocError);
+        };
+        self.entries.push(PieceEntry {
+            start: start.start,
+            place,
+            input: start.input,
+        })?;
+        self.taken[bucket] = taken + 1;
+        Ok(())
+    }
+
+    /// Adds the entries of pieces that follow each other.
+    fn add_all(&mut self, starts: &[PieceEntry]) -> Result<(), AllocError>
+        ensures { OnOk result ((all done more rest : List Located) → all ≡ done ++ (more ++ rest) → starts.now ≡ map located_place more
+            → HasEntries all done self.old → HasEntries all (done ++ more) self.new) }
+    {
+        for start in starts {
+            self.add(*start)?;
+        }
+        Ok(())
+    }
+}
+
+/// How many places buckets have together.
+fn count_places(places: &[Vec<BucketOffset>]) -> usize {
+    let mut count = 0usize;
+    for found in places {
+        count = count.saturating_add(found.len());
+    }
+    count
+}
+
+/// A place of a bucket.
+fn place_at(places: &[Vec<BucketOffset>], bucket: usize, index: usize) -> Option<BucketOffset>
+    ensures { IfSome result (λ p. (found : Vec BucketOffset Global) × (slice_get places.now bucket ≡ Some found) × (slice_get found.items index ≡ Some p)) }
+{
+    if bucket >= places.len() {
+        return None;
+    }
+    let found = places[bucket].as_slice();
+    if index >= found.len() {
+        return None;
+    }
+    Some(found[index])
+}
+
+/// The entries of all pieces of so many groups, where buckets have these places.
+pub(crate) fn entries_of<J: Brings>(
+    alloc: Global,
+    places: Vec<Vec<BucketOffset>>,
+    starts: Vec<Mutex<GroupStarts<J>>>,
+    groups: usize,
+) -> Result<Vec<PieceEntry>, AllocError>
+    requires work { IsWork J.work }
+    requires groups { groups ≡ length J.work.groups }
+    requires places { ArePlaces (pieces_in (located J.work.inputs)) places.items }
+    ensures { IfOk result (λ e. e.items ≡ map (entry_of (pieces_in (located J.work.inputs))) (located J.work.inputs)) }
+{
+    let mut entries = Entries::new(alloc, places)?;
+    let mut group = 0usize;
+    for starts in starts {
+        let starts = starts.into_inner();
+        if starts.group() != group || group >= groups {
+            return Err(AllocError);
+        }
+        let Some(starts) = starts.into_starts() else {
+            return Err(AllocError);
+        };
+        entries.add_all(starts.as_slice())?;
+        group += 1;
+    }
+    if group != groups {
+        return Err(AllocError);
+    }
+    let Entries {
+        places: _,
+        taken: _,
+        entries,
+    } = entries;
+    Ok(entries)
+}

@@ -1,0 +1,60 @@
+//! A gate that makes two workers take turns.
+
+use lk_link::Gate;
+use std::sync::atomic::{AtomicU64, Ordering};
+use std::thread;
+
+/// How often two workers wait for each other at most, in all.
+const LIMIT: u64 = 50_000_000;
+
+/// How many turns they take in lock step.
+const STEPS: u64 = 100;
+
+/// Lets a worker take a turn of group 1 or 2 only once the other group has had as many.
+#[derive(Drop)]
+pub struct LockStep {
+    first: AtomicU64,
+    second: AtomicU64,
+    waits: AtomicU64,
+}
+
+impl LockStep {
+    /// No turn was taken.
+    pub fn new() -> LockStep {
+        LockStep {
+            first: AtomicU64::new(0),
+            second: AtomicU64::new(0),
+            waits: AtomicU64::new(0),
+        }
+    }
+
+    /// Takes a turn, and waits until there are as many others.
+    fn take(&self, own: &AtomicU64, others: &AtomicU64) {
+        let turn = own.fetch_add(1, Ordering::SeqCst);
+        if turn >= STEPS {
+            return;
+        }
+        for _ in 0..LIMIT {
+            if others.load(Ordering::SeqCst) > turn || self.has_waited_too_long() {
+                return;
+            }
+            self.waits.fetch_add(1, Ordering::SeqCst);
+            thread::yield_now();
+        }
+    }
+
+    /// Whether workers waited as often as they may.
+    pub fn has_waited_too_long(&self) -> bool {
+        self.waits.load(Ordering::SeqCst) >= LIMIT
+    }
+}
+
+impl Gate for LockStep {
+    fn enter(&self, group: u32) {
+        if group == 1 {
+            self.take(&self.first, &self.second);
+        } else if group == 2 {
+            self.take(&self.second, &self.first);
+        }
+    }
+}
