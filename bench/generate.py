@@ -11,6 +11,8 @@ file of it is held at a time. SHAPE says what the bytes go to:
     files     objects without sections
     single    one object with all input sections
     linked    objects with symbols, relocations and names, from which dead code leaves
+    gathered  the same, all objects in one group
+    scattered the same of few sections each, and a group for each, or for more where these are over 60,000
     chain     objects of sections of which each refers to the next, over all objects
     star      objects of sections that all refer to one symbol, eight times each
     exports   symbols that are looked up in a list of exports, and a dynamic file that takes them
@@ -56,7 +58,13 @@ BASE = 4194304
 MOST_BYTES = 500_000_000
 MOST_OUTPUT_SECTIONS = 65_000
 MOST_SEGMENTS = 8
-FORMS = {"linked": LINKED, "grouped": GROUPED, "tabled": TABLED, "whole": WHOLE}
+FORMS = {
+    **{"linked": LINKED, "gathered": LINKED, "scattered": LINKED},
+    **{"grouped": GROUPED, "tabled": TABLED, "whole": WHOLE},
+}
+# How many sections the largest object of these has.
+MOST_SECTIONS, FEW_SECTIONS = 50, 5
+MOST_GROUPS, BYTES_OF_SMALL_OBJECT = 60_000, 1_390
 WAYS = ("chain", "star")
 SHAPES = ("objects", "plan", "files", "single", *WAYS, "exports", "candidates", *MERGES, *NAMED, *THUNKED, *RELAXED, *FORMS, *PLANS)
 
@@ -171,7 +179,11 @@ def put_single(writer, rng, parts, total):
 
 
 def files_of_group(total, shape):
-    """Eight, or as many as keep the number of groups within its limit."""
+    """Eight, or as many as keep the number of groups within its limit; all of them, or one, where the shape says so."""
+    if shape == "gathered":
+        return total
+    if shape == "scattered":
+        return 1 + total // (MOST_GROUPS * BYTES_OF_SMALL_OBJECT)
     return max(8, total // (4_000_000 if shape == "files" else 50_000_000))
 
 
@@ -197,7 +209,8 @@ def generate(stream, total, seed, shape):
     rng = random.Random(seed)
     writer = Writer(stream)
     if shape in FORMS:
-        put_whole_link(writer, rng, total, files_of_group(total, shape), PAGE, BASE, FORMS[shape])
+        most = FEW_SECTIONS if shape == "scattered" else MOST_SECTIONS
+        put_whole_link(writer, rng, total, files_of_group(total, shape), PAGE, BASE, FORMS[shape], most)
         return
     if shape in WAYS:
         put_ways(writer, total, files_of_group(total, shape), PAGE, BASE, shape)

@@ -4,6 +4,7 @@
 usage: run.py [--merges|--named|--thunks|--relaxed|--plans] [PROGRAM [MEGABYTES..]]
        run.py --long [PROGRAM]
        run.py --memory [PROGRAM]
+       run.py --workers [PROGRAM [MEGABYTES [SHAPE..]]]
        run.py --generated [PROGRAM]
 
 PROGRAM is crates/lk_program/out/lk_program unless given, the sizes are 1, 10 and 100 MB. Each
@@ -23,6 +24,9 @@ where the program crashes, runs out of its stack of 8 MB or answers something el
 With --memory, glibc counts what the program holds of memory over some descriptions of 10 MB, or of as much of
 it as the limit of output sections lets there be.
 
+With --workers, each description of 100 MB is laid out by 0, 2 and 4 workers in turn, and the clock is read. The run
+fails where they give other bytes.
+
 With --generated, the words `gen` are set against `layout 0` over the description of the same link.
 """
 
@@ -33,11 +37,13 @@ import resource
 import subprocess
 import sys
 import tempfile
+import time
 
 import against_serde
 import generated
 import long_lists
 import memory
+import workers as by_workers
 from merges import MERGES
 from named import NAMED
 from plans import PLANS
@@ -111,14 +117,20 @@ ours, serde: processor seconds of reading a description of 100 MB, ours with the
 wrong shape; then the peak memory. Aim: 1.1 times serde's, 1.15 on tabled.
 """
 
+WORKERS_COLUMNS = (("workers", 7), ("clock", 6), ("to", 11), ("rest", 6), ("of 0", 6), ("processor", 9), ("of 0", 6), ("peak", 6), ("of 0", 6))
+WORKERS_LEGEND = """\
+clock: seconds by the clock, the least of several runs, and their middle and most; rest: those of all after reading, and
+as a part of those with 0 workers; processor: seconds of all processors; peak: memory in MB.
+"""
+
 LONG_COLUMNS = (("items", 9), ("MB", 6), ("seconds", 8), ("ms/MB", 7), ("peak MB", 8), ("peak", 6))
 
 
 class Measured:
-    """One run of a command: its status, processor seconds, peak memory, and output."""
+    """One run of a command: its status, seconds by the clock and of processors, peak memory, and output."""
 
-    def __init__(self, status, usage, output):
-        self.status = status
+    def __init__(self, status, clock, usage, output):
+        self.status, self.clock = status, clock
         self.seconds = usage.ru_utime + usage.ru_stime
         self.peak = usage.ru_maxrss * 1024
         digest = hashlib.sha256()
@@ -139,10 +151,12 @@ def limit_stack():
 def measure(command, path, output):
     """Runs a command over a file; its output goes to another file."""
     with open(path, "rb") as source, open(output, "wb") as sink:
+        start = time.monotonic()
         child = subprocess.Popen(command, stdin=source, stdout=sink, preexec_fn=limit_stack)
         _, status, usage = os.wait4(child.pid, 0)
+        clock = time.monotonic() - start
         child.returncode = os.waitstatus_to_exitcode(status)
-    return Measured(child.returncode, usage, output)
+    return Measured(child.returncode, clock, usage, output)
 
 
 def best(command, path, output, wanted):
@@ -372,6 +386,45 @@ def measure_baseline(program, folder):
     print(BASELINE_LEGEND)
 
 
+def worker_rows(program, path, output):
+    """A row for each number of workers over a description, which all have to answer alike."""
+    def by(workers, wanted=LAID_OUT_ANSWER):
+        run = measure([program, "layout", str(workers)], path, output)
+        if not run.start.startswith(wanted):
+            sys.exit("layout %d: status %d, %r" % (workers, run.status, run.start))
+        return run
+
+    runs = by_workers.rounds(by)
+    if len({run.digest for some in runs.values() for run in some}) != 1:
+        sys.exit("two numbers of workers gave different bytes")
+    set_ending(path, os.path.getsize(path), READ_ENDING)
+    reading = min(by(0, READ_ANSWER).clock for _ in range(by_workers.ROUNDS))
+    all_runs = {workers: by_workers.Runs(some) for workers, some in runs.items()}
+    alone = all_runs[0]
+    for workers, some in all_runs.items():
+        yield (
+            workers,
+            "%.2f" % some.clock,
+            "%.2f, %.2f" % (some.middle, some.most),
+            "%.2f" % (some.clock - reading),
+            "%.2f" % ((some.clock - reading) / (alone.clock - reading)),
+            "%.2f" % some.seconds,
+            "%.2f" % (some.seconds / alone.seconds),
+            "%.0f" % (some.peak / 1e6),
+            "%.2f" % (some.peak / alone.peak),
+        )
+
+
+def measure_workers(program, folder, megabytes=by_workers.MEGABYTES, *shapes):
+    path, output = os.path.join(folder, "description"), os.path.join(folder, "output")
+    print_headings(WORKERS_COLUMNS)
+    for shape in shapes or by_workers.SHAPES:
+        generate(path, int(megabytes) * 1_000_000, shape)
+        for row in worker_rows(program, path, output):
+            print_line(WORKERS_COLUMNS, (shape, *row))
+    print(WORKERS_LEGEND)
+
+
 def measure_generated(program, folder):
     path, nothing, output = (os.path.join(folder, name) for name in ("description", "nothing", "output"))
     open(nothing, "wb").close()
@@ -402,6 +455,7 @@ OTHER_MEASURES = {
     "--long": measure_long_lists,
     "--memory": measure_memory,
     "--generated": measure_generated,
+    "--workers": measure_workers,
     "--baseline": measure_baseline,
 }
 
@@ -409,7 +463,8 @@ OTHER_MEASURES = {
 def main(words):
     if words and words[0] in OTHER_MEASURES:
         with tempfile.TemporaryDirectory() as folder:
-            OTHER_MEASURES[words[0]](os.path.abspath((words + [DEFAULT_PROGRAM])[1]), folder)
+            program, *more = words[1:] or [DEFAULT_PROGRAM]
+            OTHER_MEASURES[words[0]](os.path.abspath(program), folder, *more)
         return
     special = SPECIAL_SHAPES.get(words[0]) if words else None
     words = words[1:] if special else words

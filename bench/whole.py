@@ -304,7 +304,7 @@ class Object:
         )
 
 
-def put_objects(link, total, group_files, first_group):
+def put_objects(link, total, group_files, first_group, most):
     """Groups of objects until the description is long enough."""
     writer, rng = link.writer, link.rng
     group = first_group
@@ -313,7 +313,7 @@ def put_objects(link, total, group_files, first_group):
         for place in range(group_files):
             if place > 0 and writer.written >= total - LAST_BYTES:
                 break
-            made = Object(link, 1 + int(49 * rng.random()))
+            made = Object(link, 1 + int((most - 1) * rng.random()))
             for section in made.sections:
                 if section.output == ".init_array":
                     link.keep(link.candidates, (group, place, section.index), MOST_CANDIDATES)
@@ -323,8 +323,8 @@ def put_objects(link, total, group_files, first_group):
         group += 1
 
 
-def put_whole_link(writer, rng, total, group_files, page, base, form):
-    """The whole description."""
+def put_whole_link(writer, rng, total, group_files, page, base, form, most):
+    """The whole description, of objects of less than so many sections."""
     link = Link(writer, rng, form)
     options = form.options % first_object_symbol(form)
     if form.far:
@@ -332,6 +332,6 @@ def put_whole_link(writer, rng, total, group_files, page, base, form):
     writer.put('{"options":%s,\n"plan":%s,\n' % (options, plan_text(form, page, base)))
     writer.put('"groups":[\n')
     link.put_first_files()
-    put_objects(link, total, group_files, 2)
+    put_objects(link, total, group_files, 2, most)
     link.put_last_file()
     writer.put("\n]}\n")

@@ -6,6 +6,7 @@ usage: compare.py PROGRAM COUNT [SEED [FIRST]]
        compare.py PROGRAM --small
        compare.py PROGRAM --generated COUNT
        compare.py PROGRAM --shortened COUNT [SEED]
+       compare.py PROGRAM --merging COUNT [SEED]
 
 Runs PROGRAM on the random descriptions of the numbers FIRST to FIRST + COUNT - 1, and where FIRST is
 0 on the fixed ones too, on each one with the words `layout 0`, `layout 1`, `layout 2` and `layout 8`. Shows
@@ -16,7 +17,7 @@ With --places, the descriptions are some small ones, changed at every place of t
 a stray byte there, with another number, with a member doubled, escaped, left out or moved. With --small, they
 are all links of two sections that may refer to each other and to what is undefined. With --generated, the
 words are `gen`, random seeds and numbers of objects up to 300, and there is no input. With --shortened, in most
-of the random descriptions relaxation leaves something out.
+of the random descriptions relaxation leaves something out; with --merging, in each of them something is merged.
 """
 
 import collections
@@ -118,6 +119,13 @@ def compare_shortened(program, count, seed=0):
     return comparison
 
 
+def compare_merging(program, count, seed=0):
+    comparison = Comparison(program)
+    for number in range(count):
+        comparison.compare("merging %d:%d" % (seed, number), cases.merging_case(seed, number))
+    return comparison
+
+
 def compare_random(program, count, seed=0, first=0):
     comparison = Comparison(program)
     if first == 0:
@@ -149,8 +157,16 @@ def main(words):
     sys.exit(1 if comparison.mismatches else 0)
 
 
-COUNTED = {"": (compare_random, 3), "--generated": (compare_generated, 1), "--shortened": (compare_shortened, 2)}
-USAGE = "usage: compare.py PROGRAM COUNT [SEED [FIRST]], or compare.py PROGRAM --places|--small|--generated COUNT|--shortened COUNT [SEED]"
+COUNTED = {
+    "": (compare_random, 3),
+    "--generated": (compare_generated, 1),
+    "--shortened": (compare_shortened, 2),
+    "--merging": (compare_merging, 2),
+}
+USAGE = (
+    "usage: compare.py PROGRAM COUNT [SEED [FIRST]], "
+    "or compare.py PROGRAM --places|--small|--generated COUNT|--shortened COUNT [SEED]|--merging COUNT [SEED]"
+)
 
 
 if __name__ == "__main__":

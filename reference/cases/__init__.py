@@ -6,13 +6,14 @@ import random
 from .faults import break_rules
 from .fixed import fixed_cases
 from .good import good_description, move_to_the_edge
+from .merges import add_merges
 from .richer import make_richer
 from .shapes import break_shape, random_shapes
 from .shortened import shortened_description
 from .texts import break_text, json_text
 from .wide import widen
 
-__all__ = ["case", "fixed_cases", "shortened_case"]
+__all__ = ["case", "fixed_cases", "merging_case", "shortened_case"]
 
 # Kinds of random descriptions, with their weights.
 MIX = {
@@ -57,3 +58,20 @@ def shortened_case(seed, number):
     """The bytes of the random case of that number in which relaxation mostly leaves something out."""
     rng = random.Random("shortened %d:%d" % (seed, number))
     return json.dumps(shortened_description(rng)).encode("utf-8", "surrogatepass")
+
+
+def merging_case(seed, number):
+    """The bytes of the random case of that number in which some input sections are merged."""
+    rng = random.Random("merging %d:%d" % (seed, number))
+    description = {"groups": []}
+    while not has_merge_data(description):
+        description = good_description(rng)
+        add_merges(rng, description)
+    widen(rng, description)
+    return json.dumps(description).encode("utf-8", "surrogatepass")
+
+
+def has_merge_data(description):
+    """Whether an input section is merged."""
+    sections = (section for group in description["groups"] for file in group for section in file.get("sections", ()))
+    return any(section.get("slot") == "merge" for section in sections)

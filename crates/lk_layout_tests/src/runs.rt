@@ -72,7 +72,7 @@ pub fn told_by_workers(
     told_through(rt, alloc, words, input, &NoGate)
 }
 
-/// Adds whether two workers in lock step tell what none does, and whether they waited too long for each other.
+/// Adds whether two workers in lock step tell what none does, and whether both took all their turns.
 pub fn add_lock_step(
     rt: &(impl Threads + Wait + Sync),
     alloc: Global,
@@ -84,7 +84,7 @@ pub fn add_lock_step(
     let by_two = told_through(rt, alloc, &words, input, &gate)?;
     let alone = ended(alloc, input)?;
     add(line, "alike", &(by_two.as_str() == alone.as_str()))?;
-    add(line, "waited too long", &gate.has_waited_too_long())
+    add(line, "in step", &gate.was_kept())
 }
 
 /// How `layout 0` ends over an input.

@@ -115,7 +115,7 @@ fn the_number_of_workers_changes_nothing(rt: HostRuntime) -> Result<(), Fail> {
 
 /// Two groups of a hundred units each, of which two workers take one in turn.
 const LOCK_STEP: &str = r#"
-{"plan":{"page":16,"sections":[{"attrs":1,"parts":[[1,false]]}],"events":[["sec",0]]},"groups":[[{"kind":"prelude"}],[{"kind":"object","sections":[«100 of {"slot":"must"}»]}],[{"kind":"object","sections":[«100 of {"slot":"must"}»]}]]} => alike true waited too long false
+{"plan":{"page":16,"sections":[{"attrs":1,"parts":[[1,false]]}],"events":[["sec",0]]},"groups":[[{"kind":"prelude"}],[{"kind":"object","sections":[«100 of {"slot":"must"}»]}],[{"kind":"object","sections":[«100 of {"slot":"must"}»]}]]} => alike true in step true
 "#;
 
 #[test]

@@ -33,10 +33,10 @@ const TURNS: &str = r#"
 [{"kind":"object","symbols":[{"at":["sec",0,0]},{"at":["undef"],"def":2}],"sections":[{"slot":"must","size":1,"relocs":[[0,"Absolute",1,0,false]]}]}],[{"kind":"object","symbols":[{"at":["sec",0,0]},{"at":["undef"],"def":4}],"sections":[{"slot":"unloaded","size":1,"relocs":[[0,"Absolute",1,0,false]]}]}],[{"kind":"object","symbols":[{"at":["sec",0,0]},{"at":["undef"],"def":0}],"sections":[{"slot":"unloaded","size":1,"relocs":[[0,"SymbolSize",1,0,false],[0,"Absolute",1,0,false]]}]}],[{"kind":"object","symbols":[{"at":["sec",0,0]}],"sections":[{"slot":"unloaded","size":1}]}],[]] => closed true closed true closed true closed true closed true closed true whole true alike true parked true left Some(true) left Some(false) parked false item Some(LoadGlobalSymbol(SymbolId { number: 0 })) item Some(LoadGlobalSymbol(SymbolId { number: 0 })) parked true
 "#;
 
-/// How many sections are live, and whether workers waited too long for each other, where each of two waits before each turn until
+/// How many sections are live, and whether both took all their turns, where each of two waits before each turn until
 /// the other has had as many.
 const LOCK_STEP: &str = r#"
-{"plan":{"page":16,"sections":[{"attrs":1,"parts":[[1,false]]}],"events":[["sec",0]]},"groups":[[{"kind":"prelude"}],[{"kind":"object","sections":[«100 of {"slot":"must"}»]}],[{"kind":"object","sections":[«100 of {"slot":"must"}»]}]]} => live 200 waited too long false
+{"plan":{"page":16,"sections":[{"attrs":1,"parts":[[1,false]]}],"events":[["sec",0]]},"groups":[[{"kind":"prelude"}],[{"kind":"object","sections":[«100 of {"slot":"must"}»]}],[{"kind":"object","sections":[«100 of {"slot":"must"}»]}]]} => live 200 in step true
 "#;
 
 /// Runs so many groups, one after the other.
@@ -186,7 +186,7 @@ fn set_in(marks: &[bool]) -> usize {
     count
 }
 
-/// Adds how many sections are live by what two workers find in lock step, and whether they waited too long.
+/// Adds how many sections are live by what two workers find in lock step, and whether both took all their turns.
 fn add_lock_step(
     rt: &(impl Threads + Wait + Sync),
     alloc: Global,
@@ -201,7 +201,7 @@ fn add_lock_step(
         Err(GcError::References(faults)) => add(line, "faults", &faults.as_slice())?,
         Err(GcError::NoMemory) => return Err(AllocError),
     }
-    add(line, "waited too long", &gate.has_waited_too_long())
+    add(line, "in step", &gate.was_kept())
 }
 
 /// Adds what groups come to that run in turn, of a link that is well formed.

@@ -35,7 +35,7 @@ impl LockStep {
             return;
         }
         for _ in 0..LIMIT {
-            if others.load(Ordering::SeqCst) > turn || self.has_waited_too_long() {
+            if others.load(Ordering::SeqCst) > turn || self.have_waited_too_long() {
                 return;
             }
             self.waits.fetch_add(1, Ordering::SeqCst);
@@ -44,8 +44,16 @@ impl LockStep {
     }
 
     /// Whether workers waited as often as they may.
-    pub fn has_waited_too_long(&self) -> bool {
+    fn have_waited_too_long(&self) -> bool {
         self.waits.load(Ordering::SeqCst) >= LIMIT
+    }
+
+    /// Whether both groups took all their turns, and none waited too long for the other. One worker alone never comes so far, nor do two
+    /// that don't come to the gate.
+    pub fn was_kept(&self) -> bool {
+        self.first.load(Ordering::SeqCst) >= STEPS
+            && self.second.load(Ordering::SeqCst) >= STEPS
+            && !self.have_waited_too_long()
     }
 }
 

@@ -1,0 +1,88 @@
+#!/usr/bin/env python3
+"""Refuse the program each of its allocations in turn, by no worker and by several.
+
+usage: refused.py PROGRAM [DESCRIPTION..]
+
+For each of the descriptions, unless told those of examples/ and some random ones in which something is merged in
+several groups, and for 0, 2 and 4 workers: a run in which the first allocation is refused, one in which the second is,
+and so on to the last. Each has to answer as the run in which none is refused, or to write nothing and end with 6. Ends
+with 1 where one did something else. Needs a C compiler, `cc`.
+"""
+
+import glob
+import json
+import os
+import subprocess
+import sys
+import tempfile
+
+import cases
+
+HERE = os.path.dirname(os.path.abspath(__file__))
+WORKERS = (0, 2, 4)
+MERGED = 6
+NO_MEMORY = 6
+SECONDS = 60
+
+
+class Refusing:
+    """The program, with an allocator that refuses one call."""
+
+    def __init__(self, program, folder):
+        self.program, self.calls = program, os.path.join(folder, "calls")
+        self.allocator = os.path.join(folder, "refusing.so")
+        source = os.path.join(HERE, "refusing.c")
+        subprocess.run(["cc", "-O1", "-shared", "-fPIC", "-o", self.allocator, source], check=True)
+        open(self.calls, "wb").close()
+
+    def run(self, workers, data, refused):
+        """Status and output where the call of that number is refused, and how many calls came; 0 refuses none."""
+        variables = {**os.environ, "LD_PRELOAD": self.allocator, "CALLS": self.calls, "REFUSED": str(refused or 1 << 62)}
+        command = [self.program, "layout", str(workers)]
+        ended = subprocess.run(command, input=data, stdout=subprocess.PIPE, env=variables, timeout=SECONDS)
+        return (ended.returncode, ended.stdout), os.path.getsize(self.calls)
+
+
+def refuse_each(refusing, name, workers, data):
+    """Refuses each call in turn; answers how many runs did something else than they may."""
+    wanted, _ = refusing.run(workers, data, 0)
+    refused, wrong, calls = 0, 0, 1
+    while refused < calls:
+        refused += 1
+        got, calls = refusing.run(workers, data, refused)
+        if got not in (wanted, (NO_MEMORY, b"")):
+            wrong += 1
+            print("%s, %d workers, call %d: status %d, %r" % (name, workers, refused, got[0], got[1][:200]))
+    print("%s, %d workers: %d calls refused, %d wrong" % (name, workers, refused, wrong), flush=True)
+    return wrong
+
+
+def merged(number):
+    """A random description in which something is merged, with a group for each input."""
+    description = json.loads(cases.merging_case(0, number))
+    description.setdefault("options", {})["merge_group"] = 1
+    return json.dumps(description).encode()
+
+
+def descriptions(paths):
+    """Names and texts of descriptions."""
+    for path in paths or sorted(glob.glob(os.path.join(HERE, "..", "examples", "*.json"))):
+        with open(path, "rb") as file:
+            yield os.path.basename(path), file.read()
+    for number in range(0 if paths else MERGED):
+        yield "merged %d" % number, merged(number)
+
+
+def main(words):
+    if not words:
+        sys.exit(__doc__)
+    wrong = 0
+    with tempfile.TemporaryDirectory() as folder:
+        refusing = Refusing(os.path.abspath(words[0]), folder)
+        for name, data in descriptions(words[1:]):
+            wrong += sum(refuse_each(refusing, name, workers, data) for workers in WORKERS)
+    sys.exit(1 if wrong else 0)
+
+
+if __name__ == "__main__":
+    main(sys.argv[1:])
