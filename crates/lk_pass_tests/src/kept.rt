@@ -55,7 +55,7 @@ const EXPORTS: &str = r#"
 "#;
 
 /// What is live, the flags of symbols, and the output sections that are kept without bytes, or the references that can't be met:
-/// one answer, whether no, one, two or eight workers look.
+/// one answer, whether no, one, two, eight or 64 workers look.
 const TRAVERSALS: &str = r#"
 @ {"plan":{"page":16,"sections":[{"attrs":1,"parts":[[4,false],[1,false]]},{"attrs":1,"parts":[[1,false]]},{"attrs":1,"parts":[[1,false]]}],"events":[["sec",0],["sec",1],["sec",2]]},"groups":[[{"kind":"prelude"}],[...]],"options":{"entry":0}}
 # Sections without bytes keep theirs, by whatever part, if they are live; debug data and those with bytes don't.
@@ -67,6 +67,8 @@ const TRAVERSALS: &str = r#"
 {"kind":"script","symbols":[{"at":["redirect",["sym",0],["none"],true]},{"at":["redirect",["num",1],["counter",0],false]}]},{"kind":"synthetic","symbols":[{"at":["redirect",["num",1],["start",0],false]}]},{"kind":"object","symbols":[{"at":["undef"],"def":2}],"sections":[{"slot":"must","size":1,"relocs":[[0,"Absolute",0,0,false]]}]} => live [true] flags [64, 64, 64, 0] kept [false, false, false]
 # Faults.
 {"kind":"object","symbols":[{"at":["sec",0,0]},{"at":["undef"]}],"sections":[{"slot":"discard"},{"slot":"must","size":4,"relocs":[[0,"Absolute",1,0,false],[0,"None",1,0,false],[1,"Relative",1,0,false]]}]},{"kind":"dynamic","check":true,"symbols":[{"at":["undef"]},{"at":["undef"],"weak":true}]} => faults [Discarded(FileId { group: 1, file: 0 }, 0), Undefined(SymbolId { number: 1 }, FileId { group: 1, file: 0 }, 1, 0), Undefined(SymbolId { number: 1 }, FileId { group: 1, file: 0 }, 1, 2), UndefinedDynamic(SymbolId { number: 2 }, FileId { group: 1, file: 1 })]
+# The same in several groups, one of which only another reaches.
+{"kind":"object","symbols":[{"at":["sec",0,0]},{"at":["undef"]}],"sections":[{"slot":"discard"},{"slot":"must","size":4,"relocs":[[0,"Absolute",1,0,false]]}]}],[{"kind":"object","symbols":[{"at":["undef"]},{"at":["undef"],"def":6}],"sections":[{"slot":"must","size":8,"relocs":[[0,"Absolute",1,0,false],[4,"Absolute",0,0,false]]}]}],[{"kind":"dynamic","check":true,"symbols":[{"at":["undef"]},{"at":["undef"],"weak":true}]}],[{"kind":"object","symbols":[{"at":["sec",0,0]},{"at":["undef"]},{"at":["sec",1,0]}],"sections":[{"slot":"unloaded","size":4,"relocs":[[0,"Relative",1,0,false],[0,"Absolute",2,0,false]]},{"slot":"discard"}]} => faults [Discarded(FileId { group: 1, file: 0 }, 0), Undefined(SymbolId { number: 1 }, FileId { group: 1, file: 0 }, 1, 0), Undefined(SymbolId { number: 2 }, FileId { group: 2, file: 0 }, 0, 1), UndefinedDynamic(SymbolId { number: 4 }, FileId { group: 3, file: 0 }), Undefined(SymbolId { number: 7 }, FileId { group: 4, file: 0 }, 0, 0), Discarded(FileId { group: 4, file: 0 }, 1)]
 "#;
 
 /// Whether a symbol stands for itself.
@@ -283,7 +285,8 @@ fn add_all_found(
     add_found(rt, alloc, line, link, 0)?;
     add_other(rt, alloc, line, link, 1)?;
     add_other(rt, alloc, line, link, 2)?;
-    add_other(rt, alloc, line, link, 8)
+    add_other(rt, alloc, line, link, 8)?;
+    add_other(rt, alloc, line, link, 64)
 }
 
 /// Adds what any number of workers finds in a link that is well formed.

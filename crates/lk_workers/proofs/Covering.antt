@@ -123,7 +123,7 @@ right_true : (a b : Bool) → (a && b) ≡ true → b ≡ true
 right_true true b h = h
 right_true false b h = absurd (cc)
 
-second_true : (a b : Bool) → a ≡ true → (not a || b) ≡ true → b ≡ true
+pub second_true : (a b : Bool) → a ≡ true → (not a || b) ≡ true → b ≡ true
 second_true true b e h = h
 second_true false b e h = absurd (cc)
 
@@ -158,7 +158,7 @@ all_fitted link v asks h k d lt = fitted link v (get_or asks k d) (all_at (is_as
 
 -- ---- a link that is closed
 
-file_closed : (link : LinkInput) (v : ClosedValue) (f : NumberedFile) → are_groups_closed v link ≡ true → file_in link.groups f.id ≡ Some f.file → is_file_closed v link f ≡ true
+pub file_closed : (link : LinkInput) (v : ClosedValue) (f : NumberedFile) → are_groups_closed v link ≡ true → file_in link.groups f.id ≡ Some f.file → is_file_closed v link f ≡ true
 file_closed link v f h there =
     let g = f.id.group in
     let group = all_at (is_group_closed v link) (range_with_len 0 (length link.groups)) g g h (number_at (length link.groups) g (group_within link.groups f there)) in

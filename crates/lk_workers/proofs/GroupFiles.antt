@@ -5,20 +5,25 @@ use Rattle.std.specs.Option.{option_map_or}
 use Rattle.lk_link.specs.declared.file.InputFile.{InputFile}
 use Rattle.lk_link.specs.Files.{file_in}
 use Rattle.lk_link.specs.Inputs.{NumberedFile, group_files, numbered_file}
+use Rattle.lk_link.proofs.Elements.{map_in}
 use Rattle.lk_slot_link.specs.LinkGraphs.{files_of_group}
 
-abbrev tagged : {X : Type 0} → ℕ → X → ℕ × X
+abbrev pub tagged : {X : Type 0} → ℕ → X → ℕ × X
 tagged n x = (n, x)
 
-mapped_in : {X Y : Type 0} (f : ℕ × X → Y) (o : ℕ) (xs : List X) (k : ℕ) (x : X) → slice_get xs k ≡ Some x → slice_get (map f (enumerate_from o xs)) k ≡ Some (f (tagged (o + k) x))
-mapped_in f o [] k x h = absurd (cc)
-mapped_in f o (y ∷ xs) zero x h =
+-- an element stands with its number where it stood
+pub entry_here : {X : Type 0} (o : ℕ) (xs : List X) (k : ℕ) (x : X) → slice_get xs k ≡ Some x → slice_get (enumerate_from o xs) k ≡ Some (tagged (o + k) x)
+entry_here o [] k x h = absurd (cc)
+entry_here o (y ∷ xs) zero x h =
     let same : y ≡ x = cc in
     let at_first : o ≡ o + 0 = omega arith in
-    ap (λ z. Some (f (tagged o z))) same ∙ ap (λ n. Some (f (tagged n x))) at_first
-mapped_in f o (y ∷ xs) (suc k) x h =
+    ap (λ z. Some (tagged o z)) same ∙ ap (λ n. Some (tagged n x)) at_first
+entry_here o (y ∷ xs) (suc k) x h =
     let later : o + 1 + k ≡ o + suc k = omega arith in
-    mapped_in f (o + 1) xs k x h ∙ ap (λ n. Some (f (tagged n x))) later
+    entry_here (o + 1) xs k x h ∙ ap (λ n. Some (tagged n x)) later
+
+mapped_in : {X Y : Type 0} (f : ℕ × X → Y) (o : ℕ) (xs : List X) (k : ℕ) (x : X) → slice_get xs k ≡ Some x → slice_get (map f (enumerate_from o xs)) k ≡ Some (f (tagged (o + k) x))
+mapped_in f o xs k x h = map_in f (enumerate_from o xs) k (tagged (o + k) x) (entry_here o xs k x h)
 
 mapped_none : {X Y : Type 0} (f : ℕ × X → Y) (o : ℕ) (xs : List X) (k : ℕ) → slice_get xs k ≡ None → slice_get (map f (enumerate_from o xs)) k ≡ None
 mapped_none f o [] zero h = refl

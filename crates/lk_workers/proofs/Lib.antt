@@ -4,6 +4,7 @@ mod Covering
 mod Doing
 mod GroupFiles
 mod Making
+mod Sharing
 mod Stepping
 mod Turning
 mod WorkLemmas

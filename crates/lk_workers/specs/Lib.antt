@@ -2,6 +2,7 @@ pub mod Asked
 pub mod Closings
 pub mod Items
 pub mod Machines
+pub mod Shares
 pub mod States
 pub mod Steps
 pub mod Traversals

@@ -1,6 +1,6 @@
 //! What a traversal came to, and whether that is all: a group is closed where none of its asks is open.
 
-ghost use Rattle.std.specs.Prelude.{◌≡◌, ◌<◌, All, false, IfNone, IfSome, Some, slice_index};
+ghost use Rattle.std.specs.Prelude.{◌≡◌, ◌<◌, ℕ, All, Bool, false, IfNone, IfOk, IfSome, Some, length, slice_index, slice_index_or};
 ghost use Rattle.std.specs.List.{list_all};
 ghost use Rattle.lk_link.specs.Files.{file_in};
 ghost use Rattle.lk_link.specs.Flags.{has_flag};
@@ -8,12 +8,15 @@ ghost use Rattle.lk_link.specs.Walks.{file_of};
 ghost use Rattle.lk_reach.specs.Marks.{IsInside, IsUnit, symbols_in_all, word_of};
 ghost use Rattle.lk_workers.specs.Asked.{AreListsOf};
 ghost use Rattle.lk_workers.specs.Closings.{are_groups_closed, is_ask_met, is_file_closed, is_group_closed, is_unit_closed, is_unit_done, section_units, symbol_units};
+ghost use Rattle.lk_workers.specs.Shares.{is_passed, is_share_closed, worker_of};
 
 use lk_flags::Reach;
 use lk_link::marks::is_marked;
 use lk_link::{FileId, FileRef, LinkInput, SymbolId, ValueFlags};
 use lk_reach::{Ask, Successors, Unit, file_roots, section_number, successors};
+use std::alloc::{AllocError, Global};
 use std::marker::{Model, PhantomData};
+use std::thread::{Threads, map_indices};
 
 /// The units that are done at the end, and the words of flags. What is done is reached, and words have what was handed in and nothing
 /// beyond all flags.
@@ -194,17 +197,120 @@ impl<J: Reach> Closed<J> {
         true
     }
 
-    /// The marks and the words, where no group has an open ask: then they are all that is reached, and all flags. Takes no memory.
-    pub fn into_whole(self, link: &LinkInput) -> Option<(Vec<bool>, Vec<u64>)>
-        requires { AreListsOf J.lists link.now }
-        ensures marks { IfSome result (λ r. r.0.items ≡ J.lists.units) }
-        ensures words { IfSome result (λ r. r.1.items ≡ J.lists.words) }
-        ensures none { IfNone result (are_groups_closed self link.now ≡ false) }
+    /// Whether a worker passes a file: another of so many looks at it, or it has no open ask.
+    fn is_passed(&self, link: &LinkInput, file: FileRef<'_>, workers: usize, worker: usize) -> bool
+        requires link { AreListsOf J.lists link.now }
+        requires some { 0 < workers }
+        requires there { file_in link.now.groups file.id ≡ Some file.file.now }
+        ensures { result ≡ is_passed self.now link.now workers worker (file_of file.entry) }
     {
-        if !self.is_whole(link) {
-            return None;
+        worker_of(file.id, workers) != worker || self.is_file_closed(link, file)
+    }
+
+    /// Whether none of the files that a worker of so many looks at has an open ask.
+    fn is_share_closed(&self, link: &LinkInput, workers: usize, worker: usize) -> bool
+        requires link { AreListsOf J.lists link.now }
+        requires some { 0 < workers }
+        ensures { result ≡ is_share_closed self.now link.now workers worker }
+    {
+        for file in link.groups.files() {
+            if !self.is_passed(link, file, workers, worker) {
+                return false;
+            }
+        }
+        true
+    }
+}
+
+/// Which of so many workers looks at a file. Neighbours go to different ones, so a group of many files is shared as well.
+fn worker_of(file: FileId, workers: usize) -> usize
+    requires { 0 < workers }
+    ensures { result ≡ worker_of workers file }
+{
+    (file.group as usize + file.file as usize) % workers
+}
+
+/// Whether all answers are yes.
+fn are_all(answers: &[bool]) -> bool
+    ensures { result ≡ list_all (λ b. b) answers.now }
+{
+    answers.iter().all(|answer| *answer)
+}
+
+impl<J: Reach + Send + Sync> Closed<J> {
+    /// Whether the share of each of so many workers is closed, as they find side by side, each on a thread of its own.
+    fn shares<R: Threads + Sync>(
+        &self,
+        rt: &R,
+        alloc: Global,
+        link: &LinkInput,
+        workers: usize,
+    ) -> Result<Vec<bool>, AllocError>
+        requires lists { AreListsOf J.lists link.now }
+        requires some { 0 < workers }
+        ensures count { IfOk result (λ v. length v.items ≡ workers) }
+        ensures each { IfOk result (λ v. (w : ℕ) (d : Bool) → w < workers → slice_index_or v.items w d ≡ is_share_closed self.now link.now workers w) }
+    {
+        map_indices(
+            rt,
+            alloc,
+            workers,
+            &|worker: usize| -> bool
+                requires { AreListsOf J.lists link.now × (0 < workers) }
+                ensures { result ≡ is_share_closed self.entry.now link.entry.now workers worker }
+            { self.is_share_closed(link, workers, worker) },
+        )
+    }
+
+    /// Whether no group has an open ask, as so many workers find.
+    fn are_shares_closed<R: Threads + Sync>(
+        &self,
+        rt: &R,
+        alloc: Global,
+        link: &LinkInput,
+        workers: usize,
+    ) -> Result<bool, AllocError>
+        requires lists { AreListsOf J.lists link.now }
+        requires some { 0 < workers }
+        ensures { IfOk result (λ whole. whole ≡ are_groups_closed self.now link.now) }
+    {
+        let shares = self.shares(rt, alloc, link, workers)?;
+        Ok(are_all(shares.as_slice()))
+    }
+
+    /// The same as `is_whole`, looked for by so many workers side by side, each on a thread of its own; none counts as one. Takes a
+    /// mark for each worker.
+    pub fn is_whole_by_workers<R: Threads + Sync>(
+        &self,
+        rt: &R,
+        alloc: Global,
+        link: &LinkInput,
+        workers: u32,
+    ) -> Result<bool, AllocError>
+        requires { AreListsOf J.lists link.now }
+        ensures { IfOk result (λ whole. whole ≡ are_groups_closed self.now link.now) }
+    {
+        self.are_shares_closed(rt, alloc, link, workers.max(1) as usize)
+    }
+
+    /// The marks and the words, where no group has an open ask: then they are all that is reached, and all flags. So many workers
+    /// look for one side by side, each on a thread of its own; none counts as one. Takes a mark for each worker.
+    pub fn into_whole<R: Threads + Sync>(
+        self,
+        rt: &R,
+        alloc: Global,
+        link: &LinkInput,
+        workers: u32,
+    ) -> Result<Option<(Vec<bool>, Vec<u64>)>, AllocError>
+        requires { AreListsOf J.lists link.now }
+        ensures marks { IfOk result (λ whole. IfSome whole (λ r. r.0.items ≡ J.lists.units)) }
+        ensures words { IfOk result (λ whole. IfSome whole (λ r. r.1.items ≡ J.lists.words)) }
+        ensures none { IfOk result (λ whole. IfNone whole (are_groups_closed self link.now ≡ false)) }
+    {
+        if !self.is_whole_by_workers(rt, alloc, link, workers)? {
+            return Ok(None);
         }
         let Closed { done, words, of: _ } = self;
-        Some((done, words))
+        Ok(Some((done, words)))
     }
 }

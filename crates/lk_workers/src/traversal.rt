@@ -26,11 +26,30 @@ use std::alloc::{AllocError, Global};
 use std::marker::{Model, PhantomData};
 use std::sync::{Condvar, Mutex, Wait};
 
-/// Groups that can run, and how many workers run one.
+/// Groups that can run, those that were woken apart from the others, and how many workers run one or wait for one.
 #[derive(Drop)]
 struct Turns {
+    /// Groups that haven't run.
     runnable: Vec<u32>,
+    /// Groups that had parked. They run once no other can: by then more has come for them.
+    woken: Vec<u32>,
     running: u32,
+    waiting: u32,
+}
+
+impl Turns {
+    /// Whether a group can run.
+    fn can_run(&self) -> bool {
+        !self.runnable.is_empty() || !self.woken.is_empty()
+    }
+
+    /// Takes a group that can run, if there is one.
+    fn take(&mut self) -> Option<u32> {
+        match self.runnable.pop() {
+            Some(group) => Some(group),
+            None => self.woken.pop(),
+        }
+    }
 }
 
 /// A traversal of a link by workers (libwild: `GraphResources`).
@@ -66,8 +85,8 @@ impl<'l, J: Reach> Model for Traversal<'l, J> {
 }
 
 impl<'l, J: Reach> Traversal<'l, J> {
-    /// A traversal in which no group is activated, and the first pass for its flags. Takes a slot and a state for each group, twice a
-    /// mark for each unit, twice a word and once a number for each symbol.
+    /// A traversal in which no group is activated, and the first pass for its flags. Takes a slot, a state and two turns for each group,
+    /// twice a mark for each unit, twice a word and once a number for each symbol.
     pub fn new(
         alloc: Global,
         link: &'l LinkInput,
@@ -244,7 +263,9 @@ fn turns_of(alloc: Global, link: &LinkInput) -> Result<Turns, AllocError> {
     }
     Ok(Turns {
         runnable,
+        woken: Vec::with_capacity(alloc, link.groups.len())?,
         running: 0,
+        waiting: 0,
     })
 }
 
@@ -333,11 +354,13 @@ impl<J: Reach> Traversal<'_, J> {
         }
     }
 
-    /// A group can run.
+    /// A group that had parked can run, which is told to a worker that waits, if one does.
     fn wake<R: Wait>(&self, rt: &R, group: u32) -> Result<(), AllocError> {
         let mut turns = self.turns.lock(rt);
-        turns.runnable.push(group)?;
-        self.changed.notify_one();
+        turns.woken.push(group)?;
+        if turns.waiting != 0 {
+            self.changed.notify_one();
+        }
         Ok(())
     }
 
@@ -400,21 +423,26 @@ impl<J: Reach> Traversal<'_, J> {
 
     /// A group that can run, which a worker then runs; none once no group can run and no worker runs one. Waits until then.
     pub(crate) fn next<R: Wait>(&self, rt: &R) -> Option<u32> {
-        let turns = self.turns.lock(rt);
+        let mut turns = self.turns.lock(rt);
+        turns.waiting = turns.waiting.wrapping_add(1);
         let mut turns = self.changed.wait_while(rt, turns, |turns: &mut Turns| {
-            turns.runnable.is_empty() && turns.running != 0
+            !turns.can_run() && turns.running != 0
         });
         let turns = &mut *turns;
-        let group = turns.runnable.pop()?;
+        turns.waiting = turns.waiting.wrapping_sub(1);
+        let group = turns.take()?;
         turns.running = turns.running.wrapping_add(1);
         Some(group)
     }
 
-    /// A worker doesn't run its group any more.
+    /// A worker doesn't run its group any more. Those that wait are told once there is nothing to wait for; where a group can run,
+    /// this worker takes it next.
     pub(crate) fn finish<R: Wait>(&self, rt: &R) {
         let mut turns = self.turns.lock(rt);
         let turns = &mut *turns;
         turns.running = turns.running.wrapping_sub(1);
-        self.changed.notify_all();
+        if turns.waiting != 0 && turns.running == 0 && !turns.can_run() {
+            self.changed.notify_all();
+        }
     }
 }

@@ -82,7 +82,8 @@ fn walk<J: Reach + Send + Sync, R: Threads + Wait + Sync, G: Gate + Sync>(
 {
     let (traversal, pass) = Traversal::<J>::new(alloc, link)?;
     let pass = run_all(&traversal, rt, alloc, pass, workers, gate)?;
-    match traversal.close(pass).into_whole(link) {
+    let closed = traversal.close(pass);
+    match closed.into_whole(rt, alloc, link, workers)? {
         Some(found) => Ok(found),
         None => Err(AllocError),
     }
