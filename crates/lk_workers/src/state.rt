@@ -16,8 +16,8 @@ use crate::traversal::Traversal;
 use crate::work::{GcLoadRequest, LocalWorkQueue, WorkItem};
 use lk_flags::{FlagPass, Reach};
 use lk_link::flags::RESOLUTION;
-use lk_link::{FileId, FileRef, SectionGcUnit, SymbolId, ValueFlags};
-use lk_reach::{Ask, Successors, Unit, file_roots, successors};
+use lk_link::{SectionGcUnit, SymbolId, ValueFlags};
+use lk_reach::{Ask, Successors, Unit};
 use std::alloc::{AllocError, Global};
 use std::marker::{Model, PhantomData};
 use std::sync::Wait;
@@ -316,8 +316,9 @@ impl<J: Reach> GroupState<J> {
         }
     }
 
-    /// Parks the group where nothing waits in its slot, and answers that; else what waits becomes its own list.
+    /// Parks the group, which is activated, where nothing waits in its slot, and answers that; else what waits becomes its own list.
     pub fn rest(&mut self, slot: &mut WorkerSlot<J>) -> bool
+        requires active { self.old.active ≡ true }
         requires idle { self.old.items ≡ [] }
         requires same { slot.old.group ≡ self.old.group }
         ensures goes { MatchBool result

@@ -1,7 +1,7 @@
 //! What workers share: the slots and the states of all groups, each behind a lock of its own, the words of flags, and the groups that
 //! can run. Locks are taken in this order: a state, then a slot, then the groups that can run.
 
-ghost use Rattle.std.specs.Prelude.{◌≡◌, ◌<◌, ◌++◌, ◌∷◌, [], IfNone, IfOk, IfSome, OnOk, map, None, Some, length, slice_get, slice_index};
+ghost use Rattle.std.specs.Prelude.{◌≡◌, ◌<◌, ◌++◌, ◌∷◌, [], true, IfNone, IfOk, IfSome, OnOk, map, None, Some, length, slice_get, slice_index};
 ghost use Rattle.lk_flags.specs.Flags.{AreIn, IsFound, Within};
 ghost use Rattle.lk_reach.specs.Marks.{IsMarked, IsUnit, all_units, symbols_in_all, unit_number, word_of};
 ghost use Rattle.lk_link.specs.NumberedSymbols.{symbols_of};
@@ -366,7 +366,8 @@ impl<J: Reach> Traversal<'_, J> {
 
     /// Parks a group that has nothing left to do, and answers whether it is to stop; else what waits for it becomes its own list.
     fn park<R: Wait>(&self, rt: &R, state: &mut GroupState<J>) -> bool
-        requires { state.old.items ≡ [] }
+        requires active { state.old.active ≡ true }
+        requires idle { state.old.items ≡ [] }
     {
         let group = state.group();
         let Some(slot) = self.slots.get(group as usize) else {
@@ -407,6 +408,7 @@ impl<J: Reach> Traversal<'_, J> {
         requires { pass.old.table ≡ self.now.table }
         ensures same { pass.new ≡ pass.old }
         ensures table { result.table ≡ self.now.table }
+        ensures sets { result.sets ≡ [] }
     {
         self.table.split(pass)
     }

@@ -81,7 +81,9 @@ fn walk<J: Reach + Send + Sync, R: Threads + Wait + Sync, G: Gate + Sync>(
     ensures words { IfOk result (λ r. r.1.items ≡ J.lists.words) }
 {
     let (traversal, pass) = Traversal::<J>::new(alloc, link)?;
-    let pass = run_all(&traversal, rt, alloc, pass, workers, gate)?;
+    // A group is run by one worker at a time, so more than there are groups would only wait.
+    let groups = u32::try_from(link.groups.len()).unwrap_or(u32::MAX);
+    let pass = run_all(&traversal, rt, alloc, pass, workers.min(groups), gate)?;
     let closed = traversal.close(pass);
     match closed.into_whole(rt, alloc, link, workers)? {
         Some(found) => Ok(found),
