@@ -7,6 +7,7 @@ pub mod Earlier
 pub mod Emitting
 pub mod FilledOwners
 pub mod Fitting
+pub mod GroupsFollow
 pub mod ImageLemmas
 pub mod ImagePlaces
 pub mod ImageStarts

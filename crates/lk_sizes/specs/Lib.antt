@@ -2,6 +2,7 @@ pub mod Addresses
 pub mod Attributes
 pub mod Contents
 pub mod Emitted
+pub mod GroupRanges
 pub mod Harvest
 pub mod Header
 pub mod Images

@@ -1,6 +1,7 @@
 //! Laws on owners and sizes.
 
 ghost use Rattle.lk_sizes.specs.Addresses.{CommonsRise, TableTellsLiveSections};
+ghost use Rattle.lk_sizes.specs.GroupRanges.{GroupsFollow};
 ghost use Rattle.lk_sizes.specs.Images.{ImagesAreOwners, ImagesStandWhereInputsGo};
 ghost use Rattle.lk_sizes.specs.PartOwners.{CommonsAreOwners, EntriesAreOwners, IdentityIsOwner, LiveSectionsAreOwners, OwnersAreLive, OwnersStandOnce, TablePartsHaveEntriesAlone, ThunksAreOwners};
 ghost use Rattle.lk_sizes.specs.Sorted.{NoOtherOrder, SortedStandByName};
@@ -85,4 +86,9 @@ pub fn sorted_stand_by_name()
 /// A law: they stand so in no other list.
 pub fn no_other_order()
     ensures { NoOtherOrder }
+{}
+
+/// A law: in each part what the files of a group bring, sorted sections apart, ends where that of the next group begins.
+pub fn groups_follow()
+    ensures { GroupsFollow }
 {}

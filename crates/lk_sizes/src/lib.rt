@@ -29,5 +29,7 @@ pub use lk_tables::{
     PartialLinkSingletons, SymbolCopyInfo, TableTotals, dynamic_table, header_sizes, symbol_sizes,
 };
 pub use owners::{PartContents, PartTotal, content_totals, first_sizes, part_contents};
-pub use part_owners::{PartOwners, add_thunks, part_sizes, plain_owners, resize_owners};
+pub use part_owners::{
+    PartOwners, add_thunks, part_sizes, part_sizes_with, plain_owners, resize_owners,
+};
 pub use sorted::{InputSortedSection, harvest_and_sort_script_sections};

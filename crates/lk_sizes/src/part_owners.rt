@@ -30,8 +30,10 @@ use crate::sorted::{InputSortedSection, tell_sorted};
 use lk_gc::Live;
 use lk_link::{FileId, LinkInput, List, Platform};
 use lk_tables::{Common, DynamicNumbers, HeaderInfo, mark_prelude, symbol_shares, whole_totals};
+use rayon::prelude::*;
 use std::alloc::{AllocError, Global};
 use std::marker::Model;
+use std::thread::Threads;
 
 /// What comes into the parts, and what is told by that (libwild keeps these in its states of groups). Contracts see a record.
 #[derive(Drop)]
@@ -385,4 +387,26 @@ pub fn part_sizes(alloc: Global, owners: &PartOwners) -> Result<Vec<u64>, AllocE
         → IfOk result (λ sizes. sizes.items ≡ part_sizes filling) }
 {
     sizes_of_contents(alloc, owners.contents.as_slice())
+}
+
+/// The same, each part by itself, on as many threads as their number is worth; few parts are one thread's. Takes the same memory once more,
+/// where more than one does it.
+pub fn part_sizes_with(
+    rt: &(impl Threads + Sync),
+    alloc: Global,
+    owners: &PartOwners,
+) -> Result<Vec<u64>, AllocError>
+    ensures bytes { IfOk result (λ sizes. sizes.items ≡ map (λ c. c.bytes) owners.now.contents) }
+    ensures sizes { (filling : Filling) → owners.now.contents ≡ part_contents filling
+        → IfOk result (λ sizes. sizes.items ≡ part_sizes filling) }
+{
+    owners
+        .contents()
+        .par_iter()
+        .map(
+            |part: &PartContents| -> u64
+                ensures { result ≡ part.now.bytes }
+            { part.bytes },
+        )
+        .collect(rt, alloc)
 }
