@@ -401,20 +401,22 @@ fn every_number_of_workers_lays_out(rt: HostRuntime) -> Result<(), Fail> {
     expect_rows(&rt, rt.alloc(), Asked::Workers, TWO_SEGMENTS)
 }
 
-/// Lists for which many units ask, in groups behind the prelude's: how many sections are live, whether two and eight workers make the
-/// report that none makes, and whether any worker walks.
+/// Links in groups behind the prelude's, mostly with lists for which many units ask: how many sections are live and how many symbols have
+/// lines, whether two and eight workers make the report that none makes, and whether any worker walks.
 const SHARED: &str = r#"
 @ {"plan":{"page":16,"sections":[{"attrs":1,"parts":[[1,false]]}],"segments":[{"kind":"load"}],"events":[["seg",0],["sec",0],["endseg",0]]},"groups":[[{"kind":"prelude"}],...]}
+# Symbols, of which two workers make the lines of two and three, and the last of eight those of all.
+[{"kind":"object","symbols":[«5 of {"at":["sec",0,1]}»],"sections":[{"slot":"must","size":4,"relocs":[[0,"Absolute",0,0,false],[0,"Absolute",1,0,false],[0,"Absolute",2,0,false],[0,"Absolute",3,0,false],[0,"Absolute",4,0,false]]}]}] => live 1 symbols 5 alike true walk true
 # The members of a section group, of which one is kept in any case; a section outside stays out.
-[{"kind":"object","sections":[{"slot":"must","size":1,"group":7},«63 of {"slot":"unloaded","size":1,"group":7}»,{"slot":"unloaded","size":1}]}] => live 64 alike true walk true
-[{"kind":"object","sections":[{"slot":"must","size":1,"group":7},«64 of {"slot":"unloaded","size":1,"group":7}»,{"slot":"unloaded","size":1}]}] => live 65 alike true walk false
+[{"kind":"object","sections":[{"slot":"must","size":1,"group":7},«63 of {"slot":"unloaded","size":1,"group":7}»,{"slot":"unloaded","size":1}]}] => live 64 symbols 0 alike true walk true
+[{"kind":"object","sections":[{"slot":"must","size":1,"group":7},«64 of {"slot":"unloaded","size":1,"group":7}»,{"slot":"unloaded","size":1}]}] => live 65 symbols 0 alike true walk false
 # The candidates of an output section, for which symbols at its start ask.
-[{"kind":"object","sections":[{"slot":"unloaded","size":1}]},{"kind":"synthetic","symbols":[«64 of {"at":["start",0]}»],"candidates":[«65 of [0,1,0,0]»]},{"kind":"object","symbols":[{"at":["undef"],"def":0},{"at":["undef"],"def":63}],"sections":[{"slot":"must","size":4,"relocs":[[0,"Absolute",0,0,false],[1,"Absolute",1,0,false]]}]}] => live 2 alike true walk true
-[{"kind":"object","sections":[{"slot":"unloaded","size":1}]},{"kind":"synthetic","symbols":[«65 of {"at":["start",0]}»],"candidates":[«64 of [0,1,0,0]»]},{"kind":"object","symbols":[{"at":["undef"],"def":0},{"at":["undef"],"def":64}],"sections":[{"slot":"must","size":4,"relocs":[[0,"Absolute",0,0,false],[1,"Absolute",1,0,false]]}]}] => live 2 alike true walk true
-[{"kind":"object","sections":[{"slot":"unloaded","size":1}]},{"kind":"synthetic","symbols":[«65 of {"at":["start",0]}»],"candidates":[«65 of [0,1,0,0]»]},{"kind":"object","symbols":[{"at":["undef"],"def":0},{"at":["undef"],"def":64}],"sections":[{"slot":"must","size":4,"relocs":[[0,"Absolute",0,0,false],[1,"Absolute",1,0,false]]}]}] => live 2 alike true walk false
+[{"kind":"object","sections":[{"slot":"unloaded","size":1}]},{"kind":"synthetic","symbols":[«64 of {"at":["start",0]}»],"candidates":[«65 of [0,1,0,0]»]},{"kind":"object","symbols":[{"at":["undef"],"def":0},{"at":["undef"],"def":63}],"sections":[{"slot":"must","size":4,"relocs":[[0,"Absolute",0,0,false],[1,"Absolute",1,0,false]]}]}] => live 2 symbols 0 alike true walk true
+[{"kind":"object","sections":[{"slot":"unloaded","size":1}]},{"kind":"synthetic","symbols":[«65 of {"at":["start",0]}»],"candidates":[«64 of [0,1,0,0]»]},{"kind":"object","symbols":[{"at":["undef"],"def":0},{"at":["undef"],"def":64}],"sections":[{"slot":"must","size":4,"relocs":[[0,"Absolute",0,0,false],[1,"Absolute",1,0,false]]}]}] => live 2 symbols 0 alike true walk true
+[{"kind":"object","sections":[{"slot":"unloaded","size":1}]},{"kind":"synthetic","symbols":[«65 of {"at":["start",0]}»],"candidates":[«65 of [0,1,0,0]»]},{"kind":"object","symbols":[{"at":["undef"],"def":0},{"at":["undef"],"def":64}],"sections":[{"slot":"must","size":4,"relocs":[[0,"Absolute",0,0,false],[1,"Absolute",1,0,false]]}]}] => live 2 symbols 0 alike true walk false
 # Scripts, each of which asks for what the location counter's expressions refer to.
-[{"kind":"object","sections":[{"slot":"must","size":1}]}],[«64 of {"kind":"script"}»] => live 1 alike true walk true
-[{"kind":"object","sections":[{"slot":"must","size":1}]}],[«65 of {"kind":"script"}»] => live 1 alike true walk false
+[{"kind":"object","sections":[{"slot":"must","size":1}]}],[«64 of {"kind":"script"}»] => live 1 symbols 0 alike true walk true
+[{"kind":"object","sections":[{"slot":"must","size":1}]}],[«65 of {"kind":"script"}»] => live 1 symbols 0 alike true walk false
 "#;
 
 /// A gate that counts who enters it.
@@ -429,7 +431,7 @@ impl Gate for Counter {
     }
 }
 
-/// Adds how many sections are live, and what becomes of the report by workers.
+/// Adds how many sections and symbols a report has, and what becomes of it by workers.
 pub fn add_shared(
     rt: &(impl Threads + Wait + Sync),
     alloc: Global,
@@ -444,6 +446,7 @@ pub fn add_shared(
     let by_eight = told_layout(rt, alloc, link, 8, &gate)?;
     let alone = alone.as_str();
     add(line, "live", &alone.matches("\nlive ").count())?;
+    add(line, "symbols", &alone.matches("\nsymbol ").count())?;
     let is_same = by_two.as_str() == alone && by_eight.as_str() == alone;
     add(line, "alike", &is_same)?;
     add(line, "walk", &(gate.entered.load(Ordering::SeqCst) > 0))
