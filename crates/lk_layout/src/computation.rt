@@ -21,6 +21,7 @@ use crate::layout::Layout;
 use crate::stages::{
     AddressedLink, KeptLink, PlacedLink, ReachingLink, SizedLink, SpannedLink, ToldLink,
 };
+use crate::walkers::{MOST_WORKERS, walkers};
 use lk_check::check_link;
 use lk_gc::{traverse, traverse_alone};
 use lk_link::gate::Gate;
@@ -254,9 +255,6 @@ fn tell<'data, P: Platform, A: Arch>(
     }
 }
 
-/// No more workers than these are started; a greater number counts as this.
-const MOST_WORKERS: u32 = 64;
-
 /// Merges what is merged of a link by so many workers.
 fn merge_by_workers<
     'data,
@@ -280,7 +278,8 @@ fn merge_by_workers<
     merge_images_by_workers(rt, alloc, link, workers.min(MOST_WORKERS), gate)
 }
 
-/// Finds what is live by so many workers, and the references that can't be met.
+/// Finds what is live by so many workers, or alone where these would go through long lists again and again, and the references that
+/// can't be met.
 fn keep_by_workers<
     'data,
     R: Threads + Wait + Sync,
@@ -301,13 +300,15 @@ fn keep_by_workers<
     requires gate { 2 ≤ workers → G.may_enter gate.now }
     ensures { Reaches (platform_machine (P.segment_start _platform.now) (P.table_sizes _platform.now) (A.config_of _arch.now)) link.now (IsKept link.now) result }
 {
-    let live = traverse(rt, alloc, link, workers.min(MOST_WORKERS), gate)?;
+    let live = traverse(rt, alloc, link, walkers(link, workers), gate)?;
     Ok(KeptLink { images, live })
 }
 
 /// The layout of a link: the defined answer, unless memory runs out (libwild: `layout::compute`). With two or more workers as many threads,
 /// 64 at most, merge strings and then find what is reached, and the gate is entered before their steps; all else is done on the caller's
-/// thread, which waits for them. With 0 or 1 it never calls the gate: it then asks for no leave to enter it.
+/// thread, which waits for them. Where more than 64 units ask for the same list and that is longer than 64, as the members of a large
+/// section group do, what is reached is found on the caller's thread too: workers go through such a list for each of the units. With 0
+/// or 1 it never calls the gate: it then asks for no leave to enter it.
 pub fn compute<'data, R: Threads + Wait + Sync, P: Platform + Sync, A: Arch + Sync, G: Gate + Sync>(
     rt: &R,
     alloc: Global,

@@ -23,6 +23,7 @@ pub mod section_resolution;
 pub mod section_slots;
 mod stages;
 mod thunk_users;
+mod walkers;
 
 pub use crate::computation::{compute, compute_alone};
 pub use crate::error::{LayoutError, ReachKind};

@@ -7,10 +7,11 @@ use crate::runs::expect_reports;
 use lk_check::check_link;
 use lk_layout::{Layout, LayoutError, Small64Arch, compute};
 use lk_link::{Gate, LinkInput, NoGate, Small64};
-use lk_run::report_text;
+use lk_run::report_text_by_workers;
 use lk_test_rows::add;
 use std::alloc::{AllocError, Global};
 use std::sync::Wait;
+use std::sync::atomic::{AtomicU64, Ordering};
 use std::test::Fail;
 use std::thread::Threads;
 
@@ -331,22 +332,30 @@ impl Gate for Door {
     fn enter(&self, _group: u32) {}
 }
 
-/// The report of a layout; nothing where the link isn't well formed.
-fn report_of(alloc: Global, link: &LinkInput, layout: &Layout<'_>) -> Result<String, AllocError> {
+/// The report of a layout by so many workers; nothing where the link isn't well formed.
+fn report_of(
+    rt: &(impl Threads + Sync),
+    alloc: Global,
+    link: &LinkInput,
+    layout: &Layout<'_>,
+    workers: u32,
+) -> Result<String, AllocError> {
     if check_link(link).is_err() {
         return Ok(String::new(alloc));
     }
-    report_text(alloc, link, layout)
+    report_text_by_workers(rt, alloc, link, layout, workers)
 }
 
-/// The report of a layout, or why there is none.
+/// The report of a layout by so many workers, or why there is none.
 fn told_answer(
+    rt: &(impl Threads + Sync),
     alloc: Global,
     link: &LinkInput,
     answer: &Result<Layout<'_>, LayoutError>,
+    workers: u32,
 ) -> Result<String, AllocError> {
     match answer {
-        Ok(layout) => report_of(alloc, link, layout),
+        Ok(layout) => report_of(rt, alloc, link, layout, workers),
         Err(error) => format!(in alloc; "{error:?}"),
     }
 }
@@ -362,7 +371,7 @@ fn told_layout<R: Threads + Wait + Sync, G: Gate + Sync>(
     requires { 2 ≤ workers → G.may_enter gate.now }
 {
     let answer = compute(rt, alloc, link, &Small64, &Small64Arch, workers, gate);
-    let told = told_answer(alloc, link, &answer);
+    let told = told_answer(rt, alloc, link, &answer, workers);
     drop(answer);
     told
 }
@@ -390,4 +399,60 @@ pub fn add_workers(
 #[test]
 fn every_number_of_workers_lays_out(rt: HostRuntime) -> Result<(), Fail> {
     expect_rows(&rt, rt.alloc(), Asked::Workers, TWO_SEGMENTS)
+}
+
+/// Links in groups behind the prelude's, mostly with lists for which many units ask: how many sections are live and how many symbols have
+/// lines, whether two and eight workers make the report that none makes, and whether any worker walks.
+const SHARED: &str = r#"
+@ {"plan":{"page":16,"sections":[{"attrs":1,"parts":[[1,false]]}],"segments":[{"kind":"load"}],"events":[["seg",0],["sec",0],["endseg",0]]},"groups":[[{"kind":"prelude"}],...]}
+# Symbols, of which two workers make the lines of two and three, and the last of eight those of all.
+[{"kind":"object","symbols":[«5 of {"at":["sec",0,1]}»],"sections":[{"slot":"must","size":4,"relocs":[[0,"Absolute",0,0,false],[0,"Absolute",1,0,false],[0,"Absolute",2,0,false],[0,"Absolute",3,0,false],[0,"Absolute",4,0,false]]}]}] => live 1 symbols 5 alike true walk true
+# The members of a section group, of which one is kept in any case; a section outside stays out.
+[{"kind":"object","sections":[{"slot":"must","size":1,"group":7},«63 of {"slot":"unloaded","size":1,"group":7}»,{"slot":"unloaded","size":1}]}] => live 64 symbols 0 alike true walk true
+[{"kind":"object","sections":[{"slot":"must","size":1,"group":7},«64 of {"slot":"unloaded","size":1,"group":7}»,{"slot":"unloaded","size":1}]}] => live 65 symbols 0 alike true walk false
+# The candidates of an output section, for which symbols at its start ask.
+[{"kind":"object","sections":[{"slot":"unloaded","size":1}]},{"kind":"synthetic","symbols":[«64 of {"at":["start",0]}»],"candidates":[«65 of [0,1,0,0]»]},{"kind":"object","symbols":[{"at":["undef"],"def":0},{"at":["undef"],"def":63}],"sections":[{"slot":"must","size":4,"relocs":[[0,"Absolute",0,0,false],[1,"Absolute",1,0,false]]}]}] => live 2 symbols 0 alike true walk true
+[{"kind":"object","sections":[{"slot":"unloaded","size":1}]},{"kind":"synthetic","symbols":[«65 of {"at":["start",0]}»],"candidates":[«64 of [0,1,0,0]»]},{"kind":"object","symbols":[{"at":["undef"],"def":0},{"at":["undef"],"def":64}],"sections":[{"slot":"must","size":4,"relocs":[[0,"Absolute",0,0,false],[1,"Absolute",1,0,false]]}]}] => live 2 symbols 0 alike true walk true
+[{"kind":"object","sections":[{"slot":"unloaded","size":1}]},{"kind":"synthetic","symbols":[«65 of {"at":["start",0]}»],"candidates":[«65 of [0,1,0,0]»]},{"kind":"object","symbols":[{"at":["undef"],"def":0},{"at":["undef"],"def":64}],"sections":[{"slot":"must","size":4,"relocs":[[0,"Absolute",0,0,false],[1,"Absolute",1,0,false]]}]}] => live 2 symbols 0 alike true walk false
+# Scripts, each of which asks for what the location counter's expressions refer to.
+[{"kind":"object","sections":[{"slot":"must","size":1}]}],[«64 of {"kind":"script"}»] => live 1 symbols 0 alike true walk true
+[{"kind":"object","sections":[{"slot":"must","size":1}]}],[«65 of {"kind":"script"}»] => live 1 symbols 0 alike true walk false
+"#;
+
+/// A gate that counts who enters it.
+#[derive(Drop)]
+struct Counter {
+    entered: AtomicU64,
+}
+
+impl Gate for Counter {
+    fn enter(&self, _group: u32) {
+        self.entered.fetch_add(1, Ordering::SeqCst);
+    }
+}
+
+/// Adds how many sections and symbols a report has, and what becomes of it by workers.
+pub fn add_shared(
+    rt: &(impl Threads + Wait + Sync),
+    alloc: Global,
+    line: &mut String,
+    link: &LinkInput,
+) -> Result<(), AllocError> {
+    let gate = Counter {
+        entered: AtomicU64::new(0),
+    };
+    let alone = told_layout(rt, alloc, link, 0, &gate)?;
+    let by_two = told_layout(rt, alloc, link, 2, &gate)?;
+    let by_eight = told_layout(rt, alloc, link, 8, &gate)?;
+    let alone = alone.as_str();
+    add(line, "live", &alone.matches("\nlive ").count())?;
+    add(line, "symbols", &alone.matches("\nsymbol ").count())?;
+    let is_same = by_two.as_str() == alone && by_eight.as_str() == alone;
+    add(line, "alike", &is_same)?;
+    add(line, "walk", &(gate.entered.load(Ordering::SeqCst) > 0))
+}
+
+#[test]
+fn long_lists_change_no_report(rt: HostRuntime) -> Result<(), Fail> {
+    expect_rows(&rt, rt.alloc(), Asked::Shared, SHARED)
 }

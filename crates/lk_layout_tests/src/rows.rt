@@ -2,7 +2,7 @@
 
 use crate::devices::{add_calls, add_held, add_reads, add_run, add_whole, add_writes};
 use crate::files::{add_moved, add_told};
-use crate::layout::add_workers;
+use crate::layout::{add_shared, add_workers};
 use crate::lent::add_lent;
 use crate::queries::add_queries;
 use crate::runs::{add_end, add_lock_step, add_words};
@@ -20,6 +20,8 @@ use std::thread::Threads;
 pub enum Asked {
     /// What reports are made of it by how many workers.
     Workers,
+    /// Whether workers make one report of it, and whether they walk.
+    Shared,
     /// Whether a run over it by two workers in lock step tells what one by none does.
     LockStep,
     /// How a run over it ends.
@@ -59,10 +61,14 @@ fn add_linked(
     rt: &(impl Threads + Wait + Sync),
     alloc: Global,
     line: &mut String,
+    asked: Asked,
     text: &str,
 ) -> Result<(), AllocError> {
     match read_link(alloc, text.as_bytes()) {
-        Ok(link) => add_workers(rt, alloc, line, &link),
+        Ok(link) => match asked {
+            Asked::Shared => add_shared(rt, alloc, line, &link),
+            _ => add_workers(rt, alloc, line, &link),
+        },
         Err(error) => write!(line, "no link: {error}"),
     }
 }
@@ -101,7 +107,7 @@ fn add_answer(
     text: &str,
 ) -> Result<(), AllocError> {
     match asked {
-        Asked::Workers => add_linked(rt, alloc, line, text),
+        Asked::Workers | Asked::Shared => add_linked(rt, alloc, line, asked, text),
         Asked::LockStep => add_lock_step(rt, alloc, line, text),
         Asked::Run => add_end(alloc, line, text),
         Asked::Starts | Asked::Symbols => add_queries(alloc, line, asked, text),

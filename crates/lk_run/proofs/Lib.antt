@@ -9,4 +9,5 @@ pub mod Refusals
 pub mod RunLaws
 pub mod SingleLines
 pub mod SoundRuns
+pub mod SymbolParts
 pub mod Written

@@ -6,6 +6,7 @@ pub mod MergedLines
 pub mod Program
 pub mod ReadAll
 pub mod Report
+pub mod ReportPieces
 pub mod Run
 pub mod RunAlone
 pub mod SoundRun
@@ -13,4 +14,5 @@ pub mod Standard
 pub mod Status
 pub mod Steps
 pub mod Summary
+pub mod SymbolParts
 pub mod Words

@@ -7,39 +7,38 @@ ghost use Rattle.lk_link.specs.Walks.{input_of};
 ghost use Rattle.lk_link.specs.WellFormed.{IsWellFormed};
 ghost use Rattle.lk_relaxing.specs.LinkDeletions.{size_after};
 ghost use Rattle.lk_sizes.specs.Tables.{IsInput};
-ghost use Rattle.lk_run.specs.declared.line.TheConstants.{ROOM};
-ghost use Rattle.lk_run.specs.Report.{report, address_text, range_text, index_text, section_line, section_text, laid_out_text, section_lines};
+ghost use Rattle.lk_run.specs.Report.{report, range_text, index_text, section_line, section_text, laid_out_text, section_lines};
 ghost use Rattle.lk_run.specs.Report.{takes_memory, part_line, part_text, told_lines, section_part_lines, part_lines};
 ghost use Rattle.lk_run.specs.Report.{segment_line, segment_lines, record_lines, input_text, live_line, live_lines, live_report, told_at};
-ghost use Rattle.lk_run.specs.Report.{symbol_line, symbol_text, symbol_lines, entry_line};
+ghost use Rattle.lk_run.specs.Report.{entry_line};
+ghost use Rattle.lk_run.specs.ReportPieces.{report_end, report_front};
 
-use crate::line::{Line, ROOM};
+use crate::line::Line;
 use crate::merged::{merged_room, write_merged};
 use crate::singles::write_singles;
 use crate::summary::count_live;
+use crate::symbols::{add_parts, part_texts, parts_room, symbols_room, write_symbols};
 use crate::thunks::{thunks_room, write_thunks};
-use lk_layout::{EntryFault, Layout, SymbolResolutions};
+use lk_layout::{EntryFault, Layout};
+use lk_link::InputRef;
 use lk_link::link::LinkInput;
 use lk_link::marks::is_marked;
 use lk_link::plan::{PlanSection, PlanSections};
-use lk_link::{InputRef, Resolution};
 use lk_place::{OutputRecordLayout, SegmentLayout};
 use lk_relax::{RelaxDeltaMap, opt_input_to_output};
 use lk_relaxing::deleted_of;
 use std::alloc::{AllocError, Global};
 use std::fmt;
+use std::thread::Threads;
+
+/// No more workers than these are started; a greater number counts as this.
+const MOST_WORKERS: u32 = 64;
 
 /// Bytes that a line with a record mostly has room in.
 const RECORD_LINE: usize = 112;
 
 /// Bytes that a live section's line mostly has room in.
 const LIVE_LINE: usize = 32;
-
-/// Bytes that the line of a symbol without entries mostly has room in.
-const SYMBOL_LINE: usize = 48;
-
-/// Bytes that an entry's address or number in that line mostly has room in.
-const ENTRY_ROOM: usize = 10;
 
 /// A record as it is printed.
 #[derive(Clone, Copy)]
@@ -99,23 +98,46 @@ pub fn report_text(
     ensures { IfOk result (λ text. string_bytes text ≡ report link.now layout.now) }
 {
     let mut text = String::with_capacity(alloc, room_of(layout))?;
-    text.push_str("layout\n")?;
-    write_records(&mut text, link, layout)?;
-    write_live(&mut text, link, layout)?;
-    write_merged(
-        &mut text,
-        layout.merged_strings(),
-        layout.merged_string_start_addresses(),
-    )?;
-    write_thunks(&mut text, layout)?;
+    write_front(&mut text, link, layout)?;
     write_symbols(&mut text, layout.symbol_resolutions())?;
-    write_entry(&mut text, layout.resolved_entry_symbol_address())?;
-    text.push_str("end\n")?;
+    write_end(&mut text, layout)?;
+    Ok(text)
+}
+
+/// The same by so many workers, 64 at most, each on a thread of its own, for which the caller waits: the lines of symbols, of which most
+/// reports consist, are made in as many parts, and then added in their order. With 0 or 1 all is done on the caller's own thread.
+pub fn report_text_by_workers<R: Threads + Sync>(
+    rt: &R,
+    alloc: Global,
+    link: &LinkInput,
+    layout: &Layout<'_>,
+    workers: u32,
+) -> Result<String, AllocError>
+    requires good { IsWellFormed link.now }
+    ensures { IfOk result (λ text. string_bytes text ≡ report link.now layout.now) }
+{
+    if workers < 2 {
+        return report_text(alloc, link, layout);
+    }
+    let resolutions = layout.symbol_resolutions();
+    let parts = part_texts(rt, alloc, resolutions, workers.min(MOST_WORKERS) as usize)?;
+    let room = room_without_symbols(layout).saturating_add(parts_room(&parts));
+    let mut text = String::with_capacity(alloc, room)?;
+    write_front(&mut text, link, layout)?;
+    add_parts(&mut text, resolutions, parts)?;
+    write_end(&mut text, layout)?;
     Ok(text)
 }
 
 /// How many bytes the report mostly has, so that its text seldom grows.
 fn room_of(layout: &Layout<'_>) -> usize {
+    let resolutions = layout.symbol_resolutions();
+    let symbols = symbols_room(resolutions, 0, resolutions.len());
+    room_without_symbols(layout).saturating_add(symbols)
+}
+
+/// How many bytes it mostly has beside the lines of symbols.
+fn room_without_symbols(layout: &Layout<'_>) -> usize {
     let records = layout
         .section_layouts()
         .len()
@@ -127,36 +149,30 @@ fn room_of(layout: &Layout<'_>) -> usize {
         .saturating_add(count_live(layout).saturating_mul(LIVE_LINE))
         .saturating_add(merged_room(layout.merged_strings()))
         .saturating_add(thunks_room(layout))
-        .saturating_add(symbols_room(layout.symbol_resolutions()))
 }
 
-/// How many bytes the lines of symbols mostly have.
-fn symbols_room(resolutions: &SymbolResolutions) -> usize {
-    let mut room: usize = 0;
-    for number in 0..resolutions.len() {
-        room = room.saturating_add(symbol_room(resolutions.nth(number)));
-    }
-    room
-}
-
-/// How many bytes the line of a symbol mostly has.
-fn symbol_room(resolution: Option<Resolution>) -> usize {
-    match resolution {
-        Some(resolution) => {
-            SYMBOL_LINE
-                + entry_room(resolution.got.is_some())
-                + entry_room(resolution.plt.is_some())
-                + entry_room(resolution.dynamic.is_some())
-        }
-        None => 0,
-    }
-}
-
-/// How many bytes an entry adds to that.
-fn entry_room(has_entry: bool) -> usize
-    ensures { result ≤ 10 }
+/// The lines before those of symbols.
+fn write_front(text: &mut String, link: &LinkInput, layout: &Layout<'_>) -> Result<(), AllocError>
+    requires good { IsWellFormed link.now }
+    ensures { IfOk result (λ _. string_bytes text.new ≡ string_bytes text.old ++ report_front link.now layout.now) }
 {
-    if has_entry { ENTRY_ROOM } else { 0 }
+    text.push_str("layout\n")?;
+    write_records(text, link, layout)?;
+    write_live(text, link, layout)?;
+    write_merged(
+        text,
+        layout.merged_strings(),
+        layout.merged_string_start_addresses(),
+    )?;
+    write_thunks(text, layout)
+}
+
+/// The lines behind those of symbols.
+fn write_end(text: &mut String, layout: &Layout<'_>) -> Result<(), AllocError>
+    ensures { IfOk result (λ _. string_bytes text.new ≡ string_bytes text.old ++ report_end layout.now) }
+{
+    write_entry(text, layout.resolved_entry_symbol_address())?;
+    text.push_str("end\n")
 }
 
 /// The lines of sections, parts and segments.
@@ -418,85 +434,6 @@ fn write_live_section(
     line.put_decimal(u64::from(section.file.group));
     line.put("live ");
     line.add_to(text)
-}
-
-/// The lines of the symbols with a resolution, by number.
-fn write_symbols(text: &mut String, resolutions: &SymbolResolutions) -> Result<(), AllocError>
-    ensures { IfOk result (λ _. string_bytes text.new ≡ string_bytes text.old ++ symbol_lines resolutions.now) }
-{
-    for number in 0..resolutions.len() {
-        write_symbol(text, number, resolutions.nth(number))?;
-    }
-    Ok(())
-}
-
-/// The line of a symbol that has a resolution.
-#[tactic(auto, unfolding(crate::specs::Report::symbol_text))]
-fn write_symbol(
-    text: &mut String,
-    number: usize,
-    resolution: Option<Resolution>,
-) -> Result<(), AllocError>
-    ensures { IfOk result (λ _. string_bytes text.new ≡ string_bytes text.old ++ symbol_text number resolution) }
-{
-    match resolution {
-        Some(resolution) => write_symbol_line(text, number, resolution),
-        None => Ok(()),
-    }
-}
-
-/// The line of a symbol with this resolution: its value and flags, where its entries stand in `got` and `plt`, and its number among
-/// dynamic symbols.
-#[tactic(auto, unfolding(crate::specs::Report::symbol_line))]
-fn write_symbol_line(
-    text: &mut String,
-    number: usize,
-    resolution: Resolution,
-) -> Result<(), AllocError>
-    ensures { IfOk result (λ _. string_bytes text.new ≡ string_bytes text.old ++ symbol_line number resolution) }
-{
-    let mut line = Line::new();
-    line.put("\n");
-    put_index(&mut line, resolution.dynamic);
-    line.put(" dyn ");
-    put_address(&mut line, resolution.plt);
-    line.put(" plt ");
-    put_address(&mut line, resolution.got);
-    line.put(" got ");
-    line.put_decimal(u64::from(resolution.flags.0));
-    line.put(" ");
-    line.put_hexadecimal(resolution.raw_value);
-    line.put(" 0x");
-    line.put_decimal(number as u64);
-    line.put("symbol ");
-    line.add_to(text)
-}
-
-/// Puts an address in front of a line, or `-` for none.
-fn put_address(line: &mut Line, address: Option<u64>)
-    requires { length line.old + 66 ≤ ROOM }
-    ensures value { line.new ≡ address_text address ++ line.old }
-    ensures length { length line.new ≤ length line.old + 18 }
-{
-    match address {
-        None => line.put("-"),
-        Some(address) => {
-            line.put_hexadecimal(address);
-            line.put("0x");
-        }
-    }
-}
-
-/// Puts an index in front of a line, or `-` for none.
-fn put_index(line: &mut Line, index: Option<u32>)
-    requires { length line.old + 20 ≤ ROOM }
-    ensures value { line.new ≡ index_text index ++ line.old }
-    ensures length { length line.new ≤ length line.old + 20 }
-{
-    match index {
-        None => line.put("-"),
-        Some(index) => line.put_decimal(u64::from(index)),
-    }
 }
 
 /// The line of the entry: its address, or that there is none, or why it has none.

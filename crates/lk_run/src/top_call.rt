@@ -17,7 +17,7 @@ use crate::answer::Answer;
 use crate::fault_texts::{fault_text, input_fault_text, too_long_text};
 use crate::generated::run_gen;
 use crate::limit::LONGEST_INPUT;
-use crate::report::report_text;
+use crate::report::{report_text, report_text_by_workers};
 use crate::sink::Sink;
 use crate::source::Source;
 use crate::status::Status;
@@ -111,6 +111,28 @@ fn answer_computed(
     }
 }
 
+/// The same, where so many workers make the report.
+fn answer_by_workers<R: Threads + Sync>(
+    rt: &R,
+    alloc: Global,
+    link: &LinkInput,
+    computed: &Result<Layout<'_>, LayoutError>,
+    workers: u32,
+) -> Result<Answer, AllocError>
+    requires { Gives small64_machine link.now computed.now }
+    ensures { IfOk result (λ answer. IsAnswerToReading (Ok link.now) answer) }
+{
+    // A law, which does nothing: what has a layout is well formed.
+    laid_out_links_are_well_formed();
+    match computed {
+        Ok(layout) => Ok(Answer {
+            status: Status::LaidOut,
+            text: Text::from_string(report_text_by_workers(rt, alloc, link, layout, workers)?),
+        }),
+        Err(_) => answer_computed(alloc, link, computed),
+    }
+}
+
 /// Writes the text of an answer: its status, or that the sink failed.
 pub(crate) fn tell<K: Sink>(sink: &mut K, answer: &Answer) -> Status
     ensures { IsToldBy result answer.now (K.state sink.old) (K.state sink.new) }
@@ -121,17 +143,12 @@ pub(crate) fn tell<K: Sink>(sink: &mut K, answer: &Answer) -> Status
     }
 }
 
-/// Tells what was computed of a link.
-fn tell_computed<K: Sink>(
-    alloc: Global,
-    link: &LinkInput,
-    computed: &Result<Layout<'_>, LayoutError>,
-    sink: &mut K,
-) -> Status
-    requires { Gives small64_machine link.now computed.now }
-    ensures { IsLinkToldBy result link.now (K.state sink.old) (K.state sink.new) }
+/// Tells the answer to a link, if memory didn't run out.
+fn tell_made<K: Sink>(_link: &LinkInput, answer: Result<Answer, AllocError>, sink: &mut K) -> Status
+    requires { IfOk answer (λ answer. IsAnswerToReading (Ok _link.now) answer) }
+    ensures { IsLinkToldBy result _link.now (K.state sink.old) (K.state sink.new) }
 {
-    match answer_computed(alloc, link, computed) {
+    match answer {
         Ok(answer) => tell(sink, &answer),
         Err(_) => Status::NoMemory,
     }
@@ -153,7 +170,8 @@ fn lay_out<R: Threads + Wait + Sync, S: Source, K: Sink, G: Gate + Sync>(
         Ok(Reading::Link(link)) => {
             let workers = u32::from(workers);
             let computed = compute(rt, alloc, &link, &Small64, &Small64Arch, workers, gate);
-            let status = tell_computed(alloc, &link, &computed, sink);
+            let answer = answer_by_workers(rt, alloc, &link, &computed, workers);
+            let status = tell_made(&link, answer, sink);
             drop(computed);
             drop(link);
             status
@@ -170,7 +188,8 @@ fn lay_out_alone<S: Source, K: Sink>(alloc: Global, source: &mut S, sink: &mut K
     match read_source(alloc, source) {
         Ok(Reading::Link(link)) => {
             let computed = compute_alone(alloc, &link, &Small64, &Small64Arch);
-            let status = tell_computed(alloc, &link, &computed, sink);
+            let answer = answer_computed(alloc, &link, &computed);
+            let status = tell_made(&link, answer, sink);
             drop(computed);
             drop(link);
             status

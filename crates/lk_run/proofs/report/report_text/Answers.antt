@@ -1,12 +1,12 @@
 use Rattle.std.specs.Prelude.{codes, string_bytes}
 use Rattle.lk_layout.specs.Layouts.{resolved_entry}
 use Rattle.lk_run.specs.Report.{record_lines, live_report, merged_report, symbol_lines, entry_line, thunk_report}
-use Rattle.lk_run.proofs.Lines.{in_a_row}
+use Rattle.lk_run.proofs.Lines.{around_symbols}
 use Rattle.lk_run.proofs.report.report_text.Goals as goal
 
 pub returns : goal.returns
 returns c =
     let layout = c.args.layout.now in
-    in_a_row (string_bytes c.push_str-2.new.self) (codes "layout\n") (record_lines c.args.link.now layout) (live_report c.args.link.now layout)
+    around_symbols (string_bytes c.write_end.new.text) (codes "layout\n") (record_lines c.args.link.now layout) (live_report c.args.link.now layout)
     (merged_report layout.merged_strings layout.merged_string_start_addresses) (thunk_report layout) (symbol_lines layout.symbol_resolutions) (entry_line (resolved_entry layout)) (codes "end\n")
-    (cc (c.in_ok-text.ensures.bytes, c.in_ok-push_str.ensures.bytes, c.in_ok-write_records.ensures, c.in_ok-write_live.ensures, c.in_ok-write_merged.ensures, c.in_ok-write_thunks.ensures, c.in_ok-write_symbols.ensures, c.in_ok-write_entry.ensures, c.in_ok-push_str-2.ensures.bytes))
+    (cc (c.in_ok-text.ensures.bytes, c.in_ok-write_front.ensures, c.in_ok-write_symbols.ensures, c.in_ok-write_end.ensures))
