@@ -16,6 +16,7 @@ use Rattle.lk_merge.specs.MatrixCells.{HasPlaces}
 use Rattle.lk_merge.specs.MatrixWork.{IsWork, MatrixWork, front, kept_of, places_of}
 use Rattle.lk_merge.specs.Merging.{bucket_refusal}
 use Rattle.lk_merge.specs.MergingTables.{HasMerged, HasTaken, entry_of, pieces_in}
+use Rattle.lk_merge.specs.OffsetMapTables.{HoldsIn}
 use Rattle.lk_merge.proofs.Covering.{groups_cover}
 use Rattle.lk_merge.proofs.InputLemmas.{pieces_located_from, push_at}
 use Rattle.std.specs.List.{flat_map}
@@ -86,7 +87,7 @@ front_whole w h =
     ∙ sym (pieces_located_from 0 0 w.inputs)
 
 pub all_ended : (w : MatrixWork) (e : Ended) (m : Merges) → IsWork w → HaveTaken w e → length e.states.items ≡ 16 → m.buckets.items ≡ e.states.items
-    → (e.stopped ≡ false → m.entries.items ≡ map (entry_of (pieces_in (located w.inputs))) (located w.inputs)) → HasMerged w.section w.limit (located w.inputs) m
+    → (e.stopped ≡ false → HoldsIn (map (entry_of (pieces_in (located w.inputs))) (located w.inputs)) m.entries) → HasMerged w.section w.limit (located w.inputs) m
 all_ended w e m h taken count buckets entries = record {
   count = ap length buckets ∙ count;
   buckets = λ b s there. subst (λ ps. HasTaken w.section w.limit b (bucket_list fnv64 ps b) s) (front_whole w h) (taken.states b s (ap (λ l. slice_get l b) (sym buckets) ∙ there));
@@ -94,7 +95,7 @@ all_ended w e m h taken count buckets entries = record {
 }
   where
     by : (t : Bool) → e.stopped ≡ t → ((b : ℕ) → b < 16 → bucket_refusal w.section w.limit b (bucket_list fnv64 (pieces_in (located w.inputs)) b) ≡ None)
-        → m.entries.items ≡ map (entry_of (pieces_in (located w.inputs))) (located w.inputs)
+        → HoldsIn (map (entry_of (pieces_in (located w.inputs))) (located w.inputs)) m.entries
     by false go fit = entries go
     by true stop fit =
         let one = taken.one stop in

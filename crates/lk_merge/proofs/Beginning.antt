@@ -10,6 +10,7 @@ use Rattle.lk_merge.specs.Hash.{fnv64}
 use Rattle.lk_merge.specs.Image.{firsts_behind, bucket_list}
 use Rattle.lk_merge.specs.Merging.{bucket_refusal}
 use Rattle.lk_merge.specs.MergingTables.{HasTaken, HasMerged}
+use Rattle.lk_merge.specs.OffsetMapTables.{HoldsIn}
 
 -- a bucket before its first piece
 abbrev pub empty_state : ℕ → ℕ → ℕ → BucketState
@@ -30,7 +31,7 @@ took_none section limit b = subst (λ l. HasTaken section limit b l (empty_state
 })
 
 pub merged_none : (section limit : ℕ) (merging : Merges) → merging.buckets.items ≡ map (empty_state section limit) (range_with_len 0 16)
-    → merging.entries.items ≡ [] → HasMerged section limit [] merging
+    → HoldsIn [] merging.entries → HasMerged section limit [] merging
 merged_none section limit merging buckets entries = record {
   count = ap length buckets ∙ length-map-range_with_len (empty_state section limit) 0 16;
   buckets = λ b state at.

@@ -8,7 +8,7 @@ use Rattle.std.proofs.lemmas.List.Sums.{sum_by-cons, sum_by-le-sum_by, sum_by_mo
 use Rattle.std.proofs.lemmas.Option.{get_or_from_slice_get, slice_get-map}
 use Rattle.lk_link.proofs.Elements.{at_index}
 use Rattle.lk_merge.specs.declared.inputs.StringMergeInputSection.{StringMergeInputSection}
-use Rattle.lk_merge.specs.declared.offset_map.PieceEntry.{PieceEntry}
+use Rattle.lk_merge.specs.declared.offset_map.OffsetMap.{OffsetMap}
 use Rattle.lk_merge.specs.Buckets.{Bucket}
 use Rattle.lk_merge.specs.Hash.{fnv64}
 use Rattle.lk_merge.specs.Image.{all_buckets, all_pieces, bucket_list, image, image_pieces}
@@ -57,16 +57,16 @@ kept_sum g none [] = sym (no_sum (λ b. g (bucket_list fnv64 [] b)) (λ b. ap g 
 kept_sum g none (x ∷ xs) = sum_map g (bucket_list fnv64 (all_pieces (x ∷ xs))) all_buckets
 
 -- a sum over buckets is one over the lists of the definition
-over_buckets : (g : List Piece → ℕ) → g [] ≡ 0 → (inputs : List MergeInput) (buckets : List Bucket) (entries : List PieceEntry) → IsMerged inputs buckets entries
+over_buckets : (g : List Piece → ℕ) → g [] ≡ 0 → (inputs : List MergeInput) (buckets : List Bucket) (entries : OffsetMap) → IsMerged inputs buckets entries
     → sum_by (λ (k : Bucket). g k.pieces) buckets ≡ sum_by (λ b. g (bucket_list fnv64 (all_pieces inputs) b)) all_buckets
 over_buckets g none inputs buckets entries h = sym (sum_map g (λ (k : Bucket). k.pieces) buckets) ∙ ap (sum_by g) h.kept ∙ kept_sum g none inputs
 
-pub kept_bytes : (inputs : List MergeInput) (buckets : List Bucket) (entries : List PieceEntry) → IsMerged inputs buckets entries
+pub kept_bytes : (inputs : List MergeInput) (buckets : List Bucket) (entries : OffsetMap) → IsMerged inputs buckets entries
     → sum_by (λ (k : Bucket). length (concat k.pieces)) buckets ≡ length (image fnv64 (all_pieces inputs))
 kept_bytes inputs buckets entries h =
     over_buckets (λ ps. length (concat ps)) refl inputs buckets entries h ∙ sym (length_concat_flat (bucket_list fnv64 (all_pieces inputs)) all_buckets)
 
-pub kept_count : (inputs : List MergeInput) (buckets : List Bucket) (entries : List PieceEntry) → IsMerged inputs buckets entries
+pub kept_count : (inputs : List MergeInput) (buckets : List Bucket) (entries : OffsetMap) → IsMerged inputs buckets entries
     → sum_by (λ (k : Bucket). length k.pieces) buckets ≡ length (image_pieces fnv64 (all_pieces inputs))
 kept_count inputs buckets entries h =
     over_buckets (λ ps. length ps) refl inputs buckets entries h ∙ sym (length-flat_map (bucket_list fnv64 (all_pieces inputs)) all_buckets)
@@ -76,7 +76,7 @@ unfolding all_buckets
 few_lists [] = omega arith
 few_lists (x ∷ xs) = let n = length-map-range_with_len (bucket_list fnv64 (all_pieces (x ∷ xs))) 0 16 in omega (arith, n)
 
-pub few_buckets : (inputs : List MergeInput) (buckets : List Bucket) (entries : List PieceEntry) → IsMerged inputs buckets entries → length buckets ≤ 16
+pub few_buckets : (inputs : List MergeInput) (buckets : List Bucket) (entries : OffsetMap) → IsMerged inputs buckets entries → length buckets ≤ 16
 few_buckets inputs buckets entries h =
     let count : length buckets ≡ length (kept_lists fnv64 inputs) = sym (length-map buckets (λ (k : Bucket). k.pieces)) ∙ ap length h.kept in
     let few = few_lists inputs in
@@ -90,7 +90,7 @@ kept_in (x ∷ xs) b ps below some =
     sym (get_or_from_slice_get (map (bucket_list fnv64 (all_pieces (x ∷ xs))) (range_with_len 0 16)) b ps [] some)
     ∙ get_or-map-range_with_len (bucket_list fnv64 (all_pieces (x ∷ xs))) 0 16 b b [] below (omega arith)
 
-pub kept_at : (inputs : List MergeInput) (buckets : List Bucket) (entries : List PieceEntry) → IsMerged inputs buckets entries → (b : ℕ) (k : Bucket) → b < 16
+pub kept_at : (inputs : List MergeInput) (buckets : List Bucket) (entries : OffsetMap) → IsMerged inputs buckets entries → (b : ℕ) (k : Bucket) → b < 16
     → slice_get buckets b ≡ Some k → k.pieces ≡ bucket_list fnv64 (all_pieces inputs) b
 kept_at inputs buckets entries h b k below there =
     kept_in inputs b k.pieces below
@@ -107,7 +107,7 @@ none_in (x ∷ xs) buckets b below none kept =
     let there = at_index buckets b (omega (arith, count, many, below)) in
     absurd (let both : None ≡ Some there.0 = sym none ∙ there.1 in cc)
 
-pub kept_none : (inputs : List MergeInput) (buckets : List Bucket) (entries : List PieceEntry) → IsMerged inputs buckets entries → (b : ℕ) → b < 16
+pub kept_none : (inputs : List MergeInput) (buckets : List Bucket) (entries : OffsetMap) → IsMerged inputs buckets entries → (b : ℕ) → b < 16
     → slice_get buckets b ≡ None → [] ≡ bucket_list fnv64 (all_pieces inputs) b
 kept_none inputs buckets entries h b below none = none_in inputs buckets b below none h.kept
 

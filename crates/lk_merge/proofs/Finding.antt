@@ -12,14 +12,14 @@ use Rattle.lk_merge.specs.Image.{all_pieces, bucket_list, is_among}
 use Rattle.lk_merge.specs.Inputs.{Located, located, padded_len, padded_total}
 use Rattle.lk_merge.specs.Merging.{found_place, last_from, place_at, place_of}
 use Rattle.lk_merge.specs.MergingTables.{entry_of}
-use Rattle.lk_merge.specs.OffsetMaps.{IsLastAt, NoneAt, StartsRise}
+use Rattle.lk_merge.specs.OffsetMaps.{IsLast, NoneAt, StartsRise}
 use Rattle.lk_merge.specs.Pieces.{Piece, MergeInput, is_terminated, pieces_of}
 use Rattle.lk_merge.proofs.AmongLemmas.{place_within}
 use Rattle.lk_merge.proofs.GoodPieces.{good_pieces, piece_at_some, piece_at_past, concat_pieces, terminated_at}
 use Rattle.lk_merge.proofs.Growing.{among_bucket_list, among_pieces}
 use Rattle.lk_merge.proofs.InputLemmas.{pieces_located_from}
 use Rattle.lk_merge.proofs.LaidOut.{data_fits}
-use Rattle.lk_merge.proofs.LocatedLemmas.{covers_all, rise_from, slice_within}
+use Rattle.lk_merge.proofs.LocatedLemmas.{between_from, covers_all, rise_from, slice_within}
 use Rattle.lk_merge.proofs.TooLong.{none_first, some_first}
 
 -- ---- the last input that starts at an offset
@@ -115,33 +115,35 @@ starts_behind (x ∷ xs) (suc j) (suc k) y below within there =
 
 -- ---- entries
 
-module _ (xs : List MergeInput) (entries : List PieceEntry) (terminated : list_all is_terminated xs ≡ true)
-    (are : entries ≡ map (entry_of (all_pieces xs)) (located xs))
+module _ (xs : List MergeInput) (terminated : list_all is_terminated xs ≡ true)
     (small : (b : ℕ) → b < 16 → length (concat (bucket_list fnv64 (all_pieces xs) b)) ≤ 2 ^ 28) where
   -- the entry of a located piece
   abbrev made : Located → PieceEntry
   made l = entry_of (all_pieces xs) l
 
-  pub entries_rise : StartsRise entries
+  pub entries_rise : StartsRise (map (entry_of (all_pieces xs)) (located xs))
   entries_rise i j d e below d_at e_at =
-      let from = map_at made (located xs) i d (ap (λ l. slice_get l i) (sym are) ∙ d_at) in
-      let to = map_at made (located xs) j e (ap (λ l. slice_get l j) (sym are) ∙ e_at) in
-      let rise = rise_from 0 0 xs (good_pieces xs terminated) i j from.0 to.0 below from.1 to.1 in
+      let from = map_at made (located xs) i d d_at in
+      let to = map_at made (located xs) j e e_at in
+      let good = good_pieces xs terminated in
+      let rise = rise_from 0 0 xs good i j from.0 to.0 below from.1 to.1 in
+      let some = (between_from 0 0 xs i from.0 good from.1).some in
       let left : from.0.start ≡ d.start = ap (λ (x : PieceEntry). x.start) from.2 in
       let right : to.0.start ≡ e.start = ap (λ (x : PieceEntry). x.start) to.2 in
-      omega (arith, rise, left, right)
+      omega (arith, rise, some, left, right)
 
   module _ (start offset : ℕ) where
     -- an entry tells the place
     pub record IsFound : Type 0 where
-      pub index : ℕ
-      pub last : IsLastAt entries (start + offset) index
+      pub number : ℕ
       pub input : MergeInput
-      pub there : slice_get xs last.entry.input ≡ Some input
-      pub starts : padded_total (take last.entry.input xs) ≡ start
+      pub there : slice_get xs number ≡ Some input
+      pub starts : padded_total (take number xs) ≡ start
       pub short : offset < length input.bytes
-      pub answer : found_place fnv64 xs start offset ≡ Some (last.entry.place + (start + offset - last.entry.start))
-      pub fits : last.entry.place + (start + offset - last.entry.start) < 2 ^ 32
+      pub entry : PieceEntry
+      pub last : IsLast (map (entry_of (all_pieces xs)) (located xs)) (start + offset) entry
+      pub answer : found_place fnv64 xs start offset ≡ Some (entry.place + (start + offset - entry.start))
+      pub fits : entry.place + (start + offset - entry.start) < 2 ^ 32
 
     -- or there is no place
     pub record IsNowhere : Type 0 where
@@ -200,26 +202,37 @@ module _ (xs : List MergeInput) (entries : List PieceEntry) (terminated : list_a
         let below : fnv64 p % 16 < 16 = mod-lt (fnv64 p) (omega arith) in
         let bounded = small (fnv64 p % 16) below in
         record {
-          index = c.index;
-          last = record {
-            entry = made l;
-            there = ap (λ es. slice_get es c.index) are ∙ map_in made (located xs) c.index l c.there;
-            from = omega (arith, c.from, from);
-            later = λ j e behind e_at.
-                let m = map_at made (located xs) j e (ap (λ es. slice_get es j) (sym are) ∙ e_at) in
-                let starts : m.0.start ≡ e.start = ap (λ (y : PieceEntry). y.start) m.2 in
-                let after = c.later j m.0 behind m.1 in
-                omega (arith, after, starts, from);
-          };
+          number = k;
           input = x;
           there = o.there;
           starts = from;
           short = short;
+          entry = made l;
+          last = record {
+            index = c.index;
+            there = map_in made (located xs) c.index l c.there;
+            from = omega (arith, c.from, from);
+            last = λ j e e_at below.
+                let m = map_at made (located xs) j e e_at in
+                let starts : m.0.start ≡ e.start = ap (λ (y : PieceEntry). y.start) m.2 in
+                ⊎_elim
+                (λ before. let rise = rise_from 0 0 xs (good_pieces xs terminated) j c.index m.0 l before m.1 c.there in omega (arith, rise, starts))
+                (λ rest. ⊎_elim
+                (λ behind. absurd (let after = c.later j m.0 behind m.1 in omega (arith, after, starts, from, below)))
+                (λ back.
+                let same : j ≡ c.index = omega (arith, rest, back) in
+                let one = same_located (ap (slice_get (located xs)) (sym same) ∙ m.1) c.there in
+                let here : m.0.start ≡ l.start = ap (λ (y : Located). y.start) one in
+                omega (arith, here, starts)) (cases_lt c.index j)) (cases_lt j c.index);
+          };
           answer = ap (option_and_then (λ y. place_at fnv64 xs y offset)) o.found
               ∙ ap (option_map (λ (q : Piece × ℕ). place_of fnv64 all q.0 + q.1)) piece.2
               ∙ ap (λ n. Some (place_of fnv64 all p + n)) (sym far);
           fits = omega (arith, far, within, here.1, below, bounded);
         }
+      where
+        same_located : {a b : Located} {s : Option Located} → s ≡ Some a → s ≡ Some b → a ≡ b
+        same_located h k = cc
 
     pub found_or_nowhere : IsFound ⊎ IsNowhere
     found_or_nowhere = elim (last_found 0 xs start) [
@@ -228,18 +241,22 @@ module _ (xs : List MergeInput) (entries : List PieceEntry) (terminated : list_a
     ]
 
     -- the entry is the only last one
-    pub only_last : (f : IsFound) (i : ℕ) (h : IsLastAt entries (start + offset) i) → h.entry ≡ f.last.entry
-    only_last f i h = ⊎_elim
-        (λ less. absurd (let a = h.later f.index f.last.entry less f.last.there in let b = f.last.from in omega (arith, a, b)))
+    pub only_last : (f : IsFound) (e : PieceEntry) → IsLast (map (entry_of (all_pieces xs)) (located xs)) (start + offset) e → e ≡ f.entry
+    only_last f e h =
+        let g = f.last in
+        let low = g.last h.index e h.there h.from in
+        let high = h.last g.index f.entry g.there g.from in
+        ⊎_elim
+        (λ less. absurd (let r = entries_rise h.index g.index e f.entry less h.there g.there in omega (arith, r, high)))
         (λ rest. ⊎_elim
-        (λ more. absurd (let a = f.last.later i h.entry more h.there in let b = h.from in omega (arith, a, b)))
+        (λ more. absurd (let r = entries_rise g.index h.index f.entry e more g.there h.there in omega (arith, r, low)))
         (λ back.
-        let same : i ≡ f.index = omega (arith, rest, back) in
-        same_entry (ap (slice_get entries) (sym same) ∙ h.there) f.last.there) (cases_lt f.index i)) (cases_lt i f.index)
+        let same : h.index ≡ g.index = omega (arith, rest, back) in
+        same_entry (ap (slice_get (map (entry_of (all_pieces xs)) (located xs))) (sym same) ∙ h.there) g.there) (cases_lt g.index h.index)) (cases_lt h.index g.index)
       where
         same_entry : {a b : PieceEntry} {s : Option PieceEntry} → s ≡ Some a → s ≡ Some b → a ≡ b
         same_entry h k = cc
 
     -- so there is one
-    pub not_none : IsFound → NoneAt entries (start + offset) → ⊥
-    not_none f none = let a = none f.index f.last.entry f.last.there in let b = f.last.from in omega (arith, a, b)
+    pub not_none : IsFound → NoneAt (map (entry_of (all_pieces xs)) (located xs)) (start + offset) → ⊥
+    not_none f none = let g = f.last in let a = none g.index f.entry g.there in let b = g.from in omega (arith, a, b)

@@ -19,6 +19,7 @@ use Rattle.lk_merge.specs.Image.{is_among, firsts_behind, place_in, in_bucket, b
 use Rattle.lk_merge.specs.Inputs.{Located}
 use Rattle.lk_merge.specs.Merging.{bucket_refusal, place_of}
 use Rattle.lk_merge.specs.MergingTables.{HasTaken, HasMerged, AllFit, pieces_in, entry_of}
+use Rattle.lk_merge.specs.OffsetMapTables.{HoldsIn}
 use Rattle.lk_merge.specs.Pieces.{Piece}
 use Rattle.lk_merge.proofs.AmongLemmas.{same_piece, among-firsts, firsts-append, place-append_in, equal_piece}
 use Rattle.lk_merge.proofs.TooLong.{stays_refused}
@@ -70,7 +71,7 @@ pub entries_stay_of : (all more : List Piece) (done : List Located) → ((l : Lo
 entries_stay_of all more [] h = refl
 entries_stay_of all more (l ∷ done) h =
     let at : place_of fnv64 all l.piece ≡ place_of fnv64 (all ++ more) l.piece = place_stays fnv64 all more l.piece (h l 0 refl) in
-    let entry : ℕ → PieceEntry = λ n. record { start = l.start; place = n; input = l.input } in
+    let entry : ℕ → PieceEntry = λ n. record { start = l.start; place = n } in
     (λ i. entry (at i) ∷ entries_stay_of all more done (λ r k there. h r (k + 1) (let n : k + 1 ≡ suc k = omega arith in ap (λ j. slice_get (l ∷ done) j) n ∙ there)) i)
 
 pub among_pieces : (done : List Located) (k : ℕ) (l : Located) → slice_get done k ≡ Some l → is_among (pieces_in done) l.piece ≡ true
@@ -132,8 +133,8 @@ Becomes state p new place = (section limit b : ℕ) (pieces : List Piece) → Ha
     × (new.refusal ≡ None → place ≡ Some (bucket_place b (place_in (firsts_behind [] (pieces ++ p ∷ [])) p)))
 
 -- the entry of a piece whose place is told
-abbrev pub told : ℕ → ℕ → Option ℕ → List PieceEntry
-told start input place = option_to_list (option_map (λ (n : ℕ). record { start = start; place = n; input = input }) place)
+abbrev pub told : ℕ → Option ℕ → List PieceEntry
+told start place = option_to_list (option_map (λ (n : ℕ). record { start = start; place = n }) place)
 
 module _ (section limit : ℕ) (done : List Located) (old new : Merges) (p : Piece) (input start : ℕ) (state after : BucketState) (place : Option ℕ) where
   abbrev ps : List Piece
@@ -152,7 +153,8 @@ module _ (section limit : ℕ) (done : List Located) (old new : Merges) (p : Pie
   more_pieces = map-append (λ (l : Located). l.piece) done (here ∷ [])
 
   pub grown : HasMerged section limit done old → slice_get old.buckets.items own ≡ Some state → Becomes state p after place
-      → new.buckets.items ≡ set old.buckets.items own after → new.entries.items ≡ old.entries.items ++ told start input place
+      → new.buckets.items ≡ set old.buckets.items own after
+      → ((es : List PieceEntry) → HoldsIn es old.entries → HoldsIn (es ++ told start place) new.entries)
       → HasMerged section limit (done ++ here ∷ []) new
   grown h at become items entries =
       let mine = become section limit own (in_bucket fnv64 own ps) (h.buckets own state at) in
@@ -173,12 +175,13 @@ module _ (section limit : ℕ) (done : List Located) (old new : Merges) (p : Pie
             ]);
         entries = λ fit.
             let fits : AllFit section limit (ps ++ p ∷ []) = subst (AllFit section limit) more_pieces fit in
-            let before : old.entries.items ≡ map (entry_of ps) done = h.entries (fit_before section limit ps p fits) in
+            let before : HoldsIn (map (entry_of ps) done) old.entries = h.entries (fit_before section limit ps p fits) in
             let none : after.refusal ≡ None = mine.0.refusal ∙ ap (bucket_refusal section limit own) (sym (own_list ps p own (eq-eqb own own refl))) ∙ fits own small in
             let at_place : place ≡ Some (place_of fnv64 (ps ++ p ∷ []) p)
             = mine.1 none ∙ ap (λ l. Some (bucket_place own (place_in l p))) (sym (own_list ps p own (eq-eqb own own refl))) in
-            entries ∙ ap (λ l. l ++ told start input place) (before ∙ entries_stay done (p ∷ []))
-            ∙ ap (λ o. map (entry_of (ps ++ p ∷ [])) done ++ told start input o) at_place
+            subst (λ es. HoldsIn es new.entries)
+            (ap (λ l. l ++ told start place) (entries_stay done (p ∷ []))
+            ∙ ap (λ o. map (entry_of (ps ++ p ∷ [])) done ++ told start o) at_place
             ∙ sym (map-append (entry_of (ps ++ p ∷ [])) done (here ∷ []))
-            ∙ ap (λ qs. map (entry_of qs) (done ++ here ∷ [])) (sym more_pieces);
+            ∙ ap (λ qs. map (entry_of qs) (done ++ here ∷ [])) (sym more_pieces)) (entries (map (entry_of ps) done) before);
       }

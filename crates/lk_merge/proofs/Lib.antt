@@ -4,6 +4,7 @@ pub mod Beginning
 pub mod BucketLemmas
 pub mod ByWorkers
 pub mod CallSteps
+pub mod Chosen
 pub mod Constants
 pub mod Counting
 pub mod Covering
@@ -20,7 +21,6 @@ pub mod GroupFills
 pub mod Grouping
 pub mod GroupsThere
 pub mod Growing
-pub mod Halving
 pub mod InputLemmas
 pub mod InputWalk
 pub mod LaidOut
@@ -40,6 +40,7 @@ pub mod PlaceLemmas
 pub mod Refusals
 pub mod Refusing
 pub mod Showing
+pub mod StartLemmas
 pub mod Strings
 pub mod SymbolPlaces
 pub mod TableLemmas

@@ -10,7 +10,7 @@ use Rattle.lk_merge.specs.declared.error.MergeError.{MergeError}
 use Rattle.lk_merge.specs.declared.error.MergeError.TheVariants.{NotTerminated, TooLarge, NoMemory}
 use Rattle.lk_merge.specs.declared.merging.BucketState.{BucketState}
 use Rattle.lk_merge.specs.declared.merging.Merging.{Merging as Merges}
-use Rattle.lk_merge.specs.declared.offset_map.PieceEntry.{PieceEntry}
+use Rattle.lk_merge.specs.declared.offset_map.OffsetMap.{OffsetMap}
 use Rattle.lk_merge.specs.Buckets.{Bucket}
 use Rattle.lk_merge.specs.Hash.{fnv64}
 use Rattle.lk_merge.specs.Image.{all_buckets, all_pieces, bucket_list, in_bucket}
@@ -18,6 +18,7 @@ use Rattle.lk_merge.specs.Inputs.{Located, located}
 use Rattle.lk_merge.specs.MergedTables.{IsMerged}
 use Rattle.lk_merge.specs.Merging.{bucket_refusal, first_of, kept_lists, long_refusal}
 use Rattle.lk_merge.specs.MergingTables.{AllFit, GivesFitting, HasMerged, entry_of, pieces_in}
+use Rattle.lk_merge.specs.OffsetMapTables.{HoldsIn}
 use Rattle.lk_merge.specs.Pieces.{Piece, MergeInput, is_terminated}
 use Rattle.lk_merge.proofs.TooLong.{none_first, some_first, unrefused_fits}
 use Rattle.lk_merge.proofs.Beginning.{no_list}
@@ -25,19 +26,19 @@ use Rattle.lk_link.proofs.Elements.{map_at}
 use Rattle.lk_merge.proofs.InputLemmas.{located_none, pieces_located_from}
 use Rattle.lk_merge.proofs.LocatedLemmas.{slice_within}
 
-pub no_merged : IsMerged [] [] []
-no_merged = record {
+pub no_merged : (entries : OffsetMap) → HoldsIn [] entries → IsMerged [] [] entries
+no_merged entries none = record {
   terminated = refl;
   kept = refl;
   numbered = λ b k there. absurd (cc);
   small = λ b h. let n : length (concat (bucket_list fnv64 [] b)) ≡ 0 = ap (λ l. length (concat l)) (no_list b) in omega (arith, n);
-  offsets = ap (map (entry_of [])) (sym (located_none 0 0));
+  offsets = subst (λ es. HoldsIn es entries) (ap (map (entry_of [])) (sym (located_none 0 0))) none;
 }
 
 -- one entry for each piece
-pub entries_count : (inputs : List MergeInput) (buckets : List Bucket) (entries : List PieceEntry) → IsMerged inputs buckets entries → length entries ≡ length (all_pieces inputs)
-entries_count inputs buckets entries h =
-    ap length h.offsets ∙ length-map (located inputs) (entry_of (all_pieces inputs)) ∙ sym (length-map (located inputs) (λ (l : Located). l.piece))
+pub entries_count : (inputs : List MergeInput) → length (map (entry_of (all_pieces inputs)) (located inputs)) ≡ length (all_pieces inputs)
+entries_count inputs =
+    length-map (located inputs) (entry_of (all_pieces inputs)) ∙ sym (length-map (located inputs) (λ (l : Located). l.piece))
     ∙ ap length (pieces_located_from 0 0 inputs)
 
 -- ---- what has been merged is a merged section
@@ -84,10 +85,10 @@ kept_lists_some : (inputs : List MergeInput) → length inputs ≢ 0 → kept_li
 kept_lists_some [] h = absurd (h refl)
 kept_lists_some (x ∷ xs) h = refl
 
-pub is_merged : (section limit : ℕ) (inputs : List MergeInput) (merging : Merges) (buckets : List Bucket) (entries : List PieceEntry) → limit ≤ 2 ^ 28
+pub is_merged : (section limit : ℕ) (inputs : List MergeInput) (merging : Merges) (buckets : List Bucket) (entries : OffsetMap) → limit ≤ 2 ^ 28
     → HasMerged section limit (located inputs) merging → list_all is_terminated inputs ≡ true → length inputs ≢ 0
     → All (λ (s : BucketState). s.refusal ≡ None) merging.buckets.items → buckets ≡ map (λ (s : BucketState). s.bucket) merging.buckets.items
-    → entries ≡ merging.entries.items → IsMerged inputs buckets entries
+    → entries ≡ merging.entries → IsMerged inputs buckets entries
 is_merged section limit inputs merging buckets entries small h terminated some none are is =
     let all : pieces_in (located inputs) ≡ all_pieces inputs = pieces_located_from 0 0 inputs in
     let fit = all_fit section limit (located inputs) merging h none in
@@ -103,7 +104,8 @@ is_merged section limit inputs merging buckets entries small h terminated some n
           let holds = (h.buckets b from.0 from.1).holds (fit b (omega (arith, within, h.count))) in
           ap (λ (z : Bucket). z.number) (sym from.2 ∙ holds);
       small = λ b below. subst (λ ps. length (concat (bucket_list fnv64 ps b)) ≤ 2 ^ 28) all (lists_small section limit (located inputs) merging h small fit b below);
-      offsets = is ∙ h.entries fit ∙ ap (λ ps. map (entry_of ps) (located inputs)) all;
+      offsets = subst (λ m. HoldsIn (map (entry_of (all_pieces inputs)) (located inputs)) m) (sym is)
+          (subst (λ ps. HoldsIn (map (entry_of ps) (located inputs)) merging.entries) all (h.entries fit));
     }
 
 -- ---- the refusal of the least bucket

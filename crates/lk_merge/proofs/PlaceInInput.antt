@@ -11,7 +11,7 @@ use Rattle.lk_link.specs.Parts.{all_parts, part_sections}
 use Rattle.lk_link.specs.WellFormed.{IsWellFormed}
 use Rattle.lk_link.proofs.Elements.{map_at}
 use Rattle.lk_merge.specs.declared.inputs.StringMergeInputSection.{StringMergeInputSection}
-use Rattle.lk_merge.specs.declared.offset_map.PieceEntry.{PieceEntry}
+use Rattle.lk_merge.specs.declared.offset_map.OffsetMap.{OffsetMap}
 use Rattle.lk_merge.specs.Addresses.{AreStartsOf, image_start}
 use Rattle.lk_merge.specs.Buckets.{Bucket}
 use Rattle.lk_merge.specs.Hash.{fnv64}
@@ -70,7 +70,7 @@ last_is xs k x there some = elim (last_found 0 xs (padded_total (take k xs))) [
 
 -- ---- the place
 
-module _ (xs : List MergeInput) (buckets : List Bucket) (entries : List PieceEntry) (m : IsMerged xs buckets entries) where
+module _ (xs : List MergeInput) (buckets : List Bucket) (entries : OffsetMap) (m : IsMerged xs buckets entries) where
   pub is_place : (k : ℕ) (x : MergeInput) (offset : ℕ) → slice_get xs k ≡ Some x → offset < length x.bytes
       → (n : ℕ) × (place_at fnv64 xs x offset ≡ Some n) × IsPlaceAt xs x offset n
   is_place k x offset there short =
@@ -115,7 +115,7 @@ module _ (xs : List MergeInput) (buckets : List Bucket) (entries : List PieceEnt
       subst (λ o. MatchOption o ⊥ (IsPlaceAt xs x offset)) (sym found) place.2
 
 -- what is found for an input that has the offset can be taken apart
-pub apart : (xs ys : List MergeInput) (buckets : List Bucket) (entries : List PieceEntry) → IsMerged xs buckets entries → xs ≡ ys → (start offset : ℕ) (result : Option ℕ)
+pub apart : (xs ys : List MergeInput) (buckets : List Bucket) (entries : OffsetMap) → IsMerged xs buckets entries → xs ≡ ys → (start offset : ℕ) (result : Option ℕ)
     → result ≡ found_place fnv64 ys start offset → (k : ℕ) (x : MergeInput) → slice_get ys k ≡ Some x → input_start ys k ≡ start → offset < length x.bytes
     → MatchOption result ⊥ (IsPlaceAt ys x offset)
 apart xs ys buckets entries m same start offset result is k x there begins short =

@@ -22,6 +22,7 @@ use Rattle.lk_merge.specs.Inputs.{Located, located}
 use Rattle.lk_merge.specs.MatrixWork.{IsWork, MatrixWork, front_located, group_located, located_between, located_place, places_of}
 use Rattle.lk_merge.specs.Merging.{place_of}
 use Rattle.lk_merge.specs.MergingTables.{entry_of, pieces_in}
+use Rattle.lk_merge.specs.OffsetMapTables.{HoldsIn}
 use Rattle.lk_merge.specs.Pieces.{Piece}
 use Rattle.lk_merge.proofs.Covering.{located_in_groups}
 use Rattle.lk_merge.proofs.Growing.{bucket_more, set_at, set_other, some_same}
@@ -62,7 +63,7 @@ module _ (all done rest : List Located) (l : Located) (is : all ≡ done ++ l �
 
   pub entry_added : (old new : Entries) (bucket at : ℕ) (found : Vec BucketOffset Global) (place : ℕ) → bucket ≡ own → HasEntries all done old
       → slice_get old.taken.items bucket ≡ Some at → slice_get old.places.items bucket ≡ Some found → slice_get found.items at ≡ Some place
-      → new.places ≡ old.places → new.taken.items ≡ set old.taken.items bucket (at + 1) → new.entries.items ≡ old.entries.items ++ record { start = l.start; place = place; input = l.input } ∷ []
+      → new.places ≡ old.places → new.taken.items ≡ set old.taken.items bucket (at + 1) → ((es : List PieceEntry) → HoldsIn es old.entries → HoldsIn (es ++ record { start = l.start; place = place } ∷ []) new.entries)
       → HasEntries all (done ++ l ∷ []) new
   entry_added old new bucket at found place b h took stands there same taken entries =
       let count : at ≡ length (in_bucket fnv64 own (pieces_in done)) = h.taken own at (ap (slice_get old.taken.items) (sym b) ∙ took) in
@@ -85,9 +86,9 @@ module _ (all done rest : List Located) (l : Located) (is : all ≡ done ++ l �
               h.taken k n before ∙ sym (ap (λ ps. length (in_bucket fnv64 k ps)) more_pieces
               ∙ ap length (bucket_more (pieces_in done) l.piece k false (ne_eqb own k miss.1) ∙ append-nil (in_bucket fnv64 k (pieces_in done))))
         ];
-        entries = entries ∙ ap (λ es. es ++ record { start = l.start; place = place; input = l.input } ∷ []) h.entries
-            ∙ ap (λ p. map (entry_of (pieces_in all)) done ++ record { start = l.start; place = p; input = l.input } ∷ []) is_place
-            ∙ sym (map-append (entry_of (pieces_in all)) done (l ∷ []));
+        entries = subst (λ es. HoldsIn es new.entries)
+            (ap (λ p. map (entry_of (pieces_in all)) done ++ record { start = l.start; place = p } ∷ []) is_place ∙ sym (map-append (entry_of (pieces_in all)) done (l ∷ [])))
+            (entries (map (entry_of (pieces_in all)) done) h.entries);
       }
 
 -- ---- pieces that follow each other

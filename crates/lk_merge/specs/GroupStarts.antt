@@ -8,6 +8,7 @@ use Rattle.lk_merge.specs.Image.{in_bucket}
 use Rattle.lk_merge.specs.Inputs.{Located}
 use Rattle.lk_merge.specs.MatrixWork.{places_of}
 use Rattle.lk_merge.specs.MergingTables.{entry_of, pieces_in}
+use Rattle.lk_merge.specs.OffsetMapTables.{HoldsIn}
 use Rattle.lk_merge.specs.Pieces.{Piece}
 
 -- the places of each bucket's pieces, among all pieces
@@ -18,4 +19,4 @@ ArePlaces all places = (b : ℕ) (found : Vec BucketOffset Global) → slice_get
 pub record HasEntries (all done : List Located) (e : Entries) : Type 0 where
   pub places : ArePlaces (pieces_in all) e.places.items
   pub taken : (b at : ℕ) → slice_get e.taken.items b ≡ Some at → at ≡ length (in_bucket fnv64 b (pieces_in done))
-  pub entries : e.entries.items ≡ map (entry_of (pieces_in all)) done
+  pub entries : HoldsIn (map (entry_of (pieces_in all)) done) e.entries

@@ -21,6 +21,7 @@ pub mod MergedReferences
 pub mod MergedTables
 pub mod Merging
 pub mod MergingTables
+pub mod OffsetMapTables
 pub mod OffsetMaps
 pub mod OffsetsOutside
 pub mod OutputAddressTables

@@ -44,7 +44,7 @@ places_of b ps = map (λ p. bucket_place b (place_in (firsts_behind [] ps) p)) p
 
 -- where a piece starts, with its bucket in the place of its place there
 abbrev pub located_place : Located → PieceEntry
-located_place l = record { start = l.start; place = bucket_place (fnv64 l.piece % 16) 0; input = l.input }
+located_place l = record { start = l.start; place = bucket_place (fnv64 l.piece % 16) 0 }
 
 -- the pieces of a group, in their places; those of the group with a number; and those of the first so many groups
 abbrev pub located_between : MatrixWork → SectionGroup → List Located

@@ -12,6 +12,7 @@ use Rattle.lk_merge.specs.Hash.{fnv64}
 use Rattle.lk_merge.specs.Image.{bucket_list}
 use Rattle.lk_merge.specs.Inputs.{Located, located, located_in}
 use Rattle.lk_merge.specs.Merging.{bucket_refusal, long_refusal, place_of}
+use Rattle.lk_merge.specs.OffsetMapTables.{HoldsIn}
 use Rattle.lk_merge.specs.Pieces.{Piece, MergeInput, IsString}
 
 -- a bucket has stopped before one of the pieces that it should keep: it holds those that stand before it, which fit, and that one would not
@@ -40,14 +41,14 @@ AllFit section limit pieces = (b : ℕ) → b < 16 → bucket_refusal section li
 
 -- what the offset map says of a piece, among all pieces
 abbrev pub entry_of : List Piece → Located → PieceEntry
-entry_of pieces l = record { start = l.start; place = place_of fnv64 pieces l.piece; input = l.input }
+entry_of pieces l = record { start = l.start; place = place_of fnv64 pieces l.piece }
 
 -- what located pieces have made of the buckets and of the map
 pub record HasMerged (section limit : ℕ) (done : List Located) (merging : Merging) : Type 0 where
   pub count : length merging.buckets.items ≡ 16
   pub buckets : (b : ℕ) (state : BucketState) → slice_get merging.buckets.items b ≡ Some state
       → HasTaken section limit b (bucket_list fnv64 (pieces_in done) b) state
-  pub entries : AllFit section limit (pieces_in done) → merging.entries.items ≡ map (entry_of (pieces_in done)) done
+  pub entries : AllFit section limit (pieces_in done) → HoldsIn (map (entry_of (pieces_in done)) done) merging.entries
 
 -- strings that were taken of some data, one after the other, and what is left
 pub record AreTaken (bytes : List ℕ) (taken : List Piece) (rest : List ℕ) : Type 0 where

@@ -12,6 +12,7 @@ use crate::group_starts::{GroupStarts, entries_of};
 use crate::matrix_work::Brings;
 use crate::merging::{BucketState, Merging};
 use crate::offset::BucketOffset;
+use crate::offset_map::OffsetMap;
 use std::alloc::{AllocError, Global};
 use std::sync::Mutex;
 
@@ -100,6 +101,7 @@ pub(crate) fn merging_of<'data, J: Brings>(
     ended: &mut Vec<BucketWork<'data, J>>,
     starts: Vec<Mutex<GroupStarts<J>>>,
     groups: usize,
+    bytes: u64,
 ) -> Result<Merging<'data>, AllocError>
     requires work { IsWork J.work }
     requires groups { groups ≡ length J.work.groups }
@@ -113,10 +115,10 @@ pub(crate) fn merging_of<'data, J: Brings>(
     if stopped {
         return Ok(Merging {
             buckets: states,
-            entries: Vec::new(alloc),
+            entries: OffsetMap::new(alloc),
         });
     }
-    let entries = entries_of::<J>(alloc, places, starts, groups)?;
+    let entries = entries_of::<J>(alloc, places, starts, groups, bytes)?;
     Ok(Merging {
         buckets: states,
         entries,

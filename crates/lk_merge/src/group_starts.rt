@@ -8,11 +8,12 @@ ghost use Rattle.lk_merge.specs.GroupStarts.{ArePlaces, HasEntries};
 ghost use Rattle.lk_merge.specs.Inputs.{Located, located};
 ghost use Rattle.lk_merge.specs.MatrixWork.{IsWork, group_located, located_place};
 ghost use Rattle.lk_merge.specs.MergingTables.{entry_of, pieces_in};
+ghost use Rattle.lk_merge.specs.OffsetMapTables.{HoldsIn};
 
 use crate::bucket::BUCKETS;
 use crate::matrix_work::Brings;
 use crate::offset::BucketOffset;
-use crate::offset_map::PieceEntry;
+use crate::offset_map::{OffsetMap, PieceEntry};
 use std::alloc::{AllocError, Global};
 use std::marker::{Model, PhantomData};
 use std::sync::Mutex;
@@ -80,16 +81,16 @@ impl<J: Brings> GroupStarts<J> {
 pub(crate) struct Entries {
     places: Vec<Vec<BucketOffset>>,
     taken: Vec<usize>,
-    entries: Vec<PieceEntry>,
+    entries: OffsetMap,
 }
 
 impl Entries {
-    /// No entries yet.
-    fn new(alloc: Global, places: Vec<Vec<BucketOffset>>) -> Result<Entries, AllocError>
+    /// No entries yet, with room for the blocks of so many bytes of inputs.
+    fn new(alloc: Global, places: Vec<Vec<BucketOffset>>, bytes: u64) -> Result<Entries, AllocError>
         ensures { IfOk result (λ e. (all : List Located) → ArePlaces (pieces_in all) places.items → HasEntries all [] e) }
     {
         let taken = vec![in alloc; 0usize; BUCKETS]?;
-        let entries = Vec::with_capacity(alloc, count_places(places.as_slice()))?;
+        let entries = OffsetMap::with_capacity(alloc, bytes, count_places(places.as_slice()))?;
         Ok(Entries {
             places,
             taken,
@@ -110,11 +111,7 @@ impl Entries {
         let Some(place) = place_at(self.places.as_slice(), bucket, taken) else {
             return Err(AllocError);
         };
-        self.entries.push(PieceEntry {
-            start: start.start,
-            place,
-            input: start.input,
-        })?;
+        self.entries.add(start.start, place)?;
         self.taken[bucket] = taken + 1;
         Ok(())
     }
@@ -154,19 +151,20 @@ fn place_at(places: &[Vec<BucketOffset>], bucket: usize, index: usize) -> Option
     Some(found[index])
 }
 
-/// The entries of all pieces of so many groups, where buckets have these places.
+/// The map of all pieces of so many groups of so many bytes together, where buckets have these places.
 pub(crate) fn entries_of<J: Brings>(
     alloc: Global,
     places: Vec<Vec<BucketOffset>>,
     starts: Vec<Mutex<GroupStarts<J>>>,
     groups: usize,
-) -> Result<Vec<PieceEntry>, AllocError>
+    bytes: u64,
+) -> Result<OffsetMap, AllocError>
     requires work { IsWork J.work }
     requires groups { groups ≡ length J.work.groups }
     requires places { ArePlaces (pieces_in (located J.work.inputs)) places.items }
-    ensures { IfOk result (λ e. e.items ≡ map (entry_of (pieces_in (located J.work.inputs))) (located J.work.inputs)) }
+    ensures { IfOk result (HoldsIn (map (entry_of (pieces_in (located J.work.inputs))) (located J.work.inputs))) }
 {
-    let mut entries = Entries::new(alloc, places)?;
+    let mut entries = Entries::new(alloc, places, bytes)?;
     let mut group = 0usize;
     for starts in starts {
         let starts = starts.into_inner();

@@ -56,7 +56,6 @@ impl<'data> GroupStrings<'data> {
         self.starts.push(PieceEntry {
             start,
             place: BucketOffset::at(bucket, 0),
-            input,
         })?;
         Ok(())
     }

@@ -21,9 +21,9 @@ ghost use Rattle.lk_merge.specs.declared.string.MergeString.{MergeString};
 
 use crate::bucket::{BUCKETS, MergeStringsSectionBucket};
 use crate::error::MergeError;
-use crate::inputs::{StringMergeInputSection, StringMergeInputSections};
+use crate::inputs::{StringMergeInputSection, StringMergeInputSections, total_input_size};
 use crate::offset::BucketOffset;
-use crate::offset_map::{OffsetMap, PieceEntry};
+use crate::offset_map::OffsetMap;
 use crate::section::MergedStringsSection;
 use crate::string::MergeString;
 use lk_link::OutputSectionId;
@@ -70,15 +70,16 @@ impl<'data> BucketState<'data> {
 #[derive(Drop)]
 pub(crate) struct Merging<'data> {
     pub(crate) buckets: Vec<BucketState<'data>>,
-    pub(crate) entries: Vec<PieceEntry>,
+    pub(crate) entries: OffsetMap,
 }
 
 impl<'data> Merging<'data> {
-    /// No pieces yet.
+    /// No pieces yet, with room for the blocks of so many bytes of inputs.
     fn new(
         alloc: Global,
         section: OutputSectionId,
         limit: u64,
+        bytes: u64,
     ) -> Result<Merging<'data>, AllocError>
         requires { limit ≤ 2 ^ 28 }
         ensures { IfOk result (HasMerged section limit []) }
@@ -92,7 +93,7 @@ impl<'data> Merging<'data> {
         }
         Ok(Merging {
             buckets,
-            entries: Vec::new(alloc),
+            entries: OffsetMap::with_capacity(alloc, bytes, 0)?,
         })
     }
 
@@ -107,11 +108,7 @@ impl<'data> Merging<'data> {
         let bucket = (string.hash_value() % BUCKETS as u64) as usize;
         let state = &mut self.buckets[bucket];
         if let Some(place) = state.add(string)? {
-            self.entries.push(PieceEntry {
-                start,
-                place,
-                input,
-            })?;
+            self.entries.add(start, place)?;
         }
         Ok(())
     }
@@ -203,7 +200,7 @@ impl<'data> Merging<'data> {
         let mut buckets = Vec::with_capacity(alloc, BUCKETS)?;
         let Merging {
             buckets: states,
-            entries,
+            entries: string_offsets,
         } = self;
         for state in states {
             let BucketState { bucket, refusal } = state;
@@ -212,7 +209,6 @@ impl<'data> Merging<'data> {
             }
             buckets.push(bucket)?;
         }
-        let string_offsets = OffsetMap::from_entries(entries);
         Ok(MergedStringsSection::from_parts(inputs, buckets, string_offsets))
     }
 }
@@ -249,12 +245,13 @@ fn merge_pieces<'data>(
     sections: &[StringMergeInputSection<'data>],
     output: OutputSectionId,
     limit: u64,
+    bytes: u64,
 ) -> Result<Merging<'data>, AllocError>
     requires limited { limit ≤ 2 ^ 28 }
     requires inputs { AreInputs (padded_total (map input_of sections.now)) sections.now }
     ensures { IfOk result (HasMerged output limit (located (map input_of sections.now))) }
 {
-    let mut merging = Merging::new(alloc, output, limit)?;
+    let mut merging = Merging::new(alloc, output, limit, bytes)?;
     let mut strings = Vec::new(alloc);
     for (index, section) in sections.iter().enumerate() {
         merging.add_input(&mut strings, index as u32, section)?;
@@ -280,6 +277,6 @@ pub(crate) fn merge_section<'data>(
     if sections.is_empty() {
         return Ok(MergedStringsSection::new(alloc));
     }
-    let merging = merge_pieces(alloc, sections, section, limit)?;
+    let merging = merge_pieces(alloc, sections, section, limit, total_input_size(inputs))?;
     merging.finish(alloc, inputs.clone(alloc)?)
 }

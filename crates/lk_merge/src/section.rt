@@ -7,12 +7,15 @@ ghost use Rattle.lk_merge.specs.Hash.{fnv64};
 ghost use Rattle.lk_merge.specs.Image.{all_pieces, bucket_list, image, image_pieces};
 ghost use Rattle.lk_merge.specs.MergedTables.{IsMerged};
 ghost use Rattle.lk_merge.specs.Merging.{found_place, kept_lists};
-ghost use Rattle.lk_merge.specs.Inputs.{input_start};
+ghost use Rattle.lk_merge.specs.Inputs.{input_start, located};
+ghost use Rattle.lk_merge.specs.MergingTables.{entry_of};
+ghost use Rattle.lk_merge.specs.OffsetMapTables.{HoldsIn};
 ghost use Rattle.lk_merge.specs.Pieces.{MergeInput};
 ghost use Rattle.lk_merge.specs.Places.{IsPlaceAt};
 
 use crate::bucket::MergeStringsSectionBucket;
-use crate::inputs::StringMergeInputSections;
+use crate::groups::input_at;
+use crate::inputs::{StringMergeInputSections, total_input_size};
 use crate::offset::{BucketOffset, LinearInputOffset};
 use crate::offset_map::OffsetMap;
 use std::alloc::Global;
@@ -134,6 +137,13 @@ impl<'data> MergedStringsSection<'data> {
     {
         self.string_offsets.len()
     }
+
+    /// Where the pieces of the inputs stand (libwild: its field `string_offsets`).
+    pub fn string_offsets(&self) -> &OffsetMap
+        ensures { HoldsIn (map (entry_of (all_pieces self.now)) (located self.now)) result.now }
+    {
+        &self.string_offsets
+    }
 }
 
 impl<'data> MergedStringsSection<'data> {
@@ -161,15 +171,20 @@ pub fn find_string(
     ensures apart { (k : ℕ) (x : MergeInput) → slice_get section.now k ≡ Some x → input_start section.now k ≡ start → offset < length x.bytes
         → MatchOption result ⊥ (IsPlaceAt section.now x offset) }
 {
+    let total = total_input_size(&section.inputs);
+    let start = start.as_u64();
+    if start >= total {
+        return None;
+    }
     let inputs = section.inputs.as_slice();
-    let at = start.as_u64().checked_add(offset)?;
-    let entry = section.string_offsets.last_at(at)?;
-    let input = &inputs[entry.input as usize];
-    if input.start_input_offset.as_u64() != start.as_u64() {
+    let input = &inputs[input_at(inputs, total, start)];
+    if input.start_input_offset.as_u64() != start {
         return None;
     }
     if offset >= input.section_data.len() as u64 {
         return None;
     }
-    Some(entry.place.plus(at - entry.start))
+    let at = start + offset;
+    let piece = section.string_offsets.last_at(at)?;
+    Some(piece.place.plus(at - piece.start))
 }

@@ -16,7 +16,7 @@ use crate::ending::merging_of;
 use crate::group_starts::GroupStarts;
 use crate::group_strings::{GroupStrings, strings_of_group};
 use crate::groups::SectionGroup;
-use crate::inputs::StringMergeInputSections;
+use crate::inputs::{StringMergeInputSections, total_input_size};
 use crate::matrix_work::Brings;
 use crate::merging::Merging;
 use crate::offset_map::PieceEntry;
@@ -27,7 +27,7 @@ use std::marker::Model;
 use std::mem;
 use std::sync::{Condvar, Mutex, Wait};
 
-/// What there is to do, what is done, and how many workers do something.
+/// What there is to do, what is done, and how many workers do something or wait.
 #[derive(Drop)]
 struct Turns<'data, J: Brings> {
     /// The first group that no worker has begun.
@@ -37,6 +37,8 @@ struct Turns<'data, J: Brings> {
     /// Buckets that have taken all groups, or have stopped.
     ended: Vec<BucketWork<'data, J>>,
     running: u32,
+    /// How many workers wait for something to do. Nobody is told of a change where none does.
+    waiting: u32,
 }
 
 /// What a worker does next.
@@ -101,6 +103,7 @@ impl<'m, 'data, J: Brings> Matrix<'m, 'data, J> {
             free: Vec::with_capacity(alloc, BUCKETS)?,
             ended: Vec::with_capacity(alloc, BUCKETS)?,
             running: 0,
+            waiting: 0,
         };
         Ok(Matrix {
             inputs,
@@ -142,7 +145,9 @@ impl<'m, 'data, J: Brings> Matrix<'m, 'data, J> {
     fn free<R: Wait>(&self, rt: &R, bucket: BucketWork<'data, J>) {
         let mut turns = self.turns.lock(rt);
         let turns = &mut *turns;
-        if let Ok(()) = turns.free.push(bucket) {
+        if let Ok(()) = turns.free.push(bucket)
+            && turns.waiting != 0
+        {
             self.changed.notify_one();
         }
     }
@@ -261,13 +266,15 @@ impl<'m, 'data, J: Brings> Matrix<'m, 'data, J> {
     /// does anything. Waits until then.
     pub(crate) fn next<R: Wait>(&self, rt: &R) -> Option<Turn<'data, J>> {
         let count = self.groups.len();
-        let turns = self.turns.lock(rt);
+        let mut turns = self.turns.lock(rt);
+        turns.waiting = turns.waiting.wrapping_add(1);
         let mut turns = self
             .changed
             .wait_while(rt, turns, |turns: &mut Turns<'_, J>| {
                 turns.free.is_empty() && turns.next_group >= count && turns.running != 0
             });
         let turns = &mut *turns;
+        turns.waiting = turns.waiting.wrapping_sub(1);
         if let Some(bucket) = turns.free.pop() {
             turns.running = turns.running.wrapping_add(1);
             return Some(Turn::Bucket(bucket));
@@ -281,12 +288,14 @@ impl<'m, 'data, J: Brings> Matrix<'m, 'data, J> {
         Some(Turn::Group(group))
     }
 
-    /// A worker has done what it was to do.
+    /// A worker has done what it was to do. Those that wait go on where none does anything any more.
     pub(crate) fn finish<R: Wait>(&self, rt: &R) {
         let mut turns = self.turns.lock(rt);
         let turns = &mut *turns;
         turns.running = turns.running.wrapping_sub(1);
-        self.changed.notify_all();
+        if turns.running == 0 && turns.waiting != 0 {
+            self.changed.notify_all();
+        }
     }
 
     /// What all buckets have made of the pieces, where each has ended. Refused where one hasn't, or where it isn't told where the pieces
@@ -295,7 +304,7 @@ impl<'m, 'data, J: Brings> Matrix<'m, 'data, J> {
         ensures { IfOk result (HasMerged J.work.section J.work.limit (located J.work.inputs)) }
     {
         let Matrix {
-            inputs: _,
+            inputs,
             groups,
             cells: _,
             starts,
@@ -307,8 +316,15 @@ impl<'m, 'data, J: Brings> Matrix<'m, 'data, J> {
             free: _,
             mut ended,
             running: _,
+            waiting: _,
         } = turns.into_inner();
-        merging_of(alloc, &mut ended, starts, groups.len())
+        merging_of(
+            alloc,
+            &mut ended,
+            starts,
+            groups.len(),
+            total_input_size(inputs),
+        )
     }
 }
 

@@ -31,6 +31,8 @@ pub enum Merging {
     Kept,
     /// Where offsets of each input are.
     Places,
+    /// How many starts stand past the twelfth of their blocks, and where offsets around them are.
+    Starts,
     /// The groups into which inputs are cut.
     Groups,
     /// The addresses that relocations have of symbols.
@@ -93,6 +95,18 @@ const PLACES: &str = r#"
 {"slot":"merge","strings":true,"data":"«299 times 61»00"},{"slot":"merge","data":"6162"},{"slot":"merge","strings":true,"data":"616200"} => start 0 14:0 14:1 14:2 14:3 14:4 14:5 14:6 14:7 - start 512 10:0 10:1 - - - - - - - start 768 14:300 14:301 14:302 - - - - - -
 "#;
 
+/// Of each output section the distinct pieces, the pieces, the image's bytes and the starts past the twelfth of their blocks of 256; and where
+/// some offsets of each input are, around the twelfth start, the ends of blocks and the end of the data.
+const STARTS: &str = r#"
+@ {"plan":{"page":16,"sections":[{"attrs":1,"parts":[[1,false]]}],"events":[["sec",0]]},"groups":[[{"kind":"prelude"}],[{"kind":"object","sections":[{"slot":"merge","strings":true,"data":"..."}]}]]}
+«12 times 00» => starts (1, 12, 1, 0) at 15:0 15:0 - - - - - - -
+«13 times 00» => starts (1, 13, 1, 1) at 15:0 15:0 15:0 - - - - - -
+«300 times 00» => starts (1, 300, 1, 276) at 15:0 15:0 15:0 15:0 15:0 15:0 15:0 - -
+«254 times 61»000000 => starts (2, 3, 256, 0) at 9:0 9:11 9:12 9:254 15:0 15:0 - - -
+«299 times 61»00«13 times 00» => starts (2, 14, 301, 1) at 14:0 14:11 14:12 14:254 14:255 14:256 14:299 15:0 15:0
+ => starts (0, 0, 0, 0) at - - - - - - - - -
+"#;
+
 /// All padded bytes, where each input starts, and the groups.
 const GROUPS: &str = r#"
 @ {"options":{"merge_group":...},"plan":{"page":16,"sections":[{"attrs":1,"parts":[[1,false]]}],"events":[["sec",0]]},"groups":[[{"kind":"prelude"}],[{"kind":"object","sections":[{"slot":"merge","strings":true,"data":"«9 times 61»00"},{"slot":"merge","strings":true,"data":"«299 times 61»00"}]}]]}
@@ -136,7 +150,8 @@ const ADDRESSES: &str = r#"
 [0,"Absolute",1,2,false] => address (Ok(Some(4098)), Ok(Some(4098)))
 "#;
 
-/// What is kept on the caller alone, and where offsets are, or the refusal; and whether so many workers tell the same.
+/// What is kept on the caller alone, and where offsets are, or the refusal; whether so many workers tell the same; and the addresses that
+/// relocations have of symbols where two merge.
 const BY_WORKERS: &str = r#"
 @ {"plan":{"page":16,"sections":[{"attrs":1,"parts":[[1,false]]}],"events":[["sec",0]]},"groups":[[{"kind":"prelude"}],[{"kind":"object","sections":[{"slot":"merge","strings":true,"data":"..."}]}]]}
 610062006100 => section (16, 2, 3, 6, 4) bucket (4, 2) piece [97, 0] bucket (15, 2) piece [98, 0] start 0 4:0 4:1 15:0 15:1 4:0 4:1 - - - 0 alike 2 alike 8 alike
@@ -164,6 +179,18 @@ const BY_WORKERS: &str = r#"
 @ {"options":{"merge_group":256,"bucket_limit":3},"plan":{"page":16,"sections":[{"attrs":1,"parts":[[1,false]]},{"attrs":1,"parts":[[1,false]]}],"events":[["sec",0],["sec",1]]},"groups":[[{"kind":"prelude"}],[{"kind":"object","sections":[...]}]]}
 {"slot":"merge","part":1,"strings":true,"data":"61"},{"slot":"merge","strings":true,"data":"6100"},{"slot":"merge","strings":true,"data":"7100"} => refused TooLarge { section: OutputSectionId { number: 0 }, bucket: 4, offset: 2, len: 2 } 0 alike 2 alike 8 alike
 {"slot":"merge","strings":true,"data":"61"},{"slot":"merge","part":1,"strings":true,"data":"6100"},{"slot":"merge","part":1,"strings":true,"data":"7100"} => refused NotTerminated { section: OutputSectionId { number: 0 }, input: 0 } 0 alike 2 alike 8 alike
+# More than twelve starts in a block.
+@ {"options":{"merge_group":256},"plan":{"page":16,"sections":[{"attrs":1,"parts":[[1,false]]}],"events":[["sec",0]]},"groups":[[{"kind":"prelude"}],[{"kind":"object","sections":[{"slot":"merge","strings":true,"data":"..."}]}]]}
+«13 times 00» => section (16, 1, 13, 13, 1) bucket (15, 1) piece [0] start 0 15:0 15:0 15:0 15:0 15:0 15:0 15:0 15:0 - 0 alike 2 alike 8 alike
+«300 times 00» => section (16, 1, 300, 300, 1) bucket (15, 1) piece [0] start 0 15:0 15:0 15:0 15:0 15:0 15:0 15:0 15:0 - 0 alike 2 alike 8 alike
+# Groups of all sizes, the greatest too.
+@ {"options":{"merge_group":...},"plan":{"page":16,"sections":[{"attrs":1,"parts":[[1,false]]}],"events":[["sec",0]]},"groups":[[{"kind":"prelude"}],[{"kind":"object","sections":[{"slot":"merge","strings":true,"data":"«9 times 61»00"},{"slot":"merge","strings":true,"data":"«299 times 61»00"}]}]]}
+256 | 512 | 4294967296 => section (16, 2, 2, 310, 310) bucket (12, 10) piece [97, 97, 97, 97, 97, 97, 97, 97, 97, 0] bucket (14, 300) piece [97, 97, 97, 97, 97, 97, 97, 97, 97, 97, 97, 97, 97, 97, 97, 97, 97, 97, 97, 97, 97, 97, 97, 97, 97, 97, 97, 97, 97, 97, 97, 97, 97, 97, 97, 97, 97, 97, 97, 97, 97, 97, 97, 97, 97, 97, 97, 97, 97, 97, 97, 97, 97, 97, 97, 97, 97, 97, 97, 97, 97, 97, 97, 97, 97, 97, 97, 97, 97, 97, 97, 97, 97, 97, 97, 97, 97, 97, 97, 97, 97, 97, 97, 97, 97, 97, 97, 97, 97, 97, 97, 97, 97, 97, 97, 97, 97, 97, 97, 97, 97, 97, 97, 97, 97, 97, 97, 97, 97, 97, 97, 97, 97, 97, 97, 97, 97, 97, 97, 97, 97, 97, 97, 97, 97, 97, 97, 97, 97, 97, 97, 97, 97, 97, 97, 97, 97, 97, 97, 97, 97, 97, 97, 97, 97, 97, 97, 97, 97, 97, 97, 97, 97, 97, 97, 97, 97, 97, 97, 97, 97, 97, 97, 97, 97, 97, 97, 97, 97, 97, 97, 97, 97, 97, 97, 97, 97, 97, 97, 97, 97, 97, 97, 97, 97, 97, 97, 97, 97, 97, 97, 97, 97, 97, 97, 97, 97, 97, 97, 97, 97, 97, 97, 97, 97, 97, 97, 97, 97, 97, 97, 97, 97, 97, 97, 97, 97, 97, 97, 97, 97, 97, 97, 97, 97, 97, 97, 97, 97, 97, 97, 97, 97, 97, 97, 97, 97, 97, 97, 97, 97, 97, 97, 97, 97, 97, 97, 97, 97, 97, 97, 97, 97, 97, 97, 97, 97, 97, 97, 97, 97, 97, 97, 97, 97, 97, 97, 97, 97, 97, 97, 97, 97, 97, 97, 97, 97, 97, 97, 97, 97, 97, 97, 97, 97, 97, 97, 97, 97, 97, 97, 97, 97, 97, 97, 97, 97, 97, 97, 0] start 0 12:0 12:1 12:2 12:3 12:4 12:5 12:6 12:7 - start 256 14:0 14:1 14:2 14:3 14:4 14:5 14:6 14:7 - 0 alike 2 alike 8 alike
+# The addresses that symbols have, where two workers merge.
+@ {"plan":{"page":16,"sections":[{"attrs":1,"parts":[[1,false]]}],"events":[["sec",0]]},"groups":[[{"kind":"prelude"}],[{"kind":"object","symbols":[{"at":["sec",0,0]},{"name":"a","at":["sec",0,0]}],"sections":[{"slot":"merge","strings":true,"data":"68656c6c6f00"},{"slot":"must","size":1,"relocs":[...]}]}]]}
+[0,"Absolute",0,2,false] => section (16, 1, 1, 6, 6) bucket (1, 6) piece [104, 101, 108, 108, 111, 0] start 0 1:0 1:1 1:2 1:3 1:4 1:5 - - - 0 alike 2 alike 8 alike address (Ok(Some(4098)), Ok(Some(0)))
+[0,"Absolute",0,6,false] => section (16, 1, 1, 6, 6) bucket (1, 6) piece [104, 101, 108, 108, 111, 0] start 0 1:0 1:1 1:2 1:3 1:4 1:5 - - - 0 alike 2 alike 8 alike address (Err(OffsetPastEnd), Ok(Some(0)))
+[0,"Absolute",1,6,false] => section (16, 1, 1, 6, 6) bucket (1, 6) piece [104, 101, 108, 108, 111, 0] start 0 1:0 1:1 1:2 1:3 1:4 1:5 - - - 0 alike 2 alike 8 alike address (Ok(Some(4102)), Ok(Some(4102)))
 "#;
 
 /// What is kept of a section with the bytes that are told second, whose size is what is told first.
@@ -248,6 +275,24 @@ fn add_places(
     Ok(())
 }
 
+/// Adds how many starts stand past the twelfth of their blocks, and where offsets of each input are.
+fn add_blocks(
+    line: &mut String,
+    inputs: &StringMergeInputSections<'_>,
+    section: &MergedStringsSection<'_>,
+) -> Result<(), AllocError> {
+    let (kept, count) = (section.string_count(), section.input_string_count());
+    let past = section.string_offsets().overflow_len();
+    add(line, "starts", &(kept, count, section.len(), past))?;
+    for input in inputs.as_slice() {
+        line.push_str(" at")?;
+        for offset in [0, 11, 12, 254, 255, 256, 299, 300, 312] {
+            add_place(line, find_string(section, input.start_input_offset, offset))?;
+        }
+    }
+    Ok(())
+}
+
 /// Adds where each input of an output section starts.
 fn add_starts(line: &mut String, inputs: &StringMergeInputSections<'_>) -> Result<(), AllocError> {
     for input in inputs.as_slice() {
@@ -288,6 +333,7 @@ fn add_output(
 {
     match told {
         Merging::Places => add_places(line, inputs, section),
+        Merging::Starts => add_blocks(line, inputs, section),
         Merging::Groups => add_groups(alloc, line, inputs, size),
         _ => add_kept(line, section),
     }
@@ -471,7 +517,7 @@ fn add_by_all(
     Ok(())
 }
 
-/// Adds what workers keep of a link that is well formed, and what is kept on the caller alone.
+/// Adds what workers keep of a link that is well formed, what is kept on the caller alone, and the addresses of symbols where two workers merge.
 pub fn add_merged_by_workers(
     rt: &(impl Threads + Wait + Sync),
     alloc: Global,
@@ -482,7 +528,11 @@ pub fn add_merged_by_workers(
         return Ok(());
     }
     let inputs = StringMergeInputs::new(alloc, link)?;
-    add_by_all(rt, alloc, line, &inputs)
+    add_by_all(rt, alloc, line, &inputs)?;
+    match merge_strings(rt, alloc, &inputs, 2, &NoGate) {
+        Ok(merged) => add_started(alloc, line, link, merged.as_slice()),
+        Err(_) => Ok(()),
+    }
 }
 
 /// Adds what is told of merging, of a link that is well formed; or why it isn't merged.
@@ -563,6 +613,16 @@ fn offsets_are_found_in_buckets(rt: HostRuntime) -> Result<(), Fail> {
         rt.alloc(),
         Asked::Of(Shown::Merging(Merging::Places)),
         PLACES,
+    )
+}
+
+#[test]
+fn blocks_keep_twelve_starts(rt: HostRuntime) -> Result<(), Fail> {
+    expect_rows(
+        &rt,
+        rt.alloc(),
+        Asked::Of(Shown::Merging(Merging::Starts)),
+        STARTS,
     )
 }
 

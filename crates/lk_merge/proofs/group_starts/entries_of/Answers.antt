@@ -3,6 +3,7 @@ use Rattle.lk_merge.specs.GroupStarts.{HasEntries}
 use Rattle.lk_merge.specs.Inputs.{located}
 use Rattle.lk_merge.specs.MatrixWork.{front_located, group_located, located_place}
 use Rattle.lk_merge.specs.MergingTables.{entry_of, pieces_in}
+use Rattle.lk_merge.specs.OffsetMapTables.{HoldsIn}
 use Rattle.lk_merge.proofs.Placing.{group_next, groups_all}
 use Rattle.lk_merge.proofs.group_starts.entries_of.Goals as goal
 
@@ -23,4 +24,4 @@ pub returns : goal.returns
 returns g c =
     let work = g.J.Brings.work in
     let all = ap (front_located work) (c.if-group-groups-2.false ∙ c.requires.groups) ∙ groups_all work c.requires.work in
-    c.loop-starts.invariant.1.entries ∙ ap (map (entry_of (pieces_in (located work.inputs)))) all
+    subst (λ ls. HoldsIn (map (entry_of (pieces_in (located work.inputs))) ls) c.loop-starts.entries.entries) all c.loop-starts.invariant.1.entries

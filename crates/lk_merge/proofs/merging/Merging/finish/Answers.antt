@@ -1,4 +1,4 @@
-use Rattle.std.proofs.Common.{◌≡◌, List, [], ◌∷◌, ◌++◌, map, None, sym, ap, ◌∙◌, subst, rules, map-id}
+use Rattle.std.proofs.Common.{◌≡◌, List, [], ◌∷◌, ◌++◌, map, None, refl, sym, ap, ◌∙◌, subst, rules, map-id}
 use Rattle.std.specs.List.{All}
 use Rattle.std.proofs.lemmas.Iterator.Adapters.{YieldsList-from_vec}
 use Rattle.std.proofs.lemmas.Iterator.Consumers.{YieldsList-end, YieldsList-turn, YieldsList-so_far}
@@ -30,8 +30,8 @@ from_parts-requires c =
     let all : c.loop-state.yielded ≡ c.args.self.buckets.items = sym (map-id c.loop-state.yielded) ∙ end.0 in
     let none = subst (All (λ (s : BucketState). s.refusal ≡ None)) all c.loop-state.invariant.1 in
     let m = c.requires.merged in
-    is_merged m.section m.limit c.args.inputs c.args.self c.loop-state.buckets.items c.from_entries-string_offsets.result m.small m.merged c.requires.terminated
-    c.requires.some none (c.loop-state.invariant.0 ∙ ap (λ (l : List BucketState). map (λ s. s.bucket) l) all) c.from_entries-string_offsets.ensures
+    is_merged m.section m.limit c.args.inputs c.args.self c.loop-state.buckets.items c.args.self.entries m.small m.merged c.requires.terminated
+    c.requires.some none (c.loop-state.invariant.0 ∙ ap (λ (l : List BucketState). map (λ s. s.bucket) l) all) refl
 
 pub returns-in-Some-refusal : goal.returns-in-Some-refusal
 returns-in-Some-refusal c = λ section limit small merged.

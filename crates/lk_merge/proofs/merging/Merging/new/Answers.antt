@@ -19,4 +19,4 @@ pub returns : goal.returns
 returns c =
     let all : c.loop-number.number ≡ 16 = omega arith in
     merged_none c.args.section c.args.limit _
-    (c.loop-number.invariant ∙ ap (λ (n : ℕ). map (empty_state c.args.section c.args.limit) (range_with_len 0 n)) all) c.new-2.ensures.items
+    (c.loop-number.invariant ∙ ap (λ (n : ℕ). map (empty_state c.args.section c.args.limit) (range_with_len 0 n)) all) c.in_ok-with_capacity.ensures

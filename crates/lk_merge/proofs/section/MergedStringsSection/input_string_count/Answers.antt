@@ -6,5 +6,5 @@ use Rattle.lk_merge.proofs.section.MergedStringsSection.input_string_count.Goals
 
 pub returns : goal.returns
 returns c =
-    c.len.ensures ∙ entries_count c.self.inside.inputs c.self.inside.buckets.items c.self.inside.string_offsets c.self.invariant
+    c.len.ensures _ c.self.invariant.offsets ∙ entries_count c.self.inside.inputs
     ∙ ap (λ (xs : List MergeInput). length (all_pieces xs)) c.self.view_is
