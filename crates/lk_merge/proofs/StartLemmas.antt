@@ -92,6 +92,14 @@ one_added pieces s t e h blocks offsets places begun last fits =
     only zero d there = let same : e ≡ d = cc in ap (λ (x : PieceEntry). x.start) same
     only (suc j) d there = absurd (cc)
 
+-- a piece that isn't before a block's first, and is before the next block's, starts in the block
+pub block_between : (pieces : List PieceEntry) (index b from end : ℕ) (e : PieceEntry) → AreBefore pieces (b * 256) from → AreBefore pieces ((b + 1) * 256) end
+    → slice_get pieces index ≡ Some e → from ≤ index → index < end → b ≡ e.start / 256
+block_between pieces index b from end e begins ends there low high =
+    let above = begins.behind index e there low in
+    let below = ends.before index e there high in
+    omega (arith, above, below)
+
 -- ---- how many of a block there are
 
 tail_first : (e : PieceEntry) (es : List PieceEntry) (at n : ℕ) → AreBefore (e ∷ es) at (suc n) → AreBefore es at n

@@ -138,24 +138,41 @@ impl Starts {
         low
     }
 
-    /// A piece. Takes logarithmic time.
-    fn piece(&self, index: usize) -> PieceEntry
+    /// The block in which a piece starts; that of an offset is tried first. Takes logarithmic time where it is another.
+    fn block_near(&self, index: usize, offset: u64) -> usize
+        requires { (pieces : List PieceEntry) × AreStarts pieces self.now × (index < length pieces) }
+        ensures { (pieces : List PieceEntry) (e : PieceEntry) → AreStarts pieces self.now → slice_get pieces index ≡ Some e → result ≡ e.start / 256 }
+    {
+        let block = (offset / BLOCK_SIZE) as usize;
+        let from = self.before(block);
+        let end = self.before(block + 1);
+        if from <= index && index < end {
+            block
+        } else {
+            self.block_of(index)
+        }
+    }
+
+    /// A piece, whose start is sought in the block of an offset first.
+    fn piece(&self, index: usize, offset: u64) -> PieceEntry
         requires { (pieces : List PieceEntry) × AreStarts pieces self.now × (index < length pieces) }
         ensures { (pieces : List PieceEntry) → AreStarts pieces self.now → slice_get pieces index ≡ Some result }
     {
         PieceEntry {
-            start: self.block_of(index) as u64 * BLOCK_SIZE + u64::from(self.offsets[index]),
+            start: self.block_near(index, offset) as u64 * BLOCK_SIZE
+                + u64::from(self.offsets[index]),
             place: self.places[index],
         }
     }
 
-    /// The last piece that starts at an offset or before it, if there is one. Takes logarithmic time.
+    /// The last piece that starts at an offset or before it, if there is one. Looks in the offset's block, and in logarithmic time for
+    /// another only where none starts there.
     fn last_at(&self, offset: u64) -> Option<PieceEntry>
         requires { (pieces : List PieceEntry) × AreStarts pieces self.now × StartsRise pieces }
         ensures { (pieces : List PieceEntry) → AreStarts pieces self.now → StartsRise pieces → MatchOption result (NoneAt pieces offset) (IsLast pieces offset) }
     {
         let last = self.up_to(offset).checked_sub(1)?;
-        Some(self.piece(last))
+        Some(self.piece(last, offset))
     }
 }
 

@@ -8,7 +8,7 @@ pub overflow_mul-result : goal.overflow_mul-result
 overflow_mul-result c =
     let r = c.requires in
     let e = at_index r.0 c.args.index r.2 in
-    let block = c.block_of.ensures r.0 e.0 r.1 e.1 in
+    let block = c.block_near.ensures r.0 e.0 r.1 e.1 in
     let fits = (r.1.begun c.args.index e.0 e.1).1 in
     omega (arith, block, fits)
 
@@ -17,7 +17,7 @@ overflow_add-result c =
     let r = c.requires in
     let s = c.args.self.now in
     let e = at_index r.0 c.args.index r.2 in
-    let block = c.block_of.ensures r.0 e.0 r.1 e.1 in
+    let block = c.block_near.ensures r.0 e.0 r.1 e.1 in
     let fits = (r.1.begun c.args.index e.0 e.1).1 in
     let below = offsets_count r.0 s r.1 in
     let within = r.2 in
@@ -35,4 +35,4 @@ returns c = λ pieces h.
     let e = at_index pieces c.args.index (omega (arith, old, new, within)) in
     let byte = byte_at pieces s h c.args.index e.0 c.index.result.now e.1 (slice_get_read s.offsets.items (length s.offsets.items) c.args.index c.index.result.now refl (omega (arith, old, new, bytes, within)) c.index.ensures) in
     let place = place_at pieces s h c.args.index e.0 c.index-2.result.now e.1 (slice_get_read s.places.items (length s.places.items) c.args.index c.index-2.result.now refl (omega (arith, old, within)) c.index-2.ensures) in
-    piece_is pieces c.args.index e.0 c.block_of.result c.from.result c.index-2.result.now e.1 (c.block_of.ensures pieces e.0 h e.1) (omega (arith, byte, c.from.ensures)) place
+    piece_is pieces c.args.index e.0 c.block_near.result c.from.result c.index-2.result.now e.1 (c.block_near.ensures pieces e.0 h e.1) (omega (arith, byte, c.from.ensures)) place
