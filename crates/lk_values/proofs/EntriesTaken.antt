@@ -1,6 +1,6 @@
 -- The entries of a symbol come at the cursors, which move behind them.
 use Rattle.std.proofs.Common.{◌≡◌, ◌⊎◌, inl, inr, ℕ, zero, suc, ◌+◌, ◌<◌, ◌≤◌, ◌^◌, ◌&&◌, ◌||◌, ◌==◌, not, Bool, true, false, if◌then◌else◌, List, [], ◌∷◌, ◌++◌, length, map, take, Option, Some, None, refl, sym, ap, ◌∙◌, arith}
-use Rattle.std.specs.Prelude.{bit_and, bit_or, is_some, option_map, slice_get, slice_index, sum_by}
+use Rattle.std.specs.Prelude.{bit_and, bit_or, is_some, option_and_then, option_map, slice_get, slice_index, sum_by}
 use Rattle.std.proofs.lemmas.Bool.{and_parts}
 use Rattle.std.proofs.lemmas.Nat.{and_or_apart}
 use Rattle.std.specs.List.{enumerate_from}
@@ -42,8 +42,9 @@ use Rattle.lk_tables.proofs.TableSums.{sum_passing}
 use Rattle.lk_tables.proofs.OwnLemmas.{cursors_move_on, cursors_reach_entries}
 use Rattle.lk_values.specs.declared.entries.NextEntries.{NextEntries}
 use Rattle.lk_values.specs.Entries.{EntrySetting, entry_in, entry_setting, got_table, plt_table, told_flags, with_entries}
-use Rattle.lk_values.specs.EntryWords.{AreNextAt, IsCursor, TableFits, TablesFit, cursor_behind, cursors_behind, first_cursors, made_at, start_of}
+use Rattle.lk_values.specs.EntryWords.{AreNextAt, IsCursor, TableFits, TablesFit, cursor_behind, cursors_behind, first_cursors, made_at, start_of, unplaced_resolution}
 use Rattle.lk_values.specs.Resolutions.{Places, has_resolutions, placed_value, resolution_of, value_of}
+use Rattle.lk_values.specs.Stores.{valued}
 use Rattle.lk_values.proofs.NothingAsked.{none_among, nothing_allocated}
 
 -- ---- flags
@@ -130,6 +131,35 @@ no_resolution places by k first q unwanted =
       | true ↦ refl
       | false ↦ refl
     ])
+
+-- what is taken in tables, of what is wanted and of what isn't
+pub wanted_unplaced : (by : EntrySetting) (k : FileKind) (q : ℕ × InputSymbol) → is_wanted k q.0 q.1 (told_flags by k q) ≡ true
+    → unplaced_resolution by k q ≡ Some (with_entries by q.0 (told_flags by k q) 0)
+wanted_unplaced by k q wanted = ap (λ b. if b then Some (with_entries by q.0 (told_flags by k q) 0) else None) wanted
+
+pub unwanted_unplaced : (by : EntrySetting) (k : FileKind) (q : ℕ × InputSymbol) → is_wanted k q.0 q.1 (told_flags by k q) ≡ false → unplaced_resolution by k q ≡ None
+unwanted_unplaced by k q unwanted = ap (λ b. if b then Some (with_entries by q.0 (told_flags by k q) 0) else None) unwanted
+
+-- a value changes nothing in what is taken
+value_alone : (by : EntrySetting) (s : ℕ) (flags : ValueFlags) (n : ℕ) → valued n (with_entries by s flags 0) ≡ with_entries by s flags n
+unfolding with_entries
+value_alone by s flags n = refl
+
+-- with what it is worth, that is the resolution
+pub placed_is : (places : Places) (by : EntrySetting) (k : FileKind) (first : ℕ) (q : ℕ × InputSymbol)
+    → resolution_of places by k first q ≡ option_and_then (λ r. option_map (λ n. valued n r) (value_of places k first q.0 q.1.at)) (unplaced_resolution by k q)
+placed_is places by k first q =
+    let flags : ValueFlags = told_flags by k q in
+    let joined : Option Resolution → Option Resolution = λ o. option_and_then (λ r. option_map (λ n. valued n r) (value_of places k first q.0 q.1.at)) o in
+    let worth : (o : Option ℕ) → option_map (with_entries by q.0 flags) o ≡ option_map (λ n. valued n (with_entries by q.0 flags 0)) o
+    = λ o. elim o as (λ o. option_map (with_entries by q.0 flags) o ≡ option_map (λ n. valued n (with_entries by q.0 flags 0)) o) [
+      | None ↦ refl
+      | Some n ↦ ap (λ (r : Resolution). Some r) (sym (value_alone by q.0 flags n))
+    ] in
+    elim (is_wanted k q.0 q.1 flags) as (λ b. is_wanted k q.0 q.1 flags ≡ b → resolution_of places by k first q ≡ joined (unplaced_resolution by k q)) [
+      | true ↦ λ wanted. has_own places by k first q wanted ∙ worth (value_of places k first q.0 q.1.at) ∙ ap joined (sym (wanted_unplaced by k q wanted))
+      | false ↦ λ unwanted. no_resolution places by k first q unwanted ∙ ap joined (sym (unwanted_unplaced by k q unwanted))
+    ] refl
 
 -- what a resolution is
 pub record IsOwn (places : Places) (by : EntrySetting) (k : FileKind) (first : ℕ) (q : ℕ × InputSymbol) (r : Resolution) : Type 0 where

@@ -4,6 +4,7 @@ mod NothingMerged
 pub mod Stopping
 pub mod CommonsFound
 pub mod EntriesTaken
+pub mod GroupJoining
 pub mod Imaging
 pub mod PartCounts
 pub mod Placing

@@ -1,9 +1,12 @@
 -- Words of private contracts: the entries that come next, as a walk over all symbols moves on.
 use Rattle.std.specs.Prelude.{◌≡◌, ℕ, ◌+◌, ◌<◌, ◌^◌, if◌then◌else◌, List, Option, Some, None, is_some, slice_index, sum_by}
 use Rattle.std.specs.Option.{option_map_or}
+use Rattle.lk_link.specs.declared.file.FileKind.{FileKind}
 use Rattle.lk_link.specs.declared.flags.ValueFlags.{ValueFlags}
 use Rattle.lk_link.specs.declared.plan.NamedParts.{NamedParts}
 use Rattle.lk_link.specs.declared.resolution.Resolution.{Resolution}
+use Rattle.lk_link.specs.declared.symbol.InputSymbol.{InputSymbol}
+use Rattle.lk_link.specs.Symbols.{is_wanted}
 use Rattle.lk_link.specs.declared.tables.Allocation.{Allocation}
 use Rattle.lk_link.specs.declared.tables.TableCursors.{TableCursors}
 use Rattle.lk_link.specs.TableSizes.{first_taken}
@@ -11,7 +14,7 @@ use Rattle.lk_tables.specs.DynamicCounters.{AreNumbersAt}
 use Rattle.lk_tables.specs.OwnEntries.{symbols_before_it, taken_by}
 use Rattle.lk_tables.specs.SymbolTable.{TableEntry, entry_bytes}
 use Rattle.lk_values.specs.declared.entries.NextEntries.{NextEntries}
-use Rattle.lk_values.specs.Entries.{EntrySetting, got_table, plt_table}
+use Rattle.lk_values.specs.Entries.{EntrySetting, got_table, plt_table, told_flags, with_entries}
 
 -- the resolution of a symbol whose entries take these bytes at the cursors, as far as the plan names parts for them
 abbrev pub made_at : NamedParts → TableCursors → Allocation → ValueFlags → ℕ → Option ℕ → Resolution
@@ -22,6 +25,12 @@ made_at named cursors taken flags value index = record {
   got = if is_some named.got then first_taken cursors.got taken.got else None;
   plt = if is_some named.plt then first_taken cursors.plt taken.plt else None;
 }
+
+-- the resolution of a symbol of a file of a kind, with its number, without a value, if it is wanted, late marks included
+abbrev pub unplaced_resolution : EntrySetting → FileKind → ℕ × InputSymbol → Option Resolution
+unplaced_resolution by kind q =
+    let flags = told_flags by kind q in
+    if is_wanted kind q.0 q.1 flags then Some (with_entries by q.0 flags 0) else None
 
 -- a cursor behind so many bytes, where the plan names its part; else it stays
 abbrev pub cursor_behind : Option ℕ → ℕ → ℕ → ℕ

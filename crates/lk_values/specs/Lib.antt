@@ -1,6 +1,8 @@
 pub mod AtHand
+pub mod ByGroups
 pub mod Entries
 pub mod EntryWords
+pub mod Found
 pub mod Images
 pub mod Kept
 pub mod OutputContent

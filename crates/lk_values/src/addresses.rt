@@ -1,10 +1,12 @@
 //! What has an address in the output: live sections, blocks of thunks, merged data, and symbols.
 
-ghost use Rattle.std.specs.Prelude.{◌≡◌, ◌+◌, ◌<◌, ◌^◌, ℕ, IfOk, length, slice_index};
+ghost use Rattle.std.specs.Prelude.{◌≡◌, IfOk, List, Option, length};
+ghost use Rattle.std.specs.List.{flat_map};
 ghost use Rattle.lk_gc.specs.Reach.{AreLive};
+ghost use Rattle.lk_link.specs.declared.resolution.Resolution.{Resolution};
+ghost use Rattle.lk_link.specs.Inputs.{numbered_files};
 ghost use Rattle.lk_link.specs.Parts.{all_parts};
 ghost use Rattle.lk_link.specs.WellFormed.{IsWellFormed};
-ghost use Rattle.lk_expressions.specs.Records.{record_at};
 ghost use Rattle.lk_merge.specs.Addresses.{start_addresses};
 ghost use Rattle.lk_merge.specs.Hash.{fnv64};
 ghost use Rattle.lk_merge.specs.LinkInputs.{link_inputs};
@@ -12,10 +14,13 @@ ghost use Rattle.lk_sizes.specs.Images.{image_addresses};
 ghost use Rattle.lk_sizes.specs.Addresses.{block_addresses, section_addresses};
 ghost use Rattle.lk_sizes.specs.Owners.{Filling};
 ghost use Rattle.lk_sizes.specs.Sizing.{AreFilled};
+ghost use Rattle.lk_tables.specs.DynamicCounters.{AreNumbersAt};
 ghost use Rattle.lk_relaxing.specs.LinkDeletions.{sizes_after};
+ghost use Rattle.lk_values.specs.AtHand.{AreAtHand, places_at_hand, setting_at_hand};
+ghost use Rattle.lk_values.specs.Found.{AreFound, EndInMemory};
 ghost use Rattle.lk_values.specs.OutputContent.{in_layout};
 ghost use Rattle.lk_values.specs.Starts.{IsPlaced, starts_of};
-ghost use Rattle.lk_values.specs.Resolutions.{symbol_resolutions};
+ghost use Rattle.lk_values.specs.Resolutions.{file_resolutions, symbol_resolutions};
 ghost use Rattle.lk_values.specs.Tables.{AreMergedOf};
 
 use crate::merged::Merged;
@@ -27,7 +32,7 @@ use lk_link::{LinkInput, Platform};
 use lk_merge::{MergedStringStartAddresses, MergedStringsSection};
 use lk_place::OutputRecordLayout;
 use lk_relax::RelaxDeltaMap;
-use lk_sizes::{OwnerAddresses, PartOwners, image_addresses, owner_addresses};
+use lk_sizes::{CommonAddress, OwnerAddresses, PartOwners, image_addresses, owner_addresses};
 use std::alloc::{AllocError, Global};
 
 /// The addresses of a layout.
@@ -54,13 +59,13 @@ pub struct PlacedParts<'a> {
 
 /// The addresses of live sections, of blocks of thunks and of merged data, and what symbols stand for, by what was found of the parts, for
 /// the sizes that are left behind what is deleted. Looks at each input section, each block and each symbol once.
-pub fn addresses_of<P: Platform>(
+pub fn addresses_of<'a, P: Platform>(
     alloc: Global,
     link: &LinkInput,
     live: &Live,
-    merged: &[MergedStringsSection<'_>],
+    merged: &[MergedStringsSection<'a>],
     owners: &PartOwners,
-    placed: &PlacedParts<'_>,
+    placed: &PlacedParts<'a>,
     platform: &P,
 ) -> Result<Addresses, AllocError>
     requires good { IsWellFormed link.now }
@@ -84,43 +89,125 @@ pub fn addresses_of<P: Platform>(
         ≡ symbol_resolutions (in_layout (P.table_sizes platform.now) link.now live.now filling) placed.now.deltas.now placed.now.edges.now
         (starts_of placed.now.parts.now)) }
 {
+    let found = found_addresses(alloc, link, live, merged, owners, placed, platform)?;
+    let tables = found.tables(link, live, merged, owners, placed, platform);
+    let resolutions = resolve_all(alloc, platform, &tables, owners.numbers())?;
+    Ok(found.with_resolutions(resolutions))
+}
+
+/// The addresses of what is no symbol, and where the parts start.
+#[derive(Drop)]
+pub(crate) struct FoundAddresses {
+    starts: Vec<u64>,
+    sections: Vec<u64>,
+    commons: Vec<CommonAddress>,
+    blocks: Vec<u64>,
+    buckets: MergedStringStartAddresses,
+}
+
+/// Finds them. Looks at each input section and each block once.
+pub(crate) fn found_addresses<P: Platform>(
+    alloc: Global,
+    link: &LinkInput,
+    live: &Live,
+    merged: &[MergedStringsSection<'_>],
+    owners: &PartOwners,
+    placed: &PlacedParts<'_>,
+    _platform: &P,
+) -> Result<FoundAddresses, AllocError>
+    requires good { IsWellFormed link.now }
+    requires live { AreLive link.now live.now }
+    requires merged { merged.now ≡ (link_inputs link.now).outputs }
+    requires each { length placed.now.parts.now ≡ length (all_parts link.now.plan.sections) }
+    requires placed { (filling : Filling) × IsPlaced (in_layout (P.table_sizes _platform.now) link.now live.now filling) owners.now placed.now.parts.now
+        × (filling.sizes ≡ sizes_after link.now.groups placed.now.deltas.now) }
+    ensures found { (filling : Filling) → AreFilled (in_layout (P.table_sizes _platform.now) link.now live.now filling) owners.now
+        → IfOk result (AreFound (in_layout (P.table_sizes _platform.now) link.now live.now filling) placed.now.parts.now) }
+    ensures belong { IfOk result (λ found. AreMergedOf link.now merged.now found.buckets) }
+    ensures fit { IfOk result (λ found. EndInMemory placed.now.parts.now found.starts.items) }
+{
     let starts = starts_of(alloc, placed.parts)?;
     let found = owner_addresses(alloc, link, live, owners, &starts)?;
     let OwnerAddresses {
         sections,
         commons,
-        blocks: owned,
+        blocks,
     } = found;
     let places = image_addresses(alloc, link, owners.contents(), &starts)?;
     let buckets = MergedStringStartAddresses::compute(alloc, merged, &places)?;
-    let tables = Tables {
-        merged: Merged {
-            link,
-            sections: merged,
-            starts: &buckets,
-        },
-        live,
-        addresses: sections.as_slice(),
-        deltas: placed.deltas,
-        commons: commons.as_slice(),
-        edges: placed.edges,
-        told: owners.header().told.as_slice(),
-        starts: &starts,
-    };
-    let resolutions = resolve_all(alloc, platform, &tables, owners.numbers())?;
-    Ok(Addresses {
+    Ok(FoundAddresses {
+        starts,
         sections,
-        blocks: owned,
+        commons,
+        blocks,
         buckets,
-        resolutions,
     })
+}
+
+impl FoundAddresses {
+    /// What symbols are resolved by.
+    pub(crate) fn tables<'a, P: Platform>(
+        &'a self,
+        link: &'a LinkInput,
+        live: &'a Live,
+        merged: &'a [MergedStringsSection<'a>],
+        owners: &'a PartOwners,
+        placed: &PlacedParts<'a>,
+        _platform: &P,
+    ) -> Tables<'a>
+        requires good { IsWellFormed link.now }
+        requires live { AreLive link.now live.now }
+        requires merged { merged.now ≡ (link_inputs link.now).outputs }
+        requires each { length placed.now.parts.now ≡ length (all_parts link.now.plan.sections) }
+        requires placed { (filling : Filling) × IsPlaced (in_layout (P.table_sizes _platform.now) link.now live.now filling) owners.now placed.now.parts.now
+            × (filling.sizes ≡ sizes_after link.now.groups placed.now.deltas.now) }
+        requires found { (filling : Filling) → AreFilled (in_layout (P.table_sizes _platform.now) link.now live.now filling) owners.now
+            → AreFound (in_layout (P.table_sizes _platform.now) link.now live.now filling) placed.now.parts.now self.now }
+        requires belong { AreMergedOf link.now merged.now self.now.buckets }
+        requires fit { EndInMemory placed.now.parts.now self.now.starts.items }
+        ensures tables { AreAtHand (P.table_sizes _platform.now) result }
+        ensures numbers { AreNumbersAt result.merged.link.now result.live.now result.told.now 0 owners.now.numbers }
+        ensures resolutions { (filling : Filling) (items : List (Option Resolution)) → AreFilled (in_layout (P.table_sizes _platform.now) link.now live.now filling) owners.now
+            → items ≡ flat_map (file_resolutions (places_at_hand result) (setting_at_hand (P.table_sizes _platform.now) result)) (numbered_files result.merged.link.now.groups)
+            → items ≡ symbol_resolutions (in_layout (P.table_sizes _platform.now) link.now live.now filling) placed.now.deltas.now placed.now.edges.now
+            (starts_of placed.now.parts.now) }
+    {
+        Tables {
+            merged: Merged {
+                link,
+                sections: merged,
+                starts: &self.buckets,
+            },
+            live,
+            addresses: self.sections.as_slice(),
+            deltas: placed.deltas,
+            commons: self.commons.as_slice(),
+            edges: placed.edges,
+            told: owners.header().told.as_slice(),
+            starts: self.starts.as_slice(),
+        }
+    }
+
+    /// All addresses, with what symbols stand for.
+    pub(crate) fn with_resolutions(self, resolutions: SymbolResolutions) -> Addresses
+        ensures sections { result.sections ≡ self.sections }
+        ensures blocks { result.blocks ≡ self.blocks }
+        ensures buckets { result.buckets ≡ self.buckets }
+        ensures resolutions { result.resolutions ≡ resolutions }
+    {
+        Addresses {
+            sections: self.sections,
+            blocks: self.blocks,
+            buckets: self.buckets,
+            resolutions,
+        }
+    }
 }
 
 /// Where parts with these records start in memory.
 fn starts_of(alloc: Global, parts: &[OutputRecordLayout]) -> Result<Vec<u64>, AllocError>
     ensures value { IfOk result (λ starts. starts.items ≡ starts_of parts.now) }
-    ensures fit { IfOk result (λ starts. (p : ℕ) → p < length parts.now
-        → slice_index starts.items p + (record_at parts.now p).mem_size < 2 ^ 64) }
+    ensures fit { IfOk result (λ starts. EndInMemory parts.now starts.items) }
 {
     let mut starts = Vec::with_capacity(alloc, parts.len())?;
     for part in parts {

@@ -18,7 +18,7 @@ ghost use Rattle.lk_link.specs.WellFormed.{IsWellFormed};
 ghost use Rattle.lk_reach.specs.Units.{numbered_symbols};
 ghost use Rattle.lk_tables.specs.DynamicCounters.{AreNumbersAt};
 ghost use Rattle.lk_tables.specs.Late.{flags_at};
-ghost use Rattle.lk_values.specs.EntryWords.{AreNextAt, first_cursors, start_of};
+ghost use Rattle.lk_values.specs.EntryWords.{AreNextAt, first_cursors, start_of, unplaced_resolution};
 ghost use Rattle.lk_values.specs.Resolutions.{entry_symbol, entry_value, file_resolutions, placed_value, resolution_of, value_of};
 ghost use Rattle.lk_values.specs.AtHand.{AreAtHand, IsAtHand, StandsAtHand, places_at_hand, setting_at_hand};
 ghost use Rattle.lk_values.specs.Tables.{AreMergedOf, AreRising, IsInside, common_in, place_in};
@@ -127,7 +127,7 @@ pub(crate) fn resolve_all<P: Platform>(
 }
 
 /// The starts of the parts `got` and `plt`; 0 where the plan names none.
-fn first_cursors(link: &LinkInput, starts: &[u64]) -> TableCursors
+pub(crate) fn first_cursors(link: &LinkInput, starts: &[u64]) -> TableCursors
     ensures { result ≡ first_cursors link.now.plan.named starts.now }
 {
     TableCursors {
@@ -157,7 +157,7 @@ fn start_at(starts: &[u64], number: usize) -> u64
 }
 
 /// Adds for each symbol of a file its resolution, if it has one.
-fn push_file_resolutions<P: Platform>(
+pub(crate) fn push_file_resolutions<P: Platform>(
     resolutions: &mut SymbolResolutions,
     platform: &P,
     tables: &Tables<'_>,
@@ -206,7 +206,7 @@ fn first_input_of(link: &LinkInput, file: FileRef<'_>) -> usize
 }
 
 /// The number of a file's first symbol.
-fn first_symbol_of(link: &LinkInput, file: FileRef<'_>) -> u32
+pub(crate) fn first_symbol_of(link: &LinkInput, file: FileRef<'_>) -> u32
     requires good { IsWellFormed link.now }
     requires there { file_in link.now.groups file.id ≡ Some file.file.now }
     ensures exactly { result ≡ first_symbol link.now.groups file.entry.id }
@@ -271,8 +271,27 @@ fn resolve<P: Platform>(
         at_hand.now.file.file.now.kind at_hand.now.first_input (number, symbol.now) }
     ensures moved { AreNextAt (setting_at_hand (P.table_sizes platform.now) tables.now) (number + 1) next.new }
 {
+    let taken = take_own(platform, tables, next, at_hand.file, number, symbol)?;
+    let raw_value = symbol_value(tables, at_hand, number, symbol)?;
+    Some(Resolution { raw_value, ..taken })
+}
+
+/// What a symbol of a file, with this number, takes in tables: its resolution with the value 0; none where nothing asks for it.
+pub(crate) fn take_own<P: Platform>(
+    platform: &P,
+    tables: &Tables<'_>,
+    next: &mut NextEntries,
+    file: FileRef<'_>,
+    number: u32,
+    symbol: &InputSymbol,
+) -> Option<Resolution>
+    requires tables { AreAtHand (P.table_sizes platform.now) tables.now }
+    requires there { slice_get (numbered_symbols tables.now.merged.link.now.groups) number ≡ Some (file_of file, symbol.now) }
+    requires next { AreNextAt (setting_at_hand (P.table_sizes platform.now) tables.now) number next.now }
+    ensures taken { result ≡ unplaced_resolution (setting_at_hand (P.table_sizes platform.now) tables.now) file.entry.file.now.kind (number, symbol.now) }
+    ensures moved { AreNextAt (setting_at_hand (P.table_sizes platform.now) tables.now) (number + 1) next.new }
+{
     let (link, told) = (tables.merged.link, tables.told);
-    let file = at_hand.file;
     let kind = file.file.kind;
     let id = SymbolId::from_u32(number);
     let dynamic = next.numbers.take(link, tables.live, told, file, id, symbol);
@@ -280,21 +299,8 @@ fn resolve<P: Platform>(
     if !symbol.is_wanted(kind, id, flags) {
         return None;
     }
-    let value = symbol_value(tables, at_hand, number, symbol);
-    let raw_value = value.unwrap_or(0);
     let named = &link.plan.named;
-    let made = take_entries(
-        platform,
-        named,
-        &mut next.cursors,
-        flags,
-        raw_value,
-        dynamic,
-    );
-    match value {
-        Some(_) => Some(made),
-        None => None,
-    }
+    Some(take_entries(platform, named, &mut next.cursors, flags, 0, dynamic))
 }
 
 /// What a symbol of a file, with this number, is worth by its placement, if anything.

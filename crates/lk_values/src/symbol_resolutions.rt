@@ -51,6 +51,16 @@ impl SymbolResolutions {
         Ok(())
     }
 
+    /// Adds those of the symbols behind these, in order. Takes constant time for each.
+    pub(crate) fn append(&mut self, others: &SymbolResolutions) -> Result<(), AllocError>
+        ensures { OnOk result (self.new ≡ self.old ++ others.now) }
+    {
+        for number in 0..others.len() {
+            self.push(others.nth(number))?;
+        }
+        Ok(())
+    }
+
     /// How many symbols there are.
     pub fn len(&self) -> usize
         ensures { result ≡ length self.now }
