@@ -3,7 +3,7 @@ use Rattle.lk_layout.specs.Defined.{Gives}
 use Rattle.lk_layout.specs.Machines.{small64_machine}
 use Rattle.lk_run.proofs.top_call.answer_by_workers.Goals as goal
 
-pub report_text_by_workers-requires : goal.report_text_by_workers-requires
-report_text_by_workers-requires g c =
+pub report_text_by_workers-requires-clause-good : goal.report_text_by_workers-requires-clause-good
+report_text_by_workers-requires-clause-good g c = λ _ _.
     let given : Gives small64_machine c.args.link.now (Ok c.in-Ok.layout) = rw c.in-Ok.is at c.requires in
-    record { good = c.laid_out_links_are_well_formed.ensures small64_machine c.args.link.now c.in-Ok.layout given }
+    c.laid_out_links_are_well_formed.ensures small64_machine c.args.link.now c.in-Ok.layout given
