@@ -1,5 +1,5 @@
 -- Lines of symbols, part by part.
-use Rattle.std.proofs.Common.{◌≡◌, ℕ, zero, suc, ◌+◌, ◌-◌, ◌<◌, List, ◌++◌, ◌∷◌, ◌≤◌, Option, get_or, length, refl, arith, append_assoc}
+use Rattle.std.proofs.Common.{◌≡◌, ℕ, suc, ◌+◌, ◌-◌, ◌<◌, List, ◌++◌, ◌∷◌, ◌≤◌, Option, get_or, length, refl, arith, append_assoc}
 use Rattle.lk_link.specs.declared.resolution.Resolution.{Resolution}
 use Rattle.lk_run.specs.Report.{symbol_text, symbol_lines}
 use Rattle.lk_run.specs.SymbolParts.{lines_from, part_start}

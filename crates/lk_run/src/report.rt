@@ -1,6 +1,6 @@
 //! The report of a layout.
 
-ghost use Rattle.std.specs.Prelude.{◌≡◌, ◌+◌, ◌^◌, ◌<◌, ◌≤◌, ◌++◌, string_bytes, slice_range, length, Option, slice_get, slice_index, IfOk};
+ghost use Rattle.std.specs.Prelude.{◌≡◌, ◌+◌, ◌^◌, ◌<◌, ◌++◌, string_bytes, slice_range, length, slice_index, IfOk};
 ghost use Rattle.std.specs.List.{list_any};
 ghost use Rattle.lk_layout.specs.Layouts.{told_live};
 ghost use Rattle.lk_link.specs.Walks.{input_of};
@@ -164,7 +164,8 @@ fn write_front(text: &mut String, link: &LinkInput, layout: &Layout<'_>) -> Resu
         layout.merged_strings(),
         layout.merged_string_start_addresses(),
     )?;
-    write_thunks(text, layout)
+    write_thunks(text, layout)?;
+    Ok(())
 }
 
 /// The lines behind those of symbols.

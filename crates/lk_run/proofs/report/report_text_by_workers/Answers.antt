@@ -5,7 +5,7 @@ use Rattle.lk_run.proofs.Lines.{around_symbols}
 use Rattle.lk_run.proofs.report.report_text_by_workers.Goals as goal
 
 pub returns : goal.returns
-returns c =
+returns g c =
     let layout = c.args.layout.now in
     around_symbols (string_bytes c.write_end.new.text) (codes "layout\n") (record_lines c.args.link.now layout) (live_report c.args.link.now layout)
     (merged_report layout.merged_strings layout.merged_string_start_addresses) (thunk_report layout) (symbol_lines layout.symbol_resolutions) (entry_line (resolved_entry layout)) (codes "end\n")

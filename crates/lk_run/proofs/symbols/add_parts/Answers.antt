@@ -1,4 +1,4 @@
-use Rattle.std.proofs.Common.{Ok, vec_len, arith, rules, ◌-◌, ◌∙◌}
+use Rattle.std.proofs.Common.{vec_len, arith, ◌-◌}
 use Rattle.lk_run.specs.SymbolParts.{IsMade}
 use Rattle.lk_run.proofs.SymbolParts.{all_left, behind_last, fewer_left, from_first, next_part, of_first}
 use Rattle.lk_run.proofs.symbols.add_parts.Goals as goal
