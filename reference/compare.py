@@ -9,7 +9,7 @@ usage: compare.py PROGRAM COUNT [SEED [FIRST]]
        compare.py PROGRAM --merging COUNT [SEED]
 
 Runs PROGRAM on the random descriptions of the numbers FIRST to FIRST + COUNT - 1, and where FIRST is
-0 on the fixed ones too, on each one with the words `layout 0`, `layout 1`, `layout 2` and `layout 8`. Shows
+0 on the fixed ones too, on each one with the words `layout 0`, and with 1, 2, 4 and 8 in place of 0. Shows
 each one on which status or bytes differ from the reference's, which are the same for all of these. Ends
 with 1 if there was one. The same SEED and number give the same description.
 
@@ -32,8 +32,8 @@ from cases.small import every_small_link
 from program import program_answer
 from rules.refusal import LAID_OUT
 
-# No worker, one, two, and more than most of the descriptions have groups.
-WORKERS = (0, 1, 2, 8)
+# No worker, one, two, four, and more than most of the descriptions have groups.
+WORKERS = (0, 1, 2, 4, 8)
 MOST_SHOWN = 2000
 LISTED = {"--places": changed_at_every_place, "--small": every_small_link}
 
