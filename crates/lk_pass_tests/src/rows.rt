@@ -7,6 +7,7 @@ use crate::merging::add_merged_by_workers;
 use crate::placed::{Spanned, add_placed};
 use crate::relaxed::add_relaxed;
 use crate::shown::{Shown, add_shown};
+use crate::sizes::add_sums;
 use crate::walked::add_walk;
 use crate::workers::{add_by_turns, add_in_lock_step};
 use lk_input::{InputError, read_link};
@@ -35,6 +36,8 @@ pub enum Asked {
     LockStep,
     /// What is merged of it by how many workers.
     MergedByWorkers,
+    /// How many bytes each part has, or why none has any.
+    Sums,
     /// What its records span.
     Placed(Spanned),
     /// Where the placement walk puts all.
@@ -69,6 +72,7 @@ fn add_of(
         Asked::Traversals => add_traversals(rt, alloc, line, link),
         Asked::Turns => add_by_turns(rt, alloc, line, link),
         Asked::LockStep => add_in_lock_step(rt, alloc, line, link),
+        Asked::Sums => add_sums(rt, alloc, line, link),
         _ => add_merged_by_workers(rt, alloc, line, link),
     }
 }

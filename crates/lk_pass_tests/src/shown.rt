@@ -5,7 +5,7 @@ use crate::kept::{add_exports, add_states};
 use crate::merging::{Merging, add_merging};
 use crate::owned::add_owned;
 use crate::partial::add_partial;
-use crate::sizes::{add_live, add_sizes, add_sums};
+use crate::sizes::{add_live, add_sizes};
 use crate::tables::add_tables;
 use crate::traversal::{add_asks, add_reached};
 use lk_link::LinkInput;
@@ -25,8 +25,6 @@ pub enum Shown {
     Sizes,
     /// Whose the bytes of parts are.
     Owned,
-    /// The bytes of parts, up to the greatest number.
-    Sums,
     /// What symbols and headers take in tables.
     Tables,
     /// What is known of output that is linked again.
@@ -55,7 +53,6 @@ pub fn add_shown(
         Shown::Live => add_live(alloc, line, link),
         Shown::Sizes => add_sizes(alloc, line, link),
         Shown::Owned => add_owned(alloc, line, link),
-        Shown::Sums => add_sums(alloc, line, link),
         Shown::Tables => add_tables(alloc, line, link),
         Shown::Partial => add_partial(alloc, line, link),
         Shown::Values => add_values(alloc, line, link),

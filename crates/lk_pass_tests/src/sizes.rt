@@ -12,12 +12,13 @@ use lk_gc::{Live, traverse_alone};
 use lk_link::{LinkInput, Small64};
 use lk_sizes::part_owners::plain_owners;
 use lk_sizes::{
-    HeaderInfo, PartContents, PartOwners, SizeError, image_addresses, part_sizes,
+    HeaderInfo, PartContents, PartOwners, SizeError, image_addresses, part_sizes, part_sizes_with,
     propagate_section_attributes,
 };
 use lk_test_rows::add;
 use std::alloc::{AllocError, Global};
 use std::test::Fail;
+use std::thread::Threads;
 
 /// One section of one part in a segment, and one of another in none; to the first go three sections of an object.
 const LIVE: &str = r#"
@@ -276,8 +277,9 @@ pub fn add_sizes(alloc: Global, line: &mut String, link: &LinkInput) -> Result<(
     }
 }
 
-/// Adds the bytes of all parts, or why there are none.
+/// Adds the bytes of all parts, as several threads tell them, or why there are none.
 fn add_sums_of(
+    rt: &(impl Threads + Sync),
     alloc: Global,
     line: &mut String,
     link: &LinkInput,
@@ -287,26 +289,31 @@ fn add_sums_of(
     requires live { AreLive link.now live.now }
 {
     match plain_owners(alloc, link, &Small64, live, MERGED_LENS) {
-        Ok(owners) => add(line, "sizes", &part_sizes(alloc, &owners)?),
+        Ok(owners) => add(line, "sizes", &part_sizes_with(rt, alloc, &owners)?),
         Err(SizeError::NoMemory) => Err(AllocError),
         Err(error) => add(line, "refused", &error),
     }
 }
 
 /// Adds the bytes of all parts of a link that is well formed, or why there are none.
-pub fn add_sums(alloc: Global, line: &mut String, link: &LinkInput) -> Result<(), AllocError> {
+pub fn add_sums(
+    rt: &(impl Threads + Sync),
+    alloc: Global,
+    line: &mut String,
+    link: &LinkInput,
+) -> Result<(), AllocError> {
     if check_link(link).is_err() {
         return Ok(());
     }
     match traverse_alone(alloc, link) {
-        Ok(live) => add_sums_of(alloc, line, link, &live),
+        Ok(live) => add_sums_of(rt, alloc, line, link, &live),
         Err(_) => Ok(()),
     }
 }
 
 #[test]
 fn sums_end_at_the_greatest_number(rt: HostRuntime) -> Result<(), Fail> {
-    expect_rows(&rt, rt.alloc(), Asked::Of(Shown::Sums), SUMS)
+    expect_rows(&rt, rt.alloc(), Asked::Sums, SUMS)
 }
 
 #[test]

@@ -59,13 +59,13 @@ pub struct PlacedParts<'a> {
 
 /// The addresses of live sections, of blocks of thunks and of merged data, and what symbols stand for, by what was found of the parts, for
 /// the sizes that are left behind what is deleted. Looks at each input section, each block and each symbol once.
-pub fn addresses_of<'a, P: Platform>(
+pub fn addresses_of<P: Platform>(
     alloc: Global,
     link: &LinkInput,
     live: &Live,
-    merged: &[MergedStringsSection<'a>],
+    merged: &[MergedStringsSection<'_>],
     owners: &PartOwners,
-    placed: &PlacedParts<'a>,
+    placed: &PlacedParts<'_>,
     platform: &P,
 ) -> Result<Addresses, AllocError>
     requires good { IsWellFormed link.now }
@@ -90,9 +90,31 @@ pub fn addresses_of<'a, P: Platform>(
         (starts_of placed.now.parts.now)) }
 {
     let found = found_addresses(alloc, link, live, merged, owners, placed, platform)?;
-    let tables = found.tables(link, live, merged, owners, placed, platform);
+    let lent = LentLink {
+        link,
+        live,
+        merged,
+        owners,
+        parts: placed.parts,
+        deltas: placed.deltas,
+        edges: placed.edges,
+    };
+    let tables = found.tables(&lent, platform);
     let resolutions = resolve_all(alloc, platform, &tables, owners.numbers())?;
     Ok(found.with_resolutions(resolutions))
+}
+
+/// A link, what is live and merged of it, and where its parts stand, lent for one time.
+#[derive(Clone, Copy)]
+pub(crate) struct LentLink<'a> {
+    pub(crate) link: &'a LinkInput,
+    pub(crate) live: &'a Live,
+    /// By output section.
+    pub(crate) merged: &'a [MergedStringsSection<'a>],
+    pub(crate) owners: &'a PartOwners,
+    pub(crate) parts: &'a [OutputRecordLayout],
+    pub(crate) deltas: &'a [RelaxDeltaMap],
+    pub(crate) edges: &'a Edges<'a>,
 }
 
 /// The addresses of what is no symbol, and where the parts start.
@@ -148,42 +170,38 @@ impl FoundAddresses {
     /// What symbols are resolved by.
     pub(crate) fn tables<'a, P: Platform>(
         &'a self,
-        link: &'a LinkInput,
-        live: &'a Live,
-        merged: &'a [MergedStringsSection<'a>],
-        owners: &'a PartOwners,
-        placed: &PlacedParts<'a>,
+        lent: &LentLink<'a>,
         _platform: &P,
     ) -> Tables<'a>
-        requires good { IsWellFormed link.now }
-        requires live { AreLive link.now live.now }
-        requires merged { merged.now ≡ (link_inputs link.now).outputs }
-        requires each { length placed.now.parts.now ≡ length (all_parts link.now.plan.sections) }
-        requires placed { (filling : Filling) × IsPlaced (in_layout (P.table_sizes _platform.now) link.now live.now filling) owners.now placed.now.parts.now
-            × (filling.sizes ≡ sizes_after link.now.groups placed.now.deltas.now) }
-        requires found { (filling : Filling) → AreFilled (in_layout (P.table_sizes _platform.now) link.now live.now filling) owners.now
-            → AreFound (in_layout (P.table_sizes _platform.now) link.now live.now filling) placed.now.parts.now self.now }
-        requires belong { AreMergedOf link.now merged.now self.now.buckets }
-        requires fit { EndInMemory placed.now.parts.now self.now.starts.items }
+        requires good { IsWellFormed lent.now.link.now }
+        requires live { AreLive lent.now.link.now lent.now.live.now }
+        requires merged { lent.now.merged.now ≡ (link_inputs lent.now.link.now).outputs }
+        requires each { length lent.now.parts.now ≡ length (all_parts lent.now.link.now.plan.sections) }
+        requires placed { (filling : Filling) × IsPlaced (in_layout (P.table_sizes _platform.now) lent.now.link.now lent.now.live.now filling) lent.now.owners.now lent.now.parts.now
+            × (filling.sizes ≡ sizes_after lent.now.link.now.groups lent.now.deltas.now) }
+        requires found { (filling : Filling) → AreFilled (in_layout (P.table_sizes _platform.now) lent.now.link.now lent.now.live.now filling) lent.now.owners.now
+            → AreFound (in_layout (P.table_sizes _platform.now) lent.now.link.now lent.now.live.now filling) lent.now.parts.now self.now }
+        requires belong { AreMergedOf lent.now.link.now lent.now.merged.now self.now.buckets }
+        requires fit { EndInMemory lent.now.parts.now self.now.starts.items }
         ensures tables { AreAtHand (P.table_sizes _platform.now) result }
-        ensures numbers { AreNumbersAt result.merged.link.now result.live.now result.told.now 0 owners.now.numbers }
-        ensures resolutions { (filling : Filling) (items : List (Option Resolution)) → AreFilled (in_layout (P.table_sizes _platform.now) link.now live.now filling) owners.now
+        ensures numbers { AreNumbersAt result.merged.link.now result.live.now result.told.now 0 lent.now.owners.now.numbers }
+        ensures resolutions { (filling : Filling) (items : List (Option Resolution)) → AreFilled (in_layout (P.table_sizes _platform.now) lent.now.link.now lent.now.live.now filling) lent.now.owners.now
             → items ≡ flat_map (file_resolutions (places_at_hand result) (setting_at_hand (P.table_sizes _platform.now) result)) (numbered_files result.merged.link.now.groups)
-            → items ≡ symbol_resolutions (in_layout (P.table_sizes _platform.now) link.now live.now filling) placed.now.deltas.now placed.now.edges.now
-            (starts_of placed.now.parts.now) }
+            → items ≡ symbol_resolutions (in_layout (P.table_sizes _platform.now) lent.now.link.now lent.now.live.now filling) lent.now.deltas.now lent.now.edges.now
+            (starts_of lent.now.parts.now) }
     {
         Tables {
             merged: Merged {
-                link,
-                sections: merged,
+                link: lent.link,
+                sections: lent.merged,
                 starts: &self.buckets,
             },
-            live,
+            live: lent.live,
             addresses: self.sections.as_slice(),
-            deltas: placed.deltas,
+            deltas: lent.deltas,
             commons: self.commons.as_slice(),
-            edges: placed.edges,
-            told: owners.header().told.as_slice(),
+            edges: lent.edges,
+            told: lent.owners.header().told.as_slice(),
             starts: self.starts.as_slice(),
         }
     }

@@ -29,7 +29,7 @@ ghost use Rattle.lk_values.specs.Resolutions.{file_resolutions, symbol_resolutio
 ghost use Rattle.lk_values.specs.Starts.{IsPlaced, starts_of};
 ghost use Rattle.lk_values.specs.Tables.{AreMergedOf};
 
-use crate::addresses::{Addresses, PlacedParts, found_addresses};
+use crate::addresses::{Addresses, LentLink, PlacedParts, found_addresses};
 use crate::entries::NextEntries;
 use crate::resolution::{Tables, first_cursors, first_symbol_of, push_file_resolutions, take_own};
 use crate::symbol_resolutions::SymbolResolutions;
@@ -45,14 +45,14 @@ use std::thread::Threads;
 /// What `addresses_of` answers, with what symbols stand for found group by group, on as many threads as there are processors. Looks at
 /// each symbol once more, and takes 24 bytes for each file, and 16 more for each symbol, while it does (libwild: the parallel walk over
 /// groups in `layout::compute`).
-pub fn addresses_of_by_groups<'a, R: Threads + Sync, P: Platform + Sync>(
+pub fn addresses_of_by_groups<R: Threads + Sync, P: Platform + Sync>(
     rt: &R,
     alloc: Global,
     link: &LinkInput,
     live: &Live,
-    merged: &[MergedStringsSection<'a>],
+    merged: &[MergedStringsSection<'_>],
     owners: &PartOwners,
-    placed: &PlacedParts<'a>,
+    placed: &PlacedParts<'_>,
     platform: &P,
 ) -> Result<Addresses, AllocError>
     requires good { IsWellFormed link.now }
@@ -77,7 +77,16 @@ pub fn addresses_of_by_groups<'a, R: Threads + Sync, P: Platform + Sync>(
         (starts_of placed.now.parts.now)) }
 {
     let found = found_addresses(alloc, link, live, merged, owners, placed, platform)?;
-    let tables = found.tables(link, live, merged, owners, placed, platform);
+    let lent = LentLink {
+        link,
+        live,
+        merged,
+        owners,
+        parts: placed.parts,
+        deltas: placed.deltas,
+        edges: placed.edges,
+    };
+    let tables = found.tables(&lent, platform);
     let resolutions = resolve_by_groups(rt, alloc, platform, &tables, owners.numbers())?;
     Ok(found.with_resolutions(resolutions))
 }

@@ -27,11 +27,11 @@ use Rattle.lk_values.proofs.addresses.FoundAddresses.tables.Goals as goal
 pub returns-clause-tables : goal.returns-clause-tables
 returns-clause-tables g c =
     let sizes : TableSizes = g.P.Platform.table_sizes c.args._platform.now in
-    let link = c.args.link.now in
-    let live : Live = c.args.live.now in
+    let link = c.args.lent.now.link.now in
+    let live : Live = c.args.lent.now.live.now in
     let filling : Filling = in_layout sizes link live c.requires.placed.0 in
-    let deletions : Deletions = c.args.placed.now.deltas.now in
-    let parts = c.args.placed.now.parts.now in
+    let deletions : Deletions = c.args.lent.now.deltas.now in
+    let parts = c.args.lent.now.parts.now in
     let starts : List ℕ = c.args.self.now.starts.items in
     let found : AreFound filling parts c.args.self.now = c.requires.found filling c.requires.placed.1.filled in
     let count = starts_count link parts starts found.starts c.requires.each in
@@ -52,22 +52,22 @@ returns-clause-tables g c =
 pub returns-clause-numbers : goal.returns-clause-numbers
 returns-clause-numbers g c =
     let sizes : TableSizes = g.P.Platform.table_sizes c.args._platform.now in
-    let link = c.args.link.now in
-    let live : Live = c.args.live.now in
+    let link = c.args.lent.now.link.now in
+    let live : Live = c.args.lent.now.live.now in
     let told : List Bool = told_marks (output_content sizes link live) in
-    let at : AreNumbersAt link live told 0 c.args.owners.now.numbers = c.requires.placed.1.filled.numbers in
+    let at : AreNumbersAt link live told 0 c.args.lent.now.owners.now.numbers = c.requires.placed.1.filled.numbers in
     let marks : c.as_slice-3.result.now ≡ told = c.as_slice-3.ensures ∙ ap (λ (h : HeaderInfo). h.told) (c.header.ensures ∙ c.requires.placed.1.filled.header) in
-    subst (λ (ms : List Bool). AreNumbersAt link live ms 0 c.args.owners.now.numbers) (sym marks) at
+    subst (λ (ms : List Bool). AreNumbersAt link live ms 0 c.args.lent.now.owners.now.numbers) (sym marks) at
 
 pub returns-clause-resolutions : goal.returns-clause-resolutions
 returns-clause-resolutions g c = λ by items h made.
-    let link = c.args.link.now in
-    let filling : Filling = in_layout (g.P.Platform.table_sizes c.args._platform.now) link c.args.live.now by in
-    let wanted : List ℕ = starts_of c.args.placed.now.parts.now in
-    let found : AreFound filling c.args.placed.now.parts.now c.args.self.now = c.requires.found by h in
-    let merged : c.args.merged.now ≡ (link_inputs link).outputs = c.requires.merged in
+    let link = c.args.lent.now.link.now in
+    let filling : Filling = in_layout (g.P.Platform.table_sizes c.args._platform.now) link c.args.lent.now.live.now by in
+    let wanted : List ℕ = starts_of c.args.lent.now.parts.now in
+    let found : AreFound filling c.args.lent.now.parts.now c.args.self.now = c.requires.found by h in
+    let merged : c.args.lent.now.merged.now ≡ (link_inputs link).outputs = c.requires.merged in
     let values : merged_value link (image_start c.args.self.now.buckets) ≡ merged_value link (images_at filling wanted)
     = same_values link (image_start c.args.self.now.buckets) (images_at filling wanted) c.requires.good (λ t below. found.images t (omega (arith, below, outputs_count link))) in
-    resolutions_by filling c.args.placed.now.deltas.now c.args.placed.now.edges.now wanted c.as_slice-4.result.now c.as_slice.result.now c.args.self.now.buckets c.as_slice-2.result.now c.as_slice-3.result.now _
+    resolutions_by filling c.args.lent.now.deltas.now c.args.lent.now.edges.now wanted c.as_slice-4.result.now c.as_slice.result.now c.args.self.now.buckets c.as_slice-2.result.now c.as_slice-3.result.now _
     (c.as_slice.ensures.value ∙ found.sections) (c.as_slice-2.ensures.value ∙ found.commons)
     (c.as_slice-3.ensures ∙ ap (λ (info : HeaderInfo). info.told) (c.header.ensures ∙ h.header)) (c.as_slice-4.ensures.value ∙ found.starts) values made
