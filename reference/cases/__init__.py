@@ -11,6 +11,7 @@ from .richer import make_richer
 from .shapes import break_shape, random_shapes
 from .shortened import shortened_description
 from .texts import break_text, json_text
+from .values import objects
 from .wide import widen
 
 __all__ = ["case", "fixed_cases", "merging_case", "shortened_case"]
@@ -63,7 +64,7 @@ def shortened_case(seed, number):
 def merging_case(seed, number):
     """The bytes of the random case of that number in which some input sections are merged."""
     rng = random.Random("merging %d:%d" % (seed, number))
-    description = {"groups": []}
+    description = good_description(rng)
     while not has_merge_data(description):
         description = good_description(rng)
         add_merges(rng, description)
@@ -73,5 +74,4 @@ def merging_case(seed, number):
 
 def has_merge_data(description):
     """Whether an input section is merged."""
-    sections = (section for group in description["groups"] for file in group for section in file.get("sections", ()))
-    return any(section.get("slot") == "merge" for section in sections)
+    return any('"slot": "merge"' in json.dumps(file) for file in objects(description))
