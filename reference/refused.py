@@ -29,31 +29,33 @@ class Refusing:
     """The program, with an allocator that refuses one call."""
 
     def __init__(self, program, folder):
-        self.program, self.calls = program, os.path.join(folder, "calls")
+        self.program, self.told = program, os.path.join(folder, "told")
         self.allocator = os.path.join(folder, "refusing.so")
         source = os.path.join(HERE, "refusing.c")
         subprocess.run(["cc", "-O1", "-shared", "-fPIC", "-o", self.allocator, source], check=True)
-        open(self.calls, "wb").close()
 
     def run(self, workers, data, refused):
-        """Status and output where the call of that number is refused, and how many calls came; 0 refuses none."""
-        variables = {**os.environ, "LD_PRELOAD": self.allocator, "CALLS": self.calls, "REFUSED": str(refused or 1 << 62)}
+        """Status and output where the call of that number is refused, and whether there was one; 0 refuses none."""
+        variables = {**os.environ, "LD_PRELOAD": self.allocator, "TOLD": self.told, "REFUSED": str(refused or 1 << 62)}
         command = [self.program, "layout", str(workers)]
         ended = subprocess.run(command, input=data, stdout=subprocess.PIPE, env=variables, timeout=SECONDS)
-        return (ended.returncode, ended.stdout), os.path.getsize(self.calls)
+        was_refused = os.path.exists(self.told)
+        if was_refused:
+            os.remove(self.told)
+        return (ended.returncode, ended.stdout), was_refused
 
 
 def refuse_each(refusing, name, workers, data):
     """Refuses each call in turn; answers how many runs did something else than they may."""
     wanted, _ = refusing.run(workers, data, 0)
-    refused, wrong, calls = 0, 0, 1
-    while refused < calls:
+    refused, wrong, goes_on = 0, 0, True
+    while goes_on:
         refused += 1
-        got, calls = refusing.run(workers, data, refused)
+        got, goes_on = refusing.run(workers, data, refused)
         if got not in (wanted, (NO_MEMORY, b"")):
             wrong += 1
             print("%s, %d workers, call %d: status %d, %r" % (name, workers, refused, got[0], got[1][:200]))
-    print("%s, %d workers: %d calls refused, %d wrong" % (name, workers, refused, wrong), flush=True)
+    print("%s, %d workers: %d calls refused, %d wrong" % (name, workers, refused - 1, wrong), flush=True)
     return wrong
 
 

@@ -1,6 +1,8 @@
-/* An allocator for LD_PRELOAD that refuses one call: the one whose number stands in REFUSED, counted from 1. */
+/* An allocator for LD_PRELOAD that refuses one call: the one whose number stands in REFUSED,
+   counted from 1. It then makes the file whose path stands in TOLD. */
 #define _GNU_SOURCE
 #include <errno.h>
+#include <fcntl.h>
 #include <stdatomic.h>
 #include <stdlib.h>
 #include <unistd.h>
@@ -13,7 +15,15 @@ static int is_refused(void) {
         const char *number = getenv("REFUSED");
         refused = number ? strtoul(number, NULL, 10) : -1UL;
     }
-    return atomic_fetch_add(&calls, 1) + 1 == refused;
+    if (atomic_fetch_add(&calls, 1) + 1 != refused) {
+        return 0;
+    }
+    const char *path = getenv("TOLD");
+    if (path != NULL) {
+        close(open(path, O_CREAT | O_WRONLY, 0600));
+    }
+    errno = ENOMEM;
+    return 1;
 }
 
 extern void *__libc_malloc(size_t), *__libc_realloc(void *, size_t), *__libc_calloc(size_t, size_t);
@@ -31,12 +41,4 @@ int posix_memalign(void **result, size_t alignment, size_t size) {
     }
     *result = found;
     return 0;
-}
-
-/* Leaves the number of calls as the size of a file. */
-__attribute__((destructor)) static void tell(void) {
-    const char *path = getenv("CALLS");
-    if (path != NULL && truncate(path, (off_t)calls) != 0) {
-        abort();
-    }
 }
