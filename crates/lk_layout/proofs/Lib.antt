@@ -46,3 +46,4 @@ mod ThunksTold
 mod UsersFound
 mod ToldSizes
 mod Valued
+mod Valuing

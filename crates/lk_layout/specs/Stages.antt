@@ -29,6 +29,7 @@ use Rattle.lk_sizes.specs.Contents.{size_refusal}
 use Rattle.lk_sizes.specs.Owners.{AreThunkOwners}
 use Rattle.lk_sizes.specs.Sizing.{AreFilled}
 use Rattle.lk_layout.specs.declared.error.LayoutError.{LayoutError}
+use Rattle.lk_values.specs.declared.addresses.Addresses.{Addresses}
 use Rattle.lk_values.specs.declared.images.Images.{Images}
 use Rattle.lk_layout.specs.declared.stages.AddressedLink.{AddressedLink}
 use Rattle.lk_layout.specs.declared.stages.KeptLink.{KeptLink}
@@ -42,7 +43,7 @@ use Rattle.lk_layout.specs.GroupStarts.{group_starts}
 use Rattle.lk_layout.specs.Made.{Made, filling_for, made_filling, made_of, relaxing_for}
 use Rattle.lk_layout.specs.Thunks.{made_branching, made_owners, made_places}
 use Rattle.lk_layout.specs.Merging.{merging_refusal}
-use Rattle.lk_layout.specs.Redirects.{made_redirected}
+use Rattle.lk_layout.specs.Redirects.{made_redirected, placed_resolutions}
 use Rattle.lk_values.specs.Images.{AreImages}
 use Rattle.lk_values.specs.Outside.{merge_offsets}
 use Rattle.lk_values.specs.OutputContent.{output_content, output_filling}
@@ -117,7 +118,16 @@ pub record IsSpannedLink (machine : Machine) (link : LinkInput) (spanned : Spann
 abbrev pub made_spanned : {machine : Machine} {link : LinkInput} {spanned : SpannedLink} → IsSpannedLink machine link spanned → Made
 made_spanned is = made_placed is.placed
 
--- and here stands what is in its parts
+-- and here stands what is in its parts, with what symbols stand for before redirects come to their values
+pub record IsValuedLink (machine : Machine) (link : LinkInput) (spanned : SpannedLink) (addresses : Addresses) : Type 0 where
+  pub spanned : IsSpannedLink machine link spanned
+  pub sections : addresses.sections.items ≡ section_addresses (made_filling (made_spanned spanned)) (starts_of (made_spanned spanned).stage.records)
+  pub blocks : addresses.blocks.items ≡ block_addresses (made_filling (made_spanned spanned)) (starts_of (made_spanned spanned).stage.records)
+  pub buckets : addresses.buckets ≡ start_addresses fnv64 (link_inputs link).outputs
+      (image_addresses (made_filling (made_spanned spanned)) (starts_of (made_spanned spanned).stage.records))
+  pub resolutions : addresses.resolutions ≡ placed_resolutions (made_spanned spanned)
+
+-- and behind them, where no reference chooses a byte outside merged data
 pub record IsAddressedLink (machine : Machine) (link : LinkInput) (addressed : AddressedLink) : Type 0 where
   pub spanned : IsSpannedLink machine link addressed.spanned
   pub inside : merge_offsets link addressed.spanned.placed.kept.live ≡ []

@@ -13,7 +13,7 @@ ghost use Rattle.lk_layout.specs.Stages.{IsAddressedLink, IsChecked, IsKept, IsM
 
 use crate::error::LayoutError;
 use crate::found::{
-    found_addresses, found_first, found_reaching, found_sizes, found_spans, found_told,
+    found_addresses, found_addresses_by_groups, found_first, found_reaching, found_sizes, found_spans, found_told,
 };
 use crate::headers::header_bytes;
 use crate::images::{merge_images, merge_images_by_workers};
@@ -62,10 +62,39 @@ fn lay_out<'data, P: Platform, A: Arch>(
     requires kept { IsKept link.now kept }
     ensures { Gives (platform_machine (P.segment_start platform.now) (P.table_sizes platform.now) (A.config_of arch.now)) link.now result }
 {
+    let spanned = stand(alloc, link, platform, arch, kept)?;
+    let addressed = address(alloc, link, platform, arch, spanned)?;
+    finish(alloc, link, platform, arch, addressed)
+}
+
+/// Finds where all stands of a link of which this is kept, and what the output sections and segments span.
+fn stand<'data, P: Platform, A: Arch>(
+    alloc: Global,
+    link: &'data LinkInput,
+    platform: &P,
+    arch: &A,
+    kept: KeptLink<'data>,
+) -> Result<SpannedLink<'data>, LayoutError>
+    requires kept { IsKept link.now kept }
+    ensures { Reaches (platform_machine (P.segment_start platform.now) (P.table_sizes platform.now) (A.config_of arch.now)) link.now
+        (IsSpannedLink (platform_machine (P.segment_start platform.now) (P.table_sizes platform.now) (A.config_of arch.now)) link.now) result }
+{
     let sized = size(alloc, link, platform, arch, kept)?;
     let placed = place(alloc, link, platform, arch, sized)?;
-    let spanned = span(alloc, link, platform, arch, placed)?;
-    let addressed = address(alloc, link, platform, arch, spanned)?;
+    span(alloc, link, platform, arch, placed)
+}
+
+/// The layout of a link whose symbols are resolved.
+fn finish<'data, P: Platform, A: Arch>(
+    alloc: Global,
+    link: &'data LinkInput,
+    platform: &P,
+    arch: &A,
+    addressed: AddressedLink<'data>,
+) -> Result<Layout<'data>, LayoutError>
+    requires addressed { IsAddressedLink (platform_machine (P.segment_start platform.now) (P.table_sizes platform.now) (A.config_of arch.now)) link.now addressed }
+    ensures { Gives (platform_machine (P.segment_start platform.now) (P.table_sizes platform.now) (A.config_of arch.now)) link.now result }
+{
     let reaching = reach(alloc, link, platform, arch, addressed)?;
     let told = tell(alloc, link, platform, arch, reaching)?;
     Ok(told.into_layout(link))
@@ -304,11 +333,51 @@ fn keep_by_workers<
     Ok(KeptLink { images, live })
 }
 
+/// Finds the addresses of what stands in the parts, and what symbols stand for, group by group.
+fn address_by_groups<'data, R: Threads + Sync, P: Platform + Sync, A: Arch>(
+    rt: &R,
+    alloc: Global,
+    link: &'data LinkInput,
+    platform: &P,
+    arch: &A,
+    spanned: SpannedLink<'data>,
+) -> Result<AddressedLink<'data>, LayoutError>
+    requires spanned { IsSpannedLink (platform_machine (P.segment_start platform.now) (P.table_sizes platform.now) (A.config_of arch.now)) link.now spanned }
+    ensures { Reaches (platform_machine (P.segment_start platform.now) (P.table_sizes platform.now) (A.config_of arch.now)) link.now
+        (IsAddressedLink (platform_machine (P.segment_start platform.now) (P.table_sizes platform.now) (A.config_of arch.now)) link.now) result }
+{
+    match found_addresses_by_groups(rt, alloc, link, platform, arch, &spanned) {
+        Ok(addresses) => Ok(AddressedLink { spanned, addresses }),
+        Err(error) => {
+            drop(spanned);
+            Err(error)
+        }
+    }
+}
+
+/// The layout of a link of which this is kept, with symbols resolved group by group.
+fn lay_out_by_groups<'data, R: Threads + Sync, P: Platform + Sync, A: Arch>(
+    rt: &R,
+    alloc: Global,
+    link: &'data LinkInput,
+    platform: &P,
+    arch: &A,
+    kept: KeptLink<'data>,
+) -> Result<Layout<'data>, LayoutError>
+    requires kept { IsKept link.now kept }
+    ensures { Gives (platform_machine (P.segment_start platform.now) (P.table_sizes platform.now) (A.config_of arch.now)) link.now result }
+{
+    let spanned = stand(alloc, link, platform, arch, kept)?;
+    let addressed = address_by_groups(rt, alloc, link, platform, arch, spanned)?;
+    finish(alloc, link, platform, arch, addressed)
+}
+
 /// The layout of a link: the defined answer, unless memory runs out (libwild: `layout::compute`). With two or more workers as many threads,
-/// 64 at most, merge strings and then find what is reached, and the gate is entered before their steps; all else is done on the caller's
-/// thread, which waits for them. Where more than 64 units ask for the same list and that is longer than 64, as the members of a large
-/// section group do, what is reached is found on the caller's thread too: workers go through such a list for each of the units. With 0
-/// or 1 it never calls the gate: it then asks for no leave to enter it.
+/// 64 at most, merge strings and then find what is reached, and the gate is entered before their steps; then symbols are resolved group by
+/// group, on as many threads as there are processors. All else is done on the caller's thread, which waits for them. Where more than 64
+/// units ask for the same list and that is longer than 64, as the members of a large section group do, what is reached is found on the
+/// caller's thread too: workers go through such a list for each of the units. With 0 or 1 it never calls the gate: it then asks for no
+/// leave to enter it.
 pub fn compute<'data, R: Threads + Wait + Sync, P: Platform + Sync, A: Arch + Sync, G: Gate + Sync>(
     rt: &R,
     alloc: Global,
@@ -327,5 +396,5 @@ pub fn compute<'data, R: Threads + Wait + Sync, P: Platform + Sync, A: Arch + Sy
     check(link, platform, arch)?;
     let images = merge_by_workers(rt, alloc, link, platform, arch, workers, gate)?;
     let kept = keep_by_workers(rt, alloc, link, platform, arch, images, workers, gate)?;
-    lay_out(alloc, link, platform, arch, kept)
+    lay_out_by_groups(rt, alloc, link, platform, arch, kept)
 }

@@ -1,9 +1,16 @@
 //! What each stage of the computation finds, by the stage before it, which it borrows.
 
-ghost use Rattle.std.specs.Prelude.{◌≡◌};
+ghost use Rattle.std.specs.Prelude.{◌≡◌, IfOk, length};
+ghost use Rattle.lk_link.specs.Parts.{all_parts};
+ghost use Rattle.lk_relaxing.specs.LinkDeletions.{sizes_after};
+ghost use Rattle.lk_sizes.specs.Owners.{Filling};
+ghost use Rattle.lk_values.specs.OutputContent.{in_layout};
+ghost use Rattle.lk_values.specs.Starts.{IsPlaced};
 ghost use Rattle.lk_layout.specs.Headers.{header_bytes};
 ghost use Rattle.lk_layout.specs.Machines.{platform_machine};
-ghost use Rattle.lk_layout.specs.Stages.{IsAddressedLink, IsKept, GivesNear, IsBranchedLink, IsPlacedFirst, IsPlacedLink, IsReachingLink, IsSized, IsSpannedLink, IsToldLink, Reaches, made_placed};
+ghost use Rattle.lk_layout.specs.Made.{made_deletions};
+ghost use Rattle.lk_layout.specs.Redirects.{made_edges};
+ghost use Rattle.lk_layout.specs.Stages.{IsAddressedLink, IsKept, GivesNear, IsBranchedLink, IsPlacedFirst, IsPlacedLink, IsReachingLink, IsSized, IsSpannedLink, IsToldLink, IsValuedLink, Reaches, made_placed, made_spanned};
 
 use crate::error::LayoutError;
 use crate::group_starts::{GroupStarts, group_starts};
@@ -11,7 +18,7 @@ use crate::redirects::set_redirects;
 use crate::stages::{AddressedLink, KeptLink, PlacedLink, ReachingLink, SizedLink, SpannedLink};
 use lk_branches::laws::thunk_owners_are_good;
 use lk_branches::{ThunkPlan, block_owners, block_places, check_branches, plan_thunks};
-use lk_edges::edges_of;
+use lk_edges::{Edges, edges_of};
 use lk_edges::laws::segments_end_below;
 use lk_link::ids::FileId;
 use lk_link::link::LinkInput;
@@ -29,8 +36,9 @@ use lk_relaxing::{check_sites, compute_input_section_positions, is_nothing_delet
 use lk_sizes::part_owners::{add_thunks, plain_owners};
 use lk_sizes::{PartOwners, PartialLinkPlan, attributes_of_contents};
 use lk_thunks::Arch;
-use lk_values::{Addresses, PlacedParts, addresses_of, check_offsets};
-use std::alloc::Global;
+use lk_values::{Addresses, PlacedParts, addresses_of, addresses_of_by_groups, check_offsets};
+use std::alloc::{AllocError, Global};
+use std::thread::Threads;
 
 /// Adds up what the live sections bring to each part, plans thunks by that, and adds these.
 pub(crate) fn found_sizes<P: Platform, A: Arch>(
@@ -99,6 +107,77 @@ pub(crate) fn found_spans<P: Platform, A: Arch>(
     Ok((List::from_vec(joined), segments))
 }
 
+/// Finds what the linker's own symbols stand at.
+fn found_edges<'a, P: Platform, A: Arch>(
+    alloc: Global,
+    link: &LinkInput,
+    _platform: &P,
+    _arch: &A,
+    spanned: &'a SpannedLink<'_>,
+) -> Result<Edges<'a>, AllocError>
+    requires spanned { IsSpannedLink (platform_machine (P.segment_start _platform.now) (P.table_sizes _platform.now) (A.config_of _arch.now)) link.now spanned.now }
+    ensures { (is : IsSpannedLink (platform_machine (P.segment_start _platform.now) (P.table_sizes _platform.now) (A.config_of _arch.now)) link.now spanned.now)
+        → IfOk result (λ edges. edges ≡ made_edges (made_spanned is)) }
+{
+    // A law, which does nothing: thread-local data end in memory.
+    segments_end_below();
+    let sections = spanned.placed.records.sections.as_slice();
+    edges_of(alloc, link, sections, spanned.segments.segments.as_slice())
+}
+
+/// Where the parts stand, what is deleted of sections, and what own symbols stand at, as resolving symbols takes them.
+fn placed_parts<'a, P: Platform, A: Arch>(
+    _link: &LinkInput,
+    _platform: &P,
+    _arch: &A,
+    spanned: &'a SpannedLink<'_>,
+    edges: &'a Edges<'a>,
+) -> PlacedParts<'a>
+    requires spanned { IsSpannedLink (platform_machine (P.segment_start _platform.now) (P.table_sizes _platform.now) (A.config_of _arch.now)) _link.now spanned.now }
+    ensures parts { (is : IsSpannedLink (platform_machine (P.segment_start _platform.now) (P.table_sizes _platform.now) (A.config_of _arch.now)) _link.now spanned.now) → result.parts.now ≡ (made_spanned is).stage.records }
+    ensures deltas { (is : IsSpannedLink (platform_machine (P.segment_start _platform.now) (P.table_sizes _platform.now) (A.config_of _arch.now)) _link.now spanned.now) → result.deltas.now ≡ made_deletions (made_spanned is) }
+    ensures edges { result.edges.now ≡ edges.now }
+    ensures each { length result.parts.now ≡ length (all_parts _link.now.plan.sections) }
+    ensures placed { (filling : Filling) × IsPlaced (in_layout (P.table_sizes _platform.now) _link.now spanned.now.placed.kept.live filling) spanned.now.placed.owners result.parts.now
+        × (filling.sizes ≡ sizes_after _link.now.groups result.deltas.now) }
+{
+    // Laws, which do nothing: the parts end where their owners do, also behind what is deleted.
+    parts_take_their_bytes();
+    relaxed_stands();
+    PlacedParts {
+        parts: spanned.placed.records.parts.as_slice(),
+        deltas: spanned.placed.deltas.as_slice(),
+        edges,
+    }
+}
+
+/// The same addresses, with what symbols stand for behind all redirects, where all references to merged data choose a byte of theirs.
+fn redirected<P: Platform, A: Arch>(
+    alloc: Global,
+    link: &LinkInput,
+    platform: &P,
+    arch: &A,
+    spanned: &SpannedLink<'_>,
+    found: Addresses,
+) -> Result<Addresses, LayoutError>
+    requires found { IsValuedLink (platform_machine (P.segment_start platform.now) (P.table_sizes platform.now) (A.config_of arch.now)) link.now spanned.now found }
+    ensures { Reaches (platform_machine (P.segment_start platform.now) (P.table_sizes platform.now) (A.config_of arch.now)) link.now
+        (λ q. IsAddressedLink (platform_machine (P.segment_start platform.now) (P.table_sizes platform.now) (A.config_of arch.now)) link.now (record { spanned = spanned.now; addresses = q })) result }
+{
+    let kept = &spanned.placed.kept;
+    check_offsets(link, &kept.live, kept.images.sections.as_slice())?;
+    let mut addresses = found;
+    set_redirects(
+        alloc,
+        link,
+        platform,
+        arch,
+        spanned,
+        &mut addresses.resolutions,
+    )?;
+    Ok(addresses)
+}
+
 /// Finds the addresses of what stands in the parts, and what symbols stand for, behind all redirects.
 pub(crate) fn found_addresses<P: Platform, A: Arch>(
     alloc: Global,
@@ -111,31 +190,39 @@ pub(crate) fn found_addresses<P: Platform, A: Arch>(
     ensures { Reaches (platform_machine (P.segment_start platform.now) (P.table_sizes platform.now) (A.config_of arch.now)) link.now
         (λ q. IsAddressedLink (platform_machine (P.segment_start platform.now) (P.table_sizes platform.now) (A.config_of arch.now)) link.now (record { spanned = spanned.now; addresses = q })) result }
 {
-    // Laws, which do nothing: the parts end where their owners do, also behind what is deleted, and thread-local data end in memory.
-    parts_take_their_bytes();
-    relaxed_stands();
-    segments_end_below();
+    let edges = found_edges(alloc, link, platform, arch, spanned)?;
+    let parts = placed_parts(link, platform, arch, &*spanned, &edges);
     let placed = &spanned.placed;
     let live = &placed.kept.live;
     let merged = placed.kept.images.sections.as_slice();
-    let sections = placed.records.sections.as_slice();
-    let edges = edges_of(alloc, link, sections, spanned.segments.segments.as_slice())?;
-    let parts = PlacedParts {
-        parts: placed.records.parts.as_slice(),
-        deltas: placed.deltas.as_slice(),
-        edges: &edges,
-    };
-    let mut addresses = addresses_of(alloc, link, live, merged, &placed.owners, &parts, platform)?;
-    check_offsets(link, live, merged)?;
-    set_redirects(
-        alloc,
-        link,
-        platform,
-        arch,
-        spanned,
-        &mut addresses.resolutions,
-    )?;
-    Ok(addresses)
+    let found = addresses_of(alloc, link, live, merged, &placed.owners, &parts, platform)?;
+    redirected(alloc, link, platform, arch, spanned, found)
+}
+
+/// The same, with what symbols stand for found group by group, on as many threads as there are processors, where there are two groups.
+pub(crate) fn found_addresses_by_groups<R: Threads + Sync, P: Platform + Sync, A: Arch>(
+    rt: &R,
+    alloc: Global,
+    link: &LinkInput,
+    platform: &P,
+    arch: &A,
+    spanned: &SpannedLink<'_>,
+) -> Result<Addresses, LayoutError>
+    requires spanned { IsSpannedLink (platform_machine (P.segment_start platform.now) (P.table_sizes platform.now) (A.config_of arch.now)) link.now spanned.now }
+    ensures { Reaches (platform_machine (P.segment_start platform.now) (P.table_sizes platform.now) (A.config_of arch.now)) link.now
+        (λ q. IsAddressedLink (platform_machine (P.segment_start platform.now) (P.table_sizes platform.now) (A.config_of arch.now)) link.now (record { spanned = spanned.now; addresses = q })) result }
+{
+    if link.groups.len() < 2 {
+        return found_addresses(alloc, link, platform, arch, spanned);
+    }
+    let edges = found_edges(alloc, link, platform, arch, spanned)?;
+    let parts = placed_parts(link, platform, arch, &*spanned, &edges);
+    let placed = &spanned.placed;
+    let live = &placed.kept.live;
+    let merged = placed.kept.images.sections.as_slice();
+    let owners = &placed.owners;
+    let found = addresses_of_by_groups(rt, alloc, link, live, merged, owners, &parts, platform)?;
+    redirected(alloc, link, platform, arch, spanned, found)
 }
 
 /// Finds where the thunks of each block begin, and looks at branches.
