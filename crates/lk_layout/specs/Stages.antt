@@ -119,8 +119,8 @@ abbrev pub made_spanned : {machine : Machine} {link : LinkInput} {spanned : Span
 made_spanned is = made_placed is.placed
 
 -- and here stands what is in its parts, with what symbols stand for before redirects come to their values
-pub record IsValuedLink (machine : Machine) (link : LinkInput) (spanned : SpannedLink) (addresses : Addresses) : Type 0 where
-  pub spanned : IsSpannedLink machine link spanned
+pub record IsValuedLink (machine : Machine) (link : LinkInput) (stands : SpannedLink) (addresses : Addresses) : Type 0 where
+  pub spanned : IsSpannedLink machine link stands
   pub sections : addresses.sections.items ≡ section_addresses (made_filling (made_spanned spanned)) (starts_of (made_spanned spanned).stage.records)
   pub blocks : addresses.blocks.items ≡ block_addresses (made_filling (made_spanned spanned)) (starts_of (made_spanned spanned).stage.records)
   pub buckets : addresses.buckets ≡ start_addresses fnv64 (link_inputs link).outputs

@@ -122,7 +122,8 @@ fn found_edges<'a, P: Platform, A: Arch>(
     // A law, which does nothing: thread-local data end in memory.
     segments_end_below();
     let sections = spanned.placed.records.sections.as_slice();
-    edges_of(alloc, link, sections, spanned.segments.segments.as_slice())
+    let edges = edges_of(alloc, link, sections, spanned.segments.segments.as_slice())?;
+    Ok(edges)
 }
 
 /// Where the parts stand, what is deleted of sections, and what own symbols stand at, as resolving symbols takes them.

@@ -29,5 +29,5 @@ pub returns : goal.returns
 returns g c = λ is.
     let machine = platform_machine (g.P.Platform.segment_start c.args._platform.now) (g.P.Platform.table_sizes c.args._platform.now) (g.A.Arch.config_of c.args._arch.now) in
     let made : Made = made_spanned is in
-    edges_are made c.as_slice-sections.result.now c.as_slice.result.now c.edges_of.result c.edges_of.ensures
+    edges_are made c.as_slice-sections.result.now c.as_slice.result.now c.in_ok-edges.edges c.in_ok-edges.ensures
     (c.as_slice-sections.ensures ∙ sections_are machine c.args.link.now c.args.spanned.now.placed is.placed) (c.as_slice.ensures ∙ is.segments)
