@@ -338,7 +338,8 @@ pub(crate) fn found_told<P: Platform, A: Arch>(
     let block_owners = block_owners(alloc, &placed.thunks)?;
     let header = placed.owners.header();
     let told = header.told.as_slice();
-    let starts = group_starts(alloc, link, platform, &placed.kept.live, told)?;
+    let shares = placed.owners.shares();
+    let starts = group_starts(alloc, link, platform, &placed.kept.live, told, shares)?;
     Ok((
         List::from_vec(attributes),
         partial_link,

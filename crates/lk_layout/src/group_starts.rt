@@ -2,11 +2,12 @@
 
 ghost use Rattle.std.specs.Prelude.{◌≡◌, ◌+◌, ◌==◌, IfOk, drop, if◌then◌else◌, map, sum_by, take};
 ghost use Rattle.lk_link.specs.WellFormed.{IsWellFormed};
+ghost use Rattle.lk_tables.specs.ShareWords.{first_shares};
 ghost use Rattle.lk_layout.specs.GroupStarts.{byte_starts, capped, entries_in, first_bytes, group_starts, part_for, starts_by, starts_in, taken_in};
 
 use lk_gc::Live;
 use lk_link::{InputFile, LinkInput, List, PartId, Platform};
-use lk_tables::{FileShare, mark_prelude, symbol_shares};
+use lk_tables::{FileShare, mark_prelude};
 use std::alloc::{AllocError, Global};
 
 /// A table that files bring their symbols to.
@@ -210,19 +211,21 @@ fn starts_by(
     })
 }
 
-/// Where the groups of a link begin in the tables of symbols, by what is live and the output sections whose edges are told. Looks at
-/// each symbol once more than sizing does, and takes 176 bytes for each file while it does (libwild: the offsets of `GroupLayout`).
+/// Where the groups of a link begin in the tables of symbols, by what is live, the output sections whose edges are told, and what each
+/// file's symbols take first. Looks at each symbol of the prelude once, and at each file a few times (libwild: the offsets of
+/// `GroupLayout`).
 pub(crate) fn group_starts<P: Platform>(
     alloc: Global,
     link: &LinkInput,
     platform: &P,
     live: &Live,
     told: &[bool],
+    shares: &[FileShare],
 ) -> Result<GroupStarts, AllocError>
-    requires { IsWellFormed link.now }
+    requires good { IsWellFormed link.now }
+    requires shares { shares.now ≡ first_shares (P.table_sizes platform.now) link.now live.now }
     ensures { IfOk result (λ starts. starts ≡ group_starts (P.table_sizes platform.now) link.now live.now told.now) }
 {
-    let shares = symbol_shares(alloc, link, platform, live)?;
     let late = mark_prelude(link, platform, live, told);
-    starts_by(alloc, link, platform.symbol_entry(), &shares.files, &late)
+    starts_by(alloc, link, platform.symbol_entry(), shares, &late)
 }

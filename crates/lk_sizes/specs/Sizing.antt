@@ -1,6 +1,7 @@
 -- What sizing answers as a whole.
 use Rattle.std.specs.Prelude.{◌≡◌, ℕ, List, Some, None, Result, Ok, Err, unwrap_or}
 use Rattle.lk_tables.specs.DynamicCounters.{AreNumbersAt}
+use Rattle.lk_tables.specs.ShareWords.{first_shares}
 use Rattle.lk_sizes.specs.declared.error.SizeError.{SizeError}
 use Rattle.lk_sizes.specs.declared.error.SizeError.TheVariants.{NoMemory}
 use Rattle.lk_sizes.specs.Contents.{part_contents, size_refusal, sum_refusal}
@@ -12,13 +13,14 @@ use Rattle.lk_sizes.specs.declared.part_owners.ResizedLists.{ResizedLists}
 use Rattle.lk_sizes.specs.OwnersRecord.{OwnersRecord}
 
 -- what was found is that of a filling: the contents of the parts, what headers tell, the numbers of dynamic symbols at the
--- first symbol, the commons that take bytes, the sorted sections, the lengths of images, the bytes of blocks of thunks, and the sizes of
+-- first symbol, the commons that take bytes, what each file's symbols take in tables first, the sorted sections, the lengths of images, the bytes of blocks of thunks, and the sizes of
 -- input sections, which are those of the description where none are given
 pub record AreFilled (filling : Filling) (owners : OwnersRecord) : Type 0 where
   pub contents : owners.contents ≡ part_contents filling
   pub header : owners.header ≡ header_info filling.content
   pub numbers : AreNumbersAt filling.content.link filling.content.live (told_marks filling.content) 0 owners.numbers
   pub commons : owners.commons ≡ all_commons filling.content.link filling.content.live
+  pub shares : owners.shares ≡ first_shares filling.content.sizes filling.content.link filling.content.live
   pub sorted : owners.sorted ≡ sorted_sections filling.content.link filling.content.live filling.sizes
   pub lens : owners.lens ≡ filling.content.merged_lens
   pub thunks : owners.thunks ≡ filling.thunks

@@ -29,7 +29,9 @@ use crate::resized::{contents_fit, less_bytes, resize_sections};
 use crate::sorted::{InputSortedSection, tell_sorted};
 use lk_gc::Live;
 use lk_link::{FileId, LinkInput, List, Platform};
-use lk_tables::{Common, DynamicNumbers, HeaderInfo, mark_prelude, symbol_shares, whole_totals};
+use lk_tables::{
+    Common, DynamicNumbers, FileShare, HeaderInfo, mark_prelude, symbol_shares, whole_totals,
+};
 use rayon::prelude::*;
 use std::alloc::{AllocError, Global};
 use std::marker::Model;
@@ -46,6 +48,8 @@ pub struct PartOwners {
     numbers: DynamicNumbers,
     /// The commons that take bytes, in the order of their symbols.
     commons: List<Common>,
+    /// What each file's symbols take in tables first, by group and index.
+    shares: List<FileShare>,
     /// The sorted sections, in the order in which they stand in their parts.
     sorted: List<InputSortedSection>,
     /// The lengths of merged images, by output section.
@@ -77,6 +81,7 @@ impl Model for PartOwners {
       header = a.header;
       numbers = a.numbers;
       commons = a.commons;
+      shares = a.shares;
       sorted = a.sorted;
       lens = a.lens;
       thunks = a.thunks;
@@ -119,6 +124,13 @@ impl PartOwners {
         ensures { result.now ≡ self.now.commons }
     {
         self.commons.as_slice()
+    }
+
+    /// What each file's symbols take in tables, by group and index; of the prelude what no late mark changes.
+    pub fn shares(&self) -> &[FileShare]
+        ensures { result.now ≡ self.now.shares }
+    {
+        self.shares.as_slice()
     }
 
     /// The live sorted sections, in the order in which they stand in their parts.
@@ -223,6 +235,7 @@ pub fn add_thunks(
             header: owners.header,
             numbers: owners.numbers,
             commons: owners.commons,
+            shares: owners.shares,
             sorted: owners.sorted,
             lens: owners.lens,
             thunks,
@@ -258,6 +271,7 @@ pub fn resize_owners(
             header: owners.header,
             numbers: owners.numbers,
             commons: owners.commons,
+            shares: owners.shares,
             sorted: resized.sorted,
             lens: owners.lens,
             thunks: owners.thunks,
@@ -343,6 +357,7 @@ fn sized_owners<P: Platform>(
         lens,
         thunks: List::new(alloc),
         sizes,
+        shares: List::from_vec(brought.files),
     })
 }
 

@@ -21,6 +21,9 @@ attributes_of_contents-requires-clause-count g c =
     ap length (c.contents.ensures ∙ c.requires.reaching.branched.addressed.spanned.placed.owners.contents)
     ∙ length-by_part (contents_of (made_filling made)) link
 
+pub group_starts-requires-clause-shares : goal.group_starts-requires-clause-shares
+group_starts-requires-clause-shares g c = c.shares-shares.ensures ∙ c.requires.reaching.branched.addressed.spanned.placed.owners.shares
+
 pub returns : goal.returns
 returns g c =
     let machine = platform_machine (g.P.Platform.segment_start c.args.platform.now) (g.P.Platform.table_sizes c.args.platform.now) (g.A.Arch.config_of c.args._arch.now) in

@@ -138,6 +138,7 @@ returns-clause-owners g c =
         header = header;
         numbers = c.new-numbers.ensures sizes live (header_info content).told c.requires.good (c.deref-8.ensures.value ∙ c.in_ok-brought.ensures.files) marked;
         commons = c.from_vec.ensures ∙ c.in_ok-brought.ensures.commons;
+        shares = c.from_vec-2.ensures ∙ c.in_ok-brought.ensures.files;
         sorted = c.from_vec-sorted.ensures ∙ c.in_ok-tell_sorted.ensures;
         lens = c.from_vec-lens.ensures ∙ c.in_ok-from_slice.ensures.items;
         thunks = c.new.ensures;
