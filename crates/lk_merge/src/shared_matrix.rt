@@ -2,11 +2,12 @@
 //! group's pieces start, and what there is to do. Locks are taken in this order: a cell, then what there is to do.
 
 ghost use Rattle.std.specs.Global.{Global};
-ghost use Rattle.std.specs.Prelude.{◌≡◌, ◌≢◌, ◌<◌, ℕ, IfOk, IfSome, None, Some, Vec, length, map, slice_get};
+ghost use Rattle.std.specs.Prelude.{◌≡◌, ◌≢◌, ◌<◌, ℕ, IfOk, IfSome, None, Some, Vec, length, slice_get};
 ghost use Rattle.lk_merge.specs.Inputs.{located};
 ghost use Rattle.lk_merge.specs.MatrixCells.{pieces_of_strings};
-ghost use Rattle.lk_merge.specs.MatrixWork.{IsWork, cell_pieces, group_located, located_place};
+ghost use Rattle.lk_merge.specs.MatrixWork.{IsWork, cell_pieces, group_located};
 ghost use Rattle.lk_merge.specs.MergingTables.{HasMerged};
+ghost use Rattle.lk_merge.specs.PieceStarts.{HasStarts};
 ghost use Rattle.lk_merge.specs.declared.string.MergeString.{MergeString};
 
 use crate::bucket::BUCKETS;
@@ -19,7 +20,7 @@ use crate::groups::SectionGroup;
 use crate::inputs::{StringMergeInputSections, total_input_size};
 use crate::matrix_work::Brings;
 use crate::merging::Merging;
-use crate::offset_map::PieceEntry;
+use crate::piece_starts::PieceStarts;
 use crate::string::MergeString;
 use lk_link::{Gate, OutputSectionId};
 use std::alloc::{AllocError, Global};
@@ -188,8 +189,8 @@ impl<'m, 'data, J: Brings> Matrix<'m, 'data, J> {
     }
 
     /// Where a group's pieces start is told.
-    fn tell_starts<R: Wait>(&self, rt: &R, group: usize, starts: Vec<PieceEntry>)
-        requires { starts.items ≡ map located_place (group_located J.work group) }
+    fn tell_starts<R: Wait>(&self, rt: &R, group: usize, starts: PieceStarts)
+        requires { HasStarts (group_located J.work group) starts }
     {
         let Some(told) = self.starts.as_slice().get(group) else {
             return;
