@@ -1,5 +1,5 @@
 -- The entries of the offset map: the pieces of all groups, each with the next place of its bucket.
-use Rattle.std.proofs.Common.{◌≡◌, ℕ, zero, suc, ◌+◌, ◌/◌, ◌%◌, ◌^◌, ◌<◌, true, false, cond, eqb, get_or, List, [], ◌∷◌, ◌++◌, length, map, set, take, drop, Some, Vec, Global, option_map, refl, sym, ap, ◌∙◌, subst, arith, add-one, inl, inr, append-nil, append_assoc, length-append}
+use Rattle.std.proofs.Common.{◌≡◌, ℕ, zero, suc, ◌+◌, ◌%◌, ◌<◌, true, false, cond, eqb, get_or, List, [], ◌∷◌, ◌++◌, length, map, set, take, drop, Some, Vec, Global, option_map, refl, sym, ap, ◌∙◌, subst, arith, add-one, inl, inr, append-nil, append_assoc, length-append}
 use Rattle.std.specs.List.{flat_map, slice_get}
 use Rattle.std.specs.Option.{option_map_or}
 use Rattle.std.proofs.lemmas.Bool.{eq-eqb, ne_eqb}

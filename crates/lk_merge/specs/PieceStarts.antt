@@ -1,5 +1,5 @@
 -- Where the pieces of a group start, as it is kept until the end.
-use Rattle.std.specs.Prelude.{◌≡◌, ℕ, ◌+◌, ◌%◌, List, Some, Vec, map, slice_get}
+use Rattle.std.specs.Prelude.{◌≡◌, ℕ, ◌+◌, ◌%◌, List, Some, map, slice_get}
 use Rattle.lk_merge.specs.declared.piece_starts.PieceStarts.{PieceStarts}
 use Rattle.lk_merge.specs.Hash.{fnv64}
 use Rattle.lk_merge.specs.Inputs.{Located}

@@ -36,7 +36,7 @@ impl PieceStarts {
         self.offsets.len()
     }
 
-    /// Adds the next piece. One that starts 2^32 bytes or more behind the group's start is refused.
+    /// Adds the next piece. One that starts 2^32 bytes or more behind the group's start is refused; no group of a link is so long.
     pub(crate) fn add(&mut self, start: u64, bucket: usize) -> Result<(), AllocError>
         requires { bucket < 16 }
         ensures { OnOk result ((pieces : List Located) (l : Located) → l.start ≡ start → bucket_of l ≡ bucket → HasStarts pieces self.old → HasStarts (pieces ++ l ∷ []) self.new) }
