@@ -16,8 +16,8 @@ use Rattle.lk_merge.specs.Hash.{fnv64}
 use Rattle.lk_merge.specs.Image.{in_bucket}
 use Rattle.lk_merge.specs.Inputs.{AreInputs, Located, input_of, located, located_from, located_in, padded_total}
 use Rattle.lk_merge.specs.MatrixCells.{pieces_of_strings}
-use Rattle.lk_merge.specs.MatrixWork.{located_place}
 use Rattle.lk_merge.specs.MergingTables.{pieces_in}
+use Rattle.lk_merge.specs.PieceStarts.{HasStarts}
 use Rattle.lk_merge.specs.Pieces.{IsString, MergeInput, Piece, cut, is_terminated, pieces_of}
 use Rattle.lk_merge.proofs.Covering.{none_inside}
 use Rattle.lk_merge.proofs.GoodPieces.{good_pieces}
@@ -31,7 +31,7 @@ use Rattle.lk_merge.proofs.Strings.{cut_no_zero}
 -- ---- one piece more
 
 pub brought_none : (g : Brings) → length g.buckets.items ≡ 16 → ((b : ℕ) (found : Vec MergeString Global) → slice_get g.buckets.items b ≡ Some found → found.items ≡ [])
-    → g.starts.items ≡ [] → HasBrought [] g
+    → HasStarts [] g.starts → HasBrought [] g
 brought_none g count each starts = record {
   count = count;
   each = λ b found there. ap pieces_of_strings (each b found there);
@@ -49,7 +49,7 @@ module _ (done : List Located) (old new : Brings) (s : MergeString) (input start
   more_pieces = map-append (λ (l : Located). l.piece) done (here ∷ [])
 
   pub brought_more : HasBrought done old → slice_get old.buckets.items own ≡ Some found → after.items ≡ found.items ++ s ∷ []
-      → new.buckets.items ≡ set old.buckets.items own after → new.starts.items ≡ old.starts.items ++ located_place here ∷ [] → HasBrought (done ++ here ∷ []) new
+      → new.buckets.items ≡ set old.buckets.items own after → (HasStarts done old.starts → HasStarts (done ++ here ∷ []) new.starts) → HasBrought (done ++ here ∷ []) new
   brought_more h at pushed buckets starts =
       let within : own < length old.buckets.items = slice_get_within old.buckets.items own found at in
       record {
@@ -67,7 +67,7 @@ module _ (done : List Located) (old new : Brings) (s : MergeString) (input start
               h.each b v kept ∙ sym (append-nil (in_bucket fnv64 b (pieces_in done)))
               ∙ sym (bucket_more (pieces_in done) s.bytes.now b false (ne_eqb own b miss.1)) ∙ ap (in_bucket fnv64 b) (sym more_pieces)
         ];
-        starts = starts ∙ ap (λ l. l ++ located_place here ∷ []) h.starts ∙ sym (map-append located_place done (here ∷ []));
+        starts = starts h.starts;
       }
 
 -- ---- the strings of some data

@@ -23,6 +23,7 @@ pub mod GroupsThere
 pub mod Growing
 pub mod InputLemmas
 pub mod InputWalk
+pub mod KeptStarts
 pub mod LaidOut
 pub mod LocatedLemmas
 pub mod Locating

@@ -1,8 +1,7 @@
 -- The entries of the offset map: the pieces of all groups, each with the next place of its bucket.
-use Rattle.std.proofs.Common.{◌≡◌, ℕ, zero, suc, ◌+◌, ◌/◌, ◌%◌, ◌^◌, ◌<◌, true, false, cond, eqb, get_or, List, [], ◌∷◌, ◌++◌, length, map, set, take, drop, Some, Vec, Global, option_map, refl, sym, ap, ◌∙◌, subst, arith, add-one, inl, inr, append-nil, append_assoc, length-append}
+use Rattle.std.proofs.Common.{◌≡◌, ℕ, zero, suc, ◌+◌, ◌%◌, ◌<◌, true, false, cond, eqb, get_or, List, [], ◌∷◌, ◌++◌, length, map, set, take, drop, Some, Vec, Global, option_map, refl, sym, ap, ◌∙◌, subst, arith, add-one, inl, inr, append-nil, append_assoc, length-append}
 use Rattle.std.specs.List.{flat_map, slice_get}
 use Rattle.std.specs.Option.{option_map_or}
-use Rattle.std.proofs.Math.Nat.{mod-lt}
 use Rattle.std.proofs.lemmas.Bool.{eq-eqb, ne_eqb}
 use Rattle.std.proofs.lemmas.Bool.Decides.{eqb_tells}
 use Rattle.std.proofs.lemmas.Grind.{flat_map-append}
@@ -19,7 +18,7 @@ use Rattle.lk_merge.specs.GroupStarts.{ArePlaces, HasEntries}
 use Rattle.lk_merge.specs.Hash.{fnv64}
 use Rattle.lk_merge.specs.Image.{firsts_behind, in_bucket, place_in}
 use Rattle.lk_merge.specs.Inputs.{Located, located}
-use Rattle.lk_merge.specs.MatrixWork.{IsWork, MatrixWork, front_located, group_located, located_between, located_place, places_of}
+use Rattle.lk_merge.specs.MatrixWork.{IsWork, MatrixWork, front_located, group_located, located_between, places_of}
 use Rattle.lk_merge.specs.Merging.{place_of}
 use Rattle.lk_merge.specs.MergingTables.{entry_of, pieces_in}
 use Rattle.lk_merge.specs.OffsetMapTables.{HoldsIn}
@@ -32,10 +31,6 @@ use Rattle.lk_merge.proofs.Growing.{bucket_more, set_at, set_other, some_same}
 at_seam : {X : Type 0} (xs : List X) (y : X) (ys : List X) → slice_get (xs ++ y ∷ ys) (length xs) ≡ Some y
 at_seam [] y ys = refl
 at_seam (x ∷ xs) y ys = at_seam xs y ys
-
--- a bucket's number, out of a place that tells the bucket alone
-pub bucket_told : (n : ℕ) → bucket_place (n % 16) 0 / 2 ^ 28 ≡ n % 16
-bucket_told n = let small : n % 16 < 16 = mod-lt n (omega arith) in omega (arith, small)
 
 module _ (all done rest : List Located) (l : Located) (is : all ≡ done ++ l ∷ rest) where
   abbrev own : ℕ
@@ -93,28 +88,24 @@ module _ (all done rest : List Located) (l : Located) (is : all ≡ done ++ l �
 
 -- ---- pieces that follow each other
 
-pub record IsNext (more : List Located) (k : ℕ) (s : PieceEntry) : Type 0 where
-  pub piece : Located
+pub record IsNext (more : List Located) (k : ℕ) (piece : Located) : Type 0 where
   pub rest : List Located
-  pub is : s ≡ located_place piece
   pub split : more ≡ take k more ++ piece ∷ rest
   pub one : take (k + 1) more ≡ take k more ++ piece ∷ []
 
-pub next_entry : (more : List Located) (k : ℕ) (s : PieceEntry) → slice_get (map located_place more) k ≡ Some s → IsNext more k s
-next_entry [] k s h = absurd (cc)
-next_entry (m ∷ more) zero s h = record {
-  piece = m;
-  rest = more;
-  is = some_same s (located_place m) (sym h);
-  split = refl;
-  one = ap (λ n. take n (m ∷ more)) (add-one 0);
-}
-next_entry (m ∷ more) (suc k) s h =
-    let r = next_entry more k s h in
+pub next_piece : (more : List Located) (k : ℕ) (l : Located) → slice_get more k ≡ Some l → IsNext more k l
+next_piece [] k l h = absurd (cc)
+next_piece (m ∷ more) zero l h =
+    let same : m ≡ l = some_same m l h in
     record {
-      piece = r.piece;
+      rest = more;
+      split = ap (λ (x : Located). x ∷ more) same;
+      one = ap (λ n. take n (m ∷ more)) (add-one 0) ∙ ap (λ (x : Located). x ∷ []) same;
+    }
+next_piece (m ∷ more) (suc k) l h =
+    let r = next_piece more k l h in
+    record {
       rest = r.rest;
-      is = r.is;
       split = ap (λ (ls : List Located). m ∷ ls) r.split;
       one = ap (λ n. take n (m ∷ more)) (add-one (suc k)) ∙ ap (λ n. m ∷ take n more) (sym (add-one k)) ∙ ap (λ (ls : List Located). m ∷ ls) r.one;
     }

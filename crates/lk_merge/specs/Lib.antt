@@ -26,6 +26,7 @@ pub mod OffsetMaps
 pub mod OffsetsOutside
 pub mod OutputAddressTables
 pub mod OutputAddresses
+pub mod PieceStarts
 pub mod Pieces
 pub mod Places
 pub mod StartsValue

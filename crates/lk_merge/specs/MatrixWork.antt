@@ -1,5 +1,5 @@
 -- What workers merge: the inputs of an output section, in groups.
-use Rattle.std.specs.Prelude.{◌≡◌, ℕ, ◌%◌, ◌^◌, ◌≤◌, true, List, [], Option, map, slice_get, take}
+use Rattle.std.specs.Prelude.{◌≡◌, ℕ, ◌^◌, ◌≤◌, true, List, [], Option, map, slice_get, take}
 use Rattle.std.specs.List.{flat_map, list_all}
 use Rattle.std.specs.Option.{option_map_or}
 use Rattle.lk_merge.specs.declared.error.MergeError.{MergeError}
@@ -8,7 +8,6 @@ use Rattle.lk_merge.specs.Between.{between}
 use Rattle.lk_merge.specs.Buckets.{bucket_place}
 use Rattle.lk_merge.specs.Groups.{AreGroups, group_pieces}
 use Rattle.lk_merge.specs.Hash.{fnv64}
-use Rattle.lk_merge.specs.declared.offset_map.PieceEntry.{PieceEntry}
 use Rattle.lk_merge.specs.Image.{bucket_list, firsts_behind, in_bucket, place_in}
 use Rattle.lk_merge.specs.Inputs.{Located, located}
 use Rattle.lk_merge.specs.Matrix.{pieces_of_group}
@@ -41,10 +40,6 @@ refusal_of w b n = bucket_refusal w.section w.limit b (kept_of w b n)
 -- where the pieces of a bucket stand, each where the equal one that is kept does
 abbrev pub places_of : ℕ → List Piece → List ℕ
 places_of b ps = map (λ p. bucket_place b (place_in (firsts_behind [] ps) p)) ps
-
--- where a piece starts, with its bucket in the place of its place there
-abbrev pub located_place : Located → PieceEntry
-located_place l = record { start = l.start; place = bucket_place (fnv64 l.piece % 16) 0 }
 
 -- the pieces of a group, in their places; those of the group with a number; and those of the first so many groups
 abbrev pub located_between : MatrixWork → SectionGroup → List Located

@@ -6,14 +6,16 @@
 ghost use Rattle.std.specs.Prelude.{◌≡◌, ◌++◌, ◌∷◌, ◌<◌, [], List, Some, Vec, IfOk, IfSome, OnOk, length, map, slice_get};
 ghost use Rattle.lk_merge.specs.GroupStarts.{ArePlaces, HasEntries};
 ghost use Rattle.lk_merge.specs.Inputs.{Located, located};
-ghost use Rattle.lk_merge.specs.MatrixWork.{IsWork, group_located, located_place};
+ghost use Rattle.lk_merge.specs.MatrixWork.{IsWork, group_located};
 ghost use Rattle.lk_merge.specs.MergingTables.{entry_of, pieces_in};
 ghost use Rattle.lk_merge.specs.OffsetMapTables.{HoldsIn};
+ghost use Rattle.lk_merge.specs.PieceStarts.{HasStarts, bucket_of};
 
 use crate::bucket::BUCKETS;
 use crate::matrix_work::Brings;
 use crate::offset::BucketOffset;
-use crate::offset_map::{OffsetMap, PieceEntry};
+use crate::offset_map::OffsetMap;
+use crate::piece_starts::PieceStarts;
 use std::alloc::{AllocError, Global};
 use std::marker::{Model, PhantomData};
 use std::sync::Mutex;
@@ -22,20 +24,21 @@ use std::sync::Mutex;
 #[derive(Drop)]
 pub struct GroupStarts<J: Brings> {
     group: usize,
-    starts: Option<Vec<PieceEntry>>,
+    starts: Option<PieceStarts>,
     of: PhantomData<J>,
 }
 
 impl<J: Brings> Model for GroupStarts<J> {
-    ghost use Rattle.std.specs.Prelude.{◌≡◌, IfSome, map, option_map};
+    ghost use Rattle.std.specs.Prelude.{IfSome};
+    ghost use Rattle.lk_merge.specs.MatrixWork.{group_located};
+    ghost use Rattle.lk_merge.specs.PieceStarts.{HasStarts};
     ghost use Rattle.lk_merge.specs.StartsValue.{StartsValue};
-    ghost use Rattle.lk_merge.specs.MatrixWork.{IsWork, group_located, located_place};
 
     ghost Value = { StartsValue };
 
-    ghost view = { λ a. record { group = a.group; starts = option_map (λ s. s.items) a.starts } };
+    ghost view = { λ a. record { group = a.group; starts = a.starts } };
 
-    ghost invariant = { λ a. IfSome a.starts (λ s. s.items ≡ map located_place (group_located J.work a.group)) };
+    ghost invariant = { λ a. IfSome a.starts (HasStarts (group_located J.work a.group)) };
 }
 
 impl<J: Brings> GroupStarts<J> {
@@ -56,16 +59,16 @@ impl<J: Brings> GroupStarts<J> {
     }
 
     /// The starts are told.
-    pub(crate) fn tell(&mut self, starts: Vec<PieceEntry>)
-        requires { starts.items ≡ map located_place (group_located J.work self.old.group) }
+    pub(crate) fn tell(&mut self, starts: PieceStarts)
+        requires { HasStarts (group_located J.work self.old.group) starts }
         ensures { self.new.group ≡ self.old.group }
     {
         self.starts = Some(starts);
     }
 
     /// What was told.
-    pub(crate) fn into_starts(self) -> Option<Vec<PieceEntry>>
-        ensures { IfSome result (λ s. s.items ≡ map located_place (group_located J.work self.group)) }
+    pub(crate) fn into_starts(self) -> Option<PieceStarts>
+        ensures { IfSome result (HasStarts (group_located J.work self.group)) }
     {
         let GroupStarts {
             group: _,
@@ -99,11 +102,10 @@ impl Entries {
     }
 
     /// Adds the entry of the next piece, which has its start and its bucket.
-    fn add(&mut self, start: PieceEntry) -> Result<(), AllocError>
-        ensures { OnOk result ((all done rest : List Located) (l : Located) → all ≡ done ++ l ∷ rest → start ≡ located_place l
+    fn add(&mut self, start: u64, bucket: usize) -> Result<(), AllocError>
+        ensures { OnOk result ((all done rest : List Located) (l : Located) → all ≡ done ++ l ∷ rest → start ≡ l.start → bucket ≡ bucket_of l
             → HasEntries all done self.old → HasEntries all (done ++ l ∷ []) self.new) }
     {
-        let bucket = start.place.bucket();
         if bucket >= self.taken.len() {
             return Err(AllocError);
         }
@@ -111,18 +113,19 @@ impl Entries {
         let Some(place) = place_at(self.places.as_slice(), bucket, taken) else {
             return Err(AllocError);
         };
-        self.entries.add(start.start, place)?;
+        self.entries.add(start, place)?;
         self.taken[bucket] = taken + 1;
         Ok(())
     }
 
     /// Adds the entries of pieces that follow each other.
-    fn add_all(&mut self, starts: &[PieceEntry]) -> Result<(), AllocError>
-        ensures { OnOk result ((all done more rest : List Located) → all ≡ done ++ (more ++ rest) → starts.now ≡ map located_place more
+    fn add_all(&mut self, starts: &PieceStarts) -> Result<(), AllocError>
+        ensures { OnOk result ((all done more rest : List Located) → all ≡ done ++ (more ++ rest) → HasStarts more starts.now
             → HasEntries all done self.old → HasEntries all (done ++ more) self.new) }
     {
-        for start in starts {
-            self.add(*start)?;
+        for index in 0..starts.len() {
+            let (start, bucket) = starts.at(index)?;
+            self.add(start, bucket)?;
         }
         Ok(())
     }
@@ -174,7 +177,7 @@ pub(crate) fn entries_of<J: Brings>(
         let Some(starts) = starts.into_starts() else {
             return Err(AllocError);
         };
-        entries.add_all(starts.as_slice())?;
+        entries.add_all(&starts)?;
         group += 1;
     }
     if group != groups {

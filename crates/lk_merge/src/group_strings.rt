@@ -13,8 +13,7 @@ ghost use Rattle.lk_merge.specs.Pieces.{cut, is_terminated, pieces_of};
 use crate::bucket::BUCKETS;
 use crate::groups::{SectionGroup, input_at};
 use crate::inputs::{StringMergeInputSection, StringMergeInputSections, total_input_size};
-use crate::offset::BucketOffset;
-use crate::offset_map::PieceEntry;
+use crate::piece_starts::PieceStarts;
 use crate::string::MergeString;
 use memchr::memchr;
 use std::alloc::{AllocError, Global};
@@ -24,13 +23,13 @@ use std::alloc::{AllocError, Global};
 pub(crate) struct GroupStrings<'data> {
     /// The strings of each bucket, in order.
     pub(crate) buckets: Vec<Vec<MergeString<'data>>>,
-    /// Where each piece starts, in order; its place tells its bucket alone.
-    pub(crate) starts: Vec<PieceEntry>,
+    /// Where each piece starts, in order, and its bucket.
+    pub(crate) starts: PieceStarts,
 }
 
 impl<'data> GroupStrings<'data> {
-    /// Nothing yet.
-    fn new(alloc: Global) -> Result<GroupStrings<'data>, AllocError>
+    /// Nothing yet, of a group that starts at an offset.
+    fn new(alloc: Global, from: u64) -> Result<GroupStrings<'data>, AllocError>
         ensures { IfOk result (HasBrought []) }
     {
         let mut buckets = Vec::with_capacity(alloc, BUCKETS)?;
@@ -39,8 +38,15 @@ impl<'data> GroupStrings<'data> {
         }
         Ok(GroupStrings {
             buckets,
-            starts: Vec::new(alloc),
+            starts: PieceStarts::new(alloc, from),
         })
+    }
+
+    /// Gives back the room that no piece's start takes: starts stay until the end.
+    fn shrink_starts(&mut self)
+        ensures { (done : List Located) → HasBrought done self.old → HasBrought done self.new }
+    {
+        self.starts.shrink_to_fit();
     }
 
     /// Brings a piece of an input, which starts at an offset into all inputs.
@@ -53,10 +59,7 @@ impl<'data> GroupStrings<'data> {
         let bucket = (string.hash_value() % BUCKETS as u64) as usize;
         let strings = &mut self.buckets[bucket];
         strings.push(string)?;
-        self.starts.push(PieceEntry {
-            start,
-            place: BucketOffset::at(bucket, 0),
-        })?;
+        self.starts.add(start, bucket)?;
         Ok(())
     }
 
@@ -171,9 +174,10 @@ pub(crate) fn strings_of_group<'data>(
     requires within { group.start < padded_total inputs.now }
     ensures { IfOk result (HasBrought (between group.start group.end (located inputs.now))) }
 {
-    let mut brought = GroupStrings::new(alloc)?;
     let from = group.start.as_u64();
     let end = group.end.as_u64();
+    let mut brought = GroupStrings::new(alloc, from)?;
     brought.add_inputs(inputs.as_slice(), total_input_size(inputs), from, end)?;
+    brought.shrink_starts();
     Ok(brought)
 }

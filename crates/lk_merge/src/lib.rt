@@ -22,6 +22,7 @@ pub mod offset;
 pub mod offset_map;
 pub mod offsets_outside;
 pub mod output_address;
+mod piece_starts;
 pub mod section;
 mod shared_matrix;
 pub mod string;

@@ -2,11 +2,12 @@
 //! group's pieces start, and what there is to do. Locks are taken in this order: a cell, then what there is to do.
 
 ghost use Rattle.std.specs.Global.{Global};
-ghost use Rattle.std.specs.Prelude.{◌≡◌, ◌≢◌, ◌<◌, ℕ, IfOk, IfSome, None, Some, Vec, length, map, slice_get};
+ghost use Rattle.std.specs.Prelude.{◌≡◌, ◌≢◌, ◌<◌, ℕ, IfOk, IfSome, None, Some, Vec, length, slice_get};
 ghost use Rattle.lk_merge.specs.Inputs.{located};
 ghost use Rattle.lk_merge.specs.MatrixCells.{pieces_of_strings};
-ghost use Rattle.lk_merge.specs.MatrixWork.{IsWork, cell_pieces, group_located, located_place};
+ghost use Rattle.lk_merge.specs.MatrixWork.{IsWork, cell_pieces, group_located};
 ghost use Rattle.lk_merge.specs.MergingTables.{HasMerged};
+ghost use Rattle.lk_merge.specs.PieceStarts.{HasStarts};
 ghost use Rattle.lk_merge.specs.declared.string.MergeString.{MergeString};
 
 use crate::bucket::BUCKETS;
@@ -19,7 +20,7 @@ use crate::groups::SectionGroup;
 use crate::inputs::{StringMergeInputSections, total_input_size};
 use crate::matrix_work::Brings;
 use crate::merging::Merging;
-use crate::offset_map::PieceEntry;
+use crate::piece_starts::PieceStarts;
 use crate::string::MergeString;
 use lk_link::{Gate, OutputSectionId};
 use std::alloc::{AllocError, Global};
@@ -27,11 +28,17 @@ use std::marker::Model;
 use std::mem;
 use std::sync::{Condvar, Mutex, Wait};
 
+/// A group is begun only while at most so many strings lie in cells, or while no worker does anything. A string in a cell takes 24 bytes;
+/// with no bound, where one bucket takes most strings, the groups would all lie in cells before it comes to them.
+const MOST_AHEAD: usize = 1 << 16;
+
 /// What there is to do, what is done, and how many workers do something or wait.
 #[derive(Drop)]
 struct Turns<'data, J: Brings> {
     /// The first group that no worker has begun.
     next_group: usize,
+    /// How many strings groups have brought that their buckets haven't taken. Those of a bucket that has stopped, or was given up, stay.
+    ahead: usize,
     /// Buckets that can go on.
     free: Vec<BucketWork<'data, J>>,
     /// Buckets that have taken all groups, or have stopped.
@@ -100,6 +107,7 @@ impl<'m, 'data, J: Brings> Matrix<'m, 'data, J> {
         }
         let turns = Turns {
             next_group: 0,
+            ahead: 0,
             free: Vec::with_capacity(alloc, BUCKETS)?,
             ended: Vec::with_capacity(alloc, BUCKETS)?,
             running: 0,
@@ -152,6 +160,27 @@ impl<'m, 'data, J: Brings> Matrix<'m, 'data, J> {
         }
     }
 
+    /// A group brings so many strings.
+    fn add_ahead<R: Wait>(&self, rt: &R, strings: usize) {
+        let mut turns = self.turns.lock(rt);
+        let turns = &mut *turns;
+        turns.ahead = turns.ahead.saturating_add(strings);
+    }
+
+    /// A bucket takes so many strings. Those that wait can begin groups once few enough are left.
+    fn take_ahead<R: Wait>(&self, rt: &R, strings: usize) {
+        if strings == 0 {
+            return;
+        }
+        let mut turns = self.turns.lock(rt);
+        let turns = &mut *turns;
+        let before = turns.ahead;
+        turns.ahead = before.saturating_sub(strings);
+        if before > MOST_AHEAD && turns.ahead <= MOST_AHEAD && turns.waiting != 0 {
+            self.changed.notify_all();
+        }
+    }
+
     /// A bucket has taken all groups, or has stopped.
     fn end<R: Wait>(&self, rt: &R, bucket: BucketWork<'data, J>) {
         let mut turns = self.turns.lock(rt);
@@ -160,8 +189,8 @@ impl<'m, 'data, J: Brings> Matrix<'m, 'data, J> {
     }
 
     /// Where a group's pieces start is told.
-    fn tell_starts<R: Wait>(&self, rt: &R, group: usize, starts: Vec<PieceEntry>)
-        requires { starts.items ≡ map located_place (group_located J.work group) }
+    fn tell_starts<R: Wait>(&self, rt: &R, group: usize, starts: PieceStarts)
+        requires { HasStarts (group_located J.work group) starts }
     {
         let Some(told) = self.starts.as_slice().get(group) else {
             return;
@@ -186,6 +215,7 @@ impl<'m, 'data, J: Brings> Matrix<'m, 'data, J> {
             return;
         };
         let GroupStrings { buckets, starts } = brought;
+        self.add_ahead(rt, starts.len());
         self.tell_starts(rt, group, starts);
         self.fill_cells(rt, alloc, gate, group, buckets);
     }
@@ -241,6 +271,7 @@ impl<'m, 'data, J: Brings> Matrix<'m, 'data, J> {
             return None;
         }
         let (bucket, strings) = self.take_cell(rt, bucket)?;
+        self.take_ahead(rt, strings.len());
         let Ok(bucket) = bucket.take_group(strings.as_slice()) else {
             return None;
         };
@@ -263,7 +294,8 @@ impl<'m, 'data, J: Brings> Matrix<'m, 'data, J> {
     }
 
     /// What a worker does next: a bucket that can go on, else a group that no worker has begun; none once there is neither and no worker
-    /// does anything. Waits until then.
+    /// does anything. Waits until then, and while too many strings lie in cells, but never where no worker does anything: what lies in
+    /// cells may then lie there for good.
     pub(crate) fn next<R: Wait>(&self, rt: &R) -> Option<Turn<'data, J>> {
         let count = self.groups.len();
         let mut turns = self.turns.lock(rt);
@@ -271,7 +303,9 @@ impl<'m, 'data, J: Brings> Matrix<'m, 'data, J> {
         let mut turns = self
             .changed
             .wait_while(rt, turns, |turns: &mut Turns<'_, J>| {
-                turns.free.is_empty() && turns.next_group >= count && turns.running != 0
+                turns.free.is_empty()
+                    && turns.running != 0
+                    && (turns.next_group >= count || turns.ahead > MOST_AHEAD)
             });
         let turns = &mut *turns;
         turns.waiting = turns.waiting.wrapping_sub(1);
@@ -313,6 +347,7 @@ impl<'m, 'data, J: Brings> Matrix<'m, 'data, J> {
         } = self;
         let Turns {
             next_group: _,
+            ahead: _,
             free: _,
             mut ended,
             running: _,

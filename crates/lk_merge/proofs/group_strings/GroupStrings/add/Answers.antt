@@ -1,4 +1,4 @@
-use Rattle.std.proofs.Common.{◌≡◌, ◌<◌, ◌+◌, ◌*◌, ◌∷◌, [], ◌++◌, ◌%◌, ◌^◌, Some, sym, ap, ◌∙◌, set, arith}
+use Rattle.std.proofs.Common.{◌≡◌, ◌<◌, ◌%◌, Some, refl, sym, ap, ◌∙◌, set, arith}
 use Rattle.std.specs.List.{slice_get}
 use Rattle.std.proofs.Math.Nat.{mod-lt}
 use Rattle.std.proofs.lemmas.Option.{slice_get-get_or}
@@ -15,4 +15,4 @@ returns-clause-made c = λ done h.
     brought_more done c.args.self.now _ c.args.string c.args.input c.args.start found c.push.new.self h
     (ap (slice_get c.args.self.now.buckets.items) (sym own) ∙ at ∙ ap (λ v. Some v) (sym c.index_mut-strings.ensures.value)) c.in_ok-push.ensures.items
     (ap (λ k. set c.args.self.now.buckets.items k c.push.new.self) own)
-    (c.in_ok-push-2.ensures.items ∙ ap (λ n. c.args.self.now.starts.items ++ record { start = c.args.start; place = n } ∷ []) (c.at.ensures ∙ ap (λ k. k * 2 ^ 28 + 0) own))
+    (c.in_ok-add.ensures done (record { input = c.args.input; start = c.args.start; piece = c.args.string.bytes.now }) refl (sym own))
