@@ -6,14 +6,16 @@ use Rattle.lk_layout.proofs.Valuing.{valued}
 use Rattle.lk_layout.proofs.found.found_addresses.Goals as goal
 
 pub addresses_of-requires-clause-merged : goal.addresses_of-requires-clause-merged
-addresses_of-requires-clause-merged g c = c.as_slice.ensures ∙ c.requires.spanned.placed.kept.merged.are.sections
+addresses_of-requires-clause-merged g c = c.as_slice-merged.ensures ∙ c.requires.spanned.placed.kept.merged.are.sections
 
-pub redirected-requires-clause-found : goal.redirected-requires-clause-found
-redirected-requires-clause-found g c =
+pub redirected-requires : goal.redirected-requires
+redirected-requires g c =
     let machine = platform_machine (g.P.Platform.segment_start c.args.platform.now) (g.P.Platform.table_sizes c.args.platform.now) (g.A.Arch.config_of c.args.arch.now) in
     let is = c.requires.spanned in
     let filling = made_filling (made_spanned is) in
-    let found = c.in_ok-found.ensures in
-    valued machine c.args.link.now c.args.spanned.now is c.placed_parts-parts.result.parts.now c.placed_parts-parts.result.deltas.now c.placed_parts-parts.result.edges.now c.in_ok-found.found
-    (c.placed_parts-parts.ensures.parts is) (c.placed_parts-parts.ensures.deltas is) (c.placed_parts-parts.ensures.edges ∙ c.in_ok-edges.ensures is)
-    (found.sections filling is.placed.owners) (found.blocks filling is.placed.owners) (found.buckets filling is.placed.owners) (found.resolutions filling is.placed.owners)
+    let told = c.in_ok-found.ensures in
+    record {
+      found = valued machine c.args.link.now c.args.spanned.now is c.placed_parts-parts.result.parts.now c.placed_parts-parts.result.deltas.now c.placed_parts-parts.result.edges.now c.in_ok-found.found
+          (c.placed_parts-parts.ensures.parts is) (c.placed_parts-parts.ensures.deltas is) (c.placed_parts-parts.ensures.edges ∙ c.in_ok-edges.ensures is)
+          (told.sections filling is.placed.owners) (told.blocks filling is.placed.owners) (told.buckets filling is.placed.owners) (told.resolutions filling is.placed.owners);
+    }
