@@ -13,7 +13,8 @@ ghost use Rattle.lk_layout.specs.Stages.{IsAddressedLink, IsChecked, IsKept, IsM
 
 use crate::error::LayoutError;
 use crate::found::{
-    found_addresses, found_addresses_by_groups, found_first, found_reaching, found_sizes, found_spans, found_told,
+    found_addresses, found_addresses_by_groups, found_first, found_reaching, found_sizes,
+    found_spans, found_told,
 };
 use crate::headers::header_bytes;
 use crate::images::{merge_images, merge_images_by_workers};
