@@ -375,10 +375,9 @@ fn lay_out_by_groups<'data, R: Threads + Sync, P: Platform + Sync, A: Arch>(
 
 /// The layout of a link: the defined answer, unless memory runs out (libwild: `layout::compute`). With two or more workers as many threads,
 /// 64 at most, merge strings and then find what is reached, and the gate is entered before their steps; then symbols are resolved group by
-/// group, on as many threads as there are processors. All else is done on the caller's thread, which waits for them. Where more than 64
-/// units ask for the same list and that is longer than 64, as the members of a large section group do, what is reached is found on the
-/// caller's thread too: workers go through such a list for each of the units. With 0 or 1 it never calls the gate: it then asks for no
-/// leave to enter it.
+/// group on several threads, where there are three groups or more. All else is done on the caller's thread, which waits for them. What is
+/// reached is found on the caller's thread too where long lists of asks may be shared by many, as the members of a large section group are:
+/// workers go through such a list for each unit that asks for it. With 0 or 1 it never calls the gate: it then asks for no leave to enter it.
 pub fn compute<'data, R: Threads + Wait + Sync, P: Platform + Sync, A: Arch + Sync, G: Gate + Sync>(
     rt: &R,
     alloc: Global,

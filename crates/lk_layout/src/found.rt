@@ -200,7 +200,8 @@ pub(crate) fn found_addresses<P: Platform, A: Arch>(
     redirected(alloc, link, platform, arch, spanned, found)
 }
 
-/// The same, with what symbols stand for found group by group, on as many threads as there are processors, where there are two groups.
+/// The same, with what symbols stand for found group by group on several threads. Behind the prelude's there have to be two groups: one has
+/// nothing to share out, and would be looked at once more.
 pub(crate) fn found_addresses_by_groups<R: Threads + Sync, P: Platform + Sync, A: Arch>(
     rt: &R,
     alloc: Global,
@@ -213,7 +214,7 @@ pub(crate) fn found_addresses_by_groups<R: Threads + Sync, P: Platform + Sync, A
     ensures { Reaches (platform_machine (P.segment_start platform.now) (P.table_sizes platform.now) (A.config_of arch.now)) link.now
         (λ q. IsAddressedLink (platform_machine (P.segment_start platform.now) (P.table_sizes platform.now) (A.config_of arch.now)) link.now (record { spanned = spanned.now; addresses = q })) result }
 {
-    if link.groups.len() < 2 {
+    if link.groups.len() < 3 {
         return found_addresses(alloc, link, platform, arch, spanned);
     }
     let edges = found_edges(alloc, link, platform, arch, spanned)?;
