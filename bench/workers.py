@@ -1,7 +1,7 @@
 """Runs by more workers than one, by the clock: in turn with those of none, over the same bytes."""
 
 # What has many references, in groups of eight files, in one and in some 60,000; and what is merged.
-SHAPES = ("linked", "gathered", "scattered", "star", "grouped", "tabled", "tenth", "distinct", "equal", "one", "empty")
+SHAPES = ("linked", "gathered", "scattered", "star", "grouped", "tabled", "tenth", "distinct", "equal", "one", "empty", "named")
 WORKERS = (0, 2, 4)
 ROUNDS = 5
 MEGABYTES = 100
