@@ -96,15 +96,15 @@ const PLACES: &str = r#"
 "#;
 
 /// Of each output section the distinct pieces, the pieces, the image's bytes and the starts past the twelfth of their blocks of 256; and where
-/// some offsets of each input are, around the twelfth start, the ends of blocks and the end of the data.
+/// some offsets of each input are, up to the twelfth start and behind it, at the ends of blocks and at the end of the data.
 const STARTS: &str = r#"
 @ {"plan":{"page":16,"sections":[{"attrs":1,"parts":[[1,false]]}],"events":[["sec",0]]},"groups":[[{"kind":"prelude"}],[{"kind":"object","sections":[{"slot":"merge","strings":true,"data":"..."}]}]]}
-«12 times 00» => starts (1, 12, 1, 0) at 15:0 15:0 - - - - - - -
-«13 times 00» => starts (1, 13, 1, 1) at 15:0 15:0 15:0 - - - - - -
-«300 times 00» => starts (1, 300, 1, 276) at 15:0 15:0 15:0 15:0 15:0 15:0 15:0 - -
-«254 times 61»000000 => starts (2, 3, 256, 0) at 9:0 9:11 9:12 9:254 15:0 15:0 - - -
-«299 times 61»00«13 times 00» => starts (2, 14, 301, 1) at 14:0 14:11 14:12 14:254 14:255 14:256 14:299 15:0 15:0
- => starts (0, 0, 0, 0) at - - - - - - - - -
+«12 times 00» => starts (1, 12, 1, 0) at 15:0 15:0 15:0 15:0 15:0 - - - - - - -
+«13 times 00» => starts (1, 13, 1, 1) at 15:0 15:0 15:0 15:0 15:0 15:0 - - - - - -
+«300 times 00» => starts (1, 300, 1, 276) at 15:0 15:0 15:0 15:0 15:0 15:0 15:0 15:0 15:0 15:0 - -
+«254 times 61»000000 => starts (2, 3, 256, 0) at 9:0 9:8 9:9 9:10 9:11 9:12 9:254 15:0 15:0 - - -
+«299 times 61»00«13 times 00» => starts (2, 14, 301, 1) at 14:0 14:8 14:9 14:10 14:11 14:12 14:254 14:255 14:256 14:299 15:0 15:0
+ => starts (0, 0, 0, 0) at - - - - - - - - - - - -
 "#;
 
 /// All padded bytes, where each input starts, and the groups.
@@ -286,7 +286,7 @@ fn add_blocks(
     add(line, "starts", &(kept, count, section.len(), past))?;
     for input in inputs.as_slice() {
         line.push_str(" at")?;
-        for offset in [0, 11, 12, 254, 255, 256, 299, 300, 312] {
+        for offset in [0, 8, 9, 10, 11, 12, 254, 255, 256, 299, 300, 312] {
             add_place(line, find_string(section, input.start_input_offset, offset))?;
         }
     }
