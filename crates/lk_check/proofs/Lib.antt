@@ -1,12 +1,15 @@
 pub mod Bounds
+pub mod CappedSums
 pub mod DepthLemmas
 pub mod Faults
 pub mod First
+pub mod GoodFiles
 pub mod LongLists
 pub mod MarkLemmas
 pub mod Neighbours
 pub mod NoAnswer
 pub mod NumberedFiles
+pub mod OnYes
 pub mod Operands
 pub mod TableLemmas
 pub mod Unfaulted

@@ -2,7 +2,9 @@
 use Rattle.std.proofs.Common.{◌≡◌, ℕ, ◌+◌, ◌<◌, ◌≤◌, Bool, true, false, cond, List, [], ◌∷◌, ◌++◌, Some, None, option_map, find, length, get_or, drop, nat_lt, refl, ap, ◌∙◌}
 use Rattle.std.proofs.lemmas.Bool.{lt-ltb, le-ltb}
 use Rattle.std.proofs.lemmas.List.{drop_more, drop_all}
+use Rattle.std.specs.List.{All}
 use Rattle.std.proofs.lemmas.List.Concat.{flat_map-append}
+use Rattle.std.proofs.lemmas.List.Elements.{All-head, All-tail}
 use Rattle.lk_link.specs.declared.file.InputFile.{InputFile}
 use Rattle.lk_link.specs.declared.section.InputSection.{InputSection}
 use Rattle.lk_link.specs.Limits.{all_sections}
@@ -94,3 +96,13 @@ group_here most list groups i d n h some =
     ∙ joins_some most list (sections_of (get_or groups i d)) (all_sections (drop (i + 1) groups)) n some
 
 pub ruleset group_steps = (group_end, group_on, group_here)
+
+-- where no group has such a list, there is none
+pub none_of_groups : (most : ℕ) (list : SectionList) (groups : List (List InputFile)) → All (λ files. long_list most list (sections_of files) ≡ None) groups → long_list most list (all_sections groups) ≡ None
+unfolding long_list
+none_of_groups most list [] h = refl
+none_of_groups most list (files ∷ groups) h =
+    let IsShort : List InputFile → Type 0 = λ fs. long_list most list (sections_of fs) ≡ None in
+    ap (long_list most list) (flat_map-append (λ (f : InputFile). f.sections) files (all_files groups))
+    ∙ joins_none most list (sections_of files) (all_sections groups) (All-head IsShort files groups h)
+    ∙ none_of_groups most list groups (All-tail IsShort files groups h)

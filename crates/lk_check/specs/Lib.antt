@@ -1,3 +1,4 @@
+pub mod ByGroups
 pub mod DepthWalk
 pub mod FirstAnswer
 pub mod FirstBadEvent

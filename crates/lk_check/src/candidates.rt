@@ -42,7 +42,7 @@ fn bad_file(link: &LinkInput) -> Option<FileId>
 }
 
 /// Whether all candidates of a file are good.
-fn has_good_candidates(link: &LinkInput, file: &InputFile) -> bool
+pub fn has_good_candidates(link: &LinkInput, file: &InputFile) -> bool
     ensures { result ≡ has_good_candidates link.now file.now }
 {
     file.candidates

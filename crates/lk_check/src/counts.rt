@@ -32,7 +32,7 @@ pub fn over_files<N: FileNumber>(what: &N, groups: &[List<InputFile>]) -> u64
 }
 
 /// The same in one group.
-fn over_group<N: FileNumber>(what: &N, files: &[InputFile]) -> u64
+pub fn over_group<N: FileNumber>(what: &N, files: &[InputFile]) -> u64
     ensures { result ≡ min (sum_by N.number files.now) (2 ^ 64 - 1) }
 {
     let mut count = 0u64;

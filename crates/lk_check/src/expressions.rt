@@ -5,6 +5,7 @@ ghost use Rattle.std.specs.List.{list_all};
 ghost use Rattle.lk_link.specs.ExpressionRules.{all_operands, has_good_address, has_good_move, is_good_expression, is_good_redirect, is_good_region, is_operand_there, operand_passes};
 ghost use Rattle.lk_link.specs.Files.{AreNumbered};
 ghost use Rattle.lk_link.specs.Symbols.{all_files, symbol_count};
+ghost use Rattle.lk_check.specs.ByGroups.{plan_expression_fault, plan_use_fault};
 ghost use Rattle.lk_check.specs.FirstBadExpression.{address_fault, base_fault, expression_fault, first_bad_address, first_bad_move, first_bad_redirect, first_bad_region, move_fault, redirect_fault, region_fault, use_fault};
 ghost use Rattle.lk_check.specs.FirstFault.{check_of};
 
@@ -30,6 +31,25 @@ pub fn check_expressions(link: &LinkInput) -> Result<(), LinkFault>
     check_base(link)?;
     check_regions(link)?;
     check_uses(link)
+}
+
+/// The same without those of symbols.
+#[tactic(auto, using(crate::proofs::Faults::checks), unfolding(crate::specs::ByGroups::plan_expression_fault))]
+pub fn check_plan_expressions(link: &LinkInput) -> Result<(), LinkFault>
+    ensures { result ≡ check_of (plan_expression_fault link.now) }
+{
+    check_base(link)?;
+    check_regions(link)?;
+    check_plan_uses(link)
+}
+
+/// Those of sections and events are good; else the place is the first of which that isn't so, in this order.
+#[tactic(auto, using(crate::proofs::Faults::checks), unfolding(crate::specs::ByGroups::plan_use_fault))]
+fn check_plan_uses(link: &LinkInput) -> Result<(), LinkFault>
+    ensures { result ≡ check_of (plan_use_fault link.now) }
+{
+    check_addresses(link)?;
+    check_moves(link)
 }
 
 /// Those of sections, events and symbols are good; else the place is the first of which that isn't so, in this order.
@@ -204,7 +224,7 @@ fn has_good_move(link: &LinkInput, event: &OrderEvent) -> bool
 }
 
 /// Whether the expression of a redirect is good; what is no redirect is.
-fn is_good_redirect(link: &LinkInput, placement: &SymbolPlacement) -> bool
+pub fn is_good_redirect(link: &LinkInput, placement: &SymbolPlacement) -> bool
     ensures { result ≡ is_good_redirect link.now placement.now }
 {
     match placement {

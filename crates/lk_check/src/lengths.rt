@@ -39,7 +39,7 @@ fn long_list_of_groups(most: u64, list: SectionList, groups: &[List<InputFile>])
 
 /// The same in one group.
 #[tactic(auto, using(crate::proofs::LongLists::file_steps))]
-fn long_list_of_files(most: u64, list: SectionList, files: &[InputFile]) -> Option<u64>
+pub fn long_list_of_files(most: u64, list: SectionList, files: &[InputFile]) -> Option<u64>
     ensures { result ≡ long_list most list (sections_of files.now) }
 {
     for file in files {

@@ -13,9 +13,12 @@ ghost use Rattle.lk_check.specs.FirstFault.{check_of, first_fault, WellFormedExa
 
 use lk_link::fault::LinkFault;
 use lk_link::link::LinkInput;
+use std::thread::Threads;
 
+mod by_groups;
 mod candidates;
 mod counts;
+mod counts_by_groups;
 mod depths;
 mod events;
 mod expressions;
@@ -45,6 +48,17 @@ pub fn check_link(link: &LinkInput) -> Result<(), LinkFault>
 {
     limits::check_limits(link)?;
     rules::check_rules(link)
+}
+
+/// The same, where what files hold is looked at group by group, on as many threads as the processors are worth. Takes no memory but
+/// what threads take.
+#[tactic(auto, using(crate::proofs::Bounds::limits))]
+pub fn check_link_by_groups<R: Threads + Sync>(rt: &R, link: &LinkInput) -> Result<(), LinkFault>
+    ensures exact { result ≡ check_of (first_fault link.now) }
+    ensures well_formed { OnOk result (IsWellFormed link.now) }
+{
+    limits::check_limits_by_groups(rt, link)?;
+    by_groups::check_rules_by_groups(rt, link)
 }
 
 /// A law: a link is well formed exactly where it has no fault.

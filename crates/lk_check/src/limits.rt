@@ -1,14 +1,16 @@
 //! The limits on the lists of a link.
 
 ghost use Rattle.std.specs.Prelude.{◌≡◌, ◌+◌, ◌-◌, ◌^◌, min, nat_lt, length, sum_by};
-ghost use Rattle.lk_link.specs.Limits.{counted, limit_of, name_bytes};
+ghost use Rattle.lk_link.specs.Limits.{counted, file_name_bytes, limit_of, name_bytes, over_files};
 ghost use Rattle.lk_check.specs.FirstExcess.{excess, first_excess, first_exceeded};
 ghost use Rattle.lk_check.specs.FirstFault.{check_of};
 
 use crate::counts::{CandidateCount, MergeBytes, NameBytes, over_files};
+use crate::counts_by_groups::{first_length_past_by_groups, over_files_by_groups};
 use crate::lengths::{SectionList, first_length_past};
 use lk_link::fault::{Limited, LinkFault};
 use lk_link::link::LinkInput;
+use std::thread::Threads;
 
 /// The limits, in the order in which they are looked at.
 const ALL_LIMITS: [Limited; 14] = [
@@ -39,6 +41,18 @@ pub fn check_limits(link: &LinkInput) -> Result<(), LinkFault>
     }
 }
 
+/// The same, where what files hold is counted group by group, on as many threads as the processors are worth.
+#[tactic(auto, unfolding(crate::specs::FirstFault::check_of, crate::specs::FirstExcess::first_excess))]
+pub fn check_limits_by_groups<R: Threads + Sync>(rt: &R, link: &LinkInput) -> Result<(), LinkFault>
+    ensures { result ≡ check_of (first_excess link.now) }
+{
+    match first_exceeded_by_groups(rt, link) {
+        None => Ok(()),
+        // Few links are refused, so what a fault says is counted on one thread.
+        Some(what) => Err(excess(link, what)),
+    }
+}
+
 /// The first list that is longer than it may be.
 fn first_exceeded(link: &LinkInput) -> Option<Limited>
     ensures { result ≡ first_exceeded link.now }
@@ -49,12 +63,30 @@ fn first_exceeded(link: &LinkInput) -> Option<Limited>
         .find(|what| is_exceeded(link, *what))
 }
 
+/// The same, group by group.
+fn first_exceeded_by_groups<R: Threads + Sync>(rt: &R, link: &LinkInput) -> Option<Limited>
+    ensures { result ≡ first_exceeded link.now }
+{
+    ALL_LIMITS
+        .iter()
+        .copied()
+        .find(|what| is_exceeded_by_groups(rt, link, *what))
+}
+
 /// Whether a list is longer than it may be.
 #[tactic(auto, using(crate::proofs::Bounds::exceeding))]
 fn is_exceeded(link: &LinkInput, what: Limited) -> bool
     ensures { result ≡ nat_lt (limit_of what) (counted link.now what) }
 {
     what.limit() < count(link, what)
+}
+
+/// The same, group by group.
+#[tactic(auto, using(crate::proofs::Bounds::exceeding))]
+fn is_exceeded_by_groups<R: Threads + Sync>(rt: &R, link: &LinkInput, what: Limited) -> bool
+    ensures { result ≡ nat_lt (limit_of what) (counted link.now what) }
+{
+    what.limit() < count_by_groups(rt, link, what)
 }
 
 /// The fault of a list that is too long.
@@ -99,11 +131,48 @@ fn count(link: &LinkInput, what: Limited) -> u64
     }
 }
 
+/// The same, where what files hold is counted group by group.
+#[tactic(auto, unfolding(lk_link::specs::Limits::counted))]
+fn count_by_groups<R: Threads + Sync>(rt: &R, link: &LinkInput, what: Limited) -> u64
+    ensures { result ≡ min (counted link.now what) (2 ^ 64 - 1) }
+{
+    let groups = link.groups.as_slice();
+    match what {
+        Limited::Candidates => over_files_by_groups(rt, &CandidateCount, groups),
+        Limited::Relocations => first_length_past_by_groups(
+            rt,
+            Limited::Relocations.limit(),
+            SectionList::Relocations,
+            groups,
+        ),
+        Limited::Relaxations => first_length_past_by_groups(
+            rt,
+            Limited::Relaxations.limit(),
+            SectionList::Relaxations,
+            groups,
+        ),
+        Limited::NameBytes => with_section_names(
+            link,
+            over_files_by_groups(rt, &NameBytes, groups),
+        ),
+        Limited::MergeBytes => over_files_by_groups(rt, &MergeBytes, groups),
+        _ => count(link, what),
+    }
+}
+
 /// How many bytes all names have, one more for each.
 fn name_bytes(link: &LinkInput) -> u64
     ensures { result ≡ min (name_bytes link.now) (2 ^ 64 - 1) }
 {
-    let mut count = over_files(&NameBytes, link.groups.as_slice());
+    with_section_names(link, over_files(&NameBytes, link.groups.as_slice()))
+}
+
+/// The same, from how many the names in files have.
+fn with_section_names(link: &LinkInput, in_files: u64) -> u64
+    requires { in_files ≡ min (over_files file_name_bytes link.now.groups) (2 ^ 64 - 1) }
+    ensures { result ≡ min (name_bytes link.now) (2 ^ 64 - 1) }
+{
+    let mut count = in_files;
     for section in link.plan.sections.as_slice() {
         count = count
             .saturating_add(section.name.len() as u64)

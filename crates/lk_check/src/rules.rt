@@ -3,6 +3,7 @@
 ghost use Rattle.std.specs.Prelude.{◌≡◌, ◌≤◌, length};
 ghost use Rattle.lk_link.specs.Files.{AreNumbered};
 ghost use Rattle.lk_link.specs.Symbols.{all_files, symbol_count};
+ghost use Rattle.lk_check.specs.ByGroups.{outside_fault, plan_placing_fault};
 ghost use Rattle.lk_check.specs.FirstFault.{check_of, content_fault, first_broken, file_fault, page_fault, placing_fault, plan_fault, section_or_part_fault};
 
 use crate::{
@@ -27,6 +28,31 @@ pub fn check_rules(link: &LinkInput) -> Result<(), LinkFault>
     check_plan(link)?;
     check_placing(link)?;
     check_files(link)
+}
+
+/// The same of a link whose files hold nothing that breaks one.
+#[tactic(auto, using(crate::proofs::Faults::checks), unfolding(crate::specs::ByGroups::outside_fault))]
+pub fn check_outside_files(link: &LinkInput) -> Result<(), LinkFault>
+    requires files { AreNumbered link.now.groups }
+    requires sections { length link.now.plan.sections ≤ OUTPUT_SECTIONS }
+    requires segments { length link.now.plan.segments ≤ SEGMENTS }
+    ensures { result ≡ check_of (outside_fault link.now) }
+{
+    check_plan(link)?;
+    check_plan_placing(link)?;
+    prelude::check_prelude(link)
+}
+
+/// Refuses a link whose segments, events or expressions of the plan break a rule, by the first such rule at its first place.
+#[tactic(auto, using(crate::proofs::Faults::checks), unfolding(crate::specs::ByGroups::plan_placing_fault))]
+fn check_plan_placing(link: &LinkInput) -> Result<(), LinkFault>
+    requires sections { length link.now.plan.sections ≤ OUTPUT_SECTIONS }
+    requires segments { length link.now.plan.segments ≤ SEGMENTS }
+    ensures { result ≡ check_of (plan_placing_fault link.now) }
+{
+    segments::check_segments(&link.plan)?;
+    events::check_events(link)?;
+    expressions::check_plan_expressions(link)
 }
 
 /// Refuses a link whose options or plan break a rule, by the first such rule at its first place.

@@ -55,7 +55,7 @@ fn bad_section(named: &NamedParts, file: &InputFile) -> Option<usize>
 }
 
 /// Whether the tables that a section's relocations want entries of have parts.
-fn has_tables(named: &NamedParts, section: &InputSection) -> bool
+pub fn has_tables(named: &NamedParts, section: &InputSection) -> bool
     ensures { result ≡ has_tables named.now section.now }
 {
     section

@@ -24,7 +24,7 @@ numbered_more o (suc n) (x ∷ xs) d lt =
     let e : o + 1 + n ≡ o + suc n = omega arith in
     ap (λ ys. (o, x) ∷ ys) (numbered_more (o + 1) n xs d (omega (arith, lt)) ∙ ap (λ i. enumerate_from (o + 1) (take n xs) ++ (i, get_or xs n d) ∷ []) e)
 
-one_more : {X : Type 0} (n : ℕ) (xs : List X) (x d : X) → n < length xs → x ≡ get_or xs n d → enumerate_from 0 (take (n + 1) xs) ≡ enumerate_from 0 (take n xs) ++ (n, x) ∷ []
+pub one_more : {X : Type 0} (n : ℕ) (xs : List X) (x d : X) → n < length xs → x ≡ get_or xs n d → enumerate_from 0 (take (n + 1) xs) ≡ enumerate_from 0 (take n xs) ++ (n, x) ∷ []
 one_more n xs x d lt read =
     let next : n + 1 ≡ suc n = omega arith in
     let zero_more : 0 + n ≡ n = omega arith in

@@ -1,6 +1,7 @@
 pub mod FaultLemmas
 pub mod FaultOrder
 pub mod FaultReach
+pub mod GroupJoining
 pub mod KeepLemmas
 pub mod LawLemmas
 pub mod Living

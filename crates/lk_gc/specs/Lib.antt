@@ -1,3 +1,4 @@
+pub mod ByGroups
 pub mod FaultLaws
 pub mod Faults
 pub mod KeptParts

@@ -35,7 +35,7 @@ pub(crate) fn reference_faults(
 }
 
 /// For each symbol whether it is undefined.
-fn undefined_symbols(alloc: Global, link: &LinkInput) -> Result<Vec<bool>, AllocError>
+pub(crate) fn undefined_symbols(alloc: Global, link: &LinkInput) -> Result<Vec<bool>, AllocError>
     requires { IsWellFormed link.now }
     ensures { IfOk result (λ undefined. undefined.items ≡ undefined_symbols link.now.groups) }
 {
@@ -57,7 +57,7 @@ fn push_undefined(undefined: &mut Vec<bool>, symbols: &[InputSymbol]) -> Result<
 }
 
 /// Adds what is at fault in a file: in its sections, then in its symbols where it is a dynamic one.
-fn push_file_faults(
+pub(crate) fn push_file_faults(
     faults: &mut Vec<ReferenceFault>,
     link: &LinkInput,
     marks: &[bool],

@@ -3,6 +3,7 @@
 
 pub mod error;
 mod faults;
+mod faults_by_groups;
 mod keep;
 pub mod laws;
 pub mod live;

@@ -2,11 +2,13 @@
 
 ghost use Rattle.std.specs.Prelude.{◌≡◌, ◌≤◌};
 ghost use Rattle.lk_link.specs.WellFormed.{IsWellFormed};
+ghost use Rattle.lk_gc.specs.Faults.{faults_by};
 ghost use Rattle.lk_gc.specs.Reach.{GivesLive};
 ghost use Rattle.lk_reach.specs.Marks.{IsWalked};
 
-use crate::error::GcError;
+use crate::error::{GcError, ReferenceFault};
 use crate::faults::reference_faults;
+use crate::faults_by_groups::reference_faults_by_groups;
 use crate::keep::live_after;
 use crate::live::Live;
 use lk_link::{Gate, LinkInput, List};
@@ -50,7 +52,7 @@ pub fn traverse<R: Threads + Wait + Sync, G: Gate + Sync>(
     }
     let (marks, words) = walk_by_workers(rt, alloc, link, workers, gate)?;
     let walk = Walk::of_parts(alloc, marks, words);
-    live_of(alloc, link, &walk)
+    live_of_by_groups(rt, alloc, link, &walk)
 }
 
 /// What is live after a walk over all that is reached, where no reference is at fault; else all that are.
@@ -60,6 +62,36 @@ fn live_of(alloc: Global, link: &LinkInput, walk: &Walk) -> Result<Live, GcError
     ensures { GivesLive link.now result }
 {
     let faults = reference_faults(alloc, link, walk.marks.as_slice())?;
+    live_unless(alloc, link, walk, faults)
+}
+
+/// The same, where faults are looked for group by group.
+fn live_of_by_groups<R: Threads + Sync>(
+    rt: &R,
+    alloc: Global,
+    link: &LinkInput,
+    walk: &Walk,
+) -> Result<Live, GcError>
+    requires well_formed { IsWellFormed link.now }
+    requires walked { IsWalked link.now walk.now }
+    ensures { GivesLive link.now result }
+{
+    let faults = reference_faults_by_groups(rt, alloc, link, walk.marks.as_slice())?;
+    live_unless(alloc, link, walk, faults)
+}
+
+/// What is live after that walk, unless something is at fault.
+fn live_unless(
+    alloc: Global,
+    link: &LinkInput,
+    walk: &Walk,
+    faults: Vec<ReferenceFault>,
+) -> Result<Live, GcError>
+    requires well_formed { IsWellFormed link.now }
+    requires walked { IsWalked link.now walk.now }
+    requires faults { faults.items ≡ faults_by link.now walk.now.marks.items }
+    ensures { GivesLive link.now result }
+{
     if !faults.is_empty() {
         return Err(GcError::References(List::from_vec(faults)));
     }

@@ -22,6 +22,7 @@ mod NamedSymbols
 mod NumbersStand
 mod OneAnswer
 mod OnlyScanned
+mod Oversized
 mod OwnSymbols
 mod PartStarts
 mod PlacedSites

@@ -14,7 +14,7 @@ ghost use Rattle.lk_layout.specs.Stages.{IsAddressedLink, IsChecked, IsKept, IsM
 use crate::error::LayoutError;
 use crate::found::{
     found_addresses, found_addresses_by_groups, found_first, found_reaching, found_sizes,
-    found_spans, found_told,
+    found_sizes_by_groups, found_spans, found_told,
 };
 use crate::headers::header_bytes;
 use crate::images::{merge_images, merge_images_by_workers};
@@ -23,7 +23,7 @@ use crate::stages::{
     AddressedLink, KeptLink, PlacedLink, ReachingLink, SizedLink, SpannedLink, ToldLink,
 };
 use crate::walkers::{MOST_WORKERS, walkers};
-use lk_check::check_link;
+use lk_check::{check_link, check_link_by_groups};
 use lk_gc::{traverse, traverse_alone};
 use lk_link::gate::Gate;
 use lk_link::link::LinkInput;
@@ -63,24 +63,24 @@ fn lay_out<'data, P: Platform, A: Arch>(
     requires kept { IsKept link.now kept }
     ensures { Gives (platform_machine (P.segment_start platform.now) (P.table_sizes platform.now) (A.config_of arch.now)) link.now result }
 {
-    let spanned = stand(alloc, link, platform, arch, kept)?;
+    let sized = size(alloc, link, platform, arch, kept)?;
+    let spanned = stand(alloc, link, platform, arch, sized)?;
     let addressed = address(alloc, link, platform, arch, spanned)?;
     finish(alloc, link, platform, arch, addressed)
 }
 
-/// Finds where all stands of a link of which this is kept, and what the output sections and segments span.
+/// Finds where all stands of a link whose parts are so long, and what the output sections and segments span.
 fn stand<'data, P: Platform, A: Arch>(
     alloc: Global,
     link: &'data LinkInput,
     platform: &P,
     arch: &A,
-    kept: KeptLink<'data>,
+    sized: SizedLink<'data>,
 ) -> Result<SpannedLink<'data>, LayoutError>
-    requires kept { IsKept link.now kept }
+    requires sized { IsSized (platform_machine (P.segment_start platform.now) (P.table_sizes platform.now) (A.config_of arch.now)) link.now sized }
     ensures { Reaches (platform_machine (P.segment_start platform.now) (P.table_sizes platform.now) (A.config_of arch.now)) link.now
         (IsSpannedLink (platform_machine (P.segment_start platform.now) (P.table_sizes platform.now) (A.config_of arch.now)) link.now) result }
 {
-    let sized = size(alloc, link, platform, arch, kept)?;
     let placed = place(alloc, link, platform, arch, sized)?;
     span(alloc, link, platform, arch, placed)
 }
@@ -285,6 +285,19 @@ fn tell<'data, P: Platform, A: Arch>(
     }
 }
 
+/// Looks for the first fault of a link, group by group.
+fn check_by_groups<R: Threads + Sync, P: Platform, A: Arch>(
+    rt: &R,
+    link: &LinkInput,
+    _platform: &P,
+    _arch: &A,
+) -> Result<(), LayoutError>
+    ensures { Reaches (platform_machine (P.segment_start _platform.now) (P.table_sizes _platform.now) (A.config_of _arch.now)) link.now (λ _. IsChecked link.now) result }
+{
+    check_link_by_groups(rt, link)?;
+    Ok(())
+}
+
 /// Merges what is merged of a link by so many workers.
 fn merge_by_workers<
     'data,
@@ -334,6 +347,27 @@ fn keep_by_workers<
     Ok(KeptLink { images, live })
 }
 
+/// Adds up what the live sections bring to each part, and symbols group by group, plans thunks by that, and adds these.
+fn size_by_groups<'data, R: Threads + Sync, P: Platform + Sync, A: Arch>(
+    rt: &R,
+    alloc: Global,
+    link: &'data LinkInput,
+    platform: &P,
+    arch: &A,
+    kept: KeptLink<'data>,
+) -> Result<SizedLink<'data>, LayoutError>
+    requires kept { IsKept link.now kept }
+    ensures { Reaches (platform_machine (P.segment_start platform.now) (P.table_sizes platform.now) (A.config_of arch.now)) link.now
+        (IsSized (platform_machine (P.segment_start platform.now) (P.table_sizes platform.now) (A.config_of arch.now)) link.now) result }
+{
+    let (owners, thunks) = found_sizes_by_groups(rt, alloc, link, platform, arch, &kept)?;
+    Ok(SizedLink {
+        kept,
+        owners,
+        thunks,
+    })
+}
+
 /// Finds the addresses of what stands in the parts, and what symbols stand for, group by group.
 fn address_by_groups<'data, R: Threads + Sync, P: Platform + Sync, A: Arch>(
     rt: &R,
@@ -356,7 +390,7 @@ fn address_by_groups<'data, R: Threads + Sync, P: Platform + Sync, A: Arch>(
     }
 }
 
-/// The layout of a link of which this is kept, with symbols resolved group by group.
+/// The layout of a link of which this is kept, with symbols sized and resolved group by group.
 fn lay_out_by_groups<'data, R: Threads + Sync, P: Platform + Sync, A: Arch>(
     rt: &R,
     alloc: Global,
@@ -368,7 +402,8 @@ fn lay_out_by_groups<'data, R: Threads + Sync, P: Platform + Sync, A: Arch>(
     requires kept { IsKept link.now kept }
     ensures { Gives (platform_machine (P.segment_start platform.now) (P.table_sizes platform.now) (A.config_of arch.now)) link.now result }
 {
-    let spanned = stand(alloc, link, platform, arch, kept)?;
+    let sized = size_by_groups(rt, alloc, link, platform, arch, kept)?;
+    let spanned = stand(alloc, link, platform, arch, sized)?;
     let addressed = address_by_groups(rt, alloc, link, platform, arch, spanned)?;
     finish(alloc, link, platform, arch, addressed)
 }
@@ -393,7 +428,7 @@ pub fn compute<'data, R: Threads + Wait + Sync, P: Platform + Sync, A: Arch + Sy
     if workers < 2 {
         return compute_alone(alloc, link, platform, arch);
     }
-    check(link, platform, arch)?;
+    check_by_groups(rt, link, platform, arch)?;
     let images = merge_by_workers(rt, alloc, link, platform, arch, workers, gate)?;
     let kept = keep_by_workers(rt, alloc, link, platform, arch, images, workers, gate)?;
     lay_out_by_groups(rt, alloc, link, platform, arch, kept)

@@ -1,10 +1,13 @@
 //! What each stage of the computation finds, by the stage before it, which it borrows.
 
-ghost use Rattle.std.specs.Prelude.{◌≡◌, IfOk, length};
+ghost use Rattle.std.specs.Prelude.{◌≡◌, IfOk, Ok, length};
+ghost use Rattle.lk_link.specs.Marks.{is_marked};
 ghost use Rattle.lk_link.specs.Parts.{all_parts};
 ghost use Rattle.lk_relaxing.specs.LinkDeletions.{sizes_after};
+ghost use Rattle.lk_sizes.specs.Emitted.{is_emitted};
 ghost use Rattle.lk_sizes.specs.Owners.{Filling};
-ghost use Rattle.lk_values.specs.OutputContent.{in_layout};
+ghost use Rattle.lk_sizes.specs.Sizing.{GivesOwners};
+ghost use Rattle.lk_values.specs.OutputContent.{in_layout, output_content, output_filling};
 ghost use Rattle.lk_values.specs.Starts.{IsPlaced};
 ghost use Rattle.lk_layout.specs.Headers.{header_bytes};
 ghost use Rattle.lk_layout.specs.Machines.{platform_machine};
@@ -33,7 +36,7 @@ use lk_relaxing::laws::{
     nothing_is_past, relaxed_is_shrunk, relaxed_stands, shrunk_can_be_scanned,
 };
 use lk_relaxing::{check_sites, compute_input_section_positions, is_nothing_deleted, place_first};
-use lk_sizes::part_owners::{add_thunks, plain_owners};
+use lk_sizes::part_owners::{add_thunks, plain_owners, plain_owners_by_groups};
 use lk_sizes::{PartOwners, PartialLinkPlan, attributes_of_contents};
 use lk_thunks::Arch;
 use lk_values::{Addresses, PlacedParts, addresses_of, addresses_of_by_groups, check_offsets};
@@ -53,6 +56,41 @@ pub(crate) fn found_sizes<P: Platform, A: Arch>(
         (λ q. IsSized (platform_machine (P.segment_start platform.now) (P.table_sizes platform.now) (A.config_of arch.now)) link.now (record { kept = kept.now; owners = q.0; thunks = q.1 })) result }
 {
     let plain = plain_owners(alloc, link, platform, &kept.live, &kept.images.lens)?;
+    with_thunks(alloc, link, platform, arch, kept, plain)
+}
+
+/// The same, where what symbols bring is found group by group.
+pub(crate) fn found_sizes_by_groups<R: Threads + Sync, P: Platform + Sync, A: Arch>(
+    rt: &R,
+    alloc: Global,
+    link: &LinkInput,
+    platform: &P,
+    arch: &A,
+    kept: &KeptLink<'_>,
+) -> Result<(PartOwners, ThunkPlan), LayoutError>
+    requires kept { IsKept link.now kept.now }
+    ensures { Reaches (platform_machine (P.segment_start platform.now) (P.table_sizes platform.now) (A.config_of arch.now)) link.now
+        (λ q. IsSized (platform_machine (P.segment_start platform.now) (P.table_sizes platform.now) (A.config_of arch.now)) link.now (record { kept = kept.now; owners = q.0; thunks = q.1 })) result }
+{
+    let plain = plain_owners_by_groups(rt, alloc, link, platform, &kept.live, &kept.images.lens)?;
+    with_thunks(alloc, link, platform, arch, kept, plain)
+}
+
+/// Plans thunks by what comes into the parts without them, and adds these.
+fn with_thunks<P: Platform, A: Arch>(
+    alloc: Global,
+    link: &LinkInput,
+    platform: &P,
+    arch: &A,
+    kept: &KeptLink<'_>,
+    plain: PartOwners,
+) -> Result<(PartOwners, ThunkPlan), LayoutError>
+    requires kept { IsKept link.now kept.now }
+    requires plain { GivesOwners (output_filling (P.table_sizes platform.now) link.now kept.now.live) (Ok plain) }
+    requires marks { is_marked plain.header.emitted ≡ is_emitted (output_content (P.table_sizes platform.now) link.now kept.now.live) }
+    ensures { Reaches (platform_machine (P.segment_start platform.now) (P.table_sizes platform.now) (A.config_of arch.now)) link.now
+        (λ q. IsSized (platform_machine (P.segment_start platform.now) (P.table_sizes platform.now) (A.config_of arch.now)) link.now (record { kept = kept.now; owners = q.0; thunks = q.1 })) result }
+{
     let thunks = plan_thunks(alloc, link, &kept.live, &plain, arch)?;
     // A law, which does nothing: the plan's owners are files of the link, in their order.
     thunk_owners_are_good();

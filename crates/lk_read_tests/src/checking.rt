@@ -1,19 +1,26 @@
 //! The check: descriptions with one thing broken, lists that are too long, and links that no description gives.
 
-use crate::rows::{Asked, expect_rows};
+use crate::rows::{Asked, expect_answer, expect_rows};
 use crate::shown::Shown;
-use lk_check::check_link;
+use lk_check::{check_link, check_link_by_groups};
 use lk_input::{InputError, read_link};
 use lk_link::{
-    Emit, LinkInput, List, OrderEvent, OutputSectionId, PlanPart, PlanSection, PlanSections, Text,
+    Emit, LinkFault, LinkInput, List, OrderEvent, OutputSectionId, PlanPart, PlanSection,
+    PlanSections, Text,
 };
-use lk_test_rows::{groups_of, with_groups};
+use lk_test_rows::{Row, groups_of, rows_of, with_groups};
 use std::alloc::{AllocError, Global};
 use std::test::Fail;
+use std::thread::Threads;
 
 /// Adds what the check answers, as the refusal's text tells it.
 pub fn add_check(line: &mut String, link: &LinkInput) -> Result<(), AllocError> {
-    match check_link(link) {
+    add_outcome(line, &check_link(link))
+}
+
+/// Adds what a check answered.
+fn add_outcome(line: &mut String, outcome: &Result<(), LinkFault>) -> Result<(), AllocError> {
+    match outcome {
         Ok(()) => line.push_str("well formed"),
         Err(fault) => write!(line, "{fault}"),
     }
@@ -448,6 +455,40 @@ const RULES: &str = r#"
 #[test]
 fn each_rule_is_kept_or_broken(rt: HostRuntime) -> Result<(), Fail> {
     expect_rows(&rt, rt.alloc(), Asked::Of(Shown::Check), RULES)
+}
+
+/// Adds what the check answers that looks at what files hold group by group.
+fn add_check_by_groups<R: Threads + Sync>(
+    rt: &R,
+    line: &mut String,
+    link: &Result<LinkInput, InputError>,
+) -> Result<(), AllocError> {
+    match link {
+        Ok(link) => add_outcome(line, &check_link_by_groups(rt, link)),
+        Err(error) => write!(line, "no link: {error}"),
+    }
+}
+
+/// What it answers to a row.
+fn answer_by_groups<R: Threads + Sync>(
+    rt: &R,
+    alloc: Global,
+    row: Row,
+) -> Result<String, AllocError> {
+    let text = row.text(alloc)?;
+    let link = read_link(alloc, text.as_bytes());
+    let mut line = String::new(alloc);
+    add_check_by_groups(rt, &mut line, &link)?;
+    Ok(line)
+}
+
+#[test]
+fn each_rule_is_kept_or_broken_by_groups(rt: HostRuntime) -> Result<(), Fail> {
+    for row in rows_of(rt.alloc(), RULES)? {
+        let line = answer_by_groups(&rt, rt.alloc(), row)?;
+        expect_answer(&rt, row.front, line.as_str(), row.want);
+    }
+    Ok(())
 }
 
 /// How many parts the one section of a link has and how many events its plan.

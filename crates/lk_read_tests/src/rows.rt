@@ -80,7 +80,7 @@ fn answer(alloc: Global, asked: Asked, row: Row) -> Result<String, AllocError> {
 }
 
 /// Wants this text of a row with this front.
-fn expect_answer(rt: &impl Abort, front: &str, found: &str, want: &str) {
+pub fn expect_answer(rt: &impl Abort, front: &str, found: &str, want: &str) {
     assert_eq!(rt; found, want, "for {front}");
 }
 

@@ -12,6 +12,7 @@ ghost use Rattle.lk_link.specs.Parts.{all_parts};
 ghost use Rattle.lk_link.specs.TableSizes.{TableSizes};
 ghost use Rattle.lk_link.specs.WellFormed.{IsWellFormed};
 ghost use Rattle.lk_gc.specs.Reach.{AreLive};
+ghost use Rattle.lk_tables.specs.ShareWords.{first_shares};
 ghost use Rattle.lk_sizes.specs.Emitted.{is_emitted};
 ghost use Rattle.lk_sizes.specs.Contents.{AreContentTotals, part_contents};
 ghost use Rattle.lk_sizes.specs.Owners.{AreThunkOwners, Filling, all_commons, content_of, in_link, in_output, own_sizes, plain_filling, sized_filling, with_thunks, without_thunks};
@@ -30,7 +31,8 @@ use crate::sorted::{InputSortedSection, tell_sorted};
 use lk_gc::Live;
 use lk_link::{FileId, LinkInput, List, Platform};
 use lk_tables::{
-    Common, DynamicNumbers, FileShare, HeaderInfo, mark_prelude, symbol_shares, whole_totals,
+    Common, DynamicNumbers, FileShare, HeaderInfo, SymbolShares, mark_prelude, symbol_shares,
+    symbol_shares_by_groups, whole_totals,
 };
 use rayon::prelude::*;
 use std::alloc::{AllocError, Global};
@@ -187,7 +189,16 @@ pub fn owners<P: Platform>(
     ensures marks { IfOk result (λ owners. is_marked owners.header.emitted
         ≡ is_emitted (content_of link.now (P.table_sizes platform.now) live.now merged_lens.now)) }
 {
-    let owners = sized_owners(alloc, link, platform, live, merged_lens, Some(sizes))?;
+    let brought = symbol_shares(alloc, link, platform, live)?;
+    let owners = sized_owners(
+        alloc,
+        link,
+        platform,
+        live,
+        merged_lens,
+        Some(sizes),
+        brought,
+    )?;
     add_thunks(alloc, link, owners, thunk_owners)
 }
 
@@ -205,7 +216,27 @@ pub fn plain_owners<P: Platform>(
     ensures marks { IfOk result (λ owners. is_marked owners.header.emitted
         ≡ is_emitted (content_of link.now (P.table_sizes platform.now) live.now merged_lens.now)) }
 {
-    sized_owners(alloc, link, platform, live, merged_lens, None)
+    let brought = symbol_shares(alloc, link, platform, live)?;
+    sized_owners(alloc, link, platform, live, merged_lens, None, brought)
+}
+
+/// The same, where what symbols bring is found group by group, on several threads.
+pub fn plain_owners_by_groups<R: Threads + Sync, P: Platform + Sync>(
+    rt: &R,
+    alloc: Global,
+    link: &LinkInput,
+    platform: &P,
+    live: &Live,
+    merged_lens: &[u64],
+) -> Result<PartOwners, SizeError>
+    requires good { IsWellFormed link.now }
+    requires live { AreLive link.now live.now }
+    ensures owners { GivesOwners (plain_filling (content_of link.now (P.table_sizes platform.now) live.now merged_lens.now)) result }
+    ensures marks { IfOk result (λ owners. is_marked owners.header.emitted
+        ≡ is_emitted (content_of link.now (P.table_sizes platform.now) live.now merged_lens.now)) }
+{
+    let brought = symbol_shares_by_groups(rt, alloc, link, platform, live)?;
+    sized_owners(alloc, link, platform, live, merged_lens, None, brought)
 }
 
 /// What was found without thunks, with the blocks that these files own, so many bytes long. Looks at each part and each block once.
@@ -312,7 +343,8 @@ fn resize(
     })
 }
 
-/// What comes into the parts without thunks, where input sections have these sizes, or those that the description gives.
+/// What comes into the parts without thunks, where input sections have these sizes, or those that the description gives, and symbols bring
+/// this.
 fn sized_owners<P: Platform>(
     alloc: Global,
     link: &LinkInput,
@@ -320,15 +352,17 @@ fn sized_owners<P: Platform>(
     live: &Live,
     merged_lens: &[u64],
     sizes: Option<&[u64]>,
+    brought: SymbolShares,
 ) -> Result<PartOwners, SizeError>
     requires good { IsWellFormed link.now }
     requires live { AreLive link.now live.now }
+    requires shares { brought.files.items ≡ first_shares (P.table_sizes platform.now) link.now live.now }
+    requires commons { brought.commons.items ≡ all_commons link.now live.now }
     ensures owners { GivesOwners (sized_filling (content_of link.now (P.table_sizes platform.now) live.now merged_lens.now)
         (option_map_or (λ s. s.now) sizes.entry (own_sizes link.now))) result }
     ensures marks { IfOk result (λ owners. is_marked owners.header.emitted
         ≡ is_emitted (content_of link.now (P.table_sizes platform.now) live.now merged_lens.now)) }
 {
-    let brought = symbol_shares(alloc, link, platform, live)?;
     let totals = content_totals(alloc, link, live, merged_lens, &brought.commons)?;
     let first = first_sizes(alloc, link, &totals, &brought.files)?;
     let header = determine_header_sizes(alloc, link, live, &first)?;

@@ -1,3 +1,4 @@
+pub mod ByGroups
 pub mod Commons
 pub mod Copied
 pub mod Dynamic

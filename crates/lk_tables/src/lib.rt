@@ -1,6 +1,7 @@
 //! What stands in the tables of the output: whose entries they have, and how many bytes these take.
 #![tactic(auto)]
 
+pub mod by_groups;
 pub mod commons;
 pub mod copied;
 pub mod dynamic;
@@ -14,6 +15,7 @@ pub mod singletons;
 pub mod symbol_table;
 pub mod totals;
 
+pub use by_groups::symbol_shares_by_groups;
 pub use commons::Common;
 pub use copied::{SymbolCopyInfo, first_input_of};
 pub use dynamic::dynamic_table;

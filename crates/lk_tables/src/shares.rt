@@ -405,7 +405,7 @@ fn early_if(waits: bool, share: FileShare) -> FileShare
 }
 
 /// What a file takes first, and adds its commons that take bytes.
-fn first_share<P: Platform>(
+pub(crate) fn first_share<P: Platform>(
     commons: &mut Vec<Common>,
     platform: &P,
     link: &LinkInput,

@@ -1,10 +1,10 @@
 -- What is found group by group. Contracts of private functions speak of it.
-use Rattle.std.specs.Prelude.{ℕ, List, [], Option}
-use Rattle.std.specs.List.{AllZip, flat_map, slice_index_or}
-use Rattle.lk_link.specs.declared.file.InputFile.{InputFile}
+use Rattle.std.specs.Prelude.{ℕ, List, Option}
+use Rattle.std.specs.List.{AllZip, flat_map}
 use Rattle.lk_link.specs.declared.resolution.Resolution.{Resolution}
-use Rattle.lk_link.specs.Inputs.{NumberedFile, group_files, numbered_files}
+use Rattle.lk_link.specs.Inputs.{NumberedFile, numbered_files}
 use Rattle.lk_link.specs.Symbols.{first_symbol}
+use Rattle.lk_gc.specs.ByGroups.{files_in}
 use Rattle.lk_values.specs.declared.entries.NextEntries.{NextEntries}
 use Rattle.lk_values.specs.Entries.{EntrySetting}
 use Rattle.lk_values.specs.EntryWords.{AreNextAt}
@@ -18,10 +18,6 @@ AreNextOf by f next = AreNextAt by (first_symbol by.link.groups f.id) next
 abbrev pub AreNextByFile : EntrySetting → List NextEntries → Type 0
 AreNextByFile by starts = AllZip (AreNextOf by) (numbered_files by.link.groups) starts
 
--- the files of the group with this number
-abbrev pub files_in : List (List InputFile) → ℕ → List NumberedFile
-files_in groups g = group_files g 0 (slice_index_or groups g [])
-
--- for each symbol of that group its resolution, if it has one
+-- for each symbol of the group with this number its resolution, if it has one
 abbrev pub group_resolutions : Places → EntrySetting → ℕ → List (Option Resolution)
 group_resolutions places by g = flat_map (file_resolutions places by) (files_in by.link.groups g)

@@ -2,10 +2,10 @@ use Rattle.lk_layout.specs.Machines.{platform_machine}
 use Rattle.lk_layout.proofs.Answering.{handed_on}
 use Rattle.lk_layout.proofs.computation.compute.Goals as goal
 
-pub returns-in_err-check : goal.returns-in_err-check
-returns-in_err-check g c =
+pub returns-in_err-check_by_groups : goal.returns-in_err-check_by_groups
+returns-in_err-check_by_groups g c =
     let machine = platform_machine (g.P.Platform.segment_start c.args.platform.now) (g.P.Platform.table_sizes c.args.platform.now) (g.A.Arch.config_of c.args.arch.now) in
-    handed_on machine c.args.link.now c.in_err-check.field-0.0 c.from_residual.result c.from_residual.ensures.1 c.in_err-check.ensures
+    handed_on machine c.args.link.now c.in_err-check_by_groups.field-0.0 c.from_residual.result c.from_residual.ensures.1 c.in_err-check_by_groups.ensures
 
 pub returns-in_err-images : goal.returns-in_err-images
 returns-in_err-images g c =

@@ -47,7 +47,7 @@ pub returns-in_err-owners-clause-owners : goal.returns-in_err-owners-clause-owne
 returns-in_err-owners-clause-owners g c =
     let tables : TableSizes = g.P.Platform.table_sizes c.args.platform.now in
     let filling : Filling = with_thunks (sized_filling (content_of c.args.link.now tables c.args.live.now c.args.merged_lens.now) c.args.sizes.now) c.args.thunk_owners.now in
-    exit filling _ c.from_residual.result c.from_residual.ensures.1
+    exit filling _ c.from_residual-in_err-owners.result c.from_residual-in_err-owners.ensures.1
     (λ e is. subst (λ (x : SizeError). GivesOwners filling (Err x)) (sym is) (refused filling c.in_err-owners.field-0.0 c.in_err-owners.ensures.owners))
 
 pub add_thunks-requires-clause-count : goal.add_thunks-requires-clause-count

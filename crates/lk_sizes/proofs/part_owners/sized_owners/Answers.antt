@@ -68,7 +68,7 @@ kept_sizes None own = refl
 kept_sizes (Some s) own = refl
 
 pub content_totals-requires-clause-commons : goal.content_totals-requires-clause-commons
-content_totals-requires-clause-commons g c = c.deref.ensures.value ∙ c.in_ok-brought.ensures.commons
+content_totals-requires-clause-commons g c = c.deref.ensures.value ∙ c.requires.commons
 
 pub first_sizes-requires-clause-count : goal.first_sizes-requires-clause-count
 first_sizes-requires-clause-count g c = ap length c.deref-2.ensures.value ∙ (c.in_ok-totals.ensures (g.P.Platform.table_sizes c.args.platform.now)).count
@@ -80,11 +80,11 @@ determine_header_sizes-requires-clause-sizes g c =
     let lens : List ℕ = c.args.merged_lens.now in
     let sizes : TableSizes = g.P.Platform.table_sizes c.args.platform.now in
     let added : AreContentTotals (plain_filling (content_of link sizes live lens)) c.deref-2.result.now = subst (AreContentTotals (plain_filling (content_of link sizes live lens))) (sym c.deref-2.ensures.value) (c.in_ok-totals.ensures sizes) in
-    let shared : c.deref-3.result.now ≡ first_shares sizes link live = c.deref-3.ensures.value ∙ c.in_ok-brought.ensures.files in
+    let shared : c.deref-3.result.now ≡ first_shares sizes link live = c.deref-3.ensures.value ∙ c.requires.shares in
     ap length c.deref-4.ensures.value ∙ (c.in_ok-first.ensures sizes live lens added shared).count
 
 pub resized-requires-clause-commons : goal.resized-requires-clause-commons
-resized-requires-clause-commons g c = c.deref-6.ensures.value ∙ c.in_ok-brought.ensures.commons
+resized-requires-clause-commons g c = c.deref-6.ensures.value ∙ c.requires.commons
 
 pub resized-requires-clause-own : goal.resized-requires-clause-own
 resized-requires-clause-own g c = c.in_ok-totals.ensures
@@ -102,8 +102,8 @@ tell_sorted-requires-clause-fit g c =
     let added : AreContentTotals (plain_filling (content_of link sizes live lens)) c.deref-2.result.now = subst (AreContentTotals (plain_filling (content_of link sizes live lens))) (sym c.deref-2.ensures.value) (c.in_ok-totals.ensures sizes) in
     let given : List ℕ = option_map_or (λ s. s.now) c.args.sizes (own_sizes link) in
     let again : AreContentTotals (sized_filling (content_of link sizes live lens) given) c.deref-7.result.now = subst (AreContentTotals (sized_filling (content_of link sizes live lens) given)) (sym c.deref-7.ensures.value) (c.in_ok-whole.ensures sizes) in
-    let shared : c.deref-3.result.now ≡ first_shares sizes link live = c.deref-3.ensures.value ∙ c.in_ok-brought.ensures.files in
-    let later : c.deref-5.result.now ≡ first_shares sizes link live = c.deref-5.ensures.value ∙ c.in_ok-brought.ensures.files in
+    let shared : c.deref-3.result.now ≡ first_shares sizes link live = c.deref-3.ensures.value ∙ c.requires.shares in
+    let later : c.deref-5.result.now ≡ first_shares sizes link live = c.deref-5.ensures.value ∙ c.requires.shares in
     let first : AreFirstSizes content c.deref-4.result.now = subst (AreFirstSizes content) (sym c.deref-4.ensures.value) (c.in_ok-first.ensures sizes live lens added shared) in
     let header : c.in_ok-header.header ≡ header_info content = c.in_ok-header.ensures.header sizes lens first in
     let told : c.whole_totals-tables.result ≡ totals_of (tables_of content)
@@ -122,8 +122,8 @@ returns-clause-owners g c =
     let added : AreContentTotals (plain_filling (content_of link sizes live lens)) c.deref-2.result.now = subst (AreContentTotals (plain_filling (content_of link sizes live lens))) (sym c.deref-2.ensures.value) (c.in_ok-totals.ensures sizes) in
     let given : List ℕ = option_map_or (λ s. s.now) c.args.sizes (own_sizes link) in
     let again : AreContentTotals (sized_filling (content_of link sizes live lens) given) c.deref-7.result.now = subst (AreContentTotals (sized_filling (content_of link sizes live lens) given)) (sym c.deref-7.ensures.value) (c.in_ok-whole.ensures sizes) in
-    let shared : c.deref-3.result.now ≡ first_shares sizes link live = c.deref-3.ensures.value ∙ c.in_ok-brought.ensures.files in
-    let later : c.deref-5.result.now ≡ first_shares sizes link live = c.deref-5.ensures.value ∙ c.in_ok-brought.ensures.files in
+    let shared : c.deref-3.result.now ≡ first_shares sizes link live = c.deref-3.ensures.value ∙ c.requires.shares in
+    let later : c.deref-5.result.now ≡ first_shares sizes link live = c.deref-5.ensures.value ∙ c.requires.shares in
     let first : AreFirstSizes content c.deref-4.result.now = subst (AreFirstSizes content) (sym c.deref-4.ensures.value) (c.in_ok-first.ensures sizes live lens added shared) in
     let header : c.in_ok-header.header ≡ header_info content = c.in_ok-header.ensures.header sizes lens first in
     let told : c.whole_totals-tables.result ≡ totals_of (tables_of content)
@@ -136,9 +136,9 @@ returns-clause-owners g c =
       record {
         contents = gives.1;
         header = header;
-        numbers = c.new-numbers.ensures sizes live (header_info content).told c.requires.good (c.deref-8.ensures.value ∙ c.in_ok-brought.ensures.files) marked;
-        commons = c.from_vec.ensures ∙ c.in_ok-brought.ensures.commons;
-        shares = c.from_vec-2.ensures ∙ c.in_ok-brought.ensures.files;
+        numbers = c.new-numbers.ensures sizes live (header_info content).told c.requires.good (c.deref-8.ensures.value ∙ c.requires.shares) marked;
+        commons = c.from_vec.ensures ∙ c.requires.commons;
+        shares = c.from_vec-2.ensures ∙ c.requires.shares;
         sorted = c.from_vec-sorted.ensures ∙ c.in_ok-tell_sorted.ensures;
         lens = c.from_vec-lens.ensures ∙ c.in_ok-from_slice.ensures.items;
         thunks = c.new.ensures;
@@ -153,7 +153,7 @@ returns-clause-marks g c =
     let lens : List ℕ = c.args.merged_lens.now in
     let sizes : TableSizes = g.P.Platform.table_sizes c.args.platform.now in
     let added : AreContentTotals (plain_filling (content_of link sizes live lens)) c.deref-2.result.now = subst (AreContentTotals (plain_filling (content_of link sizes live lens))) (sym c.deref-2.ensures.value) (c.in_ok-totals.ensures sizes) in
-    let shared : c.deref-3.result.now ≡ first_shares sizes link live = c.deref-3.ensures.value ∙ c.in_ok-brought.ensures.files in
+    let shared : c.deref-3.result.now ≡ first_shares sizes link live = c.deref-3.ensures.value ∙ c.requires.shares in
     let first : AreFirstSizes (content_of link sizes live lens) c.deref-4.result.now
     = subst (AreFirstSizes (content_of link sizes live lens)) (sym c.deref-4.ensures.value) (c.in_ok-first.ensures sizes live lens added shared) in
     c.in_ok-header.ensures.marks sizes lens first
@@ -169,8 +169,8 @@ returns-in_err-contents-clause-owners g c =
     let added : AreContentTotals (plain_filling (content_of link sizes live lens)) c.deref-2.result.now = subst (AreContentTotals (plain_filling (content_of link sizes live lens))) (sym c.deref-2.ensures.value) (c.in_ok-totals.ensures sizes) in
     let given : List ℕ = option_map_or (λ s. s.now) c.args.sizes (own_sizes link) in
     let again : AreContentTotals (sized_filling (content_of link sizes live lens) given) c.deref-7.result.now = subst (AreContentTotals (sized_filling (content_of link sizes live lens) given)) (sym c.deref-7.ensures.value) (c.in_ok-whole.ensures sizes) in
-    let shared : c.deref-3.result.now ≡ first_shares sizes link live = c.deref-3.ensures.value ∙ c.in_ok-brought.ensures.files in
-    let later : c.deref-5.result.now ≡ first_shares sizes link live = c.deref-5.ensures.value ∙ c.in_ok-brought.ensures.files in
+    let shared : c.deref-3.result.now ≡ first_shares sizes link live = c.deref-3.ensures.value ∙ c.requires.shares in
+    let later : c.deref-5.result.now ≡ first_shares sizes link live = c.deref-5.ensures.value ∙ c.requires.shares in
     let first : AreFirstSizes filling.content c.deref-4.result.now = subst (AreFirstSizes filling.content) (sym c.deref-4.ensures.value) (c.in_ok-first.ensures sizes live lens added shared) in
     let header : c.in_ok-header.header ≡ header_info filling.content = c.in_ok-header.ensures.header sizes lens first in
     let told : c.whole_totals-tables.result ≡ totals_of (tables_of filling.content)
