@@ -4,7 +4,7 @@
 usage: run.py [--merges|--named|--thunks|--relaxed|--plans] [PROGRAM [MEGABYTES..]]
        run.py --long [PROGRAM]
        run.py --memory [PROGRAM]
-       run.py --workers [PROGRAM [MEGABYTES [SHAPE..]]]
+       run.py --workers [PROGRAM [MEGABYTES [ROUNDS [SHAPE..]]]]
        run.py --generated [PROGRAM]
 
 PROGRAM is crates/lk_program/out/lk_program unless given, the sizes are 1, 10 and 100 MB. Each
@@ -24,8 +24,8 @@ where the program crashes, runs out of its stack of 8 MB or answers something el
 With --memory, glibc counts what the program holds of memory over some descriptions of 10 MB, or of as much of
 it as the limit of output sections lets there be.
 
-With --workers, each description of 100 MB is laid out by 0, 2 and 4 workers in turn, and the clock is read. The run
-fails where they give other bytes.
+With --workers, each description of 100 MB is laid out by 0, 2 and 4 workers in turn, in several rounds, and what comes after
+reading is set against that of 0 workers in the same round. The run fails where they give other bytes. It wants a C compiler.
 
 With --generated, the words `gen` are set against `layout 0` over the description of the same link.
 """
@@ -117,10 +117,11 @@ ours, serde: processor seconds of reading a description of 100 MB, ours with the
 wrong shape; then the peak memory. Aim: 1.1 times serde's, 1.15 on tabled.
 """
 
-WORKERS_COLUMNS = (("workers", 7), ("clock", 6), ("to", 11), ("rest", 6), ("of 0", 6), ("processor", 9), ("of 0", 6), ("peak", 6), ("of 0", 6))
+WORKERS_COLUMNS = (("workers", 7), ("clock", 6), ("rest", 6), ("of 0 in its round", 18), ("processors of 0", 16), ("peak", 6), ("of 0", 6))
 WORKERS_LEGEND = """\
-clock: seconds by the clock, the least of several runs, and their middle and most; rest: those of all after reading, and
-as a part of those with 0 workers; processor: seconds of all processors; peak: memory in MB.
+clock: seconds by the clock, the least of all rounds; rest: the least of those after reading; of 0 in its round: these as a
+part of those with 0 workers in the same round, the least, the middle and the greatest; processors of 0: the seconds of all
+processors after reading likewise, the middle; peak: memory in MB.
 """
 
 LONG_COLUMNS = (("items", 9), ("MB", 6), ("seconds", 8), ("ms/MB", 7), ("peak MB", 8), ("peak", 6))
@@ -148,11 +149,11 @@ def limit_stack():
     resource.setrlimit(resource.RLIMIT_STACK, (STACK_BYTES, most))
 
 
-def measure(command, path, output):
+def measure(command, path, output, environment=None):
     """Runs a command over a file; its output goes to another file."""
     with open(path, "rb") as source, open(output, "wb") as sink:
         start = time.monotonic()
-        child = subprocess.Popen(command, stdin=source, stdout=sink, preexec_fn=limit_stack)
+        child = subprocess.Popen(command, stdin=source, stdout=sink, preexec_fn=limit_stack, env=environment)
         _, status, usage = os.wait4(child.pid, 0)
         clock = time.monotonic() - start
         child.returncode = os.waitstatus_to_exitcode(status)
@@ -386,41 +387,38 @@ def measure_baseline(program, folder):
     print(BASELINE_LEGEND)
 
 
-def worker_rows(program, path, output):
+def worker_rows(program, path, output, timer, count):
     """A row for each number of workers over a description, which all have to answer alike."""
-    def by(workers, wanted=LAID_OUT_ANSWER):
-        run = measure([program, "layout", str(workers)], path, output)
-        if not run.start.startswith(wanted):
+    def by(workers):
+        run = measure([program, "layout", str(workers)], path, output, timer.environment)
+        if not run.start.startswith(LAID_OUT_ANSWER):
             sys.exit("layout %d: status %d, %r" % (workers, run.status, run.start))
+        run.rest, run.processors = timer.last()
         return run
 
-    runs = by_workers.rounds(by)
-    if len({run.digest for some in runs.values() for run in some}) != 1:
+    by_number, runs = by_workers.rounds(by, count)
+    if len({run.digest for run in runs}) != 1:
         sys.exit("two numbers of workers gave different bytes")
-    set_ending(path, os.path.getsize(path), READ_ENDING)
-    reading = min(by(0, READ_ANSWER).clock for _ in range(by_workers.ROUNDS))
-    all_runs = {workers: by_workers.Runs(some) for workers, some in runs.items()}
-    alone = all_runs[0]
-    for workers, some in all_runs.items():
+    alone = by_number[0]
+    for workers, some in by_number.items():
         yield (
             workers,
             "%.2f" % some.clock,
-            "%.2f, %.2f" % (some.middle, some.most),
-            "%.2f" % (some.clock - reading),
-            "%.2f" % ((some.clock - reading) / (alone.clock - reading)),
-            "%.2f" % some.seconds,
-            "%.2f" % (some.seconds / alone.seconds),
+            "%.2f" % some.rest,
+            "%.2f, %.2f, %.2f" % some.of_alone,
+            "%.2f" % some.processors,
             "%.0f" % (some.peak / 1e6),
             "%.2f" % (some.peak / alone.peak),
         )
 
 
-def measure_workers(program, folder, megabytes=by_workers.MEGABYTES, *shapes):
+def measure_workers(program, folder, megabytes=by_workers.MEGABYTES, count=by_workers.ROUNDS, *shapes):
     path, output = os.path.join(folder, "description"), os.path.join(folder, "output")
+    library = by_workers.compiled(folder)
     print_headings(WORKERS_COLUMNS)
     for shape in shapes or by_workers.SHAPES:
         generate(path, int(megabytes) * 1_000_000, shape)
-        for row in worker_rows(program, path, output):
+        for row in worker_rows(program, path, output, by_workers.Timer(library, path), int(count)):
             print_line(WORKERS_COLUMNS, (shape, *row))
     print(WORKERS_LEGEND)
 

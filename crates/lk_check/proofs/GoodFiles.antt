@@ -1,5 +1,5 @@
 -- Where all files are good, no rule on what they hold is broken.
-use Rattle.std.proofs.Common.{◌≡◌, ℕ, ◌+◌, ◌&&◌, Bool, true, not, List, [], ◌∷◌, Option, Some, None, option_map, position, length, refl, ap, sym, ◌∙◌}
+use Rattle.std.proofs.Common.{◌≡◌, ℕ, ◌+◌, ◌&&◌, Bool, true, not, List, [], ◌∷◌, Option, Some, None, option_map, length, refl, ap, sym, ◌∙◌}
 use Rattle.std.specs.List.{list_all, slice_get}
 use Rattle.std.proofs.lemmas.Bool.{and_parts}
 use Rattle.lk_link.specs.declared.fault.LinkFault.{LinkFault}

@@ -1,3 +1,4 @@
+pub mod AllPass
 pub mod Bounds
 pub mod CappedSums
 pub mod DepthLemmas
@@ -9,7 +10,6 @@ pub mod MarkLemmas
 pub mod Neighbours
 pub mod NoAnswer
 pub mod NumberedFiles
-pub mod OnYes
 pub mod Operands
 pub mod TableLemmas
 pub mod Unfaulted

@@ -1,10 +1,9 @@
 -- The first list that is too long, from a place on.
-use Rattle.std.proofs.Common.{◌≡◌, ℕ, ◌+◌, ◌<◌, ◌≤◌, Bool, true, false, cond, List, [], ◌∷◌, ◌++◌, Some, None, option_map, find, length, get_or, drop, nat_lt, refl, ap, ◌∙◌}
+use Rattle.std.proofs.Common.{◌≡◌, ℕ, ◌+◌, ◌<◌, ◌≤◌, ◌&&◌, Bool, true, false, cond, List, [], ◌∷◌, ◌++◌, Some, None, is_none, option_map, find, length, get_or, drop, nat_lt, refl, ap, sym, ◌∙◌}
 use Rattle.std.proofs.lemmas.Bool.{lt-ltb, le-ltb}
 use Rattle.std.proofs.lemmas.List.{drop_more, drop_all}
-use Rattle.std.specs.List.{All}
+use Rattle.std.specs.List.{list_all}
 use Rattle.std.proofs.lemmas.List.Concat.{flat_map-append}
-use Rattle.std.proofs.lemmas.List.Elements.{All-head, All-tail}
 use Rattle.lk_link.specs.declared.file.InputFile.{InputFile}
 use Rattle.lk_link.specs.declared.section.InputSection.{InputSection}
 use Rattle.lk_link.specs.Limits.{all_sections}
@@ -97,12 +96,22 @@ group_here most list groups i d n h some =
 
 pub ruleset group_steps = (group_end, group_on, group_here)
 
--- where no group has such a list, there is none
-pub none_of_groups : (most : ℕ) (list : SectionList) (groups : List (List InputFile)) → All (λ files. long_list most list (sections_of files) ≡ None) groups → long_list most list (all_sections groups) ≡ None
+-- there is none in two lists where there is none in either
+none_of_both : (most : ℕ) (list : SectionList) (xs ys : List InputSection) → (is_none (long_list most list xs) && is_none (long_list most list ys)) ≡ is_none (long_list most list (xs ++ ys))
 unfolding long_list
-none_of_groups most list [] h = refl
-none_of_groups most list (files ∷ groups) h =
-    let IsShort : List InputFile → Type 0 = λ fs. long_list most list (sections_of fs) ≡ None in
-    ap (long_list most list) (flat_map-append (λ (f : InputFile). f.sections) files (all_files groups))
-    ∙ joins_none most list (sections_of files) (all_sections groups) (All-head IsShort files groups h)
-    ∙ none_of_groups most list groups (All-tail IsShort files groups h)
+none_of_both most list [] ys = refl
+none_of_both most list (x ∷ xs) ys =
+    let p : InputSection → Bool = λ s. nat_lt most (list_length list s) in
+    elim (p x) as (λ b. (is_none (option_map (list_length list) (cond b (Some x) (find p xs))) && is_none (long_list most list ys)) ≡ is_none (option_map (list_length list) (cond b (Some x) (find p (xs ++ ys))))) [
+      | true ↦ refl
+      | false ↦ none_of_both most list xs ys
+    ]
+
+-- there is none just where there is none in each group
+pub none_of_groups : (most : ℕ) (list : SectionList) (groups : List (List InputFile)) → list_all (λ files. is_none (long_list most list (sections_of files))) groups ≡ is_none (long_list most list (all_sections groups))
+unfolding long_list
+none_of_groups most list [] = refl
+none_of_groups most list (files ∷ groups) =
+    ap (λ b. is_none (long_list most list (sections_of files)) && b) (none_of_groups most list groups)
+    ∙ none_of_both most list (sections_of files) (all_sections groups)
+    ∙ ap (λ xs. is_none (long_list most list xs)) (sym (flat_map-append (λ (f : InputFile). f.sections) files (all_files groups)))

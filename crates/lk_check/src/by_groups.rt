@@ -3,7 +3,7 @@
 //! Nearly all links are good. So groups are only asked whether they are, side by side and in any order; where one isn't, the rules are
 //! gone through in their own order for the first that is broken.
 
-ghost use Rattle.std.specs.Prelude.{◌≡◌, ◌≤◌, length, true};
+ghost use Rattle.std.specs.Prelude.{◌≡◌, ◌≤◌, length};
 ghost use Rattle.lk_link.specs.Files.{AreNumbered};
 ghost use Rattle.lk_link.specs.SymbolRules.{location_count};
 ghost use Rattle.lk_link.specs.Symbols.{all_files, symbol_count};
@@ -43,7 +43,7 @@ pub fn check_rules_by_groups<R: Threads + Sync>(rt: &R, link: &LinkInput) -> Res
 
 /// Whether all that the files of a link hold is good.
 fn has_good_files<R: Threads + Sync>(rt: &R, link: &LinkInput) -> bool
-    ensures { result ≡ true → has_good_files link.now ≡ true }
+    ensures { result ≡ has_good_files link.now }
 {
     let locations = location_count(&link.plan);
     link.groups.as_slice().par_iter().with_min_len(1).all(

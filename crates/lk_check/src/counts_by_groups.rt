@@ -1,6 +1,6 @@
 //! What is counted over all files, group by group on several threads.
 
-ghost use Rattle.std.specs.Prelude.{◌≡◌, ◌+◌, ◌-◌, ◌^◌, None, min, sum_by, true};
+ghost use Rattle.std.specs.Prelude.{◌≡◌, ◌+◌, ◌-◌, ◌^◌, is_none, min, sum_by};
 ghost use Rattle.lk_link.specs.Limits.{all_sections, first_length_past, over_files};
 ghost use Rattle.lk_check.specs.Lengths.{list_length, long_list, sections_of};
 
@@ -63,12 +63,12 @@ fn has_no_long_list<R: Threads + Sync>(
     list: SectionList,
     groups: &[List<InputFile>],
 ) -> bool
-    ensures { result ≡ true → long_list most list (all_sections groups.now) ≡ None }
+    ensures { result ≡ is_none (long_list most list (all_sections groups.now)) }
 {
     groups.par_iter().with_min_len(1).all(
         rt,
         |files: &List<InputFile>| -> bool
-            ensures { result ≡ true → long_list most list (sections_of files.now) ≡ None }
+            ensures { result ≡ is_none (long_list most list (sections_of files.now)) }
         { long_list_of_files(most, list, files.as_slice()).is_none() },
     )
 }

@@ -30,7 +30,7 @@ pub fn check_rules(link: &LinkInput) -> Result<(), LinkFault>
     check_files(link)
 }
 
-/// The same of a link whose files hold nothing that breaks one.
+/// Refuses a link by the first rule that is broken on anything but what its files hold, at its first place.
 #[tactic(auto, using(crate::proofs::Faults::checks), unfolding(crate::specs::ByGroups::outside_fault))]
 pub fn check_outside_files(link: &LinkInput) -> Result<(), LinkFault>
     requires files { AreNumbered link.now.groups }

@@ -1,4 +1,4 @@
--- What is found group by group.
+-- What is found group by group; what is at fault in a group is a word of private contracts.
 use Rattle.std.specs.Prelude.{ℕ, Bool, List, []}
 use Rattle.std.specs.List.{flat_map, slice_index_or}
 use Rattle.lk_link.specs.declared.file.InputFile.{InputFile}

@@ -409,10 +409,12 @@ fn lay_out_by_groups<'data, R: Threads + Sync, P: Platform + Sync, A: Arch>(
 }
 
 /// The layout of a link: the defined answer, unless memory runs out (libwild: `layout::compute`). With two or more workers as many threads,
-/// 64 at most, merge strings and then find what is reached, and the gate is entered before their steps; then symbols are resolved group by
-/// group on several threads, where there are three groups or more. All else is done on the caller's thread, which waits for them. What is
-/// reached is found on the caller's thread too where long lists of asks may be shared by many, as the members of a large section group are:
-/// workers go through such a list for each unit that asks for it. With 0 or 1 it never calls the gate: it then asks for no leave to enter it.
+/// 64 at most, merge strings and then find what is reached, and the gate is entered before their steps. Four things more are then found
+/// group by group, in two pieces for each processor and on a thread for each piece, whatever that number is: whether what files hold keeps
+/// the limits and the rules, which references are at fault, what symbols take in tables, and, where there are three groups or more, what
+/// symbols stand for. All else is done on the caller's thread, which waits for them. What is reached and what is at fault is found on the
+/// caller's thread too where long lists of asks may be shared by many, as the members of a large section group are: workers go through such
+/// a list for each unit that asks for it. With 0 or 1 workers it never calls the gate: it then asks for no leave to enter it.
 pub fn compute<'data, R: Threads + Wait + Sync, P: Platform + Sync, A: Arch + Sync, G: Gate + Sync>(
     rt: &R,
     alloc: Global,

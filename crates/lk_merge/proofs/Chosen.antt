@@ -1,7 +1,7 @@
 -- Which pieces the blocks of an offset map keep.
-use Rattle.std.proofs.Common.{◌≡◌, ℕ, zero, suc, ◌+◌, ◌/◌, ◌<◌, ◌≤◌, Bool, true, false, cond, not, eqb, ltb, List, [], ◌∷◌, ◌++◌, filter, length, min, Some, refl, sym, ap, ◌∙◌, subst, arith, inl, inr, ◌⊎◌, append-nil, append_assoc, length-append}
+use Rattle.std.proofs.Common.{◌≡◌, ℕ, zero, suc, ◌+◌, ◌/◌, ◌<◌, ◌≤◌, Bool, true, false, cond, not, eqb, List, [], ◌∷◌, ◌++◌, length, min, Some, refl, sym, ap, ◌∙◌, subst, arith, inl, inr, ◌⊎◌, append-nil, append_assoc, length-append}
 use Rattle.std.specs.List.{slice_get}
-use Rattle.std.proofs.lemmas.Bool.{ltb-true, ltb-false, eqb-true, eqb-false, eq-eqb}
+use Rattle.std.proofs.lemmas.Bool.{ltb-true, ltb-false, eqb-true}
 use Rattle.std.proofs.lemmas.List.Elements.{filter-append}
 use Rattle.lk_merge.specs.declared.offset_map.PieceEntry.{PieceEntry}
 use Rattle.lk_merge.specs.OffsetMaps.{StartsRise, chosen_behind, first_twelve, has_no_room, has_room, in_block, past_twelfth}
@@ -19,32 +19,34 @@ module _ (choice : Choice) where
   unfolding chosen_behind
   chosen_step before e es t h = ap (λ b. cond b (e ∷ chosen_behind choice (before ++ e ∷ []) es) (chosen_behind choice (before ++ e ∷ []) es)) h
 
-  -- with one more piece
-  pub chosen_push : (before es : List PieceEntry) (e : PieceEntry) → chosen_behind choice before (es ++ e ∷ []) ≡ chosen_behind choice before es ++ cond (choice (before ++ es) e) (e ∷ []) []
-  chosen_push before [] e = by (choice before e) refl
+  -- of one list behind another
+  pub chosen_append : (before xs ys : List PieceEntry) → chosen_behind choice before (xs ++ ys) ≡ chosen_behind choice before xs ++ chosen_behind choice (before ++ xs) ys
+  chosen_append before [] ys =
+      ap (λ l. chosen_behind choice l ys) (sym (append-nil before)) ∙ ap (λ l. l ++ chosen_behind choice (before ++ []) ys) (sym (chosen_none before))
+  chosen_append before (d ∷ xs) ys = by (choice before d) refl (chosen_append (before ++ d ∷ []) xs ys)
     where
-      by : (t : Bool) → choice before e ≡ t → chosen_behind choice before (e ∷ []) ≡ chosen_behind choice before [] ++ cond (choice (before ++ []) e) (e ∷ []) []
-      by t h =
-          chosen_step before e [] t h ∙ ap (λ l. cond t (e ∷ l) l) (chosen_none (before ++ e ∷ []))
-          ∙ ap (λ b. cond b (e ∷ []) []) (sym h ∙ ap (λ l. choice l e) (sym (append-nil before)))
-          ∙ ap (λ l. l ++ cond (choice (before ++ []) e) (e ∷ []) []) (sym (chosen_none before))
-  chosen_push before (d ∷ es) e = by (choice before d) refl (chosen_push (before ++ d ∷ []) es e)
-    where
-      rest : List PieceEntry
-      rest = chosen_behind choice (before ++ d ∷ []) es
+      first : List PieceEntry
+      first = chosen_behind choice (before ++ d ∷ []) xs
 
       end : List PieceEntry
-      end = cond (choice (before ++ d ∷ es) e) (e ∷ []) []
+      end = chosen_behind choice (before ++ d ∷ xs) ys
 
-      same : (before ++ d ∷ []) ++ es ≡ before ++ d ∷ es
-      same = append_assoc before (d ∷ []) es
+      same : (before ++ d ∷ []) ++ xs ≡ before ++ d ∷ xs
+      same = append_assoc before (d ∷ []) xs
 
-      by : (t : Bool) → choice before d ≡ t → chosen_behind choice (before ++ d ∷ []) (es ++ e ∷ []) ≡ rest ++ cond (choice ((before ++ d ∷ []) ++ es) e) (e ∷ []) []
-          → chosen_behind choice before (d ∷ es ++ e ∷ []) ≡ chosen_behind choice before (d ∷ es) ++ end
+      by : (t : Bool) → choice before d ≡ t → chosen_behind choice (before ++ d ∷ []) (xs ++ ys) ≡ first ++ chosen_behind choice ((before ++ d ∷ []) ++ xs) ys
+          → chosen_behind choice before (d ∷ xs ++ ys) ≡ chosen_behind choice before (d ∷ xs) ++ end
       by true h more =
-          chosen_step before d (es ++ e ∷ []) true h ∙ ap (λ l. d ∷ l) (more ∙ ap (λ l. rest ++ cond (choice l e) (e ∷ []) []) same) ∙ ap (λ l. l ++ end) (sym (chosen_step before d es true h))
+          chosen_step before d (xs ++ ys) true h ∙ ap (λ l. d ∷ l) (more ∙ ap (λ l. first ++ chosen_behind choice l ys) same) ∙ ap (λ l. l ++ end) (sym (chosen_step before d xs true h))
       by false h more =
-          chosen_step before d (es ++ e ∷ []) false h ∙ more ∙ ap (λ l. rest ++ cond (choice l e) (e ∷ []) []) same ∙ ap (λ l. l ++ end) (sym (chosen_step before d es false h))
+          chosen_step before d (xs ++ ys) false h ∙ more ∙ ap (λ l. first ++ chosen_behind choice l ys) same ∙ ap (λ l. l ++ end) (sym (chosen_step before d xs false h))
+
+  chosen_one : (before : List PieceEntry) (e : PieceEntry) → chosen_behind choice before (e ∷ []) ≡ cond (choice before e) (e ∷ []) []
+  chosen_one before e = chosen_step before e [] (choice before e) refl ∙ ap (λ l. cond (choice before e) (e ∷ l) l) (chosen_none (before ++ e ∷ []))
+
+  -- with one more piece
+  pub chosen_push : (before es : List PieceEntry) (e : PieceEntry) → chosen_behind choice before (es ++ e ∷ []) ≡ chosen_behind choice before es ++ cond (choice (before ++ es) e) (e ∷ []) []
+  chosen_push before es e = chosen_append before es (e ∷ []) ∙ ap (λ l. chosen_behind choice before es ++ l) (chosen_one (before ++ es) e)
 
   -- the chosen ones are among the pieces, in their order
   pub chosen_in : (before es : List PieceEntry) (i : ℕ) (e : PieceEntry) → slice_get (chosen_behind choice before es) i ≡ Some e → (k : ℕ) × (slice_get es k ≡ Some e)
@@ -55,6 +57,42 @@ module _ (choice : Choice) where
           → (j : ℕ) → slice_get (chosen_behind choice before (d ∷ es)) j ≡ Some e → (k : ℕ) × (slice_get (d ∷ es) k ≡ Some e)
       by false t more j there = more j (ap (λ l. slice_get l j) (sym (chosen_step before d es false t)) ∙ there)
       by true t more zero there = (0, ap (λ l. slice_get l 0) (sym (chosen_step before d es true t)) ∙ there)
+      by true t more (suc j) there = more j (ap (λ l. slice_get l (suc j)) (sym (chosen_step before d es true t)) ∙ there)
+
+  -- a piece that is chosen by those in front of it
+  pub record IsChosen (before es : List PieceEntry) (e : PieceEntry) : Type 0 where
+    pub front : List PieceEntry
+    pub back : List PieceEntry
+    pub parts : es ≡ front ++ e ∷ back
+    pub chosen : choice (before ++ front) e ≡ true
+
+  pub chosen_at : (before es : List PieceEntry) (i : ℕ) (e : PieceEntry) → slice_get (chosen_behind choice before es) i ≡ Some e → IsChosen before es e
+  chosen_at before [] i e h = absurd (let none = sym (ap (λ l. slice_get l i) (chosen_none before)) ∙ h in cc)
+  chosen_at before (d ∷ es) i e h = by (choice before d) refl (λ j there. later (chosen_at (before ++ d ∷ []) es j e there)) i h
+    where
+      later : IsChosen (before ++ d ∷ []) es e → IsChosen before (d ∷ es) e
+      later r = record {
+        front = d ∷ r.front;
+        back = r.back;
+        parts = ap (λ l. d ∷ l) r.parts;
+        chosen = ap (λ l. choice l e) (sym (append_assoc before (d ∷ []) r.front)) ∙ r.chosen;
+      }
+
+      first : choice before d ≡ true → d ≡ e → IsChosen before (d ∷ es) e
+      first t same = record {
+        front = [];
+        back = es;
+        parts = ap (λ x. x ∷ es) same;
+        chosen = ap (λ l. choice l e) (append-nil before) ∙ ap (λ x. choice before x) (sym same) ∙ t;
+      }
+
+      by : (t : Bool) → choice before d ≡ t → ((j : ℕ) → slice_get (chosen_behind choice (before ++ d ∷ []) es) j ≡ Some e → IsChosen before (d ∷ es) e)
+          → (j : ℕ) → slice_get (chosen_behind choice before (d ∷ es)) j ≡ Some e → IsChosen before (d ∷ es) e
+      by false t more j there = more j (ap (λ l. slice_get l j) (sym (chosen_step before d es false t)) ∙ there)
+      by true t more zero there =
+          let head : Some d ≡ Some e = ap (λ l. slice_get l 0) (sym (chosen_step before d es true t)) ∙ there in
+          let same : d ≡ e = cc in
+          first t same
       by true t more (suc j) there = more j (ap (λ l. slice_get l (suc j)) (sym (chosen_step before d es true t)) ∙ there)
 
   pub record ArePair (es : List PieceEntry) (d e : PieceEntry) : Type 0 where

@@ -1,17 +1,17 @@
 -- How an offset map holds its pieces, with one more and in look-ups.
-use Rattle.std.proofs.Common.{◌≡◌, Result, Ok, Err, OnOk, ℕ, zero, suc, ◌+◌, ◌-◌, ◌*◌, ◌/◌, ◌%◌, ◌^◌, ◌<◌, ◌≤◌, Bool, true, false, cond, not, eqb, ltb, List, [], ◌∷◌, ◌++◌, filter, length, map, min, Option, None, Some, refl, sym, ap, ◌∙◌, subst, arith, inl, inr, ◌⊎◌, ⊎_elim, append-nil, length-append}
+use Rattle.std.proofs.Common.{◌≡◌, Result, Ok, Err, OnOk, ℕ, zero, suc, ◌+◌, ◌-◌, ◌*◌, ◌/◌, ◌%◌, ◌^◌, ◌<◌, ◌≤◌, Bool, true, false, cond, not, eqb, List, [], ◌∷◌, ◌++◌, length, Option, Some, refl, sym, ap, ◌∙◌, subst, arith, inl, inr, ◌⊎◌, ⊎_elim, append-nil, length-append}
 use Rattle.std.specs.List.{slice_get}
-use Rattle.std.specs.Option.{SomeIff, MatchOption}
-use Rattle.std.proofs.lemmas.Bool.{cases_lt, eq-eqb, ne_eqb, ltb-true, ltb-false, lt-ltb, le-ltb}
+use Rattle.std.proofs.lemmas.Bool.{cases_lt, eq-eqb, ne_eqb, ltb-false, lt-ltb, le-ltb, not-true}
 use Rattle.std.proofs.lemmas.List.{length-map, map-append}
+use Rattle.std.proofs.lemmas.List.Elements.{filter-append}
 use Rattle.std.proofs.lemmas.Option.{slice_get_within}
-use Rattle.lk_link.proofs.Elements.{append_at, at_index, map_at, map_in}
+use Rattle.lk_link.proofs.Elements.{append_at, append_left, append_right, at_index, filter_in, map_in}
 use Rattle.lk_merge.specs.declared.offset_map.OffsetMap.{OffsetMap}
 use Rattle.lk_merge.specs.declared.offset_map.PieceEntry.{PieceEntry}
 use Rattle.lk_merge.specs.declared.offset_map.Starts.{Starts}
-use Rattle.lk_merge.specs.OffsetMapTables.{AreBefore, AreStarts, HoldsIn, later}
-use Rattle.lk_merge.specs.OffsetMaps.{IsLast, NoneAt, StartsRise, first_twelve, has_no_room, has_room, in_block, past_twelfth}
-use Rattle.lk_merge.proofs.Chosen.{chosen_in, chosen_none, chosen_push, chosen_rise, either, kept_count}
+use Rattle.lk_merge.specs.OffsetMapTables.{AreBefore, AreStarts, HoldsIn}
+use Rattle.lk_merge.specs.OffsetMaps.{IsLast, NoneAt, StartsRise, chosen_behind, first_twelve, has_no_room, has_room, in_block, past_twelfth}
+use Rattle.lk_merge.proofs.Chosen.{IsChosen, chosen_append, chosen_at, chosen_in, chosen_none, chosen_push, chosen_rise, either, few_kept, kept_count}
 
 pub one_of : {X : Type 0} {o : Option X} {a b : X} → o ≡ Some a → o ≡ Some b → a ≡ b
 one_of p q = cc
@@ -247,7 +247,84 @@ module _ (pieces : List PieceEntry) (offset : ℕ) where
         (λ back. let s : d.start ≡ e.start = ap (λ (x : PieceEntry). x.start) (one_of (let n : k ≡ j = omega (arith, far, back) in ap (slice_get pieces) n ∙ there) at) in omega (arith, s)) (cases_lt k j)) (cases_lt j k);
   }
 
--- the later one of the last kept piece and the last that stands apart is the last of all
+-- a piece that stands apart has twelve kept ones of its block before it
+module _ (pieces : List PieceEntry) (rise : StartsRise pieces) (j : ℕ) (e : PieceEntry) (apart : slice_get (past_twelfth pieces) j ≡ Some e) where
+  at : IsChosen has_no_room [] pieces e
+  at = chosen_at has_no_room [] pieces j e apart
+
+  abbrev kept_so_far : List PieceEntry
+  kept_so_far = first_twelve at.front
+
+  twelve : length (in_block (e.start / 256) kept_so_far) ≡ 12
+  twelve =
+      let many = ltb-false (length (in_block (e.start / 256) at.front)) 12 (not-true _ at.chosen) in
+      let count = kept_count (e.start / 256) at.front in
+      omega (arith, many, count)
+
+  abbrev behind : List PieceEntry
+  behind = chosen_behind has_room at.front (e ∷ at.back)
+
+  whole : first_twelve pieces ≡ kept_so_far ++ behind
+  whole = ap (λ ps. first_twelve ps) at.parts ∙ chosen_append has_room [] at.front (e ∷ at.back)
+
+  stays : (k : ℕ) (d : PieceEntry) → slice_get kept_so_far k ≡ Some d → slice_get (first_twelve pieces) k ≡ Some d
+  stays k d there = ap (λ l. slice_get l k) whole ∙ append_left kept_so_far behind k d there
+
+  earlier : (k : ℕ) (d : PieceEntry) → slice_get kept_so_far k ≡ Some d → d.start < e.start
+  earlier k d there =
+      let i = chosen_in has_room [] at.front k d there in
+      rise i.0 (length at.front) d e (slice_get_within at.front i.0 d i.1) (ap (λ l. slice_get l i.0) at.parts ∙ append_left at.front (e ∷ at.back) i.0 d i.1)
+      (ap (λ l. slice_get l (length at.front)) at.parts ∙ append_right at.front (e ∷ at.back) 0 (length at.front) e (omega arith) refl)
+
+  all_before : AreBefore kept_so_far ((e.start / 256 + 1) * 256) (length kept_so_far)
+  all_before = record {
+    within = omega arith;
+    before = λ k d there _. let l = earlier k d there in omega (arith, l);
+    behind = λ k d there far. absurd (let w = slice_get_within kept_so_far k d there in omega (arith, w, far));
+  }
+
+  -- and none of its block behind it
+  pub behind_kept : (k : ℕ) (d : PieceEntry) → slice_get (first_twelve pieces) k ≡ Some d → d.start / 256 ≡ e.start / 256 → d.start < e.start
+  behind_kept k d there same = elim (append_at kept_so_far behind k d (ap (λ l. slice_get l k) (sym whole) ∙ there)) [
+    | inl a ↦ earlier k d a
+    | inr a ↦ absurd (
+        let i = filter_in (λ (x : PieceEntry). eqb (x.start / 256) (e.start / 256)) behind a.0 d a.2 (eq-eqb (d.start / 256) (e.start / 256) same) in
+        let within = slice_get_within (in_block (e.start / 256) behind) i.0 d i.1 in
+        let few = few_kept (e.start / 256) pieces in
+        let parts = ap (λ ps. length (in_block (e.start / 256) ps)) whole
+        ∙ ap (λ (l : List PieceEntry). length l) (filter-append (λ (x : PieceEntry). eqb (x.start / 256) (e.start / 256)) kept_so_far behind)
+        ∙ length-append (in_block (e.start / 256) kept_so_far) (in_block (e.start / 256) behind) in
+        omega (arith, within, few, parts, twelve))
+  ]
+
+  module _ (n m offset : ℕ) (begins : AreBefore (first_twelve pieces) (e.start / 256 * 256) n) (up_to : AreBefore (first_twelve pieces) (offset + 1) m) (from : e.start ≤ offset) where
+    reached : length kept_so_far ≤ m
+    reached = ⊎_elim
+        (λ less. absurd (
+        let d = at_index kept_so_far m less in
+        let far = up_to.behind m d.0 (stays m d.0 d.1) (omega arith) in
+        let near = earlier m d.0 d.1 in
+        omega (arith, far, near, from)))
+        (λ fine. fine) (cases_lt m (length kept_so_far))
+
+    pub twelve_before : n + 12 ≤ m
+    twelve_before = ⊎_elim
+        (λ short. absurd (
+        let none = block_count (e.start / 256) kept_so_far (length kept_so_far) (length kept_so_far) (record {
+          within = omega arith;
+          before = λ k d there below. begins.before k d (stays k d there) (omega (arith, short, below));
+          behind = λ k d there far. absurd (let w = slice_get_within kept_so_far k d there in omega (arith, w, far));
+        }) all_before in
+        omega (arith, none, twelve)))
+        (λ fine.
+        let count = block_count (e.start / 256) kept_so_far n (length kept_so_far) (record {
+          within = fine;
+          before = λ k d there below. begins.before k d (stays k d there) below;
+          behind = λ k d there far. begins.behind k d (stays k d there) far;
+        }) all_before in
+        omega (arith, count, twelve, reached)) (cases_lt (length kept_so_far) n)
+
+-- the last kept piece is the last of all, or the last that stands apart is
 module _ (pieces : List PieceEntry) (offset : ℕ) where
   from_kept : (e : PieceEntry) → IsLast (first_twelve pieces) offset e → ((j : ℕ) (d : PieceEntry) → slice_get (past_twelfth pieces) j ≡ Some d → d.start ≤ offset → d.start ≤ e.start) → IsLast pieces offset e
   from_kept e h rest =
@@ -275,16 +352,55 @@ module _ (pieces : List PieceEntry) (offset : ℕ) where
         ];
       }
 
-  pub later_last : (kept rest : Option PieceEntry) → MatchOption kept (NoneAt (first_twelve pieces) offset) (IsLast (first_twelve pieces) offset)
-      → MatchOption rest (NoneAt (past_twelfth pieces) offset) (IsLast (past_twelfth pieces) offset) → MatchOption (later kept rest) (NoneAt pieces offset) (IsLast pieces offset)
-  later_last None None h k = λ j e there. elim (either [] pieces j e there) [ inl a ↦ h a.0 e a.1 | inr a ↦ k a.0 e a.1 ]
-  later_last (Some d) None h k = from_kept d h (λ j x there from. absurd (let far = k j x there in omega (arith, far, from)))
-  later_last None (Some e) h k = from_rest e k (λ j x there from. absurd (let far = h j x there in omega (arith, far, from)))
-  later_last (Some d) (Some e) h k = by (ltb d.start e.start) refl
-    where
-      by : (t : Bool) → ltb d.start e.start ≡ t → MatchOption (cond t (Some e) (Some d)) (NoneAt pieces offset) (IsLast pieces offset)
-      by true less = from_rest e k (λ j x there from. let a = h.last j x there from in let b = ltb-true _ _ less in omega (arith, a, b))
-      by false more = from_kept d h (λ j x there from. let a = k.last j x there from in let b = ltb-false _ _ more in omega (arith, a, b))
+  module _ (rise : StartsRise pieces) (m : ℕ) (up_to : AreBefore (first_twelve pieces) (offset + 1) m) where
+    -- where none is kept, none stands apart
+    pub none_kept : m ≡ 0 → NoneAt pieces offset
+    none_kept none j e there = elim (either [] pieces j e there) [
+      | inl a ↦ none_before (first_twelve pieces) offset m up_to none a.0 e a.1
+      | inr a ↦ ⊎_elim
+          (λ far. far)
+          (λ from. absurd (
+          let twelve = twelve_before pieces rise a.0 e a.1 0 m offset (record {
+            within = omega arith;
+            before = λ k d _ below. absurd (omega (arith, below));
+            behind = λ k d d_at _. let far = up_to.behind k d d_at (omega (arith, none)) in omega (arith, far, from);
+          }) up_to from in
+          omega (arith, twelve, none))) (cases_lt offset e.start)
+    ]
+
+    -- where the last kept one isn't the twelfth of its block, none that stands apart is later
+    pub kept_last : (n : ℕ) (e : PieceEntry) → IsLast (first_twelve pieces) offset e → AreBefore (first_twelve pieces) (e.start / 256 * 256) n → m - n < 12 → IsLast pieces offset e
+    kept_last n e h begins few = from_kept e h (λ j d there from. ⊎_elim (λ less. absurd (by j d there from less)) (λ fine. fine) (cases_lt e.start d.start))
+      where
+        by : (j : ℕ) (d : PieceEntry) → slice_get (past_twelfth pieces) j ≡ Some d → d.start ≤ offset → e.start < d.start → ⊥
+        by j d there from less = ⊎_elim
+            (λ other.
+            let twelve = twelve_before pieces rise j d there m m offset (record {
+              within = up_to.within;
+              before = λ k x x_at below. let near = up_to.before k x x_at below in let l = h.last k x x_at (omega (arith, near)) in omega (arith, l, other);
+              behind = λ k x x_at far. let a = up_to.behind k x x_at far in omega (arith, a, from);
+            }) up_to from in
+            omega (arith, twelve))
+            (λ back.
+            let same : e.start / 256 ≡ d.start / 256 = omega (arith, back, less) in
+            let twelve = twelve_before pieces rise j d there n m offset (subst (λ b. AreBefore (first_twelve pieces) (b * 256) n) same begins) up_to from in
+            omega (arith, twelve, few)) (cases_lt (e.start / 256) (d.start / 256))
+
+  module _ (n r : ℕ) (d : PieceEntry) (h : IsLast (first_twelve pieces) offset d) (begins : AreBefore (past_twelfth pieces) (d.start / 256 * 256) n) (up_to : AreBefore (past_twelfth pieces) (offset + 1) r) where
+    -- where none of the last kept one's block stands apart up to the offset, it is the last
+    pub kept_alone : r ≤ n → IsLast pieces offset d
+    kept_alone few = from_kept d h (λ j e there from. ⊎_elim
+        (λ below. let b = begins.before j e there (omega (arith, below, few)) in omega (arith, b))
+        (λ far. absurd (let b = up_to.behind j e there far in omega (arith, b, from))) (cases_lt j r))
+
+    -- and else the last of these is
+    pub apart_last : StartsRise pieces → (k : ℕ) (e : PieceEntry) → n ≤ k → r ≡ k + 1 → slice_get (past_twelfth pieces) k ≡ Some e → IsLast pieces offset e
+    apart_last rise k e many is there =
+        let last = last_before (past_twelfth pieces) offset r k e (chosen_rise has_no_room pieces rise) up_to is there in
+        let from = begins.behind k e there many in
+        from_rest e last (λ j x x_at near. let l = h.last j x x_at near in ⊎_elim
+        (λ less. let b = behind_kept pieces rise k e there h.index d h.there (omega (arith, from, less)) in absurd (omega (arith, b, less)))
+        (λ fine. omega (arith, l, fine)) (cases_lt e.start d.start))
 
 -- ---- the block of a piece
 

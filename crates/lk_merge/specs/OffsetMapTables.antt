@@ -1,5 +1,5 @@
 -- Of the insides of the offset map: how it holds its pieces.
-use Rattle.std.specs.Prelude.{◌≡◌, ℕ, ◌*◌, ◌<◌, ◌≤◌, ◌/◌, ◌%◌, ◌^◌, List, Option, Some, None, if◌then◌else◌, length, map, nat_lt, slice_get}
+use Rattle.std.specs.Prelude.{◌≡◌, ℕ, ◌*◌, ◌<◌, ◌≤◌, ◌%◌, ◌^◌, List, Some, length, map, slice_get}
 use Rattle.lk_merge.specs.declared.offset_map.OffsetMap.{OffsetMap}
 use Rattle.lk_merge.specs.declared.offset_map.PieceEntry.{PieceEntry}
 use Rattle.lk_merge.specs.declared.offset_map.Starts.{Starts}
@@ -22,9 +22,3 @@ pub record AreStarts (pieces : List PieceEntry) (s : Starts) : Type 0 where
 pub record HoldsIn (pieces : List PieceEntry) (m : OffsetMap) : Type 0 where
   pub kept : AreStarts (first_twelve pieces) m.kept
   pub rest : AreStarts (past_twelfth pieces) m.rest
-
--- of pieces that are there, the one that starts later
-abbrev pub later : Option PieceEntry → Option PieceEntry → Option PieceEntry
-later (Some d) (Some e) = if nat_lt d.start e.start then Some e else Some d
-later (Some d) None = Some d
-later None e = e

@@ -4,7 +4,7 @@
 //! number. A block keeps its first twelve pieces; few blocks have more, and those stand in a list of their own.
 
 ghost use Rattle.std.specs.Prelude.{◌≡◌, ◌++◌, ◌∷◌, ◌+◌, ◌*◌, ◌/◌, ◌<◌, ◌≤◌, [], List, ℕ, IfOk, MatchOption, OnOk, Some, length, slice_get};
-ghost use Rattle.lk_merge.specs.OffsetMapTables.{AreBefore, AreStarts, HoldsIn, later};
+ghost use Rattle.lk_merge.specs.OffsetMapTables.{AreBefore, AreStarts, HoldsIn};
 ghost use Rattle.lk_merge.specs.OffsetMaps.{IsLast, NoneAt, StartsRise, first_twelve, in_block, past_twelfth};
 ghost use Rattle.lk_merge.specs.declared.offset_map.PieceEntry.{PieceEntry};
 
@@ -164,16 +164,6 @@ impl Starts {
             place: self.places[index],
         }
     }
-
-    /// The last piece that starts at an offset or before it, if there is one. Looks in the offset's block, and in logarithmic time for
-    /// another only where none starts there.
-    fn last_at(&self, offset: u64) -> Option<PieceEntry>
-        requires { (pieces : List PieceEntry) × AreStarts pieces self.now × StartsRise pieces }
-        ensures { (pieces : List PieceEntry) → AreStarts pieces self.now → StartsRise pieces → MatchOption result (NoneAt pieces offset) (IsLast pieces offset) }
-    {
-        let last = self.up_to(offset).checked_sub(1)?;
-        Some(self.piece(last, offset))
-    }
 }
 
 /// Where the pieces of an output section's inputs stand in its buckets, by rising start (libwild: `OffsetMap`). Of each 256 input offsets the
@@ -240,24 +230,23 @@ impl OffsetMap {
         self.rest.len()
     }
 
-    /// The last piece that starts at an offset or before it, if there is one. Takes logarithmic time.
+    /// The last piece that starts at an offset or before it, if there is one. Looks in the offset's block, and in logarithmic time for another
+    /// only where none starts there. A start in the overflow list is behind the twelve kept ones of its block, so that list is asked only where
+    /// the last kept one is the twelfth of its block, and for no other block.
     pub(crate) fn last_at(&self, offset: u64) -> Option<PieceEntry>
         requires { (pieces : List PieceEntry) × HoldsIn pieces self.now × StartsRise pieces }
         ensures { (pieces : List PieceEntry) → HoldsIn pieces self.now → StartsRise pieces → MatchOption result (NoneAt pieces offset) (IsLast pieces offset) }
     {
-        let kept = self.kept.last_at(offset);
-        let rest = self.rest.last_at(offset);
-        the_later(kept, rest)
-    }
-}
-
-/// The piece that starts later, of those that there are.
-fn the_later(kept: Option<PieceEntry>, rest: Option<PieceEntry>) -> Option<PieceEntry>
-    ensures { result ≡ later kept rest }
-{
-    match (kept, rest) {
-        (Some(kept), Some(rest)) => Some(if kept.start < rest.start { rest } else { kept }),
-        (Some(kept), None) => Some(kept),
-        (None, rest) => rest,
+        let up_to = self.kept.up_to(offset);
+        let kept = self.kept.piece(up_to.checked_sub(1)?, offset);
+        let block = (kept.start / BLOCK_SIZE) as usize;
+        if up_to.saturating_sub(self.kept.before(block)) < KEPT_IN_BLOCK {
+            return Some(kept);
+        }
+        let rest = self.rest.up_to(offset);
+        if rest <= self.rest.before(block) {
+            return Some(kept);
+        }
+        Some(self.rest.piece(rest - 1, kept.start))
     }
 }

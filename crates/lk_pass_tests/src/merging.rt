@@ -104,6 +104,10 @@ const STARTS: &str = r#"
 «300 times 00» => starts (1, 300, 1, 276) at 15:0 15:0 15:0 15:0 15:0 15:0 15:0 15:0 15:0 15:0 - -
 «254 times 61»000000 => starts (2, 3, 256, 0) at 9:0 9:8 9:9 9:10 9:11 9:12 9:254 15:0 15:0 - - -
 «299 times 61»00«13 times 00» => starts (2, 14, 301, 1) at 14:0 14:8 14:9 14:10 14:11 14:12 14:254 14:255 14:256 14:299 15:0 15:0
+# A start of the overflow list is the last before a block in which nothing starts.
+«13 times 00»«299 times 61»00 => starts (2, 14, 301, 2) at 15:0 15:0 15:0 15:0 15:0 15:0 14:241 14:242 14:243 14:286 14:287 14:299
+# The second block has twelve starts, and none of those in the overflow list.
+«13 times 00»"},{"slot":"merge","strings":true,"data":"«12 times 00» => starts (1, 25, 1, 1) at 15:0 15:0 15:0 15:0 15:0 15:0 - - - - - - at 15:0 15:0 15:0 15:0 15:0 - - - - - - -
  => starts (0, 0, 0, 0) at - - - - - - - - - - - -
 "#;
 
@@ -415,17 +419,25 @@ fn add_started(
     add_addresses(line, link, merged, &starts)
 }
 
-/// What is kept, and where offsets are; or why nothing is merged.
+/// What a row shows of what is merged: what is kept, and where offsets are.
+const SHOWN: [Merging; 2] = [Merging::Kept, Merging::Places];
+
+/// What workers have to tell alike: the same, and how many starts stand past the twelfth of their blocks.
+const ALIKE: [Merging; 3] = [Merging::Kept, Merging::Places, Merging::Starts];
+
+/// What is told of what is merged; or why nothing is.
 fn told_merged(
     alloc: Global,
     inputs: &StringMergeInputs<'_>,
     merged: &Result<List<MergedStringsSection<'_>>, MergeError>,
+    asked: &[Merging],
 ) -> Result<String, AllocError> {
     let mut text = String::new(alloc);
     match merged {
         Ok(merged) => {
-            add_outputs(alloc, &mut text, Merging::Kept, inputs, merged.as_slice())?;
-            add_outputs(alloc, &mut text, Merging::Places, inputs, merged.as_slice())?;
+            for told in asked {
+                add_outputs(alloc, &mut text, *told, inputs, merged.as_slice())?;
+            }
         }
         Err(MergeError::NoMemory) => return Err(AllocError),
         Err(error) => add(&mut text, "refused", error)?,
@@ -443,7 +455,7 @@ fn add_by(
     alone: &str,
 ) -> Result<(), AllocError> {
     let merged = merge_strings(rt, alloc, inputs, workers, &NoGate);
-    let text = told_merged(alloc, inputs, &merged)?;
+    let text = told_merged(alloc, inputs, &merged, &ALIKE)?;
     if text.as_str() == alone {
         write!(line, " {workers} alike")
     } else {
@@ -495,7 +507,8 @@ fn told_in_step(
         second: AtomicU64::new(0),
         met: AtomicU64::new(0),
     };
-    let mut text = told_merged(alloc, &inputs, &merge_strings(rt, alloc, &inputs, 2, &gate))?;
+    let merged = merge_strings(rt, alloc, &inputs, 2, &gate);
+    let mut text = told_merged(alloc, &inputs, &merged, &SHOWN)?;
     for count in [&gate.first, &gate.second, &gate.met] {
         add(&mut text, "came", &count.load(Ordering::SeqCst))?;
     }
@@ -509,8 +522,9 @@ fn add_by_all(
     line: &mut String,
     inputs: &StringMergeInputs<'_>,
 ) -> Result<(), AllocError> {
-    let alone = told_merged(alloc, inputs, &merge_strings_alone(alloc, inputs))?;
-    line.push_str(alone.as_str())?;
+    let merged = merge_strings_alone(alloc, inputs);
+    line.push_str(told_merged(alloc, inputs, &merged, &SHOWN)?.as_str())?;
+    let alone = told_merged(alloc, inputs, &merged, &ALIKE)?;
     for workers in [0, 2, 8] {
         add_by(rt, alloc, line, inputs, workers, alone.as_str())?;
     }

@@ -47,10 +47,10 @@ each_map f g n [] = refl
 each_map f g n (x ∷ xs) = ap (λ t. f n (g x) ++ t) (each_map f g (suc n) xs)
 
 -- what was written piece by piece is the pieces in a row
-pub in_a_row : (text before a b c d e : List ℕ) → text ≡ ((((before ++ a) ++ b) ++ c) ++ d) ++ e → text ≡ before ++ (a ++ (b ++ (c ++ (d ++ e))))
-in_a_row text before a b c d e h = h ∙ simp append_assoc
+pub in_a_row : (text before a b c : List ℕ) → text ≡ ((before ++ a) ++ b) ++ c → text ≡ before ++ (a ++ (b ++ c))
+in_a_row text before a b c h = h ∙ simp append_assoc
 
--- the same around the lines of symbols
-pub around_symbols : (text a b c d e symbols x y : List ℕ) → text ≡ (([] ++ (a ++ (b ++ (c ++ (d ++ e))))) ++ symbols) ++ (x ++ y)
-    → text ≡ a ++ (b ++ (c ++ (d ++ (e ++ (symbols ++ (x ++ y))))))
-around_symbols text a b c d e symbols x y h = h ∙ simp append_assoc
+-- the same of a whole report
+pub whole_report : (text a b c d e f symbols x y : List ℕ) → text ≡ (((([] ++ (a ++ b)) ++ c) ++ (d ++ (e ++ f))) ++ symbols) ++ (x ++ y)
+    → text ≡ a ++ (b ++ ((c ++ d) ++ (e ++ (f ++ (symbols ++ (x ++ y))))))
+whole_report text a b c d e f symbols x y h = h ∙ simp append_assoc

@@ -1,6 +1,7 @@
 pub mod Complete
 pub mod Device
 pub mod FaultText
+pub mod LiveLines
 pub mod Memory
 pub mod MergedLines
 pub mod Program

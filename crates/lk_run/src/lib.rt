@@ -8,6 +8,7 @@ mod generated;
 pub mod laws;
 pub mod limit;
 mod line;
+mod live_sections;
 pub mod memory;
 mod merged;
 pub mod program;

@@ -1,32 +1,22 @@
 //! The report of a layout.
 
-ghost use Rattle.std.specs.Prelude.{◌≡◌, ◌+◌, ◌^◌, ◌<◌, ◌++◌, string_bytes, slice_range, length, slice_index, IfOk};
+ghost use Rattle.std.specs.Prelude.{◌≡◌, ◌+◌, ◌^◌, ◌<◌, ◌++◌, string_bytes, slice_range, length, IfOk};
 ghost use Rattle.std.specs.List.{list_any};
-ghost use Rattle.lk_layout.specs.Layouts.{told_live};
-ghost use Rattle.lk_link.specs.Walks.{input_of};
 ghost use Rattle.lk_link.specs.WellFormed.{IsWellFormed};
-ghost use Rattle.lk_relaxing.specs.LinkDeletions.{size_after};
-ghost use Rattle.lk_sizes.specs.Tables.{IsInput};
 ghost use Rattle.lk_run.specs.Report.{report, range_text, index_text, section_line, section_text, laid_out_text, section_lines};
 ghost use Rattle.lk_run.specs.Report.{takes_memory, part_line, part_text, told_lines, section_part_lines, part_lines};
-ghost use Rattle.lk_run.specs.Report.{segment_line, segment_lines, record_lines, input_text, live_line, live_lines, live_report, told_at};
-ghost use Rattle.lk_run.specs.Report.{entry_line};
-ghost use Rattle.lk_run.specs.ReportPieces.{report_end, report_front};
+ghost use Rattle.lk_run.specs.Report.{segment_line, segment_lines, record_lines, entry_line};
+ghost use Rattle.lk_run.specs.ReportPieces.{behind_live, report_end, report_start};
 
-use crate::line::Line;
+use crate::live_sections::{add_texts, live_room, live_texts, texts_room, write_live_sections};
 use crate::merged::{merged_room, write_merged};
 use crate::singles::write_singles;
-use crate::summary::count_live;
 use crate::symbols::{add_parts, part_texts, parts_room, symbols_room, write_symbols};
 use crate::thunks::{thunks_room, write_thunks};
 use lk_layout::{EntryFault, Layout};
-use lk_link::InputRef;
 use lk_link::link::LinkInput;
-use lk_link::marks::is_marked;
 use lk_link::plan::{PlanSection, PlanSections};
 use lk_place::{OutputRecordLayout, SegmentLayout};
-use lk_relax::{RelaxDeltaMap, opt_input_to_output};
-use lk_relaxing::deleted_of;
 use std::alloc::{AllocError, Global};
 use std::fmt;
 use std::thread::Threads;
@@ -36,9 +26,6 @@ const MOST_WORKERS: u32 = 64;
 
 /// Bytes that a line with a record mostly has room in.
 const RECORD_LINE: usize = 112;
-
-/// Bytes that a live section's line mostly has room in.
-const LIVE_LINE: usize = 32;
 
 /// A record as it is printed.
 #[derive(Clone, Copy)]
@@ -98,14 +85,18 @@ pub fn report_text(
     ensures { IfOk result (λ text. string_bytes text ≡ report link.now layout.now) }
 {
     let mut text = String::with_capacity(alloc, room_of(layout))?;
-    write_front(&mut text, link, layout)?;
+    write_start(&mut text, link, layout)?;
+    write_live_sections(&mut text, link, layout)?;
+    write_behind_live(&mut text, link, layout)?;
     write_symbols(&mut text, layout.symbol_resolutions())?;
     write_end(&mut text, layout)?;
     Ok(text)
 }
 
-/// The same by so many workers, 64 at most, each on a thread of its own, for which the caller waits: the lines of symbols, of which most
-/// reports consist, are made in as many parts, and then added in their order. With 0 or 1 all is done on the caller's own thread.
+/// The same by so many workers. The lines of live sections are made group by group, in two pieces for each processor whatever that number
+/// is, and those of symbols, of which most reports consist, in as many parts as there are workers, 64 at most, each on a thread of its own,
+/// for which the caller waits. Then all are added in their order. With 0 or 1 all is done on the caller's own thread. These lines stand a
+/// second time until they are added.
 pub fn report_text_by_workers<R: Threads + Sync>(
     rt: &R,
     alloc: Global,
@@ -119,11 +110,17 @@ pub fn report_text_by_workers<R: Threads + Sync>(
     if workers < 2 {
         return report_text(alloc, link, layout);
     }
+    let live = live_texts(rt, alloc, link, layout)?;
     let resolutions = layout.symbol_resolutions();
     let parts = part_texts(rt, alloc, resolutions, workers.min(MOST_WORKERS) as usize)?;
-    let room = room_without_symbols(layout).saturating_add(parts_room(&parts));
+    let room = room_beside(layout)
+        .saturating_add(texts_room(&live))
+        .saturating_add(parts_room(&parts));
     let mut text = String::with_capacity(alloc, room)?;
-    write_front(&mut text, link, layout)?;
+    write_start(&mut text, link, layout)?;
+    add_texts(&mut text, live.as_slice())?;
+    drop(live);
+    write_behind_live(&mut text, link, layout)?;
     add_parts(&mut text, resolutions, parts)?;
     write_end(&mut text, layout)?;
     Ok(text)
@@ -133,11 +130,13 @@ pub fn report_text_by_workers<R: Threads + Sync>(
 fn room_of(layout: &Layout<'_>) -> usize {
     let resolutions = layout.symbol_resolutions();
     let symbols = symbols_room(resolutions, 0, resolutions.len());
-    room_without_symbols(layout).saturating_add(symbols)
+    room_beside(layout)
+        .saturating_add(live_room(layout.live_marks()))
+        .saturating_add(symbols)
 }
 
-/// How many bytes it mostly has beside the lines of symbols.
-fn room_without_symbols(layout: &Layout<'_>) -> usize {
+/// How many bytes it mostly has beside the lines of live sections and of symbols.
+fn room_beside(layout: &Layout<'_>) -> usize {
     let records = layout
         .section_layouts()
         .len()
@@ -146,19 +145,28 @@ fn room_without_symbols(layout: &Layout<'_>) -> usize {
         .saturating_add(1);
     records
         .saturating_mul(RECORD_LINE)
-        .saturating_add(count_live(layout).saturating_mul(LIVE_LINE))
         .saturating_add(merged_room(layout.merged_strings()))
         .saturating_add(thunks_room(layout))
 }
 
-/// The lines before those of symbols.
-fn write_front(text: &mut String, link: &LinkInput, layout: &Layout<'_>) -> Result<(), AllocError>
-    requires good { IsWellFormed link.now }
-    ensures { IfOk result (λ _. string_bytes text.new ≡ string_bytes text.old ++ report_front link.now layout.now) }
+/// The lines before those of live sections.
+fn write_start(text: &mut String, link: &LinkInput, layout: &Layout<'_>) -> Result<(), AllocError>
+    ensures { IfOk result (λ _. string_bytes text.new ≡ string_bytes text.old ++ report_start link.now layout.now) }
 {
     text.push_str("layout\n")?;
-    write_records(text, link, layout)?;
-    write_live(text, link, layout)?;
+    write_records(text, link, layout)
+}
+
+/// The lines behind those of live sections, up to those of symbols.
+fn write_behind_live(
+    text: &mut String,
+    link: &LinkInput,
+    layout: &Layout<'_>,
+) -> Result<(), AllocError>
+    requires good { IsWellFormed link.now }
+    ensures { IfOk result (λ _. string_bytes text.new ≡ string_bytes text.old ++ behind_live link.now layout.now) }
+{
+    write_singles(text, link, layout)?;
     write_merged(
         text,
         layout.merged_strings(),
@@ -347,94 +355,6 @@ fn write_segment(text: &mut String, segment: &SegmentLayout) -> Result<(), Alloc
         range: segment.sizes,
     };
     write!(text, "segment {number} {place}\n")
-}
-
-/// The lines of the live sections, and then of the singletons.
-fn write_live(text: &mut String, link: &LinkInput, layout: &Layout<'_>) -> Result<(), AllocError>
-    requires good { IsWellFormed link.now }
-    ensures { IfOk result (λ _. string_bytes text.new ≡ string_bytes text.old ++ live_report link.now layout.now) }
-{
-    write_live_sections(text, link, layout)?;
-    write_singles(text, link, layout)
-}
-
-/// The lines of the live sections. Looks at each input section once, and up what is deleted of each live one.
-fn write_live_sections(
-    text: &mut String,
-    link: &LinkInput,
-    layout: &Layout<'_>,
-) -> Result<(), AllocError>
-    requires good { IsWellFormed link.now }
-    ensures { IfOk result (λ _. string_bytes text.new ≡ string_bytes text.old ++ live_lines (told_live link.now layout.now)) }
-{
-    let mut number = 0usize;
-    for input in link.groups.inputs() {
-        write_input(text, link, layout, number, input)?;
-        number += 1;
-    }
-    Ok(())
-}
-
-/// The line of the input section with this number over all files, if it is live.
-fn write_input(
-    text: &mut String,
-    link: &LinkInput,
-    layout: &Layout<'_>,
-    number: usize,
-    input: InputRef<'_>,
-) -> Result<(), AllocError>
-    requires good { IsWellFormed link.now }
-    requires there { IsInput link.now (input_of input) }
-    ensures { IfOk result (λ _. string_bytes text.new ≡ string_bytes text.old ++ input_text link.now layout.now (number, input_of input.entry)) }
-{
-    if is_marked(layout.live_marks(), number) {
-        let address = address_at(layout.section_addresses(), number);
-        let size = size_left(link, layout.section_deletions(), input);
-        write_live_section(text, input, address, size)?;
-    }
-    Ok(())
-}
-
-/// The size of an input section without what is deleted of it. Takes logarithmic time in the sections of its file of which something is.
-fn size_left(link: &LinkInput, deltas: &[RelaxDeltaMap], input: InputRef<'_>) -> u64
-    requires good { IsWellFormed link.now }
-    requires there { IsInput link.now (input_of input) }
-    ensures { result ≡ size_after link.now.groups deltas.now (input_of input.entry) }
-{
-    let deleted = deleted_of(link, deltas, input.file, input.index);
-    opt_input_to_output(deleted, input.section.size)
-}
-
-/// The address of the input section with this number, by a table.
-fn address_at(addresses: &[u64], number: usize) -> u64
-    ensures { result ≡ slice_index addresses.now number }
-{
-    addresses.get(number).copied().unwrap_or(0)
-}
-
-/// The line of a live section.
-#[tactic(auto, unfolding(crate::specs::Report::live_line))]
-fn write_live_section(
-    text: &mut String,
-    section: InputRef<'_>,
-    address: u64,
-    size: u64,
-) -> Result<(), AllocError>
-    ensures { IfOk result (λ _. string_bytes text.new ≡ string_bytes text.old ++ live_line (told_at (input_of section.entry) address size)) }
-{
-    let mut line = Line::new();
-    line.put("\n");
-    line.put_decimal(size);
-    line.put(" ");
-    line.put_hexadecimal(address);
-    line.put(" 0x");
-    line.put_decimal(section.index as u64);
-    line.put(" ");
-    line.put_decimal(u64::from(section.file.file));
-    line.put(" ");
-    line.put_decimal(u64::from(section.file.group));
-    line.put("live ");
-    line.add_to(text)
 }
 
 /// The line of the entry: its address, or that there is none, or why it has none.

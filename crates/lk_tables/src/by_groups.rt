@@ -25,7 +25,7 @@ struct GroupShares {
 }
 
 /// What `symbol_shares` answers, found group by group, on as many threads as the processors are worth. Takes the same memory once more
-/// while it does.
+/// while it does (libwild: the parallel walk over groups in `finalise_all_sizes`).
 pub fn symbol_shares_by_groups<R: Threads + Sync, P: Platform + Sync>(
     rt: &R,
     alloc: Global,
@@ -38,7 +38,7 @@ pub fn symbol_shares_by_groups<R: Threads + Sync, P: Platform + Sync>(
     ensures commons { IfOk result (λ shares. shares.commons.items ≡ all_commons link.now live.now) }
 {
     let groups = shares_of_groups(rt, alloc, link, platform, live)?;
-    put_together(alloc, groups.as_slice())
+    put_together(alloc, link.groups.file_count() as usize, groups.as_slice())
 }
 
 /// What the symbols of each group bring.
@@ -96,12 +96,16 @@ fn shares_of_group<P: Platform>(
     })
 }
 
-/// What groups bring, one behind the other.
-fn put_together(alloc: Global, groups: &[GroupShares]) -> Result<SymbolShares, AllocError>
+/// What groups of so many files bring, one behind the other.
+fn put_together(
+    alloc: Global,
+    count: usize,
+    groups: &[GroupShares],
+) -> Result<SymbolShares, AllocError>
     ensures files { IfOk result (λ shares. shares.files.items ≡ flat_map (λ g. g.files) groups.now) }
     ensures commons { IfOk result (λ shares. shares.commons.items ≡ flat_map (λ g. g.commons) groups.now) }
 {
-    let mut files = Vec::new(alloc);
+    let mut files = Vec::with_capacity(alloc, count)?;
     let mut commons = Vec::new(alloc);
     for group in groups {
         files.extend_from_slice(group.files.as_slice())?;

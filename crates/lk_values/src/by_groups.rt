@@ -34,7 +34,7 @@ use crate::entries::NextEntries;
 use crate::resolution::{Tables, first_cursors, first_symbol_of, push_file_resolutions, take_own};
 use crate::symbol_resolutions::SymbolResolutions;
 use lk_gc::Live;
-use lk_link::{FileId, FileRef, LinkInput, Platform};
+use lk_link::{FileId, FileRef, InputFile, LinkInput, Platform};
 use lk_merge::MergedStringsSection;
 use lk_sizes::PartOwners;
 use lk_tables::DynamicNumbers;
@@ -42,9 +42,9 @@ use rayon::prelude::*;
 use std::alloc::{AllocError, Global};
 use std::thread::Threads;
 
-/// What `addresses_of` answers, with what symbols stand for found group by group, on as many threads as there are processors. Looks at
-/// each symbol once more, and takes 24 bytes for each file, and 16 more for each symbol, while it does (libwild: the parallel walk over
-/// groups in `layout::compute`).
+/// What `addresses_of` answers, with what symbols stand for found group by group, on as many threads as the processors are worth. Looks at
+/// each symbol once more, and takes 24 bytes for each file, and once more what resolutions take, while it does (libwild: the parallel walk
+/// over groups in `layout::compute`).
 pub fn addresses_of_by_groups<R: Threads + Sync, P: Platform + Sync>(
     rt: &R,
     alloc: Global,
@@ -199,7 +199,7 @@ fn resolve_group<P: Platform>(
     ensures { IfOk result (λ list. list ≡ group_resolutions (places_at_hand tables.now) (setting_at_hand (P.table_sizes platform.now) tables.now) group) }
 {
     let files = tables.merged.link.groups.as_slice()[group].as_slice();
-    let mut list = SymbolResolutions::with_capacity(alloc, 0)?;
+    let mut list = SymbolResolutions::with_capacity(alloc, symbol_count(files))?;
     for (index, file) in files.iter().enumerate() {
         let id = FileId {
             group: group as u32,
@@ -209,6 +209,15 @@ fn resolve_group<P: Platform>(
         resolve_file(&mut list, platform, tables, starts, file)?;
     }
     Ok(list)
+}
+
+/// How many symbols some files have; a count past 2^64 - 1 is given as that.
+fn symbol_count(files: &[InputFile]) -> usize {
+    let mut count = 0usize;
+    for file in files {
+        count = count.saturating_add(file.symbols.len());
+    }
+    count
 }
 
 /// Adds for each symbol of a file its resolution, if it has one, by where the entries of each file go.
