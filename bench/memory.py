@@ -31,7 +31,13 @@ class Held:
 
 def held(command, path, output, trace):
     """What a command holds over a file; its output goes to another one."""
-    counter = {"LD_PRELOAD": LIBRARY, "MEMUSAGE_OUTPUT": trace, "MEMUSAGE_NO_TIMER": "1"}
+    counter = {
+        "LD_PRELOAD": LIBRARY,
+        "MEMUSAGE_OUTPUT": trace,
+        "MEMUSAGE_NO_TIMER": "1",
+        # Each entry is written at once, since the program ends without what a library does at the end.
+        "MEMUSAGE_BUFFER_SIZE": "1",
+    }
     with open(path, "rb") as source, open(output, "wb") as sink:
         subprocess.run(
             command,

@@ -50,8 +50,8 @@ pub fn check_link(link: &LinkInput) -> Result<(), LinkFault>
     rules::check_rules(link)
 }
 
-/// The same, where what files hold is looked at group by group, on as many threads as the processors are worth. Takes no memory but
-/// what threads take.
+/// The same, where what files hold is looked at group by group, in two pieces for each processor. Takes no memory but what threads
+/// take.
 #[tactic(auto, using(crate::proofs::Bounds::limits))]
 pub fn check_link_by_groups<R: Threads + Sync>(rt: &R, link: &LinkInput) -> Result<(), LinkFault>
     ensures exact { result ≡ check_of (first_fault link.now) }

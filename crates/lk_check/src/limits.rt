@@ -41,7 +41,7 @@ pub fn check_limits(link: &LinkInput) -> Result<(), LinkFault>
     }
 }
 
-/// The same, where what files hold is counted group by group, on as many threads as the processors are worth.
+/// The same, where what files hold is counted group by group, in two pieces for each processor.
 #[tactic(auto, unfolding(crate::specs::FirstFault::check_of, crate::specs::FirstExcess::first_excess))]
 pub fn check_limits_by_groups<R: Threads + Sync>(rt: &R, link: &LinkInput) -> Result<(), LinkFault>
     ensures { result ≡ check_of (first_excess link.now) }

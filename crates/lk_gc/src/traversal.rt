@@ -33,8 +33,8 @@ pub fn traverse_alone(alloc: Global, link: &LinkInput) -> Result<Live, GcError>
 /// The same by workers, each on a thread of its own, for which the caller waits. A worker takes a group of files that can run and
 /// goes on with it until nothing is left to do there; what other groups have to do is left in their slots, and a group that was
 /// left something can run again. The gate is entered before each step. A worker that finds no memory gives up what it was about to
-/// do and goes on: then memory ran out. Behind them references at fault are looked for group by group, on as many threads as the
-/// processors are worth, whatever the number of workers. Which thread did what, and in which order, shows nowhere in the answer. Takes a
+/// do and goes on: then memory ran out. Behind them references at fault are looked for group by group, in two pieces for each
+/// processor, whatever the number of workers. Which thread did what, and in which order, shows nowhere in the answer. Takes a
 /// slot and a state for each group, twice a mark for each unit, twice a word and once a number for each symbol, and what waits for
 /// groups; then a byte for each symbol, and what is at fault, twice while the lists of groups are joined. With 0 or 1 workers all is
 /// done on the caller's own thread: that never calls the gate, and asks for no leave to enter it (libwild: `traverse_reference_graph`).

@@ -13,6 +13,7 @@ use crate::bucket::MergeStringsSectionBucket;
 use crate::matrix_work::Brings;
 use crate::merging::BucketState;
 use crate::offset::BucketOffset;
+use crate::room::make_room;
 use crate::string::MergeString;
 use lk_link::OutputSectionId;
 use std::alloc::{AllocError, Global};
@@ -160,6 +161,7 @@ fn add_group<'data>(
     ensures { OnOk result ((section limit b : ℕ) (pieces : List Piece) → HasPlaces section limit b pieces state.old places.old.items
         → HasPlaces section limit b (pieces ++ pieces_of_strings strings.now) state.new places.new.items) }
 {
+    make_room(places, strings.len())?;
     for string in strings {
         if let Some(place) = state.add(*string)? {
             places.push(place)?;

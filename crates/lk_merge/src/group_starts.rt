@@ -93,7 +93,7 @@ impl Entries {
         ensures { IfOk result (λ e. (all : List Located) → ArePlaces (pieces_in all) places.items → HasEntries all [] e) }
     {
         let taken = vec![in alloc; 0usize; BUCKETS]?;
-        let entries = OffsetMap::with_capacity(alloc, bytes, count_places(places.as_slice()))?;
+        let entries = OffsetMap::with_capacity(alloc, bytes)?;
         Ok(Entries {
             places,
             taken,
@@ -123,21 +123,13 @@ impl Entries {
         ensures { OnOk result ((all done more rest : List Located) → all ≡ done ++ (more ++ rest) → HasStarts more starts.now
             → HasEntries all done self.old → HasEntries all (done ++ more) self.new) }
     {
+        self.entries.make_room(starts.len())?;
         for index in 0..starts.len() {
             let (start, bucket) = starts.at(index)?;
             self.add(start, bucket)?;
         }
         Ok(())
     }
-}
-
-/// How many places buckets have together.
-fn count_places(places: &[Vec<BucketOffset>]) -> usize {
-    let mut count = 0usize;
-    for found in places {
-        count = count.saturating_add(found.len());
-    }
-    count
 }
 
 /// A place of a bucket.
@@ -186,7 +178,8 @@ pub(crate) fn entries_of<J: Brings>(
     let Entries {
         places: _,
         taken: _,
-        entries,
+        mut entries,
     } = entries;
+    entries.shrink_to_fit();
     Ok(entries)
 }

@@ -68,7 +68,29 @@ fn group_end(inputs: &[StringMergeInputSection<'_>], total: u64, start: u64, siz
     at
 }
 
-/// The index of the input that an offset is in; all inputs end at `total`. Takes logarithmic time.
+/// In which of so many inputs an offset would be if all were equally long and ended at `total`; the second where that is the first, since a
+/// search begins between both ends. Any number where the offset is so great that the product passes 2^64 - 1.
+fn guess(count: usize, total: u64, at: u64) -> usize
+    requires { at < total }
+{
+    ((at.saturating_mul(count as u64) / total) as usize).max(1)
+}
+
+/// A number between two others: this one where it is, else the middle.
+fn between(number: usize, low: usize, high: usize) -> usize
+    requires { low + 1 < high }
+    ensures above { low < result }
+    ensures below { result < high }
+{
+    if low < number && number < high {
+        number
+    } else {
+        low + (high - low) / 2
+    }
+}
+
+/// The index of the input that an offset is in; all inputs end at `total`. Looks first where it would be if all were equally long, and from
+/// there in steps that double. Takes logarithmic time.
 pub(crate) fn input_at(inputs: &[StringMergeInputSection<'_>], total: u64, at: u64) -> usize
     requires inputs { AreInputs total inputs.now }
     requires within { at < total }
@@ -76,12 +98,18 @@ pub(crate) fn input_at(inputs: &[StringMergeInputSection<'_>], total: u64, at: u
 {
     let mut low = 0;
     let mut high = inputs.len();
+    let mut next = guess(inputs.len(), total, at);
+    let mut step = 1usize;
     while high - low > 1 {
-        let middle = low + (high - low) / 2;
+        let middle = between(next, low, high);
+        let stride = step;
+        step = step.saturating_mul(2);
         if inputs[middle].start_input_offset.as_u64() <= at {
             low = middle;
+            next = middle.saturating_add(stride);
         } else {
             high = middle;
+            next = middle.saturating_sub(stride);
         }
     }
     low

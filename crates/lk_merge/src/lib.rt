@@ -23,6 +23,7 @@ pub mod offset_map;
 pub mod offsets_outside;
 pub mod output_address;
 mod piece_starts;
+mod room;
 pub mod section;
 mod shared_matrix;
 pub mod string;

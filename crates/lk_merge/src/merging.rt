@@ -93,7 +93,7 @@ impl<'data> Merging<'data> {
         }
         Ok(Merging {
             buckets,
-            entries: OffsetMap::with_capacity(alloc, bytes, 0)?,
+            entries: OffsetMap::with_capacity(alloc, bytes)?,
         })
     }
 
@@ -256,6 +256,7 @@ fn merge_pieces<'data>(
     for (index, section) in sections.iter().enumerate() {
         merging.add_input(&mut strings, index as u32, section)?;
     }
+    merging.entries.shrink_to_fit();
     Ok(merging)
 }
 

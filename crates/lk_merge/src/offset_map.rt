@@ -10,6 +10,7 @@ ghost use Rattle.lk_merge.specs.declared.offset_map.PieceEntry.{PieceEntry};
 
 use crate::inputs::BLOCK_SIZE;
 use crate::offset::BucketOffset;
+use crate::room::make_room;
 use std::alloc::{AllocError, Global};
 
 /// How many pieces of a block are kept with it.
@@ -45,14 +46,14 @@ impl Starts {
         }
     }
 
-    /// No pieces, with room for so many blocks and for so many pieces.
-    fn with_capacity(alloc: Global, blocks: usize, pieces: usize) -> Result<Starts, AllocError>
+    /// No pieces, with room for so many blocks.
+    fn with_capacity(alloc: Global, blocks: usize) -> Result<Starts, AllocError>
         ensures { IfOk result (AreStarts []) }
     {
         Ok(Starts {
             blocks: Vec::with_capacity(alloc, blocks)?,
-            offsets: Vec::with_capacity(alloc, pieces)?,
-            places: Vec::with_capacity(alloc, pieces)?,
+            offsets: Vec::new(alloc),
+            places: Vec::new(alloc),
         })
     }
 
@@ -61,6 +62,23 @@ impl Starts {
         ensures { result ≡ length self.now.places.items }
     {
         self.places.len()
+    }
+
+    /// Makes room for so many more pieces.
+    fn make_room(&mut self, pieces: usize) -> Result<(), AllocError>
+        ensures { (pieces : List PieceEntry) → AreStarts pieces self.old → AreStarts pieces self.new }
+    {
+        make_room(&mut self.offsets, pieces)?;
+        make_room(&mut self.places, pieces)
+    }
+
+    /// Gives back the room that no piece takes.
+    fn shrink_to_fit(&mut self)
+        ensures { (pieces : List PieceEntry) → AreStarts pieces self.old → AreStarts pieces self.new }
+    {
+        self.blocks.shrink_to_fit();
+        self.offsets.shrink_to_fit();
+        self.places.shrink_to_fit();
     }
 
     /// How many pieces start before a block.
@@ -185,18 +203,13 @@ impl OffsetMap {
         }
     }
 
-    /// No pieces, with room for the blocks of so many bytes of inputs, and for so many pieces.
-    pub(crate) fn with_capacity(
-        alloc: Global,
-        bytes: u64,
-        pieces: usize,
-    ) -> Result<OffsetMap, AllocError>
+    /// No pieces, with room for the blocks of so many bytes of inputs.
+    pub(crate) fn with_capacity(alloc: Global, bytes: u64) -> Result<OffsetMap, AllocError>
         ensures { IfOk result (HoldsIn []) }
     {
         let blocks = (bytes / BLOCK_SIZE) as usize + 1;
-        let kept = pieces.min(blocks * KEPT_IN_BLOCK);
         Ok(OffsetMap {
-            kept: Starts::with_capacity(alloc, blocks, kept)?,
+            kept: Starts::with_capacity(alloc, blocks)?,
             rest: Starts::new(alloc),
         })
     }
@@ -211,6 +224,21 @@ impl OffsetMap {
             return self.kept.add(start, place);
         }
         self.rest.add(start, place)
+    }
+
+    /// Makes room for so many more pieces, where none of them stands in the overflow list.
+    pub(crate) fn make_room(&mut self, pieces: usize) -> Result<(), AllocError>
+        ensures { (pieces : List PieceEntry) → HoldsIn pieces self.old → HoldsIn pieces self.new }
+    {
+        self.kept.make_room(pieces)
+    }
+
+    /// Gives back the room that no piece takes: the map stays as long as what is merged.
+    pub(crate) fn shrink_to_fit(&mut self)
+        ensures { (pieces : List PieceEntry) → HoldsIn pieces self.old → HoldsIn pieces self.new }
+    {
+        self.kept.shrink_to_fit();
+        self.rest.shrink_to_fit();
     }
 
     /// How many pieces there are.
@@ -232,7 +260,7 @@ impl OffsetMap {
 
     /// The last piece that starts at an offset or before it, if there is one. Looks in the offset's block, and in logarithmic time for another
     /// only where none starts there. A start in the overflow list is behind the twelve kept ones of its block, so that list is asked only where
-    /// the last kept one is the twelfth of its block, and for no other block.
+    /// the last kept one is the twelfth of its block.
     pub(crate) fn last_at(&self, offset: u64) -> Option<PieceEntry>
         requires { (pieces : List PieceEntry) × HoldsIn pieces self.now × StartsRise pieces }
         ensures { (pieces : List PieceEntry) → HoldsIn pieces self.now → StartsRise pieces → MatchOption result (NoneAt pieces offset) (IsLast pieces offset) }

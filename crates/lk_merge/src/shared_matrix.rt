@@ -235,7 +235,9 @@ impl<'m, 'data, J: Brings> Matrix<'m, 'data, J> {
         let mut buckets = buckets;
         let number = u32::try_from(group).unwrap_or(u32::MAX);
         for bucket in 0..buckets.len() {
-            let strings = take_out(alloc, &mut buckets, bucket);
+            let mut strings = take_out(alloc, &mut buckets, bucket);
+            // They may wait in their cell for long.
+            strings.shrink_to_fit();
             gate.enter(number);
             self.fill_cell(rt, group, bucket, strings);
         }

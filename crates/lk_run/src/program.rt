@@ -10,7 +10,7 @@ ghost use Rattle.lk_run.specs.RunAlone.{AsksForWorkers};
 use crate::sink::Sink;
 use crate::source::Source;
 use crate::status::Status;
-use crate::top_call::run;
+use crate::top_call::run_last;
 use crate::words::words_behind_name;
 use lk_link::gate::NoGate;
 use std::alloc::Global;
@@ -21,7 +21,8 @@ use std::sync::Wait;
 use std::thread::Threads;
 
 /// Runs the program with the words behind its name, and gives the exit code of the run. Words that weren't found, for want
-/// of memory, end it before it does anything.
+/// of memory, end it before it does anything. The process is to end behind it: the description and the layout that `layout` made aren't let go,
+/// and stay for the system.
 pub fn run_program<R: Threads + Wait + Sync, S: Source, K: Sink>(
     rt: &R,
     alloc: Global,
@@ -39,7 +40,7 @@ pub fn run_program<R: Threads + Wait + Sync, S: Source, K: Sink>(
         Err(_) => return Status::NoMemory.exit_code(),
     };
     match words {
-        Ok(words) => run(rt, alloc, &words, source, sink, &NoGate).exit_code(),
+        Ok(words) => run_last(rt, alloc, &words, source, sink, &NoGate).exit_code(),
         Err(_) => Status::NoMemory.exit_code(),
     }
 }

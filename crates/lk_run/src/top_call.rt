@@ -33,6 +33,7 @@ use lk_link::link::LinkInput;
 use lk_link::platform::Small64;
 use lk_link::text::Text;
 use std::alloc::{AllocError, Global};
+use std::mem;
 use std::sync::Wait;
 use std::thread::Threads;
 
@@ -154,7 +155,16 @@ fn tell_made<K: Sink>(_link: &LinkInput, answer: Result<Answer, AllocError>, sin
     }
 }
 
-/// The run of `layout N`, by the workers that it asks for.
+/// Lets something go. Where the process ends behind the run, that is left to the system, which takes all memory at once.
+fn let_go<T: Drop>(thing: T, is_last: bool) {
+    if is_last {
+        mem::forget(thing);
+    } else {
+        drop(thing);
+    }
+}
+
+/// The run of `layout N`, by the workers that it asks for. `is_last` says that the process ends behind it.
 fn lay_out<R: Threads + Wait + Sync, S: Source, K: Sink, G: Gate + Sync>(
     rt: &R,
     alloc: Global,
@@ -162,6 +172,7 @@ fn lay_out<R: Threads + Wait + Sync, S: Source, K: Sink, G: Gate + Sync>(
     source: &mut S,
     sink: &mut K,
     gate: &G,
+    is_last: bool,
 ) -> Status
     requires gate { 2 ≤ workers → G.may_enter gate.now }
     ensures { IsLayoutRun (S.state source.old) (S.state source.new) (K.state sink.old) (K.state sink.new) result }
@@ -172,8 +183,8 @@ fn lay_out<R: Threads + Wait + Sync, S: Source, K: Sink, G: Gate + Sync>(
             let computed = compute(rt, alloc, &link, &Small64, &Small64Arch, workers, gate);
             let answer = answer_by_workers(rt, alloc, &link, &computed, workers);
             let status = tell_made(&link, answer, sink);
-            drop(computed);
-            drop(link);
+            let_go(computed, is_last);
+            let_go(link, is_last);
             status
         }
         Ok(Reading::Fault(answer)) => tell(sink, &answer),
@@ -209,7 +220,7 @@ fn run_usage<K: Sink>(sink: &mut K) -> Status
     }
 }
 
-/// What the words ask for.
+/// What the words ask for. `is_last` says that the process ends behind it.
 fn run_words<R: Threads + Wait + Sync, S: Source, K: Sink, G: Gate + Sync>(
     rt: &R,
     alloc: Global,
@@ -217,12 +228,15 @@ fn run_words<R: Threads + Wait + Sync, S: Source, K: Sink, G: Gate + Sync>(
     source: &mut S,
     sink: &mut K,
     gate: &G,
+    is_last: bool,
 ) -> Status
     requires gate { AsksForWorkers (map string_bytes words.now) → G.may_enter gate.now }
     ensures { IsRun (map string_bytes words.now) (S.state source.old) (S.state source.new) (K.state sink.old) (K.state sink.new) result }
 {
     match read_words(words) {
-        Some(Command::Layout(workers)) => lay_out(rt, alloc, workers, source, sink, gate),
+        Some(Command::Layout(workers)) => {
+            lay_out(rt, alloc, workers, source, sink, gate, is_last)
+        },
         Some(Command::Gen { seed, size }) => run_gen(alloc, seed, size, sink),
         None => run_usage(sink),
     }
@@ -272,7 +286,25 @@ pub fn run<R: Threads + Wait + Sync, S: Source, K: Sink, G: Gate + Sync>(
 {
     defined_layouts_are_sound();
     small64_machine_is_lawful();
-    run_words(rt, alloc, words, source, sink, gate)
+    run_words(rt, alloc, words, source, sink, gate, false)
+}
+
+/// The same run, without the word on soundness, as the last thing that a process does: the description and the layout aren't let go piece by
+/// piece, and stay for the system.
+pub(crate) fn run_last<R: Threads + Wait + Sync, S: Source, K: Sink, G: Gate + Sync>(
+    rt: &R,
+    alloc: Global,
+    words: &[String],
+    source: &mut S,
+    sink: &mut K,
+    gate: &G,
+) -> Status
+    requires gate { AsksForWorkers (map string_bytes words.now) → G.may_enter gate.now }
+    ensures run_theorem { IsRun (map string_bytes words.now) (S.state source.old) (S.state source.new)
+        (K.state sink.old) (K.state sink.new) result }
+{
+    small64_machine_is_lawful();
+    run_words(rt, alloc, words, source, sink, gate, true)
 }
 
 /// The same on the caller's own thread. It waits for nobody, and always returns. `None` tells that the words ask for

@@ -24,8 +24,8 @@ struct GroupShares {
     commons: List<Common>,
 }
 
-/// What `symbol_shares` answers, found group by group, on as many threads as the processors are worth. Takes the same memory once more
-/// while it does (libwild: the parallel walk over groups in `finalise_all_sizes`).
+/// What `symbol_shares` answers, found group by group, in two pieces for each processor. Takes the same memory once more while
+/// it does (libwild: the parallel walk over groups in `finalise_all_sizes`).
 pub fn symbol_shares_by_groups<R: Threads + Sync, P: Platform + Sync>(
     rt: &R,
     alloc: Global,

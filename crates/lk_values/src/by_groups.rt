@@ -42,8 +42,8 @@ use rayon::prelude::*;
 use std::alloc::{AllocError, Global};
 use std::thread::Threads;
 
-/// What `addresses_of` answers, with what symbols stand for found group by group, on as many threads as the processors are worth. Looks at
-/// each symbol once more, and takes 24 bytes for each file, and once more what resolutions take, while it does (libwild: the parallel walk
+/// What `addresses_of` answers, with what symbols stand for found group by group, in two pieces for each processor. Looks at each symbol
+/// once more, and takes 24 bytes for each file, and once more what resolutions take, while it does (libwild: the parallel walk
 /// over groups in `layout::compute`).
 pub fn addresses_of_by_groups<R: Threads + Sync, P: Platform + Sync>(
     rt: &R,

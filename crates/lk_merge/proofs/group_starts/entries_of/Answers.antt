@@ -25,4 +25,4 @@ pub returns : goal.returns
 returns g c =
     let work = g.J.Brings.work in
     let all = ap (front_located work) (c.if-group-groups-2.false ∙ c.requires.groups) ∙ groups_all work c.requires.work in
-    subst (λ ls. HoldsIn (map (entry_of (pieces_in (located work.inputs))) ls) c.loop-starts.entries.entries) all c.loop-starts.invariant.1.entries
+    subst (λ ls. HoldsIn (map (entry_of (pieces_in (located work.inputs))) ls) c.shrink_to_fit.new.self) all (c.shrink_to_fit.ensures _ c.loop-starts.invariant.1.entries)

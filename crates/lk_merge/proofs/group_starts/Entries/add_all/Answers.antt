@@ -1,7 +1,8 @@
-use Rattle.std.proofs.Common.{◌≡◌, ◌∙◌, ◌++◌, ◌∷◌, [], List, length, take, sym, ap, subst, append_assoc, arith}
+use Rattle.std.proofs.Common.{◌≡◌, ◌∙◌, ◌++◌, ◌∷◌, [], List, length, map, take, sym, ap, subst, append_assoc, arith}
 use Rattle.std.proofs.lemmas.List.{take_all}
 use Rattle.lk_merge.specs.GroupStarts.{HasEntries}
 use Rattle.lk_merge.specs.Inputs.{Located}
+use Rattle.lk_merge.specs.MergingTables.{entry_of, pieces_in}
 use Rattle.lk_merge.proofs.KeptStarts.{starts_count}
 use Rattle.lk_merge.proofs.Placing.{next_piece}
 use Rattle.lk_merge.proofs.group_starts.Entries.add_all.Goals as goal
@@ -20,4 +21,5 @@ loop-index-preserved c = λ all done more rest is are h.
 pub returns : goal.returns
 returns c = λ all done more rest is are h.
     let count : length c.args.starts.now.offsets.items ≡ length more = starts_count more c.args.starts.now are in
-    subst (λ ls. HasEntries all (done ++ ls) c.loop-index.self) (take_all c.loop-index.index more (omega (arith, count, c.len-index-end.ensures, c.loop-index-test.false))) (c.loop-index.invariant all done more rest is are h)
+    subst (λ ls. HasEntries all (done ++ ls) c.loop-index.self) (take_all c.loop-index.index more (omega (arith, count, c.len-index-end.ensures, c.loop-index-test.false))) (c.loop-index.invariant all done more rest is are
+    (record { places = h.places; taken = h.taken; entries = c.make_room.ensures (map (entry_of (pieces_in all)) done) h.entries }))
