@@ -15,7 +15,7 @@ use lk_check::check_link;
 use lk_edges::laws::segments_end_below;
 use lk_edges::{Edges, KnownValues, PlacedLink, SymbolValues, edges_of, evaluate_redirects};
 use lk_gc::{Live, traverse_alone};
-use lk_input::read_link;
+use lk_input::{InputError, read_link};
 use lk_link::{
     FileKind, InputFile, InputSymbol, LinkInput, List, Plan, SegmentId, Small64, SymbolId,
     SymbolPlacement, ValueFlags,
@@ -410,6 +410,19 @@ fn add_checked(
     }
 }
 
+/// The same of a link that there is.
+fn add_found(
+    alloc: Global,
+    line: &mut String,
+    link: &Result<LinkInput, InputError>,
+    given: Given<'_>,
+) -> Result<(), AllocError> {
+    match link {
+        Ok(link) => add_checked(alloc, line, link, given),
+        Err(error) => write!(line, "no link: {error}"),
+    }
+}
+
 /// The same of the link that a text stands for.
 fn add_read(
     alloc: Global,
@@ -417,10 +430,8 @@ fn add_read(
     text: &str,
     given: Given<'_>,
 ) -> Result<(), AllocError> {
-    match &read_link(alloc, text.as_bytes()) {
-        Ok(link) => add_checked(alloc, line, link, given),
-        Err(error) => write!(line, "no link: {error}"),
-    }
+    let link = read_link(alloc, text.as_bytes());
+    add_found(alloc, line, &link, given)
 }
 
 /// The numbers that a word tells, none where it is `-`.

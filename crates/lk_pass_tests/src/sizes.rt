@@ -277,7 +277,21 @@ pub fn add_sizes(alloc: Global, line: &mut String, link: &LinkInput) -> Result<(
     }
 }
 
-/// Adds the bytes of all parts, as several threads tell them, or why there are none.
+/// Adds the bytes of all parts by whose they are, as several threads tell them, or why there are none.
+fn add_part_sizes(
+    rt: &(impl Threads + Sync),
+    alloc: Global,
+    line: &mut String,
+    owners: &Result<PartOwners, SizeError>,
+) -> Result<(), AllocError> {
+    match owners {
+        Ok(owners) => add(line, "sizes", &part_sizes_with(rt, alloc, owners)?),
+        Err(SizeError::NoMemory) => Err(AllocError),
+        Err(error) => add(line, "refused", error),
+    }
+}
+
+/// The same of a link, by what is live.
 fn add_sums_of(
     rt: &(impl Threads + Sync),
     alloc: Global,
@@ -288,11 +302,8 @@ fn add_sums_of(
     requires good { IsWellFormed link.now }
     requires live { AreLive link.now live.now }
 {
-    match plain_owners(alloc, link, &Small64, live, MERGED_LENS) {
-        Ok(owners) => add(line, "sizes", &part_sizes_with(rt, alloc, &owners)?),
-        Err(SizeError::NoMemory) => Err(AllocError),
-        Err(error) => add(line, "refused", &error),
-    }
+    let owners = plain_owners(alloc, link, &Small64, live, MERGED_LENS);
+    add_part_sizes(rt, alloc, line, &owners)
 }
 
 /// Adds the bytes of all parts of a link that is well formed, or why there are none.

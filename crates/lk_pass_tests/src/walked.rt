@@ -8,7 +8,7 @@ ghost use Rattle.lk_link.specs.WellFormed.{IsWellFormed};
 use crate::placed::add_records;
 use crate::rows::{Asked, expect_rows};
 use lk_check::check_link;
-use lk_input::read_link;
+use lk_input::{InputError, read_link};
 use lk_link::{LinkInput, List, PartId, Small64};
 use lk_place::{Placed, SymbolPosition, SymbolPositions, compute_layout_sections};
 use lk_test_rows::add;
@@ -395,6 +395,19 @@ fn add_checked(
     }
 }
 
+/// The same of a link that there is.
+fn add_found(
+    alloc: Global,
+    line: &mut String,
+    link: &Result<LinkInput, InputError>,
+    given: Given<'_>,
+) -> Result<(), AllocError> {
+    match link {
+        Ok(link) => add_checked(alloc, line, link, given),
+        Err(error) => write!(line, "no link: {error}"),
+    }
+}
+
 /// The same of the link that a text stands for.
 fn add_read(
     alloc: Global,
@@ -402,10 +415,8 @@ fn add_read(
     text: &str,
     given: Given<'_>,
 ) -> Result<(), AllocError> {
-    match &read_link(alloc, text.as_bytes()) {
-        Ok(link) => add_checked(alloc, line, link, given),
-        Err(error) => write!(line, "no link: {error}"),
-    }
+    let link = read_link(alloc, text.as_bytes());
+    add_found(alloc, line, &link, given)
 }
 
 /// Adds where all stands by what a row tells.
