@@ -20,8 +20,8 @@ use Rattle.lk_link.specs.WellFormed.{IsWellFormed}
 use Rattle.lk_link.proofs.Elements.{at_index}
 use Rattle.lk_link.proofs.GoodLinks.{part_alignment-pos}
 use Rattle.lk_link.proofs.Starts.{next_multiple_is_least}
-use Rattle.lk_gc.specs.declared.live.Live.{Live}
-use Rattle.lk_gc.specs.Reach.{live_inputs}
+use Rattle.lk_live.specs.declared.live.Live.{Live}
+use Rattle.lk_live.specs.Reach.{live_inputs}
 use Rattle.lk_reach.proofs.Numbered.{sections_of}
 use Rattle.lk_reach.specs.Units.{is_primary_section}
 use Rattle.lk_sizes.specs.Contents.{sum_refusal}

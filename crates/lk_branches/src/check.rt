@@ -19,7 +19,7 @@ ghost use Rattle.lk_branches.specs.BranchWords.{IsAtHand, SpotRises, block_next,
 ghost use Rattle.lk_branches.specs.Orders.{IsInOrder};
 
 use crate::thunk_plan::ThunkPlan;
-use lk_gc::{InputAt, Live};
+use lk_live::{InputAt, Live};
 use lk_link::marks::is_marked;
 use lk_link::{
     FileId, FileRef, InputSection, LinkInput, Relocation, Resolution, SymbolId, ValueFlags,

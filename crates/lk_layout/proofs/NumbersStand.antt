@@ -2,7 +2,7 @@
 use Rattle.std.proofs.Common.{◌≡◌, ℕ, ◌+◌, true, if◌then◌else◌, Option, Some, None, ap, ◌∙◌}
 use Rattle.std.specs.Prelude.{option_map, pos, slice_get, unwrap_or}
 use Rattle.lk_edges.specs.EdgeLaws.{OthersAreNoRedirects}
-use Rattle.lk_gc.specs.Reach.{AreLive}
+use Rattle.lk_live.specs.Reach.{AreLive}
 use Rattle.lk_link.specs.declared.file.InputFile.{InputFile}
 use Rattle.lk_link.specs.declared.ids.FileId.{FileId}
 use Rattle.lk_link.specs.declared.section.InputSection.{InputSection}

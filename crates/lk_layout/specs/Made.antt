@@ -1,6 +1,6 @@
 -- What a layout is made of: all else of it is a function of this.
 use Rattle.std.specs.Prelude.{ℕ, List}
-use Rattle.lk_gc.specs.declared.live.Live.{Live}
+use Rattle.lk_live.specs.declared.live.Live.{Live}
 use Rattle.lk_link.specs.declared.ids.FileId.{FileId}
 use Rattle.lk_link.specs.declared.link.LinkInput.{LinkInput}
 use Rattle.lk_sizes.specs.Owners.{Content, Filling}

@@ -29,9 +29,9 @@ use Rattle.lk_link.specs.Relocations.{resolution_flags}
 use Rattle.lk_link.specs.Symbols.{definition_of, first_symbol, is_wanted}
 use Rattle.lk_edges.specs.Edges.{Edges, edge_value, edges_of}
 use Rattle.lk_edges.specs.Redirects.{AllPlaced, RedirectsHold, is_redirect}
-use Rattle.lk_gc.specs.declared.live.Live.{Live}
-use Rattle.lk_gc.specs.Faults.{reference_faults}
-use Rattle.lk_gc.specs.Reach.{AreLive, live_inputs}
+use Rattle.lk_live.specs.declared.live.Live.{Live}
+use Rattle.lk_live.specs.Faults.{reference_faults}
+use Rattle.lk_live.specs.Reach.{AreLive, live_inputs}
 use Rattle.lk_reach.specs.Units.{local_definition, section_of}
 use Rattle.lk_merge.specs.Addresses.{AreStartsOf, image_start}
 use Rattle.lk_merge.specs.Hash.{fnv64}

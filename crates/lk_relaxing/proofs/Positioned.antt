@@ -21,7 +21,7 @@ use Rattle.lk_link.specs.Walks.{input_of}
 use Rattle.lk_link.specs.WellFormed.{IsWellFormed}
 use Rattle.lk_link.proofs.Elements.{map_in, numbered_at}
 use Rattle.lk_link.proofs.InputLemmas.{inputs_follow, numbered_get}
-use Rattle.lk_gc.specs.Reach.{AreLive, live_inputs, marked}
+use Rattle.lk_live.specs.Reach.{AreLive, live_inputs, marked}
 use Rattle.lk_expressions.specs.Surroundings.{flat}
 use Rattle.lk_sizes.specs.Addresses.{section_addresses}
 use Rattle.lk_sizes.specs.Owners.{Filling, section_taker, size_of}

@@ -18,7 +18,7 @@ use Rattle.lk_link.specs.WellFormed.{IsWellFormed}
 use Rattle.lk_link.proofs.Elements.{map_in}
 use Rattle.lk_link.proofs.Powers.{alignment-pos}
 use Rattle.lk_link.proofs.Starts.{next_multiple_is_least}
-use Rattle.lk_gc.specs.declared.live.Live.{Live}
+use Rattle.lk_live.specs.declared.live.Live.{Live}
 use Rattle.lk_sizes.specs.Owners.{EntryOwner, Filling, Owner, Taker, all_file_takers, common_taker, commons_of, content_owners, file_takers, leading_of, live_of, owner_bytes, owners_in, section_taker, size_in, sorted_takers, takers, thunk_takers}
 use Rattle.lk_sizes.specs.PartOwners.{part_size, part_sizes, tables_of}
 use Rattle.lk_sizes.specs.Tables.{bytes_in}

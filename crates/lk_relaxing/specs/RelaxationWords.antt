@@ -9,7 +9,7 @@ use Rattle.lk_link.specs.declared.section.InputSection.{InputSection}
 use Rattle.lk_link.specs.Inputs.{all_inputs}
 use Rattle.lk_link.specs.Marks.{is_marked}
 use Rattle.lk_link.specs.PlanSections.{is_set}
-use Rattle.lk_gc.specs.declared.live.Live.{Live}
+use Rattle.lk_live.specs.declared.live.Live.{Live}
 use Rattle.lk_expressions.specs.Records.{Record}
 use Rattle.lk_place.specs.declared.cursors.Cursors.{Cursors}
 use Rattle.lk_place.specs.declared.error.PlaceError.{PlaceError}

@@ -4,7 +4,7 @@ use Rattle.lk_link.specs.declared.ids.FileId.{FileId}
 use Rattle.lk_link.specs.declared.link.LinkInput.{LinkInput}
 use Rattle.lk_link.specs.TableSizes.{TableSizes}
 use Rattle.lk_link.specs.Target.{platform_target}
-use Rattle.lk_gc.specs.declared.live.Live.{Live}
+use Rattle.lk_live.specs.declared.live.Live.{Live}
 use Rattle.lk_place.specs.declared.error.PlaceError.{PlaceError}
 use Rattle.lk_place.specs.declared.error.PlaceError.TheVariants.{NoMemory}
 use Rattle.lk_place.specs.declared.walk.Placed.{Placed}

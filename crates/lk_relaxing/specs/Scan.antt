@@ -14,7 +14,7 @@ use Rattle.lk_link.specs.Files.{file_in, first_some}
 use Rattle.lk_link.specs.Flags.{has_flag}
 use Rattle.lk_link.specs.InputSlots.{is_regular}
 use Rattle.lk_link.specs.Symbols.{definition_of, first_symbol, symbol_at}
-use Rattle.lk_gc.specs.declared.live.Live.{Live}
+use Rattle.lk_live.specs.declared.live.Live.{Live}
 use Rattle.lk_expressions.specs.declared.positions.SymbolPosition.{SymbolPosition}
 use Rattle.lk_expressions.specs.Records.{Record, record_at}
 use Rattle.lk_expressions.specs.Surroundings.{flat}

@@ -6,7 +6,7 @@
 ghost use Rattle.std.specs.Prelude.{◌≡◌, ◌+◌, ◌<◌, ◌≤◌, ◌^◌, ◌++◌, ℕ, All, IfOk, IsSome, OnOk, map, slice_get, unwrap_or};
 ghost use Rattle.std.specs.List.{enumerate_from};
 ghost use Rattle.std.specs.Option.{option_copied};
-ghost use Rattle.lk_gc.specs.Reach.{AreLive};
+ghost use Rattle.lk_live.specs.Reach.{AreLive};
 ghost use Rattle.lk_link.specs.Files.{file_in};
 ghost use Rattle.lk_link.specs.Inputs.{all_inputs, first_input};
 ghost use Rattle.lk_link.specs.Walks.{file_of};
@@ -21,7 +21,7 @@ ghost use Rattle.lk_relaxing.specs.PositionWords.{HasRoom, HaveRoom, deleted_in,
 
 use crate::deletions::map_of;
 use lk_expressions::{SymbolPosition, SymbolPositions};
-use lk_gc::Live;
+use lk_live::Live;
 use lk_link::list::List;
 use lk_link::marks::is_marked;
 use lk_link::{FileId, FileRef, InputSection, InputSymbol, LinkInput, PartId, SymbolPlacement};

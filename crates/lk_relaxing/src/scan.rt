@@ -16,7 +16,7 @@ use crate::deletions::deleted_of;
 use crate::judge::SectionJudge;
 use crate::positions::{first_number, position_at};
 use lk_expressions::{OutputRecordLayout, SymbolPositions};
-use lk_gc::Live;
+use lk_live::Live;
 use lk_link::relocation::RelaxCandidate;
 use lk_link::{FileId, InputSection, InputSymbol, LinkInput, PartId};
 use lk_relax::{RelaxDeltaMap, SectionRelaxDeltas, laws, scan_candidates};

@@ -19,7 +19,7 @@ ghost use Rattle.lk_relaxing.specs.Stopping.{StopsAtFirst};
 use crate::deletions::map_of;
 use crate::scan::{Before, judge_of, relax_of};
 use lk_expressions::{OutputRecordLayout, SymbolPositions};
-use lk_gc::{InputAt, Live};
+use lk_live::{InputAt, Live};
 use lk_link::{FileId, FileRef, InputSection, LinkInput, PartId};
 use lk_relax::{RelaxDeltaMap, SectionRelaxDeltas, first_past, laws};
 use std::fmt;

@@ -20,8 +20,8 @@ use Rattle.lk_link.specs.Sizes.{capacity}
 use Rattle.lk_link.specs.WellFormed.{IsWellFormed}
 use Rattle.lk_link.proofs.Elements.{append_left, append_right, at_index, map_in}
 use Rattle.lk_link.proofs.InputLemmas.{inputs_follow, numbered_get}
-use Rattle.lk_gc.specs.declared.live.Live.{Live}
-use Rattle.lk_gc.specs.Reach.{AreLive, live_inputs}
+use Rattle.lk_live.specs.declared.live.Live.{Live}
+use Rattle.lk_live.specs.Reach.{AreLive, live_inputs}
 use Rattle.lk_reach.proofs.LiveWalk.{split_at}
 use Rattle.lk_reach.proofs.SymbolNumbers.{inputs_few}
 use Rattle.lk_sizes.specs.declared.addresses.CommonAddress.{CommonAddress}

@@ -28,7 +28,7 @@ use Rattle.lk_link.specs.WellFormed.{IsWellFormed}
 use Rattle.lk_link.proofs.Elements.{map_in}
 use Rattle.lk_link.proofs.GoodSymbols.{symbol_of}
 use Rattle.lk_link.proofs.InputLemmas.{inputs_follow}
-use Rattle.lk_gc.specs.Reach.{AreLive, IsLive, marked}
+use Rattle.lk_live.specs.Reach.{AreLive, IsLive, marked}
 use Rattle.lk_expressions.specs.Records.{Record, record_at}
 use Rattle.lk_edges.specs.Edges.{Edges}
 use Rattle.lk_merge.specs.Addresses.{image_start}

@@ -2,7 +2,7 @@
 
 ghost use Rattle.std.specs.Prelude.{◌≡◌, IfOk, List, Option, length};
 ghost use Rattle.std.specs.List.{flat_map};
-ghost use Rattle.lk_gc.specs.Reach.{AreLive};
+ghost use Rattle.lk_live.specs.Reach.{AreLive};
 ghost use Rattle.lk_link.specs.declared.resolution.Resolution.{Resolution};
 ghost use Rattle.lk_link.specs.Inputs.{numbered_files};
 ghost use Rattle.lk_link.specs.Parts.{all_parts};
@@ -27,7 +27,7 @@ use crate::merged::Merged;
 use crate::resolution::{Tables, resolve_all};
 use crate::symbol_resolutions::SymbolResolutions;
 use lk_edges::Edges;
-use lk_gc::Live;
+use lk_live::Live;
 use lk_link::{LinkInput, Platform};
 use lk_merge::{MergedStringStartAddresses, MergedStringsSection};
 use lk_place::OutputRecordLayout;

@@ -27,7 +27,7 @@ use crate::entries::{NextEntries, take_entries};
 use crate::merged::{Merged, merged_value};
 use crate::symbol_resolutions::SymbolResolutions;
 use lk_edges::Edges;
-use lk_gc::Live;
+use lk_live::Live;
 use lk_link::marks::is_marked;
 use lk_link::{
     FileRef, InputSymbol, LinkInput, PartId, Platform, Resolution, SymbolId, SymbolPlacement,
