@@ -26,9 +26,7 @@ use lk_link::{
 };
 use lk_reach::local_definition;
 use lk_reach::reaching::is_primary_section;
-use lk_relax::{RelaxDeltaMap, SectionRelaxDeltas, opt_input_to_output};
-use lk_relaxing::deletions::map_of;
-use lk_relaxing::positions::deleted_in;
+use lk_relax::{RelaxDeltaMap, SectionRelaxDeltas, deleted_in, map_of, opt_input_to_output};
 use lk_thunks::{ThunkBlock, ThunkBlockId, ThunkConfig};
 use lk_values::SymbolResolutions;
 use std::fmt;

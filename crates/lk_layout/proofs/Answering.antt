@@ -29,7 +29,7 @@ use Rattle.lk_place.specs.declared.error.PlaceError.{PlaceError}
 use Rattle.lk_place.specs.declared.error.PlaceError.TheVariants as place
 use Rattle.lk_place.specs.Segments.{Refuses, segments_refusal}
 use Rattle.lk_relaxing.specs.declared.sites.RelaxedPlace.{RelaxedPlace}
-use Rattle.lk_relaxing.specs.LinkDeletions.{Deletions}
+use Rattle.lk_relax.specs.LinkDeletions.{Deletions}
 use Rattle.lk_relaxing.specs.Sites.{past_limit}
 use Rattle.lk_sizes.specs.declared.sorted.InputSortedSection.{InputSortedSection}
 use Rattle.lk_sizes.specs.Emitted.{active_segments, is_emitted}

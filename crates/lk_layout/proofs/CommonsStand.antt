@@ -34,7 +34,7 @@ use Rattle.lk_values.specs.Resolutions.{Places, placed_value, resolution_at, res
 use Rattle.lk_layout.specs.Sound.{CommonsStand, part_record}
 use Rattle.lk_layout.proofs.LaidOut.{IsLaidOut, made_by}
 use Rattle.lk_layout.proofs.PartStarts.{part_starts}
-use Rattle.lk_values.proofs.Placing.{size-le}
+use Rattle.lk_sizes.proofs.Placed.{size-le}
 use Rattle.lk_layout.proofs.Settings.{part_size_at}
 use Rattle.lk_layout.proofs.Resolving.{ObjectsAreTold, made_at, made_entries, object_value}
 

@@ -17,7 +17,7 @@ use Rattle.lk_link.specs.InputSlots.{is_merge}
 use Rattle.lk_link.specs.Inputs.{Input, NumberedFile, all_inputs, first_input, input_number, numbered_files}
 use Rattle.lk_link.specs.Marks.{is_marked}
 use Rattle.lk_link.specs.Symbols.{file_number, first_symbol, symbol_at}
-use Rattle.lk_relaxing.specs.LinkDeletions.{output_offset}
+use Rattle.lk_relax.specs.LinkDeletions.{output_offset}
 use Rattle.lk_layout.specs.Made.{made_deletions, made_filling}
 use Rattle.lk_layout.specs.Machines.{Machine}
 use Rattle.lk_link.proofs.Elements.{append_left, flat_map_in}

@@ -13,7 +13,7 @@ use Rattle.lk_link.specs.Inputs.{Input, all_inputs, first_input, input_number}
 use Rattle.lk_link.specs.Symbols.{first_symbol}
 use Rattle.lk_link.proofs.InputLemmas.{inputs_follow}
 use Rattle.lk_merge.specs.OutputAddresses.{MergePlace, place_address, symbol_place}
-use Rattle.lk_relaxing.specs.LinkDeletions.{output_offset}
+use Rattle.lk_relax.specs.LinkDeletions.{output_offset}
 use Rattle.lk_sizes.specs.PartOwners.{live_address}
 use Rattle.lk_values.specs.Resolutions.{Places, found_or_0, images_at, placed_value}
 use Rattle.lk_values.specs.Starts.{starts_of}

@@ -13,7 +13,7 @@ use Rattle.lk_link.specs.declared.plan.PlanSegment.{PlanSegment}
 use Rattle.lk_link.specs.Parts.{all_parts}
 use Rattle.lk_link.specs.TableSizes.{TableSizes}
 use Rattle.lk_sizes.specs.Owners.{Filling}
-use Rattle.lk_relaxing.specs.LinkDeletions.{Deletions}
+use Rattle.lk_relax.specs.LinkDeletions.{Deletions}
 use Rattle.lk_relaxing.specs.RelaxedLaws.{StandsFor}
 use Rattle.lk_relaxing.specs.Stages.{Stage, filling_after, refusal_of, setting_after}
 use Rattle.lk_layout.specs.Made.{relaxing_for}

@@ -64,7 +64,8 @@ use Rattle.lk_layout.proofs.ReferencesShow.{references_show}
 use Rattle.lk_layout.proofs.OnlyScanned.{only_scanned_lose}
 use Rattle.lk_layout.proofs.ToldSizes.{told_live_are}
 use Rattle.lk_link.proofs.GoodPartFields.{good_part_fields}
-use Rattle.lk_values.proofs.Placing.{size-le, starts_count}
+use Rattle.lk_sizes.proofs.Placed.{size-le}
+use Rattle.lk_values.proofs.Placing.{starts_count}
 use Rattle.lk_layout.proofs.Resolved.{resolved_sections_are_live}
 use Rattle.lk_layout.proofs.Resolving.{objects_told}
 use Rattle.lk_layout.proofs.Settings.{part_size_at, ready, takes}

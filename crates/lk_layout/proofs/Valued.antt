@@ -12,7 +12,7 @@ use Rattle.lk_sizes.specs.declared.addresses.LiveSection.{LiveSection}
 use Rattle.lk_sizes.specs.Addresses.{live_section, live_sections}
 use Rattle.lk_sizes.specs.Owners.{Filling}
 use Rattle.lk_sizes.specs.PartOwners.{live_address}
-use Rattle.lk_relaxing.specs.LinkDeletions.{Deletions, output_offset}
+use Rattle.lk_relax.specs.LinkDeletions.{Deletions, output_offset}
 use Rattle.lk_layout.specs.LayoutRecord.{LayoutRecord}
 use Rattle.lk_layout.specs.Layouts.{told_live}
 use Rattle.lk_layout.specs.Made.{Made, made_deletions, made_filling}

@@ -7,7 +7,7 @@ use Rattle.lk_link.specs.Inputs.{Input, all_inputs}
 use Rattle.lk_link.specs.Marks.{is_marked}
 use Rattle.lk_sizes.specs.declared.addresses.LiveSection.{LiveSection}
 use Rattle.lk_live.specs.Reach.{marked}
-use Rattle.lk_relaxing.specs.LinkDeletions.{size_after}
+use Rattle.lk_relax.specs.LinkDeletions.{size_after}
 use Rattle.lk_relaxing.specs.Scan.{as_address}
 use Rattle.lk_layout.specs.LayoutRecord.{LayoutRecord}
 use Rattle.lk_values.specs.declared.resolution.EntryFault.{EntryFault}

@@ -5,7 +5,7 @@ use Rattle.lk_link.specs.declared.ids.FileId.{FileId}
 use Rattle.lk_link.specs.declared.link.LinkInput.{LinkInput}
 use Rattle.lk_sizes.specs.Owners.{Content, Filling}
 use Rattle.lk_branches.specs.ThunkPlans.{thunk_owners}
-use Rattle.lk_relaxing.specs.LinkDeletions.{Deletions}
+use Rattle.lk_relax.specs.LinkDeletions.{Deletions}
 use Rattle.lk_relaxing.specs.Stages.{Relaxing, Stage, filling_after}
 use Rattle.lk_layout.specs.Headers.{header_bytes}
 use Rattle.lk_layout.specs.Machines.{Machine}

@@ -43,7 +43,7 @@ use Rattle.lk_place.specs.Plain.{IsPlain, PlacesInLoad}
 use Rattle.lk_place.specs.Ranges.{FileIsDisjoint, HasPart, MemoryIsDisjoint, TakesMemory}
 use Rattle.lk_expressions.specs.Records.{Record, record_at}
 use Rattle.lk_relax.specs.Candidates.{AreOf, is_gone}
-use Rattle.lk_relaxing.specs.LinkDeletions.{output_offset}
+use Rattle.lk_relax.specs.LinkDeletions.{output_offset}
 use Rattle.lk_relaxing.specs.Positions.{has_position}
 use Rattle.lk_relaxing.specs.Scan.{ranges_of}
 use Rattle.lk_relaxing.specs.Stages.{IsRelaxed, refusal_of}

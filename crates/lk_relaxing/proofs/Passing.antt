@@ -7,7 +7,7 @@ use Rattle.lk_live.specs.declared.live.Live.{Live}
 use Rattle.lk_sizes.specs.OwnersRecord.{OwnersRecord}
 use Rattle.lk_sizes.specs.Sizing.{AreFilled, with_sizes}
 use Rattle.lk_relaxing.specs.declared.passes.InHand.{InHand}
-use Rattle.lk_relaxing.specs.LinkDeletions.{Deletions, sizes_after}
+use Rattle.lk_relax.specs.LinkDeletions.{Deletions, sizes_after}
 use Rattle.lk_relaxing.specs.PassWords.{IsFound, fall_between, near_ones}
 use Rattle.lk_relaxing.specs.RelaxationWords.{IsStage, stage_in}
 use Rattle.lk_relaxing.specs.Relaxed.{for_link}

@@ -31,7 +31,7 @@ use Rattle.lk_relaxing.specs.declared.relaxation.Places.{Places}
 use Rattle.lk_relaxing.specs.declared.relaxation.RelaxedParts.{RelaxedParts}
 use Rattle.lk_relaxing.specs.declared.relaxation.Turned.{Turned}
 use Rattle.lk_relaxing.specs.declared.relaxation.Turned.TheVariants.{Last, Next}
-use Rattle.lk_relaxing.specs.LinkDeletions.{Deletions, sizes_after}
+use Rattle.lk_relax.specs.LinkDeletions.{Deletions, sizes_after}
 use Rattle.lk_relaxing.specs.PassWords.{AreWhole, StandOnce}
 use Rattle.lk_relaxing.specs.Positions.{has_position, section_positions, symbol_positions}
 use Rattle.lk_relaxing.specs.RelaxedLaws.{IsShrunk, nothing_deleted}

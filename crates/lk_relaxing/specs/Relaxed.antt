@@ -13,7 +13,7 @@ use Rattle.lk_sizes.specs.Owners.{Filling, content_of, in_output, plain_filling,
 use Rattle.lk_sizes.specs.Sizing.{AreFilled}
 use Rattle.lk_relaxing.specs.declared.relaxation.Relaxed.{Relaxed}
 use Rattle.lk_relaxing.specs.declared.relaxation.RelaxedParts.{RelaxedParts}
-use Rattle.lk_relaxing.specs.LinkDeletions.{Deletions, sizes_after}
+use Rattle.lk_relax.specs.LinkDeletions.{Deletions, sizes_after}
 use Rattle.lk_relaxing.specs.RelaxedLaws.{nothing_deleted}
 use Rattle.lk_relaxing.specs.Stages.{IsRelaxed, Relaxing, Stage, filling_after, link_of, refusal_of, setting_after}
 

@@ -22,7 +22,7 @@ use Rattle.lk_relax.specs.declared.candidates.Outcome.{Outcome}
 use Rattle.lk_relax.specs.declared.candidates.Outcome.TheVariants as outcome
 use Rattle.lk_relax.specs.Candidates.{AreOf, margin, picked, ranges_in}
 use Rattle.lk_tables.specs.Late.{flags_at}
-use Rattle.lk_relaxing.specs.LinkDeletions.{Deletions, deleted_of, output_offset}
+use Rattle.lk_relax.specs.LinkDeletions.{Deletions, deleted_of, output_offset}
 use Rattle.lk_relaxing.specs.Positions.{position_in}
 
 -- how all stands before a pass: a link and what is live of it, the positions of its input sections and symbols, the records of all parts,

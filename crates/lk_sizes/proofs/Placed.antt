@@ -253,6 +253,32 @@ all_fit filling starts p fit below =
       sum_by-append (owner_bytes (part_at filling.content.link.plan.sections p)) (leading_of filling.content.link filling.content.merged_lens p) (owners_in p (takers filling)),
     )
 
+-- no size is above its capacity
+pub size-le : (part : PlanPart) (size : ℕ) → size ≤ capacity part size
+size-le part size =
+    elim part.packed as (λ b. size ≤ cond b size (next_multiple_of size part.alignment)) [
+      | true ↦ omega arith
+      | false ↦ omega arith
+    ]
+
+-- behind a live section there is room for its size in the filling, up to the end of its part
+pub ends_within : (filling : Filling) (starts : List ℕ) (k : ℕ) (x : Input) → slice_get (live_inputs filling.content.link filling.content.live) k ≡ Some x
+    → EndsFit filling starts → x.section.part < length starts → live_address filling starts x + size_of filling x < 2 ^ 64
+ends_within filling starts k x there fit within =
+    let link : LinkInput = filling.content.link in
+    let p : ℕ = x.section.part in
+    let split = live_among filling k x there in
+    omega (
+      arith,
+      section_behind filling starts split.front x split.rest split.splits,
+      all_fit filling starts p fit within,
+      ap (bytes_in link p) split.splits,
+      bytes_in-append link p split.front (section_taker filling x ∷ split.rest),
+      bytes_in-append link p (section_taker filling x ∷ []) split.rest,
+      bytes_in_here link p (section_taker filling x) refl,
+      size-le (part_at link.plan.sections p) (size_of filling x),
+    )
+
 -- the address that is known of an input section, with its number, when the files are done: sorted ones wait
 abbrev pub early_address : Filling → List ℕ → ℕ × Input → ℕ
 early_address filling starts q =

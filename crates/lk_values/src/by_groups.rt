@@ -20,7 +20,7 @@ ghost use Rattle.lk_sizes.specs.Addresses.{block_addresses, section_addresses};
 ghost use Rattle.lk_sizes.specs.Owners.{Filling};
 ghost use Rattle.lk_sizes.specs.Sizing.{AreFilled};
 ghost use Rattle.lk_tables.specs.DynamicCounters.{AreNumbersAt};
-ghost use Rattle.lk_relaxing.specs.LinkDeletions.{sizes_after};
+ghost use Rattle.lk_relax.specs.LinkDeletions.{sizes_after};
 ghost use Rattle.lk_values.specs.AtHand.{AreAtHand, places_at_hand, setting_at_hand};
 ghost use Rattle.lk_values.specs.ByGroups.{AreNextByFile, group_resolutions};
 ghost use Rattle.lk_values.specs.EntryWords.{AreNextAt};

@@ -33,9 +33,7 @@ use lk_link::{
     FileRef, InputSymbol, LinkInput, PartId, Platform, Resolution, SymbolId, SymbolPlacement,
     TableCursors, ValueFlags,
 };
-use lk_relax::{RelaxDeltaMap, opt_input_to_output};
-use lk_relaxing::deletions::map_of;
-use lk_relaxing::positions::deleted_in;
+use lk_relax::{RelaxDeltaMap, deleted_in, map_of, opt_input_to_output};
 use lk_sizes::CommonAddress;
 use lk_tables::DynamicNumbers;
 use lk_tables::symbol_table::late_flags;

@@ -4,7 +4,7 @@ use Rattle.lk_link.specs.TableSizes.{TableSizes}
 use Rattle.lk_merge.specs.Addresses.{image_start}
 use Rattle.lk_merge.specs.LinkInputs.{link_inputs}
 use Rattle.lk_merge.proofs.SymbolPlaces.{outputs_count}
-use Rattle.lk_relaxing.specs.LinkDeletions.{Deletions}
+use Rattle.lk_relax.specs.LinkDeletions.{Deletions}
 use Rattle.lk_sizes.specs.Emitted.{told_marks}
 use Rattle.lk_tables.specs.declared.header_info.HeaderInfo.{HeaderInfo}
 use Rattle.lk_tables.specs.DynamicCounters.{AreNumbersAt}
