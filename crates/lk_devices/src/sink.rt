@@ -1,7 +1,7 @@
 //! Where the output goes.
 
 ghost use Rattle.std.specs.Prelude.{◌≤◌, ◌<◌, length, take, IfOk, MatchResult, OnErr};
-ghost use Rattle.lk_run.specs.Device.{SinkState, Appends, CountsRefusal, Keeps};
+ghost use Rattle.lk_devices.specs.Device.{SinkState, Appends, CountsRefusal, Keeps};
 
 use crate::source::Failed;
 

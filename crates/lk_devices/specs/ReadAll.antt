@@ -1,8 +1,8 @@
 -- What reading a whole input within a limit may answer.
 use Rattle.std.specs.Prelude.{◌≡◌, ℕ, ◌<◌, List, length, Option, Result, IfSome}
 use Rattle.std.specs.Prelude.{Ok, Err}
-use Rattle.lk_run.specs.declared.transfer.ReadAllError.{ReadAllError}
-use Rattle.lk_run.specs.declared.transfer.ReadAllError.TheVariants.{TooLong, Failed, NoMemory}
+use Rattle.lk_devices.specs.declared.transfer.ReadAllError.{ReadAllError}
+use Rattle.lk_devices.specs.declared.transfer.ReadAllError.TheVariants.{TooLong, Failed, NoMemory}
 
 -- the source, where it tells what it has left, held these bytes and no others
 abbrev pub HoldsExactly : Option (List ℕ) → List ℕ → Type 0

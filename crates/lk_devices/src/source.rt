@@ -1,7 +1,7 @@
 //! Where the input comes from.
 
 ghost use Rattle.std.specs.Prelude.{◌≤◌, length, IfOk, IfSome};
-ghost use Rattle.lk_run.specs.Device.{SourceState, HasCause, ReadsFrom};
+ghost use Rattle.lk_devices.specs.Device.{SourceState, HasCause, ReadsFrom};
 
 /// A call of a device that failed. It raised the device's count of faults.
 #[derive(Clone, Copy, Debug, PartialEq, Eq)]

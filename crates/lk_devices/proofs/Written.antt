@@ -1,7 +1,7 @@
 -- What a sink took of a text in one write after another.
 use Rattle.std.proofs.Common.{ℕ, ◌+◌, List, take, drop, Option, Some, None, append_assoc}
 use Rattle.std.proofs.Math.Seq.{take-add}
-use Rattle.lk_run.specs.Device.{Appends}
+use Rattle.lk_devices.specs.Device.{Appends}
 
 -- the front of the text, and then a piece of the rest, are a longer front
 pub goes_on : (before now after : Option (List ℕ)) (text : List ℕ) (at n : ℕ) → Appends before now (take at text) →

@@ -1,6 +1,6 @@
 use Rattle.std.proofs.Common.{arith, length-take}
-use Rattle.lk_run.proofs.Past.{stops_past}
-use Rattle.lk_run.proofs.transfer.read_all.Goals as goal
+use Rattle.lk_devices.proofs.Past.{stops_past}
+use Rattle.lk_devices.proofs.transfer.read_all.Goals as goal
 
 pub returns-then-count-room-clause-rest_unread : goal.returns-then-count-room-clause-rest_unread
 returns-then-count-room-clause-rest_unread g c =

@@ -29,11 +29,11 @@ use denote.Triple.Walked.{says, stay_none_ref, stay_none_slice, Stays, walk_of, 
 use Rattle.std.proofs.Common.{◌++◌, ◌<◌, ◌^◌, length}
 use denote.Builtin.{u8}
 use denote.Slice.{slice_val, shr_slice_vals, shr_slice_Tells}
-use Rattle.lk_run.specs.contracts.transcript.Transcript.with.Key.{name as key}
-use Rattle.lk_run.specs.contracts.transcript.Transcript.with as f
-use Rattle.lk_run.proofs.transcript.Transcript.with.Statement as stated
-use Rattle.lk_run.proofs.transcript.Transcript.with.Code as code
-use Rattle.lk_run.specs.contracts.transcript.Transcript as made
+use Rattle.lk_devices.specs.contracts.transcript.Transcript.with.Key.{name as key}
+use Rattle.lk_devices.specs.contracts.transcript.Transcript.with as f
+use Rattle.lk_devices.proofs.transcript.Transcript.with.Statement as stated
+use Rattle.lk_devices.proofs.transcript.Transcript.with.Code as code
+use Rattle.lk_devices.specs.contracts.transcript.Transcript as made
 
 abbrev stayed : Stays (f.ended).signature.params (f.ended).kept
 stayed = (stay_none_ref (0 ∷ []) tt (plain (λ _. made.the_row)) yes, (stay_none_slice (1 ∷ []) tt (plain (λ _. u8)) yes, tt))

@@ -1,5 +1,5 @@
 use Rattle.std.specs.Io.KnownBytes.{Keeps}
-use Rattle.lk_run.proofs.standard.write_patiently.Given as goal
+use Rattle.lk_devices.proofs.standard.write_patiently.Given as goal
 
 -- an interrupted call moved nothing
 abbrev pub invariant-loop : goal.invariant-loop

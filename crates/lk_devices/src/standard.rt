@@ -56,7 +56,7 @@ pub struct StandardInput<R> {
 }
 
 impl<R> Model for StandardInput<R> {
-    ghost use Rattle.lk_run.specs.Standard.{Counted};
+    ghost use Rattle.lk_devices.specs.Standard.{Counted};
 
     ghost Value = { Counted R };
 
@@ -105,7 +105,7 @@ pub struct StandardOutput<W> {
 }
 
 impl<W> Model for StandardOutput<W> {
-    ghost use Rattle.lk_run.specs.Standard.{Counted};
+    ghost use Rattle.lk_devices.specs.Standard.{Counted};
 
     ghost Value = { Counted W };
 

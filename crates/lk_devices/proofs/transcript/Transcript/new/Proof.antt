@@ -20,11 +20,11 @@ use denote.Triple.Entry.{on_entry, alive}
 use denote.Triple.Spec.{Meets, triple_of}
 use denote.Triple.Table.{entered}
 use denote.Triple.Walked.{says, Stays, walk_of, Walks, ends_at, walked, walk_Meets}
-use Rattle.lk_run.specs.contracts.transcript.Transcript.new.Key.{name as key}
-use Rattle.lk_run.specs.contracts.transcript.Transcript.new as f
-use Rattle.lk_run.proofs.transcript.Transcript.new.Statement as stated
-use Rattle.lk_run.proofs.transcript.Transcript.new.Code as code
-use Rattle.lk_run.specs.contracts.transcript.Transcript as made
+use Rattle.lk_devices.specs.contracts.transcript.Transcript.new.Key.{name as key}
+use Rattle.lk_devices.specs.contracts.transcript.Transcript.new as f
+use Rattle.lk_devices.proofs.transcript.Transcript.new.Statement as stated
+use Rattle.lk_devices.proofs.transcript.Transcript.new.Code as code
+use Rattle.lk_devices.specs.contracts.transcript.Transcript as made
 
 abbrev stayed : Stays (f.ended).signature.params (f.ended).kept
 stayed = tt

@@ -2,7 +2,7 @@
 
 ghost use Rattle.std.specs.Prelude.{◌≡◌, ◌+◌, ◌-◌, ◌^◌, ◌<◌, ◌≤◌, ◌↔◌, [], ◌++◌, length, take, drop, min};
 ghost use Rattle.std.specs.Prelude.{Contains, IfOk, IsErr, MatchResult};
-ghost use Rattle.lk_run.specs.Memory.{after_fault, after_write, empty_sink, fresh, read_count, with_bytes, write_count};
+ghost use Rattle.lk_devices.specs.Memory.{after_fault, after_write, empty_sink, fresh, read_count, with_bytes, write_count};
 
 use crate::faults::FaultCount;
 use crate::sink::Sink;
@@ -23,7 +23,7 @@ pub struct MemorySource {
 
 impl Model for MemorySource {
     ghost use Rattle.std.specs.Prelude.{◌<◌, ◌≤◌, drop, length};
-    ghost use Rattle.lk_run.specs.Memory.{MemoryState};
+    ghost use Rattle.lk_devices.specs.Memory.{MemoryState};
 
     ghost Value = { MemoryState };
 
@@ -120,7 +120,7 @@ pub struct MemorySink {
 
 impl Model for MemorySink {
     ghost use Rattle.std.specs.Prelude.{◌≤◌, take, vec_len};
-    ghost use Rattle.lk_run.specs.Memory.{MemorySinkState};
+    ghost use Rattle.lk_devices.specs.Memory.{MemorySinkState};
 
     ghost Value = { MemorySinkState };
 

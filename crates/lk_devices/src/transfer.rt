@@ -17,8 +17,8 @@
 
 ghost use Rattle.std.specs.Prelude.{◌≡◌, ◌+◌, ◌≤◌, ◌<◌, [], drop, length, take, vec_len, IfOk, IfSome, OnErr, OnOk, IsErrOf};
 ghost use Rattle.std.specs.Io.KnownBytes.{Consumes, IsAtEnd};
-ghost use Rattle.lk_run.specs.Device.{Appends, AppendsPrefix, HasCause};
-ghost use Rattle.lk_run.specs.ReadAll.{HoldsExactly, HoldsMore, ReadAllHasCause};
+ghost use Rattle.lk_devices.specs.Device.{Appends, AppendsPrefix, HasCause};
+ghost use Rattle.lk_devices.specs.ReadAll.{HoldsExactly, HoldsMore, ReadAllHasCause};
 
 use crate::sink::Sink;
 use crate::source::{Failed, Source};
@@ -39,7 +39,7 @@ pub enum ReadAllError {
 }
 
 impl From<Failed> for ReadAllError {
-    ghost use Rattle.lk_run.specs.declared.transfer.ReadAllError.TheVariants as E;
+    ghost use Rattle.lk_devices.specs.declared.transfer.ReadAllError.TheVariants as E;
 
     ghost from_gives = { λ _ e. e ≡ E.Failed };
 
@@ -49,7 +49,7 @@ impl From<Failed> for ReadAllError {
 }
 
 impl From<AllocError> for ReadAllError {
-    ghost use Rattle.lk_run.specs.declared.transfer.ReadAllError.TheVariants as E;
+    ghost use Rattle.lk_devices.specs.declared.transfer.ReadAllError.TheVariants as E;
 
     ghost from_gives = { λ _ e. e ≡ E.NoMemory };
 

@@ -1,6 +1,6 @@
 use Rattle.std.proofs.Common.{◌≡◌, ◌-◌, ◌≤◌, length, take}
-use Rattle.lk_run.specs.Device.{Appends}
-use Rattle.lk_run.proofs.transfer.write_all.Given as goal
+use Rattle.lk_devices.specs.Device.{Appends}
+use Rattle.lk_devices.proofs.transfer.write_all.Given as goal
 
 abbrev pub invariant-loop-at : goal.invariant-loop-at
 invariant-loop-at g l =
