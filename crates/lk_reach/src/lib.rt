@@ -13,7 +13,7 @@ pub mod walk;
 
 pub use asks::{Successors, local_definition};
 pub use exports::{ExportSymbolsMode, can_export_global_def, export_symbols_mode};
-pub use reaching::{file_roots, successors};
-pub use root_asks::{Roots, roots};
+pub use reaching::{file_roots, roots, successors};
+pub use root_asks::Roots;
 pub use units::{Ask, Unit};
 pub use walk::{Walk, files_of_inputs, section_number, unit_at};

@@ -22,7 +22,7 @@ pub struct Roots<'a> {
 }
 
 impl<'a> Model for Roots<'a> {
-    ghost use Rattle.std.specs.Prelude.{◌++◌, ◌×◌, List, All};
+    ghost use Rattle.std.specs.Prelude.{◌++◌, List, All};
     ghost use Rattle.std.specs.List.{flat_map};
     ghost use Rattle.std.specs.Coded.{codes};
     ghost use Rattle.lk_link.specs.contracts.expression.Expression as expression;
@@ -62,14 +62,16 @@ impl<'a> Iterator for Roots<'a> {
     }
 }
 
-/// All that the files of a link ask for by themselves, file by file, as `file_roots` tells of each. Takes no memory.
-pub fn roots(link: &LinkInput) -> Roots<'_>
-    requires { IsWellFormed link.now }
-    ensures { result ≡ roots link.now }
-{
-    Roots {
-        link,
-        own: Successors::none(),
-        files: link.groups.files(),
+impl<'a> Roots<'a> {
+    /// All roots of a link.
+    pub(crate) fn over(link: &'a LinkInput) -> Roots<'a>
+        requires { IsWellFormed link.now }
+        ensures { result ≡ roots link.now }
+    {
+        Roots {
+            link,
+            own: Successors::none(),
+            files: link.groups.files(),
+        }
     }
 }
