@@ -1,6 +1,7 @@
 -- The files of a link and its input sections by their numbers.
-use Rattle.std.proofs.Common.{◌≡◌, ℕ, ◌+◌, ◌≤◌, List, length, sum_by, take, Some, option_and_then, sym, ap, ◌∙◌, subst, arith}
+use Rattle.std.proofs.Common.{◌≡◌, ℕ, ◌+◌, ◌≤◌, List, All, length, sum_by, take, Some, option_and_then, sym, ap, ◌∙◌, subst, arith}
 use Rattle.std.specs.List.{enumerate_from, flat_map, slice_get}
+use Rattle.std.proofs.lemmas.Option.{slice_get-get_or}
 use Rattle.lk_link.specs.declared.fault.Limited.TheVariants.{Groups, Files}
 use Rattle.lk_link.specs.declared.file.InputFile.{InputFile}
 use Rattle.lk_link.specs.declared.ids.FileId.{FileId}
@@ -10,6 +11,7 @@ use Rattle.lk_link.specs.Inputs.{Input, NumberedFile, all_inputs, group_files, i
 use Rattle.lk_link.specs.Limits.{counted, limit_of}
 use Rattle.lk_link.specs.WellFormed.{IsWellFormed}
 use Rattle.lk_link.proofs.Elements.{flat_map_at, map_at, numbered_at}
+use Rattle.lk_reach.specs.Askers.{IsFileOf}
 
 -- groups and files are few
 pub are_numbered : (link : LinkInput) → IsWellFormed link → AreNumbered link.groups
@@ -51,6 +53,10 @@ file_at groups k f h =
       there = ap (option_and_then (λ files. slice_get files file.0.0)) found ∙ in_group;
     } in
     subst (IsFileAt groups k) file.2 is
+
+-- each of all files stands where its number says
+pub files_there : (link : LinkInput) → All (IsFileOf link) (numbered_files link.groups)
+files_there link k d within = (file_at link.groups k _ (slice_get-get_or (numbered_files link.groups) k d within)).there
 
 -- ---- input sections
 
