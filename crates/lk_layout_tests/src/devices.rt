@@ -340,7 +340,7 @@ fn writers_pass_bytes_on(rt: HostRuntime) -> Result<(), Fail> {
 
 /// Which read and which write fails: how a run over the smallest description ends, and how many bytes were taken.
 const RUNS: &str = "
-- - => run (LaidOut, 19)
+- - => run (Done, 19)
 1 - => run (ReadFault, 0)
 - 0 => run (WriteFault, 0)
 - 1 => run (WriteFault, 10)

@@ -13,7 +13,7 @@ use std::thread::Threads;
 fn statuses_have_their_numbers(rt: HostRuntime) -> Result<(), Fail> {
     let mut line = String::new(rt.alloc());
     for status in [
-        Status::LaidOut,
+        Status::Done,
         Status::Refused,
         Status::Usage,
         Status::Unreadable,
@@ -26,7 +26,7 @@ fn statuses_have_their_numbers(rt: HostRuntime) -> Result<(), Fail> {
     expect_text(
         &rt,
         line.as_str(),
-        "status (LaidOut, 0) status (Refused, 1) status (Usage, 2) status (Unreadable, 3) \
+        "status (Done, 0) status (Refused, 1) status (Usage, 2) status (Unreadable, 3) \
         status (ReadFault, 4) status (WriteFault, 5) status (NoMemory, 6)",
     );
     Ok(())
@@ -76,12 +76,12 @@ const SMALLEST: &str = r#"{"plan":{"page":4096},"groups":[[{"kind":"prelude"}]]}
 /// How many workers are asked for, or what link, and how a run over the smallest description ends: on the caller's own thread, with the
 /// bytes that its source has left and its sink took; and by workers.
 const WORKERS: &str = r#"
-layout 0 => alone (Some(LaidOut), 0, 19) workers "0 layout\nentry -\nend"
-layout 1 => alone (Some(LaidOut), 0, 19) workers "0 layout\nentry -\nend"
+layout 0 => alone (Some(Done), 0, 19) workers "0 layout\nentry -\nend"
+layout 1 => alone (Some(Done), 0, 19) workers "0 layout\nentry -\nend"
 layout 2 => alone (None, 54, 0) workers "0 layout\nentry -\nend"
 layout 10 => alone (None, 54, 0) workers "0 layout\nentry -\nend"
 layout 64 => alone (None, 54, 0) workers "0 layout\nentry -\nend"
-gen 0 1 => alone (Some(LaidOut), 54, 42) workers "0 gen 0 1 live 2 of 2 merged 5 end 0x400058"
+gen 0 1 => alone (Some(Done), 54, 42) workers "0 gen 0 1 live 2 of 2 merged 5 end 0x400058"
 "#;
 
 /// Adds how a run on the caller's own thread ends.

@@ -8,7 +8,7 @@ use Rattle.std.proofs.lemmas.Bool.{cases_lt, eqb-true, leb-true, le-leb}
 use Rattle.std.proofs.lemmas.Str.Parse.{numerals_by_value, tells_digits}
 use Rattle.std.proofs.lemmas.Slice.Eq.{bytes_eq-Decides}
 use Rattle.lk_run.specs.RunAlone.{AsksForWorkers}
-use Rattle.lk_run.specs.Steps.{IsPadded}
+use Rattle.lk_run.specs.Steps.{CanBeAsked, IsPadded}
 use Rattle.lk_run.specs.Words.{IsCommand, command_of, number_in, workers_of, seed_of, size_of, layout_with, gen_with, workers_for}
 use Rattle.lk_run.specs.declared.words.Command.{Command}
 use Rattle.lk_run.specs.declared.words.Command.TheVariants.{Layout, Gen}
@@ -159,21 +159,21 @@ command_is_read (verb ∷ seed ∷ size ∷ []) command read =
 command_is_read (verb ∷ seed ∷ size ∷ more ∷ others) command read = absurd (cc)
 
 -- a command that asks for several workers
-pub asks : (words : List (List ℕ)) (command : Command) (n : ℕ) → command_of words ≡ Some command → n ≡ workers_for command → 2 ≤ n → AsksForWorkers words
-asks words (Layout m) n read same several = record { workers = m; several = subst (λ k. 2 ≤ k) same several; asked = command_is_read words (Layout m) read }
-asks words (Gen seed size) n read same several = absurd (omega (arith, same, several))
+pub asks : (words : List (List ℕ)) (command : Command) → command_of words ≡ Some command → 2 ≤ workers_for command → AsksForWorkers words
+asks words command read several = record { command = command; asked = command_is_read words command read; several = several }
 
-asked_is : (command : Command) (m : ℕ) → Some command ≡ Some (Layout m) → workers_for command ≡ m
-asked_is (Layout n) m same = cc
-asked_is (Gen seed size) m same = absurd (cc)
+-- what is read as a command can be asked for
+pub can_be_asked : (words : List (List ℕ)) (command : Command) → command_of words ≡ Some command → CanBeAsked command
+can_be_asked words command read = (words, command_is_read words command read)
 
 -- words that are a command ask for several workers exactly where it does
 pub asks_as_told : (words : List (List ℕ)) (command : Command) (n : ℕ) → command_of words ≡ Some command → n ≡ workers_for command → IsTrue (nat_le 2 n) ↔ AsksForWorkers words
 asks_as_told words command n read same = (
-  λ several. asks words command n read same (leb-true 2 n several),
+  λ several. asks words command read (subst (λ k. 2 ≤ k) same (leb-true 2 n several)),
   λ asked.
-      let told : workers_for command ≡ asked.workers = asked_is command asked.workers (sym read ∙ reads_command words (Layout asked.workers) asked.asked) in
-      le-leb 2 n (omega (arith, same, told, asked.several)),
+      let told : Some command ≡ Some asked.command = sym read ∙ reads_command words asked.command asked.asked in
+      let is : command ≡ asked.command = cc in
+      le-leb 2 n (omega (arith, same, ap workers_for is, asked.several)),
 )
 
 -- words that are no command ask for none
@@ -181,10 +181,10 @@ pub asks_for_none : (words : List (List ℕ)) → command_of words ≡ None → 
 asks_for_none words none = (
   λ never. absurd (true≢false (sym never)),
   λ asked.
-      let read : None ≡ Some (Layout asked.workers) = sym none ∙ reads_command words (Layout asked.workers) asked.asked in
+      let read : None ≡ Some asked.command = sym none ∙ reads_command words asked.command asked.asked in
       absurd (cc),
 )
 
 -- the numbers of `gen` are in range
-pub gen_in_range : (words : List (List ℕ)) (seed size : ℕ) → command_of words ≡ Some (Gen seed size) → (1 ≤ size) × (size ≤ MOST_OBJECTS)
-gen_in_range words seed size read = let is = command_is_read words (Gen seed size) read in (is.1, is.2)
+pub gen_in_range : (seed size : ℕ) → CanBeAsked (Gen seed size) → (1 ≤ size) × (size ≤ MOST_OBJECTS)
+gen_in_range seed size asked = (asked.1.1, asked.1.2)

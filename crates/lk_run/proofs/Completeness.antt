@@ -1,7 +1,7 @@
 -- What the words and the input define is what a run tells.
-use Rattle.std.proofs.Common.{◌≡◌, ◌⊎◌, inl, inr, true, false, ℕ, List, length, Option, Some, None, Result, Ok, Err, sym, subst, ap, ◌∙◌, refl, arith}
+use Rattle.std.proofs.Common.{◌≡◌, ◌⊎◌, inl, inr, Bool, true, false, ℕ, List, [], length, Option, Some, None, Result, Ok, Err, sym, subst, ap, ◌∙◌, refl, arith}
 use Rattle.std.proofs.lemmas.Bool.{cases_lt}
-use Rattle.std.specs.Prelude.{MatchOption}
+use Rattle.std.specs.Prelude.{MatchBool, MatchOption}
 use Rattle.lk_input.specs.declared.read.error.InputError.{InputError}
 use Rattle.lk_input.specs.Reading.{reading_of}
 use Rattle.lk_generator.specs.Generated.{generated_link}
@@ -14,13 +14,13 @@ use Rattle.lk_layout.specs.Laws.{DefinedAnswerExists, DefinedAnswerIsOne}
 use Rattle.lk_run.specs.declared.answer.Answer.{Answer}
 use Rattle.lk_devices.specs.declared.limit.TheConstants.{LONGEST_INPUT}
 use Rattle.lk_run.specs.declared.status.Status.{Status}
-use Rattle.lk_run.specs.declared.status.Status.TheVariants.{LaidOut, Refused, Usage, Unreadable, ReadFault, WriteFault, NoMemory}
+use Rattle.lk_run.specs.declared.status.Status.TheVariants.{Done, Refused, Usage, Unreadable, ReadFault, WriteFault, NoMemory}
 use Rattle.lk_run.specs.declared.words.Command.{Command}
 use Rattle.lk_run.specs.declared.words.Command.TheVariants as commands
 use Rattle.lk_run.specs.Complete.{IsFaultless, Tells, DescribesLayout}
 use Rattle.lk_devices.specs.Device.{SourceState, SinkState}
 use Rattle.lk_run.specs.FaultText.{input_fault_text_of, too_long_text}
-use Rattle.lk_run.specs.Run.{Held, Whole, Longer, Holds, Takes, IsAnswerTo, IsAnswerToReading, IsAnswered, IsGeneratedAnswer, Commanded, Uncommanded, Finished, IsRun, Unread, summed_up, told_of}
+use Rattle.lk_run.specs.Run.{Held, Whole, Longer, Holds, Takes, IsAnswerOf, IsAnswerTo, IsAnswerToReading, IsAnswered, IsGeneratedAnswer, Commanded, Uncommanded, Unmoved, Finished, IsRun, Unread, summed_up, told_of}
 use Rattle.lk_run.specs.Words.{IsCommand, command_of, reads, usage}
 use Rattle.lk_run.proofs.Commands.{reads_command}
 use Rattle.lk_run.proofs.RunLaws.{answered}
@@ -29,14 +29,19 @@ use Rattle.lk_run.proofs.RunLaws.{answered}
 
 reading_answer : DefinedAnswerExists → (reading : Result LinkInput InputError) → (answer : Answer) × IsAnswerToReading reading answer
 reading_answer law (Ok link) = let found = law small64_machine link in (told_of link found.0, (found.0, found.1, refl))
-reading_answer law (Err e) = (record { status = Unreadable; text = input_fault_text_of e }, refl)
-
-held_answer : DefinedAnswerExists → (workers : ℕ) (held : Held) → (answer : Answer) × IsAnswerTo (commands.Layout workers) held answer
-held_answer law workers (Whole bytes) = reading_answer law (reading_of bytes)
-held_answer law workers Longer = (record { status = Unreadable; text = too_long_text }, refl)
+reading_answer law (Err e) = (record { status = Unreadable; bytes = input_fault_text_of e }, refl)
 
 generated_answer : DefinedAnswerExists → (seed size : ℕ) → (answer : Answer) × IsGeneratedAnswer seed size answer
 generated_answer law seed size = let found = law small64_machine (generated_link seed size) in (summed_up seed size found.0, (found.0, found.1, refl))
+
+-- a case for each command
+command_answer : DefinedAnswerExists → (command : Command) (bytes : List ℕ) → (answer : Answer) × IsAnswerOf command bytes answer
+command_answer law (commands.Layout workers) bytes = reading_answer law (reading_of bytes)
+command_answer law (commands.Gen seed size) bytes = generated_answer law seed size
+
+held_answer : DefinedAnswerExists → (command : Command) (held : Held) → (answer : Answer) × IsAnswerTo command held answer
+held_answer law command (Whole bytes) = command_answer law command bytes
+held_answer law command Longer = (record { status = Unreadable; bytes = too_long_text }, refl)
 
 -- what bytes are held as
 held_of : (bytes : List ℕ) → (held : Held) × Holds (Some bytes) held
@@ -51,13 +56,17 @@ one_of_reading : DefinedAnswerIsOne → (reading : Result LinkInput InputError) 
 one_of_reading law (Ok link) a b p q = p.2 ∙ ap (told_of link) (law small64_machine link p.0 q.0 p.1 q.1) ∙ sym q.2
 one_of_reading law (Err e) a b p q = p ∙ sym q
 
-one_of_held : DefinedAnswerIsOne → (workers : ℕ) (held : Held) (a b : Answer) → IsAnswerTo (commands.Layout workers) held a
-    → IsAnswerTo (commands.Layout workers) held b → a ≡ b
-one_of_held law workers (Whole bytes) a b p q = one_of_reading law (reading_of bytes) a b p q
-one_of_held law workers Longer a b p q = p ∙ sym q
-
 one_generated : DefinedAnswerIsOne → (seed size : ℕ) (a b : Answer) → IsGeneratedAnswer seed size a → IsGeneratedAnswer seed size b → a ≡ b
 one_generated law seed size a b p q = p.2 ∙ ap (summed_up seed size) (law small64_machine (generated_link seed size) p.0 q.0 p.1 q.1) ∙ sym q.2
+
+-- a case for each command
+one_of_command : DefinedAnswerIsOne → (command : Command) (bytes : List ℕ) (a b : Answer) → IsAnswerOf command bytes a → IsAnswerOf command bytes b → a ≡ b
+one_of_command law (commands.Layout workers) bytes a b p q = one_of_reading law (reading_of bytes) a b p q
+one_of_command law (commands.Gen seed size) bytes a b p q = one_generated law seed size a b p q
+
+one_of_held : DefinedAnswerIsOne → (command : Command) (held : Held) (a b : Answer) → IsAnswerTo command held a → IsAnswerTo command held b → a ≡ b
+one_of_held law command (Whole bytes) a b p q = one_of_command law command bytes a b p q
+one_of_held law command Longer a b p q = p ∙ sym q
 
 one_held : (bytes : List ℕ) (h k : Held) → Holds (Some bytes) h → Holds (Some bytes) k → h ≡ k
 one_held bytes (Whole b) (Whole c) p q = ap Whole (sym p.1 ∙ q.1)
@@ -69,21 +78,26 @@ one_held bytes Longer Longer p q = refl
 abbrev IsTheAnswer : SourceState → Option Command → Answer → Type 0
 IsTheAnswer from command answer = (to : SourceState) (told : Answer) → MatchOption command (Uncommanded from to told) (λ c. IsAnswered c from to told) → told ≡ answer
 
-the_answer : DefinedAnswerExists → DefinedAnswerIsOne → (from : SourceState) (bytes : List ℕ) → from.left ≡ Some bytes → (command : Option Command)
-    → (answer : Answer) × IsTheAnswer from command answer
-the_answer every one from bytes left None = (record { status = Usage; text = usage }, λ to told is. is.answers)
-the_answer every one from bytes left (Some (commands.Gen seed size)) =
-    let found = generated_answer every seed size in
-    (found.0, λ to told is. one_generated one seed size told found.0 is.answers found.1)
-the_answer every one from bytes left (Some (commands.Layout workers)) =
+-- that of a command which reads, and of one which doesn't
+its_answer : DefinedAnswerExists → DefinedAnswerIsOne → (from : SourceState) (bytes : List ℕ) → from.left ≡ Some bytes → (does_read : Bool) (command : Command)
+    → (answer : Answer) × ((to : SourceState) (told : Answer) → MatchBool does_read (Commanded command from to told) (Unmoved command from to told) → told ≡ answer)
+its_answer every one from bytes left true command =
     let held = held_of bytes in
-    let found = held_answer every workers held.0 in (
+    let found = held_answer every command held.0 in (
       found.0,
       λ to told is.
           let holds : Holds (Some bytes) is.held = subst (λ o. Holds o is.held) left is.holds in
           let same : is.held ≡ held.0 = one_held bytes is.held held.0 holds held.1 in
-          one_of_held one workers held.0 told found.0 (subst (λ h. IsAnswerTo (commands.Layout workers) h told) same is.answers) found.1,
+          one_of_held one command held.0 told found.0 (subst (λ h. IsAnswerTo command h told) same is.answers) found.1,
     )
+its_answer every one from bytes left false command =
+    let found = command_answer every command [] in
+    (found.0, λ to told is. one_of_command one command [] told found.0 is.answers found.1)
+
+the_answer : DefinedAnswerExists → DefinedAnswerIsOne → (from : SourceState) (bytes : List ℕ) → from.left ≡ Some bytes → (command : Option Command)
+    → (answer : Answer) × IsTheAnswer from command answer
+the_answer every one from bytes left None = (record { status = Usage; bytes = usage }, λ to told is. is.answers)
+the_answer every one from bytes left (Some command) = its_answer every one from bytes left (reads command) command
 
 -- a run whose devices didn't fail told it
 finished_tells : (words : List (List ℕ)) (from to : SourceState) (before after : SinkState) (status : Status) (answer : Answer) → IsTheAnswer from (command_of words) answer
@@ -92,12 +106,12 @@ finished_tells words from to before after status answer is run =
     let same : run.answer ≡ answer = is to run.answer run.defined in
     record {
       same = run.same ∙ ap (λ (a : Answer). a.status) same;
-      written = subst (λ (a : Answer). Takes before after a.text) same run.written;
+      written = subst (λ (a : Answer). Takes before after a.bytes) same run.written;
     }
 
 tells : (words : List (List ℕ)) (from to : SourceState) (before after : SinkState) (status : Status) (answer : Answer) → IsTheAnswer from (command_of words) answer
     → IsRun words from to before after status → IsFaultless from to before after → Tells before after status answer ⊎ (status ≡ NoMemory)
-tells words from to before after LaidOut answer is run faultless = inl (finished_tells words from to before after LaidOut answer is run)
+tells words from to before after Done answer is run faultless = inl (finished_tells words from to before after Done answer is run)
 tells words from to before after Refused answer is run faultless = inl (finished_tells words from to before after Refused answer is run)
 tells words from to before after Usage answer is run faultless = inl (finished_tells words from to before after Usage answer is run)
 tells words from to before after Unreadable answer is run faultless = inl (finished_tells words from to before after Unreadable answer is run)
@@ -115,31 +129,31 @@ runs_tell every one words from bytes left =
 -- ---- a description that meets no refusal
 
 told_result : (link : LinkInput) (result : Result LayoutRecord LayoutError) (answer : Answer) → ((e : LayoutError) → IsDefined small64_machine link (Err e) → ⊥)
-    → IsDefined small64_machine link result → answer ≡ told_of link result → answer.status ≡ LaidOut
+    → IsDefined small64_machine link result → answer ≡ told_of link result → answer.status ≡ Done
 told_result link (Ok layout) answer unrefused defined is = ap (λ (a : Answer). a.status) is
 told_result link (Err e) answer unrefused defined is = absurd (unrefused e defined)
 
-told_laid_out : (workers : ℕ) (bytes : List ℕ) (held : Held) (answer : Answer) → DescribesLayout bytes → Holds (Some bytes) held
-    → IsAnswerTo (commands.Layout workers) held answer → answer.status ≡ LaidOut
-told_laid_out workers bytes (Whole b) answer good holds is =
+told_done : (workers : ℕ) (bytes : List ℕ) (held : Held) (answer : Answer) → DescribesLayout bytes → Holds (Some bytes) held
+    → IsAnswerTo (commands.Layout workers) held answer → answer.status ≡ Done
+told_done workers bytes (Whole b) answer good holds is =
     let described : reading_of b ≡ Ok good.link = ap reading_of (sym holds.1) ∙ good.described in
     let answers : IsAnswerToReading (Ok good.link) answer = subst (λ r. IsAnswerToReading r answer) described is in
     told_result good.link answers.0 answer good.unrefused answers.1 answers.2
-told_laid_out workers bytes Longer answer good holds is = absurd (omega (arith, good.fits, holds))
+told_done workers bytes Longer answer good holds is = absurd (omega (arith, good.fits, holds))
 
 finished_laid_out : (words : List (List ℕ)) (workers : ℕ) (from to : SourceState) (before after : SinkState) (status : Status) (bytes : List ℕ)
-    → IsCommand words (commands.Layout workers) → from.left ≡ Some bytes → DescribesLayout bytes → Finished words from to before after status → status ≡ LaidOut
+    → IsCommand words (commands.Layout workers) → from.left ≡ Some bytes → DescribesLayout bytes → Finished words from to before after status → status ≡ Done
 finished_laid_out words workers from to before after status bytes asked left good run =
     let command = reads_command words (commands.Layout workers) asked in
     let given : Commanded (commands.Layout workers) from to run.answer =
     subst (λ o. MatchOption o (Uncommanded from to run.answer) (λ c. IsAnswered c from to run.answer)) command run.defined in
     let holds : Holds (Some bytes) given.held = subst (λ o. Holds o given.held) left given.holds in
-    run.same ∙ told_laid_out workers bytes given.held run.answer good holds given.answers
+    run.same ∙ told_done workers bytes given.held run.answer good holds given.answers
 
 pub complete : (words : List (List ℕ)) (workers : ℕ) (bytes : List ℕ) (from to : SourceState) (before after : SinkState) (status : Status)
     → IsCommand words (commands.Layout workers) → from.left ≡ Some bytes → DescribesLayout bytes
-    → IsRun words from to before after status → IsFaultless from to before after → (status ≡ LaidOut) ⊎ (status ≡ NoMemory)
-complete words workers bytes from to before after LaidOut asked left good run faultless = inl refl
+    → IsRun words from to before after status → IsFaultless from to before after → (status ≡ Done) ⊎ (status ≡ NoMemory)
+complete words workers bytes from to before after Done asked left good run faultless = inl refl
 complete words workers bytes from to before after NoMemory asked left good run faultless = inr refl
 complete words workers bytes from to before after Refused asked left good run faultless =
     inl (finished_laid_out words workers from to before after Refused bytes asked left good run)
@@ -154,13 +168,13 @@ complete words workers bytes from to before after WriteFault asked left good run
 
 summed_up_laid_out : (seed size : ℕ) (result : Result LayoutRecord LayoutError) (answer : Answer)
     → ((e : LayoutError) → IsDefined small64_machine (generated_link seed size) (Err e) → ⊥)
-    → IsDefined small64_machine (generated_link seed size) result → answer ≡ summed_up seed size result → answer.status ≡ LaidOut
+    → IsDefined small64_machine (generated_link seed size) result → answer ≡ summed_up seed size result → answer.status ≡ Done
 summed_up_laid_out seed size (Ok layout) answer unrefused defined is = ap (λ (a : Answer). a.status) is
 summed_up_laid_out seed size (Err e) answer unrefused defined is = absurd (unrefused e defined)
 
 generated_laid_out : (words : List (List ℕ)) (seed size : ℕ) (from to : SourceState) (before after : SinkState) (status : Status)
     → IsCommand words (commands.Gen seed size) → ((e : LayoutError) → IsDefined small64_machine (generated_link seed size) (Err e) → ⊥)
-    → Finished words from to before after status → status ≡ LaidOut
+    → Finished words from to before after status → status ≡ Done
 generated_laid_out words seed size from to before after status asked unrefused run =
     let given = answered words (commands.Gen seed size) from to run.answer (reads_command words (commands.Gen seed size) asked) run.defined in
     run.same ∙ summed_up_laid_out seed size given.answers.0 run.answer unrefused given.answers.1 given.answers.2
@@ -176,8 +190,8 @@ never_unread words seed size from to before after asked run =
 
 pub generated_complete : (words : List (List ℕ)) (seed size : ℕ) (from to : SourceState) (before after : SinkState) (status : Status)
     → IsCommand words (commands.Gen seed size) → ((e : LayoutError) → IsDefined small64_machine (generated_link seed size) (Err e) → ⊥)
-    → IsRun words from to before after status → after.faults ≡ before.faults → (status ≡ LaidOut) ⊎ (status ≡ NoMemory)
-generated_complete words seed size from to before after LaidOut asked unrefused run faultless = inl refl
+    → IsRun words from to before after status → after.faults ≡ before.faults → (status ≡ Done) ⊎ (status ≡ NoMemory)
+generated_complete words seed size from to before after Done asked unrefused run faultless = inl refl
 generated_complete words seed size from to before after NoMemory asked unrefused run faultless = inr refl
 generated_complete words seed size from to before after Refused asked unrefused run faultless =
     inl (generated_laid_out words seed size from to before after Refused asked unrefused run)

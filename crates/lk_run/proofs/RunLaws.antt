@@ -1,26 +1,27 @@
 -- The steps of a run make the run that is promised.
-use Rattle.std.proofs.Common.{◌≡◌, ◌⊎◌, inl, inr, ℕ, List, Some, None, Result, Ok, Err, sym, subst, ap, ◌∙◌, refl}
-use Rattle.std.specs.Prelude.{MatchOption}
+use Rattle.std.proofs.Common.{◌≡◌, ◌⊎◌, inl, inr, ℕ, Bool, true, false, List, [], Some, None, Result, Ok, Err, sym, subst, ap, ◌∙◌, refl}
+use Rattle.std.specs.Prelude.{IfOk, MatchBool, MatchOption}
 use Rattle.lk_input.specs.declared.read.error.InputError.{InputError}
 use Rattle.lk_input.specs.Reading.{reading_of}
 use Rattle.lk_link.specs.declared.link.LinkInput.{LinkInput}
 use Rattle.lk_layout.specs.declared.error.LayoutError.{LayoutError}
 use Rattle.lk_layout.specs.LayoutRecord.{LayoutRecord}
 use Rattle.lk_run.specs.declared.answer.Answer.{Answer}
+use Rattle.lk_run.specs.declared.inputs.CommandInput.{CommandInput}
+use Rattle.lk_run.specs.declared.inputs.CommandInput.TheVariants.{Bytes, TooLong}
 use Rattle.lk_run.specs.declared.status.Status.{Status}
-use Rattle.lk_run.specs.declared.status.Status.TheVariants.{LaidOut, Refused, Usage, Unreadable, ReadFault, WriteFault, NoMemory}
+use Rattle.lk_run.specs.declared.status.Status.TheVariants.{Done, Refused, Usage, Unreadable, ReadFault, WriteFault, NoMemory}
 use Rattle.lk_run.specs.declared.words.Command.{Command}
 use Rattle.lk_run.specs.declared.words.Command.TheVariants as commands
 use Rattle.lk_devices.specs.Device.{SourceState, SinkState}
-use Rattle.lk_run.specs.declared.top_call.Reading.{Reading}
-use Rattle.lk_run.specs.declared.top_call.Reading.TheVariants.{Link, Fault}
-use Rattle.lk_run.specs.Run.{Held, Whole, Longer, Holds, IsReadUp, IsKept, IsAnswerTo, IsAnswerToReading, IsAnswered, IsDefinedFor, Generated, Uncommanded, IsRun, summed_up, told_of}
-use Rattle.lk_run.specs.Steps.{IsReadAs, IsReadingOf, IsLinkToldBy, IsLayoutRunBy, IsLayoutRun, IsGeneratedRun, IsToldBy, IsUsageRun, IsFailure}
-use Rattle.lk_run.specs.Words.{command_of, usage}
+use Rattle.lk_run.specs.Run.{Held, Whole, Longer, Holds, IsReadUp, IsKept, IsAnswerOf, IsAnswerTo, IsAnswerToReading, IsAnswered, IsDefinedFor, Commanded, Unmoved, Uncommanded, IsRun, summed_up, told_of}
+use Rattle.lk_run.specs.Steps.{GivesInput, IsCommandRun, IsFailure, IsMadeTold, IsToldBy, IsUsageRun, held_by}
+use Rattle.lk_run.specs.Words.{command_of, reads, usage}
 
--- what an answer's status may be
+-- ---- what an answer's status may be
+
 abbrev pub IsTold : Status → Type 0
-IsTold status = (status ≡ LaidOut) ⊎ ((status ≡ Refused) ⊎ (status ≡ Unreadable))
+IsTold status = (status ≡ Done) ⊎ ((status ≡ Refused) ⊎ (status ≡ Unreadable))
 
 told_link : (link : LinkInput) (result : Result LayoutRecord LayoutError) → IsTold (told_of link result).status
 told_link link (Ok layout) = inl refl
@@ -30,29 +31,62 @@ told_reading : (reading : Result LinkInput InputError) (answer : Answer) → IsA
 told_reading (Ok link) answer is = subst (λ (a : Answer). IsTold a.status) (sym is.2) (told_link link is.0)
 told_reading (Err e) answer is = inr (inr (ap (λ (a : Answer). a.status) is))
 
-told_held : (workers : ℕ) (held : Held) (answer : Answer) → IsAnswerTo (commands.Layout workers) held answer → IsTold answer.status
-told_held workers (Whole bytes) answer is = told_reading (reading_of bytes) answer is
-told_held workers Longer answer is = inr (inr (ap (λ (a : Answer). a.status) is))
-
 told_summed_up : (seed size : ℕ) (result : Result LayoutRecord LayoutError) → IsTold (summed_up seed size result).status
 told_summed_up seed size (Ok layout) = inl refl
 told_summed_up seed size (Err e) = inr (inl refl)
 
--- what was read of all that the source held
-pub read_whole : (bytes : List ℕ) (reading : Reading) (from to : SourceState) → Holds from.left (Whole bytes) → IsReadUp (Whole bytes) from.left to.left
-    → to.faults ≡ from.faults → IsReadAs (reading_of bytes) reading → IsReadingOf reading from to
-read_whole bytes (Link link) from to holds up faultless read = (
-  λ workers answer is. record { held = Whole bytes; holds = holds; answers = subst (λ r. IsAnswerToReading r answer) (sym read) is; read = up; faultless = faultless },
-  faultless,
-)
-read_whole bytes (Fault answer) from to holds up faultless read =
-    λ workers. record { held = Whole bytes; holds = holds; answers = read; read = up; faultless = faultless }
+-- a case for each command
+told_command : (command : Command) (bytes : List ℕ) (answer : Answer) → IsAnswerOf command bytes answer → IsTold answer.status
+told_command (commands.Layout workers) bytes answer is = told_reading (reading_of bytes) answer is
+told_command (commands.Gen seed size) bytes answer is = subst (λ (a : Answer). IsTold a.status) (sym is.2) (told_summed_up seed size is.0)
 
--- a link that was read, and told
-pub link_run : (link : LinkInput) (from to : SourceState) (before after : SinkState) (status : Status) → IsReadingOf (Link link) from to
-    → IsLinkToldBy status link before after → IsLayoutRun from to before after status
-link_run link from to before after status read (inl told) = λ workers. inl (told.0, read.0 workers told.0 told.1, told.2)
-link_run link from to before after status read (inr failed) = λ workers. inr (subst (λ s. IsFailure s from to) (sym failed.0) read.1, failed.1)
+told_held : (command : Command) (held : Held) (answer : Answer) → IsAnswerTo command held answer → IsTold answer.status
+told_held command (Whole bytes) answer is = told_command command bytes answer is
+told_held command Longer answer is = inr (inr (ap (λ (a : Answer). a.status) is))
+
+told_either : (does_read : Bool) (command : Command) (from to : SourceState) (answer : Answer)
+    → MatchBool does_read (Commanded command from to answer) (Unmoved command from to answer) → IsTold answer.status
+told_either true command from to answer is = told_held command is.held answer is.answers
+told_either false command from to answer is = told_command command [] answer is.answers
+
+told_answered : (command : Command) (from to : SourceState) (answer : Answer) → IsAnswered command from to answer → IsTold answer.status
+told_answered command from to answer is = told_either (reads command) command from to answer is
+
+-- ---- what a command is given
+
+-- one that reads, by a source that was read up
+pub given_read : (command : Command) (input : CommandInput) (from to : SourceState) → reads command ≡ true → Holds from.left (held_by input)
+    → IsReadUp (held_by input) from.left to.left → to.faults ≡ from.faults → GivesInput command (Ok input) from to
+given_read command input from to does holds up faultless = (
+  λ answer is.
+      let given : Commanded command from to answer = record { held = held_by input; holds = holds; answers = is; read = up; faultless = faultless } in
+      subst (λ b. MatchBool b (Commanded command from to answer) (Unmoved command from to answer)) (sym does) given,
+  subst (λ b. MatchBool b (to.faults ≡ from.faults) (to ≡ from)) (sym does) faultless,
+)
+
+-- why one that reads is given nothing
+pub given_none : (command : Command) (from to : SourceState) → reads command ≡ true → to.faults ≡ from.faults → IsFailure command NoMemory from to
+given_none command from to does faultless = subst (λ b. MatchBool b (to.faults ≡ from.faults) (to ≡ from)) (sym does) faultless
+
+-- one that reads nothing
+pub given_unread : (command : Command) (input : CommandInput) (from : SourceState) → reads command ≡ false → held_by input ≡ Whole []
+    → GivesInput command (Ok input) from from
+given_unread command input from does_not none = (
+  λ answer is.
+      let given : Unmoved command from from answer = record { untouched = refl; answers = subst (λ h. IsAnswerTo command h answer) none is } in
+      subst (λ b. MatchBool b (Commanded command from from answer) (Unmoved command from from answer)) (sym does_not) given,
+  subst (λ b. MatchBool b (from.faults ≡ from.faults) (from ≡ from)) (sym does_not) refl,
+)
+
+-- what was made of it, and told
+pub made_run : {E : Type 0} (command : Command) (input : CommandInput) (made : Result Answer E) (from to : SourceState) (before after : SinkState) (status : Status)
+    → GivesInput command (Ok input) from to → IfOk made (IsAnswerTo command (held_by input)) → IsMadeTold made status before after
+    → IsCommandRun command from to before after status
+made_run command input (Ok answer) from to before after status given is told = inl (answer, given.0 answer is, told)
+made_run command input (Err e) from to before after status given is told =
+    inr (subst (λ s. IsFailure command s from to) (sym told.0) given.1, told.1)
+
+-- ---- words
 
 defined : (words : List (List ℕ)) (command : Command) (from to : SourceState) (answer : Answer) → command_of words ≡ Some command → IsAnswered command from to answer
     → IsDefinedFor words from to answer
@@ -63,16 +97,15 @@ pub answered : (words : List (List ℕ)) (command : Command) (from to : SourceSt
     → IsAnswered command from to answer
 answered words command from to answer is given = subst (λ o. MatchOption o (Uncommanded from to answer) (λ c. IsAnswered c from to answer)) is given
 
-failed_run : (words : List (List ℕ)) (workers : ℕ) (from to : SourceState) (before after : SinkState) (status : Status)
-    → command_of words ≡ Some (commands.Layout workers) → IsFailure status from to → IsKept before after → IsRun words from to before after status
-failed_run words workers from to before after ReadFault is why kept =
-    record { command = commands.Layout workers; asked = is; reading = refl; faulty = why; kept = kept }
-failed_run words workers from to before after NoMemory is why kept = record { command = commands.Layout workers; asked = is; faultless = why; kept = kept }
-failed_run words workers from to before after LaidOut is why kept = absurd why
-failed_run words workers from to before after Refused is why kept = absurd why
-failed_run words workers from to before after Usage is why kept = absurd why
-failed_run words workers from to before after Unreadable is why kept = absurd why
-failed_run words workers from to before after WriteFault is why kept = absurd why
+failed_run : (words : List (List ℕ)) (command : Command) (from to : SourceState) (before after : SinkState) (status : Status)
+    → command_of words ≡ Some command → IsFailure command status from to → IsKept before after → IsRun words from to before after status
+failed_run words command from to before after ReadFault is why kept = record { command = command; asked = is; reading = why.0; faulty = why.1; kept = kept }
+failed_run words command from to before after NoMemory is why kept = record { command = command; asked = is; faultless = why; kept = kept }
+failed_run words command from to before after Done is why kept = absurd why
+failed_run words command from to before after Refused is why kept = absurd why
+failed_run words command from to before after Usage is why kept = absurd why
+failed_run words command from to before after Unreadable is why kept = absurd why
+failed_run words command from to before after WriteFault is why kept = absurd why
 
 -- an answer that was told
 told_run : (words : List (List ℕ)) (from to : SourceState) (before after : SinkState) (status : Status) (answer : Answer) → IsDefinedFor words from to answer
@@ -82,7 +115,7 @@ told_run words from to before after status answer is_defined is_told told =
     elim told [
       | inr cut ↦ subst run (sym cut.0) (record { answer = answer; defined = is_defined; written = cut.1 })
       | inl whole ↦ elim is_told [
-        | inl laid ↦ subst run (sym (whole.0 ∙ laid)) (record { answer = answer; defined = is_defined; same = sym laid; written = whole.1 })
+        | inl done ↦ subst run (sym (whole.0 ∙ done)) (record { answer = answer; defined = is_defined; same = sym done; written = whole.1 })
         | inr other ↦ elim other [
           | inl refused ↦ subst run (sym (whole.0 ∙ refused)) (record { answer = answer; defined = is_defined; same = sym refused; written = whole.1 })
           | inr unreadable ↦ subst run (sym (whole.0 ∙ unreadable)) (record { answer = answer; defined = is_defined; same = sym unreadable; written = whole.1 })
@@ -90,34 +123,18 @@ told_run words from to before after status answer is_defined is_told told =
       ]
     ]
 
-layout_run_by : (words : List (List ℕ)) (workers : ℕ) (from to : SourceState) (before after : SinkState) (status : Status)
-    → command_of words ≡ Some (commands.Layout workers) → IsLayoutRunBy workers from to before after status → IsRun words from to before after status
-layout_run_by words workers from to before after status is (inr failed) = failed_run words workers from to before after status is failed.0 failed.1
-layout_run_by words workers from to before after status is (inl told) =
-    told_run words from to before after status told.0 (defined words (commands.Layout workers) from to told.0 is told.1)
-    (told_held workers told.1.held told.0 told.1.answers) told.2
-
--- `layout N` that was run
-pub layout_run : (words : List (List ℕ)) (workers : ℕ) (from to : SourceState) (before after : SinkState) (status : Status)
-    → command_of words ≡ Some (commands.Layout workers) → IsLayoutRun from to before after status → IsRun words from to before after status
-layout_run words workers from to before after status is run = layout_run_by words workers from to before after status is (run workers)
-
--- `gen SEED SIZE` that was run
-pub generated_run : (words : List (List ℕ)) (seed size : ℕ) (from : SourceState) (before after : SinkState) (status : Status)
-    → command_of words ≡ Some (commands.Gen seed size) → IsGeneratedRun seed size before after status → IsRun words from from before after status
-generated_run words seed size from before after status is (inr failed) =
-    let out : IsRun words from from before after NoMemory = record { command = commands.Gen seed size; asked = is; faultless = refl; kept = failed.1 } in
-    subst (IsRun words from from before after) (sym failed.0) out
-generated_run words seed size from before after status is (inl told) =
-    let given : Generated seed size from from told.0 = record { untouched = refl; answers = told.1 } in
-    told_run words from from before after status told.0 (defined words (commands.Gen seed size) from from told.0 is given)
-    (subst (λ (a : Answer). IsTold a.status) (sym told.1.2) (told_summed_up seed size told.1.0)) told.2
+-- a command that was run
+pub command_run : (words : List (List ℕ)) (command : Command) (from to : SourceState) (before after : SinkState) (status : Status) → command_of words ≡ Some command
+    → IsCommandRun command from to before after status → IsRun words from to before after status
+command_run words command from to before after status is (inr failed) = failed_run words command from to before after status is failed.0 failed.1
+command_run words command from to before after status is (inl told) =
+    told_run words from to before after status told.0 (defined words command from to told.0 is told.1) (told_answered command from to told.0 told.1) told.2
 
 -- words that are no command
 pub usage_run : (words : List (List ℕ)) (from : SourceState) (before after : SinkState) (status : Status) → command_of words ≡ None → IsUsageRun before after status
     → IsRun words from from before after status
 usage_run words from before after status none told =
-    let answer : Answer = record { status = Usage; text = usage } in
+    let answer : Answer = record { status = Usage; bytes = usage } in
     let given : Uncommanded from from answer = record { untouched = refl; answers = refl } in
     let is_defined : IsDefinedFor words from from answer = subst (λ o. MatchOption o (Uncommanded from from answer) (λ c. IsAnswered c from from answer)) (sym none) given in
     let run : Status → Type 0 = λ s. IsRun words from from before after s in

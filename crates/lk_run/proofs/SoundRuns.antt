@@ -12,7 +12,7 @@ use Rattle.lk_layout.specs.Defined.{IsDefined}
 use Rattle.lk_layout.specs.Laws.{DefinedLayoutsAreSound}
 use Rattle.lk_run.specs.declared.answer.Answer.{Answer}
 use Rattle.lk_run.specs.declared.status.Status.{Status}
-use Rattle.lk_run.specs.declared.status.Status.TheVariants.{LaidOut, Refused, Unreadable}
+use Rattle.lk_run.specs.declared.status.Status.TheVariants.{Done, Refused, Unreadable}
 use Rattle.lk_run.specs.declared.words.Command.TheVariants as commands
 use Rattle.lk_devices.specs.Device.{SourceState, SinkState}
 use Rattle.lk_run.specs.Run.{Held, Whole, Longer, Holds, Takes, IsAnswerTo, IsAnswerToReading, Finished, IsRun, summed_up, told_of}
@@ -27,7 +27,7 @@ SmallLayoutsAreSound = DefinedLayoutsAreSound × IsLawfulMachine small64_machine
 
 -- an answer with the status of a layout is its report
 told_layout : SmallLayoutsAreSound → (from : SourceState) (before after : SinkState) (bytes : List ℕ) (link : LinkInput) (result : Result LayoutRecord LayoutError) (answer : Answer)
-    → Holds from.left (Whole bytes) → reading_of bytes ≡ Ok link → IsDefined small64_machine link result → answer ≡ told_of link result → LaidOut ≡ answer.status → Takes before after answer.text
+    → Holds from.left (Whole bytes) → reading_of bytes ≡ Ok link → IsDefined small64_machine link result → answer ≡ told_of link result → Done ≡ answer.status → Takes before after answer.bytes
     → TellsSoundLayout from before after
 told_layout law from before after bytes link (Ok layout) answer holds described defined is status written =
     let sound = law.0 small64_machine link layout law.1 defined in
@@ -40,32 +40,32 @@ told_layout law from before after bytes link (Ok layout) answer holds described 
       layout = layout;
       defined = defined;
       sound = sound.2;
-      written = subst (Takes before after) (ap (λ (a : Answer). a.text) is) written;
+      written = subst (Takes before after) (ap (λ (a : Answer). a.bytes) is) written;
     }
 told_layout law from before after bytes link (Err e) answer holds described defined is status written =
-    let refused : LaidOut ≡ Refused = status ∙ ap (λ (a : Answer). a.status) is in
+    let refused : Done ≡ Refused = status ∙ ap (λ (a : Answer). a.status) is in
     absurd (cc)
 
 told_reading : SmallLayoutsAreSound → (from : SourceState) (before after : SinkState) (bytes : List ℕ) (reading : Result LinkInput InputError) (answer : Answer)
-    → Holds from.left (Whole bytes) → reading_of bytes ≡ reading → IsAnswerToReading reading answer → LaidOut ≡ answer.status → Takes before after answer.text
+    → Holds from.left (Whole bytes) → reading_of bytes ≡ reading → IsAnswerToReading reading answer → Done ≡ answer.status → Takes before after answer.bytes
     → TellsSoundLayout from before after
 told_reading law from before after bytes (Ok link) answer holds described is status written = told_layout law from before after bytes link is.0 answer holds described is.1 is.2 status written
 told_reading law from before after bytes (Err e) answer holds described is status written =
-    let unreadable : LaidOut ≡ Unreadable = status ∙ ap (λ (a : Answer). a.status) is in
+    let unreadable : Done ≡ Unreadable = status ∙ ap (λ (a : Answer). a.status) is in
     absurd (cc)
 
 told_held : SmallLayoutsAreSound → (from : SourceState) (before after : SinkState) (workers : ℕ) (held : Held) (answer : Answer)
-    → Holds from.left held → IsAnswerTo (commands.Layout workers) held answer → LaidOut ≡ answer.status → Takes before after answer.text
+    → Holds from.left held → IsAnswerTo (commands.Layout workers) held answer → Done ≡ answer.status → Takes before after answer.bytes
     → TellsSoundLayout from before after
 told_held law from before after workers (Whole bytes) answer holds is status written =
     told_reading law from before after bytes (reading_of bytes) answer holds refl is status written
 told_held law from before after workers Longer answer holds is status written =
-    let unreadable : LaidOut ≡ Unreadable = status ∙ ap (λ (a : Answer). a.status) is in
+    let unreadable : Done ≡ Unreadable = status ∙ ap (λ (a : Answer). a.status) is in
     absurd (cc)
 
 -- an answer to a seed and a number of objects, with the status of a layout, is its line
 told_summary : SmallLayoutsAreSound → (seed size : ℕ) (before after : SinkState) (result : Result LayoutRecord LayoutError) (answer : Answer)
-    → IsDefined small64_machine (generated_link seed size) result → answer ≡ summed_up seed size result → LaidOut ≡ answer.status → Takes before after answer.text
+    → IsDefined small64_machine (generated_link seed size) result → answer ≡ summed_up seed size result → Done ≡ answer.status → Takes before after answer.bytes
     → TellsSoundSummary seed size before after
 told_summary law seed size before after (Ok layout) answer defined is status written =
     let sound = law.0 small64_machine (generated_link seed size) layout law.1 defined in
@@ -76,21 +76,21 @@ told_summary law seed size before after (Ok layout) answer defined is status wri
       layout = layout;
       defined = defined;
       sound = sound.2;
-      written = subst (Takes before after) (ap (λ (a : Answer). a.text) is) written;
+      written = subst (Takes before after) (ap (λ (a : Answer). a.bytes) is) written;
     }
 told_summary law seed size before after (Err e) answer defined is status written =
-    let refused : LaidOut ≡ Refused = status ∙ ap (λ (a : Answer). a.status) is in
+    let refused : Done ≡ Refused = status ∙ ap (λ (a : Answer). a.status) is in
     absurd (cc)
 
 read_run : SmallLayoutsAreSound → (words : List (List ℕ)) (workers : ℕ) (from to : SourceState) (before after : SinkState)
-    → IsCommand words (commands.Layout workers) → Finished words from to before after LaidOut → TellsSoundLayout from before after
+    → IsCommand words (commands.Layout workers) → Finished words from to before after Done → TellsSoundLayout from before after
 read_run law words workers from to before after asked run =
     let read = reads_command words (commands.Layout workers) asked in
     let given = answered words (commands.Layout workers) from to run.answer read run.defined in
     told_held law from before after workers given.held run.answer given.holds given.answers run.same run.written
 
 gen_run : SmallLayoutsAreSound → (words : List (List ℕ)) (seed size : ℕ) (from to : SourceState) (before after : SinkState)
-    → IsCommand words (commands.Gen seed size) → Finished words from to before after LaidOut → TellsSoundSummary seed size before after
+    → IsCommand words (commands.Gen seed size) → Finished words from to before after Done → TellsSoundSummary seed size before after
 gen_run law words seed size from to before after asked run =
     let read = reads_command words (commands.Gen seed size) asked in
     let given = answered words (commands.Gen seed size) from to run.answer read run.defined in

@@ -9,7 +9,7 @@ use Rattle.lk_layout.specs.Machines.{small64_machine}
 use Rattle.lk_run.specs.declared.answer.Answer.{Answer}
 use Rattle.lk_devices.specs.declared.limit.TheConstants.{LONGEST_INPUT}
 use Rattle.lk_run.specs.declared.status.Status.{Status}
-use Rattle.lk_run.specs.declared.status.Status.TheVariants.{LaidOut, NoMemory}
+use Rattle.lk_run.specs.declared.status.Status.TheVariants.{Done, NoMemory}
 use Rattle.lk_run.specs.declared.words.Command.TheVariants as commands
 use Rattle.lk_devices.specs.Device.{SourceState, SinkState}
 use Rattle.lk_run.specs.Run.{Takes, IsRun}
@@ -23,7 +23,7 @@ pub record IsFaultless (from to : SourceState) (before after : SinkState) : Type
 -- the run told the answer
 pub record Tells (before after : SinkState) (status : Status) (answer : Answer) : Type 0 where
   pub same : status ≡ answer.status
-  pub written : Takes before after answer.text
+  pub written : Takes before after answer.bytes
 
 -- every words and bytes have one answer, which each run tells in which no device failed, unless memory ran out
 abbrev pub RunsTellOneAnswer : Type 0
@@ -43,11 +43,11 @@ abbrev pub RunsAreComplete : Type 0
 RunsAreComplete =
     (words : List (List ℕ)) (workers : ℕ) (bytes : List ℕ) (from to : SourceState) (before after : SinkState) (status : Status)
     → IsCommand words (commands.Layout workers) → from.left ≡ Some bytes → DescribesLayout bytes
-    → IsRun words from to before after status → IsFaultless from to before after → (status ≡ LaidOut) ⊎ (status ≡ NoMemory)
+    → IsRun words from to before after status → IsFaultless from to before after → (status ≡ Done) ⊎ (status ≡ NoMemory)
 
 -- a run of `gen SEED SIZE`, in which the sink didn't fail, laid out the link that these give, if that meets no refusal, unless memory ran out
 abbrev pub GeneratedRunsAreComplete : Type 0
 GeneratedRunsAreComplete =
     (words : List (List ℕ)) (seed size : ℕ) (from to : SourceState) (before after : SinkState) (status : Status)
     → IsCommand words (commands.Gen seed size) → ((e : LayoutError) → IsDefined small64_machine (generated_link seed size) (Err e) → ⊥)
-    → IsRun words from to before after status → after.faults ≡ before.faults → (status ≡ LaidOut) ⊎ (status ≡ NoMemory)
+    → IsRun words from to before after status → after.faults ≡ before.faults → (status ≡ Done) ⊎ (status ≡ NoMemory)

@@ -9,11 +9,11 @@ use Rattle.lk_layout.specs.Machines.{small64_machine}
 use Rattle.lk_layout.specs.Made.{Made}
 use Rattle.lk_layout.specs.Sound.{IsSound}
 use Rattle.lk_run.specs.declared.status.Status.{Status}
-use Rattle.lk_run.specs.declared.status.Status.TheVariants.{LaidOut}
+use Rattle.lk_run.specs.declared.status.Status.TheVariants.{Done}
 use Rattle.lk_run.specs.declared.words.Command.TheVariants as commands
 use Rattle.lk_devices.specs.Device.{SourceState, SinkState}
 use Rattle.lk_run.specs.Report.{report}
-use Rattle.lk_run.specs.Run.{Whole, Holds, Takes}
+use Rattle.lk_run.specs.Run.{Whole, Holds, IsRun, Takes}
 use Rattle.lk_run.specs.Summary.{summary}
 use Rattle.lk_run.specs.Words.{IsCommand}
 
@@ -41,5 +41,10 @@ pub record TellsSoundSummary (seed size : ℕ) (before after : SinkState) : Type
 
 -- a run that ends with the status of a layout has told a sound one
 pub record IsSoundRun (words : List (List ℕ)) (from : SourceState) (before after : SinkState) (status : Status) : Type 0 where
-  pub read : (workers : ℕ) → IsCommand words (commands.Layout workers) → status ≡ LaidOut → TellsSoundLayout from before after
-  pub generated : (seed size : ℕ) → IsCommand words (commands.Gen seed size) → status ≡ LaidOut → TellsSoundSummary seed size before after
+  pub read : (workers : ℕ) → IsCommand words (commands.Layout workers) → status ≡ Done → TellsSoundLayout from before after
+  pub generated : (seed size : ℕ) → IsCommand words (commands.Gen seed size) → status ≡ Done → TellsSoundSummary seed size before after
+
+-- each run that is one by the run theorem is so
+abbrev pub RunsAreSound : Type 0
+RunsAreSound = (words : List (List ℕ)) (from to : SourceState) (before after : SinkState) (status : Status)
+    → IsRun words from to before after status → IsSoundRun words from before after status

@@ -5,6 +5,8 @@
 pub mod answer;
 pub mod fault_texts;
 mod generated;
+mod inputs;
+mod laid_out;
 pub mod laws;
 mod line;
 mod live_sections;

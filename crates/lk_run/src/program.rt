@@ -7,11 +7,11 @@ ghost use Rattle.std.specs.Vec.Iter.{into_iter_items};
 ghost use Rattle.lk_run.specs.Program.{IsProgramRun, IsStopped};
 ghost use Rattle.lk_run.specs.RunAlone.{AsksForWorkers};
 
+use crate::status::Status;
+use crate::top_call::run_words;
+use crate::words::words_behind_name;
 use lk_devices::sink::Sink;
 use lk_devices::source::Source;
-use crate::status::Status;
-use crate::top_call::run_last;
-use crate::words::words_behind_name;
 use lk_link::gate::NoGate;
 use std::alloc::Global;
 use std::env::Args;
@@ -40,7 +40,7 @@ pub fn run_program<R: Threads + Wait + Sync, S: Source, K: Sink>(
         Err(_) => return Status::NoMemory.exit_code(),
     };
     match words {
-        Ok(words) => run_last(rt, alloc, &words, source, sink, &NoGate).exit_code(),
+        Ok(words) => run_words(rt, alloc, &words, source, sink, &NoGate, true).exit_code(),
         Err(_) => Status::NoMemory.exit_code(),
     }
 }

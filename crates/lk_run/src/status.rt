@@ -9,9 +9,9 @@ use std::process::ExitCode;
 /// How a run ended, and what it wrote.
 #[derive(Clone, Copy, Debug, PartialEq, Eq)]
 pub enum Status {
-    /// The link is laid out; the report is written.
-    LaidOut = 0,
-    /// The link is refused; the text of the fault is written.
+    /// The command is done; what it tells is written, as the report of a layout.
+    Done = 0,
+    /// What the command speaks of is refused; the text of the fault is written.
     Refused = 1,
     /// The words are no command; the usage text is written.
     Usage = 2,
@@ -19,7 +19,7 @@ pub enum Status {
     Unreadable = 3,
     /// The source failed; nothing is written.
     ReadFault = 4,
-    /// The sink failed; a prefix of the text is written.
+    /// The sink failed; a prefix of the answer is written.
     WriteFault = 5,
     /// Memory ran out; nothing is written.
     NoMemory = 6,

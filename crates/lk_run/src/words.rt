@@ -3,7 +3,7 @@
 ghost use Rattle.std.specs.Prelude.{◌≡◌, ℕ, ◌≤◌, ◌↔◌, List, drop, map, string_bytes, IfOk, IfSome, IsTrue};
 ghost use Rattle.std.specs.Vec.Iter.{into_iter_items};
 ghost use Rattle.lk_run.specs.Steps.{IsPadded};
-ghost use Rattle.lk_run.specs.Words.{IsCommand, command_of, gen_with, number_in, seed_of, size_of, workers_of, workers_for, usage};
+ghost use Rattle.lk_run.specs.Words.{IsCommand, command_of, gen_with, number_in, reads, seed_of, size_of, workers_of, workers_for, usage};
 ghost use Rattle.lk_run.specs.declared.words.Command.{Command};
 
 use std::alloc::{AllocError, Global};
@@ -32,6 +32,16 @@ impl Command {
         match self {
             Command::Layout(workers) => workers,
             Command::Gen { .. } => 0,
+        }
+    }
+
+    /// Whether it reads the source.
+    pub fn reads(self) -> bool
+        ensures { result ≡ reads self }
+    {
+        match self {
+            Command::Layout(_) => true,
+            Command::Gen { .. } => false,
         }
     }
 }

@@ -1,7 +1,7 @@
-use Rattle.std.proofs.Common.{Some, ap, sym, ◌∙◌, map}
+use Rattle.std.proofs.Common.{sym, ◌∙◌, map}
 use Rattle.std.specs.String.{string_bytes}
-use Rattle.lk_run.proofs.Commands.{gen_in_range}
-use Rattle.lk_run.proofs.RunLaws.{layout_run, generated_run, usage_run}
+use Rattle.lk_run.proofs.Commands.{can_be_asked}
+use Rattle.lk_run.proofs.RunLaws.{command_run, usage_run}
 use Rattle.lk_run.proofs.top_call.run_words_alone.Goals as goal
 
 pub returns-in-None : goal.returns-in-None
@@ -9,24 +9,11 @@ returns-in-None g c =
     usage_run (map string_bytes c.args.words.now) (g.S.Source.state c.args.source.now) (g.K.Sink.state c.args.sink.now)
     (g.K.Sink.state c.run_usage.new.sink) c.run_usage.result (sym c.read_words.ensures ∙ c.in-None.is) c.run_usage.ensures
 
-pub returns-in-Some-Layout : goal.returns-in-Some-Layout
-returns-in-Some-Layout g c =
-    layout_run (map string_bytes c.args.words.now) c.in-Some-Layout.field-0-0 (g.S.Source.state c.args.source.now) (g.S.Source.state c.lay_out_alone.new.source)
-    (g.K.Sink.state c.args.sink.now) (g.K.Sink.state c.lay_out_alone.new.sink) c.lay_out_alone.result
-    (sym c.read_words.ensures ∙ c.in-Some-Layout.is ∙ ap Some c.in-Some-Layout.field-0-is) c.lay_out_alone.ensures
+pub run_command_alone-requires : goal.run_command_alone-requires
+run_command_alone-requires g c = can_be_asked (map string_bytes c.args.words.now) c.in-Some.command (sym c.read_words.ensures ∙ c.in-Some.is)
 
-pub run_gen-requires-clause-some : goal.run_gen-requires-clause-some
-run_gen-requires-clause-some g c =
-    (gen_in_range (map string_bytes c.args.words.now) c.in-Some-Gen.seed c.in-Some-Gen.size
-    (sym c.read_words.ensures ∙ c.in-Some-Gen.is ∙ ap Some c.in-Some-Gen.field-0-is)).0
-
-pub run_gen-requires-clause-few : goal.run_gen-requires-clause-few
-run_gen-requires-clause-few g c =
-    (gen_in_range (map string_bytes c.args.words.now) c.in-Some-Gen.seed c.in-Some-Gen.size
-    (sym c.read_words.ensures ∙ c.in-Some-Gen.is ∙ ap Some c.in-Some-Gen.field-0-is)).1
-
-pub returns-in-Some-Gen : goal.returns-in-Some-Gen
-returns-in-Some-Gen g c =
-    generated_run (map string_bytes c.args.words.now) c.in-Some-Gen.seed c.in-Some-Gen.size (g.S.Source.state c.args.source.now)
-    (g.K.Sink.state c.args.sink.now) (g.K.Sink.state c.run_gen.new.sink) c.run_gen.result
-    (sym c.read_words.ensures ∙ c.in-Some-Gen.is ∙ ap Some c.in-Some-Gen.field-0-is) c.run_gen.ensures
+pub returns-in-Some : goal.returns-in-Some
+returns-in-Some g c =
+    command_run (map string_bytes c.args.words.now) c.in-Some.command (g.S.Source.state c.args.source.now) (g.S.Source.state c.run_command_alone.new.source)
+    (g.K.Sink.state c.args.sink.now) (g.K.Sink.state c.run_command_alone.new.sink) c.run_command_alone.result
+    (sym c.read_words.ensures ∙ c.in-Some.is) c.run_command_alone.ensures

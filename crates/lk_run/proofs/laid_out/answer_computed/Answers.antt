@@ -2,7 +2,7 @@ use Rattle.std.proofs.Common.{rules, Ok, Err}
 use Rattle.lk_layout.specs.Defined.{Gives}
 use Rattle.lk_layout.specs.Machines.{small64_machine}
 use Rattle.lk_run.proofs.Refusals.{refusal_is_defined}
-use Rattle.lk_run.proofs.top_call.answer_computed.Goals as goal
+use Rattle.lk_run.proofs.laid_out.answer_computed.Goals as goal
 
 pub report_text-requires : goal.report_text-requires
 report_text-requires c =

@@ -1,7 +1,7 @@
 use Rattle.std.proofs.Common.{rules, Ok}
 use Rattle.lk_layout.specs.Defined.{Gives}
 use Rattle.lk_layout.specs.Machines.{small64_machine}
-use Rattle.lk_run.proofs.top_call.answer_by_workers.Goals as goal
+use Rattle.lk_run.proofs.laid_out.answer_by_workers.Goals as goal
 
 pub report_text_by_workers-requires-clause-good : goal.report_text_by_workers-requires-clause-good
 report_text_by_workers-requires-clause-good g c = λ _ _.
