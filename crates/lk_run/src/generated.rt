@@ -9,10 +9,10 @@ ghost use Rattle.lk_run.specs.Steps.{IsGeneratedRun};
 
 use crate::answer::Answer;
 use crate::fault_texts::fault_text;
-use lk_devices::sink::Sink;
 use crate::status::Status;
 use crate::summary::summary_text;
 use crate::top_call::tell;
+use lk_devices::sink::Sink;
 use lk_generator::generate_link;
 use lk_layout::{Layout, LayoutError, Small64Arch, compute_alone};
 use lk_link::platform::Small64;

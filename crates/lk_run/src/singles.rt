@@ -8,11 +8,11 @@ ghost use Rattle.lk_link.specs.WellFormed.{IsWellFormed};
 ghost use Rattle.lk_run.specs.Report.{index_behind, single_line, single_lines, single_text};
 
 use crate::line::Line;
-use lk_live::is_singleton;
 use lk_layout::Layout;
 use lk_link::InputRef;
 use lk_link::link::LinkInput;
 use lk_link::marks::is_marked;
+use lk_live::is_singleton;
 use std::alloc::AllocError;
 
 /// The lines of the singletons, whose indexes in the output follow those of the emitted sections. Looks at each input section once
