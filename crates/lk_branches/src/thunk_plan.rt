@@ -21,10 +21,10 @@ ghost use Rattle.lk_branches.specs.Orders.{IsInOrder};
 ghost use Rattle.lk_branches.specs.Planning.{IsPlannedFrom, ThunksAreSmall, has_code_by, other_code_by, set_bytes};
 ghost use Rattle.lk_branches.specs.ThunkPlans.{IsThunkPlan, code_before, owners_among};
 
-use lk_live::Live;
 use lk_link::part_sections::section_of_part;
 use lk_link::plan::attributes;
 use lk_link::{FileId, LinkInput, List, PartId};
+use lk_live::Live;
 use lk_sizes::{PartContents, PartOwners, attributes_of_contents};
 use lk_thunks::{Arch, ThunkBlock, ThunkBlockId, ThunkConfig, ThunkLayoutBuilder};
 use std::alloc::{AllocError, Global};

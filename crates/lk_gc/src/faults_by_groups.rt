@@ -6,9 +6,9 @@ ghost use Rattle.lk_link.specs.WellFormed.{IsWellFormed};
 ghost use Rattle.lk_live.specs.ByGroups.{group_faults};
 ghost use Rattle.lk_live.specs.Faults.{faults_by, undefined_symbols};
 
-use crate::error::ReferenceFault;
-use crate::faults::{push_file_faults, undefined_symbols};
 use lk_link::{FileId, FileRef, LinkInput, List};
+use lk_live::ReferenceFault;
+use lk_live::faults::{push_file_faults, undefined_symbols};
 use rayon::prelude::*;
 use std::alloc::{AllocError, Global};
 use std::thread::Threads;

@@ -9,10 +9,10 @@ ghost use Rattle.lk_layout.specs.Texts.{reach_text, references_text, undeclared_
 
 use crate::references::FurtherLines;
 use lk_branches::BranchPlace;
-use lk_live::{GcError, InputAt, ReferenceFault};
 use lk_link::fault::{Limited, LinkFault, Place, Rule};
 use lk_link::ids::{FileId, OutputSectionId, RegionId};
 use lk_link::list::List;
+use lk_live::{GcError, InputAt, ReferenceFault};
 use lk_merge::MergeError;
 use lk_place::{NoValue, PlaceError};
 use lk_relaxing::RelaxedPlace;

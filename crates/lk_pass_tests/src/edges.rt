@@ -14,12 +14,12 @@ use crate::walked::numbers_of;
 use lk_check::check_link;
 use lk_edges::laws::segments_end_below;
 use lk_edges::{Edges, KnownValues, PlacedLink, SymbolValues, edges_of, evaluate_redirects};
-use lk_live::{Live, traverse_alone};
 use lk_input::{InputError, read_link};
 use lk_link::{
     FileKind, InputFile, InputSymbol, LinkInput, List, Plan, SegmentId, Small64, SymbolId,
     SymbolPlacement, ValueFlags,
 };
+use lk_live::{Live, traverse_alone};
 use lk_place::{
     OutputRecordLayout, Placed, SegmentFileLayout, SegmentLayout, SymbolPositions,
     compute_layout_sections, compute_segment_layout, merge_secondary_parts,

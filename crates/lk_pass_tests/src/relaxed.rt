@@ -17,9 +17,9 @@ use crate::placed::add_records;
 use crate::rows::{Asked, expect_rows, expect_text};
 use lk_check::check_link;
 use lk_expressions::{OutputRecordLayout, SymbolPositions};
-use lk_live::{Live, traverse_alone};
 use lk_input::read_link;
 use lk_link::{FileId, LinkInput, PartId, PlanPart, Platform, Section, Small64, SymbolId};
+use lk_live::{Live, traverse_alone};
 use lk_place::{PlaceError, Placed};
 use lk_relax::{
     RelaxDeltaMap, SectionRelaxDeltas, opt_input_to_output, split_ordered_symbol_ranges,

@@ -8,8 +8,8 @@ ghost use Rattle.lk_live.specs.Reach.{AreLive};
 use crate::rows::{Asked, expect_rows};
 use crate::shown::Shown;
 use lk_check::check_link;
-use lk_live::{Live, traverse_alone};
 use lk_link::{LinkInput, Small64};
+use lk_live::{Live, traverse_alone};
 use lk_sizes::part_owners::plain_owners;
 use lk_sizes::{
     HeaderInfo, PartContents, PartOwners, SizeError, image_addresses, part_sizes, part_sizes_with,

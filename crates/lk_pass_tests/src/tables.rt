@@ -8,8 +8,8 @@ ghost use Rattle.lk_live.specs.Reach.{AreLive};
 use crate::rows::{Asked, expect_rows};
 use crate::shown::Shown;
 use lk_check::check_link;
-use lk_live::{Live, traverse_alone};
 use lk_link::{LinkInput, PartId, Small64, SymbolId};
+use lk_live::{Live, traverse_alone};
 use lk_sizes::{
     HeaderInfo, PartTotal, SymbolCopyInfo, content_totals, determine_header_sizes, dynamic_table,
     first_sizes, header_sizes, symbol_sizes,

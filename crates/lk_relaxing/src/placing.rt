@@ -13,9 +13,9 @@ ghost use Rattle.lk_relaxing.specs.Stages.{setting_after};
 
 use crate::positions::compute_input_section_positions;
 use lk_expressions::{SymbolPositions, names_no_symbol};
-use lk_live::Live;
 use lk_link::list::List;
 use lk_link::{LinkInput, Platform};
+use lk_live::Live;
 use lk_place::laws::answers_go_without_positions;
 use lk_place::{PlaceError, Placed, compute_layout_sections};
 use lk_sizes::{PartOwners, part_sizes};

@@ -20,10 +20,10 @@ ghost use Rattle.lk_relaxing.specs.Positions.{file_positions, section_positions,
 ghost use Rattle.lk_relaxing.specs.PositionWords.{HasRoom, HaveRoom, section_position_in, symbol_position_in};
 
 use lk_expressions::{SymbolPosition, SymbolPositions};
-use lk_live::Live;
 use lk_link::list::List;
 use lk_link::marks::is_marked;
 use lk_link::{FileId, FileRef, InputSection, InputSymbol, LinkInput, PartId, SymbolPlacement};
+use lk_live::Live;
 use lk_relax::{RelaxDeltaMap, deleted_in, map_of, opt_input_to_output};
 use lk_sizes::{PartOwners, owner_addresses, part_sizes};
 use std::alloc::{AllocError, Global};

@@ -15,9 +15,9 @@ ghost use Rattle.lk_relaxing.specs.ScanWords.{IsNumbered, judged, standing_of};
 use crate::judge::SectionJudge;
 use crate::positions::{first_number, position_at};
 use lk_expressions::{OutputRecordLayout, SymbolPositions};
-use lk_live::Live;
 use lk_link::relocation::RelaxCandidate;
 use lk_link::{FileId, InputSection, InputSymbol, LinkInput, PartId};
+use lk_live::Live;
 use lk_relax::{RelaxDeltaMap, SectionRelaxDeltas, deleted_of, laws, scan_candidates};
 use std::alloc::{AllocError, Global};
 

@@ -18,8 +18,8 @@ ghost use Rattle.lk_relaxing.specs.Stopping.{StopsAtFirst};
 
 use crate::scan::{Before, judge_of, relax_of};
 use lk_expressions::{OutputRecordLayout, SymbolPositions};
-use lk_live::{InputAt, Live};
 use lk_link::{FileId, FileRef, InputSection, LinkInput, PartId};
+use lk_live::{InputAt, Live};
 use lk_relax::{RelaxDeltaMap, SectionRelaxDeltas, first_past, laws, map_of};
 use std::fmt;
 

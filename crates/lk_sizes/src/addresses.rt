@@ -29,9 +29,9 @@ use crate::commons::split_commons;
 use crate::owners::{PartContents, identity_bytes, identity_size, image_bytes, image_lens, len_at};
 use crate::part_owners::PartOwners;
 use crate::sorted::{InputSortedSection, number_of};
-use lk_live::Live;
 use lk_link::marks::is_marked;
 use lk_link::{FileId, FileRef, InputSection, LinkInput, PlanPart, Section, SymbolId};
+use lk_live::Live;
 use lk_tables::Common;
 use std::alloc::{AllocError, Global};
 

@@ -13,8 +13,8 @@ ghost use Rattle.lk_sizes.specs.Owners.{Filling, by_part, in_link};
 ghost use Rattle.lk_sizes.specs.Tables.{in_section};
 
 use crate::owners::{PartContents, PartTotal, add_inputs};
-use lk_live::Live;
 use lk_link::{LinkInput, OutputSectionId, Plan};
+use lk_live::Live;
 use std::alloc::{AllocError, Global};
 
 /// Attributes together with those of parts.

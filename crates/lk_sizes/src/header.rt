@@ -37,13 +37,13 @@ ghost use Rattle.lk_sizes.specs.Tables.{active_by, edges_by, in_section, placed_
 ghost use Rattle.lk_sizes.specs.Owners.{AreFirstSizes, content_of};
 
 use crate::kept_symbols::mark_kept_by_symbols;
-use lk_live::Live;
 use lk_link::limits::{EVENTS, SEGMENTS};
 use lk_link::marks::is_marked;
 use lk_link::{
     LinkInput, List, OrderEvent, OutputSectionId, PartId, Plan, PlanSections, PlanSegment,
     SegmentId,
 };
+use lk_live::Live;
 use lk_tables::{HeaderInfo, singleton_sizes};
 use std::alloc::{AllocError, Global};
 

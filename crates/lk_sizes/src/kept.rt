@@ -5,8 +5,8 @@ ghost use Rattle.std.specs.Iterator.{YieldsFirstBy, item_count};
 ghost use Rattle.lk_link.specs.Files.{AreNumbered};
 ghost use Rattle.lk_sizes.specs.Kept.{kept_inputs};
 
-use lk_live::Live;
 use lk_link::{InputRef, Inputs, LinkInput};
+use lk_live::Live;
 use std::marker::Model;
 
 /// The kept input sections that are left of a walk over them. Contracts see the list of them.

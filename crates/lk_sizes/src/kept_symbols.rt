@@ -10,8 +10,8 @@ ghost use Rattle.lk_link.specs.Walks.{file_of};
 ghost use Rattle.lk_link.specs.WellFormed.{IsWellFormed};
 ghost use Rattle.lk_sizes.specs.Emitted.{file_keeps, is_kept_by_symbol, keeps, section_kept_by};
 
-use lk_live::Live;
 use lk_link::{FileKind, FileRef, InputSymbol, LinkInput, OutputSectionId, SymbolId};
+use lk_live::Live;
 use std::alloc::{AllocError, Global};
 
 /// The output section that a symbol of a file of a kind, with its number, keeps.

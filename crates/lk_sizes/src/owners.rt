@@ -29,8 +29,8 @@ ghost use Rattle.lk_sizes.specs.declared.owners.PartTotal.{PartTotal};
 use crate::error::SizeError;
 use crate::kept::KeptInputs;
 use crate::sorted::size_of;
-use lk_live::Live;
 use lk_link::{InputSection, LinkInput, List, PartId, Place, PlanPart, PlanSection, Section};
+use lk_live::Live;
 use lk_tables::{Common, FileShare, TableTotals, bytes_in_part, first_totals};
 use std::alloc::{AllocError, Global};
 

@@ -28,8 +28,8 @@ use crate::owners::{
 };
 use crate::resized::{contents_fit, less_bytes, resize_sections};
 use crate::sorted::{InputSortedSection, tell_sorted};
-use lk_live::Live;
 use lk_link::{FileId, LinkInput, List, Platform};
+use lk_live::Live;
 use lk_tables::{
     Common, DynamicNumbers, FileShare, HeaderInfo, SymbolShares, mark_prelude, symbol_shares,
     symbol_shares_by_groups, whole_totals,

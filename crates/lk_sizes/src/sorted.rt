@@ -16,8 +16,8 @@ ghost use Rattle.lk_sizes.specs.Tables.{IsInput};
 
 use crate::owners::len_at;
 use crate::ranks::{in_order, keys_by_name};
-use lk_live::Live;
 use lk_link::{FileId, InputRef, LinkInput, PartId, Section};
+use lk_live::Live;
 use std::alloc::{AllocError, Global};
 
 /// A sorted section that is live, in its part (libwild: `InputSortedSection`).

@@ -9,8 +9,8 @@ ghost use Rattle.lk_tables.specs.ShareWords.{first_shares};
 
 use crate::commons::Common;
 use crate::shares::{FileShare, SymbolShares, first_share};
-use lk_live::Live;
 use lk_link::{FileId, FileRef, LinkInput, List, Platform};
+use lk_live::Live;
 use rayon::prelude::*;
 use std::alloc::{AllocError, Global};
 use std::thread::Threads;

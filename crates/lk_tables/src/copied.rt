@@ -14,12 +14,12 @@ ghost use Rattle.lk_live.specs.Slots.{live_slot};
 ghost use Rattle.lk_tables.specs.Copied.{copied_name, is_assembler_name, is_copied, is_copied_undefined, is_in_loaded, is_must, may_stay, stands_for_something, stays_by, undefined_name};
 ghost use Rattle.lk_tables.specs.TableWords.{IsLookedAt};
 
-use lk_live::Live;
 use lk_link::marks::is_marked;
 use lk_link::{
     DiscardLocals, FileKind, FileRef, InputSlot, InputSymbol, LinkInput, SymbolId, SymbolPlacement,
     ValueFlags,
 };
+use lk_live::Live;
 use std::marker::Model;
 
 /// A symbol that is copied to the symbol table of the output. Contracts see its name (libwild: `SymbolCopyInfo`).

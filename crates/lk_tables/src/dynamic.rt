@@ -17,8 +17,8 @@ ghost use Rattle.lk_tables.specs.DynamicWords.{file_numbers, has_entry, numbers_
 
 use crate::header_info::HeaderInfo;
 use crate::symbol_table::{Given, flags_at, late_flags};
-use lk_live::Live;
 use lk_link::{FileKind, FileRef, InputSymbol, LinkInput, SymbolId, SymbolPlacement, ValueFlags};
+use lk_live::Live;
 use std::alloc::{AllocError, Global};
 
 /// Whether the dynamic linker gives the value of a symbol of a file of a kind, with its number and these flags, late ones

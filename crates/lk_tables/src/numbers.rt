@@ -15,8 +15,8 @@ ghost use Rattle.lk_tables.specs.ShareWords.{first_shares, prelude_share};
 use crate::dynamic::{exports, is_dynamic_symbol};
 use crate::shares::{FileShare, sum_shares};
 use crate::symbol_table::{flags_at, late_flags};
-use lk_live::Live;
 use lk_link::{FileRef, InputSymbol, LinkInput, SymbolId};
+use lk_live::Live;
 
 /// The next numbers in the dynamic symbol table, of which the table's own entry has 0. Both are 0 where no dynamic linker loads
 /// the output, which has no such table.

@@ -22,8 +22,8 @@ use crate::copied::first_input_of;
 use crate::dynamic::{exports, is_dynamic_symbol};
 use crate::singletons::{singleton_sizes, told_count};
 use crate::symbol_table::{Given, flags_at, has_entry_there, is_local_entry, late_flags};
-use lk_live::Live;
 use lk_link::{Allocation, FileRef, InputSymbol, LinkInput, Platform, SymbolId};
+use lk_live::Live;
 use std::alloc::{AllocError, Global};
 
 /// Bytes in the parts `got` and `plt`.

@@ -5,9 +5,9 @@ ghost use Rattle.std.specs.Prelude.{◌≡◌, ◌≤◌, length};
 ghost use Rattle.lk_link.specs.WellFormed.{IsWellFormed};
 ghost use Rattle.lk_tables.specs.Singletons.{singleton_name_bytes, singletons, told_sections};
 
-use lk_live::{Live, is_singleton};
 use lk_link::LinkInput;
 use lk_link::marks::is_marked;
+use lk_live::{Live, is_singleton};
 
 /// How many singletons a link has, and the bytes of their names, with a zero byte behind each. Looks at each input section once
 /// where output is linked again; other output has none (libwild: `PartialLinkPlan`).

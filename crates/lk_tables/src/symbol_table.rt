@@ -15,12 +15,12 @@ ghost use Rattle.lk_tables.specs.TableWords.{IsLookedAt};
 use crate::copied::{is_copied, is_copied_undefined};
 use crate::header_info::HeaderInfo;
 use crate::shares::{SymtabShare, whole_symtab};
-use lk_live::Live;
 use lk_link::marks::is_marked;
 use lk_link::{
     FileId, FileKind, FileRef, InputSymbol, LinkInput, Platform, SymbolId, SymbolPlacement,
     ValueFlags,
 };
+use lk_live::Live;
 use std::alloc::{AllocError, Global};
 
 /// What symbols are looked at by.

@@ -7,9 +7,9 @@ ghost use Rattle.lk_thunks.specs.Ranges.{total_primary_bytes};
 use crate::blocks::add_user;
 use crate::rows::{Asked, expect_rows, number};
 use lk_check::check_link;
-use lk_live::{GcError, Live, traverse_alone};
 use lk_input::{InputError, read_link};
 use lk_link::{FileId, LinkInput};
+use lk_live::{GcError, Live, traverse_alone};
 use lk_thunks::{
     Arch, Small64Arch, ThunkBlock, ThunkBlockId, ThunkLayoutBuilder, total_primary_bytes,
 };

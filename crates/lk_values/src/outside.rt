@@ -17,10 +17,10 @@ ghost use Rattle.lk_values.specs.Outside.{symbol_outside, symbols_outside};
 ghost use Rattle.lk_values.specs.OutsideWords.{StopsAtFirst};
 
 use crate::resolution::flags_at;
-use lk_live::{InputAt, Live};
 use lk_link::marks::is_marked;
 use lk_link::relocation::resolution_flags;
 use lk_link::{FileId, FileRef, InputSection, InputSymbol, LinkInput, Relocation, SymbolId};
+use lk_live::{InputAt, Live};
 use lk_merge::{MergedStringsSection, refers_outside, refers_outside_in, stands_outside_in};
 use std::fmt;
 

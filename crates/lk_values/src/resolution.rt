@@ -27,12 +27,12 @@ use crate::entries::{NextEntries, take_entries};
 use crate::merged::{Merged, merged_value};
 use crate::symbol_resolutions::SymbolResolutions;
 use lk_edges::Edges;
-use lk_live::Live;
 use lk_link::marks::is_marked;
 use lk_link::{
     FileRef, InputSymbol, LinkInput, PartId, Platform, Resolution, SymbolId, SymbolPlacement,
     TableCursors, ValueFlags,
 };
+use lk_live::Live;
 use lk_relax::{RelaxDeltaMap, deleted_in, map_of, opt_input_to_output};
 use lk_sizes::CommonAddress;
 use lk_tables::DynamicNumbers;
