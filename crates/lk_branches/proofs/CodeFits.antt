@@ -20,14 +20,15 @@ use Rattle.lk_link.specs.WellFormed.{IsWellFormed}
 use Rattle.lk_link.proofs.Elements.{at_index}
 use Rattle.lk_link.proofs.GoodLinks.{part_alignment-pos}
 use Rattle.lk_link.proofs.Starts.{next_multiple_is_least}
-use Rattle.lk_gc.specs.declared.live.Live.{Live}
-use Rattle.lk_gc.specs.Reach.{live_inputs}
+use Rattle.lk_live.specs.declared.live.Live.{Live}
+use Rattle.lk_live.specs.Reach.{live_inputs}
 use Rattle.lk_reach.proofs.Numbered.{sections_of}
 use Rattle.lk_reach.specs.Units.{is_primary_section}
 use Rattle.lk_sizes.specs.Contents.{sum_refusal}
 use Rattle.lk_sizes.specs.Owners.{Content, EntryOwner, Filling, Taker, content_owners, leading_of, owner_bytes, own_sizes, owners_in, plain_filling, size_in, takers}
 use Rattle.lk_sizes.specs.PartOwners.{part_size, part_sizes, tables_of}
 use Rattle.lk_sizes.specs.Tables.{bytes_in, live_size, taker_by}
+use Rattle.lk_sizes.proofs.Placed.{size-le}
 use Rattle.lk_sizes.proofs.LiveByFiles.{is_live_input, live_by_files}
 use Rattle.lk_sizes.proofs.OwnSizes.{live_own_size}
 use Rattle.lk_sizes.proofs.SortedFits.{sizes_fit}
@@ -92,14 +93,6 @@ code_and_primary filling p named below =
 
 -- ---- what live sections take
 
--- a size is no more than what it takes in a part
-pub takes : (part : PlanPart) (size : ℕ) → 0 < part.alignment → size ≤ capacity part size
-takes part size h =
-    elim part.packed as (λ b. size ≤ (if b then size else next_multiple_of size part.alignment)) [
-      | true ↦ omega arith
-      | false ↦ (next_multiple_is_least part.alignment size h).reaches
-    ]
-
 abbrev own_taker : Input → Taker
 own_taker = taker_by (λ x. x.section.size)
 
@@ -131,7 +124,7 @@ module _ (link : LinkInput) (live : Live) (p : ℕ) (named : link.plan.named.pri
       by : (a b : Bool) → (a ≡ true → section.part ≡ p) → (if a && b then section.size else 0) ≤ bytes_in link p (own_taker x ∷ [])
       by true true goes =
           let here = goes refl in
-          omega (arith, bytes_in_here link p (own_taker x) here, takes (part_at link.plan.sections p) section.size aligned)
+          omega (arith, bytes_in_here link p (own_taker x) here, size-le (part_at link.plan.sections p) section.size)
       by true false goes = omega arith
       by false b goes = omega arith
 

@@ -11,7 +11,7 @@ use Rattle.lk_link.specs.PartRules.{is_part}
 use Rattle.lk_link.specs.Parts.{all_parts, part_sections}
 use Rattle.lk_link.specs.PlanSections.{is_set}
 use Rattle.lk_link.proofs.Numbers.{made_at}
-use Rattle.lk_gc.specs.declared.live.Live.{Live}
+use Rattle.lk_live.specs.declared.live.Live.{Live}
 use Rattle.lk_merge.proofs.MergeBytes.{part_goes}
 use Rattle.lk_sizes.specs.declared.owners.PartContents.{PartContents}
 use Rattle.lk_sizes.specs.Attributes.{all_section_attributes, section_attributes}

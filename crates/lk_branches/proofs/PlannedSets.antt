@@ -10,7 +10,7 @@ use Rattle.lk_link.specs.declared.link.LinkInput.{LinkInput}
 use Rattle.lk_link.specs.Symbols.{all_symbols}
 use Rattle.lk_link.specs.WellFormed.{IsWellFormed}
 use Rattle.lk_link.proofs.Elements.{append_at, map_at}
-use Rattle.lk_gc.specs.declared.live.Live.{Live}
+use Rattle.lk_live.specs.declared.live.Live.{Live}
 use Rattle.lk_reach.proofs.SymbolNumbers.{symbols_few}
 use Rattle.lk_reach.proofs.UnitLemmas.{symbols_length}
 use Rattle.lk_thunks.specs.declared.blocks.Block.{Block}

@@ -9,7 +9,7 @@ use Rattle.lk_link.specs.Files.{file_in}
 use Rattle.lk_link.specs.Inputs.{NumberedFile, numbered_files}
 use Rattle.lk_link.specs.Symbols.{file_number}
 use Rattle.lk_link.proofs.Elements.{at_index, map_in}
-use Rattle.lk_gc.specs.declared.live.Live.{Live}
+use Rattle.lk_live.specs.declared.live.Live.{Live}
 use Rattle.lk_reach.proofs.Numbered.{file_at}
 use Rattle.lk_reach.proofs.SymbolNumbers.{is_there}
 use Rattle.lk_sizes.proofs.LiveNumbers.{place_is_number}

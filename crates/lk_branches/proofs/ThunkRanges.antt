@@ -23,7 +23,7 @@ use Rattle.lk_branches.specs.BranchLaws.{ThunksHaveRanges}
 use Rattle.lk_branches.specs.Branches.{thunk_in}
 use Rattle.lk_branches.specs.Orders.{owning}
 use Rattle.lk_branches.specs.ThunkPlans.{config_for, owned_bytes, planned_sets, planned_users, thunk_owners, thunk_size, thunked}
-use Rattle.lk_branches.proofs.CodeFits.{takes}
+use Rattle.lk_sizes.proofs.Placed.{size-le}
 use Rattle.lk_branches.proofs.NextUsers.{finds_at, itself, other_number, same_file}
 use Rattle.lk_branches.proofs.PlanLemmas.{owners_are_good, planned_sets_rise}
 use Rattle.lk_branches.proofs.Spots.{one_of}
@@ -112,6 +112,6 @@ thunks_have_ranges thunks filling j k p id set good named at_user at_set =
       told = λ begin rank d at. ap (option_map (λ r. begin + r * size)) (rank_is set rank d rising at);
       inside = λ rank below.
           let turned : size * length set ≡ length set * size = omega arith in
-          omega (arith, more rank (length set) size below, turned, takes (part_at link.plan.sections p) (size * length set) aligned);
+          omega (arith, more rank (length set) size below, turned, size-le (part_at link.plan.sections p) (size * length set));
       apart = λ begin d e from behind lt first second. apart size begin set d e from behind rising lt first second;
     }

@@ -14,9 +14,9 @@ use Rattle.lk_link.specs.Marks.{is_marked}
 use Rattle.lk_link.specs.Parts.{part_at}
 use Rattle.lk_link.specs.Symbols.{first_symbol}
 use Rattle.lk_link.specs.WellFormed.{IsWellFormed}
-use Rattle.lk_gc.specs.declared.live.Live.{Live}
+use Rattle.lk_live.specs.declared.live.Live.{Live}
 use Rattle.lk_reach.specs.Units.{local_definition}
-use Rattle.lk_relaxing.specs.LinkDeletions.{output_offset}
+use Rattle.lk_relax.specs.LinkDeletions.{output_offset}
 use Rattle.lk_sizes.specs.Owners.{AreThunkOwners, Filling, ThunkOwner, owner_bytes}
 use Rattle.lk_sizes.specs.PartOwners.{owners_of, thunk_number}
 use Rattle.lk_thunks.specs.declared.arch.ThunkConfig.{ThunkConfig}

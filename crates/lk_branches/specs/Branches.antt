@@ -15,10 +15,10 @@ use Rattle.lk_link.specs.InputSlots.{is_regular}
 use Rattle.lk_link.specs.Inputs.{NumberedFile, input_number, numbered_files}
 use Rattle.lk_link.specs.Marks.{is_marked}
 use Rattle.lk_link.specs.Symbols.{first_symbol}
-use Rattle.lk_gc.specs.declared.live.Live.{Live}
+use Rattle.lk_live.specs.declared.live.Live.{Live}
 use Rattle.lk_reach.specs.Units.{is_primary_section, local_definition}
 use Rattle.lk_relax.specs.Deletions.{mapped_by}
-use Rattle.lk_relaxing.specs.LinkDeletions.{Deletions, deleted_of}
+use Rattle.lk_relax.specs.LinkDeletions.{Deletions, deleted_of}
 use Rattle.lk_thunks.specs.declared.arch.ThunkConfig.{ThunkConfig}
 use Rattle.lk_thunks.specs.Reach.{reaches}
 use Rattle.lk_values.specs.Resolutions.{resolution_at}

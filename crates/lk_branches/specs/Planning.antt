@@ -6,7 +6,7 @@ use Rattle.lk_link.specs.declared.plan.attributes.TheConstants.{EXEC}
 use Rattle.lk_link.specs.PartRules.{is_part}
 use Rattle.lk_link.specs.Parts.{part_sections}
 use Rattle.lk_link.specs.PlanSections.{is_set}
-use Rattle.lk_gc.specs.declared.live.Live.{Live}
+use Rattle.lk_live.specs.declared.live.Live.{Live}
 use Rattle.lk_sizes.specs.declared.owners.PartContents.{PartContents}
 use Rattle.lk_thunks.specs.declared.arch.ThunkConfig.{ThunkConfig}
 use Rattle.lk_thunks.specs.declared.arch.TheConstants.{MOST_THUNK}

@@ -10,7 +10,7 @@ use Rattle.lk_link.specs.declared.plan.attributes.TheConstants.{EXEC}
 use Rattle.lk_link.specs.PartRules.{is_part}
 use Rattle.lk_link.specs.Parts.{part_sections}
 use Rattle.lk_link.specs.PlanSections.{is_set}
-use Rattle.lk_gc.specs.declared.live.Live.{Live}
+use Rattle.lk_live.specs.declared.live.Live.{Live}
 use Rattle.lk_sizes.specs.Attributes.{section_attributes}
 use Rattle.lk_sizes.specs.Owners.{Filling, by_part, with_thunks}
 use Rattle.lk_sizes.specs.PartOwners.{part_size}

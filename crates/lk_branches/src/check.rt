@@ -19,16 +19,14 @@ ghost use Rattle.lk_branches.specs.BranchWords.{IsAtHand, SpotRises, block_next,
 ghost use Rattle.lk_branches.specs.Orders.{IsInOrder};
 
 use crate::thunk_plan::ThunkPlan;
-use lk_gc::{InputAt, Live};
+use lk_live::{InputAt, Live};
 use lk_link::marks::is_marked;
 use lk_link::{
     FileId, FileRef, InputSection, LinkInput, Relocation, Resolution, SymbolId, ValueFlags,
 };
 use lk_reach::local_definition;
 use lk_reach::reaching::is_primary_section;
-use lk_relax::{RelaxDeltaMap, SectionRelaxDeltas, opt_input_to_output};
-use lk_relaxing::deletions::map_of;
-use lk_relaxing::positions::deleted_in;
+use lk_relax::{RelaxDeltaMap, SectionRelaxDeltas, deleted_in, map_of, opt_input_to_output};
 use lk_thunks::{ThunkBlock, ThunkBlockId, ThunkConfig};
 use lk_values::SymbolResolutions;
 use std::fmt;

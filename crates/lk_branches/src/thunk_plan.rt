@@ -11,7 +11,7 @@ ghost use Rattle.lk_link.specs.Parts.{all_parts};
 ghost use Rattle.lk_link.specs.PlanSections.{is_set};
 ghost use Rattle.lk_link.specs.TableSizes.{TableSizes};
 ghost use Rattle.lk_link.specs.WellFormed.{IsWellFormed};
-ghost use Rattle.lk_gc.specs.Reach.{AreLive};
+ghost use Rattle.lk_live.specs.Reach.{AreLive};
 ghost use Rattle.lk_sizes.specs.Contents.{part_contents, sum_refusal};
 ghost use Rattle.lk_sizes.specs.Owners.{content_of, plain_filling};
 ghost use Rattle.lk_sizes.specs.Sizing.{AreFilled};
@@ -21,7 +21,7 @@ ghost use Rattle.lk_branches.specs.Orders.{IsInOrder};
 ghost use Rattle.lk_branches.specs.Planning.{IsPlannedFrom, ThunksAreSmall, has_code_by, other_code_by, set_bytes};
 ghost use Rattle.lk_branches.specs.ThunkPlans.{IsThunkPlan, code_before, owners_among};
 
-use lk_gc::Live;
+use lk_live::Live;
 use lk_link::part_sections::section_of_part;
 use lk_link::plan::attributes;
 use lk_link::{FileId, LinkInput, List, PartId};

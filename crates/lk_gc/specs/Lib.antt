@@ -1,12 +1,2 @@
-pub mod ByGroups
-pub mod FaultLaws
-pub mod Faults
-pub mod KeptParts
-pub mod Laws
-pub mod Primary
-pub mod PrimaryMarks
-pub mod Reach
-pub mod Slots
 pub mod StateTexts
 pub mod States
-pub mod Texts

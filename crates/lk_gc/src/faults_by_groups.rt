@@ -3,8 +3,8 @@
 ghost use Rattle.std.specs.Prelude.{◌≡◌, ◌<◌, IfOk, length};
 ghost use Rattle.std.specs.List.{flat_map};
 ghost use Rattle.lk_link.specs.WellFormed.{IsWellFormed};
-ghost use Rattle.lk_gc.specs.ByGroups.{group_faults};
-ghost use Rattle.lk_gc.specs.Faults.{faults_by, undefined_symbols};
+ghost use Rattle.lk_live.specs.ByGroups.{group_faults};
+ghost use Rattle.lk_live.specs.Faults.{faults_by, undefined_symbols};
 
 use crate::error::ReferenceFault;
 use crate::faults::{push_file_faults, undefined_symbols};

@@ -1,37 +1,22 @@
-//! The traversal of a link: on the caller's own thread, or by workers.
+//! The traversal of a link, on the caller's own thread or by workers.
 
-ghost use Rattle.std.specs.Prelude.{◌≡◌, ◌≤◌};
+ghost use Rattle.std.specs.Prelude.{◌≤◌};
 ghost use Rattle.lk_link.specs.WellFormed.{IsWellFormed};
-ghost use Rattle.lk_gc.specs.Faults.{faults_by};
-ghost use Rattle.lk_gc.specs.Reach.{GivesLive};
+ghost use Rattle.lk_live.specs.Reach.{GivesLive};
 ghost use Rattle.lk_reach.specs.Marks.{IsWalked};
 
-use crate::error::{GcError, ReferenceFault};
-use crate::faults::reference_faults;
 use crate::faults_by_groups::reference_faults_by_groups;
-use crate::keep::live_after;
-use crate::live::Live;
-use lk_link::{Gate, LinkInput, List};
+use lk_link::{Gate, LinkInput};
+use lk_live::traversal::live_unless;
+use lk_live::{GcError, Live, traverse_alone};
 use lk_reach::Walk;
 use lk_workers::walk_by_workers;
 use std::alloc::Global;
 use std::sync::Wait;
 use std::thread::Threads;
 
-/// What is live of a link, by what `file_roots` and `successors` tell, where no reference is at fault; else all that are, by
-/// file, section and relocation; unless memory runs out. Looks once at each unit that is reached and at each of its relocations,
-/// and takes a mark for each unit, a word for each symbol, and behind the walk a byte more for each symbol (libwild:
-/// `traverse_reference_graph`).
-pub fn traverse_alone(alloc: Global, link: &LinkInput) -> Result<Live, GcError>
-    requires { IsWellFormed link.now }
-    ensures { GivesLive link.now result }
-{
-    let walk = Walk::over(alloc, link)?;
-    live_of(alloc, link, &walk)
-}
-
-/// The same by workers, each on a thread of its own, for which the caller waits. A worker takes a group of files that can run and
-/// goes on with it until nothing is left to do there; what other groups have to do is left in their slots, and a group that was
+/// What is live of a link, as `traverse_alone` tells it, by workers, each on a thread of its own, for which the caller waits. A
+/// worker takes a group of files that can run and goes on with it until nothing is left to do there; what other groups have to do is left in their slots, and a group that was
 /// left something can run again. The gate is entered before each step. A worker that finds no memory gives up what it was about to
 /// do and goes on: then memory ran out. Behind them references at fault are looked for group by group, in two pieces for each
 /// processor, whatever the number of workers. Which thread did what, and in which order, shows nowhere in the answer. Takes a
@@ -57,17 +42,8 @@ pub fn traverse<R: Threads + Wait + Sync, G: Gate + Sync>(
     live_of_by_groups(rt, alloc, link, &walk)
 }
 
-/// What is live after a walk over all that is reached, where no reference is at fault; else all that are.
-fn live_of(alloc: Global, link: &LinkInput, walk: &Walk) -> Result<Live, GcError>
-    requires well_formed { IsWellFormed link.now }
-    requires walked { IsWalked link.now walk.now }
-    ensures { GivesLive link.now result }
-{
-    let faults = reference_faults(alloc, link, walk.marks.as_slice())?;
-    live_unless(alloc, link, walk, faults)
-}
-
-/// The same, where faults are looked for group by group.
+/// What is live after a walk over all that is reached, where no reference is at fault; else all that are, which are looked for
+/// group by group.
 fn live_of_by_groups<R: Threads + Sync>(
     rt: &R,
     alloc: Global,
@@ -80,22 +56,4 @@ fn live_of_by_groups<R: Threads + Sync>(
 {
     let faults = reference_faults_by_groups(rt, alloc, link, walk.marks.as_slice())?;
     live_unless(alloc, link, walk, faults)
-}
-
-/// What is live after that walk, unless something is at fault.
-fn live_unless(
-    alloc: Global,
-    link: &LinkInput,
-    walk: &Walk,
-    faults: Vec<ReferenceFault>,
-) -> Result<Live, GcError>
-    requires well_formed { IsWellFormed link.now }
-    requires walked { IsWalked link.now walk.now }
-    requires faults { faults.items ≡ faults_by link.now walk.now.marks.items }
-    ensures { GivesLive link.now result }
-{
-    if !faults.is_empty() {
-        return Err(GcError::References(List::from_vec(faults)));
-    }
-    Ok(live_after(alloc, link, walk)?)
 }

@@ -17,9 +17,9 @@ use Rattle.lk_layout.specs.Defined.{branch_refusal, made_standing, offsets_refus
 use Rattle.lk_layout.specs.Errors.{branch_error, fault_error, gc_error, offset_error, place_error, site_error}
 use Rattle.lk_values.specs.declared.outside.MergeOffsetPlace.{MergeOffsetPlace}
 use Rattle.lk_values.specs.Outside.{merge_offsets}
-use Rattle.lk_gc.specs.declared.error.GcError.{GcError}
-use Rattle.lk_gc.specs.declared.error.GcError.TheVariants as gc
-use Rattle.lk_gc.specs.Reach.{GivesLive}
+use Rattle.lk_live.specs.declared.error.GcError.{GcError}
+use Rattle.lk_live.specs.declared.error.GcError.TheVariants as gc
+use Rattle.lk_live.specs.Reach.{GivesLive}
 use Rattle.lk_merge.specs.Pieces.{MergeInput}
 use Rattle.lk_expressions.specs.Records.{Record}
 use Rattle.lk_place.specs.declared.segments.SegmentLayout.{SegmentLayout}
@@ -29,7 +29,7 @@ use Rattle.lk_place.specs.declared.error.PlaceError.{PlaceError}
 use Rattle.lk_place.specs.declared.error.PlaceError.TheVariants as place
 use Rattle.lk_place.specs.Segments.{Refuses, segments_refusal}
 use Rattle.lk_relaxing.specs.declared.sites.RelaxedPlace.{RelaxedPlace}
-use Rattle.lk_relaxing.specs.LinkDeletions.{Deletions}
+use Rattle.lk_relax.specs.LinkDeletions.{Deletions}
 use Rattle.lk_relaxing.specs.Sites.{past_limit}
 use Rattle.lk_sizes.specs.declared.sorted.InputSortedSection.{InputSortedSection}
 use Rattle.lk_sizes.specs.Emitted.{active_segments, is_emitted}

@@ -1,11 +1,11 @@
 -- What the branches of a link go by, once it is addressed.
 use Rattle.std.proofs.Common.{◌≡◌, ℕ, Bool, List, Option, map, sym, ap, ◌∙◌}
 use Rattle.lk_branches.specs.Branches.{Branching, block_places, branching}
-use Rattle.lk_gc.specs.declared.live.Live.{Live}
+use Rattle.lk_live.specs.declared.live.Live.{Live}
 use Rattle.lk_link.specs.declared.ids.FileId.{FileId}
 use Rattle.lk_link.specs.declared.link.LinkInput.{LinkInput}
 use Rattle.lk_link.specs.declared.resolution.Resolution.{Resolution}
-use Rattle.lk_relaxing.specs.LinkDeletions.{Deletions}
+use Rattle.lk_relax.specs.LinkDeletions.{Deletions}
 use Rattle.lk_sizes.specs.Addresses.{primary_address}
 use Rattle.lk_thunks.specs.declared.arch.ThunkConfig.{ThunkConfig}
 use Rattle.lk_layout.specs.declared.stages.AddressedLink.{AddressedLink}

@@ -24,7 +24,7 @@ use Rattle.lk_link.specs.Flags.{has_resolution}
 use Rattle.lk_link.proofs.Elements.{at_index, flat_map_at, map_at, map_in}
 use Rattle.lk_link.proofs.InputLemmas.{numbered_get}
 use Rattle.lk_link.proofs.SymbolLemmas.{symbols_follow}
-use Rattle.lk_gc.specs.Reach.{AreLive}
+use Rattle.lk_live.specs.Reach.{AreLive}
 use Rattle.lk_reach.specs.Units.{flags_from}
 use Rattle.lk_sizes.specs.Emitted.{told_marks}
 use Rattle.lk_tables.specs.Late.{late_flags}

@@ -7,7 +7,7 @@ use Rattle.lk_edges.specs.EdgeLaws.{OthersAreNoRedirects}
 use Rattle.lk_expressions.specs.declared.positions.SymbolPosition.{SymbolPosition}
 use Rattle.lk_expressions.specs.Records.{Record}
 use Rattle.lk_expressions.specs.Surroundings.{flat}
-use Rattle.lk_gc.specs.declared.live.Live.{Live}
+use Rattle.lk_live.specs.declared.live.Live.{Live}
 use Rattle.lk_link.specs.declared.file.FileKind.{FileKind}
 use Rattle.lk_link.specs.declared.file.FileKind.TheVariants as kind
 use Rattle.lk_link.specs.declared.file.InputFile.{InputFile}
@@ -43,7 +43,7 @@ use Rattle.lk_place.specs.PlacementLaws.{PartsTakeTheirBytes, RefusedExactlyPast
 use Rattle.lk_relax.specs.Candidates.{goes, is_gone, range_of, shrunk}
 use Rattle.lk_relax.specs.Deletions.{RiseWithin}
 use Rattle.lk_relax.proofs.CandidateLemmas.{gone_again}
-use Rattle.lk_relaxing.specs.LinkDeletions.{Deletions, output_offset}
+use Rattle.lk_relax.specs.LinkDeletions.{Deletions, output_offset}
 use Rattle.lk_relaxing.specs.Positions.{has_position, position_in, section_position, section_positions, symbol_position}
 use Rattle.lk_relaxing.specs.RelaxedLaws.{RelaxedIsShrunk}
 use Rattle.lk_relaxing.specs.Scan.{Standing, absolute_value, address_in, outcome_by, ranges_of, site, target, told}

@@ -20,7 +20,7 @@ use Rattle.lk_layout.specs.Made.{Made, made_filling}
 use Rattle.lk_layout.specs.Machines.{Machine}
 use Rattle.lk_link.specs.WellFormed.{IsWellFormed}
 use Rattle.lk_link.proofs.GoodSymbols.{symbol_of}
-use Rattle.lk_gc.specs.declared.live.Live.{Live}
+use Rattle.lk_live.specs.declared.live.Live.{Live}
 use Rattle.lk_expressions.specs.Records.{Record, nowhere, record_at}
 use Rattle.lk_sizes.specs.Owners.{CommonOwner, IsCommonIn, Owner, owner_address, Filling}
 use Rattle.lk_sizes.specs.PartOwners.{common_address, common_number, owners_of, part_size, part_sizes}
@@ -34,7 +34,7 @@ use Rattle.lk_values.specs.Resolutions.{Places, placed_value, resolution_at, res
 use Rattle.lk_layout.specs.Sound.{CommonsStand, part_record}
 use Rattle.lk_layout.proofs.LaidOut.{IsLaidOut, made_by}
 use Rattle.lk_layout.proofs.PartStarts.{part_starts}
-use Rattle.lk_values.proofs.Placing.{size-le}
+use Rattle.lk_sizes.proofs.Placed.{size-le}
 use Rattle.lk_layout.proofs.Settings.{part_size_at}
 use Rattle.lk_layout.proofs.Resolving.{ObjectsAreTold, made_at, made_entries, object_value}
 

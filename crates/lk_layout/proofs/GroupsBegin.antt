@@ -23,7 +23,7 @@ use Rattle.lk_link.specs.Parts.{part_at}
 use Rattle.lk_link.specs.Rules.{begins_with_prelude}
 use Rattle.lk_link.specs.TableSizes.{TableSizes}
 use Rattle.lk_link.specs.WellFormed.{IsWellFormed}
-use Rattle.lk_gc.specs.declared.live.Live.{Live}
+use Rattle.lk_live.specs.declared.live.Live.{Live}
 use Rattle.lk_reach.specs.Units.{numbered_symbols}
 use Rattle.lk_reach.proofs.Numbered.{file_at, file_place}
 use Rattle.lk_tables.specs.declared.shares.FileShare.{FileShare}

@@ -9,7 +9,7 @@ use Rattle.lk_link.specs.declared.section.InputSection.{InputSection}
 use Rattle.lk_layout.specs.Made.{made_filling}
 use Rattle.lk_layout.specs.Machines.{Machine}
 use Rattle.lk_link.specs.WellFormed.{IsWellFormed}
-use Rattle.lk_gc.specs.declared.live.Live.{Live}
+use Rattle.lk_live.specs.declared.live.Live.{Live}
 use Rattle.lk_link.specs.Parts.{part_sections}
 use Rattle.lk_link.proofs.PartNumbers.{first_part-le}
 use Rattle.lk_merge.specs.Addresses.{image_start}

@@ -2,7 +2,7 @@
 use Rattle.std.proofs.Common.{◌≡◌, ℕ, ◌+◌, true, if◌then◌else◌, Option, Some, None, ap, ◌∙◌}
 use Rattle.std.specs.Prelude.{option_map, pos, slice_get, unwrap_or}
 use Rattle.lk_edges.specs.EdgeLaws.{OthersAreNoRedirects}
-use Rattle.lk_gc.specs.Reach.{AreLive}
+use Rattle.lk_live.specs.Reach.{AreLive}
 use Rattle.lk_link.specs.declared.file.InputFile.{InputFile}
 use Rattle.lk_link.specs.declared.ids.FileId.{FileId}
 use Rattle.lk_link.specs.declared.section.InputSection.{InputSection}
@@ -13,7 +13,7 @@ use Rattle.lk_link.specs.Inputs.{Input, all_inputs, first_input, input_number}
 use Rattle.lk_link.specs.Symbols.{first_symbol}
 use Rattle.lk_link.proofs.InputLemmas.{inputs_follow}
 use Rattle.lk_merge.specs.OutputAddresses.{MergePlace, place_address, symbol_place}
-use Rattle.lk_relaxing.specs.LinkDeletions.{output_offset}
+use Rattle.lk_relax.specs.LinkDeletions.{output_offset}
 use Rattle.lk_sizes.specs.PartOwners.{live_address}
 use Rattle.lk_values.specs.Resolutions.{Places, found_or_0, images_at, placed_value}
 use Rattle.lk_values.specs.Starts.{starts_of}

@@ -1,7 +1,7 @@
 -- What is refused where parts pass 2^64 - 1 bytes, without thunks or with them.
 use Rattle.std.proofs.Common.{◌≡◌, None, Some, Err, Option, refl, sym, ap, ◌∙◌}
 use Rattle.std.specs.Prelude.{option_map}
-use Rattle.lk_gc.specs.declared.live.Live.{Live}
+use Rattle.lk_live.specs.declared.live.Live.{Live}
 use Rattle.lk_link.specs.declared.link.LinkInput.{LinkInput}
 use Rattle.lk_link.specs.Files.{first_some}
 use Rattle.lk_sizes.specs.declared.error.SizeError.{SizeError}

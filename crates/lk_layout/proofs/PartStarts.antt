@@ -21,7 +21,7 @@ use Rattle.lk_place.specs.Setting.{Setting, has_bytes, part_count, part_number, 
 use Rattle.lk_sizes.proofs.Tiling.{part_is_aligned}
 use Rattle.lk_link.proofs.Powers.{alignment_divides}
 use Rattle.lk_place.proofs.AlignmentLaws.{greatest_of-least, section_aligned}
-use Rattle.lk_gc.specs.declared.live.Live.{Live}
+use Rattle.lk_live.specs.declared.live.Live.{Live}
 use Rattle.lk_relaxing.specs.RelaxedLaws.{StandsFor}
 use Rattle.lk_relaxing.specs.Stages.{Stage, filling_after, refusal_of, setting_after}
 use Rattle.lk_layout.specs.Made.{relaxing_for}

@@ -7,7 +7,7 @@ use Rattle.lk_expressions.specs.Records.{Record}
 use Rattle.lk_link.specs.declared.link.LinkInput.{LinkInput}
 use Rattle.lk_place.specs.Segments.{section_records}
 use Rattle.lk_relaxing.specs.declared.sites.RelaxedPlace.{RelaxedPlace}
-use Rattle.lk_relaxing.specs.LinkDeletions.{Deletions}
+use Rattle.lk_relax.specs.LinkDeletions.{Deletions}
 use Rattle.lk_relaxing.specs.Positions.{section_positions, symbol_positions}
 use Rattle.lk_relaxing.specs.Scan.{Standing}
 use Rattle.lk_relaxing.specs.Sites.{past_limit}

@@ -1,7 +1,7 @@
 -- What a placement refuses is the answer: that of the first one, and that at the end of relaxation.
 use Rattle.std.proofs.Common.{◌≡◌, Bool, true, false, None, Result, Err, inl, refl, sym, ap, subst}
 use Rattle.std.specs.Prelude.{◌||◌, is_some, option_map}
-use Rattle.lk_gc.specs.declared.live.Live.{Live}
+use Rattle.lk_live.specs.declared.live.Live.{Live}
 use Rattle.lk_link.specs.declared.link.LinkInput.{LinkInput}
 use Rattle.lk_place.specs.declared.error.PlaceError.{PlaceError}
 use Rattle.lk_place.specs.declared.error.PlaceError.TheVariants as place

@@ -3,7 +3,7 @@ use Rattle.std.proofs.Common.{◌≡◌, None, Result, Ok, Err, ap}
 use Rattle.std.specs.Prelude.{option_map}
 use Rattle.lk_link.specs.declared.link.LinkInput.{LinkInput}
 use Rattle.lk_layout.specs.Machines.{Machine}
-use Rattle.lk_gc.specs.declared.live.Live.{Live}
+use Rattle.lk_live.specs.declared.live.Live.{Live}
 use Rattle.lk_sizes.specs.Contents.{size_refusal}
 use Rattle.lk_layout.specs.declared.error.LayoutError.{LayoutError}
 use Rattle.lk_values.specs.declared.images.Images.{Images}

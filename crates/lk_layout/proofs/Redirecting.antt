@@ -21,7 +21,7 @@ use Rattle.lk_place.specs.Regions.{GivesRegions, given_regions, regions_of}
 use Rattle.lk_place.specs.declared.cursors.Cursors.{Cursors}
 use Rattle.lk_place.specs.Segments.{section_records}
 use Rattle.lk_place.specs.Start.{cursors_at, memory_by}
-use Rattle.lk_relaxing.specs.LinkDeletions.{Deletions}
+use Rattle.lk_relax.specs.LinkDeletions.{Deletions}
 use Rattle.lk_relaxing.specs.Stages.{refusal_of, setting_after}
 use Rattle.lk_layout.specs.declared.error.LayoutError.{LayoutError}
 use Rattle.lk_layout.specs.declared.stages.SpannedLink.{SpannedLink}

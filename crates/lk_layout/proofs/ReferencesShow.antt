@@ -15,7 +15,7 @@ use Rattle.lk_link.specs.Symbols.{file_number, first_symbol}
 use Rattle.lk_layout.specs.Machines.{Machine}
 use Rattle.lk_link.proofs.Elements.{append_right, flat_map_in}
 use Rattle.lk_link.proofs.InputLemmas.{file_stands, numbered_get}
-use Rattle.lk_gc.specs.declared.live.Live.{Live}
+use Rattle.lk_live.specs.declared.live.Live.{Live}
 use Rattle.lk_reach.specs.Units.{local_definition}
 use Rattle.lk_merge.specs.declared.output_address.OffsetPastEnd.{OffsetPastEnd}
 use Rattle.lk_merge.specs.Addresses.{image_start}

@@ -27,14 +27,14 @@ use Rattle.lk_link.specs.WellFormed.{IsWellFormed}
 use Rattle.lk_link.proofs.Elements.{append_left, contains_at, flat_map_in}
 use Rattle.lk_link.proofs.InputLemmas.{file_stands, inputs_follow, numbered_get}
 use Rattle.lk_link.proofs.SymbolLemmas.{files_have_numbers, symbols_follow}
-use Rattle.lk_gc.specs.declared.error.ReferenceFault.{ReferenceFault}
-use Rattle.lk_gc.specs.declared.error.ReferenceFault.TheVariants.{Discarded}
+use Rattle.lk_live.specs.declared.error.ReferenceFault.{ReferenceFault}
+use Rattle.lk_live.specs.declared.error.ReferenceFault.TheVariants.{Discarded}
 use Rattle.lk_reach.specs.declared.units.Ask.{Ask}
 use Rattle.lk_reach.specs.declared.units.Ask.TheVariants.{Section}
 use Rattle.lk_reach.specs.declared.units.Unit.TheVariants.{Sym, Sec}
-use Rattle.lk_gc.specs.Faults.{dynamic_faults, file_faults, held_faults, marked_faults, reference_faults, relocation_faults, section_faults}
+use Rattle.lk_live.specs.Faults.{dynamic_faults, file_faults, held_faults, marked_faults, reference_faults, relocation_faults, section_faults}
 use Rattle.lk_reach.specs.Marks.{reached_marks, unit_number}
-use Rattle.lk_gc.specs.Reach.{IsLive}
+use Rattle.lk_live.specs.Reach.{IsLive}
 use Rattle.lk_reach.specs.Reach.{IsReached}
 use Rattle.lk_reach.specs.Units.{flags_from, follows, section_of}
 use Rattle.lk_reach.proofs.PlainAsks.{resolved_is_reached}

@@ -8,8 +8,8 @@ use Rattle.std.proofs.lemmas.List.Quantifiers.{position-Some}
 use Rattle.std.proofs.lemmas.List.Sums.{sum_by-cons}
 use Rattle.std.proofs.lemmas.Map.Steps.{le-length_from_below}
 use Rattle.std.proofs.lemmas.Option.{slice_get-get_or, slice_get_within}
-use Rattle.lk_gc.specs.Reach.{marked}
-use Rattle.lk_gc.specs.Slots.{is_singleton}
+use Rattle.lk_live.specs.Reach.{marked}
+use Rattle.lk_live.specs.Slots.{is_singleton}
 use Rattle.lk_link.specs.declared.link.LinkInput.{LinkInput}
 use Rattle.lk_link.specs.declared.plan.OrderEvent.{OrderEvent}
 use Rattle.lk_link.specs.declared.plan.OrderEvent.TheVariants.{Section, SegmentEnd, SegmentStart, SetLocation, SetLocationRelative, SetSectionAddress}

@@ -1,6 +1,6 @@
 -- The sorted sections are told in the order in which they stand.
 use Rattle.std.proofs.Common.{refl}
-use Rattle.lk_gc.specs.Reach.{live_inputs}
+use Rattle.lk_live.specs.Reach.{live_inputs}
 use Rattle.lk_link.proofs.Elements.{contains_at}
 use Rattle.lk_sizes.specs.PartOwners.{LiveSectionsAreOwners}
 use Rattle.lk_sizes.specs.Sorted.{sorted_inputs}

@@ -8,8 +8,8 @@ use Rattle.std.proofs.Math.Nat.{dvd-add}
 use Rattle.std.proofs.lemmas.Bool.{cases_lt}
 use Rattle.std.proofs.lemmas.Bool.Decides.{eqb_tells}
 use Rattle.lk_check.specs.FirstFault.{WellFormedExactlyUnfaulted}
-use Rattle.lk_gc.specs.declared.live.Live.{Live}
-use Rattle.lk_gc.specs.Reach.{AreLive, live_inputs}
+use Rattle.lk_live.specs.declared.live.Live.{Live}
+use Rattle.lk_live.specs.Reach.{AreLive, live_inputs}
 use Rattle.lk_link.specs.declared.link.LinkInput.{LinkInput}
 use Rattle.lk_link.specs.declared.plan.PlanPart.{PlanPart}
 use Rattle.lk_link.specs.Inputs.{Input}
@@ -64,7 +64,8 @@ use Rattle.lk_layout.proofs.ReferencesShow.{references_show}
 use Rattle.lk_layout.proofs.OnlyScanned.{only_scanned_lose}
 use Rattle.lk_layout.proofs.ToldSizes.{told_live_are}
 use Rattle.lk_link.proofs.GoodPartFields.{good_part_fields}
-use Rattle.lk_values.proofs.Placing.{size-le, starts_count}
+use Rattle.lk_sizes.proofs.Placed.{size-le}
+use Rattle.lk_values.proofs.Placing.{starts_count}
 use Rattle.lk_layout.proofs.Resolved.{resolved_sections_are_live}
 use Rattle.lk_layout.proofs.Resolving.{objects_told}
 use Rattle.lk_layout.proofs.Settings.{part_size_at, ready, takes}

@@ -7,7 +7,7 @@ use Rattle.std.proofs.lemmas.Option.{get_or_from_slice_get, slice_get_within}
 use Rattle.lk_link.specs.declared.link.LinkInput.{LinkInput}
 use Rattle.lk_link.specs.PartRules.{is_part, is_table_part, table_parts}
 use Rattle.lk_link.specs.WellFormed.{IsWellFormed}
-use Rattle.lk_gc.specs.Reach.{AreLive}
+use Rattle.lk_live.specs.Reach.{AreLive}
 use Rattle.lk_sizes.proofs.TableParts.{table_parts_have_entries_alone}
 use Rattle.lk_sizes.specs.Owners.{Filling}
 use Rattle.lk_layout.specs.Sound.{TablesStandAlone}

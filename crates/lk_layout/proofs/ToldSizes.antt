@@ -4,8 +4,8 @@ use Rattle.std.specs.List.{enumerate_from, slice_get, slice_index, slice_index_o
 use Rattle.std.proofs.lemmas.Option.{get_or_from_slice_get}
 use Rattle.lk_link.specs.Inputs.{Input, all_inputs}
 use Rattle.lk_link.proofs.Elements.{map_in}
-use Rattle.lk_gc.specs.Reach.{marked}
-use Rattle.lk_relaxing.specs.LinkDeletions.{size_after, sizes_after}
+use Rattle.lk_live.specs.Reach.{marked}
+use Rattle.lk_relax.specs.LinkDeletions.{size_after, sizes_after}
 use Rattle.lk_sizes.specs.declared.addresses.LiveSection.{LiveSection}
 use Rattle.lk_sizes.specs.Addresses.{live_section, live_sections, section_addresses}
 use Rattle.lk_sizes.specs.Owners.{Filling, size_of}

@@ -7,12 +7,12 @@ use Rattle.lk_link.specs.Symbols.{first_symbol}
 use Rattle.lk_link.specs.declared.resolution.Resolution.{Resolution}
 use Rattle.lk_link.proofs.Elements.{map_in}
 use Rattle.lk_link.proofs.InputLemmas.{inputs_follow}
-use Rattle.lk_gc.specs.Reach.{live_inputs}
+use Rattle.lk_live.specs.Reach.{live_inputs}
 use Rattle.lk_sizes.specs.declared.addresses.LiveSection.{LiveSection}
 use Rattle.lk_sizes.specs.Addresses.{live_section, live_sections}
 use Rattle.lk_sizes.specs.Owners.{Filling}
 use Rattle.lk_sizes.specs.PartOwners.{live_address}
-use Rattle.lk_relaxing.specs.LinkDeletions.{Deletions, output_offset}
+use Rattle.lk_relax.specs.LinkDeletions.{Deletions, output_offset}
 use Rattle.lk_layout.specs.LayoutRecord.{LayoutRecord}
 use Rattle.lk_layout.specs.Layouts.{told_live}
 use Rattle.lk_layout.specs.Made.{Made, made_deletions, made_filling}

@@ -6,7 +6,7 @@ use Rattle.lk_link.specs.declared.link.LinkInput.{LinkInput}
 use Rattle.lk_merge.specs.Addresses.{start_addresses}
 use Rattle.lk_merge.specs.Hash.{fnv64}
 use Rattle.lk_merge.specs.LinkInputs.{link_inputs}
-use Rattle.lk_relaxing.specs.LinkDeletions.{Deletions}
+use Rattle.lk_relax.specs.LinkDeletions.{Deletions}
 use Rattle.lk_sizes.specs.Addresses.{block_addresses, section_addresses}
 use Rattle.lk_sizes.specs.Images.{image_addresses}
 use Rattle.lk_values.specs.declared.addresses.Addresses.{Addresses}

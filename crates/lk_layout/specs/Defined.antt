@@ -5,10 +5,10 @@ use Rattle.lk_layout.specs.Machines.{Machine}
 use Rattle.lk_branches.specs.Branches.{unreached}
 use Rattle.lk_branches.specs.ThunkPlans.{config_for, thunk_size}
 use Rattle.lk_check.specs.FirstFault.{first_fault}
-use Rattle.lk_gc.specs.declared.error.ReferenceFault.{ReferenceFault}
-use Rattle.lk_gc.specs.declared.live.Live.{Live}
-use Rattle.lk_gc.specs.Faults.{reference_faults}
-use Rattle.lk_gc.specs.Reach.{AreLive}
+use Rattle.lk_live.specs.declared.error.ReferenceFault.{ReferenceFault}
+use Rattle.lk_live.specs.declared.live.Live.{Live}
+use Rattle.lk_live.specs.Faults.{reference_faults}
+use Rattle.lk_live.specs.Reach.{AreLive}
 use Rattle.lk_merge.specs.Addresses.{start_addresses}
 use Rattle.lk_merge.specs.Hash.{fnv64}
 use Rattle.lk_merge.specs.LinkInputs.{link_inputs}

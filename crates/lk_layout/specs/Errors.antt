@@ -1,7 +1,7 @@
 -- What a layout answers for the errors of its steps.
 use Rattle.lk_branches.specs.declared.check.BranchPlace.{BranchPlace}
-use Rattle.lk_gc.specs.declared.error.GcError.{GcError}
-use Rattle.lk_gc.specs.declared.error.GcError.TheVariants as gc
+use Rattle.lk_live.specs.declared.error.GcError.{GcError}
+use Rattle.lk_live.specs.declared.error.GcError.TheVariants as gc
 use Rattle.lk_link.specs.declared.fault.LinkFault.{LinkFault}
 use Rattle.lk_link.specs.declared.fault.LinkFault.TheVariants as fault
 use Rattle.lk_merge.specs.declared.error.MergeError.{MergeError}

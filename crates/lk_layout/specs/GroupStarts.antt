@@ -6,7 +6,7 @@ use Rattle.lk_link.specs.declared.file.InputFile.{InputFile}
 use Rattle.lk_link.specs.declared.link.LinkInput.{LinkInput}
 use Rattle.lk_link.specs.OutputKinds.{is_loaded_dynamically}
 use Rattle.lk_link.specs.TableSizes.{TableSizes}
-use Rattle.lk_gc.specs.declared.live.Live.{Live}
+use Rattle.lk_live.specs.declared.live.Live.{Live}
 use Rattle.lk_tables.specs.declared.shares.FileShare.{FileShare}
 use Rattle.lk_tables.specs.ShareWords.{first_shares, prelude_share}
 use Rattle.lk_layout.specs.declared.group_starts.GroupStarts.{GroupStarts}

@@ -2,7 +2,7 @@
 use Rattle.std.specs.Prelude.{ℕ, ◌+◌}
 use Rattle.lk_link.specs.declared.link.LinkInput.{LinkInput}
 use Rattle.lk_layout.specs.Machines.{Machine}
-use Rattle.lk_gc.specs.declared.live.Live.{Live}
+use Rattle.lk_live.specs.declared.live.Live.{Live}
 use Rattle.lk_tables.specs.declared.headers.HeaderSizes.{HeaderSizes}
 use Rattle.lk_sizes.specs.Header.{header_info}
 use Rattle.lk_tables.specs.HeaderParts.{header_sizes}

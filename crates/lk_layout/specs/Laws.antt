@@ -2,9 +2,9 @@
 use Rattle.std.specs.Prelude.{◌≡◌, [], Result, Ok}
 use Rattle.lk_link.specs.declared.link.LinkInput.{LinkInput}
 use Rattle.lk_link.specs.WellFormed.{IsWellFormed}
-use Rattle.lk_gc.specs.declared.live.Live.{Live}
-use Rattle.lk_gc.specs.Faults.{reference_faults}
-use Rattle.lk_gc.specs.Reach.{AreLive}
+use Rattle.lk_live.specs.declared.live.Live.{Live}
+use Rattle.lk_live.specs.Faults.{reference_faults}
+use Rattle.lk_live.specs.Reach.{AreLive}
 use Rattle.lk_place.specs.Plans.{IsUnmoved}
 use Rattle.lk_place.specs.Ranges.{MemoryIsDisjoint}
 use Rattle.lk_relaxing.specs.Stages.{Stage}

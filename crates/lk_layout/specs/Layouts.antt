@@ -1,13 +1,13 @@
 -- What a layout answers.
 use Rattle.std.specs.Prelude.{ℕ, ◌+◌, ◌*◌, ◌&&◌, Bool, List, None, Option, Result, filter, is_some, length, map, option_and_then, slice_index, sum_by}
 use Rattle.std.specs.List.{count_by, enumerate_from, slice_index_or}
-use Rattle.lk_gc.specs.Slots.{is_singleton}
+use Rattle.lk_live.specs.Slots.{is_singleton}
 use Rattle.lk_link.specs.declared.link.LinkInput.{LinkInput}
 use Rattle.lk_link.specs.Inputs.{Input, all_inputs}
 use Rattle.lk_link.specs.Marks.{is_marked}
 use Rattle.lk_sizes.specs.declared.addresses.LiveSection.{LiveSection}
-use Rattle.lk_gc.specs.Reach.{marked}
-use Rattle.lk_relaxing.specs.LinkDeletions.{size_after}
+use Rattle.lk_live.specs.Reach.{marked}
+use Rattle.lk_relax.specs.LinkDeletions.{size_after}
 use Rattle.lk_relaxing.specs.Scan.{as_address}
 use Rattle.lk_layout.specs.LayoutRecord.{LayoutRecord}
 use Rattle.lk_values.specs.declared.resolution.EntryFault.{EntryFault}

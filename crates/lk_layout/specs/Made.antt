@@ -1,11 +1,11 @@
 -- What a layout is made of: all else of it is a function of this.
 use Rattle.std.specs.Prelude.{ℕ, List}
-use Rattle.lk_gc.specs.declared.live.Live.{Live}
+use Rattle.lk_live.specs.declared.live.Live.{Live}
 use Rattle.lk_link.specs.declared.ids.FileId.{FileId}
 use Rattle.lk_link.specs.declared.link.LinkInput.{LinkInput}
 use Rattle.lk_sizes.specs.Owners.{Content, Filling}
 use Rattle.lk_branches.specs.ThunkPlans.{thunk_owners}
-use Rattle.lk_relaxing.specs.LinkDeletions.{Deletions}
+use Rattle.lk_relax.specs.LinkDeletions.{Deletions}
 use Rattle.lk_relaxing.specs.Stages.{Relaxing, Stage, filling_after}
 use Rattle.lk_layout.specs.Headers.{header_bytes}
 use Rattle.lk_layout.specs.Machines.{Machine}

@@ -4,7 +4,7 @@ use Rattle.lk_link.specs.declared.link.LinkInput.{LinkInput}
 use Rattle.lk_link.specs.declared.section.InputSection.{InputSection}
 use Rattle.lk_link.specs.declared.section.SectionSlot.{SectionSlot}
 use Rattle.lk_link.specs.Marks.{is_marked}
-use Rattle.lk_gc.specs.Slots.{sized_slot}
+use Rattle.lk_live.specs.Slots.{sized_slot}
 use Rattle.lk_relax.specs.DeltaMaps.{deltas_at}
 use Rattle.lk_relax.specs.Deletions.{mapped_by}
 

@@ -29,9 +29,9 @@ use Rattle.lk_link.specs.Relocations.{resolution_flags}
 use Rattle.lk_link.specs.Symbols.{definition_of, first_symbol, is_wanted}
 use Rattle.lk_edges.specs.Edges.{Edges, edge_value, edges_of}
 use Rattle.lk_edges.specs.Redirects.{AllPlaced, RedirectsHold, is_redirect}
-use Rattle.lk_gc.specs.declared.live.Live.{Live}
-use Rattle.lk_gc.specs.Faults.{reference_faults}
-use Rattle.lk_gc.specs.Reach.{AreLive, live_inputs}
+use Rattle.lk_live.specs.declared.live.Live.{Live}
+use Rattle.lk_live.specs.Faults.{reference_faults}
+use Rattle.lk_live.specs.Reach.{AreLive, live_inputs}
 use Rattle.lk_reach.specs.Units.{local_definition, section_of}
 use Rattle.lk_merge.specs.Addresses.{AreStartsOf, image_start}
 use Rattle.lk_merge.specs.Hash.{fnv64}
@@ -43,7 +43,7 @@ use Rattle.lk_place.specs.Plain.{IsPlain, PlacesInLoad}
 use Rattle.lk_place.specs.Ranges.{FileIsDisjoint, HasPart, MemoryIsDisjoint, TakesMemory}
 use Rattle.lk_expressions.specs.Records.{Record, record_at}
 use Rattle.lk_relax.specs.Candidates.{AreOf, is_gone}
-use Rattle.lk_relaxing.specs.LinkDeletions.{output_offset}
+use Rattle.lk_relax.specs.LinkDeletions.{output_offset}
 use Rattle.lk_relaxing.specs.Positions.{has_position}
 use Rattle.lk_relaxing.specs.Scan.{ranges_of}
 use Rattle.lk_relaxing.specs.Stages.{IsRelaxed, refusal_of}

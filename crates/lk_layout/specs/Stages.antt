@@ -4,10 +4,10 @@ use Rattle.lk_branches.specs.Branches.{unreached}
 use Rattle.lk_branches.specs.Orders.{IsInOrder}
 use Rattle.lk_branches.specs.ThunkPlans.{IsThunkPlan}
 use Rattle.lk_check.specs.FirstFault.{first_fault}
-use Rattle.lk_gc.specs.Faults.{reference_faults}
-use Rattle.lk_gc.specs.Reach.{AreLive}
+use Rattle.lk_live.specs.Faults.{reference_faults}
+use Rattle.lk_live.specs.Reach.{AreLive}
 use Rattle.lk_link.specs.declared.link.LinkInput.{LinkInput}
-use Rattle.lk_gc.specs.declared.live.Live.{Live}
+use Rattle.lk_live.specs.declared.live.Live.{Live}
 use Rattle.lk_place.specs.declared.walk.Placed.{Placed}
 use Rattle.lk_link.specs.Marks.{is_marked}
 use Rattle.lk_layout.specs.Machines.{Machine}

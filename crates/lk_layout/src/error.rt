@@ -9,7 +9,7 @@ ghost use Rattle.lk_layout.specs.Texts.{reach_text, references_text, undeclared_
 
 use crate::references::FurtherLines;
 use lk_branches::BranchPlace;
-use lk_gc::{GcError, InputAt, ReferenceFault};
+use lk_live::{GcError, InputAt, ReferenceFault};
 use lk_link::fault::{Limited, LinkFault, Place, Rule};
 use lk_link::ids::{FileId, OutputSectionId, RegionId};
 use lk_link::list::List;

@@ -3,7 +3,7 @@
 ghost use Rattle.std.specs.Prelude.{◌≡◌, IfOk, Ok, length};
 ghost use Rattle.lk_link.specs.Marks.{is_marked};
 ghost use Rattle.lk_link.specs.Parts.{all_parts};
-ghost use Rattle.lk_relaxing.specs.LinkDeletions.{sizes_after};
+ghost use Rattle.lk_relax.specs.LinkDeletions.{sizes_after};
 ghost use Rattle.lk_sizes.specs.Emitted.{is_emitted};
 ghost use Rattle.lk_sizes.specs.Owners.{Filling};
 ghost use Rattle.lk_sizes.specs.Sizing.{GivesOwners};

@@ -5,7 +5,7 @@ ghost use Rattle.lk_link.specs.WellFormed.{IsWellFormed};
 ghost use Rattle.lk_tables.specs.ShareWords.{first_shares};
 ghost use Rattle.lk_layout.specs.GroupStarts.{byte_starts, capped, entries_in, first_bytes, group_starts, part_for, starts_by, starts_in, taken_in};
 
-use lk_gc::Live;
+use lk_live::Live;
 use lk_link::{InputFile, LinkInput, List, PartId, Platform};
 use lk_tables::{FileShare, mark_prelude};
 use std::alloc::{AllocError, Global};

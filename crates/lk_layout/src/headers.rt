@@ -1,7 +1,7 @@
 //! The bytes of the headers that stand in front of what is loaded.
 
 ghost use Rattle.std.specs.Prelude.{◌≡◌, ◌≤◌, length};
-ghost use Rattle.lk_gc.specs.declared.live.Live.{Live};
+ghost use Rattle.lk_live.specs.declared.live.Live.{Live};
 ghost use Rattle.lk_tables.specs.HeaderParts.{header_sizes};
 ghost use Rattle.lk_layout.specs.Headers.{leading_bytes};
 

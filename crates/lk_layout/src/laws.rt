@@ -8,7 +8,7 @@ ghost use Rattle.lk_layout.specs.ToldMemory.{MemoryStays};
 use lk_branches::laws::{branches_reach, thunks_have_ranges};
 use lk_check::well_formed_exactly_unfaulted;
 use lk_edges::laws::others_are_no_redirects;
-use lk_gc::{live_exists, live_is_one};
+use lk_live::{live_exists, live_is_one};
 use lk_place::laws::{
     file_ranges_are_disjoint, memory_ranges_are_disjoint, parts_take_their_bytes,
     plain_memory_is_congruent, plain_memory_is_disjoint, records_keep_alignments,

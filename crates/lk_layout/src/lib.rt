@@ -32,7 +32,7 @@ pub use crate::group_layouts::{GroupLayout, GroupLayouts};
 pub use crate::in_range::ResolutionsInRange;
 pub use crate::layout::Layout;
 pub use crate::section_resolution::SectionResolution;
-pub use lk_gc::ReferenceFault;
+pub use lk_live::ReferenceFault;
 pub use lk_link::Resolution;
 pub use lk_merge::{MergedStringStartAddresses, MergedStringsSection};
 pub use lk_sizes::LiveSection;

@@ -1,6 +1,6 @@
 //! References that can't be met, as lines.
 
-use lk_gc::ReferenceFault;
+use lk_live::ReferenceFault;
 use std::fmt;
 
 /// References that can't be met, behind the first of them.

@@ -3,7 +3,7 @@
 ghost use Rattle.std.specs.Prelude.{◌≡◌};
 ghost use Rattle.lk_layout.specs.SectionSlots.{slot_left};
 
-use lk_gc::slot_after;
+use lk_live::slot_after;
 use lk_link::marks::is_marked;
 use lk_link::{InputSection, LinkInput, SectionSlot};
 use lk_relax::{RelaxDeltaMap, opt_input_to_output};

@@ -12,7 +12,7 @@ use crate::late_marks::with_late_marks;
 use crate::layout::Layout;
 use crate::thunk_users::ThunkUsers;
 use lk_branches::ThunkPlan;
-use lk_gc::Live;
+use lk_live::Live;
 use lk_link::ids::FileId;
 use lk_link::link::LinkInput;
 use lk_link::list::List;

@@ -1,7 +1,7 @@
--- Relocations and candidates of a well-formed link: lemmas for its laws.
-use Rattle.std.specs.Prelude.{◌≡◌, ℕ, ◌<◌, ◌||◌, not, Bool, true, false, Option, Some, None, is_some, length, nat_lt, slice_get, refl}
+-- Relocations, candidates and data of a well-formed link: lemmas for its laws.
+use Rattle.std.specs.Prelude.{◌≡◌, ℕ, ◌<◌, ◌==◌, ◌||◌, not, Bool, true, false, Option, Some, None, is_some, length, nat_lt, slice_get, refl}
 use Rattle.std.specs.Option.{option_map_or}
-use Rattle.std.proofs.lemmas.Bool.{and_parts, ltb-true}
+use Rattle.std.proofs.lemmas.Bool.{and_parts, eqb-true, ltb-true}
 use Rattle.lk_link.specs.declared.file.Candidate.{Candidate}
 use Rattle.lk_link.specs.declared.file.InputFile.{InputFile}
 use Rattle.lk_link.specs.declared.ids.FileId.{FileId}
@@ -11,8 +11,10 @@ use Rattle.lk_link.specs.declared.relocation.Relocation.{Relocation}
 use Rattle.lk_link.specs.declared.relocation.RelocationKind.{RelocationKind}
 use Rattle.lk_link.specs.declared.section.InputSection.{InputSection}
 use Rattle.lk_link.specs.CandidateRules.{is_section_of_object, is_good_candidate, has_good_candidates, IsGoodCandidate}
+use Rattle.lk_link.specs.DataRules.{has_whole_data, has_file_data}
 use Rattle.lk_link.specs.FileKinds.{is_object}
 use Rattle.lk_link.specs.Files.{file_in}
+use Rattle.lk_link.specs.InputSlots.{is_merge}
 use Rattle.lk_link.specs.Relocations.{wants_got, wants_plt}
 use Rattle.lk_link.specs.TableRules.{has_tables_for, has_tables, has_file_tables, HasTablesFor}
 use Rattle.lk_link.specs.WellFormed.{IsWellFormed}
@@ -63,3 +65,16 @@ good_candidate link c h =
 pub candidate_of : (link : LinkInput) (id : FileId) (k : ℕ) (file : InputFile) (c : Candidate) → IsWellFormed link → file_in link.groups id ≡ Some file → slice_get file.candidates k ≡ Some c → IsGoodCandidate link c
 candidate_of link id k file c h at_id at_k =
     good_candidate link c (all_at (is_good_candidate link) file.candidates k c (file_passes (has_good_candidates link) link.groups id file h.candidates at_id) at_k)
+
+-- ---- data
+
+last_of : (given merged same : Bool) → (not given || merged || same) ≡ true → merged ≡ false → given ≡ true → same ≡ true
+last_of true false same h plain is = h
+last_of true true same h plain is = absurd (cc)
+last_of false merged same h plain is = absurd (cc)
+
+pub given_whole : (link : LinkInput) (id : FileId) (i : ℕ) (file : InputFile) (section : InputSection) → IsWellFormed link → file_in link.groups id ≡ Some file → slice_get file.sections i ≡ Some section → is_merge section.slot ≡ false → section.given ≡ true → length section.bytes ≡ section.size
+given_whole link id i file section h at_id at_i plain is =
+    let here = file_passes has_file_data link.groups id file h.given at_id in
+    let whole = all_at has_whole_data file.sections i section here at_i in
+    eqb-true (length section.bytes) section.size (last_of section.given (is_merge section.slot) (length section.bytes == section.size) whole plain is)

@@ -10,7 +10,7 @@ use Rattle.lk_link.specs.declared.section.InputSection.{InputSection}
 use Rattle.lk_link.specs.CandidateRules.{IsGoodCandidate}
 use Rattle.lk_link.specs.Files.{file_in}
 use Rattle.lk_link.specs.InputRules.{goes_to_part, IsGoodInput}
-use Rattle.lk_link.specs.InputSlots.{is_discarded}
+use Rattle.lk_link.specs.InputSlots.{is_discarded, is_merge}
 use Rattle.lk_link.specs.Parts.{all_parts}
 use Rattle.lk_link.specs.TableRules.{HasTablesFor}
 use Rattle.lk_link.specs.WellFormed.{IsWellFormed}
@@ -43,3 +43,9 @@ TablesAreThere = (link : LinkInput) (id : FileId) (i k : ℕ) (file : InputFile)
 abbrev pub CandidatesAreGood : Type 0
 CandidatesAreGood = (link : LinkInput) (id : FileId) (k : ℕ) (file : InputFile) (c : Candidate) → IsWellFormed link
     → file_in link.groups id ≡ Some file → slice_get file.candidates k ≡ Some c → IsGoodCandidate link c
+
+-- the data that are given for an input section of a well-formed link that isn't merged are as many bytes as its size
+abbrev pub DataAreWhole : Type 0
+DataAreWhole = (link : LinkInput) (id : FileId) (i : ℕ) (file : InputFile) (section : InputSection) → IsWellFormed link
+    → file_in link.groups id ≡ Some file → slice_get file.sections i ≡ Some section → is_merge section.slot ≡ false → section.given ≡ true
+    → length section.bytes ≡ section.size

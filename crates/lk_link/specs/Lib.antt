@@ -1,6 +1,7 @@
 pub mod Alignments
 pub mod CandidateIndex
 pub mod CandidateRules
+pub mod DataRules
 pub mod EmitKinds
 pub mod Ends
 pub mod Entries

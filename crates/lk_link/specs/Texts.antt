@@ -48,6 +48,7 @@ rule_number rule.Symbols = 10
 rule_number rule.InputSections = 11
 rule_number rule.Tables = 12
 rule_number rule.Candidates = 13
+rule_number rule.Data = 14
 
 -- a place
 abbrev pub place_text : Place → List ℕ

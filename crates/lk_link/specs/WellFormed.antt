@@ -10,6 +10,7 @@ use Rattle.lk_link.specs.declared.plan.OrderEvent.{OrderEvent}
 use Rattle.lk_link.specs.declared.plan.OrderEvent.TheVariants.{SegmentStart, SegmentEnd, Section, SetLocation, SetLocationRelative, SetSectionAddress}
 use Rattle.lk_link.specs.Alignments.{is_alignment}
 use Rattle.lk_link.specs.CandidateRules.{has_good_candidates}
+use Rattle.lk_link.specs.DataRules.{has_file_data}
 use Rattle.lk_link.specs.ExpressionRules.{HasGoodExpressions}
 use Rattle.lk_link.specs.FileKinds.{is_prelude}
 use Rattle.lk_link.specs.Files.{file_in}
@@ -70,3 +71,4 @@ pub record IsWellFormed (link : LinkInput) : Type 0 where
   pub inputs : list_all (λ files. list_all (has_good_inputs link.plan) files) link.groups ≡ true
   pub tables : list_all (λ files. list_all (has_file_tables link.plan.named) files) link.groups ≡ true
   pub candidates : list_all (λ files. list_all (has_good_candidates link) files) link.groups ≡ true
+  pub given : list_all (λ files. list_all has_file_data files) link.groups ≡ true

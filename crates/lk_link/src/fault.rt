@@ -66,6 +66,8 @@ pub enum Rule {
     Tables,
     /// A candidate's output section is there, and it is a section of an object.
     Candidates,
+    /// Data that are given for an input section that isn't merged are as many bytes as its size says.
+    Data,
 }
 
 /// A place of the description.
@@ -156,6 +158,7 @@ impl Rule {
             Rule::InputSections => 11,
             Rule::Tables => 12,
             Rule::Candidates => 13,
+            Rule::Data => 14,
         }
     }
 }

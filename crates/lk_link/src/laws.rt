@@ -3,7 +3,7 @@
 ghost use Rattle.std.specs.Prelude.{◌≡◌};
 ghost use Rattle.std.specs.Ordering.{nat_cmp};
 ghost use Rattle.lk_link.specs.Files.{file_cmp};
-ghost use Rattle.lk_link.specs.InputLaws.{CandidatesAreGood, InputsAreGood, InputsGoToParts, InputListsAreFew, TablesAreThere};
+ghost use Rattle.lk_link.specs.InputLaws.{CandidatesAreGood, DataAreWhole, InputsAreGood, InputsGoToParts, InputListsAreFew, TablesAreThere};
 ghost use Rattle.lk_link.specs.Laws.{ExpressionsAreGood, OptionsAreGood, PartFieldsAreGood, PartsAreAligned, SectionsAreGood, PrimariesAreOthers, SingletonsAreGood, EventsStandOnce, ListsAreFew};
 ghost use Rattle.lk_link.specs.SymbolLaws.{SymbolsAreGood, NumberedSymbolsAreGood, DefinitionsStandForThemselves};
 
@@ -140,6 +140,11 @@ pub fn tables_are_there()
 /// A law: a candidate of a well-formed link is a section of an object, for an output section that is there.
 pub fn candidates_are_good()
     ensures { CandidatesAreGood }
+{}
+
+/// A law: data that are given for an input section of a well-formed link that isn't merged are as many bytes as its size.
+pub fn data_are_whole()
+    ensures { DataAreWhole }
 {}
 
 /// A law: the lists of a well-formed link are within the limits.

@@ -82,8 +82,10 @@ pub struct InputSection {
     pub part: PartId,
     /// Bytes; of a merge section, how many it holds.
     pub size: u64,
-    /// What a merge section holds; empty for others.
+    /// Its data, empty where none are given; in a checked link those of a section that isn't merged are `size` bytes.
     pub bytes: List<u8>,
+    /// Whether data are given, empty ones too.
+    pub given: bool,
     /// Whether a merge section holds strings that end in a zero byte, and not one constant.
     pub strings: bool,
     /// Whether it is put in order by its name.

@@ -14,7 +14,7 @@ use crate::walked::numbers_of;
 use lk_check::check_link;
 use lk_edges::laws::segments_end_below;
 use lk_edges::{Edges, KnownValues, PlacedLink, SymbolValues, edges_of, evaluate_redirects};
-use lk_gc::{Live, traverse_alone};
+use lk_live::{Live, traverse_alone};
 use lk_input::{InputError, read_link};
 use lk_link::{
     FileKind, InputFile, InputSymbol, LinkInput, List, Plan, SegmentId, Small64, SymbolId,

@@ -6,7 +6,7 @@ ghost use Rattle.lk_link.specs.WellFormed.{IsWellFormed};
 use crate::rows::{Asked, expect_rows};
 use crate::shown::Shown;
 use lk_check::check_link;
-use lk_gc::{Live, traverse_alone};
+use lk_live::{Live, traverse_alone};
 use lk_link::{LinkInput, SymbolId, ValueFlags};
 use lk_sizes::{PartialLinkPlan, PartialLinkSingletons, SymbolCopyInfo};
 use lk_test_rows::add;

@@ -6,7 +6,7 @@
 //! behind it stand its ranges as `START+LENGTH`, of a pass also the margin as `short BYTES`.
 
 ghost use Rattle.std.specs.Prelude.{◌≡◌, [], None};
-ghost use Rattle.lk_gc.specs.Reach.{AreLive};
+ghost use Rattle.lk_live.specs.Reach.{AreLive};
 ghost use Rattle.lk_link.specs.TableSizes.{TableSizes};
 ghost use Rattle.lk_link.specs.WellFormed.{IsWellFormed};
 ghost use Rattle.lk_sizes.specs.Contents.{size_refusal};
@@ -17,7 +17,7 @@ use crate::placed::add_records;
 use crate::rows::{Asked, expect_rows, expect_text};
 use lk_check::check_link;
 use lk_expressions::{OutputRecordLayout, SymbolPositions};
-use lk_gc::{Live, traverse_alone};
+use lk_live::{Live, traverse_alone};
 use lk_input::read_link;
 use lk_link::{FileId, LinkInput, PartId, PlanPart, Platform, Section, Small64, SymbolId};
 use lk_place::{PlaceError, Placed};

@@ -5,7 +5,7 @@ ghost use Rattle.lk_link.specs.WellFormed.{IsWellFormed};
 use crate::rows::{Asked, expect_rows};
 use crate::shown::Shown;
 use lk_check::check_link;
-use lk_gc::{GcError, Live, Unit, file_roots, primary_references, successors, traverse_alone};
+use lk_live::{GcError, Live, Unit, file_roots, primary_references, successors, traverse_alone};
 use lk_link::{FileId, FileRef, LinkInput, SymbolId};
 use lk_test_rows::add;
 use std::alloc::{AllocError, Global};

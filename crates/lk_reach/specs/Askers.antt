@@ -1,5 +1,8 @@
 -- Words of private contracts: whose asks are left, and which.
-use Rattle.std.specs.Prelude.{List, []}
+use Rattle.std.specs.Prelude.{◌≡◌, List, [], Some}
+use Rattle.lk_link.specs.declared.link.LinkInput.{LinkInput}
+use Rattle.lk_link.specs.Files.{file_in}
+use Rattle.lk_link.specs.Inputs.{NumberedFile}
 use Rattle.lk_reach.specs.declared.asks.Asker.{Asker}
 use Rattle.lk_reach.specs.declared.asks.Asker.TheVariants as asker
 use Rattle.lk_reach.specs.declared.units.Ask.{Ask}
@@ -13,3 +16,7 @@ asks_left (asker.Object asks) = asks
 asks_left (asker.Dynamic asks) = asks
 asks_left (asker.Prelude asks) = asks
 asks_left (asker.Script asks) = asks
+
+-- a file stands where its number says
+abbrev pub IsFileOf : LinkInput → NumberedFile → Type 0
+IsFileOf link f = file_in link.groups f.id ≡ Some f.file

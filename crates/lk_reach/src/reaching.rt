@@ -8,13 +8,14 @@ ghost use Rattle.lk_link.specs.InputSlots.{is_regular};
 ghost use Rattle.lk_link.specs.Walks.{file_of};
 ghost use Rattle.lk_link.specs.WellFormed.{IsWellFormed};
 ghost use Rattle.lk_reach.specs.declared.units.Unit.TheVariants.{Sym, Sec};
-ghost use Rattle.lk_reach.specs.Units.{all_of, asked_definition, asked_members, asked_references, definition_ask, dynamic_ask, dynamic_roots, entry_asks, export_roots, forced_ask, operand_ask, own_asks, prelude_symbol_asks, token_ask, event_asks, file_roots, follows, is_primary_section, is_script_root, kind_asks, object_symbol_asks, section_roots, script_redirect_asks, script_symbol_asks, shown_ask, synthetic_symbol_asks, wanted_symbol_asks};
+ghost use Rattle.lk_reach.specs.Units.{all_of, asked_definition, asked_members, asked_references, definition_ask, dynamic_ask, dynamic_roots, entry_asks, export_roots, forced_ask, operand_ask, own_asks, prelude_symbol_asks, token_ask, event_asks, file_roots, follows, is_primary_section, is_script_root, kind_asks, object_symbol_asks, roots, section_roots, script_redirect_asks, script_symbol_asks, shown_ask, synthetic_symbol_asks, wanted_symbol_asks};
 
 use crate::asks::{
     DynamicRoots, ExportRoots, ExpressionAsks, MemberAsks, ObjectRoots, PreludeRoots,
     RelocationAsks, SectionAsks, SectionRoots, Successors,
 };
 use crate::exports::{ExportSymbolsMode, is_exported, is_own_definition, list_for, mode_of};
+use crate::root_asks::Roots;
 use crate::scripts::{LocationAsks, RedirectAsks, ScriptRoots, WantedAsks};
 use crate::units::{Ask, Unit};
 use lk_link::{
@@ -248,6 +249,14 @@ pub fn file_roots<'a>(link: &'a LinkInput, file: FileRef<'a>) -> Successors<'a>
         FileKind::LinkerScript => script_roots(link, file, link.plan.events.as_slice()),
         FileKind::SyntheticSymbols | FileKind::NotLoaded => Successors::none(),
     }
+}
+
+/// What all files of a link ask for by themselves, file by file, as `file_roots` tells of each. Takes no memory.
+pub fn roots(link: &LinkInput) -> Roots<'_>
+    requires { IsWellFormed link.now }
+    ensures { result ≡ roots link.now }
+{
+    Roots::over(link)
 }
 
 /// What an object asks for: sections, then what it exports, where it exports anything.

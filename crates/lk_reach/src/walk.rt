@@ -357,8 +357,9 @@ fn group_place(link: &LinkInput, file: FileId, index: u32) -> Option<usize>
     Some(link.groups.input_start(file)? + first)
 }
 
-/// The unit with a number, if there is one. `files` has the file of each input section.
-fn unit_at(link: &LinkInput, files: &[FileId], number: usize) -> Option<Unit>
+/// The unit with a number among all of a link, symbols first, if there is one. `files` has the file of each input section, as
+/// `files_of_inputs` tells them. Takes constant time.
+pub fn unit_at(link: &LinkInput, files: &[FileId], number: usize) -> Option<Unit>
     requires well_formed { IsWellFormed link.now }
     requires files { files.now ≡ files_of_inputs link.now }
     ensures { result ≡ unit_at link.now.groups number }
@@ -389,7 +390,7 @@ pub fn unmarked(alloc: Global, count: usize) -> Result<Vec<bool>, AllocError>
 }
 
 /// The file of each input section, by its number.
-fn files_of_inputs(alloc: Global, link: &LinkInput) -> Result<Vec<FileId>, AllocError>
+pub fn files_of_inputs(alloc: Global, link: &LinkInput) -> Result<Vec<FileId>, AllocError>
     requires { IsWellFormed link.now }
     ensures { IfOk result (λ files. files.items ≡ files_of_inputs link.now) }
 {

@@ -3,4 +3,5 @@ pub mod Deletions
 pub mod DeltaMaps
 pub mod DeltaWords
 pub mod Laws
+pub mod LinkDeletions
 pub mod Shards

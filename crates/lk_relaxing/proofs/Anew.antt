@@ -9,7 +9,7 @@ use Rattle.lk_place.specs.Setting.{setting_of}
 use Rattle.lk_sizes.specs.PartOwners.{part_sizes}
 use Rattle.lk_relaxing.specs.declared.passes.Passed.{Passed}
 use Rattle.lk_relaxing.specs.declared.relaxation.Places.{Places}
-use Rattle.lk_relaxing.specs.LinkDeletions.{Deletions}
+use Rattle.lk_relax.specs.LinkDeletions.{Deletions}
 use Rattle.lk_relaxing.specs.Positions.{section_positions, symbol_positions}
 use Rattle.lk_relaxing.specs.RelaxationWords.{GivesAnew, GivesPlaces}
 use Rattle.lk_relaxing.specs.Stages.{Relaxing, filling_after, link_of, setting_after}

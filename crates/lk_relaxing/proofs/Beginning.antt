@@ -15,7 +15,7 @@ use Rattle.lk_relaxing.specs.declared.passes.InHand.{InHand}
 use Rattle.lk_relaxing.specs.declared.relaxation.Begun.TheVariants as begun
 use Rattle.lk_relaxing.specs.declared.relaxation.Looks.{Looks}
 use Rattle.lk_relaxing.specs.declared.relaxation.RelaxedParts.{RelaxedParts}
-use Rattle.lk_relaxing.specs.LinkDeletions.{Deletions, sizes_after}
+use Rattle.lk_relax.specs.LinkDeletions.{Deletions, sizes_after}
 use Rattle.lk_relaxing.specs.PassWords.{AreWhole, StandOnce}
 use Rattle.lk_relaxing.specs.Positions.{section_positions}
 use Rattle.lk_relaxing.specs.RelaxationWords.{AreLooks, HasBegun, IsStage, first_sections, in_hand, stage_in, stage_of}

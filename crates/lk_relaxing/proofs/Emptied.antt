@@ -13,7 +13,7 @@ use Rattle.lk_relax.specs.Deletions.{mapped, mapped_by}
 use Rattle.lk_relax.specs.DeltaMaps.{deltas_at}
 use Rattle.lk_sizes.specs.Owners.{own_sizes}
 use Rattle.lk_sizes.proofs.Lists.{map_alike}
-use Rattle.lk_relaxing.specs.LinkDeletions.{deleted_of, output_offset, size_after}
+use Rattle.lk_relax.specs.LinkDeletions.{deleted_of, output_offset, size_after}
 use Rattle.lk_relaxing.specs.RelaxedLaws.{AreEmpty, EmptyDeletionsLeaveAll, NothingDeletedLeavesAll, nothing_deleted}
 use Rattle.lk_relaxing.specs.Stages.{entry_of, file_entries}
 

@@ -26,7 +26,7 @@ use Rattle.lk_sizes.specs.Harvest.{capacity_by}
 use Rattle.lk_sizes.specs.Owners.{own_sizes}
 use Rattle.lk_sizes.proofs.LiveByFiles.{number_of}
 use Rattle.lk_sizes.proofs.OwnSizes.{own_size_at}
-use Rattle.lk_relaxing.specs.LinkDeletions.{Deletions, size_after, sizes_after}
+use Rattle.lk_relax.specs.LinkDeletions.{Deletions, size_after, sizes_after}
 use Rattle.lk_relaxing.specs.PassWords.{StandOnce, fall_between, is_named, is_within, near_ones}
 use Rattle.lk_relaxing.specs.Scan.{Standing, scanned}
 use Rattle.lk_relaxing.specs.RelaxedLaws.{IsShrunk, SizesFallByPasses}

@@ -26,7 +26,7 @@ use Rattle.lk_relax.specs.Candidates.{AreCandidates, AreOf, goes, is_gone, picke
 use Rattle.lk_relax.specs.Deletions.{AreBoth, AreDeletions}
 use Rattle.lk_relax.specs.Laws.{GoodCandidatesCanGo, PickedAreNew, PickedCanGo}
 use Rattle.lk_sizes.specs.Tables.{IsInput}
-use Rattle.lk_relaxing.specs.LinkDeletions.{Deletions}
+use Rattle.lk_relax.specs.LinkDeletions.{Deletions}
 use Rattle.lk_relaxing.specs.PassWords.{IsFound, StandOnce, deleted_by, is_named, ranges_by, standing_with, with_deleted}
 use Rattle.lk_relaxing.specs.Scan.{CanBeScanned, Standing, candidates_of, ranges_of, scanned, told}
 use Rattle.lk_relaxing.specs.Stages.{deletions_by, file_entries, is_among}

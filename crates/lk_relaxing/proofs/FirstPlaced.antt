@@ -18,7 +18,7 @@ use Rattle.lk_place.specs.Setting.{setting_of}
 use Rattle.lk_sizes.specs.Owners.{Filling, own_sizes}
 use Rattle.lk_sizes.specs.PartOwners.{part_sizes}
 use Rattle.lk_sizes.proofs.Lists.{flat_alike, map_alike}
-use Rattle.lk_relaxing.specs.LinkDeletions.{Deletions, output_offset}
+use Rattle.lk_relax.specs.LinkDeletions.{Deletions, output_offset}
 use Rattle.lk_relaxing.specs.Positions.{file_positions, position_in, section_positions, symbol_position, symbol_positions}
 use Rattle.lk_relaxing.specs.PositionWords.{asked_positions}
 use Rattle.lk_relaxing.specs.RelaxedLaws.{nothing_deleted}

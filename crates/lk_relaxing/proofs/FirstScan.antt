@@ -12,7 +12,7 @@ use Rattle.lk_link.proofs.Elements.{filter_at, map_at, numbered_at}
 use Rattle.lk_reach.proofs.Numbered.{file_of_input}
 use Rattle.lk_relax.specs.Candidates.{AreOf}
 use Rattle.lk_relax.specs.Laws.{NothingIsOf}
-use Rattle.lk_relaxing.specs.LinkDeletions.{Deletions}
+use Rattle.lk_relax.specs.LinkDeletions.{Deletions}
 use Rattle.lk_relaxing.specs.Scan.{CanBeScanned, ranges_of}
 use Rattle.lk_relaxing.specs.Stages.{FirstCanBeScanned, Relaxing, can_shrink, deletions_by, link_of}
 use Rattle.lk_relaxing.proofs.ReadBack.{deletions_are_read}

@@ -22,7 +22,7 @@ use Rattle.lk_relax.specs.declared.candidates.Outcome.{Outcome}
 use Rattle.lk_relax.specs.Candidates.{AreOf, goes, is_gone, range_of, ranges_in, shrunk}
 use Rattle.lk_relax.specs.Deletions.{RiseWithin, bytes_before, mapped}
 use Rattle.lk_relax.proofs.CandidateLemmas.{gone_again, nothing_is_of, rise_by}
-use Rattle.lk_relaxing.specs.LinkDeletions.{Deletions, deleted_of, size_after}
+use Rattle.lk_relax.specs.LinkDeletions.{Deletions, deleted_of, size_after}
 use Rattle.lk_relaxing.specs.RelaxedLaws.{FirstIsShrunk, IsShrunk, PassesStayShrunk, RelaxedIsShrunk, SizesFallByPasses, nothing_deleted}
 use Rattle.lk_relaxing.specs.Scan.{CanBeScanned, ranges_of, told}
 use Rattle.lk_relaxing.specs.Stages.{LeadsTo, Relaxing, Stage, entry_of, is_among, is_near, link_of, ranges_behind, shrink_pass, standing_at}

@@ -3,11 +3,11 @@ use Rattle.std.proofs.Common.{◌≡◌, ◌^◌, ◌≤◌, ℕ, List, Option, 
 use Rattle.std.specs.List.{slice_index}
 use Rattle.lk_link.specs.declared.ids.FileId.{FileId}
 use Rattle.lk_link.specs.declared.link.LinkInput.{LinkInput}
-use Rattle.lk_gc.specs.declared.live.Live.{Live}
+use Rattle.lk_live.specs.declared.live.Live.{Live}
 use Rattle.lk_sizes.specs.OwnersRecord.{OwnersRecord}
 use Rattle.lk_sizes.specs.Sizing.{AreFilled, with_sizes}
 use Rattle.lk_relaxing.specs.declared.passes.InHand.{InHand}
-use Rattle.lk_relaxing.specs.LinkDeletions.{Deletions, sizes_after}
+use Rattle.lk_relax.specs.LinkDeletions.{Deletions, sizes_after}
 use Rattle.lk_relaxing.specs.PassWords.{IsFound, fall_between, near_ones}
 use Rattle.lk_relaxing.specs.RelaxationWords.{IsStage, stage_in}
 use Rattle.lk_relaxing.specs.Relaxed.{for_link}

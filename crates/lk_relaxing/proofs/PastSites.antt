@@ -26,7 +26,7 @@ use Rattle.lk_relax.specs.Laws.{GoodCandidatesCanGo}
 use Rattle.lk_relax.specs.Candidates.{is_past, is_short, ranges_in}
 use Rattle.lk_relax.specs.DeltaMaps.{deltas_at}
 use Rattle.lk_relaxing.specs.declared.sites.RelaxedPlace.{RelaxedPlace}
-use Rattle.lk_relaxing.specs.LinkDeletions.{Deletions, deleted_of}
+use Rattle.lk_relax.specs.LinkDeletions.{Deletions, deleted_of}
 use Rattle.lk_relaxing.specs.Scan.{CanBeScanned, Standing, outcome_by, ranges_of, site, told}
 use Rattle.lk_relaxing.specs.Sites.{DeletedSitesAreNear, NothingIsPast, ShrunkCanBeScanned, candidate_past, file_past, is_nothing_deleted, past_limit, section_past}
 

@@ -14,7 +14,7 @@ use Rattle.lk_link.specs.SymbolRules.{IsPlacementThere}
 use Rattle.lk_link.specs.Symbols.{file_number}
 use Rattle.lk_link.specs.WellFormed.{IsWellFormed}
 use Rattle.lk_link.proofs.GoodSymbols.{symbol_of}
-use Rattle.lk_relaxing.specs.LinkDeletions.{Deletions}
+use Rattle.lk_relax.specs.LinkDeletions.{Deletions}
 use Rattle.lk_relaxing.specs.PositionWords.{HasRoom, HaveRoom}
 
 has_room : (link : LinkInput) (deletions : Deletions) (sections : List (Option (ℕ × ℕ))) (id : FileId) (file : InputFile) (p : SymbolPlacement) → HaveRoom link.groups deletions sections → file_in link.groups id ≡ Some file

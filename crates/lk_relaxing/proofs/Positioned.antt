@@ -21,7 +21,7 @@ use Rattle.lk_link.specs.Walks.{input_of}
 use Rattle.lk_link.specs.WellFormed.{IsWellFormed}
 use Rattle.lk_link.proofs.Elements.{map_in, numbered_at}
 use Rattle.lk_link.proofs.InputLemmas.{inputs_follow, numbered_get}
-use Rattle.lk_gc.specs.Reach.{AreLive, live_inputs, marked}
+use Rattle.lk_live.specs.Reach.{AreLive, live_inputs, marked}
 use Rattle.lk_expressions.specs.Surroundings.{flat}
 use Rattle.lk_sizes.specs.Addresses.{section_addresses}
 use Rattle.lk_sizes.specs.Owners.{Filling, section_taker, size_of}
@@ -30,9 +30,9 @@ use Rattle.lk_sizes.specs.Tables.{bytes_in}
 use Rattle.lk_sizes.proofs.Addressing.{live_among, section_behind}
 use Rattle.lk_sizes.proofs.LiveOnes.{live_goes}
 use Rattle.lk_sizes.proofs.Numbering.{numbered_push, table_at}
-use Rattle.lk_sizes.proofs.Placed.{all_fit}
+use Rattle.lk_sizes.proofs.Placed.{ends_within}
 use Rattle.lk_sizes.proofs.Takers.{bytes_in-append, bytes_in_here}
-use Rattle.lk_relaxing.specs.LinkDeletions.{Deletions, size_after, sizes_after}
+use Rattle.lk_relax.specs.LinkDeletions.{Deletions, size_after, sizes_after}
 use Rattle.lk_relaxing.specs.Positions.{no_starts, section_position, section_positions}
 use Rattle.lk_relaxing.specs.PositionWords.{HaveRoom, section_position_in}
 
@@ -82,14 +82,6 @@ marked_in (true ∷ marks) (y ∷ xs) (suc k) x there set = let r = marked_in ma
 marked_in (false ∷ marks) (y ∷ xs) zero x there set = absurd (cc)
 marked_in (false ∷ marks) (y ∷ xs) (suc k) x there set = marked_in marks xs k x there set
 
--- no size is above its capacity
-size-le : (part : PlanPart) (size : ℕ) → size ≤ capacity part size
-size-le part size =
-    elim part.packed as (λ b. size ≤ cond b size (next_multiple_of size part.alignment)) [
-      | true ↦ omega arith
-      | false ↦ omega arith
-    ]
-
 -- what is regular isn't merged
 unmerged : (s : InputSlot) → is_regular s ≡ true → is_merge s ≡ false
 unmerged slot.Discard h = absurd (cc)
@@ -98,24 +90,6 @@ unmerged slot.MustLoad h = refl
 unmerged slot.DebugInfo h = absurd (cc)
 unmerged slot.MustLoadDebugInfo h = absurd (cc)
 unmerged slot.Merge h = absurd (cc)
-
--- behind a live section there is room for its size in the filling, up to the end of its part
-pub ends_within : (filling : Filling) (starts : List ℕ) (k : ℕ) (x : Input) → slice_get (live_inputs filling.content.link filling.content.live) k ≡ Some x
-    → EndsFit filling starts → x.section.part < length starts → live_address filling starts x + size_of filling x < 2 ^ 64
-ends_within filling starts k x there fit within =
-    let link : LinkInput = filling.content.link in
-    let p : ℕ = x.section.part in
-    let split = live_among filling k x there in
-    omega (
-      arith,
-      section_behind filling starts split.front x split.rest split.splits,
-      all_fit filling starts p fit within,
-      ap (bytes_in link p) split.splits,
-      bytes_in-append link p split.front (section_taker filling x ∷ split.rest),
-      bytes_in-append link p (section_taker filling x ∷ []) split.rest,
-      bytes_in_here link p (section_taker filling x) refl,
-      size-le (part_at link.plan.sections p) (size_of filling x),
-    )
 
 -- the position of a section that has one
 record IsPositioned (filling : Filling) (q : ℕ × Input) (p : ℕ × ℕ) : Type 0 where

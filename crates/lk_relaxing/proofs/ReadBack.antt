@@ -12,7 +12,7 @@ use Rattle.lk_link.proofs.InputLemmas.{file_stands}
 use Rattle.lk_reach.proofs.Numbered.{file_of_input}
 use Rattle.lk_relax.specs.Candidates.{ranges_in}
 use Rattle.lk_relax.specs.DeltaMaps.{deltas_at}
-use Rattle.lk_relaxing.specs.LinkDeletions.{deleted_of}
+use Rattle.lk_relax.specs.LinkDeletions.{deleted_of}
 use Rattle.lk_relaxing.specs.Stages.{DeletionsAreRead, deletions_by, entry_of, file_entries}
 
 abbrev pub Entry : Type 0

@@ -21,7 +21,7 @@ use Rattle.lk_link.proofs.SymbolLemmas.{symbols_follow, symbols_within}
 use Rattle.lk_reach.proofs.SymbolNumbers.{symbols_few}
 use Rattle.lk_relax.specs.Candidates.{AreCandidates, AreOf}
 use Rattle.lk_relax.specs.Laws.{GoodCandidatesCanGo}
-use Rattle.lk_relaxing.specs.LinkDeletions.{Deletions}
+use Rattle.lk_relax.specs.LinkDeletions.{Deletions}
 use Rattle.lk_relaxing.specs.declared.judge.SectionJudge.{SectionJudge}
 use Rattle.lk_relaxing.specs.Scan.{CanBeScanned, candidates_of, ranges_of}
 use Rattle.lk_relaxing.specs.ScanWords.{IsNumbered}

@@ -6,7 +6,7 @@ use Rattle.lk_relax.specs.declared.candidates.Outcome.{Outcome}
 use Rattle.lk_relax.specs.Candidates.{AreCandidates, AreOf, picked, shrunk}
 use Rattle.lk_relax.specs.Deletions.{mapped}
 use Rattle.lk_relax.specs.Laws.{OffsetsOnlyFall, PickedAreNew, ShrunkAreOf}
-use Rattle.lk_relaxing.specs.LinkDeletions.{Deletions, deleted_of, size_after}
+use Rattle.lk_relax.specs.LinkDeletions.{Deletions, deleted_of, size_after}
 use Rattle.lk_relaxing.specs.Scan.{ranges_of, told}
 use Rattle.lk_relaxing.specs.Stages.{PassesShrink, is_among, link_of, ranges_behind, standing_at}
 use Rattle.lk_relaxing.proofs.Emptied.{mapped_in}

@@ -7,7 +7,7 @@ use Rattle.lk_place.specs.declared.cursors.Cursors.{Cursors}
 use Rattle.lk_place.specs.Placement.{IsPlaced}
 use Rattle.lk_place.specs.PlacementLaws.{PlacementExists, PlacementIsOne}
 use Rattle.lk_place.specs.Setting.{IsReady}
-use Rattle.lk_relaxing.specs.LinkDeletions.{Deletions}
+use Rattle.lk_relax.specs.LinkDeletions.{Deletions}
 use Rattle.lk_relaxing.specs.Stages.{IsFirst, IsPass, LeadsTo, NewWalk, RelaxedExists, RelaxedIsOne, Relaxing, SameWalk, Stage, deletions_by, fall_of, filling_after, first_scan, has_ended, is_near, link_of, setting_after, shrink_pass}
 use Rattle.lk_relaxing.proofs.NoStarts.{length-part_sizes}
 

@@ -18,46 +18,25 @@ use Rattle.lk_link.specs.WellFormed.{IsWellFormed}
 use Rattle.lk_link.proofs.Elements.{map_in}
 use Rattle.lk_link.proofs.Powers.{alignment-pos}
 use Rattle.lk_link.proofs.Starts.{next_multiple_is_least}
-use Rattle.lk_gc.specs.declared.live.Live.{Live}
+use Rattle.lk_live.specs.declared.live.Live.{Live}
 use Rattle.lk_sizes.specs.Owners.{EntryOwner, Filling, Owner, Taker, all_file_takers, common_taker, commons_of, content_owners, file_takers, leading_of, live_of, owner_bytes, owners_in, section_taker, size_in, sorted_takers, takers, thunk_takers}
 use Rattle.lk_sizes.specs.PartOwners.{part_size, part_sizes, tables_of}
 use Rattle.lk_sizes.specs.Tables.{bytes_in}
 use Rattle.lk_sizes.proofs.Lists.{map_alike}
 use Rattle.lk_sizes.proofs.LiveByFiles.{live_input, number_of, unsorted_is_live}
+use Rattle.lk_sizes.proofs.Resizing.{capacities_rise}
 use Rattle.lk_sizes.proofs.SortedOnes.{sorted_at}
 use Rattle.lk_sizes.proofs.Takers.{bytes_in-append, bytes_in_here, bytes_in_other}
 use Rattle.lk_sizes.proofs.Tiling.{part_is_aligned}
 use Rattle.lk_tables.specs.TableLists.{table_of}
 use Rattle.lk_sizes.specs.Sorted.{sorted_inputs}
-use Rattle.lk_relaxing.specs.LinkDeletions.{Deletions, size_after, sizes_after}
+use Rattle.lk_relax.specs.LinkDeletions.{Deletions, size_after, sizes_after}
 use Rattle.lk_relaxing.specs.RelaxedLaws.{FirstStands, IsShrunk, PassesStand, RelaxedStands, StandsFor, StillPassesKeepParts}
 use Rattle.lk_expressions.specs.Records.{Record}
 use Rattle.lk_place.specs.declared.cursors.Cursors.{Cursors}
 use Rattle.lk_place.specs.Placement.{IsPlaced}
 use Rattle.lk_relaxing.specs.Stages.{IsPass, LeadsTo, NewWalk, Relaxing, SameWalk, Stage, capacity_after, fall_of, filling_after, link_of, setting_after, shrink_pass}
 use Rattle.lk_relaxing.proofs.Keeping.{first_is_shrunk, passes_stay_shrunk, sizes_fall_by_passes}
-
--- ---- capacities
-
--- the least multiple behind a greater number is no less
-multiples_rise : (a n m : ℕ) → 0 < a → n ≤ m → next_multiple_of n a ≤ next_multiple_of m a
-multiples_rise a n m positive order =
-    let low = next_multiple_is_least a n positive in
-    let high = next_multiple_is_least a m positive in
-    elim (cases_lt (next_multiple_of m a) (next_multiple_of n a)) [
-      | inl less ↦
-          let gap : a ≤ next_multiple_of n a - next_multiple_of m a = le_of_dvd (omega (arith, less)) (dvd-sub a low.multiple high.multiple) in
-          omega (arith, less, gap, low.least, high.reaches, order)
-      | inr other ↦ other
-    ]
-
--- a greater size takes no less
-capacities_rise : (part : PlanPart) (n m : ℕ) → 0 < part.alignment → n ≤ m → capacity part n ≤ capacity part m
-capacities_rise part n m positive order =
-    elim part.packed as (λ b. (if b then n else next_multiple_of n part.alignment) ≤ (if b then m else next_multiple_of m part.alignment)) [
-      | true ↦ order
-      | false ↦ multiples_rise part.alignment n m positive order
-    ]
 
 -- where a sum is 0, each term is
 each_is_zero : {X : Type 0} (f : X → ℕ) (xs : List X) (k : ℕ) (x : X) → sum_by f xs ≡ 0 → slice_get xs k ≡ Some x → f x ≡ 0

@@ -18,7 +18,7 @@ use Rattle.lk_sizes.specs.Sizing.{AreFilled}
 use Rattle.lk_relaxing.specs.declared.passes.InHand.{InHand}
 use Rattle.lk_relaxing.specs.declared.passes.Passed.{Passed}
 use Rattle.lk_relaxing.specs.declared.relaxation.Turned.{Turned}
-use Rattle.lk_relaxing.specs.LinkDeletions.{Deletions}
+use Rattle.lk_relax.specs.LinkDeletions.{Deletions}
 use Rattle.lk_relaxing.specs.PassWords.{AreWhole, StandOnce}
 use Rattle.lk_relaxing.specs.Positions.{section_positions, symbol_positions}
 use Rattle.lk_relaxing.specs.RelaxationWords.{GivesAnew, GivesTurn, IsAnew, IsNext, IsPassed, IsStage, IsStill, TurnRefused, behind_still, stage_in, stage_of}

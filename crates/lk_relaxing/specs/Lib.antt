@@ -1,4 +1,3 @@
-pub mod LinkDeletions
 pub mod PassWords
 pub mod PositionWords
 pub mod Positions

@@ -10,7 +10,7 @@ use Rattle.lk_link.specs.Symbols.{file_number}
 use Rattle.lk_sizes.specs.Harvest.{capacity_by}
 use Rattle.lk_relax.specs.Candidates.{shrunk}
 use Rattle.lk_relax.specs.DeltaMaps.{with_ranges}
-use Rattle.lk_relaxing.specs.LinkDeletions.{Deletions}
+use Rattle.lk_relax.specs.LinkDeletions.{Deletions}
 use Rattle.lk_relaxing.specs.Scan.{CanBeScanned, Standing, ranges_of, scanned, told}
 use Rattle.lk_relaxing.specs.Stages.{deletions_by, is_among}
 

@@ -1,5 +1,5 @@
 -- What the code goes by: marks and a table of places, and the room behind them. Contracts of private functions speak of these.
-use Rattle.std.specs.Prelude.{◌≡◌, ℕ, ◌+◌, ◌<◌, ◌≤◌, ◌^◌, Bool, false, if◌then◌else◌, List, [], Option, Some, None, option_and_then, option_map, slice_get}
+use Rattle.std.specs.Prelude.{◌≡◌, ℕ, ◌+◌, ◌<◌, ◌≤◌, ◌^◌, Bool, false, if◌then◌else◌, List, [], Option, Some, None, option_map, slice_get}
 use Rattle.std.specs.List.{slice_index_or}
 use Rattle.lk_link.specs.declared.file.InputFile.{InputFile}
 use Rattle.lk_link.specs.declared.ids.FileId.{FileId}
@@ -13,18 +13,13 @@ use Rattle.lk_expressions.specs.declared.positions.SymbolPosition.{SymbolPositio
 use Rattle.lk_expressions.specs.Named.{names_no_symbol}
 use Rattle.lk_expressions.specs.Surroundings.{flat}
 use Rattle.lk_relax.specs.Deletions.{mapped_by}
-use Rattle.lk_relax.specs.DeltaMaps.{deltas_at}
+use Rattle.lk_relax.specs.LinkDeletions.{Deletions, deleted_in, size_after}
 use Rattle.lk_sizes.specs.Owners.{Filling}
-use Rattle.lk_relaxing.specs.LinkDeletions.{Deletions, size_after}
 use Rattle.lk_relaxing.specs.Positions.{has_position, position_in, section_positions, symbol_positions}
 
 -- the position of a section with a number over all files, by marks and a table of the sections' places in parts
 abbrev pub section_position_in : List Bool → List ℕ → ℕ → InputSection → Option (ℕ × ℕ)
 section_position_in marks places k s = if has_position (is_marked marks k) s then Some (s.part, slice_index_or places k 0) else None
-
--- what is deleted of a section by its index, in a file of which this is deleted, if there is an entry for the file
-abbrev pub deleted_in : Option (List (ℕ × List (ℕ × ℕ))) → ℕ → Option (List (ℕ × ℕ))
-deleted_in entries index = option_and_then (λ es. deltas_at es index) entries
 
 -- an offset of a section behind the section's position, by what is deleted of it
 abbrev pub moved_to : Option (List (ℕ × ℕ)) → ℕ → ℕ × ℕ → SymbolPosition

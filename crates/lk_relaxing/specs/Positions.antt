@@ -15,7 +15,7 @@ use Rattle.lk_expressions.specs.declared.positions.SymbolPosition.{SymbolPositio
 use Rattle.lk_expressions.specs.Surroundings.{flat}
 use Rattle.lk_sizes.specs.Owners.{Filling}
 use Rattle.lk_sizes.specs.PartOwners.{live_address}
-use Rattle.lk_relaxing.specs.LinkDeletions.{Deletions, output_offset}
+use Rattle.lk_relax.specs.LinkDeletions.{Deletions, output_offset}
 
 -- every part starts at 0
 abbrev pub no_starts : LinkInput → List ℕ

@@ -9,7 +9,7 @@ use Rattle.lk_link.specs.declared.section.InputSection.{InputSection}
 use Rattle.lk_link.specs.Inputs.{all_inputs}
 use Rattle.lk_link.specs.Marks.{is_marked}
 use Rattle.lk_link.specs.PlanSections.{is_set}
-use Rattle.lk_gc.specs.declared.live.Live.{Live}
+use Rattle.lk_live.specs.declared.live.Live.{Live}
 use Rattle.lk_expressions.specs.Records.{Record}
 use Rattle.lk_place.specs.declared.cursors.Cursors.{Cursors}
 use Rattle.lk_place.specs.declared.error.PlaceError.{PlaceError}
@@ -31,7 +31,7 @@ use Rattle.lk_relaxing.specs.declared.relaxation.Places.{Places}
 use Rattle.lk_relaxing.specs.declared.relaxation.RelaxedParts.{RelaxedParts}
 use Rattle.lk_relaxing.specs.declared.relaxation.Turned.{Turned}
 use Rattle.lk_relaxing.specs.declared.relaxation.Turned.TheVariants.{Last, Next}
-use Rattle.lk_relaxing.specs.LinkDeletions.{Deletions, sizes_after}
+use Rattle.lk_relax.specs.LinkDeletions.{Deletions, sizes_after}
 use Rattle.lk_relaxing.specs.PassWords.{AreWhole, StandOnce}
 use Rattle.lk_relaxing.specs.Positions.{has_position, section_positions, symbol_positions}
 use Rattle.lk_relaxing.specs.RelaxedLaws.{IsShrunk, nothing_deleted}

@@ -4,7 +4,7 @@ use Rattle.lk_link.specs.declared.ids.FileId.{FileId}
 use Rattle.lk_link.specs.declared.link.LinkInput.{LinkInput}
 use Rattle.lk_link.specs.TableSizes.{TableSizes}
 use Rattle.lk_link.specs.Target.{platform_target}
-use Rattle.lk_gc.specs.declared.live.Live.{Live}
+use Rattle.lk_live.specs.declared.live.Live.{Live}
 use Rattle.lk_place.specs.declared.error.PlaceError.{PlaceError}
 use Rattle.lk_place.specs.declared.error.PlaceError.TheVariants.{NoMemory}
 use Rattle.lk_place.specs.declared.walk.Placed.{Placed}
@@ -13,7 +13,7 @@ use Rattle.lk_sizes.specs.Owners.{Filling, content_of, in_output, plain_filling,
 use Rattle.lk_sizes.specs.Sizing.{AreFilled}
 use Rattle.lk_relaxing.specs.declared.relaxation.Relaxed.{Relaxed}
 use Rattle.lk_relaxing.specs.declared.relaxation.RelaxedParts.{RelaxedParts}
-use Rattle.lk_relaxing.specs.LinkDeletions.{Deletions, sizes_after}
+use Rattle.lk_relax.specs.LinkDeletions.{Deletions, sizes_after}
 use Rattle.lk_relaxing.specs.RelaxedLaws.{nothing_deleted}
 use Rattle.lk_relaxing.specs.Stages.{IsRelaxed, Relaxing, Stage, filling_after, link_of, refusal_of, setting_after}
 

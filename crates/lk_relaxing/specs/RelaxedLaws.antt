@@ -10,11 +10,15 @@ use Rattle.lk_place.specs.Placement.{IsPlaced}
 use Rattle.lk_relax.specs.Candidates.{AreOf}
 use Rattle.lk_sizes.specs.Owners.{own_sizes}
 use Rattle.lk_sizes.specs.PartOwners.{part_sizes}
-use Rattle.lk_relaxing.specs.LinkDeletions.{Deletions, deleted_of, output_offset, size_after, sizes_after}
+use Rattle.lk_relax.specs.LinkDeletions.{Deletions, deleted_of, output_offset, size_after, sizes_after}
 use Rattle.lk_relaxing.specs.Scan.{CanBeScanned, ranges_of}
 use Rattle.lk_relaxing.specs.Stages.{IsFirst, IsPass, IsRelaxed, Relaxing, Stage, deletions_by, fall_of, filling_after, link_of, setting_after, shrink_pass}
 
 -- ---- nothing is deleted
+
+-- where nothing is deleted, the sizes that are left are those of the description
+abbrev pub NothingDeletedIsNothingLost : Type 0
+NothingDeletedIsNothingLost = (link : LinkInput) → sizes_after link.groups [] ≡ own_sizes link
 
 -- an empty entry for each file
 abbrev pub nothing_deleted : LinkInput → Deletions

@@ -14,7 +14,7 @@ use Rattle.lk_link.specs.Files.{file_in, first_some}
 use Rattle.lk_link.specs.Flags.{has_flag}
 use Rattle.lk_link.specs.InputSlots.{is_regular}
 use Rattle.lk_link.specs.Symbols.{definition_of, first_symbol, symbol_at}
-use Rattle.lk_gc.specs.declared.live.Live.{Live}
+use Rattle.lk_live.specs.declared.live.Live.{Live}
 use Rattle.lk_expressions.specs.declared.positions.SymbolPosition.{SymbolPosition}
 use Rattle.lk_expressions.specs.Records.{Record, record_at}
 use Rattle.lk_expressions.specs.Surroundings.{flat}
@@ -22,7 +22,7 @@ use Rattle.lk_relax.specs.declared.candidates.Outcome.{Outcome}
 use Rattle.lk_relax.specs.declared.candidates.Outcome.TheVariants as outcome
 use Rattle.lk_relax.specs.Candidates.{AreOf, margin, picked, ranges_in}
 use Rattle.lk_tables.specs.Late.{flags_at}
-use Rattle.lk_relaxing.specs.LinkDeletions.{Deletions, deleted_of, output_offset}
+use Rattle.lk_relax.specs.LinkDeletions.{Deletions, deleted_of, output_offset}
 use Rattle.lk_relaxing.specs.Positions.{position_in}
 
 -- how all stands before a pass: a link and what is live of it, the positions of its input sections and symbols, the records of all parts,

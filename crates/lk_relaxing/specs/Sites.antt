@@ -10,7 +10,7 @@ use Rattle.lk_link.specs.Inputs.{Input, NumberedFile, all_inputs, numbered_files
 use Rattle.lk_link.specs.Symbols.{definition_of, first_symbol}
 use Rattle.lk_relax.specs.Candidates.{is_gone, is_past}
 use Rattle.lk_relaxing.specs.declared.sites.RelaxedPlace.{RelaxedPlace}
-use Rattle.lk_relaxing.specs.LinkDeletions.{Deletions, deleted_of}
+use Rattle.lk_relax.specs.LinkDeletions.{Deletions, deleted_of}
 use Rattle.lk_relaxing.specs.RelaxedLaws.{IsShrunk}
 use Rattle.lk_relaxing.specs.Scan.{CanBeScanned, Standing, ranges_of, site, target, told}
 use Rattle.lk_relaxing.specs.Stages.{Relaxing, Stage, link_of}

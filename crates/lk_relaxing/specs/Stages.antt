@@ -20,7 +20,7 @@ use Rattle.lk_place.specs.Setting.{Setting, setting_of}
 use Rattle.lk_relax.specs.Candidates.{AreCandidates, AreOf, shrunk}
 use Rattle.lk_sizes.specs.Owners.{Filling}
 use Rattle.lk_sizes.specs.PartOwners.{part_sizes}
-use Rattle.lk_relaxing.specs.LinkDeletions.{Deletions, size_after, sizes_after}
+use Rattle.lk_relax.specs.LinkDeletions.{Deletions, size_after, sizes_after}
 use Rattle.lk_relaxing.specs.Positions.{has_position, section_positions, symbol_positions}
 use Rattle.lk_relaxing.specs.Scan.{CanBeScanned, Standing, ranges_of, scanned, told}
 

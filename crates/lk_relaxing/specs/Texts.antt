@@ -1,7 +1,7 @@
 -- How a candidate that is past its limit is told.
 use Rattle.std.specs.Prelude.{ℕ, List, [], ◌∷◌, codes}
 use Rattle.std.specs.Fmt.{decimal}
-use Rattle.lk_gc.specs.Texts.{input_text}
+use Rattle.lk_live.specs.Texts.{input_text}
 use Rattle.lk_link.specs.Texts.{joined}
 use Rattle.lk_relaxing.specs.declared.sites.RelaxedPlace.{RelaxedPlace}
 

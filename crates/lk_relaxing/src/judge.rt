@@ -11,7 +11,7 @@ ghost use Rattle.lk_relaxing.specs.Scan.{CanBeScanned, absolute_value, address_i
 ghost use Rattle.lk_relaxing.specs.ScanWords.{IsNumbered, by_distance, judged, site_in, target_in};
 
 use lk_expressions::{OutputRecordLayout, SymbolPositions};
-use lk_gc::Live;
+use lk_live::Live;
 use lk_link::relocation::RelaxCandidate;
 use lk_link::{InputSymbol, LinkInput, PartId, SymbolId, SymbolPlacement, ValueFlags};
 use lk_relax::{Judge, Outcome, SectionRelaxDeltas, opt_input_to_output};

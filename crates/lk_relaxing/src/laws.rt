@@ -1,7 +1,6 @@
 //! Laws, each proved as the contract of a function that does nothing.
 
-ghost use Rattle.lk_relaxing.specs.LinkDeletions.{NothingDeletedIsNothingLost};
-ghost use Rattle.lk_relaxing.specs.RelaxedLaws.{EmptyDeletionsLeaveAll, FirstIsShrunk, FirstStands, NothingDeletedLeavesAll, PassesStand, PassesStayShrunk, RelaxedIsShrunk, RelaxedStands, SizesFallByPasses, StillPassesKeepParts};
+ghost use Rattle.lk_relaxing.specs.RelaxedLaws.{NothingDeletedIsNothingLost, EmptyDeletionsLeaveAll, FirstIsShrunk, FirstStands, NothingDeletedLeavesAll, PassesStand, PassesStayShrunk, RelaxedIsShrunk, RelaxedStands, SizesFallByPasses, StillPassesKeepParts};
 ghost use Rattle.lk_relaxing.specs.Sites.{DeletedSitesAreNear, NothingIsPast, ShrunkCanBeScanned};
 ghost use Rattle.lk_relaxing.specs.Stages.{DeletionsAreRead, FirstCanBeScanned, PassesShrink, RelaxedExists, RelaxedIsOne};
 

@@ -12,7 +12,7 @@ pub mod relaxation;
 pub mod scan;
 pub mod sites;
 
-pub use crate::deletions::{deleted_of, sizes_after};
+pub use crate::deletions::sizes_after;
 pub use crate::placing::place_first;
 pub use crate::positions::compute_input_section_positions;
 pub use crate::relaxation::{Relaxed, RelaxedParts, perform_iterative_relaxation, relax_owners};

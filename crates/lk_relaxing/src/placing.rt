@@ -3,7 +3,7 @@
 ghost use Rattle.std.specs.Prelude.{◌≡◌, IfOk, unwrap_or};
 ghost use Rattle.lk_link.specs.Target.{platform_target};
 ghost use Rattle.lk_link.specs.WellFormed.{IsWellFormed};
-ghost use Rattle.lk_gc.specs.Reach.{AreLive};
+ghost use Rattle.lk_live.specs.Reach.{AreLive};
 ghost use Rattle.lk_place.specs.Answers.{GivesPlaced};
 ghost use Rattle.lk_sizes.specs.Owners.{AreThunkOwners, Filling, in_output, own_sizes};
 ghost use Rattle.lk_sizes.specs.Sizing.{AreFilled};
@@ -13,7 +13,7 @@ ghost use Rattle.lk_relaxing.specs.Stages.{setting_after};
 
 use crate::positions::compute_input_section_positions;
 use lk_expressions::{SymbolPositions, names_no_symbol};
-use lk_gc::Live;
+use lk_live::Live;
 use lk_link::list::List;
 use lk_link::{LinkInput, Platform};
 use lk_place::laws::answers_go_without_positions;

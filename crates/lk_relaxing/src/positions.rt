@@ -6,7 +6,7 @@
 ghost use Rattle.std.specs.Prelude.{◌≡◌, ◌+◌, ◌<◌, ◌≤◌, ◌^◌, ◌++◌, ℕ, All, IfOk, IsSome, OnOk, map, slice_get, unwrap_or};
 ghost use Rattle.std.specs.List.{enumerate_from};
 ghost use Rattle.std.specs.Option.{option_copied};
-ghost use Rattle.lk_gc.specs.Reach.{AreLive};
+ghost use Rattle.lk_live.specs.Reach.{AreLive};
 ghost use Rattle.lk_link.specs.Files.{file_in};
 ghost use Rattle.lk_link.specs.Inputs.{all_inputs, first_input};
 ghost use Rattle.lk_link.specs.Walks.{file_of};
@@ -15,17 +15,16 @@ ghost use Rattle.lk_expressions.specs.Surroundings.{flat};
 ghost use Rattle.lk_sizes.specs.Owners.{AreThunkOwners, Filling, in_output, own_sizes};
 ghost use Rattle.lk_sizes.specs.PartOwners.{part_sizes};
 ghost use Rattle.lk_sizes.specs.Sizing.{AreFilled};
-ghost use Rattle.lk_relaxing.specs.LinkDeletions.{sizes_after};
+ghost use Rattle.lk_relax.specs.LinkDeletions.{sizes_after};
 ghost use Rattle.lk_relaxing.specs.Positions.{file_positions, section_positions, symbol_positions};
-ghost use Rattle.lk_relaxing.specs.PositionWords.{HasRoom, HaveRoom, deleted_in, section_position_in, symbol_position_in};
+ghost use Rattle.lk_relaxing.specs.PositionWords.{HasRoom, HaveRoom, section_position_in, symbol_position_in};
 
-use crate::deletions::map_of;
 use lk_expressions::{SymbolPosition, SymbolPositions};
-use lk_gc::Live;
+use lk_live::Live;
 use lk_link::list::List;
 use lk_link::marks::is_marked;
 use lk_link::{FileId, FileRef, InputSection, InputSymbol, LinkInput, PartId, SymbolPlacement};
-use lk_relax::{RelaxDeltaMap, SectionRelaxDeltas, opt_input_to_output};
+use lk_relax::{RelaxDeltaMap, deleted_in, map_of, opt_input_to_output};
 use lk_sizes::{PartOwners, owner_addresses, part_sizes};
 use std::alloc::{AllocError, Global};
 
@@ -231,11 +230,4 @@ pub(crate) fn position_at(
         Some(position) => *position,
         None => None,
     }
-}
-
-/// What is deleted of a section by its index, in a file of which this is deleted. Takes logarithmic time.
-pub fn deleted_in(entries: Option<&RelaxDeltaMap>, index: u32) -> Option<&SectionRelaxDeltas>
-    ensures { option_copied result ≡ deleted_in (option_copied entries.entry) index }
-{
-    entries?.get(index)
 }

@@ -5,7 +5,7 @@
 
 ghost use Rattle.std.specs.Prelude.{◌≡◌, ◌<◌, IfOk, None, Ok, length, unwrap_or};
 ghost use Rattle.lk_link.specs.WellFormed.{IsWellFormed};
-ghost use Rattle.lk_gc.specs.Reach.{AreLive};
+ghost use Rattle.lk_live.specs.Reach.{AreLive};
 ghost use Rattle.lk_sizes.specs.Contents.{size_refusal};
 ghost use Rattle.lk_sizes.specs.Owners.{AreThunkOwners, Filling, in_output, own_sizes};
 ghost use Rattle.lk_sizes.specs.Sizing.{AreFilled};
@@ -19,7 +19,7 @@ use crate::laws;
 use crate::passes::{InHand, Passed, pass};
 use crate::positions::compute_input_section_positions;
 use lk_expressions::SymbolPositions;
-use lk_gc::Live;
+use lk_live::Live;
 use lk_link::marks::is_marked;
 use lk_link::plan::attributes;
 use lk_link::{FileId, InputSection, LinkInput, PartId, Platform};

@@ -8,18 +8,17 @@ ghost use Rattle.lk_link.specs.WellFormed.{IsWellFormed};
 ghost use Rattle.lk_link.specs.declared.file.InputFile.{InputFile};
 ghost use Rattle.lk_link.specs.declared.relocation.RelaxCandidate.{RelaxCandidate};
 ghost use Rattle.lk_link.specs.declared.section.InputSection.{InputSection};
-ghost use Rattle.lk_relaxing.specs.LinkDeletions.{deleted_of};
+ghost use Rattle.lk_relax.specs.LinkDeletions.{deleted_of};
 ghost use Rattle.lk_relaxing.specs.Scan.{CanBeScanned, candidates_of, scanned, told};
 ghost use Rattle.lk_relaxing.specs.ScanWords.{IsNumbered, judged, standing_of};
 
-use crate::deletions::deleted_of;
 use crate::judge::SectionJudge;
 use crate::positions::{first_number, position_at};
 use lk_expressions::{OutputRecordLayout, SymbolPositions};
-use lk_gc::Live;
+use lk_live::Live;
 use lk_link::relocation::RelaxCandidate;
 use lk_link::{FileId, InputSection, InputSymbol, LinkInput, PartId};
-use lk_relax::{RelaxDeltaMap, SectionRelaxDeltas, laws, scan_candidates};
+use lk_relax::{RelaxDeltaMap, SectionRelaxDeltas, deleted_of, laws, scan_candidates};
 use std::alloc::{AllocError, Global};
 
 /// How all stands before a pass, or behind the last.

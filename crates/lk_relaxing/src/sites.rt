@@ -10,18 +10,17 @@ ghost use Rattle.lk_link.specs.Symbols.{file_number};
 ghost use Rattle.lk_link.specs.Walks.{file_of};
 ghost use Rattle.lk_link.specs.WellFormed.{IsWellFormed};
 ghost use Rattle.lk_relax.specs.DeltaMaps.{deltas_at};
-ghost use Rattle.lk_relaxing.specs.LinkDeletions.{deleted_of};
+ghost use Rattle.lk_relax.specs.LinkDeletions.{deleted_of};
 ghost use Rattle.lk_relaxing.specs.Scan.{CanBeScanned};
 ghost use Rattle.lk_relaxing.specs.ScanWords.{standing_of};
 ghost use Rattle.lk_relaxing.specs.Sites.{CanAllBeScanned, file_past, is_nothing_deleted, past_limit, section_past};
 ghost use Rattle.lk_relaxing.specs.Stopping.{StopsAtFirst};
 
-use crate::deletions::map_of;
 use crate::scan::{Before, judge_of, relax_of};
 use lk_expressions::{OutputRecordLayout, SymbolPositions};
-use lk_gc::{InputAt, Live};
+use lk_live::{InputAt, Live};
 use lk_link::{FileId, FileRef, InputSection, LinkInput, PartId};
-use lk_relax::{RelaxDeltaMap, SectionRelaxDeltas, first_past, laws};
+use lk_relax::{RelaxDeltaMap, SectionRelaxDeltas, first_past, laws, map_of};
 use std::fmt;
 
 /// A candidate whose bytes are gone and whose symbol is too far from where they stood: its file, the section's index there, and the

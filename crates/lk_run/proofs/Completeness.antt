@@ -12,13 +12,13 @@ use Rattle.lk_layout.specs.LayoutRecord.{LayoutRecord}
 use Rattle.lk_layout.specs.Defined.{IsDefined}
 use Rattle.lk_layout.specs.Laws.{DefinedAnswerExists, DefinedAnswerIsOne}
 use Rattle.lk_run.specs.declared.answer.Answer.{Answer}
-use Rattle.lk_run.specs.declared.limit.TheConstants.{LONGEST_INPUT}
+use Rattle.lk_devices.specs.declared.limit.TheConstants.{LONGEST_INPUT}
 use Rattle.lk_run.specs.declared.status.Status.{Status}
 use Rattle.lk_run.specs.declared.status.Status.TheVariants.{LaidOut, Refused, Usage, Unreadable, ReadFault, WriteFault, NoMemory}
 use Rattle.lk_run.specs.declared.words.Command.{Command}
 use Rattle.lk_run.specs.declared.words.Command.TheVariants as commands
 use Rattle.lk_run.specs.Complete.{IsFaultless, Tells, DescribesLayout}
-use Rattle.lk_run.specs.Device.{SourceState, SinkState}
+use Rattle.lk_devices.specs.Device.{SourceState, SinkState}
 use Rattle.lk_run.specs.FaultText.{input_fault_text_of, too_long_text}
 use Rattle.lk_run.specs.Run.{Held, Whole, Longer, Holds, Takes, IsAnswerTo, IsAnswerToReading, IsAnswered, IsGeneratedAnswer, Commanded, Uncommanded, Finished, IsRun, Unread, summed_up, told_of}
 use Rattle.lk_run.specs.Words.{IsCommand, command_of, reads, usage}

@@ -3,11 +3,9 @@ pub mod Completeness
 pub mod Digits
 pub mod Lines
 pub mod LiveLines
-pub mod Past
 pub mod PieceLines
 pub mod Refusals
 pub mod RunLaws
 pub mod SingleLines
 pub mod SoundRuns
 pub mod SymbolParts
-pub mod Written

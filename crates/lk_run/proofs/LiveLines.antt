@@ -8,9 +8,9 @@ use Rattle.lk_link.specs.declared.link.LinkInput.{LinkInput}
 use Rattle.lk_link.specs.Inputs.{Input, NumberedFile, all_inputs, input_number, inputs_from, numbered_files}
 use Rattle.lk_link.specs.Marks.{is_marked}
 use Rattle.lk_reach.proofs.UnitLemmas.{input_place}
-use Rattle.lk_gc.proofs.FaultLemmas.{one_more}
-use Rattle.lk_gc.proofs.GroupJoining.{made_by_list}
-use Rattle.lk_gc.specs.Reach.{marked}
+use Rattle.lk_live.proofs.FaultLemmas.{one_more}
+use Rattle.lk_live.proofs.GroupJoining.{made_by_list}
+use Rattle.lk_live.specs.Reach.{marked}
 use Rattle.lk_layout.specs.LayoutRecord.{LayoutRecord}
 use Rattle.lk_layout.specs.Layouts.{told_live, told_section}
 use Rattle.lk_run.specs.LiveLines.{file_lines}

@@ -11,7 +11,7 @@ use Rattle.lk_run.specs.declared.status.Status.{Status}
 use Rattle.lk_run.specs.declared.status.Status.TheVariants.{LaidOut, Refused, Usage, Unreadable, ReadFault, WriteFault, NoMemory}
 use Rattle.lk_run.specs.declared.words.Command.{Command}
 use Rattle.lk_run.specs.declared.words.Command.TheVariants as commands
-use Rattle.lk_run.specs.Device.{SourceState, SinkState}
+use Rattle.lk_devices.specs.Device.{SourceState, SinkState}
 use Rattle.lk_run.specs.declared.top_call.Reading.{Reading}
 use Rattle.lk_run.specs.declared.top_call.Reading.TheVariants.{Link, Fault}
 use Rattle.lk_run.specs.Run.{Held, Whole, Longer, Holds, IsReadUp, IsKept, IsAnswerTo, IsAnswerToReading, IsAnswered, IsDefinedFor, Generated, Uncommanded, IsRun, summed_up, told_of}

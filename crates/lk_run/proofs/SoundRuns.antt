@@ -14,7 +14,7 @@ use Rattle.lk_run.specs.declared.answer.Answer.{Answer}
 use Rattle.lk_run.specs.declared.status.Status.{Status}
 use Rattle.lk_run.specs.declared.status.Status.TheVariants.{LaidOut, Refused, Unreadable}
 use Rattle.lk_run.specs.declared.words.Command.TheVariants as commands
-use Rattle.lk_run.specs.Device.{SourceState, SinkState}
+use Rattle.lk_devices.specs.Device.{SourceState, SinkState}
 use Rattle.lk_run.specs.Run.{Held, Whole, Longer, Holds, Takes, IsAnswerTo, IsAnswerToReading, Finished, IsRun, summed_up, told_of}
 use Rattle.lk_run.specs.SoundRun.{TellsSoundLayout, TellsSoundSummary, IsSoundRun}
 use Rattle.lk_run.specs.Words.{IsCommand}

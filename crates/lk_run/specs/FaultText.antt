@@ -6,7 +6,7 @@ use Rattle.lk_input.specs.declared.read.error.InputError.{InputError}
 use Rattle.lk_input.specs.Texts.{input_error_text}
 use Rattle.lk_layout.specs.declared.error.LayoutError.{LayoutError}
 use Rattle.lk_layout.specs.Texts.{error_text}
-use Rattle.lk_run.specs.declared.limit.TheConstants.{LONGEST_INPUT}
+use Rattle.lk_devices.specs.declared.limit.TheConstants.{LONGEST_INPUT}
 
 -- why a link isn't laid out
 abbrev pub fault_text_of : LayoutError → List ℕ

@@ -1,17 +1,13 @@
 pub mod Complete
-pub mod Device
 pub mod FaultText
 pub mod LiveLines
-pub mod Memory
 pub mod MergedLines
 pub mod Program
-pub mod ReadAll
 pub mod Report
 pub mod ReportPieces
 pub mod Run
 pub mod RunAlone
 pub mod SoundRun
-pub mod Standard
 pub mod Status
 pub mod Steps
 pub mod Summary

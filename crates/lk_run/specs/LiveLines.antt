@@ -3,7 +3,7 @@ use Rattle.std.specs.Prelude.{ℕ, List}
 use Rattle.std.specs.List.{flat_map}
 use Rattle.lk_link.specs.declared.link.LinkInput.{LinkInput}
 use Rattle.lk_link.specs.Inputs.{NumberedFile, input_number, inputs_from}
-use Rattle.lk_gc.specs.ByGroups.{files_in}
+use Rattle.lk_live.specs.ByGroups.{files_in}
 use Rattle.lk_layout.specs.LayoutRecord.{LayoutRecord}
 use Rattle.lk_run.specs.Report.{input_text}
 

@@ -10,12 +10,12 @@ use Rattle.lk_layout.specs.LayoutRecord.{LayoutRecord}
 use Rattle.lk_layout.specs.Defined.{IsDefined}
 use Rattle.lk_layout.specs.Machines.{small64_machine}
 use Rattle.lk_run.specs.declared.answer.Answer.{Answer}
-use Rattle.lk_run.specs.declared.limit.TheConstants.{LONGEST_INPUT}
+use Rattle.lk_devices.specs.declared.limit.TheConstants.{LONGEST_INPUT}
 use Rattle.lk_run.specs.declared.status.Status.{Status}
 use Rattle.lk_run.specs.declared.status.Status.TheVariants.{LaidOut, Refused, Usage, Unreadable, ReadFault, WriteFault, NoMemory}
 use Rattle.lk_run.specs.declared.words.Command.{Command}
 use Rattle.lk_run.specs.declared.words.Command.TheVariants as commands
-use Rattle.lk_run.specs.Device.{SourceState, SinkState, Appends, AppendsPrefix, Keeps}
+use Rattle.lk_devices.specs.Device.{SourceState, SinkState, Appends, AppendsPrefix, Keeps}
 use Rattle.lk_run.specs.FaultText.{fault_text_of, input_fault_text_of, too_long_text}
 use Rattle.lk_run.specs.Report.{report}
 use Rattle.lk_run.specs.Summary.{summary}

@@ -2,7 +2,7 @@
 use Rattle.std.specs.Prelude.{◌≡◌, ℕ, ◌≤◌, List, Option, Some, None}
 use Rattle.lk_run.specs.declared.status.Status.{Status}
 use Rattle.lk_run.specs.declared.words.Command.TheVariants as commands
-use Rattle.lk_run.specs.Device.{SourceState, SinkState}
+use Rattle.lk_devices.specs.Device.{SourceState, SinkState}
 use Rattle.lk_run.specs.Run.{IsRun}
 use Rattle.lk_run.specs.SoundRun.{IsSoundRun}
 use Rattle.lk_run.specs.Words.{IsCommand}

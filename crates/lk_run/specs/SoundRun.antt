@@ -11,7 +11,7 @@ use Rattle.lk_layout.specs.Sound.{IsSound}
 use Rattle.lk_run.specs.declared.status.Status.{Status}
 use Rattle.lk_run.specs.declared.status.Status.TheVariants.{LaidOut}
 use Rattle.lk_run.specs.declared.words.Command.TheVariants as commands
-use Rattle.lk_run.specs.Device.{SourceState, SinkState}
+use Rattle.lk_devices.specs.Device.{SourceState, SinkState}
 use Rattle.lk_run.specs.Report.{report}
 use Rattle.lk_run.specs.Run.{Whole, Holds, Takes}
 use Rattle.lk_run.specs.Summary.{summary}

@@ -8,7 +8,7 @@ use Rattle.lk_run.specs.declared.top_call.Reading.TheVariants.{Link, Fault}
 use Rattle.lk_run.specs.declared.status.Status.{Status}
 use Rattle.lk_run.specs.declared.status.Status.TheVariants.{LaidOut, Refused, Usage, Unreadable, ReadFault, WriteFault, NoMemory}
 use Rattle.lk_run.specs.declared.words.Command.TheVariants as commands
-use Rattle.lk_run.specs.Device.{SourceState, SinkState}
+use Rattle.lk_devices.specs.Device.{SourceState, SinkState}
 use Rattle.lk_run.specs.Run.{IsAnswerToReading, IsGeneratedAnswer, Commanded, IsKept, Takes, TakesPrefix}
 use Rattle.lk_run.specs.Words.{usage}
 

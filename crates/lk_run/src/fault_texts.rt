@@ -3,7 +3,7 @@
 ghost use Rattle.std.specs.Prelude.{◌≡◌, ◌≢◌, string_bytes, IfOk};
 ghost use Rattle.lk_run.specs.FaultText.{fault_text_of, input_fault_text_of, too_long_text as too_long};
 
-use crate::limit::LONGEST_INPUT;
+use lk_devices::limit::LONGEST_INPUT;
 use lk_input::InputError;
 use lk_layout::error::LayoutError;
 use std::alloc::{AllocError, Global};

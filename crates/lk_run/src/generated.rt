@@ -9,7 +9,7 @@ ghost use Rattle.lk_run.specs.Steps.{IsGeneratedRun};
 
 use crate::answer::Answer;
 use crate::fault_texts::fault_text;
-use crate::sink::Sink;
+use lk_devices::sink::Sink;
 use crate::status::Status;
 use crate::summary::summary_text;
 use crate::top_call::tell;

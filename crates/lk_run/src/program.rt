@@ -7,8 +7,8 @@ ghost use Rattle.std.specs.Vec.Iter.{into_iter_items};
 ghost use Rattle.lk_run.specs.Program.{IsProgramRun, IsStopped};
 ghost use Rattle.lk_run.specs.RunAlone.{AsksForWorkers};
 
-use crate::sink::Sink;
-use crate::source::Source;
+use lk_devices::sink::Sink;
+use lk_devices::source::Source;
 use crate::status::Status;
 use crate::top_call::run_last;
 use crate::words::words_behind_name;

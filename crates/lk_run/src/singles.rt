@@ -8,7 +8,7 @@ ghost use Rattle.lk_link.specs.WellFormed.{IsWellFormed};
 ghost use Rattle.lk_run.specs.Report.{index_behind, single_line, single_lines, single_text};
 
 use crate::line::Line;
-use lk_gc::is_singleton;
+use lk_live::is_singleton;
 use lk_layout::Layout;
 use lk_link::InputRef;
 use lk_link::link::LinkInput;

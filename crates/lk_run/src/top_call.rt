@@ -16,12 +16,12 @@ ghost use Rattle.lk_run.specs.Steps.{GivesReading, IsReadAs, IsToldBy, IsLinkTol
 use crate::answer::Answer;
 use crate::fault_texts::{fault_text, input_fault_text, too_long_text};
 use crate::generated::run_gen;
-use crate::limit::LONGEST_INPUT;
+use lk_devices::limit::LONGEST_INPUT;
 use crate::report::{report_text, report_text_by_workers};
-use crate::sink::Sink;
-use crate::source::Source;
+use lk_devices::sink::Sink;
+use lk_devices::source::Source;
 use crate::status::Status;
-use crate::transfer::{ReadAllError, read_all, write_all};
+use lk_devices::transfer::{ReadAllError, read_all, write_all};
 use crate::words::{Command, read_words, usage_text};
 use lk_input::{InputError, read_link};
 use lk_layout::laws::{

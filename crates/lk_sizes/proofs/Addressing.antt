@@ -8,8 +8,8 @@ use Rattle.lk_link.specs.declared.plan.PlanPart.{PlanPart}
 use Rattle.lk_link.specs.Inputs.{Input, NumberedFile, numbered_files}
 use Rattle.lk_link.specs.Parts.{part_at}
 use Rattle.lk_link.proofs.Elements.{append_left, append_right, at_contained, filter_in, flat_map_at, flat_map_in, map_in}
-use Rattle.lk_gc.specs.declared.live.Live.{Live}
-use Rattle.lk_gc.specs.Reach.{live_inputs}
+use Rattle.lk_live.specs.declared.live.Live.{Live}
+use Rattle.lk_live.specs.Reach.{live_inputs}
 use Rattle.lk_reach.proofs.LiveWalk.{split_at}
 use Rattle.lk_sizes.specs.Owners.{Content, EntryOwner, Filling, Owner, Taker, all_file_takers, bytes_of, common_taker, commons_of, file_takers, leading_of, live_of, owner_address, owner_bytes, owners_in, section_taker, sorted_takers, takers, thunk_takers}
 use Rattle.lk_sizes.specs.Sorted.{sorted_inputs}

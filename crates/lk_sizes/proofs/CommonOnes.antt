@@ -28,7 +28,7 @@ use Rattle.lk_link.specs.Walks.{file_of}
 use Rattle.lk_link.specs.WellFormed.{IsWellFormed}
 use Rattle.lk_link.proofs.GoodSymbols.{symbol_of as symbols_are_good}
 use Rattle.lk_link.proofs.InputLemmas.{file_stands, numbered_get}
-use Rattle.lk_gc.specs.declared.live.Live.{Live}
+use Rattle.lk_live.specs.declared.live.Live.{Live}
 use Rattle.lk_reach.proofs.Numbered.{file_at}
 use Rattle.lk_reach.proofs.WalkLemmas.{one_file_more}
 use Rattle.lk_tables.specs.declared.commons.Common.{Common}

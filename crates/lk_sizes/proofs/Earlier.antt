@@ -12,8 +12,8 @@ use Rattle.lk_link.specs.declared.link.LinkInput.{LinkInput}
 use Rattle.lk_link.specs.declared.section.InputSection.{InputSection}
 use Rattle.lk_link.specs.Files.{file_cmp}
 use Rattle.lk_link.specs.Inputs.{Input, NumberedFile, all_inputs, group_files, inputs_from, numbered_file, numbered_files, numbered_section}
-use Rattle.lk_gc.specs.declared.live.Live.{Live}
-use Rattle.lk_gc.specs.Reach.{live_inputs}
+use Rattle.lk_live.specs.declared.live.Live.{Live}
+use Rattle.lk_live.specs.Reach.{live_inputs}
 use Rattle.lk_sizes.specs.Sorted.{sorted_ones}
 use Rattle.lk_sizes.proofs.LiveOnes.{Pairwise, pairwise_marked}
 

@@ -5,7 +5,7 @@ use Rattle.std.specs.Option.{option_map_or}
 use Rattle.lk_link.specs.declared.ids.FileId.{FileId}
 use Rattle.lk_link.specs.declared.link.LinkInput.{LinkInput}
 use Rattle.lk_link.specs.TableSizes.{TableSizes}
-use Rattle.lk_gc.specs.declared.live.Live.{Live}
+use Rattle.lk_live.specs.declared.live.Live.{Live}
 use Rattle.lk_sizes.specs.Owners.{Filling, content_of, in_output, own_sizes, sized_filling, with_thunks}
 use Rattle.lk_sizes.specs.OwnersRecord.{OwnersRecord}
 use Rattle.lk_sizes.specs.PartOwners.{EndsFit}

@@ -16,7 +16,7 @@ use Rattle.lk_link.specs.Parts.{all_parts, part_at}
 use Rattle.lk_link.specs.TableSizes.{TableSizes}
 use Rattle.lk_link.proofs.Elements.{at_index, map_at, map_in, numbered_at}
 use Rattle.lk_link.proofs.Numbers.{length-made, made_at, made_of}
-use Rattle.lk_gc.specs.declared.live.Live.{Live}
+use Rattle.lk_live.specs.declared.live.Live.{Live}
 use Rattle.lk_tables.specs.HeaderParts.{told_sum}
 use Rattle.lk_tables.specs.SymbolTable.{TableEntry, entry_bytes}
 use Rattle.lk_tables.specs.TableLists.{TableLists, first_tables, table_bytes, table_of}

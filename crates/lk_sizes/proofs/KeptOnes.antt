@@ -12,8 +12,8 @@ use Rattle.lk_link.specs.InputRules.{IsGoodInput}
 use Rattle.lk_link.specs.InputSlots.{can_be_kept, is_discarded, is_merge}
 use Rattle.lk_link.specs.Parts.{all_parts}
 use Rattle.lk_link.specs.WellFormed.{IsWellFormed}
-use Rattle.lk_gc.specs.declared.live.Live.{Live}
-use Rattle.lk_gc.specs.Reach.{AreLive, live_inputs, marked}
+use Rattle.lk_live.specs.declared.live.Live.{Live}
+use Rattle.lk_live.specs.Reach.{AreLive, live_inputs, marked}
 use Rattle.lk_reach.proofs.Numbered.{file_of_input}
 use Rattle.lk_sizes.specs.Kept.{kept_inputs, kept_of}
 use Rattle.lk_sizes.specs.Owners.{has_image, into, is_merged}

@@ -7,8 +7,8 @@ use Rattle.lk_link.specs.Inputs.{Input, NumberedFile, all_inputs, input_number, 
 use Rattle.lk_link.specs.Marks.{is_marked}
 use Rattle.lk_link.proofs.Elements.{filter_at, flat_map_in}
 use Rattle.lk_link.proofs.InputLemmas.{inputs_follow}
-use Rattle.lk_gc.specs.declared.live.Live.{Live}
-use Rattle.lk_gc.specs.Reach.{live_inputs, marked}
+use Rattle.lk_live.specs.declared.live.Live.{Live}
+use Rattle.lk_live.specs.Reach.{live_inputs, marked}
 use Rattle.lk_reach.proofs.Numbered.{file_of_input, one_place, sections_of}
 use Rattle.lk_sizes.specs.Owners.{live_of, stands_in_file}
 use Rattle.lk_sizes.specs.Tables.{IsInput}

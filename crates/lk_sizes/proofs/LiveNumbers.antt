@@ -11,8 +11,8 @@ use Rattle.lk_link.specs.Inputs.{Input, NumberedFile, first_input, input_number,
 use Rattle.lk_link.specs.Symbols.{all_files, file_number}
 use Rattle.lk_link.proofs.Elements.{map_in}
 use Rattle.lk_link.proofs.InputLemmas.{file_stands, files_from_are}
-use Rattle.lk_gc.specs.declared.live.Live.{Live}
-use Rattle.lk_gc.specs.Reach.{live_inputs}
+use Rattle.lk_live.specs.declared.live.Live.{Live}
+use Rattle.lk_live.specs.Reach.{live_inputs}
 use Rattle.lk_reach.proofs.Numbered.{file_at, sections_of}
 use Rattle.lk_sizes.proofs.Keys.{IsRising, NoneTwice, rise_flat, rising_lower, rising_once}
 use Rattle.lk_sizes.proofs.LiveByFiles.{is_live_input, live_by_files}

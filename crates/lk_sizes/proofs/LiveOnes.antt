@@ -10,8 +10,8 @@ use Rattle.lk_link.specs.InputRules.{IsGoodInput}
 use Rattle.lk_link.specs.InputSlots.{can_be_kept, is_discarded}
 use Rattle.lk_link.specs.Parts.{all_parts}
 use Rattle.lk_link.specs.WellFormed.{IsWellFormed}
-use Rattle.lk_gc.specs.declared.live.Live.{Live}
-use Rattle.lk_gc.specs.Reach.{AreLive, IsLive, live_inputs, marked}
+use Rattle.lk_live.specs.declared.live.Live.{Live}
+use Rattle.lk_live.specs.Reach.{AreLive, IsLive, live_inputs, marked}
 use Rattle.lk_reach.proofs.Numbered.{file_of_input, one_place}
 
 -- ---- each is one of the link's

@@ -11,8 +11,8 @@ use Rattle.lk_link.specs.Walks.{input_of}
 use Rattle.lk_link.specs.Alignments.{is_alignment}
 use Rattle.lk_link.specs.Parts.{all_parts, part_at}
 use Rattle.lk_link.specs.WellFormed.{IsWellFormed}
-use Rattle.lk_gc.specs.declared.live.Live.{Live}
-use Rattle.lk_gc.specs.Reach.{AreLive, live_inputs}
+use Rattle.lk_live.specs.declared.live.Live.{Live}
+use Rattle.lk_live.specs.Reach.{AreLive, live_inputs}
 use Rattle.lk_reach.proofs.LiveWalk.{turn}
 use Rattle.lk_sizes.specs.Kept.{kept_inputs}
 use Rattle.lk_sizes.proofs.KeptOnes.{kept_goes}

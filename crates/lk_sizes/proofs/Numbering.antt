@@ -7,7 +7,7 @@ use Rattle.lk_link.specs.Inputs.{Input, all_inputs}
 use Rattle.lk_link.specs.Marks.{is_marked}
 use Rattle.lk_link.proofs.Elements.{map_in}
 use Rattle.lk_link.proofs.InputLemmas.{numbered_get}
-use Rattle.lk_gc.specs.Reach.{marked}
+use Rattle.lk_live.specs.Reach.{marked}
 use Rattle.lk_sizes.specs.declared.addresses.LiveSection.{LiveSection}
 use Rattle.lk_sizes.specs.Addresses.{TableTellsLiveSections, live_section, section_address, section_addresses, told_section}
 use Rattle.lk_sizes.specs.Owners.{Filling, size_in, size_of}

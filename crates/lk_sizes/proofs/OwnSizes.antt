@@ -7,7 +7,7 @@ use Rattle.std.proofs.lemmas.Option.{get_or_from_slice_get}
 use Rattle.lk_link.specs.declared.link.LinkInput.{LinkInput}
 use Rattle.lk_link.specs.Inputs.{Input, all_inputs, numbered_files}
 use Rattle.lk_link.proofs.Elements.{at_contained, map_in}
-use Rattle.lk_gc.specs.Reach.{live_inputs}
+use Rattle.lk_live.specs.Reach.{live_inputs}
 use Rattle.lk_sizes.specs.Owners.{Content, SectionOwner, Taker, all_file_takers, common_taker, commons_of, file_takers, live_of, own_sizes, plain_filling, section_taker, size_in, size_of, sized_filling}
 use Rattle.lk_sizes.specs.PartOwners.{owner_number, owners_of}
 use Rattle.lk_sizes.specs.Tables.{file_takers_by}

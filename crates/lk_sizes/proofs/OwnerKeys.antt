@@ -13,7 +13,7 @@ use Rattle.lk_link.specs.Inputs.{Input, NumberedFile, numbered_files}
 use Rattle.lk_link.specs.Parts.{part_sections}
 use Rattle.lk_link.specs.Symbols.{all_files, file_number}
 use Rattle.lk_link.proofs.InputLemmas.{files_from_are}
-use Rattle.lk_gc.specs.declared.live.Live.{Live}
+use Rattle.lk_live.specs.declared.live.Live.{Live}
 use Rattle.lk_tables.specs.declared.commons.Common.{Common}
 use Rattle.lk_tables.specs.SymbolTable.{TableEntry}
 use Rattle.lk_tables.specs.TableLists.{table_of}

@@ -7,8 +7,8 @@ use Rattle.std.proofs.lemmas.Bool.{eqb-true}
 use Rattle.lk_link.specs.declared.link.LinkInput.{LinkInput}
 use Rattle.lk_link.specs.Inputs.{NumberedFile, numbered_files}
 use Rattle.lk_link.proofs.Elements.{append_at, contains_at, filter_at, flat_map_at, map_at}
-use Rattle.lk_gc.specs.declared.live.Live.{Live}
-use Rattle.lk_gc.specs.Reach.{live_inputs}
+use Rattle.lk_live.specs.declared.live.Live.{Live}
+use Rattle.lk_live.specs.Reach.{live_inputs}
 use Rattle.lk_reach.proofs.Numbered.{file_at}
 use Rattle.lk_sizes.specs.Owners.{EntryOwner, Filling, IdentityOwner, ImageOwner, Owner, Taker, all_file_takers, common_taker, commons_of, content_owners, file_takers, has_image, identity_of, identity_size, images_of, leading_of, live_of, owners_in, section_taker, sorted_takers, takers, thunk_takers}
 use Rattle.lk_sizes.specs.PartOwners.{IsOwnerOf, OwnersAreLive, tables_of}

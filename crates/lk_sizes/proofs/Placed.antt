@@ -20,8 +20,8 @@ use Rattle.lk_link.specs.Sizes.{capacity}
 use Rattle.lk_link.specs.WellFormed.{IsWellFormed}
 use Rattle.lk_link.proofs.Elements.{append_left, append_right, at_index, map_in}
 use Rattle.lk_link.proofs.InputLemmas.{inputs_follow, numbered_get}
-use Rattle.lk_gc.specs.declared.live.Live.{Live}
-use Rattle.lk_gc.specs.Reach.{AreLive, live_inputs}
+use Rattle.lk_live.specs.declared.live.Live.{Live}
+use Rattle.lk_live.specs.Reach.{AreLive, live_inputs}
 use Rattle.lk_reach.proofs.LiveWalk.{split_at}
 use Rattle.lk_reach.proofs.SymbolNumbers.{inputs_few}
 use Rattle.lk_sizes.specs.declared.addresses.CommonAddress.{CommonAddress}
@@ -251,6 +251,32 @@ all_fit filling starts p fit below =
       sum_by-append (owner_bytes (part_at filling.content.link.plan.sections p)) (content_owners filling p)
           (map EntryOwner (table_of filling.content.link.plan.named (tables_of filling.content) p)),
       sum_by-append (owner_bytes (part_at filling.content.link.plan.sections p)) (leading_of filling.content.link filling.content.merged_lens p) (owners_in p (takers filling)),
+    )
+
+-- no size is above its capacity
+pub size-le : (part : PlanPart) (size : ℕ) → size ≤ capacity part size
+size-le part size =
+    elim part.packed as (λ b. size ≤ cond b size (next_multiple_of size part.alignment)) [
+      | true ↦ omega arith
+      | false ↦ omega arith
+    ]
+
+-- behind a live section there is room for its size in the filling, up to the end of its part
+pub ends_within : (filling : Filling) (starts : List ℕ) (k : ℕ) (x : Input) → slice_get (live_inputs filling.content.link filling.content.live) k ≡ Some x
+    → EndsFit filling starts → x.section.part < length starts → live_address filling starts x + size_of filling x < 2 ^ 64
+ends_within filling starts k x there fit within =
+    let link : LinkInput = filling.content.link in
+    let p : ℕ = x.section.part in
+    let split = live_among filling k x there in
+    omega (
+      arith,
+      section_behind filling starts split.front x split.rest split.splits,
+      all_fit filling starts p fit within,
+      ap (bytes_in link p) split.splits,
+      bytes_in-append link p split.front (section_taker filling x ∷ split.rest),
+      bytes_in-append link p (section_taker filling x ∷ []) split.rest,
+      bytes_in_here link p (section_taker filling x) refl,
+      size-le (part_at link.plan.sections p) (size_of filling x),
     )
 
 -- the address that is known of an input section, with its number, when the files are done: sorted ones wait

@@ -20,8 +20,8 @@ use Rattle.lk_link.proofs.InputLemmas.{numbered_get}
 use Rattle.lk_link.proofs.Numbers.{length-made, made_get, made_of}
 use Rattle.lk_link.proofs.Powers.{alignment-pos}
 use Rattle.lk_link.proofs.Starts.{next_multiple_is_least}
-use Rattle.lk_gc.specs.declared.live.Live.{Live}
-use Rattle.lk_gc.specs.Reach.{AreLive, live_inputs}
+use Rattle.lk_live.specs.declared.live.Live.{Live}
+use Rattle.lk_live.specs.Reach.{AreLive, live_inputs}
 use Rattle.lk_sizes.specs.declared.owners.PartContents.{PartContents}
 use Rattle.lk_sizes.specs.declared.owners.PartTotal.{PartTotal}
 use Rattle.lk_sizes.specs.declared.sorted.InputSortedSection.{InputSortedSection}

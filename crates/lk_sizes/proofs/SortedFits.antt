@@ -11,7 +11,7 @@ use Rattle.lk_link.specs.Parts.{all_parts, part_at}
 use Rattle.lk_link.specs.WellFormed.{IsWellFormed}
 use Rattle.lk_link.proofs.Elements.{at_index, contains_at, map_in}
 use Rattle.lk_link.proofs.InputLemmas.{numbered_get}
-use Rattle.lk_gc.specs.Reach.{AreLive, live_inputs}
+use Rattle.lk_live.specs.Reach.{AreLive, live_inputs}
 use Rattle.lk_sizes.specs.declared.error.SizeError.TheVariants.{AddressOverflow}
 use Rattle.lk_sizes.specs.Contents.{sum_refusal}
 use Rattle.lk_sizes.specs.Harvest.{SortedFit}

@@ -18,8 +18,8 @@ use Rattle.lk_link.specs.Inputs.{Input, all_inputs}
 use Rattle.lk_link.specs.WellFormed.{IsWellFormed}
 use Rattle.lk_link.proofs.Elements.{at_contained, at_index, contains_at, map_at, map_in, numbered_at}
 use Rattle.lk_link.proofs.InputLemmas.{inputs_follow}
-use Rattle.lk_gc.specs.declared.live.Live.{Live}
-use Rattle.lk_gc.specs.Reach.{live_inputs, marked}
+use Rattle.lk_live.specs.declared.live.Live.{Live}
+use Rattle.lk_live.specs.Reach.{live_inputs, marked}
 use Rattle.lk_reach.proofs.SymbolNumbers.{inputs_few}
 use Rattle.lk_sizes.specs.Ranks.{AreKeys, AreRanks, AreSortedKeys, StandByKeys, sort_key}
 use Rattle.lk_sizes.specs.Sorted.{before, name_cmp, sorted_inputs, sorted_ones}

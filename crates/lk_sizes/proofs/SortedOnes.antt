@@ -14,8 +14,8 @@ use Rattle.lk_link.specs.declared.link.LinkInput.{LinkInput}
 use Rattle.lk_link.specs.Files.{file_cmp}
 use Rattle.lk_link.specs.Inputs.{Input, input_number}
 use Rattle.lk_link.proofs.Elements.{at_contained, contains_at, filter_at, filter_in, map_in}
-use Rattle.lk_gc.specs.declared.live.Live.{Live}
-use Rattle.lk_gc.specs.Reach.{live_inputs}
+use Rattle.lk_live.specs.declared.live.Live.{Live}
+use Rattle.lk_live.specs.Reach.{live_inputs}
 use Rattle.lk_sizes.specs.Sorted.{NoOtherOrder, SortedStandByName, before, by_name, insert_by_name, name_cmp, sorted_inputs, sorted_ones}
 use Rattle.lk_sizes.proofs.Keys.{NoneTwice, all_keys, some_once}
 use Rattle.lk_sizes.proofs.LiveByFiles.{unsorted_ones}

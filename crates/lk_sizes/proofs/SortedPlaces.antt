@@ -19,8 +19,8 @@ use Rattle.lk_link.specs.Sizes.{capacity}
 use Rattle.lk_link.specs.WellFormed.{IsWellFormed}
 use Rattle.lk_link.proofs.Elements.{at_index, map_at, map_in}
 use Rattle.lk_link.proofs.InputLemmas.{numbered_get}
-use Rattle.lk_gc.specs.declared.live.Live.{Live}
-use Rattle.lk_gc.specs.Reach.{AreLive, live_inputs, marked}
+use Rattle.lk_live.specs.declared.live.Live.{Live}
+use Rattle.lk_live.specs.Reach.{AreLive, live_inputs, marked}
 use Rattle.lk_reach.proofs.LiveWalk.{split_at}
 use Rattle.lk_reach.proofs.Numbered.{file_of_input}
 use Rattle.lk_sizes.specs.declared.sorted.InputSortedSection.{InputSortedSection}

@@ -12,8 +12,8 @@ use Rattle.lk_link.specs.Parts.{part_sections}
 use Rattle.lk_link.specs.WellFormed.{IsWellFormed}
 use Rattle.lk_link.proofs.GoodPartFields.{good_part_fields}
 use Rattle.lk_link.proofs.Elements.{append_at, filter_at, flat_map_at, map_at}
-use Rattle.lk_gc.specs.declared.live.Live.{Live}
-use Rattle.lk_gc.specs.Reach.{AreLive}
+use Rattle.lk_live.specs.declared.live.Live.{Live}
+use Rattle.lk_live.specs.Reach.{AreLive}
 use Rattle.lk_reach.proofs.Numbered.{file_at}
 use Rattle.lk_tables.specs.declared.commons.Common.{Common}
 use Rattle.lk_sizes.specs.Owners.{EntryOwner, Filling, IdentityOwner, ImageOwner, Owner, Taker, all_file_takers, common_taker, commons_of, file_takers, has_image, identity_of, images_of, into, is_merged, live_of, owners_in, section_taker, sorted_takers, takers, thunk_takers}

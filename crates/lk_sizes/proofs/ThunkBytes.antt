@@ -19,7 +19,7 @@ use Rattle.lk_link.specs.Symbols.{file_number}
 use Rattle.lk_link.proofs.Elements.{at_index, map_in}
 use Rattle.lk_link.proofs.InputLemmas.{file_stands, numbered_get}
 use Rattle.lk_link.proofs.Numbers.{length-made}
-use Rattle.lk_gc.specs.declared.live.Live.{Live}
+use Rattle.lk_live.specs.declared.live.Live.{Live}
 use Rattle.lk_tables.specs.TableLists.{table_of}
 use Rattle.lk_sizes.specs.declared.owners.PartContents.{PartContents}
 use Rattle.lk_sizes.specs.declared.owners.PartTotal.{PartTotal}

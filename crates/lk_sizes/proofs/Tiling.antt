@@ -23,7 +23,7 @@ use Rattle.lk_sizes.specs.Owners.{EntryOwner, Filling, IdentityOwner, ImageOwner
 use Rattle.lk_sizes.specs.Sorted.{sorted_inputs}
 use Rattle.lk_sizes.specs.PartOwners.{owners_of, tables_of}
 use Rattle.lk_tables.specs.declared.commons.Common.{Common}
-use Rattle.lk_gc.specs.declared.live.Live.{Live}
+use Rattle.lk_live.specs.declared.live.Live.{Live}
 use Rattle.lk_tables.specs.SymbolTable.{TableEntry}
 use Rattle.lk_tables.proofs.PartLists.{other_parts}
 use Rattle.lk_link.specs.Inputs.{Input, NumberedFile, numbered_files}

@@ -5,7 +5,7 @@ use Rattle.lk_link.specs.declared.link.LinkInput.{LinkInput}
 use Rattle.lk_link.specs.declared.plan.PlanSection.{PlanSection}
 use Rattle.lk_link.specs.Parts.{first_part}
 use Rattle.lk_link.specs.PlanSections.{is_singletons, own_attributes}
-use Rattle.lk_gc.specs.declared.live.Live.{Live}
+use Rattle.lk_live.specs.declared.live.Live.{Live}
 use Rattle.lk_sizes.specs.Kept.{kept_inputs}
 use Rattle.lk_sizes.specs.Owners.{into}
 

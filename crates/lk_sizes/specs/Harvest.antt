@@ -4,7 +4,7 @@ use Rattle.lk_link.specs.declared.link.LinkInput.{LinkInput}
 use Rattle.lk_link.specs.Inputs.{Input, input_number}
 use Rattle.lk_link.specs.Parts.{part_at}
 use Rattle.lk_link.specs.Sizes.{capacity}
-use Rattle.lk_gc.specs.declared.live.Live.{Live}
+use Rattle.lk_live.specs.declared.live.Live.{Live}
 use Rattle.lk_sizes.specs.declared.sorted.InputSortedSection.{InputSortedSection}
 use Rattle.lk_sizes.specs.Sorted.{sorted_inputs}
 

@@ -17,8 +17,8 @@ use Rattle.lk_link.specs.Parts.{all_parts, part_at, part_sections}
 use Rattle.lk_link.specs.Sizes.{capacity}
 use Rattle.lk_link.specs.Symbols.{file_number, first_symbol}
 use Rattle.lk_link.specs.TableSizes.{TableSizes}
-use Rattle.lk_gc.specs.declared.live.Live.{Live}
-use Rattle.lk_gc.specs.Reach.{live_inputs}
+use Rattle.lk_live.specs.declared.live.Live.{Live}
+use Rattle.lk_live.specs.Reach.{live_inputs}
 use Rattle.lk_tables.specs.declared.commons.Common.{Common}
 pub use Rattle.lk_tables.specs.Commons.{all_commons, common_at, common_of, commons_of}
 use Rattle.lk_tables.specs.Copied.{is_wanted}

@@ -12,7 +12,7 @@ use Rattle.lk_link.specs.PartRules.{is_table_part}
 use Rattle.lk_link.specs.Parts.{part_at, part_sections}
 use Rattle.lk_link.specs.Symbols.{file_number}
 use Rattle.lk_link.specs.WellFormed.{IsWellFormed}
-use Rattle.lk_gc.specs.Reach.{AreLive, live_inputs}
+use Rattle.lk_live.specs.Reach.{AreLive, live_inputs}
 use Rattle.lk_tables.specs.SymbolTable.{TableEntry}
 use Rattle.lk_tables.specs.TableLists.{TableLists, table_of, whole_tables}
 use Rattle.lk_sizes.specs.Emitted.{active_segments, emitted_marks, told_marks}

@@ -5,15 +5,15 @@ ghost use Rattle.std.specs.Prelude.{◌≡◌, ◌<◌, fold, if◌then◌else�
 ghost use Rattle.lk_link.specs.Parts.{all_parts};
 ghost use Rattle.lk_link.specs.PlanSections.{is_singletons, own_attributes};
 ghost use Rattle.lk_link.specs.WellFormed.{IsWellFormed};
-ghost use Rattle.lk_gc.specs.Reach.{AreLive};
-ghost use Rattle.lk_gc.specs.declared.live.Live.{Live};
+ghost use Rattle.lk_live.specs.Reach.{AreLive};
+ghost use Rattle.lk_live.specs.declared.live.Live.{Live};
 ghost use Rattle.lk_sizes.specs.Attributes.{all_section_attributes, part_attributes};
 ghost use Rattle.lk_sizes.specs.Contents.{part_contents};
 ghost use Rattle.lk_sizes.specs.Owners.{Filling, by_part, in_link};
 ghost use Rattle.lk_sizes.specs.Tables.{in_section};
 
 use crate::owners::{PartContents, PartTotal, add_inputs};
-use lk_gc::Live;
+use lk_live::Live;
 use lk_link::{LinkInput, OutputSectionId, Plan};
 use std::alloc::{AllocError, Global};
 

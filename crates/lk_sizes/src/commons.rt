@@ -5,7 +5,7 @@ ghost use Rattle.lk_link.specs.Files.{file_in};
 ghost use Rattle.lk_link.specs.Symbols.{first_symbol};
 ghost use Rattle.lk_link.specs.Walks.{file_of};
 ghost use Rattle.lk_link.specs.WellFormed.{IsWellFormed};
-ghost use Rattle.lk_gc.specs.declared.live.Live.{Live};
+ghost use Rattle.lk_live.specs.declared.live.Live.{Live};
 ghost use Rattle.lk_tables.specs.declared.commons.Common.{Common};
 ghost use Rattle.lk_sizes.specs.Owners.{commons_of};
 ghost use Rattle.lk_sizes.specs.Tables.{AreLeft, reach_from};

@@ -37,7 +37,7 @@ ghost use Rattle.lk_sizes.specs.Tables.{active_by, edges_by, in_section, placed_
 ghost use Rattle.lk_sizes.specs.Owners.{AreFirstSizes, content_of};
 
 use crate::kept_symbols::mark_kept_by_symbols;
-use lk_gc::Live;
+use lk_live::Live;
 use lk_link::limits::{EVENTS, SEGMENTS};
 use lk_link::marks::is_marked;
 use lk_link::{

@@ -5,7 +5,7 @@ ghost use Rattle.std.specs.Iterator.{YieldsFirstBy, item_count};
 ghost use Rattle.lk_link.specs.Files.{AreNumbered};
 ghost use Rattle.lk_sizes.specs.Kept.{kept_inputs};
 
-use lk_gc::Live;
+use lk_live::Live;
 use lk_link::{InputRef, Inputs, LinkInput};
 use std::marker::Model;
 

@@ -10,7 +10,7 @@ ghost use Rattle.lk_link.specs.Walks.{file_of};
 ghost use Rattle.lk_link.specs.WellFormed.{IsWellFormed};
 ghost use Rattle.lk_sizes.specs.Emitted.{file_keeps, is_kept_by_symbol, keeps, section_kept_by};
 
-use lk_gc::Live;
+use lk_live::Live;
 use lk_link::{FileKind, FileRef, InputSymbol, LinkInput, OutputSectionId, SymbolId};
 use std::alloc::{AllocError, Global};
 

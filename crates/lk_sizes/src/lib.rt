@@ -22,7 +22,7 @@ pub use attributes::{attributes_of_contents, propagate_section_attributes};
 pub use error::SizeError;
 pub use header::determine_header_sizes;
 pub use images::image_addresses;
-pub use lk_gc::Live;
+pub use lk_live::Live;
 pub use lk_link::{FileId, LinkInput, List, Place, Platform, SymbolId};
 pub use lk_tables::{
     Common, DynamicNumbers, FileShare, HeaderInfo, HeaderSizes, PartialLinkPlan,

@@ -11,7 +11,7 @@ ghost use Rattle.lk_link.specs.Marks.{is_marked};
 ghost use Rattle.lk_link.specs.Parts.{all_parts};
 ghost use Rattle.lk_link.specs.TableSizes.{TableSizes};
 ghost use Rattle.lk_link.specs.WellFormed.{IsWellFormed};
-ghost use Rattle.lk_gc.specs.Reach.{AreLive};
+ghost use Rattle.lk_live.specs.Reach.{AreLive};
 ghost use Rattle.lk_tables.specs.ShareWords.{first_shares};
 ghost use Rattle.lk_sizes.specs.Emitted.{is_emitted};
 ghost use Rattle.lk_sizes.specs.Contents.{AreContentTotals, part_contents};
@@ -28,7 +28,7 @@ use crate::owners::{
 };
 use crate::resized::{contents_fit, less_bytes, resize_sections};
 use crate::sorted::{InputSortedSection, tell_sorted};
-use lk_gc::Live;
+use lk_live::Live;
 use lk_link::{FileId, LinkInput, List, Platform};
 use lk_tables::{
     Common, DynamicNumbers, FileShare, HeaderInfo, SymbolShares, mark_prelude, symbol_shares,

@@ -7,7 +7,7 @@ ghost use Rattle.lk_link.specs.Inputs.{Input, all_inputs, input_number};
 ghost use Rattle.lk_link.specs.Parts.{all_parts};
 ghost use Rattle.lk_link.specs.Walks.{input_of};
 ghost use Rattle.lk_link.specs.WellFormed.{IsWellFormed};
-ghost use Rattle.lk_gc.specs.Reach.{AreLive};
+ghost use Rattle.lk_live.specs.Reach.{AreLive};
 ghost use Rattle.lk_sizes.specs.Harvest.{SortedFit, capacity_by, sorted_section, sorted_sections};
 ghost use Rattle.lk_sizes.specs.Ranks.{AreSortedKeys};
 ghost use Rattle.lk_sizes.specs.Sorted.{sorted_ones};
@@ -16,7 +16,7 @@ ghost use Rattle.lk_sizes.specs.Tables.{IsInput};
 
 use crate::owners::len_at;
 use crate::ranks::{in_order, keys_by_name};
-use lk_gc::Live;
+use lk_live::Live;
 use lk_link::{FileId, InputRef, LinkInput, PartId, Section};
 use std::alloc::{AllocError, Global};
 

@@ -10,7 +10,7 @@ use Rattle.lk_link.specs.FileKinds.{is_prelude}
 use Rattle.lk_link.specs.Flags.{has_flag, has_resolution}
 use Rattle.lk_link.specs.Inputs.{NumberedFile, numbered_files}
 use Rattle.lk_link.specs.TableSizes.{TableSizes}
-use Rattle.lk_gc.specs.declared.live.Live.{Live}
+use Rattle.lk_live.specs.declared.live.Live.{Live}
 use Rattle.lk_reach.specs.Units.{flags_from}
 use Rattle.lk_tables.specs.declared.shares.FileShare.{FileShare}
 use Rattle.lk_link.specs.Symbols.{is_canonical, is_named, is_wanted}

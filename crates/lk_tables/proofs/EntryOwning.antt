@@ -15,7 +15,7 @@ use Rattle.lk_link.specs.OutputKinds.{is_loaded_dynamically, is_partial}
 use Rattle.lk_link.specs.Rules.{begins_with_prelude}
 use Rattle.lk_link.specs.WellFormed.{IsWellFormed}
 use Rattle.lk_link.proofs.Elements.{append_at, filter_at, flat_map_at, flat_map_in, map_at, numbered_at}
-use Rattle.lk_gc.specs.declared.live.Live.{Live}
+use Rattle.lk_live.specs.declared.live.Live.{Live}
 use Rattle.lk_reach.specs.Units.{numbered_symbols}
 use Rattle.lk_reach.proofs.Numbered.{file_at, file_place}
 use Rattle.lk_tables.specs.Dynamic.{is_dynamic_symbol, is_export}

@@ -10,9 +10,9 @@ use Rattle.lk_link.specs.declared.walks.InputRef.{InputRef}
 use Rattle.lk_link.specs.Inputs.{Input, NumberedFile, all_inputs, files_from, group_files, inputs_from, inputs_of, numbered_file, numbered_files, numbered_section}
 use Rattle.lk_link.specs.Walks.{input_of}
 use Rattle.lk_link.specs.WellFormed.{IsWellFormed}
-use Rattle.lk_gc.specs.declared.live.Live.{Live}
-use Rattle.lk_gc.specs.Reach.{live_inputs, marked}
-use Rattle.lk_gc.specs.Slots.{is_singleton}
+use Rattle.lk_live.specs.declared.live.Live.{Live}
+use Rattle.lk_live.specs.Reach.{live_inputs, marked}
+use Rattle.lk_live.specs.Slots.{is_singleton}
 use Rattle.lk_tables.specs.SingletonCounts.{singleton_count, with_one}
 use Rattle.lk_tables.specs.Singletons.{group_singletons, group_size, group_sizes, input_name_bytes, singletons}
 use Rattle.lk_tables.proofs.ShareSums.{sum_alike, sum_both, sum_made}

@@ -7,7 +7,7 @@ use Rattle.lk_link.specs.declared.link.LinkInput.{LinkInput}
 use Rattle.lk_link.specs.Inputs.{Input}
 use Rattle.lk_link.specs.Inside.{placed_section}
 use Rattle.lk_link.specs.Marks.{is_marked}
-use Rattle.lk_gc.specs.declared.live.Live.{Live}
+use Rattle.lk_live.specs.declared.live.Live.{Live}
 use Rattle.lk_tables.specs.HeaderParts.{emitted_name_bytes, emitted_sections, section_count, section_header_entries, section_name_bytes, section_name_entries, told_sum}
 use Rattle.lk_tables.specs.HeaderSteps.{event_name}
 use Rattle.lk_tables.specs.Singletons.{input_name_bytes, singleton_name_bytes, singletons}

@@ -10,7 +10,7 @@ use Rattle.lk_link.specs.Files.{first_some}
 use Rattle.lk_link.specs.Inputs.{NumberedFile, numbered_files}
 use Rattle.lk_link.specs.OutputKinds.{is_loaded_dynamically}
 use Rattle.lk_link.proofs.Elements.{map_at, map_in}
-use Rattle.lk_gc.specs.declared.live.Live.{Live}
+use Rattle.lk_live.specs.declared.live.Live.{Live}
 use Rattle.lk_tables.specs.Dynamic.{index_from, is_dynamic_symbol, is_export, numbers_where}
 use Rattle.lk_tables.specs.SymbolTable.{FirstEntry, SymbolEntry, TableEntry, entry_of, first_entry, symbols_by_number}
 use Rattle.lk_tables.specs.TableLaws.{HasLastEntry, HasNoEntry, IndexesNameEntries}

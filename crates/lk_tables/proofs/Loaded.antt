@@ -12,8 +12,8 @@ use Rattle.lk_link.specs.InputSlots.{is_discarded, is_merge}
 use Rattle.lk_link.specs.Inputs.{NumberedFile, input_number}
 use Rattle.lk_link.specs.Marks.{is_marked}
 use Rattle.lk_link.specs.SectionSlots.{is_loaded}
-use Rattle.lk_gc.specs.declared.live.Live.{Live}
-use Rattle.lk_gc.specs.Slots.{is_singleton, kept_section, live_slot, loaded_slot, slot_after, slot_by}
+use Rattle.lk_live.specs.declared.live.Live.{Live}
+use Rattle.lk_live.specs.Slots.{is_singleton, kept_section, live_slot, loaded_slot, slot_after, slot_by}
 use Rattle.lk_tables.specs.TableWords.{IsLookedAt}
 
 -- one that is kept for what it holds is loaded

@@ -12,7 +12,7 @@ use Rattle.lk_link.specs.Inputs.{NumberedFile}
 use Rattle.lk_link.specs.OutputKinds.{is_partial}
 use Rattle.lk_link.specs.SymbolPlacements.{is_common, is_undefined}
 use Rattle.lk_link.specs.TableSizes.{TableSizes}
-use Rattle.lk_gc.specs.declared.live.Live.{Live}
+use Rattle.lk_live.specs.declared.live.Live.{Live}
 use Rattle.lk_link.specs.Symbols.{can_resolve, is_canonical, is_named, is_wanted}
 use Rattle.lk_tables.specs.Copied.{is_copied, is_copied_undefined, is_in_loaded, may_stay, stands_for_something}
 use Rattle.lk_tables.specs.Dynamic.{exports, is_dynamic_symbol, is_redirect}

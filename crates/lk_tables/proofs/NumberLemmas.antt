@@ -16,7 +16,7 @@ use Rattle.lk_link.specs.OutputKinds.{is_loaded_dynamically}
 use Rattle.lk_link.specs.Symbols.{all_files, symbol_count}
 use Rattle.lk_link.specs.TableSizes.{TableSizes}
 use Rattle.lk_link.specs.WellFormed.{IsWellFormed}
-use Rattle.lk_gc.specs.declared.live.Live.{Live}
+use Rattle.lk_live.specs.declared.live.Live.{Live}
 use Rattle.lk_reach.specs.Units.{numbered_symbols}
 use Rattle.lk_reach.proofs.SymbolNumbers.{numbered_count}
 use Rattle.lk_tables.specs.declared.numbers.DynamicNumbers.{DynamicNumbers}

@@ -9,7 +9,7 @@ use Rattle.lk_link.specs.declared.symbol.InputSymbol.{InputSymbol}
 use Rattle.lk_link.specs.FileKinds.{is_prelude}
 use Rattle.lk_link.specs.Inputs.{Input, NumberedFile, numbered_files}
 use Rattle.lk_link.specs.OutputKinds.{is_loaded_dynamically, is_partial}
-use Rattle.lk_gc.specs.declared.live.Live.{Live}
+use Rattle.lk_live.specs.declared.live.Live.{Live}
 use Rattle.lk_reach.specs.Units.{numbered_symbols}
 use Rattle.lk_tables.specs.Dynamic.{is_dynamic_symbol, is_export}
 use Rattle.lk_tables.specs.OwnEntries.{is_of}

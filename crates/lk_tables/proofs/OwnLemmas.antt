@@ -8,7 +8,7 @@ use Rattle.lk_link.specs.declared.symbol.InputSymbol.{InputSymbol}
 use Rattle.lk_link.specs.declared.tables.Allocation.{Allocation}
 use Rattle.lk_link.specs.declared.tables.TableCursors.{TableCursors}
 use Rattle.lk_link.specs.Inputs.{NumberedFile}
-use Rattle.lk_gc.specs.declared.live.Live.{Live}
+use Rattle.lk_live.specs.declared.live.Live.{Live}
 use Rattle.lk_reach.specs.Units.{numbered_symbols}
 use Rattle.lk_tables.specs.OwnEntries.{CursorsMoveOn, CursorsReachEntries, IsReachedBy, cursors_at, own_place, symbols_before_it, taken_by}
 use Rattle.lk_tables.specs.SymbolEntries.{allocated, is_resolved}

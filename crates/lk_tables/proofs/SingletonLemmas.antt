@@ -20,9 +20,9 @@ use Rattle.lk_link.specs.Walks.{input_of}
 use Rattle.lk_link.specs.PartRules.{is_singleton_part}
 use Rattle.lk_link.specs.WellFormed.{IsWellFormed}
 use Rattle.lk_link.proofs.InputLemmas.{inputs_follow}
-use Rattle.lk_gc.specs.declared.live.Live.{Live}
-use Rattle.lk_gc.specs.Reach.{live_inputs, marked}
-use Rattle.lk_gc.specs.Slots.{is_singleton}
+use Rattle.lk_live.specs.declared.live.Live.{Live}
+use Rattle.lk_live.specs.Reach.{live_inputs, marked}
+use Rattle.lk_live.specs.Slots.{is_singleton}
 use Rattle.lk_reach.proofs.SymbolNumbers.{inputs_few}
 use Rattle.lk_tables.specs.ShareSteps.{own_locals}
 use Rattle.lk_tables.specs.Singletons.{input_name_bytes, singleton_name_bytes, singletons, told_sections}

@@ -12,7 +12,7 @@ use Rattle.lk_link.specs.Symbols.{first_symbol}
 use Rattle.lk_link.specs.TableSizes.{TableSizes}
 use Rattle.lk_link.specs.WellFormed.{IsWellFormed}
 use Rattle.lk_link.proofs.SymbolLemmas.{symbols_within}
-use Rattle.lk_gc.specs.declared.live.Live.{Live}
+use Rattle.lk_live.specs.declared.live.Live.{Live}
 use Rattle.lk_reach.proofs.SymbolNumbers.{symbols_few}
 use Rattle.lk_tables.specs.declared.shares.SymtabShare.{SymtabShare}
 use Rattle.lk_tables.specs.HeaderParts.{told_sum}

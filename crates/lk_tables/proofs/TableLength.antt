@@ -9,7 +9,7 @@ use Rattle.lk_link.specs.declared.symbol.InputSymbol.{InputSymbol}
 use Rattle.lk_link.specs.Inputs.{NumberedFile}
 use Rattle.lk_link.specs.OutputKinds.{is_loaded_dynamically}
 use Rattle.lk_link.specs.WellFormed.{IsWellFormed}
-use Rattle.lk_gc.specs.declared.live.Live.{Live}
+use Rattle.lk_live.specs.declared.live.Live.{Live}
 use Rattle.lk_reach.specs.Units.{numbered_symbols}
 use Rattle.lk_tables.specs.Dynamic.{dynamic_table, is_dynamic_symbol, is_export, numbers_where}
 use Rattle.lk_tables.proofs.BySymbol.{by_number, passes_of, value_of}

@@ -9,7 +9,7 @@ use Rattle.lk_link.specs.Inputs.{NumberedFile, numbered_files}
 use Rattle.lk_link.specs.OutputKinds.{is_loaded_dynamically}
 use Rattle.lk_link.specs.PartRules.{is_part, table_parts}
 use Rattle.lk_link.specs.TableSizes.{TableSizes}
-use Rattle.lk_gc.specs.declared.live.Live.{Live}
+use Rattle.lk_live.specs.declared.live.Live.{Live}
 use Rattle.lk_tables.specs.declared.shares.FileShare.{FileShare}
 use Rattle.lk_tables.specs.SymbolTable.{TableEntry, entry_bytes, entry_of, first_entry, global_entries, local_entries, name_entries, name_of}
 use Rattle.lk_tables.specs.TableLaws.{FirstTablesAreWithin}

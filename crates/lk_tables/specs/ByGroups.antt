@@ -3,8 +3,8 @@ use Rattle.std.specs.Prelude.{ℕ, map}
 use Rattle.std.specs.List.{flat_map}
 use Rattle.lk_link.specs.declared.link.LinkInput.{LinkInput}
 use Rattle.lk_link.specs.TableSizes.{TableSizes}
-use Rattle.lk_gc.specs.declared.live.Live.{Live}
-use Rattle.lk_gc.specs.ByGroups.{files_in}
+use Rattle.lk_live.specs.declared.live.Live.{Live}
+use Rattle.lk_live.specs.ByGroups.{files_in}
 use Rattle.lk_tables.specs.declared.by_groups.GroupShares.{GroupShares}
 use Rattle.lk_tables.specs.Commons.{commons_of}
 use Rattle.lk_tables.specs.ShareWords.{first_share}

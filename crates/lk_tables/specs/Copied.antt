@@ -18,8 +18,8 @@ use Rattle.lk_link.specs.OutputKinds.{is_partial}
 use Rattle.lk_link.specs.SectionSlots.{is_loaded}
 use Rattle.lk_link.specs.SymbolPlacements.{is_common, is_in_discarded, is_undefined, section_of}
 pub use Rattle.lk_link.specs.Symbols.{can_resolve, is_canonical, is_named, is_wanted}
-use Rattle.lk_gc.specs.declared.live.Live.{Live}
-use Rattle.lk_gc.specs.Slots.{live_slot}
+use Rattle.lk_live.specs.declared.live.Live.{Live}
+use Rattle.lk_live.specs.Slots.{live_slot}
 use Rattle.lk_reach.specs.Units.{numbered_symbols}
 
 -- ---- symbols of objects

@@ -12,7 +12,7 @@ use Rattle.lk_link.specs.Files.{first_some}
 use Rattle.lk_link.specs.Flags.{has_flag}
 use Rattle.lk_link.specs.Inputs.{NumberedFile, numbered_files}
 use Rattle.lk_link.specs.OutputKinds.{is_loaded_dynamically}
-use Rattle.lk_gc.specs.declared.live.Live.{Live}
+use Rattle.lk_live.specs.declared.live.Live.{Live}
 use Rattle.lk_link.specs.Symbols.{is_canonical, is_wanted}
 use Rattle.lk_tables.specs.Late.{flags_at, late_flags}
 use Rattle.lk_tables.specs.SymbolTable.{symbols_by_number}

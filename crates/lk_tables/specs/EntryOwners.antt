@@ -8,7 +8,7 @@ use Rattle.lk_link.specs.Marks.{is_marked}
 use Rattle.lk_link.specs.OutputKinds.{is_loaded_dynamically, is_partial}
 use Rattle.lk_link.specs.TableSizes.{TableSizes}
 use Rattle.lk_link.specs.WellFormed.{IsWellFormed}
-use Rattle.lk_gc.specs.declared.live.Live.{Live}
+use Rattle.lk_live.specs.declared.live.Live.{Live}
 use Rattle.lk_reach.specs.Units.{numbered_symbols}
 use Rattle.lk_tables.specs.Dynamic.{is_dynamic_symbol, is_export}
 use Rattle.lk_tables.specs.ShareWords.{has_entry_there}

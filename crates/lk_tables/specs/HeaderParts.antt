@@ -7,7 +7,7 @@ use Rattle.lk_link.specs.Inside.{placed_section}
 use Rattle.lk_link.specs.Marks.{is_marked}
 use Rattle.lk_link.specs.PlanSections.{section_at}
 use Rattle.lk_link.specs.TableSizes.{TableSizes}
-use Rattle.lk_gc.specs.declared.live.Live.{Live}
+use Rattle.lk_live.specs.declared.live.Live.{Live}
 use Rattle.lk_tables.specs.declared.header_info.HeaderInfo.{HeaderInfo}
 use Rattle.lk_tables.specs.declared.headers.HeaderSizes.{HeaderSizes}
 use Rattle.lk_tables.specs.Singletons.{input_name_bytes, singleton_name_bytes, singletons}

@@ -7,7 +7,7 @@ use Rattle.lk_link.specs.declared.tables.Allocation.{Allocation}
 use Rattle.lk_link.specs.declared.tables.TableCursors.{TableCursors}
 use Rattle.lk_link.specs.Inputs.{NumberedFile, numbered_files}
 use Rattle.lk_link.specs.TableSizes.{behind}
-use Rattle.lk_gc.specs.declared.live.Live.{Live}
+use Rattle.lk_live.specs.declared.live.Live.{Live}
 use Rattle.lk_reach.specs.Units.{numbered_symbols}
 use Rattle.lk_tables.specs.SymbolEntries.{allocated, got_entries, is_resolved, plt_entries, symbol_allocation}
 use Rattle.lk_tables.specs.SymbolTable.{FileEntry, FirstEntry, InputEntry, SectionEntry, SegmentEntry, SymbolEntry, TableEntry, TableOwner, entry_bytes}

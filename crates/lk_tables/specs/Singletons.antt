@@ -5,9 +5,9 @@ use Rattle.lk_link.specs.declared.link.LinkInput.{LinkInput}
 use Rattle.lk_link.specs.Inputs.{Input}
 use Rattle.lk_link.specs.Marks.{is_marked}
 use Rattle.lk_link.specs.OutputKinds.{is_partial}
-use Rattle.lk_gc.specs.declared.live.Live.{Live}
-use Rattle.lk_gc.specs.Reach.{live_inputs}
-use Rattle.lk_gc.specs.Slots.{is_singleton}
+use Rattle.lk_live.specs.declared.live.Live.{Live}
+use Rattle.lk_live.specs.Reach.{live_inputs}
+use Rattle.lk_live.specs.Slots.{is_singleton}
 use Rattle.lk_tables.specs.declared.partial_link.PartialLinkPlan.{PartialLinkPlan}
 
 -- the live input sections that stay output sections of their own, by group, file and index

@@ -5,7 +5,7 @@ use Rattle.lk_link.specs.declared.link.LinkInput.{LinkInput}
 use Rattle.lk_link.specs.declared.symbol.InputSymbol.{InputSymbol}
 use Rattle.lk_link.specs.declared.tables.Allocation.{Allocation}
 use Rattle.lk_link.specs.Inputs.{NumberedFile}
-use Rattle.lk_gc.specs.declared.live.Live.{Live}
+use Rattle.lk_live.specs.declared.live.Live.{Live}
 use Rattle.lk_link.specs.Symbols.{is_wanted}
 use Rattle.lk_tables.specs.Late.{flags_at}
 use Rattle.lk_tables.specs.SymbolTable.{TableEntry, entry_of, symbols_by_number}

@@ -9,7 +9,7 @@ use Rattle.lk_link.specs.FileKinds.{is_internal, is_prelude}
 use Rattle.lk_link.specs.Inputs.{Input, NumberedFile, numbered_files}
 use Rattle.lk_link.specs.OutputKinds.{is_partial}
 use Rattle.lk_link.specs.Symbols.{first_symbol}
-use Rattle.lk_gc.specs.declared.live.Live.{Live}
+use Rattle.lk_live.specs.declared.live.Live.{Live}
 use Rattle.lk_tables.specs.Copied.{is_copied, is_copied_undefined}
 use Rattle.lk_tables.specs.Late.{flags_at, late_flags}
 use Rattle.lk_tables.specs.Singletons.{singletons, told_sections}

@@ -5,7 +5,7 @@ use Rattle.lk_link.specs.declared.plan.NamedParts.{NamedParts}
 use Rattle.lk_link.specs.PartRules.{is_table_part, table_parts}
 use Rattle.lk_link.specs.TableSizes.{TableSizes}
 use Rattle.lk_link.specs.WellFormed.{IsWellFormed}
-use Rattle.lk_gc.specs.declared.live.Live.{Live}
+use Rattle.lk_live.specs.declared.live.Live.{Live}
 use Rattle.lk_tables.specs.Dynamic.{dynamic_index, dynamic_table}
 use Rattle.lk_tables.specs.SymbolTable.{SymbolEntry, TableEntry}
 use Rattle.lk_tables.specs.TableLists.{TableLists, all_lists, first_tables, table_bytes, table_of, whole_tables}

@@ -8,7 +8,7 @@ use Rattle.lk_link.specs.Inputs.{NumberedFile, numbered_files}
 use Rattle.lk_link.specs.OutputKinds.{is_loaded_dynamically}
 use Rattle.lk_link.specs.PartRules.{is_part, table_parts}
 use Rattle.lk_link.specs.TableSizes.{TableSizes}
-use Rattle.lk_gc.specs.declared.live.Live.{Live}
+use Rattle.lk_live.specs.declared.live.Live.{Live}
 use Rattle.lk_tables.specs.Dynamic.{is_dynamic_symbol, is_export}
 use Rattle.lk_tables.specs.HeaderParts.{file_header_entries, program_header_entries, section_header_entries, section_name_entries}
 use Rattle.lk_tables.specs.SymbolEntries.{got_entries, plt_entries}

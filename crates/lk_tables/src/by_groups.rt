@@ -9,7 +9,7 @@ ghost use Rattle.lk_tables.specs.ShareWords.{first_shares};
 
 use crate::commons::Common;
 use crate::shares::{FileShare, SymbolShares, first_share};
-use lk_gc::Live;
+use lk_live::Live;
 use lk_link::{FileId, FileRef, LinkInput, List, Platform};
 use rayon::prelude::*;
 use std::alloc::{AllocError, Global};

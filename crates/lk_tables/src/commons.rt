@@ -5,7 +5,7 @@ ghost use Rattle.std.specs.List.{cons_option};
 ghost use Rattle.lk_tables.specs.Commons.{common_at, common_of};
 
 use crate::symbol_table::flags_at;
-use lk_gc::Live;
+use lk_live::Live;
 use lk_link::{FileKind, InputSymbol, PartId, SymbolId, SymbolPlacement};
 use std::alloc::AllocError;
 

@@ -10,11 +10,11 @@ ghost use Rattle.lk_link.specs.InputSlots.{is_discarded, is_merge};
 ghost use Rattle.lk_link.specs.SectionSlots.{is_loaded};
 ghost use Rattle.lk_link.specs.WellFormed.{IsWellFormed};
 ghost use Rattle.lk_link.specs.Walks.{file_of};
-ghost use Rattle.lk_gc.specs.Slots.{live_slot};
+ghost use Rattle.lk_live.specs.Slots.{live_slot};
 ghost use Rattle.lk_tables.specs.Copied.{copied_name, is_assembler_name, is_copied, is_copied_undefined, is_in_loaded, is_must, may_stay, stands_for_something, stays_by, undefined_name};
 ghost use Rattle.lk_tables.specs.TableWords.{IsLookedAt};
 
-use lk_gc::Live;
+use lk_live::Live;
 use lk_link::marks::is_marked;
 use lk_link::{
     DiscardLocals, FileKind, FileRef, InputSlot, InputSymbol, LinkInput, SymbolId, SymbolPlacement,

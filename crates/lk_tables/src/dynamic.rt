@@ -17,7 +17,7 @@ ghost use Rattle.lk_tables.specs.DynamicWords.{file_numbers, has_entry, numbers_
 
 use crate::header_info::HeaderInfo;
 use crate::symbol_table::{Given, flags_at, late_flags};
-use lk_gc::Live;
+use lk_live::Live;
 use lk_link::{FileKind, FileRef, InputSymbol, LinkInput, SymbolId, SymbolPlacement, ValueFlags};
 use std::alloc::{AllocError, Global};
 

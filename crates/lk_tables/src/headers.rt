@@ -2,7 +2,7 @@
 
 ghost use Rattle.std.specs.Prelude.{◌≡◌, ◌+◌, ◌*◌, ◌-◌, ◌^◌, length, min, sum_by};
 ghost use Rattle.lk_link.specs.PlanSections.{section_at};
-ghost use Rattle.lk_gc.specs.declared.live.Live.{Live};
+ghost use Rattle.lk_live.specs.declared.live.Live.{Live};
 ghost use Rattle.lk_tables.specs.HeaderSteps.{event_name, no_headers};
 ghost use Rattle.lk_tables.specs.HeaderParts.{CountsSections, emitted_name_bytes, file_header_entries, header_sizes, program_header_entries, told_sum};
 ghost use Rattle.lk_tables.specs.SymbolTable.{entry_bytes};

@@ -6,7 +6,7 @@ ghost use Rattle.lk_link.specs.OutputKinds.{is_loaded_dynamically};
 ghost use Rattle.lk_link.specs.Walks.{file_of};
 ghost use Rattle.lk_link.specs.WellFormed.{IsWellFormed};
 ghost use Rattle.lk_link.specs.TableSizes.{TableSizes};
-ghost use Rattle.lk_gc.specs.declared.live.Live.{Live};
+ghost use Rattle.lk_live.specs.declared.live.Live.{Live};
 ghost use Rattle.lk_reach.specs.Units.{numbered_symbols};
 ghost use Rattle.lk_tables.specs.Dynamic.{dynamic_index, dynamic_table};
 ghost use Rattle.lk_tables.specs.DynamicCounters.{AreNumbersAt};
@@ -15,7 +15,7 @@ ghost use Rattle.lk_tables.specs.ShareWords.{first_shares, prelude_share};
 use crate::dynamic::{exports, is_dynamic_symbol};
 use crate::shares::{FileShare, sum_shares};
 use crate::symbol_table::{flags_at, late_flags};
-use lk_gc::Live;
+use lk_live::Live;
 use lk_link::{FileRef, InputSymbol, LinkInput, SymbolId};
 
 /// The next numbers in the dynamic symbol table, of which the table's own entry has 0. Both are 0 where no dynamic linker loads

@@ -7,7 +7,7 @@ ghost use Rattle.lk_tables.specs.SingletonCounts.{CountsOne, singleton_count};
 ghost use Rattle.lk_tables.specs.Singletons.{group_sizes, partial_link_plan};
 
 use crate::singletons::singleton_sizes;
-use lk_gc::{Live, is_singleton};
+use lk_live::{Live, is_singleton};
 use lk_link::LinkInput;
 use std::alloc::{AllocError, Global};
 use std::marker::Model;

@@ -22,7 +22,7 @@ use crate::copied::first_input_of;
 use crate::dynamic::{exports, is_dynamic_symbol};
 use crate::singletons::{singleton_sizes, told_count};
 use crate::symbol_table::{Given, flags_at, has_entry_there, is_local_entry, late_flags};
-use lk_gc::Live;
+use lk_live::Live;
 use lk_link::{Allocation, FileRef, InputSymbol, LinkInput, Platform, SymbolId};
 use std::alloc::{AllocError, Global};
 

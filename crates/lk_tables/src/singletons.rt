@@ -5,7 +5,7 @@ ghost use Rattle.std.specs.Prelude.{◌≡◌, ◌≤◌, length};
 ghost use Rattle.lk_link.specs.WellFormed.{IsWellFormed};
 ghost use Rattle.lk_tables.specs.Singletons.{singleton_name_bytes, singletons, told_sections};
 
-use lk_gc::{Live, is_singleton};
+use lk_live::{Live, is_singleton};
 use lk_link::LinkInput;
 use lk_link::marks::is_marked;
 

@@ -15,7 +15,7 @@ ghost use Rattle.lk_tables.specs.TableWords.{IsLookedAt};
 use crate::copied::{is_copied, is_copied_undefined};
 use crate::header_info::HeaderInfo;
 use crate::shares::{SymtabShare, whole_symtab};
-use lk_gc::Live;
+use lk_live::Live;
 use lk_link::marks::is_marked;
 use lk_link::{
     FileId, FileKind, FileRef, InputSymbol, LinkInput, Platform, SymbolId, SymbolPlacement,

@@ -4,7 +4,7 @@ ghost use Rattle.std.specs.Prelude.{◌≡◌, ℕ, ◌+◌, ◌*◌, List, Bool
 ghost use Rattle.std.specs.List.{zip};
 ghost use Rattle.lk_link.specs.PartRules.{is_part, table_parts};
 ghost use Rattle.lk_link.specs.TableSizes.{TableSizes};
-ghost use Rattle.lk_gc.specs.declared.live.Live.{Live};
+ghost use Rattle.lk_live.specs.declared.live.Live.{Live};
 ghost use Rattle.lk_tables.specs.HeaderParts.{CountsSections, emitted_name_bytes, told_sum};
 ghost use Rattle.lk_tables.specs.ShareSteps.{dynamic_share, sum_of};
 ghost use Rattle.lk_tables.specs.ShareWords.{first_shares, prelude_share};

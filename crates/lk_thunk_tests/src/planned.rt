@@ -7,7 +7,7 @@ ghost use Rattle.lk_thunks.specs.Ranges.{total_primary_bytes};
 use crate::blocks::add_user;
 use crate::rows::{Asked, expect_rows, number};
 use lk_check::check_link;
-use lk_gc::{GcError, Live, traverse_alone};
+use lk_live::{GcError, Live, traverse_alone};
 use lk_input::{InputError, read_link};
 use lk_link::{FileId, LinkInput};
 use lk_thunks::{

@@ -13,7 +13,7 @@ use Rattle.lk_link.specs.Files.{file_in}
 use Rattle.lk_link.specs.Inputs.{NumberedFile, numbered_files}
 use Rattle.lk_link.specs.NumberedSymbols.{known_symbol, numbered_symbols, symbols_of}
 use Rattle.lk_link.specs.Symbols.{file_number}
-use Rattle.lk_gc.specs.PrimaryMarks.{is_primary_symbol}
+use Rattle.lk_live.specs.PrimaryMarks.{is_primary_symbol}
 use Rattle.lk_link.specs.Symbols.{all_files}
 use Rattle.lk_link.specs.WellFormed.{IsWellFormed}
 use Rattle.lk_link.proofs.Places.{value_of}

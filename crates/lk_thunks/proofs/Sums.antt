@@ -12,7 +12,7 @@ use Rattle.lk_link.specs.Symbols.{all_files}
 use Rattle.lk_link.specs.WellFormed.{IsWellFormed}
 use Rattle.lk_link.proofs.InputLemmas.{files_from_are}
 use Rattle.lk_reach.proofs.Numbered.{are_numbered}
-use Rattle.lk_gc.specs.declared.live.Live.{Live}
+use Rattle.lk_live.specs.declared.live.Live.{Live}
 use Rattle.lk_thunks.specs.Ranges.{file_ranges, has_bytes, planned_objects, primary_bytes, ranges_from}
 
 -- where nothing is left, the sum so far is the whole

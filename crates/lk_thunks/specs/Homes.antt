@@ -6,7 +6,7 @@ use Rattle.lk_link.specs.declared.symbol.InputSymbol.{InputSymbol}
 use Rattle.lk_link.specs.Inputs.{NumberedFile}
 use Rattle.lk_link.specs.NumberedSymbols.{numbered_symbols}
 use Rattle.lk_link.specs.Symbols.{file_number}
-use Rattle.lk_gc.specs.PrimaryMarks.{is_primary_symbol}
+use Rattle.lk_live.specs.PrimaryMarks.{is_primary_symbol}
 
 -- of a symbol of a file the number of the file over all groups, and one, if the symbol is in the primary part; else 0
 abbrev pub home_number : LinkInput → NumberedFile → InputSymbol → ℕ

@@ -11,9 +11,9 @@ use Rattle.lk_link.specs.Flags.{has_flag}
 use Rattle.lk_link.specs.Inputs.{NumberedFile}
 use Rattle.lk_link.specs.NumberedSymbols.{known_symbol}
 use Rattle.lk_link.specs.Symbols.{all_symbols, file_number, first_symbol}
-use Rattle.lk_gc.specs.declared.live.Live.{Live}
-use Rattle.lk_gc.specs.PrimaryMarks.{is_primary_symbol, names_primary, primary_symbols}
-use Rattle.lk_gc.specs.Reach.{live_inputs}
+use Rattle.lk_live.specs.declared.live.Live.{Live}
+use Rattle.lk_live.specs.PrimaryMarks.{is_primary_symbol, names_primary, primary_symbols}
+use Rattle.lk_live.specs.Reach.{live_inputs}
 use Rattle.lk_thunks.specs.declared.blocks.Block.{Block}
 use Rattle.lk_thunks.specs.Blocks.{objects_of, thunk_blocks}
 use Rattle.lk_thunks.specs.Ranges.{file_ranges, planned_objects}

@@ -5,10 +5,10 @@ ghost use Rattle.lk_link.specs.Files.{file_in};
 ghost use Rattle.lk_link.specs.Symbols.{file_number};
 ghost use Rattle.lk_link.specs.Walks.{file_of};
 ghost use Rattle.lk_link.specs.WellFormed.{IsWellFormed};
-ghost use Rattle.lk_gc.specs.PrimaryMarks.{is_primary_symbol};
+ghost use Rattle.lk_live.specs.PrimaryMarks.{is_primary_symbol};
 ghost use Rattle.lk_thunks.specs.Homes.{home_number, home_numbers, range_told};
 
-use lk_gc::reaching::is_primary_section;
+use lk_live::reaching::is_primary_section;
 use lk_link::{FileId, FileRef, InputFile, InputSymbol, LinkInput, SymbolPlacement};
 use std::alloc::{AllocError, Global};
 

@@ -7,8 +7,8 @@ ghost use Rattle.lk_link.specs.Walks.{file_of};
 ghost use Rattle.lk_link.specs.WellFormed.{IsWellFormed};
 ghost use Rattle.lk_thunks.specs.Ranges.{file_ranges, has_bytes, is_object_range, primary_bytes, section_bytes, total_primary_bytes};
 
-use lk_gc::Live;
-use lk_gc::reaching::is_primary_section;
+use lk_live::Live;
+use lk_live::reaching::is_primary_section;
 use lk_link::marks::is_marked;
 use lk_link::{FileId, FileRef, InputSection, LinkInput};
 use std::alloc::{AllocError, Global};

@@ -19,7 +19,7 @@ use Rattle.lk_link.proofs.InputLemmas.{file_stands}
 use Rattle.lk_reach.proofs.Numbered.{file_at}
 use Rattle.lk_link.specs.Symbols.{is_wanted}
 use Rattle.lk_edges.specs.Edges.{Edges, edge_value}
-use Rattle.lk_relaxing.specs.LinkDeletions.{Deletions}
+use Rattle.lk_relax.specs.LinkDeletions.{Deletions}
 use Rattle.lk_sizes.specs.declared.addresses.CommonAddress.{CommonAddress}
 use Rattle.lk_sizes.specs.Addresses.{common_addresses, told_common}
 use Rattle.lk_sizes.specs.Owners.{IsCommonIn, all_commons, commons_of, Filling}

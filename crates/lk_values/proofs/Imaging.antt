@@ -34,7 +34,7 @@ use Rattle.lk_sizes.proofs.ImagePlaces.{images_stand_where_inputs_go}
 use Rattle.lk_sizes.proofs.ImageStarts.{IsFirst, image_is_first}
 use Rattle.lk_values.specs.OutputContent.{image_lens, lens_of}
 use Rattle.lk_values.specs.Resolutions.{found_or_0, merged_value}
-use Rattle.lk_values.proofs.Placing.{size-le}
+use Rattle.lk_sizes.proofs.Placed.{size-le}
 
 -- ---- lengths
 

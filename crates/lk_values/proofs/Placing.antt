@@ -28,7 +28,7 @@ use Rattle.lk_link.specs.WellFormed.{IsWellFormed}
 use Rattle.lk_link.proofs.Elements.{map_in}
 use Rattle.lk_link.proofs.GoodSymbols.{symbol_of}
 use Rattle.lk_link.proofs.InputLemmas.{inputs_follow}
-use Rattle.lk_gc.specs.Reach.{AreLive, IsLive, marked}
+use Rattle.lk_live.specs.Reach.{AreLive, IsLive, marked}
 use Rattle.lk_expressions.specs.Records.{Record, record_at}
 use Rattle.lk_edges.specs.Edges.{Edges}
 use Rattle.lk_merge.specs.Addresses.{image_start}
@@ -39,8 +39,8 @@ use Rattle.lk_sizes.specs.Owners.{Filling, size_of}
 use Rattle.lk_sizes.specs.PartOwners.{EndsFit, live_address}
 use Rattle.lk_sizes.proofs.LiveOnes.{live_goes}
 use Rattle.lk_sizes.proofs.Numbering.{table_at}
-use Rattle.lk_relaxing.specs.LinkDeletions.{Deletions, output_offset, size_after, sizes_after}
-use Rattle.lk_relaxing.proofs.Positioned.{ends_within}
+use Rattle.lk_relax.specs.LinkDeletions.{Deletions, output_offset, size_after, sizes_after}
+use Rattle.lk_sizes.proofs.Placed.{ends_within, size-le}
 use Rattle.lk_values.specs.Starts.{TakeTheirBytes, starts_of}
 use Rattle.lk_values.specs.Entries.{entry_setting}
 use Rattle.lk_values.specs.Resolutions.{Places, address_at, file_resolutions, images_at, merged_value, symbol_resolutions}
@@ -80,14 +80,6 @@ marked_in (true ∷ marks) (y ∷ xs) zero x there set = (0, there)
 marked_in (true ∷ marks) (y ∷ xs) (suc k) x there set = let r = marked_in marks xs k x there set in (suc r.0, r.1)
 marked_in (false ∷ marks) (y ∷ xs) zero x there set = absurd (cc)
 marked_in (false ∷ marks) (y ∷ xs) (suc k) x there set = marked_in marks xs k x there set
-
--- no size is above its capacity
-pub size-le : (part : PlanPart) (size : ℕ) → size ≤ capacity part size
-size-le part size =
-    elim part.packed as (λ b. size ≤ cond b size (next_multiple_of size part.alignment)) [
-      | true ↦ omega arith
-      | false ↦ omega arith
-    ]
 
 -- what can be kept isn't merged
 pub unmerged : (s : InputSlot) → can_be_kept s ≡ true → is_merge s ≡ false

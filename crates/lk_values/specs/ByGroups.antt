@@ -4,7 +4,7 @@ use Rattle.std.specs.List.{AllZip, flat_map}
 use Rattle.lk_link.specs.declared.resolution.Resolution.{Resolution}
 use Rattle.lk_link.specs.Inputs.{NumberedFile, numbered_files}
 use Rattle.lk_link.specs.Symbols.{first_symbol}
-use Rattle.lk_gc.specs.ByGroups.{files_in}
+use Rattle.lk_live.specs.ByGroups.{files_in}
 use Rattle.lk_values.specs.declared.entries.NextEntries.{NextEntries}
 use Rattle.lk_values.specs.Entries.{EntrySetting}
 use Rattle.lk_values.specs.EntryWords.{AreNextAt}

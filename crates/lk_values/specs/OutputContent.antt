@@ -3,7 +3,7 @@ use Rattle.std.specs.Prelude.{ℕ, List, length, map}
 use Rattle.lk_link.specs.declared.ids.FileId.{FileId}
 use Rattle.lk_link.specs.declared.link.LinkInput.{LinkInput}
 use Rattle.lk_link.specs.TableSizes.{TableSizes}
-use Rattle.lk_gc.specs.declared.live.Live.{Live}
+use Rattle.lk_live.specs.declared.live.Live.{Live}
 use Rattle.lk_merge.specs.Hash.{fnv64}
 use Rattle.lk_merge.specs.Image.{all_pieces, image}
 use Rattle.lk_merge.specs.LinkInputs.{link_inputs}

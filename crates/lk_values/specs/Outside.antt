@@ -11,7 +11,7 @@ use Rattle.lk_link.specs.Inputs.{NumberedFile, input_number, numbered_files}
 use Rattle.lk_link.specs.Marks.{is_marked}
 use Rattle.lk_link.specs.Relocations.{resolution_flags}
 use Rattle.lk_link.specs.Symbols.{first_symbol}
-use Rattle.lk_gc.specs.declared.live.Live.{Live}
+use Rattle.lk_live.specs.declared.live.Live.{Live}
 use Rattle.lk_reach.specs.Units.{local_definition}
 use Rattle.lk_merge.specs.OffsetsOutside.{refers_outside, stands_outside}
 use Rattle.lk_tables.specs.SymbolEntries.{is_resolved}

@@ -19,7 +19,7 @@ use Rattle.lk_tables.specs.SymbolTable.{symbols_by_number}
 use Rattle.lk_edges.specs.Edges.{Edges, edge_value}
 use Rattle.lk_merge.specs.declared.output_address.OffsetPastEnd.{OffsetPastEnd}
 use Rattle.lk_merge.specs.OutputAddresses.{merged_address}
-use Rattle.lk_relaxing.specs.LinkDeletions.{Deletions, output_offset}
+use Rattle.lk_relax.specs.LinkDeletions.{Deletions, output_offset}
 use Rattle.lk_sizes.specs.Header.{header_info}
 use Rattle.lk_sizes.specs.Images.{image_addresses}
 use Rattle.lk_sizes.specs.Owners.{Filling}

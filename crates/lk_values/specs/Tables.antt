@@ -16,7 +16,7 @@ use Rattle.lk_link.specs.WellFormed.{IsWellFormed}
 use Rattle.lk_merge.specs.Addresses.{AreStartsOf}
 use Rattle.lk_merge.specs.LinkInputs.{link_inputs}
 use Rattle.lk_merge.specs.Pieces.{MergeInput}
-use Rattle.lk_relaxing.specs.LinkDeletions.{Deletions, output_offset}
+use Rattle.lk_relax.specs.LinkDeletions.{Deletions, output_offset}
 
 -- ---- places in input sections
 

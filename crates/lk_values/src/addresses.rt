@@ -2,7 +2,7 @@
 
 ghost use Rattle.std.specs.Prelude.{◌≡◌, IfOk, List, Option, length};
 ghost use Rattle.std.specs.List.{flat_map};
-ghost use Rattle.lk_gc.specs.Reach.{AreLive};
+ghost use Rattle.lk_live.specs.Reach.{AreLive};
 ghost use Rattle.lk_link.specs.declared.resolution.Resolution.{Resolution};
 ghost use Rattle.lk_link.specs.Inputs.{numbered_files};
 ghost use Rattle.lk_link.specs.Parts.{all_parts};
@@ -15,7 +15,7 @@ ghost use Rattle.lk_sizes.specs.Addresses.{block_addresses, section_addresses};
 ghost use Rattle.lk_sizes.specs.Owners.{Filling};
 ghost use Rattle.lk_sizes.specs.Sizing.{AreFilled};
 ghost use Rattle.lk_tables.specs.DynamicCounters.{AreNumbersAt};
-ghost use Rattle.lk_relaxing.specs.LinkDeletions.{sizes_after};
+ghost use Rattle.lk_relax.specs.LinkDeletions.{sizes_after};
 ghost use Rattle.lk_values.specs.AtHand.{AreAtHand, places_at_hand, setting_at_hand};
 ghost use Rattle.lk_values.specs.Found.{AreFound, EndInMemory};
 ghost use Rattle.lk_values.specs.OutputContent.{in_layout};
@@ -27,7 +27,7 @@ use crate::merged::Merged;
 use crate::resolution::{Tables, resolve_all};
 use crate::symbol_resolutions::SymbolResolutions;
 use lk_edges::Edges;
-use lk_gc::Live;
+use lk_live::Live;
 use lk_link::{LinkInput, Platform};
 use lk_merge::{MergedStringStartAddresses, MergedStringsSection};
 use lk_place::OutputRecordLayout;

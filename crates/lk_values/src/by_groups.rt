@@ -5,7 +5,7 @@
 
 ghost use Rattle.std.specs.Prelude.{◌≡◌, ◌+◌, ◌++◌, ◌<◌, IfOk, OnOk, Some, length};
 ghost use Rattle.std.specs.List.{flat_map};
-ghost use Rattle.lk_gc.specs.Reach.{AreLive};
+ghost use Rattle.lk_live.specs.Reach.{AreLive};
 ghost use Rattle.lk_link.specs.Files.{file_in};
 ghost use Rattle.lk_link.specs.Inputs.{numbered_files};
 ghost use Rattle.lk_link.specs.Parts.{all_parts};
@@ -20,7 +20,7 @@ ghost use Rattle.lk_sizes.specs.Addresses.{block_addresses, section_addresses};
 ghost use Rattle.lk_sizes.specs.Owners.{Filling};
 ghost use Rattle.lk_sizes.specs.Sizing.{AreFilled};
 ghost use Rattle.lk_tables.specs.DynamicCounters.{AreNumbersAt};
-ghost use Rattle.lk_relaxing.specs.LinkDeletions.{sizes_after};
+ghost use Rattle.lk_relax.specs.LinkDeletions.{sizes_after};
 ghost use Rattle.lk_values.specs.AtHand.{AreAtHand, places_at_hand, setting_at_hand};
 ghost use Rattle.lk_values.specs.ByGroups.{AreNextByFile, group_resolutions};
 ghost use Rattle.lk_values.specs.EntryWords.{AreNextAt};
@@ -33,7 +33,7 @@ use crate::addresses::{Addresses, LentLink, PlacedParts, found_addresses};
 use crate::entries::NextEntries;
 use crate::resolution::{Tables, first_cursors, first_symbol_of, push_file_resolutions, take_own};
 use crate::symbol_resolutions::SymbolResolutions;
-use lk_gc::Live;
+use lk_live::Live;
 use lk_link::{FileId, FileRef, InputFile, LinkInput, Platform};
 use lk_merge::MergedStringsSection;
 use lk_sizes::PartOwners;

@@ -17,7 +17,7 @@ ghost use Rattle.lk_values.specs.Outside.{symbol_outside, symbols_outside};
 ghost use Rattle.lk_values.specs.OutsideWords.{StopsAtFirst};
 
 use crate::resolution::flags_at;
-use lk_gc::{InputAt, Live};
+use lk_live::{InputAt, Live};
 use lk_link::marks::is_marked;
 use lk_link::relocation::resolution_flags;
 use lk_link::{FileId, FileRef, InputSection, InputSymbol, LinkInput, Relocation, SymbolId};

@@ -27,15 +27,13 @@ use crate::entries::{NextEntries, take_entries};
 use crate::merged::{Merged, merged_value};
 use crate::symbol_resolutions::SymbolResolutions;
 use lk_edges::Edges;
-use lk_gc::Live;
+use lk_live::Live;
 use lk_link::marks::is_marked;
 use lk_link::{
     FileRef, InputSymbol, LinkInput, PartId, Platform, Resolution, SymbolId, SymbolPlacement,
     TableCursors, ValueFlags,
 };
-use lk_relax::{RelaxDeltaMap, opt_input_to_output};
-use lk_relaxing::deletions::map_of;
-use lk_relaxing::positions::deleted_in;
+use lk_relax::{RelaxDeltaMap, deleted_in, map_of, opt_input_to_output};
 use lk_sizes::CommonAddress;
 use lk_tables::DynamicNumbers;
 use lk_tables::symbol_table::late_flags;

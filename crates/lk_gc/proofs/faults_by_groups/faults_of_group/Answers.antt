@@ -5,9 +5,9 @@ use Rattle.lk_link.specs.declared.file.InputFile.{InputFile}
 use Rattle.lk_link.specs.Inputs.{NumberedFile}
 use Rattle.lk_link.proofs.Places.{files_of_group}
 use Rattle.lk_reach.proofs.Numbered.{are_numbered}
-use Rattle.lk_gc.specs.declared.error.ReferenceFault.{ReferenceFault}
-use Rattle.lk_gc.specs.Faults.{file_faults}
-use Rattle.lk_gc.proofs.GroupJoining.{file_more}
+use Rattle.lk_live.specs.declared.error.ReferenceFault.{ReferenceFault}
+use Rattle.lk_live.specs.Faults.{file_faults}
+use Rattle.lk_live.proofs.GroupJoining.{file_more}
 use Rattle.lk_gc.proofs.faults_by_groups.faults_of_group.Goals as goal
 
 pub overflow_cast-id : goal.overflow_cast-id

@@ -1,7 +1,7 @@
 use Rattle.std.proofs.Common.{◌≡◌, ◌≤◌, length, take}
 use Rattle.std.specs.List.{flat_map}
 use Rattle.lk_link.specs.Inputs.{group_files}
-use Rattle.lk_gc.specs.Faults.{file_faults}
+use Rattle.lk_live.specs.Faults.{file_faults}
 use Rattle.lk_gc.proofs.faults_by_groups.faults_of_group.Given as goal
 
 -- the faults of the files so far

@@ -3,10 +3,10 @@ use Rattle.std.specs.List.{flat_map, range_with_len}
 use Rattle.rayon.specs.Numbers.{nat_range}
 use Rattle.rayon.proofs.ListFacts.{IfOk-then}
 use Rattle.rayon.proofs.ToStd.{nat_range-All}
-use Rattle.lk_gc.specs.declared.error.ReferenceFault.{ReferenceFault}
-use Rattle.lk_gc.specs.ByGroups.{group_faults}
-use Rattle.lk_gc.specs.Faults.{file_faults}
-use Rattle.lk_gc.proofs.GroupJoining.{all_groups, gathered}
+use Rattle.lk_live.specs.declared.error.ReferenceFault.{ReferenceFault}
+use Rattle.lk_live.specs.ByGroups.{group_faults}
+use Rattle.lk_live.specs.Faults.{file_faults}
+use Rattle.lk_live.proofs.GroupJoining.{all_groups, gathered}
 use Rattle.lk_gc.proofs.faults_by_groups.faults_of_groups.Goals as goal
 
 pub collect-requires-clause-ready : goal.collect-requires-clause-ready

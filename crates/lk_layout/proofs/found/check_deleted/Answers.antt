@@ -1,7 +1,7 @@
 use Rattle.std.proofs.Common.{◌≡◌, true, ap, sym, subst, ◌∙◌}
-use Rattle.lk_gc.specs.declared.live.Live.{Live}
+use Rattle.lk_live.specs.declared.live.Live.{Live}
 use Rattle.lk_link.specs.declared.link.LinkInput.{LinkInput}
-use Rattle.lk_relaxing.specs.LinkDeletions.{Deletions}
+use Rattle.lk_relax.specs.LinkDeletions.{Deletions}
 use Rattle.lk_relaxing.specs.Positions.{section_positions, symbol_positions}
 use Rattle.lk_relaxing.specs.Sites.{CanAllBeScanned, is_nothing_deleted, past_limit}
 use Rattle.lk_layout.specs.Defined.{made_standing}

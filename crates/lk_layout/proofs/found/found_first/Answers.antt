@@ -1,5 +1,5 @@
 use Rattle.std.proofs.Common.{ℕ, Err, subst}
-use Rattle.lk_gc.specs.declared.live.Live.{Live}
+use Rattle.lk_live.specs.declared.live.Live.{Live}
 use Rattle.lk_link.specs.declared.link.LinkInput.{LinkInput}
 use Rattle.lk_place.specs.Answers.{ArePlaced, GivesPlaced}
 use Rattle.lk_relaxing.specs.RelaxedLaws.{nothing_deleted}

@@ -1,5 +1,5 @@
 use Rattle.std.proofs.Common.{◌≡◌, ℕ, Ok, Err, List, ap, subst, ◌∙◌}
-use Rattle.lk_gc.specs.declared.live.Live.{Live}
+use Rattle.lk_live.specs.declared.live.Live.{Live}
 use Rattle.lk_link.specs.TableSizes.{TableSizes}
 use Rattle.lk_sizes.specs.declared.error.SizeError.{SizeError}
 use Rattle.lk_sizes.specs.Emitted.{is_emitted}

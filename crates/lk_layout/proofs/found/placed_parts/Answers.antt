@@ -1,9 +1,9 @@
 use Rattle.std.proofs.Common.{◌≡◌, ◌<◌, ℕ, List, length, sym, ap, subst, ◌∙◌}
 use Rattle.lk_expressions.specs.Records.{Record, record_at}
-use Rattle.lk_gc.specs.declared.live.Live.{Live}
+use Rattle.lk_live.specs.declared.live.Live.{Live}
 use Rattle.lk_link.specs.declared.link.LinkInput.{LinkInput}
 use Rattle.lk_link.specs.WellFormed.{IsWellFormed}
-use Rattle.lk_relaxing.specs.LinkDeletions.{sizes_after}
+use Rattle.lk_relax.specs.LinkDeletions.{sizes_after}
 use Rattle.lk_sizes.specs.Owners.{AreThunkOwners}
 use Rattle.lk_sizes.specs.PartOwners.{part_size}
 use Rattle.lk_layout.specs.Machines.{platform_machine}

@@ -1,6 +1,6 @@
 use Rattle.std.proofs.Common.{◌≡◌, ℕ, None, Ok, Err, List, Option, length, sym, ap, subst, ◌∙◌}
 use Rattle.lk_branches.specs.ThunkPlans.{IsThunkPlan, thunk_owners}
-use Rattle.lk_gc.specs.declared.live.Live.{Live}
+use Rattle.lk_live.specs.declared.live.Live.{Live}
 use Rattle.lk_link.specs.declared.ids.FileId.{FileId}
 use Rattle.lk_link.specs.declared.options.Options.{Options}
 use Rattle.lk_link.specs.declared.plan.Plan.{Plan}

@@ -1,6 +1,6 @@
 use Rattle.std.proofs.Common.{◌≡◌, map}
 use Rattle.lk_link.specs.Walks.{input_of}
-use Rattle.lk_relaxing.specs.LinkDeletions.{size_after}
+use Rattle.lk_relax.specs.LinkDeletions.{size_after}
 use Rattle.lk_relaxing.proofs.deletions.sizes_after.Given as goal
 
 -- the sizes of the sections so far

@@ -1,6 +1,6 @@
 use Rattle.std.proofs.Common.{All, ℕ, List, sym, subst}
 use Rattle.lk_link.specs.declared.ids.FileId.{FileId}
-use Rattle.lk_relaxing.specs.LinkDeletions.{Deletions}
+use Rattle.lk_relax.specs.LinkDeletions.{Deletions}
 use Rattle.lk_relaxing.specs.Scan.{CanBeScanned}
 use Rattle.lk_relaxing.proofs.passes.look.Goals as goal
 

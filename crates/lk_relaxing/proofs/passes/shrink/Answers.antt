@@ -3,7 +3,7 @@ use Rattle.std.specs.Option.{option_map_or}
 use Rattle.std.specs.Prelude.{unwrap_or}
 use Rattle.lk_sizes.specs.Owners.{own_sizes}
 use Rattle.lk_sizes.proofs.FilledOwners.{handed}
-use Rattle.lk_relaxing.specs.LinkDeletions.{sizes_after}
+use Rattle.lk_relax.specs.LinkDeletions.{sizes_after}
 use Rattle.lk_relaxing.specs.RelaxationWords.{stage_in}
 use Rattle.lk_relaxing.specs.Relaxed.{for_link}
 use Rattle.lk_relaxing.specs.Scan.{scanned}

@@ -1,5 +1,5 @@
 use Rattle.std.proofs.Common.{◌≡◌, length, ap, sym, ◌∙◌, rules}
-use Rattle.lk_relaxing.specs.LinkDeletions.{Deletions}
+use Rattle.lk_relax.specs.LinkDeletions.{Deletions}
 use Rattle.lk_relaxing.specs.Positions.{symbol_positions}
 use Rattle.lk_relaxing.proofs.Beginning.{first_sizes}
 use Rattle.lk_relaxing.proofs.relaxation.begin.Goals as goal

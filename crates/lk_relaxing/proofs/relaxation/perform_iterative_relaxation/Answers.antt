@@ -1,7 +1,7 @@
 use Rattle.std.proofs.Common.{Err, ap, sym, subst, ◌∙◌}
 use Rattle.lk_place.specs.declared.error.PlaceError.{PlaceError}
 use Rattle.lk_sizes.specs.Owners.{Filling, content_of, plain_filling, with_thunks}
-use Rattle.lk_relaxing.specs.LinkDeletions.{sizes_after}
+use Rattle.lk_relax.specs.LinkDeletions.{sizes_after}
 use Rattle.lk_relaxing.specs.Relaxed.{AreRelaxed, GivesRelaxed, IsRelaxedLink, relaxing}
 use Rattle.lk_relaxing.specs.Stages.{Relaxing}
 use Rattle.lk_relaxing.proofs.Ending.{relaxed_exit, same_refusal}

@@ -1,7 +1,7 @@
 use Rattle.std.proofs.Common.{Err, refl, sym, subst}
 use Rattle.lk_sizes.specs.Owners.{in_output}
 use Rattle.lk_sizes.specs.Sizing.{AreFilled}
-use Rattle.lk_relaxing.specs.LinkDeletions.{Deletions}
+use Rattle.lk_relax.specs.LinkDeletions.{Deletions}
 use Rattle.lk_relaxing.specs.RelaxationWords.{ArePlaces, GivesPlaces}
 use Rattle.lk_relaxing.specs.Relaxed.{relaxing}
 use Rattle.lk_relaxing.specs.Stages.{Relaxing, filling_after}

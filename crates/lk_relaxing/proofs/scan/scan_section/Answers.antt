@@ -5,7 +5,7 @@ use Rattle.lk_link.specs.declared.relocation.RelaxCandidate.{RelaxCandidate}
 use Rattle.lk_relax.specs.Candidates.{margin, picked, ranges_in}
 use Rattle.lk_relax.specs.Deletions.{AreDeletions}
 use Rattle.lk_relax.specs.declared.candidates.Outcome.{Outcome}
-use Rattle.lk_relaxing.specs.LinkDeletions.{deleted_of}
+use Rattle.lk_relax.specs.LinkDeletions.{deleted_of}
 use Rattle.lk_relaxing.specs.Scan.{candidates_of, told}
 use Rattle.lk_relaxing.specs.ScanWords.{judged, standing_of}
 use Rattle.lk_relaxing.proofs.Scanning.{are_good, are_numbered}

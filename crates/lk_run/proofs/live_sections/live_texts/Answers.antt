@@ -3,7 +3,7 @@ use Rattle.std.specs.List.{flat_map, range_with_len}
 use Rattle.rayon.specs.Numbers.{nat_range}
 use Rattle.rayon.proofs.ListFacts.{IfOk-then}
 use Rattle.rayon.proofs.ToStd.{nat_range-All}
-use Rattle.lk_gc.proofs.GroupJoining.{all_groups, gathered}
+use Rattle.lk_live.proofs.GroupJoining.{all_groups, gathered}
 use Rattle.lk_run.specs.LiveLines.{file_lines, group_lines}
 use Rattle.lk_run.proofs.LiveLines.{all_files}
 use Rattle.lk_run.proofs.live_sections.live_texts.Goals as goal

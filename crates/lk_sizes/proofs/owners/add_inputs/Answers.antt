@@ -8,7 +8,7 @@ use Rattle.lk_link.specs.declared.plan.PlanPart.{PlanPart}
 use Rattle.lk_link.specs.declared.walks.InputRef.{InputRef}
 use Rattle.lk_link.specs.Inputs.{Input, all_inputs}
 use Rattle.lk_link.specs.Sizes.{capacity}
-use Rattle.lk_gc.specs.declared.live.Live.{Live}
+use Rattle.lk_live.specs.declared.live.Live.{Live}
 use Rattle.lk_link.specs.Parts.{all_parts, part_at}
 use Rattle.lk_link.specs.Walks.{input_of}
 use Rattle.lk_reach.proofs.LiveWalk.{finish, turn}
@@ -19,7 +19,7 @@ use Rattle.lk_sizes.proofs.Adding.{AreTotals, add_one, bytes_into, bytes_with, n
 use Rattle.lk_sizes.proofs.KeptOnes.{image_kept, kept_at, unmerged_live}
 use Rattle.lk_sizes.proofs.LiveByFiles.{number_of}
 use Rattle.lk_sizes.proofs.Limited.{part_fits}
-use Rattle.lk_gc.specs.Reach.{live_inputs}
+use Rattle.lk_live.specs.Reach.{live_inputs}
 use Rattle.lk_sizes.specs.Owners.{Owner, bytes_of, is_merged, own_sizes, size_in}
 use Rattle.lk_sizes.specs.Tables.{IsInput}
 use Rattle.lk_sizes.proofs.LiveParts.{goes_kept, read_alignment, read_part}

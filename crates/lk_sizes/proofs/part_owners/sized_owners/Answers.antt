@@ -1,5 +1,5 @@
 use Rattle.std.proofs.Common.{◌≡◌, ℕ, Bool, Bor, List, Option, None, Some, Result, Ok, Err, length, refl, ap, sym, subst, ◌∙◌}
-use Rattle.lk_gc.specs.declared.live.Live.{Live}
+use Rattle.lk_live.specs.declared.live.Live.{Live}
 use Rattle.lk_link.specs.declared.link.LinkInput.{LinkInput}
 use Rattle.lk_link.specs.Files.{first_some}
 use Rattle.lk_link.specs.TableSizes.{TableSizes}

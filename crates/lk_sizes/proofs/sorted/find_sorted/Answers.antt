@@ -1,7 +1,7 @@
 use Rattle.std.proofs.Common.{◌≡◌, filter, map, ap, ◌∙◌}
 use Rattle.lk_link.specs.Inputs.{Input}
 use Rattle.lk_link.specs.Walks.{input_of}
-use Rattle.lk_gc.specs.Reach.{live_inputs}
+use Rattle.lk_live.specs.Reach.{live_inputs}
 use Rattle.lk_reach.proofs.LiveWalk.{finish}
 use Rattle.lk_reach.proofs.Numbered.{are_numbered}
 use Rattle.lk_sizes.proofs.sorted.find_sorted.Goals as goal

@@ -6,8 +6,8 @@ use Rattle.lk_link.specs.declared.walks.InputRef.{InputRef}
 use Rattle.lk_link.specs.Inputs.{Input}
 use Rattle.lk_link.specs.Walks.{input_of}
 use Rattle.lk_link.proofs.Elements.{filter_at}
-use Rattle.lk_gc.specs.declared.live.Live.{Live}
-use Rattle.lk_gc.specs.Reach.{live_inputs}
+use Rattle.lk_live.specs.declared.live.Live.{Live}
+use Rattle.lk_live.specs.Reach.{live_inputs}
 use Rattle.lk_sizes.specs.Sorted.{sorted_ones}
 use Rattle.lk_sizes.proofs.LiveByFiles.{live_input}
 use Rattle.lk_sizes.proofs.LiveOnes.{live_goes}

@@ -5,7 +5,7 @@ use Rattle.lk_link.specs.declared.file.InputFile.{InputFile}
 use Rattle.lk_link.specs.Inputs.{NumberedFile}
 use Rattle.lk_link.proofs.Places.{files_of_group}
 use Rattle.lk_reach.proofs.Numbered.{are_numbered}
-use Rattle.lk_gc.proofs.GroupJoining.{file_more, made_more}
+use Rattle.lk_live.proofs.GroupJoining.{file_more, made_more}
 use Rattle.lk_tables.specs.declared.commons.Common.{Common}
 use Rattle.lk_tables.specs.declared.shares.FileShare.{FileShare}
 use Rattle.lk_tables.specs.Commons.{commons_of}

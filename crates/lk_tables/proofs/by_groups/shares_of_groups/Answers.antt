@@ -3,7 +3,7 @@ use Rattle.std.specs.List.{flat_map, range_with_len}
 use Rattle.rayon.specs.Numbers.{nat_range}
 use Rattle.rayon.proofs.ListFacts.{IfOk-then}
 use Rattle.rayon.proofs.ToStd.{nat_range-All}
-use Rattle.lk_gc.proofs.GroupJoining.{all_groups, all_made, gathered, joined_of}
+use Rattle.lk_live.proofs.GroupJoining.{all_groups, all_made, gathered, joined_of}
 use Rattle.lk_tables.specs.declared.by_groups.GroupShares.{GroupShares}
 use Rattle.lk_tables.specs.declared.commons.Common.{Common}
 use Rattle.lk_tables.specs.declared.shares.FileShare.{FileShare}

@@ -3,8 +3,8 @@ use Rattle.std.specs.List.{count_by}
 use Rattle.std.proofs.lemmas.List.Sums.{length-filter}
 use Rattle.lk_link.specs.Inputs.{Input}
 use Rattle.lk_link.specs.Walks.{input_of}
-use Rattle.lk_gc.specs.Reach.{live_inputs}
-use Rattle.lk_gc.specs.Slots.{is_singleton}
+use Rattle.lk_live.specs.Reach.{live_inputs}
+use Rattle.lk_live.specs.Slots.{is_singleton}
 use Rattle.lk_reach.proofs.LiveWalk.{finish}
 use Rattle.lk_reach.proofs.Numbered.{are_numbered}
 use Rattle.lk_tables.specs.Singletons.{input_name_bytes}

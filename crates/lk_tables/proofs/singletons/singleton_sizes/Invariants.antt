@@ -1,7 +1,7 @@
 use Rattle.std.proofs.Common.{◌≡◌, ◌-◌, ◌^◌, if◌then◌else◌, map, min, sum_by}
 use Rattle.std.specs.List.{count_by}
 use Rattle.lk_link.specs.Walks.{input_of}
-use Rattle.lk_gc.specs.Slots.{is_singleton}
+use Rattle.lk_live.specs.Slots.{is_singleton}
 use Rattle.lk_tables.specs.Singletons.{input_name_bytes}
 use Rattle.lk_tables.proofs.singletons.singleton_sizes.Given as goal
 

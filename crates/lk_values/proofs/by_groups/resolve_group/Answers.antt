@@ -8,7 +8,7 @@ use Rattle.lk_link.proofs.Places.{files_of_group}
 use Rattle.lk_reach.proofs.Numbered.{are_numbered}
 use Rattle.lk_values.specs.AtHand.{places_at_hand, setting_at_hand}
 use Rattle.lk_values.specs.Resolutions.{file_resolutions}
-use Rattle.lk_gc.proofs.GroupJoining.{file_more}
+use Rattle.lk_live.proofs.GroupJoining.{file_more}
 use Rattle.lk_values.proofs.by_groups.resolve_group.Goals as goal
 
 pub overflow_cast-id : goal.overflow_cast-id

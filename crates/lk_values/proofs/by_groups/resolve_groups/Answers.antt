@@ -7,7 +7,7 @@ use Rattle.lk_link.specs.declared.resolution.Resolution.{Resolution}
 use Rattle.lk_values.specs.AtHand.{places_at_hand, setting_at_hand}
 use Rattle.lk_values.specs.ByGroups.{group_resolutions}
 use Rattle.lk_values.specs.Resolutions.{file_resolutions}
-use Rattle.lk_gc.proofs.GroupJoining.{all_groups, gathered}
+use Rattle.lk_live.proofs.GroupJoining.{all_groups, gathered}
 use Rattle.lk_values.proofs.by_groups.resolve_groups.Goals as goal
 
 pub collect-requires-clause-ready : goal.collect-requires-clause-ready

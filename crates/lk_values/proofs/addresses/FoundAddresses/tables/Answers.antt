@@ -1,10 +1,10 @@
 use Rattle.std.proofs.Common.{◌≡◌, Bool, List, ℕ, sym, ap, ◌∙◌, subst, arith}
-use Rattle.lk_gc.specs.declared.live.Live.{Live}
+use Rattle.lk_live.specs.declared.live.Live.{Live}
 use Rattle.lk_link.specs.TableSizes.{TableSizes}
 use Rattle.lk_merge.specs.Addresses.{image_start}
 use Rattle.lk_merge.specs.LinkInputs.{link_inputs}
 use Rattle.lk_merge.proofs.SymbolPlaces.{outputs_count}
-use Rattle.lk_relaxing.specs.LinkDeletions.{Deletions}
+use Rattle.lk_relax.specs.LinkDeletions.{Deletions}
 use Rattle.lk_sizes.specs.Emitted.{told_marks}
 use Rattle.lk_tables.specs.declared.header_info.HeaderInfo.{HeaderInfo}
 use Rattle.lk_tables.specs.DynamicCounters.{AreNumbersAt}

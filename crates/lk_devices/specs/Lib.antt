@@ -1,0 +1,4 @@
+pub mod Device
+pub mod Memory
+pub mod ReadAll
+pub mod Standard

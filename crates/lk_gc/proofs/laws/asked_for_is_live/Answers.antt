@@ -1,5 +1,0 @@
-use Rattle.lk_gc.proofs.LawLemmas as lemma
-use Rattle.lk_gc.proofs.laws.asked_for_is_live.Goals as goal
-
-pub returns : goal.returns
-returns c = lemma.asked_for_is_live

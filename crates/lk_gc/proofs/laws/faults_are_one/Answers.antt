@@ -1,5 +1,0 @@
-use Rattle.lk_gc.proofs.FaultOrder.{faults_are_one}
-use Rattle.lk_gc.proofs.laws.faults_are_one.Goals as goal
-
-pub returns : goal.returns
-returns c = faults_are_one

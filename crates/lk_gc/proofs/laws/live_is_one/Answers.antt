@@ -1,5 +1,0 @@
-use Rattle.lk_gc.proofs.Living.{live_is_one}
-use Rattle.lk_gc.proofs.laws.live_is_one.Goals as goal
-
-pub returns : goal.returns
-returns c = live_is_one

@@ -1,5 +1,0 @@
-use Rattle.lk_gc.proofs.Living.{roots_are_live}
-use Rattle.lk_gc.proofs.laws.roots_are_live.Goals as goal
-
-pub returns : goal.returns
-returns c = roots_are_live

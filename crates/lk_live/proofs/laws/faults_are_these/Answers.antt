@@ -1,0 +1,5 @@
+use Rattle.lk_live.proofs.FaultOrder.{faults_are_these}
+use Rattle.lk_live.proofs.laws.faults_are_these.Goals as goal
+
+pub returns : goal.returns
+returns c = faults_are_these

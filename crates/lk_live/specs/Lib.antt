@@ -1,0 +1,10 @@
+pub mod ByGroups
+pub mod FaultLaws
+pub mod Faults
+pub mod KeptParts
+pub mod Laws
+pub mod Primary
+pub mod PrimaryMarks
+pub mod Reach
+pub mod Slots
+pub mod Texts
