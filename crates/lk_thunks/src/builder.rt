@@ -15,10 +15,10 @@ use crate::blocks::{ThunkBlockId, assigned_of, thunk_blocks};
 use crate::homes::home_numbers;
 use crate::ranges::{file_ranges, object_ranges, with_bytes};
 use crate::sets::{Planner, ThunkBlock, named_elsewhere, thunk_sets};
-use lk_live::Live;
 use lk_link::limits::MOST_NEAR_BRANCH;
 use lk_link::plan::attributes;
 use lk_link::{FileId, InputSection, LinkInput};
+use lk_live::Live;
 use std::alloc::{AllocError, Global};
 use std::marker::Model;
 

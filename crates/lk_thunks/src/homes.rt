@@ -8,8 +8,8 @@ ghost use Rattle.lk_link.specs.WellFormed.{IsWellFormed};
 ghost use Rattle.lk_live.specs.PrimaryMarks.{is_primary_symbol};
 ghost use Rattle.lk_thunks.specs.Homes.{home_number, home_numbers, range_told};
 
-use lk_live::reaching::is_primary_section;
 use lk_link::{FileId, FileRef, InputFile, InputSymbol, LinkInput, SymbolPlacement};
+use lk_live::reaching::is_primary_section;
 use std::alloc::{AllocError, Global};
 
 /// For each symbol the number of its file over all groups, and one, if the symbol stands in the primary part; else 0. Looks at each

@@ -7,10 +7,10 @@ ghost use Rattle.lk_link.specs.Walks.{file_of};
 ghost use Rattle.lk_link.specs.WellFormed.{IsWellFormed};
 ghost use Rattle.lk_thunks.specs.Ranges.{file_ranges, has_bytes, is_object_range, primary_bytes, section_bytes, total_primary_bytes};
 
-use lk_live::Live;
-use lk_live::reaching::is_primary_section;
 use lk_link::marks::is_marked;
 use lk_link::{FileId, FileRef, InputSection, LinkInput};
+use lk_live::Live;
+use lk_live::reaching::is_primary_section;
 use std::alloc::{AllocError, Global};
 
 /// The bytes that a section of a file brings to the primary part. `first` is the number of the file's first section over all

@@ -18,8 +18,8 @@ ghost use Rattle.lk_thunks.specs.ThunkSets.{flags_at, home_of, is_in_window, is_
 
 use crate::blocks::{Block, objects_of};
 use crate::homes::{number_at, range_told};
-use lk_live::{Live, primary_references};
 use lk_link::{FileId, InputSymbol, LinkInput, List, SymbolId, ValueFlags};
+use lk_live::{Live, primary_references};
 use std::alloc::{AllocError, Global};
 use std::fmt;
 use std::marker::Model;
