@@ -1,7 +1,7 @@
 """Links with more code than branches reach: mostly branches inside a file, or each to a function of another file."""
 
 THUNKED = ("branches", "far")
-# All code, in bytes, and how far a branch reaches: some thirty blocks. An object's code is shorter than what planning leaves free.
+# All code, in bytes, and how far a branch reaches: some seventeen blocks. An object's code is shorter than what planning leaves free.
 CODE, RANGE = 4 << 30, 128 << 20
 MOST_OBJECT_CODE = 1 << 20
 # How many branches an object has, and how many of them go to other files.

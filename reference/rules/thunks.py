@@ -41,18 +41,15 @@ class Blocks:
         return entry.part == self.primary
 
     def assign(self, objects):
-        """Gives each object its block. The first is owned by its first object, any other one by the object behind those
-        that its first one reaches."""
+        """Gives each object its block. The first is owned by its first object, any other one by the last object in range
+        of where its first one begins."""
         waiting = list(objects)
         block = 0
         while waiting:
             taken = [waiting.pop(0)]
             if block > 0:
                 taken += self.run(waiting, self.ends[taken[0]][0])
-                owner = waiting.pop(0) if waiting else taken[0]
-                taken.append(owner)
-            else:
-                owner = taken[0]
+            owner = taken[-1]
             taken += self.run(waiting, self.ends[owner][1])
             self.owner_of[block] = owner
             self.block_of.update(dict.fromkeys(taken, block))

@@ -34,14 +34,14 @@ use Rattle.lk_link.proofs.InputLemmas.{file_stands}
 use Rattle.lk_link.specs.Files.{first_some}
 use Rattle.lk_check.specs.FirstBadEvent.{first_bad_event}
 use Rattle.lk_check.specs.FirstBadExpression.{expression_fault}
-use Rattle.lk_check.specs.FirstBadFile.{is_other_prelude, first_bad_prelude, bad_symbol, first_bad_symbol, bad_input, first_bad_input, first_bad_tables, first_bad_candidates}
+use Rattle.lk_check.specs.FirstBadFile.{is_other_prelude, first_bad_prelude, bad_symbol, first_bad_symbol, bad_input, first_bad_input, first_bad_tables, first_bad_candidates, first_bad_data}
 use Rattle.lk_check.specs.FirstBadPartField.{first_bad_part_field}
 use Rattle.lk_check.specs.FirstExcess.{all_limits, excess, first_excess, first_exceeded}
-use Rattle.lk_check.specs.FirstFault.{first_bad_section, second_tls, options_fault, page_fault, section_fault, part_field_fault, singletons_fault, tls_fault, event_fault, prelude_fault, symbol_fault, input_fault, table_fault, candidate_fault, section_or_part_fault, content_fault, plan_fault, placing_fault, file_fault, first_broken, first_fault, WellFormedExactlyUnfaulted}
+use Rattle.lk_check.specs.FirstFault.{first_bad_section, second_tls, options_fault, page_fault, section_fault, part_field_fault, singletons_fault, tls_fault, event_fault, prelude_fault, symbol_fault, input_fault, table_fault, candidate_fault, data_fault, section_or_part_fault, content_fault, plan_fault, placing_fault, file_fault, first_broken, first_fault, WellFormedExactlyUnfaulted}
 use Rattle.lk_check.proofs.NoAnswer.{no_map, passes_if, holds_if, none_unless, none_first, both_none, find_none, none_where_all, none_of, none_from}
 use Rattle.lk_check.proofs.NumberedFiles.{numbered_there, all_by_groups, all_of_files}
 use Rattle.lk_check.proofs.UnfaultedEvents.{event_order, scripted, none_bad}
-use Rattle.lk_check.proofs.UnfaultedRules.{parts_good, no_bad_part, expressions_good, no_bad_expression, tables_good, no_bad_tables, candidates_good, no_bad_candidates}
+use Rattle.lk_check.proofs.UnfaultedRules.{parts_good, no_bad_part, expressions_good, no_bad_expression, tables_good, no_bad_tables, candidates_good, no_bad_candidates, data_good, no_bad_data}
 
 -- ---- limits
 
@@ -204,7 +204,7 @@ no_bad_input link h =
 
 -- a link without a fault is well formed
 pub unfaulted : (link : LinkInput) → first_fault link ≡ None → IsWellFormed link
-unfolding first_fault first_broken plan_fault section_or_part_fault placing_fault file_fault content_fault options_fault page_fault section_fault part_field_fault singletons_fault tls_fault event_fault prelude_fault symbol_fault input_fault table_fault candidate_fault
+unfolding first_fault first_broken plan_fault section_or_part_fault placing_fault file_fault content_fault options_fault page_fault section_fault part_field_fault singletons_fault tls_fault event_fault prelude_fault symbol_fault input_fault table_fault candidate_fault data_fault
 unfaulted link h =
     let plan = link.plan in
     let limits = none_first (first_excess link) (first_broken link) h in
@@ -218,11 +218,13 @@ unfaulted link h =
     let tls = none_first (tls_fault plan) (first_some (event_fault link) (expression_fault link)) others.0 in
     let placed = none_first (event_fault link) (expression_fault link) tls.1 in
     let events = no_map _ (first_bad_event (has_script link.groups) plan) placed.0 in
-    let last : Option LinkFault = first_some (table_fault link) (candidate_fault link) in
-    let prelude = none_first (prelude_fault link) (first_some (symbol_fault link) (first_some (input_fault link) last)) others.1 in
-    let symbols = none_first (symbol_fault link) (first_some (input_fault link) last) prelude.1 in
-    let inputs = none_first (input_fault link) last symbols.1 in
-    let tables = none_first (table_fault link) (candidate_fault link) inputs.1 in
+    let last : Option LinkFault = first_some (candidate_fault link) (data_fault link) in
+    let behind : Option LinkFault = first_some (table_fault link) last in
+    let prelude = none_first (prelude_fault link) (first_some (symbol_fault link) (first_some (input_fault link) behind)) others.1 in
+    let symbols = none_first (symbol_fault link) (first_some (input_fault link) behind) prelude.1 in
+    let inputs = none_first (input_fault link) behind symbols.1 in
+    let tables = none_first (table_fault link) last inputs.1 in
+    let candidates = none_first (candidate_fault link) (data_fault link) tables.1 in
     record {
       within = within_limits link limits.0;
       options = passes_if (is_good_options link.groups link.options) _ options.0;
@@ -238,12 +240,13 @@ unfaulted link h =
       symbols = symbols_good link (no_map _ (first_bad_symbol link) symbols.0);
       inputs = inputs_good link (no_map _ (first_bad_input link) inputs.0);
       tables = tables_good link (no_map _ (first_bad_tables link) tables.0);
-      candidates = candidates_good link (no_map _ (first_bad_candidates link) tables.1);
+      candidates = candidates_good link (no_map _ (first_bad_candidates link) candidates.0);
+      given = data_good link (no_map _ (first_bad_data link) candidates.1);
     }
 
 -- a well-formed link has no fault
 faultless : (link : LinkInput) → IsWellFormed link → first_fault link ≡ None
-unfolding first_fault first_broken plan_fault section_or_part_fault placing_fault file_fault content_fault options_fault page_fault section_fault part_field_fault singletons_fault tls_fault event_fault prelude_fault symbol_fault input_fault table_fault candidate_fault
+unfolding first_fault first_broken plan_fault section_or_part_fault placing_fault file_fault content_fault options_fault page_fault section_fault part_field_fault singletons_fault tls_fault event_fault prelude_fault symbol_fault input_fault table_fault candidate_fault data_fault
 faultless link h =
     let plan = link.plan in
     let options : options_fault link ≡ None = ap (λ b. cond b None (Some (BadLink rule.Options place.Options))) h.options in
@@ -258,7 +261,9 @@ faultless link h =
     let inputs : input_fault link ≡ None = ap (option_map (λ p. BadLink rule.InputSections (place.Input p.0 p.1))) (no_bad_input link h.inputs) in
     let tables : table_fault link ≡ None = ap (option_map (λ p. BadLink rule.Tables (place.Input p.0 p.1))) (no_bad_tables link h.tables) in
     let candidates : candidate_fault link ≡ None = ap (option_map (λ id. BadLink rule.Candidates (place.File id))) (no_bad_candidates link h.candidates) in
-    let last : Option LinkFault = first_some (table_fault link) (candidate_fault link) in
+    let given : data_fault link ≡ None = ap (option_map (λ p. BadLink rule.Data (place.Input p.0 p.1))) (no_bad_data link h.given) in
+    let last : Option LinkFault = first_some (candidate_fault link) (data_fault link) in
+    let behind : Option LinkFault = first_some (table_fault link) last in
     let named : Option LinkFault = first_some (part_field_fault link) (singletons_fault link) in
     both_none (first_excess link) (first_broken link)
     (no_excess link h.within)
@@ -269,9 +274,10 @@ faultless link h =
     (both_none (placing_fault link) (file_fault link)
     (both_none (tls_fault plan) (first_some (event_fault link) (expression_fault link)) tls
     (both_none (event_fault link) (expression_fault link) events (no_bad_expression link h.expressions)))
-    (both_none (prelude_fault link) (first_some (symbol_fault link) (first_some (input_fault link) last)) prelude
-    (both_none (symbol_fault link) (first_some (input_fault link) last) symbols
-    (both_none (input_fault link) last inputs (both_none (table_fault link) (candidate_fault link) tables candidates))))))
+    (both_none (prelude_fault link) (first_some (symbol_fault link) (first_some (input_fault link) behind)) prelude
+    (both_none (symbol_fault link) (first_some (input_fault link) behind) symbols
+    (both_none (input_fault link) behind inputs
+    (both_none (table_fault link) last tables (both_none (candidate_fault link) (data_fault link) candidates given)))))))
 
 pub exactly_unfaulted : WellFormedExactlyUnfaulted
 exactly_unfaulted link = (faultless link, unfaulted link)

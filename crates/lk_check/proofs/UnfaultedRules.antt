@@ -1,4 +1,4 @@
--- The rules on named parts, expressions, tables and candidates are kept exactly where there is no fault of them.
+-- The rules on named parts, expressions, tables, candidates and data are kept exactly where there is no fault of them.
 use Rattle.std.specs.Prelude.{◌≡◌, ℕ, ◌+◌, Bool, true, not, Option, Some, None, option_map, find, position}
 use Rattle.std.specs.List.{enumerate_from, list_all}
 use Rattle.std.proofs.Common.{sym, ap, ◌∙◌, cond}
@@ -10,6 +10,7 @@ use Rattle.lk_link.specs.declared.fault.Place.TheVariants as place
 use Rattle.lk_link.specs.declared.link.LinkInput.{LinkInput}
 use Rattle.lk_link.specs.declared.symbol.InputSymbol.{InputSymbol}
 use Rattle.lk_link.specs.CandidateRules.{has_good_candidates}
+use Rattle.lk_link.specs.DataRules.{has_whole_data, has_file_data}
 use Rattle.lk_link.specs.ExpressionRules.{is_good_expression, is_good_region, has_good_address, has_good_move, is_good_redirect, HasGoodExpressions}
 use Rattle.lk_link.specs.Files.{first_some}
 use Rattle.lk_link.specs.Inputs.{numbered_files}
@@ -19,7 +20,7 @@ use Rattle.lk_link.specs.Symbols.{all_symbols, first_symbol}
 use Rattle.lk_link.specs.TableRules.{has_tables, has_file_tables}
 use Rattle.lk_link.proofs.Places.{all_at, all_from, all_where_none, none_found}
 use Rattle.lk_check.specs.FirstBadExpression.{base_fault, first_bad_region, region_fault, first_bad_address, address_fault, first_bad_move, move_fault, bad_redirect, first_bad_redirect, redirect_fault, use_fault, expression_fault}
-use Rattle.lk_check.specs.FirstBadFile.{bad_tables, first_bad_tables, has_bad_candidate, first_bad_candidates}
+use Rattle.lk_check.specs.FirstBadFile.{bad_tables, first_bad_tables, has_bad_candidate, first_bad_candidates, bad_data, first_bad_data}
 use Rattle.lk_check.specs.FirstBadPartField.{bad_table, first_bad_table, first_bad_part_field}
 use Rattle.lk_check.proofs.NoAnswer.{no_map, passes_if, none_first, both_none, find_none, none_where_all, none_of, none_from}
 use Rattle.lk_check.proofs.NumberedFiles.{all_by_groups, all_of_files}
@@ -132,3 +133,19 @@ no_bad_candidates link h =
     ap (option_map (λ f. f.id))
     (find_none (has_bad_candidate link) (numbered_files link.groups) (λ k x at_k.
     ap not (all_at (λ y. has_good_candidates link y.file) (numbered_files link.groups) k x (sym (all_by_groups (has_good_candidates link) link.groups) ∙ h) at_k)))
+
+-- ---- data
+
+pub data_good : (link : LinkInput) → first_bad_data link ≡ None → list_all (λ files. list_all has_file_data files) link.groups ≡ true
+data_good link h =
+    all_by_groups has_file_data link.groups
+    ∙ all_from (λ x. has_file_data x.file) (numbered_files link.groups) (λ k x at_k.
+    all_where_none has_whole_data x.file.sections
+    (no_map (λ i. (x.id, i)) (position (λ s. not (has_whole_data s)) x.file.sections) (none_of bad_data (numbered_files link.groups) k x h at_k)))
+
+pub no_bad_data : (link : LinkInput) → list_all (λ files. list_all has_file_data files) link.groups ≡ true → first_bad_data link ≡ None
+no_bad_data link h =
+    none_from bad_data (numbered_files link.groups) (λ k x at_k.
+    ap (option_map (λ i. (x.id, i)))
+    (none_where_all has_whole_data x.file.sections
+    (all_at (λ y. has_file_data y.file) (numbered_files link.groups) k x (sym (all_by_groups has_file_data link.groups) ∙ h) at_k)))

@@ -6,6 +6,7 @@ use Rattle.lk_link.specs.declared.file.InputFile.{InputFile}
 use Rattle.lk_link.specs.declared.link.LinkInput.{LinkInput}
 use Rattle.lk_link.specs.declared.plan.Plan.{Plan}
 use Rattle.lk_link.specs.CandidateRules.{has_good_candidates}
+use Rattle.lk_link.specs.DataRules.{has_whole_data}
 use Rattle.lk_link.specs.ExpressionRules.{is_good_redirect}
 use Rattle.lk_link.specs.Files.{first_some}
 use Rattle.lk_link.specs.InputRules.{is_good_input}
@@ -18,9 +19,9 @@ use Rattle.lk_check.specs.FirstFault.{event_fault, plan_fault, prelude_fault, tl
 abbrev pub has_good_symbols : LinkInput → InputFile → Bool
 has_good_symbols link f = list_all (λ s. is_good_symbol link f s && is_good_redirect link s.at) f.symbols
 
--- whether each section of a file is good, and what its relocations want has a part
+-- whether each section of a file is good, what its relocations want has a part, and its data are whole
 abbrev pub has_good_sections : Plan → InputFile → Bool
-has_good_sections plan f = list_all (λ s. is_good_input plan (length f.symbols) s && has_tables plan.named s) f.sections
+has_good_sections plan f = list_all (λ s. is_good_input plan (length f.symbols) s && has_tables plan.named s && has_whole_data s) f.sections
 
 -- whether all that a file holds is good
 unfoldable pub is_good_file : LinkInput → InputFile → Bool

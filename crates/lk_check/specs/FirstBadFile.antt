@@ -6,6 +6,7 @@ use Rattle.lk_link.specs.declared.link.LinkInput.{LinkInput}
 use Rattle.lk_link.specs.declared.plan.NamedParts.{NamedParts}
 use Rattle.lk_link.specs.declared.plan.Plan.{Plan}
 use Rattle.lk_link.specs.CandidateRules.{has_good_candidates}
+use Rattle.lk_link.specs.DataRules.{has_whole_data}
 use Rattle.lk_link.specs.FileKinds.{is_prelude}
 use Rattle.lk_link.specs.InputRules.{is_good_input}
 use Rattle.lk_link.specs.Inputs.{NumberedFile, numbered_files}
@@ -65,3 +66,13 @@ has_bad_candidate link f = not (has_good_candidates link f.file)
 -- where the rule on candidates is broken first
 abbrev pub first_bad_candidates : LinkInput → Option FileId
 first_bad_candidates link = option_map (λ f. f.id) (find (has_bad_candidate link) (numbered_files link.groups))
+
+-- ---- data
+
+-- the first section of a file for which other data are given than its size says, by its index there
+abbrev pub bad_data : NumberedFile → Option (FileId × ℕ)
+bad_data f = option_map (λ i. (f.id, i)) (position (λ s. not (has_whole_data s)) f.file.sections)
+
+-- where the rule on data is broken first
+abbrev pub first_bad_data : LinkInput → Option (FileId × ℕ)
+first_bad_data link = first_of bad_data (numbered_files link.groups)

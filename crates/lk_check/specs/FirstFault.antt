@@ -16,7 +16,7 @@ use Rattle.lk_link.specs.WellFormed.{IsWellFormed}
 use Rattle.lk_link.specs.Files.{first_some}
 use Rattle.lk_check.specs.FirstBadEvent.{first_bad_event}
 use Rattle.lk_check.specs.FirstBadExpression.{expression_fault}
-use Rattle.lk_check.specs.FirstBadFile.{first_bad_prelude, first_bad_symbol, first_bad_input, first_bad_tables, first_bad_candidates}
+use Rattle.lk_check.specs.FirstBadFile.{first_bad_prelude, first_bad_symbol, first_bad_input, first_bad_tables, first_bad_candidates, first_bad_data}
 use Rattle.lk_check.specs.FirstBadPartField.{first_bad_part_field}
 use Rattle.lk_check.specs.FirstExcess.{first_excess}
 
@@ -75,6 +75,10 @@ table_fault link = option_map (λ p. BadLink rule.Tables (place.Input p.0 p.1)) 
 unfoldable pub candidate_fault : LinkInput → Option LinkFault
 candidate_fault link = option_map (λ id. BadLink rule.Candidates (place.File id)) (first_bad_candidates link)
 
+-- also of discarded sections
+unfoldable pub data_fault : LinkInput → Option LinkFault
+data_fault link = option_map (λ p. BadLink rule.Data (place.Input p.0 p.1)) (first_bad_data link)
+
 -- ---- the first fault
 
 -- the first rule on output sections, and on parts and sections that the plan names, that is broken
@@ -91,7 +95,7 @@ placing_fault link = first_some (tls_fault link.plan) (first_some (event_fault l
 
 -- the first rule on what files hold beside symbols that is broken
 unfoldable pub content_fault : LinkInput → Option LinkFault
-content_fault link = first_some (input_fault link) (first_some (table_fault link) (candidate_fault link))
+content_fault link = first_some (input_fault link) (first_some (table_fault link) (first_some (candidate_fault link) (data_fault link)))
 
 -- the first rule on files that is broken
 unfoldable pub file_fault : LinkInput → Option LinkFault

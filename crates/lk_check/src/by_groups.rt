@@ -16,6 +16,7 @@ use crate::expressions::is_good_redirect;
 use crate::good_inputs::is_good_input;
 use crate::good_symbols::is_good_symbol;
 use crate::rules::{check_outside_files, check_rules};
+use crate::section_data::has_whole_data;
 use crate::tables::has_tables;
 use lk_link::fault::LinkFault;
 use lk_link::file::InputFile;
@@ -84,11 +85,12 @@ fn has_good_symbols(link: &LinkInput, locations: usize, file: &InputFile) -> boo
     })
 }
 
-/// Whether each section of a file is good, and what its relocations want has a part.
+/// Whether each section of a file is good, what its relocations want has a part, and its data are as many bytes as its size.
 fn has_good_sections(plan: &Plan, file: &InputFile) -> bool
     ensures { result ≡ has_good_sections plan.now file.now }
 {
     let symbols = file.symbols.len();
     file.sections.as_slice().iter().all(|section| is_good_input(plan, symbols, section)
-        && has_tables(&plan.named, section))
+        && has_tables(&plan.named, section)
+        && has_whole_data(section))
 }

@@ -33,6 +33,7 @@ mod part_fields;
 mod parts;
 mod prelude;
 mod rules;
+mod section_data;
 mod sections;
 mod segments;
 mod singletons;

@@ -8,7 +8,7 @@ ghost use Rattle.lk_check.specs.FirstFault.{check_of, content_fault, first_broke
 
 use crate::{
     candidates, events, expressions, first_bad_input, first_bad_symbol, options, part_fields,
-    prelude, sections, segments, singletons, tables,
+    prelude, section_data, sections, segments, singletons, tables,
 };
 use lk_link::alignment::is_valid;
 use lk_link::fault::{LinkFault, Place, Rule};
@@ -102,8 +102,8 @@ fn check_files(link: &LinkInput) -> Result<(), LinkFault>
     check_contents(link)
 }
 
-/// Refuses a link whose files hold input sections, relocations or candidates that break a rule, by the first such rule at its first
-/// place.
+/// Refuses a link whose files hold input sections, relocations, candidates or data that break a rule, by the first such rule at its
+/// first place.
 #[tactic(auto, using(crate::proofs::Faults::checks), unfolding(crate::specs::FirstFault::content_fault))]
 fn check_contents(link: &LinkInput) -> Result<(), LinkFault>
     requires { AreNumbered link.now.groups }
@@ -111,7 +111,8 @@ fn check_contents(link: &LinkInput) -> Result<(), LinkFault>
 {
     first_bad_input::check_inputs(link)?;
     tables::check_tables(link)?;
-    candidates::check_candidates(link)
+    candidates::check_candidates(link)?;
+    section_data::check_data(link)
 }
 
 /// The page is a power of two up to 65,536.

@@ -1,12 +1,9 @@
 //! What rows ask here, and that the answers are theirs.
 
-use crate::devices::{add_calls, add_held, add_reads, add_run, add_whole, add_writes};
 use crate::files::{add_moved, add_told};
 use crate::layout::{add_shared, add_workers};
 use crate::lent::add_lent;
 use crate::queries::add_queries;
-use crate::runs::{add_end, add_lock_step, add_words};
-use crate::words::{add_both_runs, add_generated};
 use lk_input::read_link;
 use lk_test_rows::{Row, rows_of};
 use std::alloc::{AllocError, Global};
@@ -22,32 +19,10 @@ pub enum Asked {
     Workers,
     /// Whether workers make one report of it, and whether they walk.
     Shared,
-    /// Whether a run over it by two workers in lock step tells what one by none does.
-    LockStep,
-    /// How a run over it ends.
-    Run,
     /// What the layout of it tells of starts.
     Starts,
     /// What it tells of symbols.
     Symbols,
-    /// What command its words are, and how a run with them ends.
-    Words,
-    /// How runs with its words end, alone and by workers.
-    BothRuns,
-    /// What a run with its words tells of a generated link.
-    Generated,
-    /// What reads of a source give.
-    Reads,
-    /// What is read of a whole source.
-    Whole,
-    /// Under which limits so many bytes are read.
-    Held,
-    /// What becomes of pieces that are written.
-    Writes,
-    /// What odd readers and writers give.
-    Calls,
-    /// How a run over failing devices ends.
-    FaultyRun,
     /// What is told where a section is moved in the file; the words for it stand in front of the link.
     Moved,
     /// What is told of the groups of its layout.
@@ -108,18 +83,7 @@ fn add_answer(
 ) -> Result<(), AllocError> {
     match asked {
         Asked::Workers | Asked::Shared => add_linked(rt, alloc, line, asked, text),
-        Asked::LockStep => add_lock_step(rt, alloc, line, text),
-        Asked::Run => add_end(alloc, line, text),
         Asked::Starts | Asked::Symbols => add_queries(alloc, line, asked, text),
-        Asked::Words => add_words(alloc, line, text),
-        Asked::BothRuns => add_both_runs(rt, alloc, line, text),
-        Asked::Generated => add_generated(alloc, line, text),
-        Asked::Reads => add_reads(alloc, line, text),
-        Asked::Whole => add_whole(alloc, line, text),
-        Asked::Held => add_held(alloc, line, text),
-        Asked::Writes => add_writes(alloc, line, text),
-        Asked::Calls => add_calls(line, text),
-        Asked::FaultyRun => add_run(rt, alloc, line, text),
         Asked::Moved => add_worded(alloc, line, text),
         Asked::Groups => add_all_groups(alloc, line, text),
         Asked::Lent => add_all_lent(alloc, line, text),
@@ -167,9 +131,4 @@ pub fn expect_rows(
         expect_row(rt, alloc, asked, row)?;
     }
     Ok(())
-}
-
-/// Wants this text.
-pub fn expect_text(rt: &impl Abort, found: &str, want: &str) {
-    assert_eq!(rt; found, want);
 }

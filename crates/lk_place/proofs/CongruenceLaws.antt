@@ -1,5 +1,5 @@
 -- Under a plain plan, memory is congruent to the file inside each load segment.
-use Rattle.std.proofs.Common.{◌≡◌, ℕ, zero, suc, ◌+◌, ◌-◌, ◌%◌, ◌<◌, ◌≤◌, Bool, true, false, List, length, take, Option, Some, None, refl, sym, ap, subst, ◌∙◌, inl, inr, arith, add-one, add-zero, Ok}
+use Rattle.std.proofs.Common.{◌≡◌, ℕ, zero, suc, ◌+◌, ◌-◌, ◌%◌, ◌<◌, ◌≤◌, Bool, true, false, List, length, take, Option, Some, None, refl, sym, ap, subst, ◌∙◌, inl, inr, arith, add-one, add-zero}
 use Rattle.std.specs.Prelude.{◌||◌, if◌then◌else◌, slice_get, unwrap_or}
 use Rattle.std.proofs.lemmas.Bool.{cases_Bool, cases_lt}
 use Rattle.lk_link.specs.declared.plan.OrderEvent.{OrderEvent}
@@ -14,8 +14,8 @@ use Rattle.lk_link.proofs.PartNumbers.{first_part-suc}
 use Rattle.lk_place.specs.declared.cursors.Cursors.{Cursors}
 use Rattle.lk_place.specs.Alignments.{place_alignment}
 use Rattle.lk_place.specs.Laws.{IsSoundlySet, PlainMemoryIsCongruent}
-use Rattle.lk_place.specs.PlacedBefore.{Known, Standing, last_before}
-use Rattle.lk_place.specs.Placement.{IsPlaced, known_before, Places, PlacesSection, CarriesOut, moved, state_at}
+use Rattle.lk_place.specs.PlacedBefore.{Known, Standing}
+use Rattle.lk_place.specs.Placement.{known_before, Places, PlacesSection, CarriesOut, moved, state_at}
 use Rattle.lk_place.specs.Plain.{IsLoadSegment, IsPlain, OpensLoad, PlacesInLoad}
 use Rattle.lk_place.specs.Ranges.{HasPart}
 use Rattle.lk_expressions.specs.Records.{Record, nowhere, record_at}
@@ -27,8 +27,7 @@ use Rattle.lk_place.proofs.Congruent.{CursorsAgree, FreeAgrees, KeepsAgreement, 
 use Rattle.lk_place.proofs.Insides.{placed_in_range}
 use Rattle.lk_place.proofs.Moves.{Enters, IsFree, Stays, Opened, Entered, enters, moves, opens_load}
 use Rattle.lk_place.proofs.OpenSegments.{open_before, section_event}
-use Rattle.lk_place.proofs.PlainScanLaws.{last_is, last_stays}
-use Rattle.lk_place.proofs.Steps.{MovesNothing, addressed, event_at, never_waits, nothing_first, plain_plan, step_at}
+use Rattle.lk_place.proofs.Steps.{addressed, event_at, never_waits, plain_plan, step_at}
 
 -- ---- the walk
 
@@ -60,56 +59,19 @@ first_of_two : (a b : Bool) → (a || b) ≡ true → b ≡ false → a ≡ true
 first_of_two true b h none = refl
 first_of_two false b h none = absurd (cc)
 
--- ---- what is saved
-
--- an event that places nothing saves nothing
-unplaced_saves : (setting : Setting) (known : Known) (standing : Standing) (e : OrderEvent) (o : Option ℕ) (from entered to : Cursors) (records : List Record) → IsFree setting.plan → IsAboutPlace e → from.pending ≡ None → placed_section e ≡ o → o ≡ None
-    → moved setting known e from ≡ Ok entered → Places setting standing o entered records to → to.saved ≡ from.saved
-unplaced_saves setting known standing e (Some s) from entered to records free about quiet named none h places = absurd (cc)
-unplaced_saves setting known standing e None from entered to records free about quiet named none h places =
-    elim (moves setting known e from entered free about quiet h) [
-      | Stays same ↦ ap (λ (c : Cursors). c.saved) places ∙ ap (λ (c : Cursors). c.saved) same
-      | Opened opens ↦ ap (λ (c : Cursors). c.saved) places ∙ opens.saved
-      | Entered s is enters ↦ let place : Some s ≡ None = ap placed_section (sym is) ∙ named in absurd (cc)
-    ]
-
--- nothing is saved where the section placed last isn't zero-fill thread-local
-nothing_saved : (setting : Setting) (states : List Cursors) (records : List Record) → IsPlaced setting states records → MovesNothing setting.plan
-    → (n : ℕ) → n < length states → ((s : ℕ) → last_before setting.plan.events n ≡ Some s → is_zero_fill_thread_local setting.plan s ≡ false) → (state_at states n).saved ≡ None
-nothing_saved setting states records is unmoved zero less filled = (nothing_first setting states is.begins less).0
-nothing_saved setting states records is unmoved (suc n) less filled =
-    let events : List OrderEvent = setting.plan.events in
-    let event = event_at setting states records n is (omega arith) in
-    let e : OrderEvent = event.0 in
-    let known : Known = known_before setting states records n in
-    let about : IsAboutPlace e = unmoved.events n e event.1 in
-    let quiet : (state_at states n).pending ≡ None = never_waits setting states records is unmoved n (omega arith) in
-    let step : CarriesOut setting known e (state_at states n) records (state_at states (n + 1)) = step_at setting states records n e is (omega arith) event.1 in
-    ap (λ (m : ℕ). (state_at states m).saved) (sym (add-one n))
-    ∙ elim (placed_section e) as (λ (o : Option ℕ). placed_section e ≡ o → Places setting known.standing o step.entered records (state_at states (n + 1)) → (state_at states (n + 1)).saved ≡ None) [
-      | None ↦ λ none places.
-          unplaced_saves setting known known.standing e None (state_at states n) step.entered (state_at states (n + 1)) records unmoved.free about quiet none refl step.moves places
-          ∙ nothing_saved setting states records is unmoved n (omega arith) (λ s last. filled s (last_stays events n e event.1 none ∙ last))
-      | (Some s) ↦ λ named places.
-          let at : e ≡ Section s = section_event e s named in
-          let last : last_before events (suc n) ≡ Some s = last_is events n s (event.1 ∙ ap (λ (x : OrderEvent). Some x) at) in
-          let begun = enters setting known s (state_at states n) step.entered unmoved.free quiet (ap (λ (x : OrderEvent). moved setting known x (state_at states n)) (sym at) ∙ step.moves) in
-          ap (λ (c : Cursors). c.saved) places.placed.leaves ∙ (begun.taken (filled s last)).1
-    ] refl step.places
-
 -- ---- one event
 
 -- where the segment opens, both agree
 opens_agree : (setting : Setting) (states : List Cursors) (records : List Record) (known : Known) (i : ℕ) (from to : Cursors) → IsSoundlySet setting states records → from.pending ≡ None
-    → IsLoadSegment setting.plan i → from.saved ≡ None → CarriesOut setting known (SegmentStart i) from records to → FreeAgrees (place_alignment setting i) to
-opens_agree setting states records known i from to set quiet load unsaved step =
+    → IsLoadSegment setting.plan i → CarriesOut setting known (SegmentStart i) from records to → FreeAgrees (place_alignment setting i) to
+opens_agree setting states records known i from to set quiet load step =
     let place : ℕ = place_alignment setting i in
     let there = opens_load setting known i from step.entered quiet load step.moves in
-    let none : to.saved ≡ None = ap (λ (c : Cursors). c.saved) step.places ∙ there.2 ∙ unsaved in
+    let none : to.saved ≡ None = ap (λ (c : Cursors). c.saved) step.places ∙ there.2 in
     ap (λ (o : Option ℕ). unwrap_or o to.memory % place) none
     ∙ ap (λ (c : Cursors). c.memory % place) step.places
     ∙ ap (λ n. n % place) there.1
-    ∙ set.lawful.congruent place from.file from.memory (place_aligned setting i set.ready.sections set.page)
+    ∙ set.lawful.congruent place from.file (free_memory from) (place_aligned setting i set.ready.sections set.page)
     ∙ ap (λ n. n % place) (sym there.0)
     ∙ ap (λ (c : Cursors). c.file % place) (sym step.places)
 
@@ -198,9 +160,7 @@ open_agrees setting states records i s k t (suc n) le opened =
     let agrees : FreeAgrees place (state_at states (n + 1))
     = elim (is_start i e) as (λ b. is_start i e ≡ b → FreeAgrees place (state_at states (n + 1))) [
       | true ↦ λ is.
-          let opens : OpensLoad setting.plan i n = record { load = t.places.load; here = event.1 ∙ ap (λ (x : OrderEvent). Some x) (is_that_start i e is) } in
-          let unsaved = nothing_saved setting states records t.set.placed (plain_plan setting.plan setting.output t.plain) n (omega arith) (λ s last. t.plain.settled i n s opens last) in
-          opens_agree setting states records known i (state_at states n) (state_at states (n + 1)) t.set quiet t.places.load unsaved
+          opens_agree setting states records known i (state_at states n) (state_at states (n + 1)) t.set quiet t.places.load
           (subst (λ x. CarriesOut setting known x (state_at states n) records (state_at states (n + 1))) (is_that_start i e is) step)
       | false ↦ λ unopened.
           let before : is_open i (take n setting.plan.events) ≡ true = open_before i n setting.plan.events e event.1 unopened opened in

@@ -26,14 +26,14 @@ use Rattle.lk_place.specs.ThreadLocal.{begins_run, free_memory, is_in_run, padde
 use Rattle.lk_place.proofs.AlignmentLaws.{greatest_of-least}
 use Rattle.lk_link.proofs.Starts.{next_multiple_is_least}
 
--- a load segment opens: memory begins where the machine lets it
+-- a load segment opens: memory goes on where it was saved, and begins where the machine lets it
 pub record Opens (setting : Setting) (e : OrderEvent) (from entered : Cursors) : Type 0 where
   pub segment : ℕ
   pub load : IsLoadSegment setting.plan segment
   pub is : e ≡ SegmentStart segment
   pub file : entered.file ≡ from.file
-  pub memory : entered.memory ≡ setting.target.segment_start (place_alignment setting segment) from.file from.memory
-  pub saved : entered.saved ≡ from.saved
+  pub memory : entered.memory ≡ setting.target.segment_start (place_alignment setting segment) from.file (free_memory from)
+  pub saved : entered.saved ≡ None
   pub pending : entered.pending ≡ from.pending
 
 -- memory that is moved is where it is moved to
@@ -50,28 +50,28 @@ moved_to from entered m =
 same_of : (from entered : Cursors) (there : Result Cursors Refusal) → there ≡ Ok from → there ≡ Ok entered → entered ≡ from
 same_of from entered there h g = cc
 
--- where no location waits, an opening is what the machine says
+-- where no location waits, an opening is what the machine says of memory that goes on where it was saved
 opens_quietly : (setting : Setting) (known : Known) (i : ℕ) (from : Cursors) → from.pending ≡ None
     → moved setting known (SegmentStart i) from
-    ≡ (if is_load (segment_at setting.plan.segments i).kind then memory_moved from (setting.target.segment_start (place_alignment setting i) from.file from.memory) else Ok from)
-opens_quietly setting known i from quiet = ap (λ (o : Option ℕ). if is_load (segment_at setting.plan.segments i).kind then opened setting i from o else Ok from) quiet
+    ≡ (if is_load (segment_at setting.plan.segments i).kind then memory_moved (restoring from) (setting.target.segment_start (place_alignment setting i) from.file (free_memory from)) else Ok from)
+opens_quietly setting known i from quiet = ap (λ (o : Option ℕ). if is_load (segment_at setting.plan.segments i).kind then opened setting i (restoring from) o else Ok from) quiet
 
 opens_so : (setting : Setting) (i : ℕ) (from entered : Cursors)
-    → (if is_load (segment_at setting.plan.segments i).kind then memory_moved from (setting.target.segment_start (place_alignment setting i) from.file from.memory) else Ok from) ≡ Ok entered → (entered ≡ from) ⊎ Opens setting (SegmentStart i) from entered
+    → (if is_load (segment_at setting.plan.segments i).kind then memory_moved (restoring from) (setting.target.segment_start (place_alignment setting i) from.file (free_memory from)) else Ok from) ≡ Ok entered → (entered ≡ from) ⊎ Opens setting (SegmentStart i) from entered
 opens_so setting i from entered =
-    let start : ℕ = setting.target.segment_start (place_alignment setting i) from.file from.memory in
+    let start : ℕ = setting.target.segment_start (place_alignment setting i) from.file (free_memory from) in
     elim (is_load (segment_at setting.plan.segments i).kind) as (λ b. is_load (segment_at setting.plan.segments i).kind ≡ b
-    → (if b then memory_moved from start else Ok from) ≡ Ok entered → (entered ≡ from) ⊎ Opens setting (SegmentStart i) from entered) [
-      | true ↦ λ load h. let there = moved_to from entered start h in inr (record { segment = i; load = load; is = refl; file = there.0; memory = there.1; saved = there.2; pending = there.3 })
+    → (if b then memory_moved (restoring from) start else Ok from) ≡ Ok entered → (entered ≡ from) ⊎ Opens setting (SegmentStart i) from entered) [
+      | true ↦ λ load h. let there = moved_to (restoring from) entered start h in inr (record { segment = i; load = load; is = refl; file = there.0; memory = there.1; saved = there.2; pending = there.3 })
       | false ↦ λ load h. inl (same_of from entered (Ok from) refl h)
     ] refl
 
 -- where a load segment opens
 pub opens_load : (setting : Setting) (known : Known) (i : ℕ) (from entered : Cursors) → from.pending ≡ None → IsLoadSegment setting.plan i → moved setting known (SegmentStart i) from ≡ Ok entered
-    → (entered.file ≡ from.file) × (entered.memory ≡ setting.target.segment_start (place_alignment setting i) from.file from.memory) × (entered.saved ≡ from.saved) × (entered.pending ≡ from.pending)
+    → (entered.file ≡ from.file) × (entered.memory ≡ setting.target.segment_start (place_alignment setting i) from.file (free_memory from)) × (entered.saved ≡ None) × (entered.pending ≡ from.pending)
 opens_load setting known i from entered quiet load h =
-    let start : ℕ = setting.target.segment_start (place_alignment setting i) from.file from.memory in
-    moved_to from entered start (sym (opens_quietly setting known i from quiet ∙ ap (λ b. if b then memory_moved from start else Ok from) load) ∙ h)
+    let start : ℕ = setting.target.segment_start (place_alignment setting i) from.file (free_memory from) in
+    moved_to (restoring from) entered start (sym (opens_quietly setting known i from quiet ∙ ap (λ b. if b then memory_moved (restoring from) start else Ok from) load) ∙ h)
 
 -- ---- a section begins
 
@@ -272,8 +272,8 @@ begun_file setting goes_on in_run s from entered h =
 
 pub file_grows : (setting : Setting) (known : Known) (e : OrderEvent) (from entered : Cursors) → moved setting known e from ≡ Ok entered → from.file ≤ entered.file
 file_grows setting known (SegmentStart i) from entered h =
-    elim (is_load (segment_at setting.plan.segments i).kind) as (λ b. (if b then opened setting i from from.pending else Ok from) ≡ Ok entered → from.file ≤ entered.file) [
-      | true ↦ λ g. opens_file setting i from entered from.pending g
+    elim (is_load (segment_at setting.plan.segments i).kind) as (λ b. (if b then opened setting i (restoring from) from.pending else Ok from) ≡ Ok entered → from.file ≤ entered.file) [
+      | true ↦ λ g. opens_file setting i (restoring from) entered from.pending g
       | false ↦ λ g. omega (arith, ap (λ (c : Cursors). c.file) (same_of from entered (Ok from) refl g))
     ] h
 file_grows setting known (SegmentEnd i) from entered h = omega (arith, ap (λ (c : Cursors). c.file) (same_of from entered (Ok from) refl h))

@@ -49,7 +49,6 @@ one_load_segment_is_plain plan output order whole regions unmoved one all =
       regions = regions;
       unmoved = unmoved;
       apart = λ i j k load opens. ap (λ n. is_open n (take k plan.events)) (one i j load opens.load) ∙ unopened plan order j k k opens.here (omega arith);
-      settled = λ i k s opens last. zero_fill_of plan s all;
       allocated = λ i s k h. (has plan s (all s (there plan i s k order h)).0).0;
       zero_fill = λ i s k h zero. absurd (let no : is_zero_fill_thread_local plan s ≡ false = zero_fill_of plan s all in cc);
       backed_first = λ i s t m n less h g backed. ap (λ b. b || is_zero_fill_thread_local plan s) (all s (there plan i s m order h)).1;

@@ -2,7 +2,7 @@
 use Rattle.std.proofs.Common.{◌≡◌, ◌≢◌, ◌↔◌, ℕ, zero, suc, ◌<◌, ◌≤◌, Bool, true, false, List, [], ◌∷◌, length, take, Option, Some, None, refl, sym, ap, subst, ◌∙◌, inl, inr, arith, eq-eqb}
 use Rattle.std.specs.Prelude.{◌==◌, ◌&&◌, ◌||◌, fold, if◌then◌else◌, is_none, not, slice_get}
 use Rattle.std.specs.List.{slice_index_or}
-use Rattle.std.specs.Option.{option_map_or, option_or}
+use Rattle.std.specs.Option.{option_map_or}
 use Rattle.std.proofs.Math.Bool.{or-true}
 use Rattle.std.proofs.lemmas.Bool.{and_from, and_parts, cases_lt, eqb-true, not-true, or_cases}
 use Rattle.std.proofs.lemmas.Bool.Decides.{eqb_tells}
@@ -20,10 +20,8 @@ use Rattle.lk_link.specs.PlanSections.{is_allocated, is_file_backed, is_zero_fil
 use Rattle.lk_link.specs.SegmentKinds.{is_load, segment_at}
 use Rattle.lk_link.specs.WellFormed.{IsAboutPlace, IsEventOrder}
 use Rattle.lk_place.specs.declared.plain.Scan.{Scan}
-use Rattle.lk_place.specs.PlacedBefore.{last_before}
 use Rattle.lk_place.specs.Plain.{IsLoadSegment, IsPlain, OpensLoad, PlacesInLoad}
 use Rattle.lk_place.specs.PlainScan.{accepts, is_found_plain, leaves_gap, passes, scanned, unscanned}
-use Rattle.lk_place.proofs.LastOnes.{last_next}
 use Rattle.lk_place.proofs.OpenSegments.{closed_now, open_same, opened_now, unopened}
 
 -- ---- what passes
@@ -55,16 +53,6 @@ all_pass plan scan [] h = refl
 all_pass plan scan (x ∷ xs) h =
     and_from (accepts plan scan x) (passes plan (scanned plan scan x) xs) (h 0 x refl) (all_pass plan (scanned plan scan x) xs (λ k e there. h (suc k) e there))
 
--- ---- the section placed last
-
--- an event that places none leaves it
-pub last_stays : (es : List OrderEvent) (k : ℕ) (e : OrderEvent) → slice_get es k ≡ Some e → placed_section e ≡ None → last_before es (suc k) ≡ last_before es k
-last_stays es k e here none = last_next placed_section None es k e here ∙ ap (λ (o : Option ℕ). option_or o (last_before es k)) none
-
--- one that places a section makes it this one
-pub last_is : (es : List OrderEvent) (k s : ℕ) → slice_get es k ≡ Some (Section s) → last_before es (suc k) ≡ Some s
-last_is es k s here = last_next placed_section None es k (Section s) here
-
 -- ---- what the scan knows
 
 record Knows (plan : Plan) (k : ℕ) (scan : Scan) : Type 0 where
@@ -72,8 +60,6 @@ record Knows (plan : Plan) (k : ℕ) (scan : Scan) : Type 0 where
   is_opened : (i : ℕ) → scan.inside ≡ Some i → IsLoadSegment plan i × (is_open i (take k plan.events) ≡ true)
   gap : (i s m : ℕ) → scan.inside ≡ Some i → m < k → PlacesInside plan.events i s m → leaves_gap plan s ≡ true → scan.gap ≡ true
   gapped : (i : ℕ) → scan.inside ≡ Some i → scan.gap ≡ true → (s : ℕ) × (m : ℕ) × (m < k) × PlacesInside plan.events i s m × (leaves_gap plan s ≡ true)
-  last : (s : ℕ) → last_before plan.events k ≡ Some s → is_zero_fill_thread_local plan s ≡ scan.zero_fill
-  lasted : scan.zero_fill ≡ true → (s : ℕ) × (last_before plan.events k ≡ Some s)
 
 -- where an event places none, what is placed is placed before
 earlier : (es : List OrderEvent) (i s m k : ℕ) (e : OrderEvent) → slice_get es k ≡ Some e → placed_section e ≡ None → m < suc k → PlacesInside es i s m → m < k
@@ -97,8 +83,6 @@ quiet plan k e scan here none same h =
       is_opened = λ i is. let there = h.is_opened i is in (there.0, same i there.0 ∙ there.1);
       gap = λ i s m is less places gap. h.gap i s m is (earlier plan.events i s m k e here none less places) places gap;
       gapped = λ i is gap. let there = h.gapped i is gap in (there.0, there.1, omega (arith, there.2), there.3, there.4);
-      last = λ s is. h.last s (sym (last_stays plan.events k e here none) ∙ is);
-      lasted = λ zero. let there = h.lasted zero in (there.0, last_stays plan.events k e here none ∙ there.1);
     }
 
 -- a load segment opens, where none was open
@@ -123,8 +107,6 @@ starts plan j k scan order here load none h =
           let inside = places.inside in
           absurd (cc);
       gapped = λ i is gap. absurd (cc);
-      last = λ s is. h.last s (sym (last_stays plan.events k (SegmentStart j) here refl) ∙ is);
-      lasted = λ zero. let there = h.lasted zero in (there.0, last_stays plan.events k (SegmentStart j) here refl ∙ there.1);
     }
 
 -- the open one closes
@@ -142,13 +124,11 @@ closes plan j k scan here is h =
       is_opened = λ i none. absurd (cc);
       gap = λ i s m none less places gap. absurd (cc);
       gapped = λ i none gap. absurd (cc);
-      last = λ s l. h.last s (sym (last_stays plan.events k (SegmentEnd j) here refl) ∙ l);
-      lasted = λ zero. let there = h.lasted zero in (there.0, last_stays plan.events k (SegmentEnd j) here refl ∙ there.1);
     }
 
 -- a section is placed
 placed : (plan : Plan) (s k : ℕ) (scan : Scan) → slice_get plan.events k ≡ Some (Section s) → Knows plan k scan
-    → Knows plan (suc k) (record scan { gap = scan.gap || leaves_gap plan s; zero_fill = is_zero_fill_thread_local plan s })
+    → Knows plan (suc k) (record scan { gap = scan.gap || leaves_gap plan s })
 placed plan s k scan here h =
     let same : (i : ℕ) → is_open i (take (suc k) plan.events) ≡ is_open i (take k plan.events) = λ i. open_same i k plan.events (Section s) here refl refl in
     record {
@@ -165,11 +145,6 @@ placed plan s k scan here h =
         | inl before ↦ let there = h.gapped i is before in (there.0, there.1, omega (arith, there.2), there.3, there.4)
         | inr now ↦ (s, k, omega arith, record { here = here; inside = (h.is_opened i is).1 }, now)
       ];
-      last = λ t is.
-          let there : Some s ≡ Some t = sym (last_is plan.events k s here) ∙ is in
-          let section : t ≡ s = cc in
-          ap (is_zero_fill_thread_local plan) section;
-      lasted = λ zero. (s, last_is plan.events k s here);
     }
 
 option_is : (o : Option ℕ) (j : ℕ) → option_map_or (λ i. i == j) o false ≡ true → o ≡ Some j
@@ -223,8 +198,6 @@ knows plan order one zero le =
       is_opened = λ i is. absurd (cc);
       gap = λ i s m is less places gap. absurd (cc);
       gapped = λ i is gap. absurd (cc);
-      last = λ s is. absurd (cc);
-      lasted = λ zero. absurd (cc);
     }
 knows plan order one (suc k) le =
     let e : OrderEvent = slice_index_or plan.events k (SegmentEnd 0) in
@@ -240,13 +213,13 @@ none_of None h = refl
 none_of (Some i) h = absurd (cc)
 
 -- what an accepted start of a load segment says, and what makes it accepted
-accepted_start : (load bare : Bool) (o : Option ℕ) → (not load || (is_none o && not bare)) ≡ true → load ≡ true → (o ≡ None) × (bare ≡ false)
-accepted_start true bare o h is = let both = and_parts (is_none o) (not bare) h in (none_of o both.0, not-true bare both.1)
-accepted_start false bare o h is = absurd (cc)
+accepted_start : (load : Bool) (o : Option ℕ) → (not load || is_none o) ≡ true → load ≡ true → o ≡ None
+accepted_start true o h is = none_of o h
+accepted_start false o h is = absurd (cc)
 
-accept_start : (load bare : Bool) (o : Option ℕ) → (load ≡ true → (o ≡ None) × (bare ≡ false)) → (not load || (is_none o && not bare)) ≡ true
-accept_start true bare o h = let both = h refl in and_from (is_none o) (not bare) (ap is_none both.0) (ap not both.1)
-accept_start false bare o h = refl
+accept_start : (load : Bool) (o : Option ℕ) → (load ≡ true → o ≡ None) → (not load || is_none o) ≡ true
+accept_start true o h = ap is_none (h refl)
+accept_start false o h = refl
 
 -- the same of a section inside
 accepted_section : (o : Option ℕ) (i : ℕ) (allocated backed behind : Bool) → (is_none o || (allocated && not (backed && behind))) ≡ true → o ≡ Some i → (allocated ≡ true) × ((backed && behind) ≡ false)
@@ -277,9 +250,9 @@ plain_of plan output order h =
     let two = and_parts (whole && regions) (passes plan unscanned plan.events) h in
     let one = and_parts whole regions two.0 in
     let accepted : (k : ℕ) (e : OrderEvent) → slice_get plan.events k ≡ Some e → accepts plan (known plan k) e ≡ true = passed plan unscanned plan.events two.1 in
-    let start : (k j : ℕ) → OpensLoad plan j k → ((known plan k).inside ≡ None) × ((known plan k).zero_fill ≡ false)
-    = λ k j opens. accepted_start (is_load (segment_at plan.segments j).kind) (known plan k).zero_fill (known plan k).inside (accepted k (SegmentStart j) opens.here) opens.load in
-    let single : OneAtATime plan = λ k j load here knowing. (start k j (record { load = load; here = here })).0 in
+    let start : (k j : ℕ) → OpensLoad plan j k → (known plan k).inside ≡ None
+    = λ k j opens. accepted_start (is_load (segment_at plan.segments j).kind) (known plan k).inside (accepted k (SegmentStart j) opens.here) opens.load in
+    let single : OneAtATime plan = λ k j load here knowing. start k j (record { load = load; here = here }) in
     let at : (k : ℕ) (e : OrderEvent) → slice_get plan.events k ≡ Some e → Knows plan k (known plan k)
     = λ k e here. knows plan order single k (let less = slice_get_within plan.events k e here in omega (arith, less)) in
     let inside : (i s k : ℕ) → PlacesInLoad plan i s k → (known plan k).inside ≡ Some i
@@ -296,11 +269,10 @@ plain_of plan output order h =
       apart = λ i j k load opens. elim (is_open i (take k plan.events)) as (λ b. is_open i (take k plan.events) ≡ b → b ≡ false) [
         | true ↦ λ is.
             let some = (at k (SegmentStart j) opens.here).opened i load is in
-            let none = (start k j opens).0 in
+            let none = start k j opens in
             absurd (cc)
         | false ↦ λ is. refl
       ] refl;
-      settled = λ i k s opens last. (at k (SegmentStart i) opens.here).last s last ∙ (start k i opens).1;
       allocated = λ i s k places. (section i s k places).0;
       zero_fill = λ i s k places bare.
           unbacked (is_file_backed plan s) ((known plan k).gap || is_zero_fill_thread_local plan s) (section i s k places).1 (ap (λ b. (known plan k).gap || b) bare ∙ or-true (known plan k).gap);
@@ -343,30 +315,21 @@ no_gap plan output i s k scan plain h places is =
       | false ↦ λ no. refl
     ] refl
 
--- where a load segment of a plain plan opens, none is open, and the last section isn't zero-fill thread-local
-opens_well : (plan : Plan) (output : OutputKind) (j k : ℕ) (scan : Scan) → IsPlain plan output → Knows plan k scan → OpensLoad plan j k → (scan.inside ≡ None) × (scan.zero_fill ≡ false)
-opens_well plan output j k scan plain h opens = (
-  elim scan.inside as (λ o. scan.inside ≡ o → o ≡ None) [
-    | None ↦ λ is. refl
-    | Some i ↦ λ is.
-        let there = h.is_opened i is in
-        let closed = plain.apart i j k there.0 opens in
-        let opened = there.1 in
-        absurd (cc)
-  ] refl,
-  elim scan.zero_fill as (λ b. scan.zero_fill ≡ b → b ≡ false) [
-    | true ↦ λ is.
-        let there = h.lasted is in
-        let bare = h.last there.0 there.1 in
-        let no = plain.settled j k there.0 opens there.1 in
-        absurd (cc)
-    | false ↦ λ is. refl
-  ] refl,
-)
+-- where a load segment of a plain plan opens, none is open
+opens_well : (plan : Plan) (output : OutputKind) (j k : ℕ) (scan : Scan) → IsPlain plan output → Knows plan k scan → OpensLoad plan j k → scan.inside ≡ None
+opens_well plan output j k scan plain h opens =
+    elim scan.inside as (λ o. scan.inside ≡ o → o ≡ None) [
+      | None ↦ λ is. refl
+      | Some i ↦ λ is.
+          let there = h.is_opened i is in
+          let closed = plain.apart i j k there.0 opens in
+          let opened = there.1 in
+          absurd (cc)
+    ] refl
 
 accept : (plan : Plan) (output : OutputKind) (k : ℕ) (e : OrderEvent) (scan : Scan) → IsPlain plan output → Knows plan k scan → slice_get plan.events k ≡ Some e → accepts plan scan e ≡ true
 accept plan output k (SegmentStart j) scan plain h here =
-    accept_start (is_load (segment_at plan.segments j).kind) scan.zero_fill scan.inside (λ load. opens_well plan output j k scan plain h (record { load = load; here = here }))
+    accept_start (is_load (segment_at plan.segments j).kind) scan.inside (λ load. opens_well plan output j k scan plain h (record { load = load; here = here }))
 accept plan output k (SegmentEnd j) scan plain h here = refl
 accept plan output k (Section s) scan plain h here =
     accept_section scan.inside (is_allocated plan s) (is_file_backed plan s) (scan.gap || is_zero_fill_thread_local plan s) (λ i is.
@@ -382,7 +345,7 @@ found_of : (plan : Plan) (output : OutputKind) → IsEventOrder plan → IsPlain
 found_of plan output order plain =
     let whole = not (is_partial output) in
     let regions = length plan.regions == 0 in
-    let single : OneAtATime plan = λ k j load here h. (opens_well plan output j k (known plan k) plain h (record { load = load; here = here })).0 in
+    let single : OneAtATime plan = λ k j load here h. opens_well plan output j k (known plan k) plain h (record { load = load; here = here }) in
     and_from (whole && regions) (passes plan unscanned plan.events) (and_from whole regions (whole_output output plain.whole) (no_regions plan.regions plain.regions))
     (all_pass plan unscanned plan.events (λ k e here.
     accept plan output k e (known plan k) plain (knows plan order single k (let less = slice_get_within plan.events k e here in omega (arith, less))) here))

@@ -76,17 +76,16 @@ unmoved_plan plan kind may =
 pub plain_plan : (plan : Plan) (kind : OutputKind) → IsPlain plan kind → MovesNothing plan
 plain_plan plan kind plain = record { events = plain.unmoved; free = λ s r h. no_region plan.regions (section_at plan.sections s).region r plain.regions h }
 
-waits_first : (r : Result ℕ PlaceError) (c : Cursors) → cursors_at r ≡ Ok c → (c.saved ≡ None) × (c.pending ≡ None)
-waits_first (Ok memory) c h = let same : first_cursors memory ≡ c = cc in (sym (ap (λ (d : Cursors). d.saved) same), sym (ap (λ (d : Cursors). d.pending) same))
+waits_first : (r : Result ℕ PlaceError) (c : Cursors) → cursors_at r ≡ Ok c → c.pending ≡ None
+waits_first (Ok memory) c h = let same : first_cursors memory ≡ c = cc in sym (ap (λ (d : Cursors). d.pending) same)
 waits_first (Err e) c h = absurd (cc)
 
--- before all events nothing is saved, and no location waits
-pub nothing_first : (setting : Setting) (states : List Cursors) → BeginsAt (start setting) states → 0 < length states → ((state_at states 0).saved ≡ None) × ((state_at states 0).pending ≡ None)
+-- before all events no location waits
+nothing_first : (setting : Setting) (states : List Cursors) → BeginsAt (start setting) states → 0 < length states → (state_at states 0).pending ≡ None
 nothing_first setting states begins some =
     let given : start setting ≡ Ok (first_state setting) = start_given (start setting) states begins some in
     let first : state_at states 0 ≡ first_state setting = get_or_from_slice_get states 0 (first_state setting) no_cursors (has_first (start setting) (first_state setting) states given begins) in
-    let none = waits_first (begun_memory setting.plan setting.groups setting.headers) (first_state setting) given in
-    (ap (λ (c : Cursors). c.saved) first ∙ none.0, ap (λ (c : Cursors). c.pending) first ∙ none.1)
+    ap (λ (c : Cursors). c.pending) first ∙ waits_first (begun_memory setting.plan setting.groups setting.headers) (first_state setting) given
 
 places_quietly : (setting : Setting) (standing : Standing) (o : Option ℕ) (entered to : Cursors) (records : List Record) → Places setting standing o entered records to → to.pending ≡ entered.pending
 places_quietly setting standing None entered to records h = ap (λ (c : Cursors). c.pending) h
@@ -95,7 +94,7 @@ places_quietly setting standing (Some s) entered to records h = ap (λ (c : Curs
 -- where nothing moves the location, none ever waits
 pub never_waits : (setting : Setting) (states : List Cursors) (records : List Record) → IsPlaced setting states records → MovesNothing setting.plan
     → (k : ℕ) → k < length states → (state_at states k).pending ≡ None
-never_waits setting states records is unmoved zero less = (nothing_first setting states is.begins less).1
+never_waits setting states records is unmoved zero less = nothing_first setting states is.begins less
 never_waits setting states records is unmoved (suc k) less =
     let event = event_at setting states records k is (omega arith) in
     let step = step_at setting states records k event.0 is (omega arith) event.1 in
@@ -166,11 +165,12 @@ entered_free : (setting : Setting) (states : List Cursors) (records : List Recor
 entered_free setting states records set known e from entered free about quiet h =
     elim (moves setting known e from entered free about quiet h) [
       | Stays same ↦ omega (arith, ap free_memory same)
-      | Opened opens ↦ free_rises from entered opens.saved (omega (
+      | Opened opens ↦ omega (
         arith,
+        ap (λ (o : Option ℕ). unwrap_or o entered.memory) opens.saved,
         opens.memory,
-        set.lawful.after (place_alignment setting opens.segment) from.file from.memory (place_aligned setting opens.segment set.ready.sections set.page),
-      ))
+        set.lawful.after (place_alignment setting opens.segment) from.file (free_memory from) (place_aligned setting opens.segment set.ready.sections set.page),
+      )
       | Entered s is begun ↦ begun.free
     ]
 

@@ -28,7 +28,7 @@ use Rattle.lk_expressions.specs.Records.{Record, file_end, mem_end, nowhere, rec
 use Rattle.lk_place.specs.Segments.{hull}
 use Rattle.lk_place.specs.Setting.{Setting, has_bytes, of_parts, part_count, part_number, size_at, takes_addresses}
 use Rattle.lk_place.specs.Start.{BeginsAt, no_cursors, start}
-use Rattle.lk_place.specs.ThreadLocal.{is_in_run, run_begun, saved_or_restored}
+use Rattle.lk_place.specs.ThreadLocal.{is_in_run, restoring, run_begun, saved_or_restored}
 
 -- ---- the parts of a section
 
@@ -243,11 +243,12 @@ begun_section setting goes_on in_run s from =
     inside_region setting region there from.pending >>= λ inside.
     taken setting.plan s inside from.pending >>= run_begun setting in_run s (is_some from.pending)
 
--- what an event does to the cursors before it places a section, or why it is refused: a load segment opens; a section begins; and what
--- moves the location leaves it waiting, relative to a section not before its primary's start, if that is placed; nothing else moves
--- anything
+-- what an event does to the cursors before it places a section, or why it is refused: a load segment opens, where memory goes on where
+-- it was saved; a section begins; and what moves the location leaves it waiting, relative to a section not before its primary's start,
+-- if that is placed; nothing else moves anything
 abbrev pub moved : Setting → Known → OrderEvent → Cursors → Result Cursors Refusal
-moved setting known (SegmentStart i) from = if is_load (segment_at setting.plan.segments i).kind then opened setting i from from.pending else Ok from
+moved setting known (SegmentStart i) from =
+    if is_load (segment_at setting.plan.segments i).kind then opened setting i (restoring from) from.pending else Ok from
 moved setting known (Section s) from = begun_section setting known.goes_on (is_in_run setting.plan known.last) s from
 moved setting known (SetLocation e) from = awaiting from (value_at setting known.standing from e)
 moved setting known (SetLocationRelative e s) from = awaiting from (behind_start (known.standing.section (primary_of setting.plan.sections s)) (value_at setting known.standing from e))

@@ -17,7 +17,7 @@ leaves_gap plan s = not (is_file_backed plan s || is_zero_fill_thread_local plan
 
 -- whether an event is as a plain plan has it, by what is known of those before it
 abbrev pub accepts : Plan → Scan → OrderEvent → Bool
-accepts plan scan (SegmentStart j) = not (is_load (segment_at plan.segments j).kind) || (is_none scan.inside && not scan.zero_fill)
+accepts plan scan (SegmentStart j) = not (is_load (segment_at plan.segments j).kind) || is_none scan.inside
 accepts plan scan (SegmentEnd j) = true
 accepts plan scan (Section s) =
     is_none scan.inside || (is_allocated plan s && not (is_file_backed plan s && (scan.gap || is_zero_fill_thread_local plan s)))
@@ -28,12 +28,12 @@ abbrev pub scanned : Plan → Scan → OrderEvent → Scan
 scanned plan scan (SegmentStart j) =
     if is_load (segment_at plan.segments j).kind then record scan { inside = Some j; gap = false } else scan
 scanned plan scan (SegmentEnd j) = if option_map_or (λ i. i == j) scan.inside false then record scan { inside = None } else scan
-scanned plan scan (Section s) = record scan { gap = scan.gap || leaves_gap plan s; zero_fill = is_zero_fill_thread_local plan s }
+scanned plan scan (Section s) = record scan { gap = scan.gap || leaves_gap plan s }
 scanned plan scan _ = scan
 
 -- what is known before the first event
 abbrev pub unscanned : Scan
-unscanned = record { inside = None; gap = false; zero_fill = false }
+unscanned = record { inside = None; gap = false }
 
 -- whether these events are as a plain plan has them
 unfoldable pub passes : Plan → Scan → List OrderEvent → Bool

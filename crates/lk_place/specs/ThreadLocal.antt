@@ -22,7 +22,7 @@ free_memory c = unwrap_or c.saved c.memory
 abbrev pub saving : Cursors → Cursors
 saving from = record from { saved = Some (free_memory from) }
 
--- any other section goes on where memory was saved, and clears that
+-- any other section goes on where memory was saved, and clears that; so does a load segment that opens
 abbrev pub restoring : Cursors → Cursors
 restoring from = record from { memory = free_memory from; saved = None }
 

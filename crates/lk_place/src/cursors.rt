@@ -16,8 +16,8 @@ pub struct Cursors {
     pub file: u64,
     /// The address.
     pub memory: u64,
-    /// The address at which memory goes on behind zero-fill thread-local sections; none where the section that was placed last
-    /// isn't one.
+    /// The address at which memory goes on behind zero-fill thread-local sections; none unless one was placed behind the last other
+    /// section and the last load segment that opened.
     pub saved: Option<u64>,
     /// A location that no section has taken yet.
     pub pending: Option<u64>,

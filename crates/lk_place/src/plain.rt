@@ -1,8 +1,7 @@
 //! Which plans are plain: those whose memory goes along the file inside each load segment.
 //!
-//! One pass over the events keeps which load segment is open, whether something stands in it that leaves a gap in the file,
-//! and whether the section that was placed last is zero-fill thread-local. A plain plan opens no load segment while another
-//! is open, so that one segment is all there is to know.
+//! One pass over the events keeps which load segment is open, and whether something stands in it that leaves a gap in the file.
+//! A plain plan opens no load segment while another is open, so that one segment is all there is to know.
 
 ghost use Rattle.std.specs.Prelude.{◌≡◌, ◌==◌, ◌↔◌, false, All, IsTrue};
 ghost use Rattle.std.specs.Option.{option_map_or};
@@ -21,8 +20,6 @@ struct Scan {
     inside: Option<SegmentId>,
     /// Whether a section that leaves a gap in the file was placed since it opened.
     gap: bool,
-    /// Whether the section that was placed last is zero-fill thread-local.
-    zero_fill: bool,
 }
 
 /// Whether a section leaves a gap in the file, behind which nothing may take bytes of it.
@@ -49,8 +46,7 @@ fn accepts(plan: &Plan, scan: &Scan, event: &OrderEvent) -> bool
 {
     match *event {
         OrderEvent::SegmentStart(segment) => {
-            !plan.segments.as_slice()[segment.as_usize()].kind.is_load()
-                || (scan.inside.is_none() && !scan.zero_fill)
+            !plan.segments.as_slice()[segment.as_usize()].kind.is_load() || scan.inside.is_none()
         }
         OrderEvent::SegmentEnd(_) => true,
         OrderEvent::Section(section) => {
@@ -74,7 +70,6 @@ fn scanned(plan: &Plan, scan: &Scan, event: &OrderEvent) -> Scan
                 Scan {
                     inside: Some(segment),
                     gap: false,
-                    zero_fill: scan.zero_fill,
                 }
             } else {
                 *scan
@@ -85,7 +80,6 @@ fn scanned(plan: &Plan, scan: &Scan, event: &OrderEvent) -> Scan
                 Scan {
                     inside: None,
                     gap: scan.gap,
-                    zero_fill: scan.zero_fill,
                 }
             } else {
                 *scan
@@ -94,7 +88,6 @@ fn scanned(plan: &Plan, scan: &Scan, event: &OrderEvent) -> Scan
         OrderEvent::Section(section) => Scan {
             inside: scan.inside,
             gap: scan.gap || leaves_gap(plan, section),
-            zero_fill: plan.is_zero_fill_thread_local(section),
         },
         _ => *scan,
     }
@@ -109,7 +102,6 @@ fn passes(plan: &Plan) -> bool
     let mut scan = Scan {
         inside: None,
         gap: false,
-        zero_fill: false,
     };
     for event in plan.events.as_slice() {
         if !accepts(plan, &scan, event) {

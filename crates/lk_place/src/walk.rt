@@ -1,12 +1,12 @@
 //! The placement walk over the events of the plan.
 //!
 //! The walk goes through the events once, with a cursor in the file and one in memory. A load segment moves memory to where
-//! the platform lets it begin; a section places its parts from the cursors on and moves them behind the last. One that isn't
-//! zero-fill thread-local data begins where memory stood before any that is; the first of a run of thread-local sections begins at
-//! the greatest alignment of all. A location waits for the next section, which begins there. A section that names a load address is
-//! loaded from it. The records go into one table by part
-//! number, which the walk is lent, so that it takes no memory; expressions read those of what is placed, which another table tells
-//! that is made before. It ends at the first event that is refused.
+//! the platform lets it begin; a section places its parts from the cursors on and moves them behind the last. A load segment, and a
+//! section that isn't zero-fill thread-local data, begin where memory stood before any that is; the first of a run of thread-local
+//! sections begins at the greatest alignment of all. A location waits for the next section, which begins there. A section that names
+//! a load address is loaded from it. The records go into one table by part number, which the walk is lent, so that it takes no
+//! memory; expressions read those of what is placed, which another table tells that is made before. It ends at the first event that
+//! is refused.
 
 ghost use Rattle.std.specs.Prelude.{◌≡◌, ◌<◌, ◌^◌, ◌&&◌, ◌++◌, ℕ, Ok, Some, if◌then◌else◌, SomeIff, IfOk, OnOk, length, nat_lt, slice_get, true};
 ghost use Rattle.lk_link.specs.Inside.{placed_section};
@@ -26,7 +26,7 @@ ghost use Rattle.lk_place.specs.Placement.{begun_section, event_refusal, memory_
 ghost use Rattle.lk_expressions.specs.Records.{nowhere, record_at};
 ghost use Rattle.lk_place.specs.Setting.{setting_of};
 ghost use Rattle.lk_place.specs.Start.{first_cursors, start};
-ghost use Rattle.lk_place.specs.ThreadLocal.{begins_run, is_in_run, padded, run_begun, saved_or_restored};
+ghost use Rattle.lk_place.specs.ThreadLocal.{begins_run, free_memory, is_in_run, padded, restoring, run_begun, saved_or_restored, saving};
 ghost use Rattle.lk_link.specs.PlanSections.{is_thread_local, primary_of};
 ghost use Rattle.lk_link.specs.SegmentKinds.{is_load, segment_at};
 ghost use Rattle.lk_place.specs.Walk.{GivesWalked, GoesOn, IsWalkable, Rewrites, known_in, left_behind, recorded, setting_in, left_by};
@@ -88,6 +88,34 @@ fn pad(backed: bool, alignment: Alignment, from: Cursors) -> Result<Cursors, Ref
     fit_pad(backed, alignment, from).ok_or(Refusal::Overflow)
 }
 
+/// Where memory goes on for what takes addresses: where it was saved, else where it stands.
+fn free_memory(from: Cursors) -> u64
+    ensures { result ≡ free_memory from }
+{
+    from.saved.unwrap_or(from.memory)
+}
+
+/// Cursors with memory saved, if none is.
+fn saved(from: Cursors) -> Cursors
+    ensures { result ≡ saving from }
+{
+    Cursors {
+        saved: Some(free_memory(from)),
+        ..from
+    }
+}
+
+/// Cursors with memory where it was saved, which is saved no more.
+fn restored(from: Cursors) -> Cursors
+    ensures { result ≡ restoring from }
+{
+    Cursors {
+        memory: free_memory(from),
+        saved: None,
+        ..from
+    }
+}
+
 /// What a walk goes by: the link, the bytes of each part of its plan by number, the alignments of its sections and segments, the
 /// machine, what expressions may speak of that isn't placed by it, by part the event that places it, and by section its region.
 #[derive(Drop)]
@@ -125,21 +153,23 @@ impl<P: Platform> Walk<'_, P> {
         self.alignments.segments.as_slice()[segment.as_usize()]
     }
 
-    /// The cursors behind the opening of a segment: a load segment begins where the platform lets it, or at a location that
-    /// waits, and another moves nothing.
+    /// The cursors behind the opening of a segment: a load segment goes on where memory was saved, and begins where the platform
+    /// lets it, or at a location that waits; another moves nothing.
     fn open_segment(&self, segment: SegmentId, from: Cursors) -> Result<Cursors, Refusal>
         requires walkable { IsWalkable P.segment_start self.now }
         requires in_range { segment < length self.now.link.now.plan.segments }
         ensures { result ≡ (if is_load (segment_at self.now.link.now.plan.segments segment).kind
-            then opened (setting_in P.segment_start self.now) segment from from.pending else Ok from) }
+            then opened (setting_in P.segment_start self.now) segment (restoring from) from.pending else Ok from) }
     {
         if self.link.plan.segments.as_slice()[segment.as_usize()]
             .kind
             .is_load()
         {
             match from.pending {
-                None => self.begin_load(self.place_alignment(segment), from),
-                Some(location) => open_at(self.place_alignment(segment), location, from),
+                None => self.begin_load(self.place_alignment(segment), restored(from)),
+                Some(location) => {
+                    open_at(self.place_alignment(segment), location, restored(from))
+                }
             }
         } else {
             Ok(from)
@@ -151,18 +181,10 @@ impl<P: Platform> Walk<'_, P> {
     fn saved_or_restored(&self, section: OutputSectionId, from: Cursors) -> Cursors
         ensures { result ≡ saved_or_restored self.now.link.now.plan section from }
     {
-        let free = from.saved.unwrap_or(from.memory);
         if self.link.plan.is_zero_fill_thread_local(section) {
-            Cursors {
-                saved: Some(free),
-                ..from
-            }
+            saved(from)
         } else {
-            Cursors {
-                memory: free,
-                saved: None,
-                ..from
-            }
+            restored(from)
         }
     }
 

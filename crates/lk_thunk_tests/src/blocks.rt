@@ -6,20 +6,26 @@ use lk_thunks::{ThunkBlockId, assign_thunk_blocks};
 use std::alloc::{AllocError, Global};
 use std::test::Fail;
 
-/// Nothing; objects that all end in range of the first one's end; owners further on, which are waited for, and where none
-/// comes; objects longer than the range; one whose end is a range away, one byte less and one more; and four that take three
-/// times the range.
+/// Nothing; objects that all end in range of the first one's end; an owner further on, the last in range of where its block begins,
+/// with one more in range of its end; one that is the first of its block; objects longer than the range; one whose end is a range
+/// away, one byte less and one more; four that take three times the range; an owner at the end of the list; runs that end a range
+/// from where their block begins, and one byte less; three blocks; a range of 0.
 const BLOCKS: &str = r#"
 1000: => 0 blocks
 1000: 0 100, 100 100, 200 100 => 1 blocks, 0 owner, 0, 0
-500: 0 100, 300 100, 600 100, 900 100, 1200 100 => 2 blocks, 0 owner, 0, 1, 1, 1 owner
-500: 0 100, 100 500, 600 100 => 2 blocks, 0 owner, 1, 1 owner
+500: 0 100, 300 100, 600 100, 900 100, 1200 100 => 2 blocks, 0 owner, 0, 1, 1 owner, 1
+500: 0 100, 100 500, 600 100 => 2 blocks, 0 owner, 1 owner, 1
 500: 0 100, 100 500 => 2 blocks, 0 owner, 1 owner
 500: 0 100, 100 499 => 1 blocks, 0 owner, 0
 500: 0 100, 100 501 => 2 blocks, 0 owner, 1 owner
-10: 0 100, 100 100, 200 100 => 2 blocks, 0 owner, 1, 1 owner
+10: 0 100, 100 100, 200 100 => 3 blocks, 0 owner, 1 owner, 2 owner
 1: 0 5 => 1 blocks, 0 owner
-1048576: 0 786432, 786432 786432, 1572864 786432, 2359296 786432 => 2 blocks, 0 owner, 0, 1, 1 owner
+1048576: 0 786432, 786432 786432, 1572864 786432, 2359296 786432 => 2 blocks, 0 owner, 0, 1 owner, 1
+500: 0 100, 600 100, 700 100, 800 100 => 2 blocks, 0 owner, 1, 1, 1 owner
+500: 0 100, 600 100, 700 400, 1100 1 => 2 blocks, 0 owner, 1 owner, 1, 1
+500: 0 100, 600 100, 700 399, 1099 1 => 2 blocks, 0 owner, 1, 1 owner, 1
+500: 0 100, 600 100, 700 100, 900 300, 1200 200, 1400 100 => 3 blocks, 0 owner, 1, 1 owner, 1, 2, 2 owner
+0: 0 5, 5 5, 10 5 => 3 blocks, 0 owner, 1 owner, 2 owner
 "#;
 
 /// The objects of a text.

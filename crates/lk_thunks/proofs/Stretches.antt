@@ -25,13 +25,11 @@ pub owner_inside : (range : ℕ) (objects : List (FileId × ℕ × ℕ)) (f : �
 unfolding pending_owner
 owner_inside range objects f h = elim (cases_Bool (f == 0)) [
   | inl first ↦ let none : f ≡ 0 = eqb-true f 0 first in rw first (omega (arith, none), omega (arith, h))
-  | inr later ↦ rw later (waits (cases_Bool (nat_lt (past range objects (object_at objects f).1 (f + 1)) (length objects))))
+  | inr later ↦
+      let from = past_from range objects (object_at objects f).1 (f + 1) in
+      let within = past_within range objects (object_at objects f).1 (f + 1) (omega (arith, h)) in
+      rw later (omega (arith, from), omega (arith, from, within))
 ]
-  where
-    waits : (nat_lt (past range objects (object_at objects f).1 (f + 1)) (length objects) ≡ true) ⊎ (nat_lt (past range objects (object_at objects f).1 (f + 1)) (length objects) ≡ false)
-        → (f ≤ pending_owner range objects f) × (pending_owner range objects f < length objects)
-    waits (inl there) = rw there (omega (arith, past_from range objects (object_at objects f).1 (f + 1)), ltb-true _ _ there)
-    waits (inr none) = rw none (omega arith, h)
 
 -- a block from an object on has its owner inside, and ends among the objects
 pub block_inside : (range : ℕ) (objects : List (FileId × ℕ × ℕ)) (f : ℕ) → f < length objects

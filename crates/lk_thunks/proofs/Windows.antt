@@ -1,14 +1,15 @@
--- The span of an object and its block's owner.
-use Rattle.std.proofs.Common.{◌≡◌, ℕ, zero, suc, ◌+◌, ◌-◌, ◌<◌, ◌≤◌, ◌==◌, ◌⊎◌, inl, inr, Bool, true, false, List, [], drop, get_or, length, nat_lt, Some, refl, sym, ap, subst, ◌∙◌, arith}
+-- How far the bytes of an object are from its block's owner's end.
+use Rattle.std.proofs.Common.{◌≡◌, ℕ, zero, suc, ◌+◌, ◌-◌, ◌<◌, ◌≤◌, ◌==◌, inl, inr, Bool, true, false, List, [], drop, get_or, length, max, min, nat_lt, Some, refl, sym, ap, subst, ◌∙◌, arith}
 use Rattle.std.specs.List.{slice_get}
-use Rattle.std.proofs.lemmas.Bool.{cases_Bool, cases_eq, cases_lt, ltb-true}
+use Rattle.std.proofs.lemmas.Bool.{cases_Bool, cases_eq, cases_lt, eqb-true, lt-ltb, ltb-true}
 use Rattle.std.proofs.lemmas.List.{get_or-drop}
 use Rattle.std.proofs.lemmas.List.Sums.{prefix_len_passes}
 use Rattle.lk_link.specs.declared.ids.FileId.{FileId}
 use Rattle.lk_thunks.specs.declared.blocks.Block.{Block}
-use Rattle.lk_thunks.specs.BlockLaws.{AreEndToEnd, IsIn, span}
+use Rattle.lk_thunks.specs.BlockLaws.{AreEndToEnd, IsIn}
 use Rattle.lk_thunks.specs.Blocks.{block_from, blocks_from, ends_in, object_at, owner_from, past, pending_owner}
-use Rattle.lk_thunks.proofs.Stretches.{first_of_block, owner_inside, past_within}
+use Rattle.lk_thunks.specs.Reach.{is_near}
+use Rattle.lk_thunks.proofs.Stretches.{first_of_block, owner_inside, past_from, past_within}
 
 -- objects begin one behind the other
 rise_by : (range : ℕ) (objects : List (FileId × ℕ × ℕ)) (i n : ℕ) → AreEndToEnd range objects → i + n < length objects → (object_at objects i).1 ≤ (object_at objects (i + n)).1
@@ -35,87 +36,64 @@ passed range objects address j m le lt =
     let here : get_or (drop j objects) (m - j) nowhere ≡ object_at objects m = get_or-drop j objects (m - j) nowhere ∙ ap (object_at objects) same in
     ltb-true ((object_at objects m).2 - address) range (ap (ends_in range address) (sym here) ∙ goes)
 
--- what a block has before an owner that was waited for ends in range of the block's first object
-waited : (range : ℕ) (objects : List (FileId × ℕ × ℕ)) (f m : ℕ) → AreEndToEnd range objects → f < length objects → f ≤ m → m < pending_owner range objects f
-    → (object_at objects m).2 - (object_at objects f).1 < range
+-- and end so
+end_rises : (range : ℕ) (objects : List (FileId × ℕ × ℕ)) (i j : ℕ) → AreEndToEnd range objects → i ≤ j → j < length objects → (object_at objects i).2 ≤ (object_at objects j).2
+end_rises range objects i j h le lt = elim (cases_eq i j) [
+  | inl same ↦ subst (λ k. (object_at objects i).2 ≤ (object_at objects k).2) same (omega arith)
+  | inr other ↦
+      let here = h.follow i (omega (arith, le, other, lt)) in
+      let later = rises range objects (i + 1) j h (omega (arith, le, other)) lt in
+      omega (arith, here, later, h.rise j lt)
+]
+
+-- an owner that was waited for ends in range of where the block begins
+waited_ends : (range : ℕ) (objects : List (FileId × ℕ × ℕ)) (f : ℕ) → AreEndToEnd range objects → f < length objects
+    → (object_at objects (pending_owner range objects f)).2 - (object_at objects f).1 < range
 unfolding pending_owner
-waited range objects f m h there le = by (cases_Bool (nat_lt (past range objects (object_at objects f).1 (f + 1)) (length objects)))
-  where
-    inner : m < past range objects (object_at objects f).1 (f + 1) → (object_at objects m).2 - (object_at objects f).1 < range
-    inner lt = elim (cases_eq f m) [
+waited_ends range objects f h there =
+    let from = past_from range objects (object_at objects f).1 (f + 1) in
+    elim (cases_eq f (past range objects (object_at objects f).1 (f + 1) - 1)) [
       | inl same ↦ subst (λ k. (object_at objects k).2 - (object_at objects f).1 < range) same (omega (arith, h.short f there, h.rise f there))
-      | inr other ↦ passed range objects (object_at objects f).1 (f + 1) m (omega (arith, le, other)) lt
+      | inr other ↦ passed range objects (object_at objects f).1 (f + 1) (past range objects (object_at objects f).1 (f + 1) - 1) (omega (arith, from, other)) (omega (arith, from))
     ]
 
-    by : (nat_lt (past range objects (object_at objects f).1 (f + 1)) (length objects) ≡ true) ⊎ (nat_lt (past range objects (object_at objects f).1 (f + 1)) (length objects) ≡ false)
-        → m < pending_owner range objects f → (object_at objects m).2 - (object_at objects f).1 < range
-    by (inl there) lt = inner (rw there at lt)
-    by (inr none) lt = let above : m < f = (rw none at lt) in absurd (omega (arith, above, le))
+-- and so does each owner
+owner_ends : (range : ℕ) (objects : List (FileId × ℕ × ℕ)) (f : ℕ) → AreEndToEnd range objects → f < length objects
+    → (object_at objects (owner_from range objects f)).2 - (object_at objects f).1 < range
+owner_ends range objects f h there = elim (cases_Bool (f == 0)) [
+  | inl first ↦ rw first (subst (λ k. (object_at objects k).2 - (object_at objects f).1 < range) (eqb-true f 0 first) (omega (arith, h.short f there, h.rise f there)))
+  | inr later ↦ rw later (waited_ends range objects f h there)
+]
 
--- an owner's block reaches the objects before the owner
-before_owner : (range : ℕ) (objects : List (FileId × ℕ × ℕ)) (f m : ℕ) → AreEndToEnd range objects → f < length objects → f ≤ m → m < owner_from range objects f
-    → (object_at objects m).2 - (object_at objects f).1 < range
-before_owner range objects f m h there le = by (cases_Bool (f == 0))
-  where
-    by : ((f == 0) ≡ true) ⊎ ((f == 0) ≡ false) → m < owner_from range objects f → (object_at objects m).2 - (object_at objects f).1 < range
-    by (inl first) lt = let none : m < 0 = (rw first at lt) in absurd (omega (arith, none))
-    by (inr later) lt = waited range objects f m h there le (rw later at lt)
-
--- one before the owner: the object in front of the owner ends where the owner begins
-span_before : (range : ℕ) (objects : List (FileId × ℕ × ℕ)) (f i w : ℕ) → AreEndToEnd range objects → w < length objects → f ≤ i → i < w
-    → ((m : ℕ) → f ≤ m → m < w → (object_at objects m).2 - (object_at objects f).1 < range)
-    → span (object_at objects i) (object_at objects w) < range + ((object_at objects w).2 - (object_at objects w).1)
-span_before range objects f i w h there le lt near =
-    let m : ℕ = w - 1 in
-    let next : m + 1 ≡ w = omega (arith, lt) in
-    let touch : (object_at objects w).1 ≡ (object_at objects m).2 = ap (λ k. (object_at objects k).1) (sym next) ∙ h.follow m (omega (arith, next, there)) in
-    let last = near m (omega (arith, next, le, lt)) (omega (arith, next)) in
-    let from = rises range objects f i h le (omega (arith, lt, there)) in
-    let up = rises range objects i m h (omega (arith, next, lt)) (omega (arith, next, there)) in
-    let grows = h.rise m (omega (arith, next, there)) in
-    let owner = h.rise w there in
-    let own = h.rise i (omega (arith, lt, there)) in
-    let ends : (object_at objects i).2 ≤ (object_at objects w).1 = ends_before range objects i w h lt there in
-    omega (arith, touch, last, from, up, grows, owner, own, ends)
-  where
-    ends_before : (range : ℕ) (objects : List (FileId × ℕ × ℕ)) (i w : ℕ) → AreEndToEnd range objects → i < w → w < length objects → (object_at objects i).2 ≤ (object_at objects w).1
-    ends_before range objects i w h lt there =
-        let here = h.follow i (omega (arith, lt, there)) in
-        let later = rises range objects (i + 1) w h (omega (arith, lt)) there in
-        omega (arith, here, later)
+-- a byte up to the owner's end
+near_before : (range : ℕ) (objects : List (FileId × ℕ × ℕ)) (f i w byte : ℕ) → AreEndToEnd range objects → f ≤ i → i ≤ w → w < length objects
+    → (object_at objects w).2 - (object_at objects f).1 < range → (object_at objects i).1 ≤ byte → byte < (object_at objects i).2
+    → is_near range byte (object_at objects w).2 ≡ true
+near_before range objects f i w byte h from up there near begun ended =
+    let begin = rises range objects f i h from (omega (arith, up, there)) in
+    let end = end_rises range objects i w h up there in
+    lt-ltb (max byte (object_at objects w).2 - min byte (object_at objects w).2) range (omega (arith, begin, end, near, begun, ended))
 
 -- one behind it
-span_behind : (range : ℕ) (objects : List (FileId × ℕ × ℕ)) (i w : ℕ) → AreEndToEnd range objects → i < length objects → w < i
-    → (object_at objects i).2 - (object_at objects w).2 < range
-    → span (object_at objects i) (object_at objects w) < range + ((object_at objects w).2 - (object_at objects w).1)
-span_behind range objects i w h there lt near =
+near_behind : (range : ℕ) (objects : List (FileId × ℕ × ℕ)) (i w byte : ℕ) → AreEndToEnd range objects → w < i → i < length objects
+    → (object_at objects i).2 - (object_at objects w).2 < range → (object_at objects i).1 ≤ byte → byte < (object_at objects i).2
+    → is_near range byte (object_at objects w).2 ≡ true
+near_behind range objects i w byte h lt there near begun ended =
     let here = h.follow w (omega (arith, lt, there)) in
     let later = rises range objects (w + 1) i h (omega (arith, lt)) there in
-    let owner = h.rise w (omega (arith, lt, there)) in
-    let own = h.rise i there in
-    omega (arith, here, later, owner, own, near)
+    lt-ltb (max byte (object_at objects w).2 - min byte (object_at objects w).2) range (omega (arith, here, later, near, begun, ended))
 
--- itself
-span_own : (range : ℕ) (objects : List (FileId × ℕ × ℕ)) (w : ℕ) → AreEndToEnd range objects → w < length objects
-    → span (object_at objects w) (object_at objects w) < range + ((object_at objects w).2 - (object_at objects w).1)
-span_own range objects w h there = let short = h.short w there in let grows = h.rise w there in omega (arith, short, grows)
-
--- the span of an object of the block from f on, and its owner
-pub near_owner : (range : ℕ) (objects : List (FileId × ℕ × ℕ)) (f i : ℕ) → AreEndToEnd range objects → f < length objects → f ≤ i → i < (block_from range objects f).behind
-    → span (object_at objects i) (object_at objects (block_from range objects f).owner)
-    < range + ((object_at objects (block_from range objects f).owner).2 - (object_at objects (block_from range objects f).owner).1)
+-- a byte of an object of the block from f on
+near_owner : (range : ℕ) (objects : List (FileId × ℕ × ℕ)) (f i byte : ℕ) → AreEndToEnd range objects → f < length objects → f ≤ i → i < (block_from range objects f).behind
+    → (object_at objects i).1 ≤ byte → byte < (object_at objects i).2 → is_near range byte (object_at objects (block_from range objects f).owner).2 ≡ true
 unfolding block_from
-near_owner range objects f i h there le lt =
+near_owner range objects f i byte h there le lt begun ended =
     let inside = owner_inside range objects f there in
     let end = past_within range objects (object_at objects (owner_from range objects f)).2 (owner_from range objects f + 1) (omega (arith, inside.1)) in
-    elim (cases_lt i (owner_from range objects f)) [
-      | inl before ↦ span_before range objects f i (owner_from range objects f) h inside.1 le before (λ m from below. before_owner range objects f m h there from below)
-      | inr at_or_behind ↦ elim (cases_eq (owner_from range objects f) i) [
-        | inl same ↦ subst (λ k. span (object_at objects k) (object_at objects (owner_from range objects f)) < range + ((object_at objects (owner_from range objects f)).2 - (object_at objects (owner_from range objects f)).1)) same
-            (span_own range objects (owner_from range objects f) h inside.1)
-        | inr other ↦ span_behind range objects i (owner_from range objects f) h (omega (arith, lt, end)) (omega (arith, at_or_behind, other))
-            (passed range objects (object_at objects (owner_from range objects f)).2 (owner_from range objects f + 1) i (omega (arith, at_or_behind, other)) lt)
-      ]
+    elim (cases_lt (owner_from range objects f) i) [
+      | inl behind ↦ near_behind range objects i (owner_from range objects f) byte h behind (omega (arith, lt, end))
+          (passed range objects (object_at objects (owner_from range objects f)).2 (owner_from range objects f + 1) i (omega (arith, behind)) lt) begun ended
+      | inr up ↦ near_before range objects f i (owner_from range objects f) byte h le up inside.1 (owner_ends range objects f h there) begun ended
     ]
 
 -- a block of the list is that of some object
@@ -132,11 +110,10 @@ block_at range objects (suc n) f k b h = by (nat_lt f (length objects)) refl k h
     by true e (suc k) h rest = rest k (rw e at h)
     by false e k h rest = let nothing : slice_get {X = Block} [] k ≡ Some b = (rw e at h) in absurd (cc)
 
-pub near_owners : (range : ℕ) (objects : List (FileId × ℕ × ℕ)) (i k : ℕ) → AreEndToEnd range objects → (h : IsIn range objects i k)
-    → span (object_at objects i) (object_at objects h.block.owner) < range + ((object_at objects h.block.owner).2 - (object_at objects h.block.owner).1)
-near_owners range objects i k whole h =
+pub near_owners : (range : ℕ) (objects : List (FileId × ℕ × ℕ)) (i k byte : ℕ) → AreEndToEnd range objects → (h : IsIn range objects i k)
+    → (object_at objects i).1 ≤ byte → byte < (object_at objects i).2 → is_near range byte (object_at objects h.block.owner).2 ≡ true
+near_owners range objects i k byte whole h begun ended =
     let from = block_at range objects (length objects) 0 k h.block h.at in
     let opened : from.0 ≤ i = subst (λ n. n ≤ i) (ap (λ (b : Block). b.first) (sym from.2) ∙ first_of_block range objects from.0) h.opened in
     let inside : i < (block_from range objects from.0).behind = subst (λ (b : Block). i < b.behind) (sym from.2) h.inside in
-    subst (λ (b : Block). span (object_at objects i) (object_at objects b.owner) < range + ((object_at objects b.owner).2 - (object_at objects b.owner).1)) from.2
-    (near_owner range objects from.0 i whole from.1 opened inside)
+    subst (λ (b : Block). is_near range byte (object_at objects b.owner).2 ≡ true) from.2 (near_owner range objects from.0 i byte whole from.1 opened inside begun ended)

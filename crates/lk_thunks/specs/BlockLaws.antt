@@ -1,8 +1,9 @@
 -- What holds of blocks and of the objects that are assigned to them.
-use Rattle.std.specs.Prelude.{◌≡◌, ℕ, ◌+◌, ◌-◌, ◌<◌, ◌≤◌, ◌==◌, Bool, true, List, Some, length, max, min, slice_get}
+use Rattle.std.specs.Prelude.{◌≡◌, ℕ, ◌+◌, ◌-◌, ◌<◌, ◌≤◌, ◌==◌, Bool, true, List, Some, length, slice_get}
 use Rattle.lk_link.specs.declared.ids.FileId.{FileId}
 use Rattle.lk_thunks.specs.declared.blocks.Block.{Block}
 use Rattle.lk_thunks.specs.Blocks.{assigned, object_at, thunk_blocks}
+use Rattle.lk_thunks.specs.Reach.{is_near}
 
 -- a block has its owner inside, and its objects are there
 pub record IsStretch (objects : List (FileId × ℕ × ℕ)) (b : Block) : Type 0 where
@@ -60,12 +61,7 @@ pub record AreEndToEnd (range : ℕ) (objects : List (FileId × ℕ × ℕ)) : T
   pub rise : (k : ℕ) → k < length objects → (object_at objects k).1 ≤ (object_at objects k).2
   pub short : (k : ℕ) → k < length objects → (object_at objects k).2 < (object_at objects k).1 + range
 
--- the bytes from the lesser begin of two objects to the greater end
-abbrev pub span : FileId × ℕ × ℕ → FileId × ℕ × ℕ → ℕ
-span a b = max a.2 b.2 - min a.1 b.1
-
--- the window law: the span of an object and its block's owner is below the range and the owner's bytes together
+-- the window law: each byte of an object is nearer to its block's owner's end than the range
 abbrev pub ObjectsAreNearOwners : Type 0
-ObjectsAreNearOwners = (range : ℕ) (objects : List (FileId × ℕ × ℕ)) (i k : ℕ) → AreEndToEnd range objects → (h : IsIn range objects i k)
-    → span (object_at objects i) (object_at objects h.block.owner)
-    < range + ((object_at objects h.block.owner).2 - (object_at objects h.block.owner).1)
+ObjectsAreNearOwners = (range : ℕ) (objects : List (FileId × ℕ × ℕ)) (i k byte : ℕ) → AreEndToEnd range objects → (h : IsIn range objects i k)
+    → (object_at objects i).1 ≤ byte → byte < (object_at objects i).2 → is_near range byte (object_at objects h.block.owner).2 ≡ true

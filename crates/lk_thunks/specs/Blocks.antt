@@ -17,11 +17,10 @@ ends_in range address o = nat_lt (o.2 - address) range
 unfoldable pub past : ℕ → List (FileId × ℕ × ℕ) → ℕ → ℕ → ℕ
 past range objects address j = j + prefix_len (ends_in range address) (drop j objects)
 
--- which object owns a block that another owner's block doesn't reach: of those from its first object f on, the first that
--- doesn't end in range of where f begins; f itself where all do
+-- which object owns a block that another owner's block doesn't reach: the last of its first object f and the longest run behind it
+-- that ends in range of where f begins
 unfoldable pub pending_owner : ℕ → List (FileId × ℕ × ℕ) → ℕ → ℕ
-pending_owner range objects f =
-    let j = past range objects (object_at objects f).1 (f + 1) in if nat_lt j (length objects) then j else f
+pending_owner range objects f = past range objects (object_at objects f).1 (f + 1) - 1
 
 -- the first object of all owns the first block
 abbrev pub owner_from : ℕ → List (FileId × ℕ × ℕ) → ℕ → ℕ

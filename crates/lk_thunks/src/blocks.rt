@@ -2,7 +2,8 @@
 //!
 //! Objects follow each other in memory. A block is a stretch of them with one owner, behind whose bytes its thunks stand: the
 //! first object of all owns the first block, and objects join as long as they end in range of the owner's end. The next one
-//! opens a block whose owner is some object further on, so that thunks stand behind a part of their users and before the rest.
+//! opens a block, and the last object that ends in range of where that one begins owns it. So thunks stand behind a part of their
+//! users and before the rest, and each user is in range of where they begin.
 
 ghost use Rattle.std.specs.Prelude.{◌≡◌, ◌<◌, ◌≤◌, ◌^◌, ◌++◌, IfOk, OnOk, length};
 ghost use Rattle.lk_thunks.specs.Blocks.{assigned, block_from, objects_of, owner_from, past, pending_owner, thunk_blocks, assigned_from, users_of};
@@ -73,7 +74,8 @@ fn past(objects: &[(FileId, u64, u64)], range: u64, address: u64, from: usize) -
     objects.len()
 }
 
-/// The object that owns a block that is opened by this one and that no owner before reaches.
+/// The object that owns a block that is opened by this one and that no owner before reaches: the last one in range of where this
+/// one begins, itself where none is.
 #[tactic(auto, unfolding(crate::specs::Blocks::pending_owner))]
 fn pending_owner(objects: &[(FileId, u64, u64)], range: u64, first: usize) -> usize
     requires { first < length objects.now }
@@ -81,12 +83,7 @@ fn pending_owner(objects: &[(FileId, u64, u64)], range: u64, first: usize) -> us
     ensures from { first ≤ result }
     ensures within { result < length objects.now }
 {
-    let waited = past(objects, range, objects[first].1, first + 1);
-    if waited < objects.len() {
-        waited
-    } else {
-        first
-    }
+    past(objects, range, objects[first].1, first + 1) - 1
 }
 
 /// The object that owns the block that is opened by this one.
@@ -120,7 +117,7 @@ fn block_from(objects: &[(FileId, u64, u64)], range: u64, first: usize) -> Block
     }
 }
 
-/// All blocks. Looks at each object at most twice.
+/// All blocks. Compares the end of each object at most twice.
 pub(crate) fn thunk_blocks(
     alloc: Global,
     objects: &[(FileId, u64, u64)],

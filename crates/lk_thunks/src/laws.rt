@@ -28,8 +28,8 @@ pub fn blocks_have_one_owner()
     ensures { BlocksHaveOneOwner }
 {}
 
-/// A law: where objects stand end to end and each is shorter than the range, the span of an object and its block's owner is
-/// below the range and the owner's bytes together.
+/// A law: where objects stand end to end and each is shorter than the range, each byte of an object is less than the range from the
+/// end of its block's owner, behind which the thunks stand.
 pub fn objects_are_near_owners()
     ensures { ObjectsAreNearOwners }
 {}

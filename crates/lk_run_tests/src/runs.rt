@@ -97,6 +97,17 @@ pub fn add_end(alloc: Global, line: &mut String, input: &str) -> Result<(), Allo
     line.push_str(ended(alloc, input)?.as_str())
 }
 
+/// Adds how `layout 2` ends over an input.
+pub fn add_end_by_two(
+    rt: &(impl Threads + Wait + Sync),
+    alloc: Global,
+    line: &mut String,
+    input: &str,
+) -> Result<(), AllocError> {
+    let words = words_of(alloc, "layout 2")?;
+    line.push_str(told_by_workers(rt, alloc, &words, input)?.as_str())
+}
+
 /// Adds the command that the words of a row are, and how they end over `{}`.
 pub fn add_words(alloc: Global, line: &mut String, row: &str) -> Result<(), AllocError> {
     let words = words_of(alloc, row)?;

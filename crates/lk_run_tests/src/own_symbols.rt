@@ -152,27 +152,3 @@ const REFUSED: &str = r#"
 fn redirects_without_a_value_are_refused(rt: HostRuntime) -> Result<(), Fail> {
     expect_rows(&rt, rt.alloc(), Asked::Run, REFUSED)
 }
-
-/// Redirects that are worked out, or why there is no layout; behind a description stands the number of the first symbol that is told.
-const COMPUTED: &str = r#"
-@ {"plan":{"page":1},"groups":[[{"kind":"prelude"}],[{"kind":"script","symbols":[...}]]} 0
-# One after the other, one of itself, of a later one, and ones without a value.
-{"at":["redirect",["num",16],["none"],false],"name":"x"},{"at":["redirect",["add",["sym",0],["num",1]],["none"],false],"name":"y"}] => symbol (8256, Some((16, 8256)), Some((16, 8256)), Some((16, 8288))) symbol (8256, Some((17, 8256)), Some((17, 8256)), Some((17, 8288))) symbol (0, None, None, None) symbol (0, None, None, None) range [Some((16, 8256)), Some((17, 8256))]
-{"at":["redirect",["sym",0],["none"],false],"name":"z"}] => refused expression at symbol 0: self reference
-{"at":["redirect",["sym",1],["none"],false],"name":"w"},{"at":["redirect",["num",1],["none"],false],"name":"later"}] => refused expression at symbol 0: no address
-{"at":["redirect",["div",["num",1],["num",0]],["none"],false],"name":"x"}] => refused expression at symbol 0: division by zero
-{"at":["redirect",["sub",["num",1],["num",2]],["none"],false],"name":"x"}] => refused expression at symbol 0: overflow
-# One that is only provided, and has a name where another asks for it, or has none.
-{"at":["redirect",["num",7],["none"],true],"name":"r"},{"at":["redirect",["sym",0],["none"],false],"name":"s"}] => symbol (8256, Some((7, 8256)), Some((7, 8256)), Some((7, 8288))) symbol (8256, Some((7, 8256)), Some((7, 8256)), Some((7, 8288))) symbol (0, None, None, None) symbol (0, None, None, None) range [Some((7, 8256)), Some((7, 8256))]
-{"at":["redirect",["num",7],["none"],true]},{"at":["redirect",["sym",0],["none"],false],"name":"s"}] => refused expression at symbol 1: no address
-# Where nothing is loaded, what is loaded has no start.
-@ ...
-{"plan":{"page":1},"groups":[[{"kind":"prelude","symbols":[{"at":["loadbase"],"name":"b"},{"at":["redirect",["sym",0],["none"],false],"name":"p"}]}]]} 0 => refused expression at symbol 1: no address
-# Redirects of files that the symbol isn't of: an object, another script and the prelude stand for it. They are never looked at, though two have no value.
-{"plan":{"page":1},"groups":[[{"kind":"prelude","symbols":[{"at":["redirect",["div",["num",1],["num",0]],["none"],false],"name":"x","def":3}]}],[{"kind":"script","symbols":[{"at":["redirect",["sub",["num",1],["num",2]],["none"],false],"name":"x","def":3},{"at":["redirect",["num",9],["none"],false],"name":"y","def":4}]}],[{"kind":"object","symbols":[{"at":["abs",5],"name":"x"}]}],[{"kind":"script","symbols":[{"at":["redirect",["add",["num",3],["num",1]],["none"],false],"name":"y"}]}]],"options":{"entry":0}} 0 | {"plan":{"page":1},"groups":[[{"kind":"prelude","symbols":[{"at":["redirect",["sym",0],["none"],false],"name":"x","def":3}]}],[{"kind":"script","symbols":[{"at":["redirect",["dot"],["none"],false],"name":"x","def":3},{"at":["redirect",["num",9],["none"],false],"name":"y","def":4}]}],[{"kind":"object","symbols":[{"at":["abs",5],"name":"x"}]}],[{"kind":"script","symbols":[{"at":["redirect",["add",["num",3],["num",1]],["none"],false],"name":"y"}]}]],"options":{"entry":1}} 0 => symbol (64, None, Some((5, 64)), Some((5, 96))) symbol (64, None, Some((5, 64)), Some((5, 96))) symbol (8256, None, Some((4, 8256)), Some((4, 8288))) symbol (64, Some((5, 64)), Some((5, 64)), Some((5, 96))) range [None, None, None]
-"#;
-
-#[test]
-fn redirects_are_computed(rt: HostRuntime) -> Result<(), Fail> {
-    expect_rows(&rt, rt.alloc(), Asked::Symbols, COMPUTED)
-}

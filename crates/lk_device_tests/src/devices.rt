@@ -3,19 +3,14 @@
 ghost use Rattle.std.specs.Prelude.{◌≡◌, IfOk};
 
 use crate::rows::{Asked, expect_rows, expect_text};
-use crate::runs::{ROOM, words_of};
-use lk_link::NoGate;
-use lk_run::transfer::{read_all, write_all};
-use lk_run::{
+use lk_devices::transfer::{read_all, write_all};
+use lk_devices::{
     MemorySink, MemorySource, Sink, Source, StandardInput, StandardOutput, SureSink, SureSource,
-    run,
 };
 use lk_test_rows::add;
 use std::alloc::{AllocError, Global};
 use std::io::{Read, Write};
-use std::sync::Wait;
 use std::test::Fail;
-use std::thread::Threads;
 use std::{io, str};
 
 /// The number that a word is; 0 for other words.
@@ -334,67 +329,4 @@ fn writers_pass_bytes_on(rt: HostRuntime) -> Result<(), Fail> {
         "open Ok(()) closed Err(Failed) failed 1",
     );
     Ok(())
-}
-
-// Runs
-
-/// Which read and which write fails: how a run over the smallest description ends, and how many bytes were taken.
-const RUNS: &str = "
-- - => run (Done, 19)
-1 - => run (ReadFault, 0)
-- 0 => run (WriteFault, 0)
-- 1 => run (WriteFault, 10)
-0 0 => run (ReadFault, 0)
-";
-
-/// Adds how a run over these devices ends, and how many bytes were taken.
-fn add_run_over(
-    rt: &(impl Threads + Wait + Sync),
-    alloc: Global,
-    line: &mut String,
-    source: &mut MemorySource,
-    sink: &mut MemorySink,
-) -> Result<(), AllocError> {
-    match words_of(alloc, "layout 0") {
-        Ok(words) => {
-            let status = run(rt, alloc, &words, source, sink, &NoGate);
-            add(line, "run", &(status, sink.written().len()))
-        }
-        Err(error) => Err(error),
-    }
-}
-
-/// Adds how a run from this source ends.
-fn add_run_from(
-    rt: &(impl Threads + Wait + Sync),
-    alloc: Global,
-    line: &mut String,
-    source: &mut MemorySource,
-    failing: Vec<u64>,
-) -> Result<(), AllocError> {
-    match MemorySink::new(alloc, ROOM, 10, failing) {
-        Ok(mut sink) => add_run_over(rt, alloc, line, source, &mut sink),
-        Err(error) => Err(error),
-    }
-}
-
-/// Adds what becomes of a row.
-pub fn add_run(
-    rt: &(impl Threads + Wait + Sync),
-    alloc: Global,
-    line: &mut String,
-    row: &str,
-) -> Result<(), AllocError> {
-    let input = r#"{"plan":{"page":4096},"groups":[[{"kind":"prelude"}]]}"#;
-    let (reads, writes) = row.split_once(' ').unwrap_or((row, ""));
-    let failing = failing_of(alloc, Some(writes))?;
-    match source_of(alloc, input, Some("20"), Some(reads)) {
-        Ok(mut source) => add_run_from(rt, alloc, line, &mut source, failing),
-        Err(error) => Err(error),
-    }
-}
-
-#[test]
-fn faults_of_devices_are_named(rt: HostRuntime) -> Result<(), Fail> {
-    expect_rows(&rt, rt.alloc(), Asked::FaultyRun, RUNS)
 }

@@ -72,7 +72,7 @@ block 0 1 0
 entry -
 end
 
-# Four objects of which the first names the last: two blocks of two each. The first object owns the first block, and the last the second. The thunk stands behind the first object's code.
+# Four objects of which the first names the last: two blocks of two each, each owned by its first object, since no other one ends in range of where the second block begins. The thunk stands behind the first object's code.
 {"options":{"branch_range":3145728},"plan":{"page":16,"sections":[{"attrs":5,"parts":[[1,false]]}],"segments":[{"kind":"load"}],"events":[["seg",0],["sec",0],["endseg",0]],"primary":0},"groups":[[{"kind":"prelude"}],[{"kind":"object","symbols":[{"at":["undef"],"def":1}],"sections":[{"slot":"must","attrs":4,"size":786432,"relocs":[[0,"Relative",0,0,true]]}]},{"kind":"object","sections":[{"slot":"must","attrs":4,"size":786432}]},{"kind":"object","sections":[{"slot":"must","attrs":4,"size":786432}]},{"kind":"object","symbols":[{"at":["sec",0,0]}],"sections":[{"slot":"must","attrs":4,"size":786432}]}]]}
 0 layout
 section 0 index 0 mem 0x0 3145744 file 0x0 3145744 align 1 lma 0x0 attrs 5
@@ -83,7 +83,7 @@ live 1 1 0 0xc0010 786432
 live 1 2 0 0x180010 786432
 live 1 3 0 0x240010 786432
 block 0 1 0
-block 1 1 3
+block 1 1 2
 thunk 0 1 0xc0000
 symbol 1 0x240010 64 got - plt - dyn -
 entry -
@@ -100,7 +100,7 @@ symbol 0 0x0 16448 got - plt - dyn -
 entry -
 end
 
-# The planning range is 500 bytes. Objects of 100 bytes with gaps of 200 that other objects fill, which have no symbol: the first block is owned by the first, the others by the object behind the run of their first one. Ends are 100, 300, 400, 600, 700, 900, 1000. Behind 100 the runs ends before 600: 300 and 400 join. The next starts at 400 and ends at 600, and the run behind it ends before 900: so 700 is in it, and the object that ends at 900 owns the block. Behind that 1000 joins.
+# The planning range is 500 bytes. Objects of 100 bytes with gaps of 200 that other objects fill, which have no symbol: the first block is owned by the first, the other by the last object in range of where it begins. Ends are 100, 300, 400, 600, 700, 900, 1000. Behind 100 the run ends before 600: 300 and 400 join. The next object starts at 400 and ends at 600, and the run behind it ends before 900: so 700 is in it, the last one, and owns the block. Behind its end 900 and 1000 join.
 {"options":{"branch_range":2097652},"plan":{"page":16,"sections":[{"attrs":5,"parts":[[1,false]]}],"segments":[{"kind":"load"}],"events":[["seg",0],["sec",0],["endseg",0]],"primary":0},"groups":[[{"kind":"prelude"}],[{"kind":"object","sections":[{"slot":"must","size":100},{"slot":"unloaded","attrs":4,"size":2097652}]},{"kind":"object","sections":[{"slot":"must","size":200}]},{"kind":"object"},{"kind":"object","sections":[{"slot":"must","size":100}]}],[{"kind":"object","sections":[{"slot":"must","size":200}]},{"kind":"object","sections":[{"slot":"must","size":100}]},{"kind":"object","sections":[{"slot":"must","size":200}]},{"kind":"object","sections":[{"slot":"must","size":100}]}]]}
 0 layout
 section 0 index 0 mem 0x0 1000 file 0x0 1000 align 1 lma 0x0 attrs 5
@@ -114,7 +114,7 @@ live 2 1 0 0x258 100
 live 2 2 0 0x2bc 200
 live 2 3 0 0x384 100
 block 0 1 0
-block 1 2 2
+block 1 2 1
 entry -
 end
 

@@ -1,0 +1,146 @@
+//! Runs whose devices give and take little, or fail at one of their calls, and runs over a description that is cut.
+
+use crate::rows::{Asked, expect_rows};
+use crate::runs::{ROOM, words_of};
+use lk_run::{MemorySink, MemorySource, Status, run_alone};
+use lk_test_rows::add;
+use std::alloc::{AllocError, Global};
+use std::str;
+use std::test::Fail;
+
+/// More calls than any run here makes.
+const MOST_CALLS: u64 = 10000;
+
+/// How a run of `layout 0` over these devices ends; 99 where it doesn't.
+fn ended_over(
+    alloc: Global,
+    source: &mut MemorySource,
+    sink: &mut MemorySink,
+) -> Result<u8, AllocError> {
+    let words = words_of(alloc, "layout 0")?;
+    Ok(match run_alone(alloc, &words, source, sink) {
+        Some(status) => status.code(),
+        None => 99,
+    })
+}
+
+/// The list of the number of the one call that fails.
+fn only(alloc: Global, call: u64) -> Result<Vec<u64>, AllocError> {
+    let mut failing = Vec::new(alloc);
+    failing.push(call)?;
+    Ok(failing)
+}
+
+/// A source of these bytes that gives one with each read, and none of whose reads fails but those told.
+fn slow_source(alloc: Global, input: &[u8], failing: Vec<u64>) -> Result<MemorySource, AllocError> {
+    Ok(MemorySource::new(input.to_vec(alloc)?, 1, failing))
+}
+
+/// Whether a run that meets a fault at this read of its source ends with 4, by that one fault, and has written nothing.
+fn fails_at_read(alloc: Global, input: &str, call: u64) -> Result<bool, AllocError> {
+    let mut source = slow_source(alloc, input.as_bytes(), only(alloc, call)?)?;
+    let mut sink = MemorySink::new(alloc, ROOM, 1, Vec::new(alloc))?;
+    let code = ended_over(alloc, &mut source, &mut sink)?;
+    Ok(code == Status::ReadFault.code() && source.faults() == 1 && sink.written().is_empty())
+}
+
+/// How many reads there are, one after the other, at which a run fails so.
+fn failing_reads(alloc: Global, input: &str) -> Result<u64, AllocError> {
+    for call in 0..MOST_CALLS {
+        if !fails_at_read(alloc, input, call)? {
+            return Ok(call);
+        }
+    }
+    Ok(MOST_CALLS)
+}
+
+/// Whether a run that meets a fault at this write of its sink ends with 5, by that one fault, and has written just the bytes before it.
+fn fails_at_write(
+    alloc: Global,
+    input: &str,
+    report: &[u8],
+    call: u64,
+) -> Result<bool, AllocError> {
+    let mut source = slow_source(alloc, input.as_bytes(), Vec::new(alloc))?;
+    let mut sink = MemorySink::new(alloc, ROOM, 1, only(alloc, call)?)?;
+    let code = ended_over(alloc, &mut source, &mut sink)?;
+    let is_front = report.get(..call as usize) == Some(sink.written());
+    Ok(code == Status::WriteFault.code() && sink.faults() == 1 && is_front)
+}
+
+/// How many writes there are, one after the other, at which a run fails so.
+fn failing_writes(alloc: Global, input: &str, report: &[u8]) -> Result<u64, AllocError> {
+    for call in 0..MOST_CALLS {
+        if !fails_at_write(alloc, input, report, call)? {
+            return Ok(call);
+        }
+    }
+    Ok(MOST_CALLS)
+}
+
+/// Whether a run over the front of a description ends with 3, and the text that it is no JSON.
+fn is_cut_at(alloc: Global, input: &str, length: usize) -> Result<bool, AllocError> {
+    let front = input.as_bytes().get(..length).unwrap_or(&[]);
+    let mut source = slow_source(alloc, front, Vec::new(alloc))?;
+    let mut sink = MemorySink::new(alloc, ROOM, 7, Vec::new(alloc))?;
+    let code = ended_over(alloc, &mut source, &mut sink)?;
+    Ok(code == Status::Unreadable.code() && sink.written() == b"not JSON\n")
+}
+
+/// How many lengths there are, from nothing on, at which a description is cut so.
+fn cuts(alloc: Global, input: &str) -> Result<usize, AllocError> {
+    for length in 0..input.len() {
+        if !is_cut_at(alloc, input, length)? {
+            return Ok(length);
+        }
+    }
+    Ok(input.len())
+}
+
+/// Adds how a run ends whose source gives and whose sink takes one byte with each call, and the text that was taken; gives that text.
+fn add_slow(
+    alloc: Global,
+    line: &mut String,
+    input: &str,
+    report: &mut Vec<u8>,
+) -> Result<(), AllocError> {
+    let mut source = slow_source(alloc, input.as_bytes(), Vec::new(alloc))?;
+    let mut sink = MemorySink::new(alloc, ROOM, 1, Vec::new(alloc))?;
+    let code = ended_over(alloc, &mut source, &mut sink)?;
+    report.extend_from_slice(sink.written())?;
+    add(line, "slow", &(code, str::from_utf8(sink.written())))
+}
+
+/// Adds how a run ends whose sink takes nothing, and what it has taken.
+fn add_full(alloc: Global, line: &mut String, input: &str) -> Result<(), AllocError> {
+    let mut source = slow_source(alloc, input.as_bytes(), Vec::new(alloc))?;
+    let mut sink = MemorySink::new(alloc, ROOM, 0, Vec::new(alloc))?;
+    let code = ended_over(alloc, &mut source, &mut sink)?;
+    add(line, "full", &(code, str::from_utf8(sink.written())))
+}
+
+/// Adds how runs over such devices end.
+pub fn add_faulty_runs(alloc: Global, line: &mut String, input: &str) -> Result<(), AllocError> {
+    let mut report = Vec::new(alloc);
+    add_slow(alloc, line, input, &mut report)?;
+    add_full(alloc, line, input)?;
+    add(line, "reads", &failing_reads(alloc, input)?)?;
+    add(
+        line,
+        "writes",
+        &failing_writes(alloc, input, report.as_slice())?,
+    )?;
+    add(line, "cuts", &cuts(alloc, input)?)
+}
+
+/// A description: how a run ends whose devices move one byte with each call; and one whose sink takes nothing; at how many reads a run
+/// fails that is made to, and writes nothing: one for each byte, and one that finds the end; at how many writes, behind just the bytes
+/// before it: one for each byte of the report; and how many fronts of it are no JSON: all.
+const FAULTY: &str = r#"
+{"plan":{"page":4096,"base":["num",4096],"sections":[{"name":"A","attrs":1,"parts":[[8,false]]},{"name":"B","attrs":1,"parts":[[1,false]]},{"name":"C","attrs":17,"parts":[[16,false]]}],"segments":[{"kind":"load"}],"events":[["seg",0],["sec",0],["sec",1],["sec",2],["endseg",0]]},"groups":[[{"kind":"prelude"}],[{"kind":"object","name":"a.o","sections":[{"slot":"must","part":0,"size":8},{"slot":"must","part":1,"size":7},{"slot":"must","part":2,"size":16}]}]]} => slow (0, Ok("layout\nsection 0 index 0 mem 0x1000 8 file 0x0 8 align 8 lma 0x1000 attrs 1\nsection 1 index 1 mem 0x1008 7 file 0x8 7 align 1 lma 0x1008 attrs 1\nsection 2 index 2 mem 0x1010 16 file 0xf 0 align 16 lma 0x1010 attrs 17\npart 0 mem 0x1000 8 file 0x0 8 align 8\npart 1 mem 0x1008 7 file 0x8 7 align 1\npart 2 mem 0x1010 16 file 0xf 0 align 16\nsegment 0 mem 0x1000 32 file 0x0 15 align 16\nlive 1 0 0 0x1000 8\nlive 1 0 1 0x1008 7\nlive 1 0 2 0x1010 16\nentry -\nend\n")) full (5, Ok("")) reads 461 writes 454 cuts 460
+"#;
+
+#[test]
+fn faults_of_devices_are_told_at_each_call(rt: HostRuntime) -> Result<(), Fail> {
+    expect_rows(&rt, rt.alloc(), Asked::Faulty, FAULTY)
+}
