@@ -5,8 +5,9 @@ usage: refused.py PROGRAM [DESCRIPTION..]
 
 For each of the descriptions, unless told those of examples/ and some random ones in which something is merged in
 several groups, and for 0, 2 and 4 workers: a run in which the first allocation is refused, one in which the second is,
-and so on to the last. Each has to answer as the run in which none is refused, or to write nothing and end with 6. Ends
-with 1 where one did something else. Needs a C compiler, `cc`.
+and so on to the last. Each has to answer as the run in which none is refused, or to write nothing and end with 6. Says
+at its end how many allocations there were, and ends with 1 where a run did something else. The examples are of every
+kind: merged strings, thunks, relaxation, output that is linked again, redirects, tables. Needs a C compiler, `cc`.
 """
 
 import glob
@@ -46,7 +47,7 @@ class Refusing:
 
 
 def refuse_each(refusing, name, workers, data):
-    """Refuses each call in turn; answers how many runs did something else than they may."""
+    """Refuses each call in turn; answers how many there were, and how many runs did something else than they may."""
     wanted, _ = refusing.run(workers, data, 0)
     refused, wrong, goes_on = 0, 0, True
     while goes_on:
@@ -56,7 +57,7 @@ def refuse_each(refusing, name, workers, data):
             wrong += 1
             print("%s, %d workers, call %d: status %d, %r" % (name, workers, refused, got[0], got[1][:200]))
     print("%s, %d workers: %d calls refused, %d wrong" % (name, workers, refused - 1, wrong), flush=True)
-    return wrong
+    return refused - 1, wrong
 
 
 def merged(number):
@@ -78,11 +79,14 @@ def descriptions(paths):
 def main(words):
     if not words:
         sys.exit(__doc__)
-    wrong = 0
+    refused, wrong = 0, 0
     with tempfile.TemporaryDirectory() as folder:
         refusing = Refusing(os.path.abspath(words[0]), folder)
         for name, data in descriptions(words[1:]):
-            wrong += sum(refuse_each(refusing, name, workers, data) for workers in WORKERS)
+            for workers in WORKERS:
+                calls, others = refuse_each(refusing, name, workers, data)
+                refused, wrong = refused + calls, wrong + others
+    print("%d allocations refused in all, %d runs wrong" % (refused, wrong))
     sys.exit(1 if wrong else 0)
 
 

@@ -3,6 +3,7 @@
 import json
 import random
 
+from .contents import add_contents
 from .faults import break_rules
 from .fixed import fixed_cases
 from .good import good_description, move_to_the_edge
@@ -25,6 +26,7 @@ MIX = {
     "with a wrong shape": 8,
     "of random shapes": 8,
 }
+FAULTS = {"with a broken rule": break_rules, "with a wrong shape": break_shape}
 RICHER_SHARE = 0.6
 BROKEN_TEXTS = 0.05
 
@@ -38,13 +40,11 @@ def random_description(rng):
     widen(rng, description)
     if kind == "close to the greatest address":
         move_to_the_edge(rng, description)
-    elif kind == "with what plain links lack":
+    elif kind == "with what plain links lack" or kind in FAULTS and rng.random() < RICHER_SHARE:
         make_richer(rng, description)
-    elif kind != "to be laid out":
-        if rng.random() < RICHER_SHARE:
-            make_richer(rng, description)
-        fault = break_rules if kind == "with a broken rule" else break_shape
-        fault(rng, description)
+    add_contents(rng, description)
+    if kind in FAULTS:
+        FAULTS[kind](rng, description)
     return description
 
 
@@ -58,7 +58,9 @@ def case(seed, number):
 def shortened_case(seed, number):
     """The bytes of the random case of that number in which relaxation mostly leaves something out."""
     rng = random.Random("shortened %d:%d" % (seed, number))
-    return json.dumps(shortened_description(rng)).encode("utf-8", "surrogatepass")
+    description = shortened_description(rng)
+    add_contents(rng, description)
+    return json.dumps(description).encode("utf-8", "surrogatepass")
 
 
 def merging_case(seed, number):
@@ -69,6 +71,7 @@ def merging_case(seed, number):
         description = good_description(rng)
         add_merges(rng, description)
     widen(rng, description)
+    add_contents(rng, description)
     return json.dumps(description).encode("utf-8", "surrogatepass")
 
 

@@ -4,7 +4,7 @@ import copy
 
 from rules import listed
 
-from . import richer
+from . import contents, richer
 from .references import length_of
 from .values import all_files, all_inputs, all_parts, all_symbols, objects
 
@@ -281,7 +281,8 @@ def break_part(rng, description, entry):
         entry["sorted"] = True
         slots = ("must", "must", "must", "unloaded", "debug", "mustdebug", "merge", "discard")
         entry["slot"] = rng.choice(slots)
-        entry["data"] = "0000"
+        if entry["slot"] == "merge":
+            entry["data"] = "0000"
     else:
         plan["singletons"] = rng.randrange(len(plan["sections"]))
         entry["slot"] = rng.choice(("must", "must", "unloaded", "debug", "mustdebug", "discard"))
@@ -334,6 +335,15 @@ def break_input(rng, description):
         entry["slot"] = "discard"
 
 
+def break_data(rng, description):
+    """Data of a section of whatever slot: mostly a byte more or less than it has, or no bytes."""
+    entry = rng.choice(all_inputs(description))
+    if rng.random() < 0.3:
+        entry["slot"] = rng.choice(listed.SLOTS)
+    length = min(length_of(entry), contents.LONGEST)
+    entry["data"] = "5a" * max(rng.choice((0, length - 1, length, length + 1, length + 1)), 0)
+
+
 # Limits
 
 
@@ -365,6 +375,7 @@ RULE_BREAKS = {
     break_input: 8,
     break_tables: 2,
     break_candidates: 2,
+    break_data: 3,
 }
 
 

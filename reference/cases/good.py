@@ -102,7 +102,6 @@ def random_input(rng, part_count):
     optional(rng, entry, "strings", 0.05, TRUTHS)
     optional(rng, entry, "sorted", 0.05, (False,))
     optional(rng, entry, "attrs", 0.3, (0, 2, 4, 6))
-    optional(rng, entry, "data", 0.05, ("00", "xyz", 7, None))
     optional(rng, entry, "relocs", 0.05, ([],))
     optional(rng, entry, "relax", 0.05, ([],))
     return entry

@@ -45,7 +45,7 @@ DESCRIPTIONS = (
                     "kind": "object",
                     "sections": [
                         {"relocs": [[1, "Relative", 0, -4, True]], "size": 9, "slot": "unloaded"},
-                        {"size": 2, "slot": "unloaded"},
+                        {"data": "0aFf", "size": 2, "slot": "unloaded"},
                     ],
                     "symbols": [{"at": ["undef"], "def": 2}, {"at": ["sec", 0, 8]}, {"at": ["sec", 1, 0]}],
                 },

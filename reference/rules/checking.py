@@ -341,10 +341,17 @@ def check_candidates(link):
             raise bad_link(13, "file %d %d" % (group, number))
 
 
+def check_data(link):
+    """Data of sections that aren't merged are as many bytes as they have, also where these are discarded."""
+    for place, _, entry in inputs_of(link):
+        if entry.slot != "merge" and entry.data is not None and len(entry.data) != entry.size:
+            raise bad_link(14, "input %d %d %d" % place)
+
+
 RULES = (
     *(check_options, check_page, check_sections, check_part_fields, check_singletons),
     *(check_thread_local_segments, check_events, check_expressions),
-    *(check_preludes, check_symbols, check_inputs, check_tables, check_candidates),
+    *(check_preludes, check_symbols, check_inputs, check_tables, check_candidates, check_data),
 )
 
 

@@ -153,10 +153,10 @@ def input_section(value, path):
         slot=fields.required("slot", one_of(listed.SLOTS)),
         part=fields.optional("part", index, 0),
         size=fields.optional("size", number, 0),
-        data=b"",
+        data=fields.optional("data", hexadecimal),
     )
     if read.slot == "merge":
-        read.data = fields.optional("data", hexadecimal, b"")
+        read.data = read.data or b""
         read.size = len(read.data)
     read.strings = fields.optional("strings", truth, False)
     read.sorted = fields.optional("sorted", truth, False)

@@ -24,6 +24,7 @@ use Rattle.lk_link.specs.Symbols.{all_files, all_symbols}
 use Rattle.lk_link.specs.WellFormed.{IsEventOrder, IsInRange, IsLedByPrelude, IsWellFormed}
 use Rattle.lk_link.proofs.Elements.{map_at}
 use Rattle.lk_link.specs.CandidateRules.{has_good_candidates}
+use Rattle.lk_link.specs.DataRules.{has_file_data}
 use Rattle.lk_link.specs.InputRules.{has_good_inputs}
 use Rattle.lk_link.specs.TableRules.{has_file_tables}
 use Rattle.lk_generator.specs.Generated.{empty_prelude, no_named_parts, generated_link, generated_object, generated_plan, object_group}
@@ -211,4 +212,5 @@ well_formed seed size some few = record {
   inputs = files_pass seed size (has_good_inputs generated_plan) refl (good_inputs seed size);
   tables = files_pass seed size (has_file_tables no_named_parts) refl (good_tables seed size);
   candidates = files_pass seed size (has_good_candidates (generated_link seed size)) refl (λ i. refl);
+  given = files_pass seed size has_file_data refl (λ i. refl);
 }

@@ -117,7 +117,7 @@ drawn seed size i = record {
 abbrev pub plain_relocation : ℕ → RelocationKind → ℕ → Relocation
 plain_relocation offset kind symbol = record { offset = offset; addend = pos 0; symbol = symbol; kind = kind; thunkable = false }
 
--- a section without a name in no group, with a slot, a part, a size and attributes, and its relocations
+-- a section without a name and without data, in no group, with a slot, a part, a size and attributes, and its relocations
 abbrev pub plain_section : InputSlot → ℕ → ℕ → ℕ → List Relocation → InputSection
 plain_section slot part size attrs relocs = record {
   name = [];
@@ -125,6 +125,7 @@ plain_section slot part size attrs relocs = record {
   part = part;
   size = size;
   bytes = [];
+  given = false;
   strings = false;
   sorted = false;
   attrs = attrs;
@@ -144,7 +145,7 @@ data_section size = plain_section slot.Unloaded 2 size 2 []
 
 -- its strings: one of a letter, and one of `x` and a letter
 abbrev pub strings_section : ℕ → ℕ → InputSection
-strings_section first last = record (plain_section slot.Merge 1 5 0 []) { bytes = first ∷ 0 ∷ 120 ∷ last ∷ 0 ∷ []; strings = true }
+strings_section first last = record (plain_section slot.Merge 1 5 0 []) { bytes = first ∷ 0 ∷ 120 ∷ last ∷ 0 ∷ []; given = true; strings = true }
 
 -- a symbol with a name, that stands somewhere, and the symbol that stands for it
 abbrev pub plain_symbol : List ℕ → SymbolPlacement → Option ℕ → InputSymbol

@@ -148,12 +148,13 @@ fn strings_section(alloc: Global, first: u8, last: u8) -> Result<InputSection, A
     let plain = plain_section(alloc, InputSlot::Merge, 1, 5, 0);
     Ok(InputSection {
         bytes: List::from_vec(bytes),
+        given: true,
         strings: true,
         ..plain
     })
 }
 
-/// A section without a name, in no group, without relocations; takes no memory.
+/// A section without a name, in no group, without data or relocations; takes no memory.
 fn plain_section(alloc: Global, slot: InputSlot, part: u32, size: u64, attrs: u32) -> InputSection
     ensures { result ≡ plain_section slot part size attrs [] }
 {
@@ -163,6 +164,7 @@ fn plain_section(alloc: Global, slot: InputSlot, part: u32, size: u64, attrs: u3
         part: PartId::from_u32(part),
         size,
         bytes: List::new(alloc),
+        given: false,
         strings: false,
         sorted: false,
         attrs,

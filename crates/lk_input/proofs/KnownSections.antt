@@ -1,15 +1,13 @@
 -- Sections of which each known member is read where it stands.
-use Rattle.std.proofs.Common.{◌≡◌, ℕ, List, [], false, Some, option_map, if◌then◌else◌, refl}
+use Rattle.std.proofs.Common.{◌≡◌, ℕ, List, [], false, Some, if◌then◌else◌, refl}
 use Rattle.std.specs.Str.{bytes_eq}
 use Rattle.serde_json.specs.Data.{Data, object, Members}
 use Rattle.serde_json.specs.Find.{get_member}
-use Rattle.lk_link.specs.declared.section.InputSlot.{InputSlot}
-use Rattle.lk_link.specs.declared.section.InputSlot.TheVariants as slot
 use Rattle.lk_input.specs.declared.read.section.InputSectionKey.TheVariants as key
 use Rattle.lk_input.specs.declared.read.section.SectionMembers.{SectionMembers}
-use Rattle.lk_input.specs.KnownSections.{data_kept, section_from, section_kept}
+use Rattle.lk_input.specs.KnownSections.{section_from, section_kept}
 use Rattle.lk_input.specs.ReadingRelocations.{relax_candidate_of, relocation_of}
-use Rattle.lk_input.specs.ReadingSections.{all_slots, data_in, hex_bytes, input_section_key_text, input_section_of, slot_text}
+use Rattle.lk_input.specs.ReadingSections.{all_slots, hex_bytes, input_section_key_text, input_section_of, slot_text}
 use Rattle.lk_input.specs.ReadingSteps.{index_of, list_of, number_of, one_of, text_of, truth_of}
 use Rattle.lk_input.proofs.Known.{PutsBy, bind_same, field, kept-found, kept-needed, kept-present}
 use Rattle.lk_input.proofs.Objects.{WantsObject}
@@ -50,23 +48,14 @@ pub section_wants_object : WantsObject input_section_of
 unfolding input_section_of
 section_wants_object d none = rw none refl
 
--- data by the slot
-data_same : (s : InputSlot) (ms : Members) → data_in s (object ms) ≡ data_kept s (option_map hex_bytes (get_member (input_section_key_text key.Data) ms))
-data_same slot.Discard ms = refl
-data_same slot.Unloaded ms = refl
-data_same slot.MustLoad ms = refl
-data_same slot.DebugInfo ms = refl
-data_same slot.MustLoadDebugInfo ms = refl
-data_same slot.Merge ms = kept-found [] hex_bytes (input_section_key_text key.Data) (get_member (input_section_key_text key.Data) ms)
-
 pub section-kept : (ms : Members) → input_section_of (object ms) ≡ section_from (section_kept ms)
 unfolding input_section_of section_from
 section-kept ms =
     bind_same _ _ _ _ (kept-found [] text_of (input_section_key_text key.Name) (get_member (input_section_key_text key.Name) ms)) (λ name.
-    bind_same _ _ _ _ (kept-needed (one_of slot_text all_slots) (input_section_key_text key.Slot) (get_member (input_section_key_text key.Slot) ms)) (λ s.
+    bind_same _ _ _ _ (kept-needed (one_of slot_text all_slots) (input_section_key_text key.Slot) (get_member (input_section_key_text key.Slot) ms)) (λ slot.
     bind_same _ _ _ _ (kept-found 0 index_of (input_section_key_text key.Part) (get_member (input_section_key_text key.Part) ms)) (λ part.
     bind_same _ _ _ _ (kept-found 0 number_of (input_section_key_text key.Size) (get_member (input_section_key_text key.Size) ms)) (λ size.
-    bind_same _ _ _ _ (data_same s ms) (λ bytes.
+    bind_same _ _ _ _ (kept-present hex_bytes (input_section_key_text key.Data) (get_member (input_section_key_text key.Data) ms)) (λ given.
     bind_same _ _ _ _ (kept-found false truth_of (input_section_key_text key.Strings) (get_member (input_section_key_text key.Strings) ms)) (λ strings.
     bind_same _ _ _ _ (kept-found false truth_of (input_section_key_text key.Sorted) (get_member (input_section_key_text key.Sorted) ms)) (λ sorted.
     bind_same _ _ _ _ (kept-found 0 index_of (input_section_key_text key.Attrs) (get_member (input_section_key_text key.Attrs) ms)) (λ attrs.

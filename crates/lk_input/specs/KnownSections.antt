@@ -1,10 +1,8 @@
 -- Sections of which each known member is read where it stands: the words of private contracts.
-use Rattle.std.specs.Prelude.{ℕ, List, [], false, Option, Result, Ok, option_map}
+use Rattle.std.specs.Prelude.{[], false, Result, Ok, is_some, option_map, unwrap_or}
 use Rattle.serde_json.specs.Data.{Members}
 use Rattle.serde_json.specs.Find.{get_member}
 use Rattle.lk_link.specs.declared.section.InputSection.{InputSection}
-use Rattle.lk_link.specs.declared.section.InputSlot.{InputSlot}
-use Rattle.lk_link.specs.declared.section.InputSlot.TheVariants.{Merge}
 use Rattle.lk_input.specs.declared.read.section.InputSectionKey.TheVariants as key
 use Rattle.lk_input.specs.declared.read.section.SectionMembers.{SectionMembers}
 use Rattle.lk_input.specs.Known.{kept_needed, kept_optional}
@@ -29,11 +27,6 @@ section_kept ms = record {
   relax = option_map (list_of relax_candidate_of) (get_member (input_section_key_text key.Relax) ms);
 }
 
--- what a section holds, of what was kept: only merge sections have data
-abbrev pub data_kept : InputSlot → Option (Result (List ℕ) Path) → Result (List ℕ) Path
-data_kept Merge kept = kept_or [] (input_section_key_text key.Data) kept
-data_kept _ kept = Ok []
-
 -- a section, of what was kept, in the order of the format
 unfoldable pub section_from : SectionMembers → Result InputSection Path
 section_from known = do
@@ -41,7 +34,7 @@ section_from known = do
   slot ← kept_needed (input_section_key_text key.Slot) known.slot
   part ← kept_or 0 (input_section_key_text key.Part) known.part
   size ← kept_or 0 (input_section_key_text key.Size) known.size
-  bytes ← data_kept slot known.bytes
+  given ← kept_optional (input_section_key_text key.Data) known.bytes
   strings ← kept_or false (input_section_key_text key.Strings) known.strings
   sorted ← kept_or false (input_section_key_text key.Sorted) known.sorted
   attrs ← kept_or 0 (input_section_key_text key.Attrs) known.attrs
@@ -52,8 +45,9 @@ section_from known = do
     name = name;
     slot = slot;
     part = part;
-    size = size_in slot size bytes;
-    bytes = bytes;
+    size = size_in slot size (unwrap_or given []);
+    bytes = unwrap_or given [];
+    given = is_some given;
     strings = strings;
     sorted = sorted;
     attrs = attrs;

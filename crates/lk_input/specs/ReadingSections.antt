@@ -1,5 +1,5 @@
 -- What is read of the sections of objects, in the order of their fields.
-use Rattle.std.specs.Prelude.{ℕ, List, [], ◌∷◌, Result, Ok, false, codes, length}
+use Rattle.std.specs.Prelude.{ℕ, List, [], ◌∷◌, Result, Ok, false, codes, is_some, length, unwrap_or}
 use Rattle.std.specs.Result.{result_ok}
 use Rattle.serde_json.specs.Data.{Data}
 use Rattle.hex.specs.Hex.{decode_of}
@@ -42,17 +42,12 @@ all_slots = Discard ∷ Unloaded ∷ MustLoad ∷ DebugInfo ∷ MustLoadDebugInf
 abbrev pub hex_bytes : Data → Result (List ℕ) Path
 hex_bytes d = text_of d >>= λ text. wanted (result_ok (decode_of text))
 
--- what a section holds: only merge sections have data
-abbrev pub data_in : InputSlot → Data → Result (List ℕ) Path
-data_in Merge d = defaulted [] hex_bytes (input_section_key_text key.Data) d
-data_in _ d = Ok []
-
 -- the size of a section: a merge section's is that of its data, whatever was given
 abbrev pub size_in : InputSlot → ℕ → List ℕ → ℕ
 size_in Merge size bytes = length bytes
 size_in _ size bytes = size
 
--- a section of an object: its slot must be given
+-- a section of an object: its slot must be given, its data may be
 unfoldable pub input_section_of : Data → Result InputSection Path
 input_section_of d = do
   _ ← object d
@@ -60,7 +55,7 @@ input_section_of d = do
   slot ← required (one_of slot_text all_slots) (input_section_key_text key.Slot) d
   part ← defaulted 0 index_of (input_section_key_text key.Part) d
   size ← defaulted 0 number_of (input_section_key_text key.Size) d
-  bytes ← data_in slot d
+  given ← optional hex_bytes (input_section_key_text key.Data) d
   strings ← defaulted false truth_of (input_section_key_text key.Strings) d
   sorted ← defaulted false truth_of (input_section_key_text key.Sorted) d
   attrs ← defaulted 0 index_of (input_section_key_text key.Attrs) d
@@ -71,8 +66,9 @@ input_section_of d = do
     name = name;
     slot = slot;
     part = part;
-    size = size_in slot size bytes;
-    bytes = bytes;
+    size = size_in slot size (unwrap_or given []);
+    bytes = unwrap_or given [];
+    given = is_some given;
     strings = strings;
     sorted = sorted;
     attrs = attrs;

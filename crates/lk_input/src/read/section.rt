@@ -1,11 +1,11 @@
 //! The sections of objects from JSON.
 
-ghost use Rattle.std.specs.Prelude.{◌≡◌, ◌∷◌};
+ghost use Rattle.std.specs.Prelude.{◌≡◌, ◌∷◌, [], unwrap_or};
 ghost use Rattle.std.specs.Result.{result_ok};
 ghost use Rattle.json.specs.Json.{parse_map};
 ghost use Rattle.json.specs.Reads.{token_of};
 ghost use Rattle.hex.specs.Hex.{decode_of};
-ghost use Rattle.lk_input.specs.KnownSections.{data_kept, section_from, section_kept};
+ghost use Rattle.lk_input.specs.KnownSections.{section_from, section_kept};
 ghost use Rattle.lk_input.specs.ReadingSections.{input_section_key_text, slot_text, all_slots, hex_bytes};
 ghost use Rattle.lk_input.specs.ReadingSections.{size_in, input_section_of, input_sections_of};
 ghost use Rattle.lk_input.specs.ReadingSteps.{Reads, one_of, wanted};
@@ -137,17 +137,6 @@ impl Model for Hexadecimal {
 }
 
 impl Hexadecimal {
-    ghost use Rattle.std.specs.Prelude.{[]};
-
-    /// No bytes; takes no memory.
-    fn empty(alloc: Global) -> Hexadecimal
-        ensures { result ≡ [] }
-    {
-        Hexadecimal {
-            bytes: List::new(alloc),
-        }
-    }
-
     /// Those that a text writes.
     fn decoded(alloc: Global, text: &str) -> Result<Hexadecimal, InputError>
         ensures { Reads result (wanted (result_ok (decode_of text.now))) }
@@ -208,21 +197,13 @@ impl Streamed for Hexadecimal {
     }
 }
 
-/// What a section in this slot holds: the data of a merge section, and nothing of others.
-fn data_kept(
-    alloc: Global,
-    kept: Kept<Hexadecimal>,
-    slot: InputSlot,
-) -> Result<List<u8>, InputError>
-    ensures { Reads result (data_kept slot kept) }
+/// The bytes of data, where they are given; else none, which take no memory.
+fn bytes_of(alloc: Global, given: Option<Hexadecimal>) -> List<u8>
+    ensures { result ≡ unwrap_or given [] }
 {
-    match slot {
-        InputSlot::Merge => {
-            let none = Hexadecimal::empty(alloc);
-            let bytes = kept_or(alloc, kept, InputSectionKey::Data, none)?;
-            Ok(bytes.into_bytes())
-        }
-        _ => Ok(List::new(alloc)),
+    match given {
+        Some(bytes) => bytes.into_bytes(),
+        None => List::new(alloc),
     }
 }
 
@@ -316,7 +297,7 @@ fn section_from(alloc: Global, known: SectionMembers) -> Result<InputSection, In
     let first = PartId::from_u32(0);
     let part = kept_or(alloc, known.part, InputSectionKey::Part, first)?;
     let size = kept_or(alloc, known.size, InputSectionKey::Size, 0)?;
-    let bytes = data_kept(alloc, known.bytes, slot)?;
+    let data = kept_optional(alloc, known.bytes, InputSectionKey::Data)?;
     let strings = kept_or(alloc, known.strings, InputSectionKey::Strings, false)?;
     let sorted = kept_or(alloc, known.sorted, InputSectionKey::Sorted, false)?;
     let attrs = kept_or(alloc, known.attrs, InputSectionKey::Attrs, 0)?;
@@ -325,12 +306,15 @@ fn section_from(alloc: Global, known: SectionMembers) -> Result<InputSection, In
     let relocs = kept_or(alloc, known.relocs, InputSectionKey::Relocs, no_relocs)?;
     let no_relax = List::new(alloc);
     let relax = kept_or(alloc, known.relax, InputSectionKey::Relax, no_relax)?;
+    let given = data.is_some();
+    let bytes = bytes_of(alloc, data);
     Ok(InputSection {
         name,
         slot,
         part,
         size: size_in(slot, size, &bytes),
         bytes,
+        given,
         strings,
         sorted,
         attrs,
