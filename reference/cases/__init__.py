@@ -14,6 +14,7 @@ from .shortened import shortened_description
 from .texts import break_text, json_text
 from .thread_local import thread_local_description
 from .values import objects
+from .thunked import thunked_description
 from .wide import widen
 
 __all__ = ["case", "fixed_cases", "merging_case", "shortened_case", "thread_local_case"]
@@ -68,6 +69,12 @@ def thread_local_case(seed, number):
     """The bytes of the random case of that number in which a load segment opens behind zero-filled thread-local data."""
     rng = random.Random("tls %d:%d" % (seed, number))
     return json.dumps(thread_local_description(rng)).encode("utf-8", "surrogatepass")
+
+
+def thunked_case(seed, number):
+    """The bytes of the random case of that number with a primary part, and mostly more code than a branch reaches."""
+    rng = random.Random("thunks %d:%d" % (seed, number))
+    return json.dumps(thunked_description(rng)).encode("utf-8", "surrogatepass")
 
 
 def merging_case(seed, number):
