@@ -7,6 +7,8 @@ usage: compare.py PROGRAM COUNT [SEED [FIRST]]
        compare.py PROGRAM --generated COUNT
        compare.py PROGRAM --shortened COUNT [SEED]
        compare.py PROGRAM --merging COUNT [SEED]
+       compare.py PROGRAM --tls COUNT [SEED]
+       compare.py PROGRAM --thunks COUNT [SEED]
 
 Runs PROGRAM on the random descriptions of the numbers FIRST to FIRST + COUNT - 1, and where FIRST is
 0 on the fixed ones too, on each one with the words `layout 0`, and with 1, 2, 4 and 8 in place of 0. Shows
@@ -17,7 +19,9 @@ With --places, the descriptions are some small ones, changed at every place of t
 a stray byte there, with another number, with a member doubled, escaped, left out or moved. With --small, they
 are all links of two sections that may refer to each other and to what is undefined. With --generated, the
 words are `gen`, random seeds and numbers of objects up to 300, and there is no input. With --shortened, in most
-of the random descriptions relaxation leaves something out; with --merging, in each of them something is merged.
+of the random descriptions relaxation leaves something out; with --merging, in each of them something is merged; with
+--tls, in each of them a load segment opens behind zero-filled thread-local data; with --thunks, each has a primary part, and
+most of them more code than a branch reaches.
 """
 
 import collections
@@ -126,6 +130,20 @@ def compare_merging(program, count, seed=0):
     return comparison
 
 
+def compare_thread_local(program, count, seed=0):
+    comparison = Comparison(program)
+    for number in range(count):
+        comparison.compare("tls %d:%d" % (seed, number), cases.thread_local_case(seed, number))
+    return comparison
+
+
+def compare_thunked(program, count, seed=0):
+    comparison = Comparison(program)
+    for number in range(count):
+        comparison.compare("thunks %d:%d" % (seed, number), cases.thunked_case(seed, number))
+    return comparison
+
+
 def compare_random(program, count, seed=0, first=0):
     comparison = Comparison(program)
     if first == 0:
@@ -162,10 +180,12 @@ COUNTED = {
     "--generated": (compare_generated, 1),
     "--shortened": (compare_shortened, 2),
     "--merging": (compare_merging, 2),
+    "--tls": (compare_thread_local, 2),
+    "--thunks": (compare_thunked, 2),
 }
 USAGE = (
     "usage: compare.py PROGRAM COUNT [SEED [FIRST]], "
-    "or compare.py PROGRAM --places|--small|--generated COUNT|--shortened COUNT [SEED]|--merging COUNT [SEED]"
+    "or compare.py PROGRAM --places|--small|--generated COUNT|--shortened COUNT [SEED]|--merging COUNT [SEED]|--tls COUNT [SEED]|--thunks COUNT [SEED]"
 )
 
 

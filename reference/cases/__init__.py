@@ -12,10 +12,12 @@ from .richer import make_richer
 from .shapes import break_shape, random_shapes
 from .shortened import shortened_description
 from .texts import break_text, json_text
+from .thread_local import thread_local_description
 from .values import objects
+from .thunked import thunked_description
 from .wide import widen
 
-__all__ = ["case", "fixed_cases", "merging_case", "shortened_case"]
+__all__ = ["case", "fixed_cases", "merging_case", "shortened_case", "thread_local_case"]
 
 # Kinds of random descriptions, with their weights.
 MIX = {
@@ -61,6 +63,18 @@ def shortened_case(seed, number):
     description = shortened_description(rng)
     add_contents(rng, description)
     return json.dumps(description).encode("utf-8", "surrogatepass")
+
+
+def thread_local_case(seed, number):
+    """The bytes of the random case of that number in which a load segment opens behind zero-filled thread-local data."""
+    rng = random.Random("tls %d:%d" % (seed, number))
+    return json.dumps(thread_local_description(rng)).encode("utf-8", "surrogatepass")
+
+
+def thunked_case(seed, number):
+    """The bytes of the random case of that number with a primary part, and mostly more code than a branch reaches."""
+    rng = random.Random("thunks %d:%d" % (seed, number))
+    return json.dumps(thunked_description(rng)).encode("utf-8", "surrogatepass")
 
 
 def merging_case(seed, number):

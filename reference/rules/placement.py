@@ -182,9 +182,11 @@ class Walk:
         return max([self.plan.page, *map(self.planned.greatest_alignment, inside)])
 
     def open_segment(self, event, segment):
-        """A load segment moves memory to what is pending, or to the next place where file and memory go together."""
+        """A load segment moves memory, as it was before zero-filled thread-local data, to what is pending, or to the
+        next place where file and memory go together."""
         if self.plan.segments[segment].kind != "load":
             return
+        self.restore_saved()
         place, alignment = "event %d" % event, self.place_alignment(segment)
         if self.pending is None:
             self.memory = fitting(align_up(self.memory, alignment) + self.file % alignment, place)
@@ -208,11 +210,14 @@ class Walk:
     def settle_saved(self, section):
         """Zero-filled thread-local data is placed beside memory, which goes on where the first of it began."""
         if not self.planned.is_zero_fill_thread_local(section):
-            if self.saved is not None:
-                self.memory = self.saved
-            self.saved = None
+            self.restore_saved()
         elif self.saved is None:
             self.saved = self.memory
+
+    def restore_saved(self):
+        if self.saved is not None:
+            self.memory = self.saved
+        self.saved = None
 
     def enter_region(self, section):
         """The number of the section's region, if it has one. Memory goes on where its sections end."""
@@ -383,10 +388,9 @@ def is_plain(link, planned):
     moves = any(event[0] in ("loc", "locrel", "addr") for event in plan.events)
     if planned.is_partial or moves or plan.regions:
         return False
-    opened, ended, last = None, False, None
+    opened, ended = None, False
     for kind, operand in plan.events:
         if kind == "sec":
-            last = operand
             if opened is None:
                 continue
             in_file = planned.is_in_file(operand)
@@ -396,7 +400,7 @@ def is_plain(link, planned):
             ended = ended or not in_file and not beside
         elif plan.segments[operand].kind == "load":
             if kind == "seg":
-                if opened is not None or last is not None and planned.is_zero_fill_thread_local(last):
+                if opened is not None:
                     return False
                 opened, ended = operand, False
             else:

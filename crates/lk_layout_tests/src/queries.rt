@@ -22,6 +22,12 @@ const STARTS: &str = r#"
 17 => tls 4096 aligned 4096 end 4128 before Some(4064) data 4096 got None plain true starts (4096, 4112, 4100)
 4096 => tls 4096 aligned 4096 end 4128 before Some(0) data 4096 got None plain true starts (4096, 4112, 4100)
 4097 => tls 4096 aligned 4096 end 4128 before None data 4096 got None plain true starts (4096, 4112, 4100)
+# The data behind it in a load segment of its own, which begins at the next page.
+@ {"plan":{"page":4096,"base":["num",4096],"sections":[{"attrs":9,"parts":[[4,false]]},{"attrs":25,"parts":[[16,false]]},{"attrs":1,"parts":[[4,false]]}],"segments":[{"kind":"load"},{"kind":"load"}],"events":[["seg",0],["sec",0],["sec",1],["endseg",0],["seg",1],["sec",2],["endseg",1]]},"groups":[[{"kind":"prelude"}],[{"kind":"object","sections":[{"slot":"must","part":0,"size":4},{"slot":"must","part":1,"size":16},{"slot":"must","part":2,"size":4}]}]]} ...
+0 => tls 0 aligned 0 end 0 before Some(0) data 4096 got None plain true starts (4096, 4112, 8196)
+# The same in a third one, at a location that waits since before the second opened: not plain because of that.
+@ {"plan":{"page":4096,"base":["num",4096],"sections":[{"attrs":9,"parts":[[4,false]]},{"attrs":25,"parts":[[16,false]]},{"attrs":1,"parts":[[4,false]]}],"segments":[{"kind":"load"},{"kind":"load"},{"kind":"load"}],"events":[["seg",0],["sec",0],["sec",1],["endseg",0],["loc",["num",12288]],["seg",1],["endseg",1],["seg",2],["sec",2],["endseg",2]]},"groups":[[{"kind":"prelude"}],[{"kind":"script"}],[{"kind":"object","sections":[{"slot":"must","part":0,"size":4},{"slot":"must","part":1,"size":16},{"slot":"must","part":2,"size":4}]}]]} ...
+0 => tls 0 aligned 0 end 0 before Some(0) data 4096 got None plain false starts (4096, 4112, 12288)
 # The location moves behind where the segment opens, so its start and its end are rounded.
 @ {"plan":{"page":4096,"base":["num",4096],"sections":[{"attrs":1,"parts":[[4,false]]},{"attrs":9,"parts":[[4,false]]},{"attrs":25,"parts":[[16,false]]}],"segments":[{"kind":"load"},{"kind":"tls"}],"events":[["seg",0],["sec",0],["seg",1],["loc",["num",4104]],["sec",1],["sec",2],["endseg",1],["endseg",0]]},"groups":[[{"kind":"prelude"}],[{"kind":"script"}],[{"kind":"object","sections":[{"slot":"must","part":0,"size":4},{"slot":"must","part":1,"size":4},{"slot":"must","part":2,"size":8}]}]]} ...
 16 => tls 4104 aligned 4096 end 4128 before Some(4080) data 4104 got None plain false starts (4096, 4104, 4112)

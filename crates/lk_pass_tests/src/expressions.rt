@@ -116,9 +116,9 @@ const BEGINNINGS: &str = r#"
 const PLAIN: &str = r#"
 @ {"plan":{"page":4096,"sections":[{"attrs":1,"parts":[[4,false]]},{"attrs":9,"parts":[[4,false]]},{"attrs":25,"parts":[[16,false]]},{"attrs":17,"parts":[[4,false]]},{"parts":[[4,false]]},{"attrs":1,"parts":[[4,false]]},{"attrs":24,"primary":0,"parts":[[4,false]]}],"segments":[{"kind":"load"},{"kind":"load"},{"kind":"tls"}],"events":[...]},"groups":[[{"kind":"prelude"}],[{"kind":"script"}]]}
 ["seg",0],["sec",1],["sec",2],["sec",0],["endseg",0],["seg",1],["endseg",1],["sec",3],["sec",4],["sec",5],["sec",6],["seg",2],["endseg",2] => plain true
-# Another load segment opens behind zero-fill thread-local data; with a section between it doesn't.
-["seg",0],["sec",1],["sec",2],["endseg",0],["seg",1],["sec",0],["endseg",1],["sec",3],["sec",4],["sec",5],["sec",6],["seg",2],["endseg",2] => plain false
-["seg",0],["sec",1],["sec",2],["endseg",0],["sec",4],["seg",1],["sec",0],["endseg",1],["sec",3],["sec",5],["sec",6],["seg",2],["endseg",2] => plain true
+# Another load segment opens behind zero-fill thread-local data, and with a section between; not plain, where a location waits for it.
+["seg",0],["sec",1],["sec",2],["endseg",0],["seg",1],["sec",0],["endseg",1],["sec",3],["sec",4],["sec",5],["sec",6],["seg",2],["endseg",2] | ["seg",0],["sec",1],["sec",2],["endseg",0],["sec",4],["seg",1],["sec",0],["endseg",1],["sec",3],["sec",5],["sec",6],["seg",2],["endseg",2] => plain true
+["seg",0],["sec",1],["sec",2],["endseg",0],["loc",["num",12288]],["seg",1],["sec",0],["endseg",1],["sec",3],["sec",4],["sec",5],["sec",6],["seg",2],["endseg",2] => plain false
 # A segment of another kind lies across.
 ["seg",2],["seg",0],["sec",1],["sec",2],["endseg",2],["sec",0],["endseg",0],["sec",3],["seg",1],["sec",5],["endseg",1],["sec",4],["sec",6] => plain true
 # Load segments overlap, the one in the other or across.

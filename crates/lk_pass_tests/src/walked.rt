@@ -122,9 +122,18 @@ const REGIONS: &str = r#"
 
 /// Thread-local data, parts, bases, and the ends of numbers.
 const WALKS: &str = r#"
-# Zero-fill data give memory back, also where a load segment opens behind them.
+# Zero-fill data give memory back, to what follows in the segment and to the next load segment, which begins at a page.
 @ 0 4,16,4 {"plan":{"page":4096,"base":["num",4096],"sections":[{"attrs":9,"parts":[[4,false]]},{"attrs":25,"parts":[[16,false]]},{"attrs":1,"parts":[[4,false]]}],"segments":[{"kind":"load"},{"kind":"load"}],"events":[...]},"groups":[[{"kind":"prelude"}]]}
-["seg",0],["sec",0],["sec",1],["sec",2],["endseg",0],["seg",1],["endseg",1] | ["seg",0],["sec",0],["sec",1],["endseg",0],["seg",1],["sec",2],["endseg",1] => parts 4096,4,0,4,4 4112,16,4,0,16 4100,4,4,4,4 sections 4096,4,0,4,4 4112,16,4,0,16 4100,4,4,4,4 counters [4096]
+["seg",0],["sec",0],["sec",1],["sec",2],["endseg",0],["seg",1],["endseg",1] => parts 4096,4,0,4,4 4112,16,4,0,16 4100,4,4,4,4 sections 4096,4,0,4,4 4112,16,4,0,16 4100,4,4,4,4 counters [4096]
+["seg",0],["sec",0],["sec",1],["endseg",0],["seg",1],["sec",2],["endseg",1] => parts 4096,4,0,4,4 4112,16,4,0,16 8196,4,4,4,4 sections 4096,4,0,4,4 4112,16,4,0,16 8196,4,4,4,4 counters [4096]
+# A location that waits for a section is where two load segments open behind zero-fill data; the file goes on once.
+@ 0 4,16,4 {"plan":{"page":4096,"base":["num",4096],"sections":[{"attrs":9,"parts":[[4,false]]},{"attrs":25,"parts":[[16,false]]},{"attrs":1,"parts":[[4,false]]}],"segments":[{"kind":"load"},{"kind":"load"},{"kind":"load"},{"kind":"other"}],"events":[...]},"groups":[[{"kind":"prelude"}],[{"kind":"script"}]]}
+["seg",0],["sec",0],["sec",1],["endseg",0],["loc",["num",12288]],["seg",1],["endseg",1],["seg",2],["sec",2],["endseg",2],["seg",3],["endseg",3] => parts 4096,4,0,4,4 4112,16,4,0,16 12288,4,4096,4,4 sections 4096,4,0,4,4 4112,16,4,0,16 12288,4,4096,4,4 counters [4096, 12288]
+# Where such data are longer than a page, the location tells where memory is: given back where a load segment opens, and behind
+# them where one of another kind does.
+@ 0 4,8000,4 {"plan":{"page":4096,"base":["num",4096],"sections":[{"attrs":9,"parts":[[4,false]]},{"attrs":25,"parts":[[16,false]]},{"attrs":1,"parts":[[4,false]]}],"segments":[{"kind":"load"},{"kind":"load"},{"kind":"load"},{"kind":"other"}],"events":[...]},"groups":[[{"kind":"prelude"}],[{"kind":"script"}]]}
+["seg",0],["sec",0],["sec",1],["endseg",0],["seg",1],["loc",["dot"]],["sec",2],["endseg",1],["seg",2],["endseg",2],["seg",3],["endseg",3] => parts 4096,4,0,4,4 4112,8000,4,0,16 8196,4,4,4,4 sections 4096,4,0,4,4 4112,8000,4,0,16 8196,4,4,4,4 counters [4096, 8196]
+["seg",0],["sec",0],["sec",1],["endseg",0],["seg",3],["loc",["dot"]],["sec",2],["endseg",3],["seg",1],["endseg",1],["seg",2],["endseg",2] => parts 4096,4,0,4,4 4112,8000,4,0,16 12112,4,8016,4,4 sections 4096,4,0,4,4 4112,8000,4,0,16 12112,4,8016,4,4 counters [4096, 12112]
 # The first of a run is rounded up for all, without bytes too, and the file with it.
 @ 0 1,0,1 {"plan":{"page":16,"sections":[{"attrs":1,"parts":[[1,false]]},{"attrs":9,"parts":[[1,false]],"align":64},{"attrs":1,"parts":[[1,false]]}],"segments":[{"kind":"load"}],"events":[["seg",0],["sec",0],["sec",1],["sec",2],["endseg",0]]},"groups":[[{"kind":"prelude"}]]}
  => parts 0,1,0,1,1 64,0,64,0,64 64,1,64,1,1 sections 0,1,0,1,1 64,0,64,0,64 64,1,64,1,1 counters [0]
@@ -247,6 +256,10 @@ const RUNS: &str = r#"
 0,1 => refused AddressOverflow { place: Event(1) }
 @ 0 1,1 {"plan":{"page":1,"base":["num",18446744073709551614],"sections":[{"attrs":25,"parts":[[1,false]]},{"attrs":1,"parts":[[1,false]]}],"events":[["sec",0],["sec",1]]},"groups":[[{"kind":"prelude"}]]}
  => parts 18446744073709551614,1,0,0,1 18446744073709551614,1,0,1,1 sections 18446744073709551614,1,0,0,1 18446744073709551614,1,0,1,1 counters [18446744073709551614]
+# A load segment begins on the last page, behind zero-fill data on it; not behind other data.
+@ 0 15,0 {"plan":{"page":16,"base":["num",18446744073709551600],"sections":[{"attrs":...,"parts":[[1,false]]},{"attrs":1,"parts":[[1,false]]}],"segments":[{"kind":"load"}],"events":[["sec",0],["seg",0],["sec",1],["endseg",0]]},"groups":[[{"kind":"prelude"}]]}
+25 => parts 18446744073709551600,15,0,0,1 18446744073709551600,0,0,0,1 sections 18446744073709551600,15,0,0,1 18446744073709551600,0,0,0,1 counters [18446744073709551600]
+17 => refused AddressOverflow { place: Event(1) }
 "#;
 
 /// Secondary sections, which have memory and bytes of the file where their primaries do, and are thread-local where they are

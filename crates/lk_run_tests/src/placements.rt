@@ -65,7 +65,7 @@ live 1 0 0 0x20 5
 entry -
 end
 
-# Zero-filled thread-local data, with data behind it in the same segment, and in another one.
+# Zero-filled thread-local data, with data behind it in the same segment, and in another one, which begins at the next page.
 {"plan":{"page":4096,"base":["num",4096],"sections":[{"attrs":9,"parts":[[4,false]]},{"attrs":25,"parts":[[16,false]]},{"attrs":1,"parts":[[4,false]]}],"segments":[{"kind":"load"}],"events":[["seg",0],["sec",0],["sec",1],["sec",2],["endseg",0]]},"groups":[[{"kind":"prelude"}],[{"kind":"object","sections":[{"slot":"must","part":0,"size":4},{"slot":"must","part":1,"size":16},{"slot":"must","part":2,"size":4}]}]]}
 0 layout
 section 0 index 0 mem 0x1000 4 file 0x0 4 align 4 lma 0x1000 attrs 9
@@ -85,15 +85,32 @@ end
 0 layout
 section 0 index 0 mem 0x1000 4 file 0x0 4 align 4 lma 0x1000 attrs 9
 section 1 index 1 mem 0x1010 16 file 0x4 0 align 16 lma 0x1010 attrs 25
-section 2 index 2 mem 0x1004 4 file 0x4 4 align 4 lma 0x1004 attrs 1
+section 2 index 2 mem 0x2004 4 file 0x4 4 align 4 lma 0x2004 attrs 1
 part 0 mem 0x1000 4 file 0x0 4 align 4
 part 1 mem 0x1010 16 file 0x4 0 align 16
-part 2 mem 0x1004 4 file 0x4 4 align 4
+part 2 mem 0x2004 4 file 0x4 4 align 4
 segment 0 mem 0x1000 4 file 0x0 4 align 4
-segment 1 mem 0x1004 4 file 0x4 4 align 4
+segment 1 mem 0x2004 4 file 0x4 4 align 4
 live 1 0 0 0x1000 4
 live 1 0 1 0x1010 16
-live 1 0 2 0x1004 4
+live 1 0 2 0x2004 4
+entry -
+end
+
+# The same with a segment between, before which the location moves: the data takes it in a third segment.
+{"plan":{"page":4096,"base":["num",4096],"sections":[{"attrs":9,"parts":[[4,false]]},{"attrs":25,"parts":[[16,false]]},{"attrs":1,"parts":[[4,false]]}],"segments":[{"kind":"load"},{"kind":"load"},{"kind":"load"}],"events":[["seg",0],["sec",0],["sec",1],["endseg",0],["loc",["num",12288]],["seg",1],["endseg",1],["seg",2],["sec",2],["endseg",2]]},"groups":[[{"kind":"prelude"}],[{"kind":"script"}],[{"kind":"object","sections":[{"slot":"must","part":0,"size":4},{"slot":"must","part":1,"size":16},{"slot":"must","part":2,"size":4}]}]]}
+0 layout
+section 0 index 0 mem 0x1000 4 file 0x0 4 align 4 lma 0x1000 attrs 9
+section 1 index 1 mem 0x1010 16 file 0x4 0 align 16 lma 0x1010 attrs 25
+section 2 index 2 mem 0x3000 4 file 0x1000 4 align 4 lma 0x3000 attrs 1
+part 0 mem 0x1000 4 file 0x0 4 align 4
+part 1 mem 0x1010 16 file 0x4 0 align 16
+part 2 mem 0x3000 4 file 0x1000 4 align 4
+segment 0 mem 0x1000 4 file 0x0 4 align 4
+segment 2 mem 0x3000 4 file 0x1000 4 align 4
+live 2 0 0 0x1000 4
+live 2 0 1 0x1010 16
+live 2 0 2 0x3000 4
 entry -
 end
 

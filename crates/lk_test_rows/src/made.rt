@@ -17,6 +17,7 @@ fn section_of(alloc: Global, part: u32) -> InputSection {
         part: PartId::from_u32(part),
         size: 0,
         bytes: List::new(alloc),
+        given: false,
         strings: false,
         sorted: false,
         attrs: 0,
@@ -91,6 +92,7 @@ fn sized_section(alloc: Global, size: &str, data: &str) -> Result<InputSection, 
     section.slot = InputSlot::Merge;
     section.size = size.parse().unwrap_or(0);
     section.bytes = bytes_of(alloc, data)?;
+    section.given = true;
     section.strings = true;
     Ok(section)
 }

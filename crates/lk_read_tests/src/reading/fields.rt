@@ -282,6 +282,24 @@ null | 0 | true | [] | {} => at /groups/0/0/symbols/0/name
 ,"group":null,"relocs":null,"relax":null => at /groups/0/0/sections/0/group
 ,"relocs":null,"relax":null => at /groups/0/0/sections/0/relocs
 ,"relax":null => at /groups/0/0/sections/0/relax
+@ {"plan":{"page":1},"groups":[[{"kind":"object","sections":[{"slot":"discard","data":...}]}]]}
+"" | "00" | "0f9A" | "\u0030f" => read
+null | 0 | true | [] | ["00"] | {} | "0" | "000" | "0g" | "0x" | " 00" | "\u00e9" => at /groups/0/0/sections/0/data
+@ {"plan":{"page":1},"groups":[[{"kind":"object","sections":[{"slot":"unloaded","data":...}]}]]}
+"" | "00" | "0f9A" | "\u0030f" => read
+null | 0 | true | [] | ["00"] | {} | "0" | "000" | "0g" | "0x" | " 00" | "\u00e9" => at /groups/0/0/sections/0/data
+@ {"plan":{"page":1},"groups":[[{"kind":"object","sections":[{"slot":"must","data":...}]}]]}
+"" | "00" | "0f9A" | "\u0030f" => read
+null | 0 | true | [] | ["00"] | {} | "0" | "000" | "0g" | "0x" | " 00" | "\u00e9" => at /groups/0/0/sections/0/data
+@ {"plan":{"page":1},"groups":[[{"kind":"object","sections":[{"slot":"debug","data":...}]}]]}
+"" | "00" | "0f9A" | "\u0030f" => read
+null | 0 | true | [] | ["00"] | {} | "0" | "000" | "0g" | "0x" | " 00" | "\u00e9" => at /groups/0/0/sections/0/data
+@ {"plan":{"page":1},"groups":[[{"kind":"object","sections":[{"slot":"mustdebug","data":...}]}]]}
+"" | "00" | "0f9A" | "\u0030f" => read
+null | 0 | true | [] | ["00"] | {} | "0" | "000" | "0g" | "0x" | " 00" | "\u00e9" => at /groups/0/0/sections/0/data
+@ {"plan":{"page":1},"groups":[[{"kind":"object","sections":[{"slot":"merge","data":...}]}]]}
+"" | "00" | "0f9A" | "\u0030f" => read
+null | 0 | true | [] | ["00"] | {} | "0" | "000" | "0g" | "0x" | " 00" | "\u00e9" => at /groups/0/0/sections/0/data
 @ {"plan":{"page":1},"groups":[[{"kind":"object","sections":[{"slot":"merge","strings":...}]}]]}
 true | false => read
 null | 0 | 1 | "true" | [] | {} => at /groups/0/0/sections/0/strings

@@ -156,7 +156,7 @@ fn add_placement(line: &mut String, placement: &SymbolPlacement) -> Result<(), A
 fn add_input_section(line: &mut String, section: &InputSection) -> Result<(), AllocError> {
     let bytes = section.bytes.as_slice();
     let contents = (section.slot, section.part, section.size, bytes);
-    let truths = (section.strings, section.sorted);
+    let truths = (section.given, section.strings, section.sorted);
     add(
         line,
         "section",
