@@ -78,6 +78,12 @@ given_unread command input from does_not none = (
   subst (λ b. MatchBool b (from.faults ≡ from.faults) (from ≡ from)) (sym does_not) refl,
 )
 
+-- an answer to an input that is too long is the answer to it
+pub too_long_answers : {E : Type 0} (made : Result Answer E) (command : Command) (input : CommandInput) → input ≡ TooLong
+    → IfOk made (λ answer. (any : Command) → IsAnswerTo any Longer answer) → IfOk made (IsAnswerTo command (held_by input))
+too_long_answers (Ok answer) command input is given = subst (λ i. IsAnswerTo command (held_by i) answer) (sym is) (given command)
+too_long_answers (Err e) command input is given = given
+
 -- what was made of it, and told
 pub made_run : {E : Type 0} (command : Command) (input : CommandInput) (made : Result Answer E) (from to : SourceState) (before after : SinkState) (status : Status)
     → GivesInput command (Ok input) from to → IfOk made (IsAnswerTo command (held_by input)) → IsMadeTold made status before after
