@@ -8,7 +8,7 @@ use Rattle.lk_layout.specs.declared.error.LayoutError.{LayoutError}
 use Rattle.lk_layout.specs.LayoutRecord.{LayoutRecord}
 use Rattle.lk_run.specs.declared.answer.Answer.{Answer}
 use Rattle.lk_run.specs.declared.inputs.CommandInput.{CommandInput}
-use Rattle.lk_run.specs.declared.inputs.CommandInput.TheVariants.{Bytes, TooLong}
+use Rattle.lk_run.specs.declared.inputs.CommandInput.TheVariants.{TooLong}
 use Rattle.lk_run.specs.declared.status.Status.{Status}
 use Rattle.lk_run.specs.declared.status.Status.TheVariants.{Done, Refused, Usage, Unreadable, ReadFault, WriteFault, NoMemory}
 use Rattle.lk_run.specs.declared.words.Command.{Command}
