@@ -1,0 +1,5 @@
+pub mod Among
+pub mod Cuts
+pub mod Digits
+pub mod Fields
+pub mod Reading

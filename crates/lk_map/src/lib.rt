@@ -1,0 +1,11 @@
+//! Reads a map, which is a text in the form of this program's report whoever made it, and says whether its sections and segments go
+//! together.
+#![tactic(auto)]
+
+mod cut;
+mod forms;
+mod lines;
+mod map_text;
+mod numbers;
+
+pub use crate::map_text::{read_map, MapError, MapText, SectionLine, SegmentLine};
