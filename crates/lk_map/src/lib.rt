@@ -2,10 +2,13 @@
 //! together.
 #![tactic(auto)]
 
+mod check;
 mod cut;
 mod forms;
 mod lines;
 mod map_text;
 mod numbers;
+mod spans;
 
+pub use crate::check::{check_map, MapFault};
 pub use crate::map_text::{read_map, MapError, MapText, SectionLine, SegmentLine};
