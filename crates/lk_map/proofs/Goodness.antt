@@ -261,7 +261,7 @@ equal_distance g s h =
     let c = h.distance in
     omega arith
 
-pub good_maps_are_congruent : GoodMapsAreCongruent
-good_maps_are_congruent ss gs good s there needs =
+pub congruent_everywhere : GoodMapsAreCongruent
+congruent_everywhere ss gs good s there needs =
     let (g, in_gs, held) = good.held s there needs in
     (g, in_gs, held, λ m. ap (λ n. n % m) (equal_distance g s held))

@@ -5,3 +5,6 @@ pub mod Fields
 pub mod Goodness
 pub mod Overlaps
 pub mod Reading
+pub mod Refused
+pub mod Spelled
+pub mod WrittenMaps

@@ -38,7 +38,7 @@ told_onto ss gs n l (Ok ls) =
 told_onto ss gs n l (Err e) = refl
 
 -- a text has a part
-first_part : (p : ℕ → Bool) (xs : List ℕ) → (part : List ℕ) × (parts : List (List ℕ)) × (slice_split p xs ≡ part ∷ parts)
+pub first_part : (p : ℕ → Bool) (xs : List ℕ) → (part : List ℕ) × (parts : List (List ℕ)) × (slice_split p xs ≡ part ∷ parts)
 first_part p [] = ([], [], refl)
 first_part p (x ∷ xs) =
     let (part, parts, is) = first_part p xs in

@@ -8,3 +8,4 @@ pub mod Numbers
 pub mod Sorted
 pub mod Spans
 pub mod Values
+pub mod Written

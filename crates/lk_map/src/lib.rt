@@ -5,6 +5,7 @@
 mod check;
 mod cut;
 mod forms;
+pub mod laws;
 mod lines;
 mod map_text;
 mod numbers;
