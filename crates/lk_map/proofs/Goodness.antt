@@ -101,7 +101,7 @@ mapped_none f None e = refl
 mapped_none f (Some x) e = cc
 
 module _ (ss : List SectionLine) (gs : List SegmentLine) where
-  all_end : first_overflow ss gs ≡ None →
+  pub all_end : first_overflow ss gs ≡ None →
       All (λ s. (s.mem_offset + s.mem_size < 2 ^ 64) × (s.file_offset + s.file_size < 2 ^ 64)) ss × All (λ g. (g.mem_offset + g.mem_size < 2 ^ 64) × (g.file_offset + g.file_size < 2 ^ 64)) gs
   unfolding first_overflow
   all_end e =
@@ -198,7 +198,7 @@ within_parts start size outer bytes h =
 within_whole : (start size outer bytes : ℕ) → outer ≤ start → start + size ≤ outer + bytes → is_within start size outer bytes ≡ true
 within_whole start size outer bytes h k = and_whole (is_le outer start h) (is_le (start + size) (outer + bytes) k)
 
-held_by : (g : SegmentLine) (s : SectionLine) → holds g s ≡ true → IsHeldBy g s
+pub held_by : (g : SegmentLine) (s : SectionLine) → holds g s ≡ true → IsHeldBy g s
 unfolding holds
 held_by g s h =
     let (m, rest) = and_parts (is_within s.mem_offset s.mem_size g.mem_offset g.mem_size) (is_within s.file_offset s.file_size g.file_offset g.file_size && (g.mem_offset + s.file_offset == s.mem_offset + g.file_offset)) h in
@@ -207,7 +207,7 @@ held_by g s h =
     let (f_from, f_to) = within_parts s.file_offset s.file_size g.file_offset g.file_size f in
     record { memory_from = m_from; memory_to = m_to; file_from = f_from; file_to = f_to; distance = is_equal (g.mem_offset + s.file_offset) (s.mem_offset + g.file_offset) same }
 
-held_so : (g : SegmentLine) (s : SectionLine) → IsHeldBy g s → holds g s ≡ true
+pub held_so : (g : SegmentLine) (s : SectionLine) → IsHeldBy g s → holds g s ≡ true
 unfolding holds
 held_so g s h =
     and_whole (within_whole s.mem_offset s.mem_size g.mem_offset g.mem_size h.memory_from h.memory_to)

@@ -3,6 +3,8 @@ pub mod Cuts
 pub mod Digits
 pub mod Fields
 pub mod Goodness
+pub mod Least
+pub mod Opening
 pub mod Overlaps
 pub mod Reading
 pub mod Refused

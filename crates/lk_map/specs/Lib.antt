@@ -7,5 +7,6 @@ pub mod MapText
 pub mod Numbers
 pub mod Sorted
 pub mod Spans
+pub mod Sweep
 pub mod Values
 pub mod Written

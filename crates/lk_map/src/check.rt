@@ -8,6 +8,7 @@ ghost use Rattle.lk_map.specs.MapText.{LinesRise};
 
 use crate::map_text::{MapText, SectionLine, SegmentLine};
 use crate::spans::{is_allocated, overlap_in_file, overlap_in_memory};
+use crate::sweep::unheld_line;
 use std::alloc::{AllocError, Global};
 
 /// The first fault of a map. Lines are counted from 1.
@@ -91,62 +92,10 @@ fn overflowing_line(sections: &[SectionLine], segments: &[SegmentLine]) -> Optio
 
 /// Whether a section has to stand in a segment.
 #[tactic(auto, unfolding(crate::specs::Checking::needs_segment))]
-fn is_in_need(section: &SectionLine) -> bool
+pub fn is_in_need(section: &SectionLine) -> bool
     ensures { result ≡ needs_segment section.now }
 {
     section.file_size > 0 && is_allocated(section)
-}
-
-/// Whether a range holds another. None ends past 2^64 - 1.
-fn is_range_within(start: u64, size: u64, outer_start: u64, outer_size: u64) -> bool
-    ensures { result ≡ is_within start size outer_start outer_size }
-{
-    outer_start <= start
-        && start - outer_start <= outer_size
-        && size <= outer_size - (start - outer_start)
-}
-
-/// Whether a segment holds a section: in memory and in the file, at equal distances from its start.
-#[tactic(auto, unfolding(crate::specs::Checking::holds))]
-fn is_holding(segment: &SegmentLine, section: &SectionLine) -> bool
-    ensures { result ≡ holds segment.now section.now }
-{
-    is_range_within(section.mem_offset, section.mem_size, segment.mem_offset, segment.mem_size)
-        && is_range_within(section.file_offset, section.file_size, segment.file_offset, segment.file_size)
-        && section.mem_offset - segment.mem_offset == section.file_offset - segment.file_offset
-}
-
-/// Whether a segment holds a section.
-fn is_held(segments: &[SegmentLine], section: &SectionLine) -> bool
-    ensures { result ≡ list_any (λ g. holds g section.now) segments.now }
-{
-    segments.iter().any(|x| is_holding(x, section))
-}
-
-/// Whether a section has to stand in a segment, and none holds it.
-#[tactic(auto, unfolding(crate::specs::Checking::is_outside))]
-fn is_unheld(segments: &[SegmentLine], section: &SectionLine) -> bool
-    ensures { result ≡ is_outside segments.now section.now }
-{
-    is_in_need(section) && !is_held(segments, section)
-}
-
-/// The first section that is so.
-fn unheld_section<'a>(sections: &'a [SectionLine], segments: &[SegmentLine]) -> Option<&'a SectionLine>
-    ensures { option_copied result ≡ find (is_outside segments.now) sections.now }
-{
-    sections.iter().find(|x| is_unheld(segments, x))
-}
-
-/// Its line.
-#[tactic(auto, unfolding(crate::specs::Checking::first_outside))]
-fn unheld_line(sections: &[SectionLine], segments: &[SegmentLine]) -> Option<usize>
-    ensures { result ≡ first_outside sections.now segments.now }
-{
-    match unheld_section(sections, segments) {
-        Some(section) => Some(section.line),
-        None => None,
-    }
 }
 
 /// The first fault of sections and segments. The lines of sections rise.
@@ -163,7 +112,7 @@ fn check_lines(alloc: Global, sections: &[SectionLine], segments: &[SegmentLine]
     if let Some((a, b)) = overlap_in_file(alloc, sections)? {
         return Err(MapFault::FileOverlap { a, b });
     }
-    if let Some(line) = unheld_line(sections, segments) {
+    if let Some(line) = unheld_line(alloc, sections, segments)? {
         return Err(MapFault::NoSegment { line });
     }
     Ok(())

@@ -10,6 +10,7 @@ mod lines;
 mod map_text;
 mod numbers;
 mod spans;
+mod sweep;
 
 pub use crate::check::{check_map, MapFault};
 pub use crate::map_text::{read_map, MapError, MapText, SectionLine, SegmentLine};
