@@ -1,10 +1,10 @@
 -- What words say as a line of one of the forms, form by form.
-use Rattle.std.proofs.Common.{◌≡◌, ℕ, ◌+◌, ◌<◌, ◌≤◌, Bool, true, false, List, [], ◌∷◌, Option, Some, None, length, get_or, drop, refl, sym, ap, ◌∙◌, arith}
+use Rattle.std.proofs.Common.{◌≡◌, ℕ, ◌+◌, ◌<◌, ◌≤◌, List, ◌∷◌, Option, Some, None, length, get_or, drop, sym, ap, ◌∙◌}
 use Rattle.std.proofs.lemmas.List.{drop_all, drop_more}
 use Rattle.lk_map.specs.declared.forms.Field.{Field}
 use Rattle.lk_map.specs.declared.forms.Form.{Form}
 use Rattle.lk_map.specs.declared.forms.Form.TheVariants.{Layout}
-use Rattle.lk_map.specs.Forms.{fields_of, forms}
+use Rattle.lk_map.specs.Forms.{fields_of}
 use Rattle.lk_map.specs.Lines.{Line, line_among, line_or, values_of}
 
 module _ (all : List Form) (i : ℕ) (below : i < length all) (words : List (List ℕ)) (whole : Option Line) (so : line_among (drop i all) words ≡ whole) where

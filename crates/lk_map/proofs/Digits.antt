@@ -1,12 +1,11 @@
 -- What is written of a number, digit by digit from its end.
-use Rattle.std.proofs.Common.{◌≡◌, ◌≢◌, ℕ, suc, zero, ◌+◌, ◌-◌, ◌*◌, ◌/◌, ◌%◌, ◌^◌, ◌<◌, ◌≤◌, Bool, true, false, cond, eqb, ltb, List, [], ◌∷◌, ◌++◌, Option, Some, None, length, get_or, take, drop, refl, sym, ap, ◌∙◌, subst, arith}
+use Rattle.std.proofs.Common.{◌≡◌, ◌≢◌, ℕ, suc, zero, ◌+◌, ◌*◌, ◌/◌, ◌%◌, ◌^◌, ◌<◌, ◌≤◌, Bool, true, false, List, [], ◌∷◌, ◌++◌, Option, Some, None, length, get_or, take, refl, sym, ap, ◌∙◌, subst, arith}
 use Rattle.std.specs.Prelude.{◌&&◌, ◌==◌, nat_lt, if◌then◌else◌}
 use Rattle.std.specs.Fmt.{digit_glyph, digits, digits_onto}
 use Rattle.std.specs.Str.{bytes_eq}
 use Rattle.std.specs.Str.Parse.{digits_value}
 use Rattle.std.proofs.lemmas.List.{append_assoc, take_more, take_all}
 use Rattle.std.proofs.lemmas.Bool.Decides.{nat_tests}
-use Rattle.std.proofs.lemmas.Grind.{common_steps}
 use Rattle.std.proofs.Math.Nat.{div-eq_of_lt, div-lt_iff_lt-mul, one-mul, pow-le-pow_left, pow-suc, pow-zero}
 use Rattle.std.specs.Char.{digit_value}
 use Rattle.std.proofs.lemmas.Int.Digits.{digits_value_more}
@@ -51,7 +50,7 @@ module _ (base : ℕ) where
   written_onto (suc turns) left acc =
       let glyph = digit_glyph false (left % base) in
       elim (left / base == 0) as (λ b. (if b then glyph ∷ acc else digits_onto turns base false (left / base) (glyph ∷ acc)) ≡ (if b then glyph ∷ [] else digits_onto turns base false (left / base) (glyph ∷ [])) ++ acc) [
-          true ↦ refl
+        | true ↦ refl
         | false ↦
             written_onto turns (left / base) (glyph ∷ acc)
             ∙ sym (append_assoc (digits_onto turns base false (left / base) []) (glyph ∷ []) acc)
@@ -67,7 +66,7 @@ module _ (base : ℕ) where
   written_push turns left =
       let glyph = digit_glyph false (left % base) in
       elim (left / base == 0) as (λ b. (if b then glyph ∷ [] else digits_onto turns base false (left / base) (glyph ∷ [])) ≡ (if b then [] else digits_onto turns base false (left / base) []) ++ glyph ∷ []) [
-          true ↦ refl
+        | true ↦ refl
         | false ↦ written_onto turns (left / base) (glyph ∷ [])
       ]
 

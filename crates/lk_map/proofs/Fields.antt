@@ -1,11 +1,9 @@
 -- What words say in fields, field by field.
-use Rattle.std.proofs.Common.{◌≡◌, ℕ, ◌+◌, ◌<◌, ◌≤◌, Bool, true, false, List, [], ◌∷◌, ◌++◌, Option, Some, None, length, get_or, take, drop, refl, sym, ap, ◌∙◌, arith}
-use Rattle.std.specs.Prelude.{option_map, option_copied, is_some, not}
+use Rattle.std.proofs.Common.{◌≡◌, ℕ, ◌+◌, ◌<◌, ◌≤◌, Bool, true, false, List, [], ◌∷◌, ◌++◌, Option, Some, None, length, get_or, drop, refl, sym, ap, ◌∙◌}
+use Rattle.std.specs.Prelude.{option_copied, is_some, not}
 use Rattle.std.specs.Borrow.{Bor}
-use Rattle.std.proofs.lemmas.List.{append-nil, append_assoc, drop_all, drop_more, get_or_read}
+use Rattle.std.proofs.lemmas.List.{append-nil, append_assoc, drop_all, drop_more}
 use Rattle.lk_map.specs.declared.forms.Field.{Field}
-use Rattle.lk_map.specs.declared.forms.Field.TheVariants as is
-use Rattle.lk_map.specs.declared.forms.Form.{Form}
 use Rattle.lk_map.specs.Cutting.{parts_left}
 use Rattle.lk_map.specs.Lines.{behind, joined, value_of, values_of}
 use Rattle.lk_map.specs.Values.{values_if, words_at}

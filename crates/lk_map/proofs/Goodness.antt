@@ -1,20 +1,20 @@
 -- A check tells good maps.
-use Rattle.std.proofs.Common.{◌≡◌, ℕ, zero, suc, ◌+◌, ◌-◌, ◌%◌, ◌^◌, ◌<◌, ◌≤◌, ◌⊎◌, Bool, true, false, cond, List, [], ◌∷◌, Option, Some, None, Result, Ok, Err, length, get_or, refl, sym, ap, ◌∙◌, subst, inl, inr, ⊎_elim, arith, map}
+use Rattle.std.proofs.Common.{◌≡◌, ℕ, suc, ◌+◌, ◌-◌, ◌%◌, ◌^◌, ◌<◌, ◌≤◌, ◌⊎◌, Bool, true, false, cond, List, [], ◌∷◌, Option, Some, None, Result, Ok, Err, get_or, refl, sym, ap, ◌∙◌, subst, inl, inr, ⊎_elim, arith, map}
 use Rattle.std.specs.Prelude.{◌==◌, ◌&&◌, ◌||◌, not, nat_le, nat_lt, option_map}
 use Rattle.std.specs.Option.{option_or}
-use Rattle.std.specs.List.{All, AllPairs, Contains, filter, find, list_any}
+use Rattle.std.specs.List.{All, Contains, filter, find, list_any}
 use Rattle.std.proofs.lemmas.Bool.{cases_eq, cases_lt, false≢true}
 use Rattle.std.proofs.lemmas.Bool.Decides.{nat_tests}
 use Rattle.std.proofs.lemmas.List.{get_or_default}
-use Rattle.std.proofs.lemmas.List.Elements.{All-cons, All-contains, All-filter, All-map, All-nil, All-weaker, filter_passes}
+use Rattle.std.proofs.lemmas.List.Elements.{All-cons, All-contains, All-map, All-nil, All-weaker, filter_passes}
 use Rattle.lk_map.specs.declared.check.MapFault.{MapFault}
 use Rattle.lk_map.specs.declared.check.MapFault.TheVariants.{Overflow, MemOverlap, FileOverlap, NoSegment, NoMemory}
 use Rattle.lk_map.specs.declared.map_text.SectionLine.{SectionLine}
 use Rattle.lk_map.specs.declared.map_text.SegmentLine.{SegmentLine}
 use Rattle.lk_map.specs.declared.spans.Span.{Span}
-use Rattle.lk_map.specs.Checking.{ends_past, first_outside, first_overflow, holds, is_outside, is_within, needs_segment, section_overflows, segment_overflows, Judges}
+use Rattle.lk_map.specs.Checking.{first_outside, first_overflow, holds, is_outside, is_within, needs_segment, section_overflows, segment_overflows, Judges}
 use Rattle.lk_map.specs.Good.{GoodMapsAreCongruent, IsGood, IsHeldBy, TellsGood}
-use Rattle.lk_map.specs.Spans.{AreApart, counts_in_file, counts_in_memory, file_span, file_spans, FindsOverlap, IsBefore, IsFirstOverlap, is_allocated, is_set, memory_span, memory_spans, Overlaps}
+use Rattle.lk_map.specs.Spans.{AreApart, counts_in_file, counts_in_memory, file_span, file_spans, FindsOverlap, IsBefore, is_allocated, is_set, memory_span, memory_spans, Overlaps}
 
 -- ---- what is found, and what isn't
 
@@ -105,22 +105,23 @@ module _ (ss : List SectionLine) (gs : List SegmentLine) where
       All (λ s. (s.mem_offset + s.mem_size < 2 ^ 64) × (s.file_offset + s.file_size < 2 ^ 64)) ss × All (λ g. (g.mem_offset + g.mem_size < 2 ^ 64) × (g.file_offset + g.file_size < 2 ^ 64)) gs
   unfolding first_overflow
   all_end e =
-      let (a, b) = neither (λ s. s.line) (λ g. g.line) (find section_overflows ss) (find segment_overflows gs) e in
-      (All-weaker (λ s. section_overflows s ≡ false) (λ s. (s.mem_offset + s.mem_size < 2 ^ 64) × (s.file_offset + s.file_size < 2 ^ 64)) section_ends ss (none_passes section_overflows ss a),
-       All-weaker (λ g. segment_overflows g ≡ false) (λ g. (g.mem_offset + g.mem_size < 2 ^ 64) × (g.file_offset + g.file_size < 2 ^ 64)) segment_ends gs (none_passes segment_overflows gs b))
+      let (a, b) = neither (λ s. s.line) (λ g. g.line) (find section_overflows ss) (find segment_overflows gs) e in (
+        All-weaker (λ s. section_overflows s ≡ false) (λ s. (s.mem_offset + s.mem_size < 2 ^ 64) × (s.file_offset + s.file_size < 2 ^ 64)) section_ends ss (none_passes section_overflows ss a),
+        All-weaker (λ g. segment_overflows g ≡ false) (λ g. (g.mem_offset + g.mem_size < 2 ^ 64) × (g.file_offset + g.file_size < 2 ^ 64)) segment_ends gs (none_passes segment_overflows gs b),
+      )
 
   overflow_not : (n : ℕ) → first_overflow ss gs ≡ Some n → IsGood ss gs → ⊥
   unfolding first_overflow
   overflow_not n e good =
       ⊎_elim
       (λ (w : (s : SectionLine) × (find section_overflows ss ≡ Some s)).
-        let (there, over) = found section_overflows ss w.0 w.1 in
-        let fits = All-contains (λ s. (s.mem_offset + s.mem_size < 2 ^ 64) × (s.file_offset + s.file_size < 2 ^ 64)) ss w.0 good.sections_end there in
-        section_ends_not w.0 over fits.0 fits.1)
+      let (there, over) = found section_overflows ss w.0 w.1 in
+      let fits = All-contains (λ s. (s.mem_offset + s.mem_size < 2 ^ 64) × (s.file_offset + s.file_size < 2 ^ 64)) ss w.0 good.sections_end there in
+      section_ends_not w.0 over fits.0 fits.1)
       (λ (w : (g : SegmentLine) × (find segment_overflows gs ≡ Some g)).
-        let (there, over) = found segment_overflows gs w.0 w.1 in
-        let fits = All-contains (λ g. (g.mem_offset + g.mem_size < 2 ^ 64) × (g.file_offset + g.file_size < 2 ^ 64)) gs w.0 good.segments_end there in
-        segment_ends_not w.0 over fits.0 fits.1)
+      let (there, over) = found segment_overflows gs w.0 w.1 in
+      let fits = All-contains (λ g. (g.mem_offset + g.mem_size < 2 ^ 64) × (g.file_offset + g.file_size < 2 ^ 64)) gs w.0 good.segments_end there in
+      segment_ends_not w.0 over fits.0 fits.1)
       (one_of_them (λ s. s.line) (λ g. g.line) (find section_overflows ss) (find segment_overflows gs) n e)
 
 -- ---- overlaps
@@ -151,9 +152,9 @@ apart_both spans x y apart (a, in_a, is_a) (b, in_b, is_b) some overlap =
     ⊎_elim
     (λ (e : a ≡ b). let same : x ≡ y = sym is_a ∙ ap (λ n. get_or spans n x) e ∙ at_y in apart_same x y same overlap.0)
     (λ (ne : a ≡ b → ⊥). ⊎_elim
-      (λ (h : a < b). apart_pair x y some overlap (rw (is_a, at_y) at (apart a b x h in_b)))
-      (λ (h : b ≤ a). apart_pair x y some overlap (swapped (rw (at_y, is_a) at (apart b a x (omega arith) in_a))))
-      (cases_lt a b))
+    (λ (h : a < b). apart_pair x y some overlap (rw (is_a, at_y) at (apart a b x h in_b)))
+    (λ (h : b ≤ a). apart_pair x y some overlap (swapped (rw (at_y, is_a) at (apart b a x (omega arith) in_a))))
+    (cases_lt a b))
     (cases_eq a b)
 
 counted_in_memory : (s : SectionLine) → counts_in_memory s ≡ true → 0 < s.mem_size

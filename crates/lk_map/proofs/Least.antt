@@ -1,5 +1,5 @@
 -- The least line of what isn't held, section by section, and that it is the line of the first.
-use Rattle.std.proofs.Common.{◌≡◌, ℕ, zero, suc, ◌+◌, ◌-◌, ◌^◌, ◌<◌, ◌≤◌, ◌⊎◌, Bool, true, false, cond, List, [], ◌∷◌, ◌++◌, Option, Some, None, length, get_or, take, map, min, refl, sym, ap, ◌∙◌, subst, inl, inr, ⊎_elim, arith}
+use Rattle.std.proofs.Common.{◌≡◌, ℕ, zero, suc, ◌+◌, ◌^◌, ◌<◌, ◌≤◌, ◌⊎◌, Bool, true, false, cond, List, [], ◌∷◌, ◌++◌, Option, Some, None, length, get_or, take, map, min, refl, sym, ap, ◌∙◌, subst, inl, inr, ⊎_elim, arith}
 use Rattle.std.specs.Prelude.{◌&&◌, ◌||◌, not, nat_lt, if◌then◌else◌, option_map}
 use Rattle.std.specs.List.{All, AllPairs, Contains, filter, find, list_any}
 use Rattle.std.specs.List.Sorted.{IsPermutation, IsSorted}
@@ -30,12 +30,13 @@ least_first offers = All-nil (λ n. is_unserved offers n ≡ false)
 
 least_kept : (offers : List Offer) (ns : List Need) (least : Option ℕ) (n : Need) → IsLeast offers ns least → is_unserved offers n ≡ false → IsLeast offers (ns ++ n ∷ []) least
 least_kept offers ns None n all held = All-push (λ m. is_unserved offers m ≡ false) ns n all held
-least_kept offers ns (Some line) n ((m, m_in, m_out, is), low) held =
-    ((m, Contains-append_left ns (n ∷ []) m m_in, m_out, is),
-     λ k k_in k_out. ⊎_elim
-        (λ (h : Contains ns k). low k h k_out)
-        (λ (e : n ≡ k). absurd (false≢true (sym held ∙ ap (is_unserved offers) e ∙ k_out)))
-        (Contains-push_cases ns n k k_in))
+least_kept offers ns (Some line) n ((m, m_in, m_out, is), low) held = (
+  (m, Contains-append_left ns (n ∷ []) m m_in, m_out, is),
+  λ k k_in k_out. ⊎_elim
+      (λ (h : Contains ns k). low k h k_out)
+      (λ (e : n ≡ k). absurd (false≢true (sym held ∙ ap (is_unserved offers) e ∙ k_out)))
+      (Contains-push_cases ns n k k_in),
+)
 
 the_min_left : (m line other : ℕ) → m ≡ line → line < other → m ≡ min line other
 the_min_left m line other e h = omega arith
@@ -44,21 +45,23 @@ the_min_right : (line other : ℕ) → other ≤ line → other ≡ min line oth
 the_min_right line other h = omega arith
 
 least_lowered : (offers : List Offer) (ns : List Need) (least : Option ℕ) (n : Need) → IsLeast offers ns least → is_unserved offers n ≡ true → IsLeast offers (ns ++ n ∷ []) (Some (lesser_line least n.line))
-least_lowered offers ns None n all out =
-    ((n, Contains-push ns n, out, refl),
-     λ k k_in k_out. ⊎_elim
-        (λ (h : Contains ns k). absurd (false≢true (sym (All-contains (λ m. is_unserved offers m ≡ false) ns k all h) ∙ k_out)))
-        (λ (e : n ≡ k). let same : n.line ≡ k.line = ap (λ m. m.line) e in omega arith)
-        (Contains-push_cases ns n k k_in))
-least_lowered offers ns (Some line) n ((m, m_in, m_out, is), low) out =
-    (⊎_elim
+least_lowered offers ns None n all out = (
+  (n, Contains-push ns n, out, refl),
+  λ k k_in k_out. ⊎_elim
+      (λ (h : Contains ns k). absurd (false≢true (sym (All-contains (λ m. is_unserved offers m ≡ false) ns k all h) ∙ k_out)))
+      (λ (e : n ≡ k). let same : n.line ≡ k.line = ap (λ m. m.line) e in omega arith)
+      (Contains-push_cases ns n k k_in),
+)
+least_lowered offers ns (Some line) n ((m, m_in, m_out, is), low) out = (
+  ⊎_elim
       (λ (h : line < n.line). (m, Contains-append_left ns (n ∷ []) m m_in, m_out, the_min_left m.line line n.line is h))
       (λ (h : n.line ≤ line). (n, Contains-push ns n, out, the_min_right line n.line h))
       (cases_lt line n.line),
-     λ k k_in k_out. ⊎_elim
-        (λ (h : Contains ns k). let below : line ≤ k.line = low k h k_out in omega arith)
-        (λ (e : n ≡ k). let same : n.line ≡ k.line = ap (λ m. m.line) e in omega arith)
-        (Contains-push_cases ns n k k_in))
+  λ k k_in k_out. ⊎_elim
+      (λ (h : Contains ns k). let below : line ≤ k.line = low k h k_out in omega arith)
+      (λ (e : n ≡ k). let same : n.line ≡ k.line = ap (λ m. m.line) e in omega arith)
+      (Contains-push_cases ns n k k_in),
+)
 
 least_step : (offers : List Offer) (ns : List Need) (least : Option ℕ) (n : Need) (held : Bool) → IsLeast offers ns least → is_unserved offers n ≡ not held → IsLeast offers (ns ++ n ∷ []) (if held then least else Some (lesser_line least n.line))
 least_step offers ns least n true so h = least_kept offers ns least n so h
@@ -81,9 +84,10 @@ unserved_anyhow xs ys p n = ap not (sym (list_any-IsPermutation (λ o. serves o 
 least_anyhow : (offers sorted : List Offer) (needs ns : List Need) (least : Option ℕ) → IsPermutation offers sorted → IsPermutation needs ns → IsLeast sorted ns least → IsLeast offers needs least
 least_anyhow offers sorted needs ns None p q all = λ k d h.
     sym (unserved_anyhow offers sorted p (get_or needs k d)) ∙ All-contains (λ n. is_unserved sorted n ≡ false) ns (get_or needs k d) all (Contains-permutation needs ns (get_or needs k d) q (Contains-get_or needs k d h))
-least_anyhow offers sorted needs ns (Some line) p q ((n, n_in, n_out, is), low) =
-    ((n, Contains-permutation ns needs n (IsPermutation-sym needs ns q) n_in, sym (unserved_anyhow offers sorted p n) ∙ n_out, is),
-     λ k k_in k_out. low k (Contains-permutation needs ns k q k_in) (unserved_anyhow offers sorted p k ∙ k_out))
+least_anyhow offers sorted needs ns (Some line) p q ((n, n_in, n_out, is), low) = (
+  (n, Contains-permutation ns needs n (IsPermutation-sym needs ns q) n_in, sym (unserved_anyhow offers sorted p n) ∙ n_out, is),
+  λ k k_in k_out. low k (Contains-permutation needs ns k q k_in) (unserved_anyhow offers sorted p k ∙ k_out),
+)
 
 -- ---- sections and segments as they are gone through
 
@@ -180,12 +184,12 @@ find_least_case : (test : SectionLine → Bool) (x : SectionLine) (xs : List Sec
 find_least_case test x xs s true is rise s_in out low rest =
     let below : s.line ≤ x.line = low x (first_in x xs) is in
     ap Some (⊎_elim
-      (λ (e : x ≡ s). ap (λ t. t.line) e)
-      (λ (c : Contains xs s). let (k, h, at) = c in
-        let above : x.line < (get_or xs k s).line = rise 0 (suc k) s (omega arith) (omega arith) in
-        let same : (get_or xs k s).line ≡ s.line = ap (λ t. t.line) at in
-        absurd (omega arith))
-      (cons_cases x xs s s_in))
+    (λ (e : x ≡ s). ap (λ t. t.line) e)
+    (λ (c : Contains xs s). let (k, h, at) = c in
+    let above : x.line < (get_or xs k s).line = rise 0 (suc k) s (omega arith) (omega arith) in
+    let same : (get_or xs k s).line ≡ s.line = ap (λ t. t.line) at in
+    absurd (omega arith))
+    (cons_cases x xs s s_in))
 find_least_case test x xs s false is rise s_in out low rest =
     ⊎_elim
     (λ (e : x ≡ s). absurd (false≢true (sym is ∙ ap test e ∙ out)))
@@ -229,15 +233,15 @@ module _ (ss : List SectionLine) (gs : List SegmentLine) (s_ends : All Ends ss) 
   unfolding first_outside NeedFrom
   least_is_first None rise all =
       sym (ap (option_map (λ s. s.line)) (find_none (is_outside gs) ss (λ k d h.
-        inside (get_or ss k d) (Contains-get_or ss k d h) (λ needs. All-contains (λ n. is_unserved (map offer_of gs) n ≡ false) (needs_of ss) (need_of (get_or ss k d)) all (in_needs ss (get_or ss k d) (Contains-get_or ss k d h) needs)))))
+      inside (get_or ss k d) (Contains-get_or ss k d h) (λ needs. All-contains (λ n. is_unserved (map offer_of gs) n ≡ false) (needs_of ss) (need_of (get_or ss k d)) all (in_needs ss (get_or ss k d) (Contains-get_or ss k d h) needs)))))
   least_is_first (Some line) rise ((n, n_in, n_out, is), low) =
       let (s, s_in, needs, e) = from_needs ss n n_in in
       let same : s.line ≡ line = ap (λ m. m.line) e ∙ is in
       let out : is_outside gs s ≡ true = is_out s s_in needs (ap (is_unserved (map offer_of gs)) e ∙ n_out) in
       ap Some (sym same) ∙ sym (find_least (is_outside gs) ss s rise s_in out (λ t t_in t_out.
-        let (t_needs, t_unserved) = out_is t t_in t_out in
-        let above : line ≤ t.line = low (need_of t) (in_needs ss t t_in t_needs) t_unserved in
-        omega arith))
+      let (t_needs, t_unserved) = out_is t t_in t_out in
+      let above : line ≤ t.line = low (need_of t) (in_needs ss t t_in t_needs) t_unserved in
+      omega arith))
 
 -- ---- in order
 
@@ -303,10 +307,14 @@ later_from : (n m : Need) → Starts n m → clash n m ≡ false → n.start < n
 unfolding Starts clash
 later_from n m (inl h) apart n_some m_some = inl h
 later_from n m (inr (e, h)) apart n_some m_some =
-    inr (e, h, ⊎_elim
-      (λ (a : nat_lt n.start m.file_end ≡ false). let low : m.file_end ≤ n.start = not_below n.start m.file_end a in absurd (omega arith))
-      (λ (a : nat_lt m.start n.file_end ≡ false). let low : n.file_end ≤ m.start = not_below m.start n.file_end a in omega arith)
-      (and_left_or (nat_lt n.start m.file_end) (nat_lt m.start n.file_end) apart))
+    inr (
+      e,
+      h,
+      ⊎_elim
+          (λ (a : nat_lt n.start m.file_end ≡ false). let low : m.file_end ≤ n.start = not_below n.start m.file_end a in absurd (omega arith))
+          (λ (a : nat_lt m.start n.file_end ≡ false). let low : n.file_end ≤ m.start = not_below m.start n.file_end a in omega arith)
+          (and_left_or (nat_lt n.start m.file_end) (nat_lt m.start n.file_end) apart),
+    )
 
 needs_in_order : (needs ns : List Need) → IsPermutation needs ns → AllPairs (λ n m. clash n m ≡ false) needs → All (λ n. n.start < n.file_end) needs →
     IsSorted (λ x y. ordering_then (nat_cmp x.distance y.distance) (ordering_then (nat_cmp x.start y.start) (ordering_then (nat_cmp x.file_end y.file_end) (ordering_then (nat_cmp x.mem_end y.mem_end) (nat_cmp x.line y.line))))) ns → NeedsRise ns

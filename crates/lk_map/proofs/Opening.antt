@@ -1,13 +1,12 @@
 -- Segments that are open, section by section.
-use Rattle.std.proofs.Common.{◌≡◌, ℕ, zero, suc, ◌+◌, ◌<◌, ◌≤◌, ◌⊎◌, Bool, true, false, List, [], ◌∷◌, Option, Some, None, length, get_or, take, refl, sym, ap, ◌∙◌, subst, inl, inr, ⊎_elim, arith}
+use Rattle.std.proofs.Common.{◌≡◌, ℕ, zero, suc, ◌+◌, ◌<◌, ◌≤◌, ◌⊎◌, Bool, true, false, List, [], ◌∷◌, length, get_or, refl, sym, ap, ◌∙◌, subst, inl, inr, ⊎_elim, arith}
 use Rattle.std.specs.Prelude.{IsTrue, ◌↔◌, ◌&&◌, ◌||◌, ◌==◌, nat_le, not}
 use Rattle.std.specs.Bool.{MatchBool}
 use Rattle.std.specs.BinaryHeap.{IsHeap}
-use Rattle.std.specs.List.{All, AllPairs, Contains, list_any}
+use Rattle.std.specs.List.{All, Contains, list_any}
 use Rattle.std.specs.List.Sorted.{IsPermutation}
 use Rattle.std.proofs.lemmas.Bool.{cases_eq, cases_lt, false≢true}
 use Rattle.std.proofs.lemmas.Bool.Decides.{nat_tests}
-use Rattle.std.proofs.lemmas.List.{get_or_default}
 use Rattle.std.proofs.lemmas.List.Elements.{Contains-get_or}
 use Rattle.std.proofs.lemmas.List.Sorted.{Contains-permutation, IsPermutation-sym}
 use Rattle.lk_map.specs.declared.sweep.Need.{Need}
@@ -159,9 +158,9 @@ module _ (offers : List Offer) (next now : ℕ) (need : Need) (old mid new : Lis
         only = λ x h. ⊎_elim
             (λ (e : open_of o ≡ x). inr (now, from, omega arith, λ d. ap open_of (is d) ∙ e))
             (λ (c : Contains mid x). ⊎_elim
-              (λ (a : Contains old x). inl a)
-              (λ (w : (k : ℕ) × (next ≤ k) × (k < now) × ((d : Offer) → open_of (get_or offers k d) ≡ x)). let low = w.2 in inr (w.0, w.1, omega arith, w.3))
-              (so.only x c))
+            (λ (a : Contains old x). inl a)
+            (λ (w : (k : ℕ) × (next ≤ k) × (k < now) × ((d : Offer) → open_of (get_or offers k d) ≡ x)). let low = w.2 in inr (w.0, w.1, omega arith, w.3))
+            (so.only x c))
             (cons_cases (open_of o) mid x (Contains-permutation new (open_of o ∷ mid) x (IsPermutation-sym (open_of o ∷ mid) new p) h));
       }
 
@@ -175,8 +174,8 @@ module _ (offers : List Offer) (next now : ℕ) (need : Need) (old mid new : Lis
   opens_stop o below is not_begun rise = up_to (λ k d a b has. ⊎_elim
       (λ (e : k ≡ now). not_begun (subst (λ p. HasBegun p need) (is d) (subst (λ n. HasBegun (get_or offers n d) need) e has)))
       (λ (ne : k ≡ now → ⊥).
-        let later : StartsLater (get_or offers now d) (get_or offers k d) = rise now k d (omega arith) b in
-        not_begun (subst (λ p. HasBegun p need) (is d) (began_before (get_or offers now d) (get_or offers k d) need later has)))
+      let later : StartsLater (get_or offers now d) (get_or offers k d) = rise now k d (omega arith) b in
+      not_begun (subst (λ p. HasBegun p need) (is d) (began_before (get_or offers now d) (get_or offers k d) need later has)))
       (cases_eq k now))
 
 -- ---- letting go
@@ -190,9 +189,9 @@ lets_go_more need old mid new x so p spent order = record {
   only = λ y h. so.only y (Contains-permutation (x ∷ new) mid y (IsPermutation-sym mid (x ∷ new) p) (in_cons x new y h));
   kept = λ y h. ⊎_elim
       (λ (c : Contains mid y). ⊎_elim
-        (λ (e : x ≡ y). inr (subst (λ z. IsSpent z need) e spent))
-        (λ (k : Contains new y). inl k)
-        (cons_cases x new y (Contains-permutation mid (x ∷ new) y p c)))
+      (λ (e : x ≡ y). inr (subst (λ z. IsSpent z need) e spent))
+      (λ (k : Contains new y). inl k)
+      (cons_cases x new y (Contains-permutation mid (x ∷ new) y p c)))
       (λ (s : IsSpent y need). inr s)
       (so.kept y h);
 }
@@ -253,9 +252,9 @@ module _ (offers : List Offer) (next now : ℕ) (needs : List Need) (i : ℕ) (n
   in_mid k d h =
       ⊎_elim
       (λ (low : k < next). ⊎_elim
-        (λ (c : Contains old (open_of (get_or offers k d))). inl (up.kept (open_of (get_or offers k d)) c))
-        (λ (s : IsSpent (open_of (get_or offers k d)) (get_or needs i need)). inr (subst (IsSpent (open_of (get_or offers k d))) (is need) s))
-        (open_for.kept k d i need low (omega arith) below))
+      (λ (c : Contains old (open_of (get_or offers k d))). inl (up.kept (open_of (get_or offers k d)) c))
+      (λ (s : IsSpent (open_of (get_or offers k d)) (get_or needs i need)). inr (subst (IsSpent (open_of (get_or offers k d))) (is need) s))
+      (open_for.kept k d i need low (omega arith) below))
       (λ (high : next ≤ k). inl (up.opened k d high h).0)
       (cases_lt k next)
 
@@ -289,9 +288,9 @@ module _ (offers : List Offer) (next now : ℕ) (needs : List Need) (i : ℕ) (n
       begun = λ k d j e h a b. began_later (get_or offers k d) need (get_or needs j e) (later rise j e a b) (begun_here k d h);
       kept = λ k d j e h a b. ⊎_elim
           (λ (low : k < next). ⊎_elim
-            (λ (c : Contains old (open_of (get_or offers k d))). kept_mid rise k d j e a b (up.kept (open_of (get_or offers k d)) c))
-            (λ (s : IsSpent (open_of (get_or offers k d)) (get_or needs i e)). inr (spent_later (open_of (get_or offers k d)) need (get_or needs j e) (later rise j e a b) (subst (IsSpent (open_of (get_or offers k d))) (is e) s)))
-            (open_for.kept k d i e low (omega arith) below))
+          (λ (c : Contains old (open_of (get_or offers k d))). kept_mid rise k d j e a b (up.kept (open_of (get_or offers k d)) c))
+          (λ (s : IsSpent (open_of (get_or offers k d)) (get_or needs i e)). inr (spent_later (open_of (get_or offers k d)) need (get_or needs j e) (later rise j e a b) (subst (IsSpent (open_of (get_or offers k d))) (is e) s)))
+          (open_for.kept k d i e low (omega arith) below))
           (λ (high : next ≤ k). kept_mid rise k d j e a b (up.opened k d high h).0)
           (cases_lt k next);
     }
@@ -315,14 +314,14 @@ module _ (offers : List Offer) (next now : ℕ) (needs : List Need) (i : ℕ) (n
         let (dist, start, file, memory) = serves_is (get_or offers k d) need hit in
         ⊎_elim
         (λ (low : k < now).
-          let c : Contains mid (open_of (get_or offers k d)) ⊎ IsSpent (open_of (get_or offers k d)) need = in_mid k d low in
-          ⊎_elim
-          (λ (m : Contains mid (open_of (get_or offers k d))). ⊎_elim
-            (λ (n : Contains new (open_of (get_or offers k d))). none (open_of (get_or offers k d), n, dist, memory))
-            (λ (s : IsSpent (open_of (get_or offers k d)) need). not_spent_of (open_of (get_or offers k d)) need dist file s)
-            (go.kept (open_of (get_or offers k d)) m))
-          (λ (s : IsSpent (open_of (get_or offers k d)) need). not_spent_of (open_of (get_or offers k d)) need dist file s)
-          c)
+        let c : Contains mid (open_of (get_or offers k d)) ⊎ IsSpent (open_of (get_or offers k d)) need = in_mid k d low in
+        ⊎_elim
+        (λ (m : Contains mid (open_of (get_or offers k d))). ⊎_elim
+        (λ (n : Contains new (open_of (get_or offers k d))). none (open_of (get_or offers k d), n, dist, memory))
+        (λ (s : IsSpent (open_of (get_or offers k d)) need). not_spent_of (open_of (get_or offers k d)) need dist file s)
+        (go.kept (open_of (get_or offers k d)) m))
+        (λ (s : IsSpent (open_of (get_or offers k d)) need). not_spent_of (open_of (get_or offers k d)) need dist file s)
+        c)
         (λ (high : now ≤ k). up.rest k d high h (inr (dist, start)))
         (cases_lt k now)))
 

@@ -1,20 +1,20 @@
 -- The first overlap of ranges, found among neighbours in the order of starts.
-use Rattle.std.proofs.Common.{◌≡◌, ◌≢◌, ℕ, zero, suc, ◌+◌, ◌<◌, ◌≤◌, ◌⊎◌, Bool, true, false, cond, eqb, List, [], ◌∷◌, Option, Some, None, length, get_or, refl, sym, ap, ◌∙◌, subst, inl, inr, ⊎_elim, arith, min, max, map}
+use Rattle.std.proofs.Common.{◌≡◌, ◌≢◌, ℕ, zero, suc, ◌+◌, ◌<◌, ◌≤◌, ◌⊎◌, Bool, true, false, cond, List, [], ◌∷◌, length, get_or, refl, sym, ◌∙◌, subst, inl, inr, ⊎_elim, arith, map}
 use Rattle.std.specs.Prelude.{◌==◌}
-use Rattle.std.specs.List.{All, AllPairs, AllAdjacentBelow, Contains, filter}
+use Rattle.std.specs.List.{All, AllPairs, Contains, filter}
 use Rattle.std.specs.List.Sorted.{IsPermutation}
 use Rattle.std.specs.Ordering.{is_lt, nat_cmp, ordering_then}
 use Rattle.std.proofs.lemmas.Bool.{cases_eq, cases_lt}
 use Rattle.std.proofs.lemmas.Bool.Decides.{nat_tests}
 use Rattle.std.proofs.lemmas.List.{get_or_default}
 use Rattle.std.proofs.lemmas.List.Elements.{All-filter, All-map, Contains-get_or}
-use Rattle.std.proofs.lemmas.List.Sorted.{Contains-permutation, IsPermutation-sym, length_permutation}
+use Rattle.std.proofs.lemmas.List.Sorted.{Contains-permutation, IsPermutation-sym}
 use Rattle.std.proofs.lemmas.Map.Keys.{apart_from_distinct, IsDistinct-from_apart, IsDistinct-IsPermutation}
 use Rattle.lk_map.specs.declared.map_text.SectionLine.{SectionLine}
 use Rattle.lk_map.specs.declared.spans.Span.{Span}
 use Rattle.lk_map.specs.MapText.{LinesRise}
 use Rattle.lk_map.specs.Sorted.{NeighboursApart, StartsBelow}
-use Rattle.lk_map.specs.Spans.{AreApart, FindsOverlap, IsBefore, IsFirstOverlap, LinesRiseIn, Overlaps}
+use Rattle.lk_map.specs.Spans.{AreApart, IsBefore, IsFirstOverlap, LinesRiseIn}
 
 -- ---- lines that differ
 
@@ -37,7 +37,7 @@ differ_is x y h e = grind (arith, nat_tests)
 neighbours_differ : (xs ys : List Span) → IsPermutation xs ys → LinesRiseIn xs → (k : ℕ) (d : Span) → k + 1 < length ys → (get_or ys k d).line ≢ (get_or ys (k + 1) d).line
 neighbours_differ xs ys p rise k d h =
     let distinct = IsDistinct-IsPermutation same_line same_either_way xs ys p
-        (IsDistinct-from_apart same_line xs (λ i j e below within. differ_from_rise (get_or xs i e) (get_or xs j e) (rise i j e below within))) in
+    (IsDistinct-from_apart same_line xs (λ i j e below within. differ_from_rise (get_or xs i e) (get_or xs j e) (rise i j e below within))) in
     differ_is (get_or ys k d) (get_or ys (k + 1) d) (apart_from_distinct same_line ys k (k + 1) d distinct (omega arith) h)
 
 -- ---- the order
@@ -82,9 +82,9 @@ module _ (ss : List Span) (next : (k : ℕ) (d : Span) → k + 1 < length ss →
       ⊎_elim
       (λ (e : i ≡ suc j). subst (λ n. NotAfter (get_or ss n d) (get_or ss (suc j) d)) (sym e) (after_itself (get_or ss (suc j) d)))
       (λ (ne : i ≡ suc j → ⊥).
-        let step : NotAfter (get_or ss j d) (get_or ss (j + 1) d) = next j d (omega arith) in
-        let same : j + 1 ≡ suc j = omega arith in
-        after_each (get_or ss i d) (get_or ss j d) (get_or ss (suc j) d) (far i j d (omega arith) (omega arith)) (subst (λ n. NotAfter (get_or ss j d) (get_or ss n d)) same step))
+      let step : NotAfter (get_or ss j d) (get_or ss (j + 1) d) = next j d (omega arith) in
+      let same : j + 1 ≡ suc j = omega arith in
+      after_each (get_or ss i d) (get_or ss j d) (get_or ss (suc j) d) (far i j d (omega arith) (omega arith)) (subst (λ n. NotAfter (get_or ss j d) (get_or ss n d)) same step))
       (cases_eq i (suc j))
 
   -- of two ranges the one that is before the other stands first
@@ -93,10 +93,10 @@ module _ (ss : List Span) (next : (k : ℕ) (d : Span) → k + 1 < length ss →
       ⊎_elim
       (λ (h : a < b). h)
       (λ (h : b ≤ a).
-        let order : NotAfter (get_or ss b v) (get_or ss a v) = far b a v h ha in
-        let eb' : get_or ss b v ≡ w = get_or_default ss b v w hb ∙ eb in
-        let order' : NotAfter w v = subst (λ x. NotAfter x v) eb' (subst (λ x. NotAfter (get_or ss b v) x) ea order) in
-        absurd (not_both w v order' before))
+      let order : NotAfter (get_or ss b v) (get_or ss a v) = far b a v h ha in
+      let eb' : get_or ss b v ≡ w = get_or_default ss b v w hb ∙ eb in
+      let order' : NotAfter w v = subst (λ x. NotAfter x v) eb' (subst (λ x. NotAfter (get_or ss b v) x) ea order) in
+      absurd (not_both w v order' before))
       (cases_lt a b)
 
   -- where neighbours up to a place have no byte in common, none of the ranges up to there have
@@ -107,9 +107,9 @@ module _ (ss : List Span) (next : (k : ℕ) (d : Span) → k + 1 < length ss →
       ⊎_elim
       (λ (e : i ≡ j). subst (λ n. (get_or ss n d).start + (get_or ss n d).size ≤ (get_or ss (suc j) d).start) (sym e) (subst (λ n. (get_or ss j d).start + (get_or ss j d).size ≤ (get_or ss n d).start) same (apart j d (omega arith))))
       (λ (ne : i ≡ j → ⊥).
-        let so_far : (get_or ss i d).start + (get_or ss i d).size ≤ (get_or ss j d).start = ends high apart within i j d (omega arith) (omega arith) in
-        let rises : (get_or ss j d).start ≤ (get_or ss (suc j) d).start = start_kept (get_or ss j d) (get_or ss (suc j) d) (far j (suc j) d (omega arith) (omega arith)) in
-        omega arith)
+      let so_far : (get_or ss i d).start + (get_or ss i d).size ≤ (get_or ss j d).start = ends high apart within i j d (omega arith) (omega arith) in
+      let rises : (get_or ss j d).start ≤ (get_or ss (suc j) d).start = start_kept (get_or ss j d) (get_or ss (suc j) d) (far j (suc j) d (omega arith) (omega arith)) in
+      omega arith)
       (cases_eq i j)
 
   -- the same of ranges by themselves
@@ -174,9 +174,9 @@ module _ (xs ss : List Span) (p : IsPermutation xs ss) (rise : LinesRiseIn xs) (
       let rises : v.line < w.line = rise i j d below within in
       ⊎_elim
       (λ (h : w.start < v.start).
-        inr (end_before ss next (length ss) apart (omega arith) w v has_w.0 has_v.0 (stands_first ss next w v has_w.0 has_v.0 has_w.1 has_v.1 has_w.2 has_v.2 (inl h)) has_v.1 has_w.2 has_v.2))
+      inr (end_before ss next (length ss) apart (omega arith) w v has_w.0 has_v.0 (stands_first ss next w v has_w.0 has_v.0 has_w.1 has_v.1 has_w.2 has_v.2 (inl h)) has_v.1 has_w.2 has_v.2))
       (λ (h : v.start ≤ w.start).
-        inl (end_before ss next (length ss) apart (omega arith) v w has_v.0 has_w.0 (stands_first ss next v w has_v.0 has_w.0 has_v.1 has_w.1 has_v.2 has_w.2 (before_at v w h rises)) has_w.1 has_v.2 has_w.2))
+      inl (end_before ss next (length ss) apart (omega arith) v w has_v.0 has_w.0 (stands_first ss next v w has_v.0 has_w.0 has_v.1 has_w.1 has_v.2 has_w.2 (before_at v w h rises)) has_w.1 has_v.2 has_w.2))
       (cases_lt w.start v.start)
 
 -- ---- ranges of sections
@@ -194,9 +194,9 @@ spans_rise counts span keeps (s ∷ ss) rise =
     let above : All (λ t. s.line < t.line) ss = λ k d h. rise 0 (suc k) d (omega arith) (omega arith) in
     let rest : LinesRiseIn (map span (filter counts ss)) = spans_rise counts span keeps ss (λ i j d h k. rise (suc i) (suc j) d (omega arith) (omega arith)) in
     let higher : All (λ y. (span s).line < y.line) (map span (filter counts ss)) =
-        All-map (λ (y : Span). (span s).line < y.line) span (filter counts ss)
-        (All-filter counts (λ t. (span s).line < (span t).line) ss (λ k d h. rw (keeps s, keeps (get_or ss k d)) (above k d h))) in
+    All-map (λ (y : Span). (span s).line < y.line) span (filter counts ss)
+    (All-filter counts (λ t. (span s).line < (span t).line) ss (λ k d h. rw (keeps s, keeps (get_or ss k d)) (above k d h))) in
     elim (counts s) as (λ b. LinesRiseIn (map span (cond b (s ∷ filter counts ss) (filter counts ss)))) [
-        true ↦ pairs_cons (λ x y. x.line < y.line) (span s) (map span (filter counts ss)) higher rest
+      | true ↦ pairs_cons (λ x y. x.line < y.line) (span s) (map span (filter counts ss)) higher rest
       | false ↦ rest
     ]

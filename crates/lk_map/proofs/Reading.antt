@@ -1,7 +1,7 @@
 -- A map, line by line.
-use Rattle.std.proofs.Common.{◌≡◌, ℕ, zero, suc, ◌+◌, ◌<◌, ◌≤◌, Bool, true, false, cond, List, [], ◌∷◌, ◌++◌, Option, Some, None, Result, Ok, Err, length, get_or, drop, refl, sym, ap, ◌∙◌, subst, arith}
+use Rattle.std.proofs.Common.{◌≡◌, ℕ, zero, suc, ◌+◌, ◌<◌, ◌≤◌, Bool, true, false, cond, List, [], ◌∷◌, ◌++◌, Option, Some, None, Result, Ok, Err, length, get_or, refl, sym, ap, ◌∙◌, subst, arith}
 use Rattle.std.specs.Prelude.{◌&&◌, ◌==◌, if◌then◌else◌}
-use Rattle.std.specs.List.{slice_split, onto_first, All, AllPairs}
+use Rattle.std.specs.List.{slice_split, onto_first, All}
 use Rattle.std.specs.Str.{bytes_eq}
 use Rattle.std.proofs.lemmas.List.{append-nil, append_assoc}
 use Rattle.std.proofs.lemmas.List.Elements.{All-append, All-cons, All-nil, All-weaker}
@@ -9,7 +9,7 @@ use Rattle.std.proofs.lemmas.Bool.Decides.{nat_tests}
 use Rattle.lk_map.specs.declared.forms.Form.{Form}
 use Rattle.lk_map.specs.declared.map_text.SectionLine.{SectionLine}
 use Rattle.lk_map.specs.declared.map_text.SegmentLine.{SegmentLine}
-use Rattle.lk_map.specs.Cutting.{is_byte, parts_left}
+use Rattle.lk_map.specs.Cutting.{is_byte}
 use Rattle.lk_map.specs.Forms.{follows, is_end, rank}
 use Rattle.lk_map.specs.Lines.{Line, line_of}
 use Rattle.lk_map.specs.MapText.{line_then, lines_from, map_lines, map_of, onto, parts_of, section_at, section_told, sections_of, segment_told, segments_of, told_map, LinesRise}
@@ -43,7 +43,7 @@ first_part p [] = ([], [], refl)
 first_part p (x ∷ xs) =
     let (part, parts, is) = first_part p xs in
     elim (p x) as (λ b. (first : List ℕ) × (more : List (List ℕ)) × (cond b ([] ∷ slice_split p xs) (onto_first x (slice_split p xs)) ≡ first ∷ more)) [
-        true ↦ ([], slice_split p xs, refl)
+      | true ↦ ([], slice_split p xs, refl)
       | false ↦ (x ∷ part, parts, ap (onto_first x) is)
     ]
 
@@ -112,7 +112,7 @@ lines_high n [] = All-nil (λ s. n ≤ s.line)
 lines_high n (l ∷ ls) =
     All-append (λ s. n ≤ s.line) (section_told n l.form l.values) (sections_of (n + 1) ls)
     (elim (rank l.form == 1) as (λ b. All (λ s. n ≤ s.line) (if b then section_at n l.values ∷ [] else [])) [
-        true ↦ All-cons (λ s. n ≤ s.line) (section_at n l.values) [] (omega arith) (All-nil (λ s. n ≤ s.line))
+      | true ↦ All-cons (λ s. n ≤ s.line) (section_at n l.values) [] (omega arith) (All-nil (λ s. n ≤ s.line))
       | false ↦ All-nil (λ s. n ≤ s.line)
     ])
     (All-weaker (λ s. n + 1 ≤ s.line) (λ s. n ≤ s.line) (λ s h. omega arith) (sections_of (n + 1) ls) (lines_high (n + 1) ls))
@@ -128,7 +128,7 @@ unfolding sections_of section_told
 lines_rise n [] = λ i j d h k. absurd (omega arith)
 lines_rise n (l ∷ ls) =
     elim (rank l.form == 1) as (λ b. LinesRise ((if b then section_at n l.values ∷ [] else []) ++ sections_of (n + 1) ls)) [
-        true ↦ rise_cons (section_at n l.values) (sections_of (n + 1) ls) (All-weaker (λ s. n + 1 ≤ s.line) (λ s. n < s.line) (λ s h. omega arith) (sections_of (n + 1) ls) (lines_high (n + 1) ls)) (lines_rise (n + 1) ls)
+      | true ↦ rise_cons (section_at n l.values) (sections_of (n + 1) ls) (All-weaker (λ s. n + 1 ≤ s.line) (λ s. n < s.line) (λ s h. omega arith) (sections_of (n + 1) ls) (lines_high (n + 1) ls)) (lines_rise (n + 1) ls)
       | false ↦ lines_rise (n + 1) ls
     ]
 

@@ -1,16 +1,15 @@
 -- What is refused is refused at the first line at which no map goes on.
-use Rattle.std.proofs.Common.{◌≡◌, ℕ, zero, suc, ◌+◌, ◌^◌, ◌<◌, ◌≤◌, Bool, true, false, cond, List, [], ◌∷◌, ◌++◌, Option, Some, None, Result, Ok, Err, length, map, take, refl, sym, ap, ◌∙◌, subst, arith}
+use Rattle.std.proofs.Common.{◌≡◌, ℕ, suc, ◌+◌, ◌<◌, Bool, true, false, List, [], ◌∷◌, Option, Some, None, Result, Ok, Err, length, map, take, refl, sym, ap, ◌∙◌, subst, arith}
 use Rattle.std.specs.Prelude.{◌&&◌, if◌then◌else◌}
 use Rattle.std.specs.Str.{bytes_eq}
 use Rattle.std.proofs.lemmas.Bool.{false≢true}
-use Rattle.std.proofs.lemmas.List.{take_rest}
 use Rattle.lk_map.specs.declared.forms.Form.{Form}
 use Rattle.lk_map.specs.declared.forms.Form.TheVariants as form
 use Rattle.lk_map.specs.Cutting.{is_byte}
 use Rattle.lk_map.specs.Forms.{fields_of, follows, is_end, rank}
 use Rattle.lk_map.specs.Lines.{Line, line_of}
-use Rattle.lk_map.specs.MapText.{line_then, lines_from, map_lines, onto, parts_of}
-use Rattle.lk_map.specs.Written.{CanStand, GoOn, IsFirstWrong, IsMap, line_text, RefusesFirst, StandAt}
+use Rattle.lk_map.specs.MapText.{line_then, lines_from, onto, parts_of}
+use Rattle.lk_map.specs.Written.{CanStand, GoOn, line_text, RefusesFirst, StandAt}
 use Rattle.lk_map.proofs.Reading.{first_part}
 use Rattle.lk_map.proofs.WrittenMaps.{line_again, line_is, map_is}
 
@@ -159,8 +158,8 @@ follow_case : (before : Option Form) (text : List ℕ) (parts : List (List ℕ))
 follow_case before text parts n e l true says can h rest = wrong_later before text parts n e l says can (rest (onto_err l (lines_from (n + 1) (Some l.form) parts) e h))
 follow_case before text parts n e l false says can h rest =
     wrong_here before text parts n e (sym (err_is n e h)) (λ m written can_m stand.
-      let line : l ≡ m = some_is l m (sym says ∙ ap line_of written ∙ line_again m stand) in
-      false≢true (sym can ∙ ap (λ x. follows before x.form) line ∙ can_m))
+    let line : l ≡ m = some_is l m (sym says ∙ ap line_of written ∙ line_again m stand) in
+    false≢true (sym can ∙ ap (λ x. follows before x.form) line ∙ can_m))
 
 line_case : (before : Option Form) (text : List ℕ) (parts : List (List ℕ)) (n e : ℕ) (o : Option Line) → line_of text ≡ o → line_then n before o (λ form. lines_from (n + 1) (Some form) parts) ≡ Err e →
     ((f : Form) → lines_from (n + 1) (Some f) parts ≡ Err e → IsWrongAt (Some f) parts (n + 1) e) → IsWrongAt before (text ∷ parts) n e

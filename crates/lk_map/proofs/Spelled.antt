@@ -1,14 +1,10 @@
 -- What is written of a line is read as that line, and of nothing else.
-use Rattle.std.proofs.Common.{◌≡◌, ℕ, zero, suc, ◌+◌, ◌*◌, ◌^◌, ◌<◌, ◌≤◌, Bool, true, false, cond, List, [], ◌∷◌, ◌++◌, Option, Some, None, length, get_or, take, drop, map, refl, inl, inr, ⊎_elim, ◌⊎◌, sym, ap, ◌∙◌, subst, arith}
-use Rattle.std.specs.Prelude.{◌&&◌, ◌==◌, nat_lt, if◌then◌else◌, option_map, codes}
+use Rattle.std.proofs.Common.{◌≡◌, ℕ, ◌^◌, ◌<◌, ◌≤◌, Bool, true, false, List, [], ◌∷◌, ◌++◌, Option, Some, None, take, drop, refl, inl, inr, ⊎_elim, ◌⊎◌, sym, ap, ◌∙◌, subst, arith}
+use Rattle.std.specs.Prelude.{◌&&◌, nat_lt, if◌then◌else◌, option_map, codes}
 use Rattle.std.specs.Fmt.{decimal, digits}
-use Rattle.std.specs.Int.Digits.{AllBelowBase}
-use Rattle.std.specs.List.{All, join_with_byte, slice_split}
 use Rattle.std.specs.Str.{bytes_eq}
 use Rattle.std.specs.Str.Parse.{AllDigits, digits_value, IsNumeral}
-use Rattle.std.specs.Char.{digit_value}
 use Rattle.std.proofs.lemmas.List.{take-append-drop}
-use Rattle.std.proofs.lemmas.Bool.{cases_lt, false≢true}
 use Rattle.std.proofs.lemmas.Bool.Decides.{nat_tests}
 use Rattle.std.proofs.lemmas.Fmt.{digits_is_IsNumeral}
 use Rattle.std.proofs.lemmas.Slice.Eq.{bytes_eq-Decides}
@@ -20,7 +16,7 @@ use Rattle.lk_map.specs.declared.forms.Field.TheVariants as is
 use Rattle.lk_map.specs.declared.forms.Form.{Form}
 use Rattle.lk_map.specs.declared.forms.Form.TheVariants as form
 use Rattle.lk_map.specs.Forms.{fields_of, forms, word_text}
-use Rattle.lk_map.specs.Lines.{behind, joined, Line, line_among, line_or, value_of, value_or_none, values_of}
+use Rattle.lk_map.specs.Lines.{behind, joined, Line, line_among, line_or, value_of, values_of}
 use Rattle.lk_map.specs.Numbers.{address_in, number_in}
 use Rattle.lk_map.specs.Written.{address_text, CanStand, StandAt, value_text, words_for}
 
@@ -148,8 +144,8 @@ read_number_or_none w xs e =
     ⊎_elim
     (λ (h : (bytes_eq w (codes "-") ≡ true) × (xs ≡ None ∷ [])). (None, h.1, tt, text_is w (codes "-") h.0))
     (λ (h : (n : ℕ) × (number_in 10 w ≡ Some n) × (xs ≡ Some n ∷ [])).
-      let (text, small) = number_is 10 w h.0 h.1 in
-      (Some h.0, h.2, small, text))
+    let (text, small) = number_is 10 w h.0 h.1 in
+    (Some h.0, h.2, small, text))
     (none_or_is (bytes_eq w (codes "-")) (number_in 10 w) xs e)
 
 read_address_or_none : (w : List ℕ) (xs : List (Option ℕ)) → value_of is.AddressOrNone w ≡ Some xs → Reads is.AddressOrNone w xs
@@ -158,8 +154,8 @@ read_address_or_none w xs e =
     ⊎_elim
     (λ (h : (bytes_eq w (codes "-") ≡ true) × (xs ≡ None ∷ [])). (None, h.1, tt, text_is w (codes "-") h.0))
     (λ (h : (n : ℕ) × (address_in w ≡ Some n) × (xs ≡ Some n ∷ [])).
-      let (text, small) = address_is w h.0 h.1 in
-      (Some h.0, h.2, small, text))
+    let (text, small) = address_is w h.0 h.1 in
+    (Some h.0, h.2, small, text))
     (none_or_is (bytes_eq w (codes "-")) (address_in w) xs e)
 
 -- ---- fields of a line

@@ -1,7 +1,7 @@
 -- A text is read as lines exactly where it is the map of them.
-use Rattle.std.proofs.Common.{◌≡◌, ℕ, zero, suc, ◌+◌, ◌^◌, ◌<◌, ◌≤◌, Bool, true, false, cond, List, [], ◌∷◌, ◌++◌, Option, Some, None, Result, Ok, Err, length, map, refl, inl, inr, ⊎_elim, ◌⊎◌, sym, ap, ◌∙◌, subst, arith}
-use Rattle.std.specs.Prelude.{◌&&◌, ◌==◌, nat_lt, if◌then◌else◌, codes}
-use Rattle.std.specs.Fmt.{decimal, digits}
+use Rattle.std.proofs.Common.{◌≡◌, ℕ, ◌+◌, ◌^◌, ◌<◌, ◌≤◌, Bool, true, false, List, [], ◌∷◌, ◌++◌, Option, Some, None, Result, Ok, Err, map, refl, ⊎_elim, sym, ap, ◌∙◌, subst, arith}
+use Rattle.std.specs.Prelude.{◌&&◌, nat_lt, if◌then◌else◌}
+use Rattle.std.specs.Fmt.{digits}
 use Rattle.std.specs.List.{All, flat_map, join_with_byte, list_all, slice_split}
 use Rattle.std.specs.Str.{bytes_eq}
 use Rattle.std.specs.Str.Parse.{AllDigits}
@@ -20,7 +20,7 @@ use Rattle.lk_map.specs.Cutting.{is_byte}
 use Rattle.lk_map.specs.Forms.{fields_of, follows, forms, is_end, word_text}
 use Rattle.lk_map.specs.Lines.{Line, line_among, line_of, words_of}
 use Rattle.lk_map.specs.MapText.{line_then, lines_from, map_lines, onto, parts_of}
-use Rattle.lk_map.specs.Written.{address_text, CanStand, GoOn, IsMap, line_text, ReadsMaps, StandAt, value_text, words_for}
+use Rattle.lk_map.specs.Written.{CanStand, GoOn, IsMap, line_text, ReadsMaps, StandAt, value_text, words_for}
 use Rattle.lk_map.proofs.Spelled.{first_word, form_again, line_is_of, numeral, text_is}
 
 -- ---- no word has a blank or a line feed
@@ -33,9 +33,9 @@ digit_high : (c : ℕ) → digit_value c < 16 → nat_lt 32 c ≡ true
 digit_high c h =
     ⊎_elim
     (λ (low : c < 48).
-      let test : nat_lt c 48 ≡ true = grind (arith, nat_tests) in
-      let much : digit_value c ≡ 36 = rw test refl in
-      absurd (omega arith))
+    let test : nat_lt c 48 ≡ true = grind (arith, nat_tests) in
+    let much : digit_value c ≡ 36 = rw test refl in
+    absurd (omega arith))
     (λ (high : 48 ≤ c). grind (arith, nat_tests))
     (cases_lt c 48)
 

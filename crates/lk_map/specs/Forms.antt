@@ -1,5 +1,5 @@
 -- The forms of a map's lines: the one table by which a line is read, and in which order lines stand.
-use Rattle.std.specs.Prelude.{ℕ, ◌+◌, ◌==◌, ◌&&◌, ◌||◌, nat_le, Bool, true, false, if◌then◌else◌, List, [], ◌∷◌, Option, Some, None, codes}
+use Rattle.std.specs.Prelude.{ℕ, ◌+◌, ◌==◌, ◌&&◌, ◌||◌, nat_le, Bool, false, if◌then◌else◌, List, [], ◌∷◌, Option, Some, None, codes}
 use Rattle.lk_map.specs.declared.forms.Word.{Word}
 use Rattle.lk_map.specs.declared.forms.Word.TheVariants as word
 use Rattle.lk_map.specs.declared.forms.Field.{Field}

@@ -1,8 +1,7 @@
 -- What a map's line says: its form, and the numbers that stand in it.
-use Rattle.std.specs.Prelude.{ℕ, ◌+◌, Bool, if◌then◌else◌, List, [], ◌∷◌, ◌++◌, Option, Some, None, codes, option_map}
+use Rattle.std.specs.Prelude.{ℕ, if◌then◌else◌, List, [], ◌∷◌, ◌++◌, Option, Some, None, codes, option_map}
 use Rattle.std.specs.List.{slice_split}
 use Rattle.std.specs.Str.{bytes_eq}
-use Rattle.lk_map.specs.declared.forms.Word.{Word}
 use Rattle.lk_map.specs.declared.forms.Field.{Field}
 use Rattle.lk_map.specs.declared.forms.Field.TheVariants as is
 use Rattle.lk_map.specs.declared.forms.Form.{Form}

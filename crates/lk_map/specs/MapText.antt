@@ -1,5 +1,5 @@
 -- What a map's text says: its lines, one by one, and of them the lines of sections and segments.
-use Rattle.std.specs.Prelude.{ℕ, ◌+◌, ◌<◌, ◌==◌, ◌&&◌, Bool, if◌then◌else◌, List, [], ◌∷◌, ◌++◌, Option, Some, None, Result, Ok, Err, length, slice_get, slice_index_or, ◌≡◌}
+use Rattle.std.specs.Prelude.{ℕ, ◌+◌, ◌<◌, ◌==◌, ◌&&◌, if◌then◌else◌, List, [], ◌∷◌, ◌++◌, Option, Some, None, Result, Ok, Err, slice_get, ◌≡◌}
 use Rattle.std.specs.List.{slice_split, AllPairs}
 use Rattle.std.specs.Str.{bytes_eq}
 use Rattle.lk_map.specs.declared.forms.Form.{Form}

@@ -1,5 +1,5 @@
 -- Private: ranges in the order of their starts.
-use Rattle.std.specs.Prelude.{◌≡◌, ℕ, ◌+◌, ◌<◌, ◌≤◌, ◌⊎◌, List, length, slice_index_or}
+use Rattle.std.specs.Prelude.{ℕ, ◌+◌, ◌<◌, ◌≤◌, List, slice_index_or}
 use Rattle.std.specs.List.{AllAdjacentBelow}
 use Rattle.lk_map.specs.declared.spans.Span.{Span}
 

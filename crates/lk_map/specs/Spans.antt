@@ -1,5 +1,5 @@
 -- Ranges of sections, in memory or in the file, and the first two that overlap.
-use Rattle.std.specs.Prelude.{◌≡◌, ℕ, ◌+◌, ◌<◌, ◌≤◌, ◌⊎◌, ◌==◌, ◌&&◌, not, nat_lt, Bool, List, map, min, max, Option, Some, None, length, bit_and}
+use Rattle.std.specs.Prelude.{◌≡◌, ℕ, ◌+◌, ◌<◌, ◌≤◌, ◌⊎◌, ◌==◌, ◌&&◌, not, nat_lt, Bool, List, map, min, max, Option, Some, None, bit_and}
 use Rattle.std.specs.List.{filter, AllPairs, Contains}
 use Rattle.lk_map.specs.declared.map_text.SectionLine.{SectionLine}
 use Rattle.lk_map.specs.declared.spans.Span.{Span}

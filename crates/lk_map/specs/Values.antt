@@ -1,9 +1,8 @@
 -- Private: what the values of a line are, as the code holds them.
 use Rattle.std.specs.Prelude.{ℕ, Bool, true, false, List, [], ◌∷◌, Option, Some, None, take}
-use Rattle.std.specs.List.{slice_split}
 use Rattle.lk_map.specs.declared.forms.Form.{Form}
 use Rattle.lk_map.specs.declared.lines.Values.{Values}
-use Rattle.lk_map.specs.Cutting.{is_byte, parts_left}
+use Rattle.lk_map.specs.Cutting.{parts_left}
 use Rattle.lk_map.specs.Lines.{Line}
 
 -- the values

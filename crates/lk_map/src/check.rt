@@ -99,7 +99,11 @@ pub fn is_in_need(section: &SectionLine) -> bool
 }
 
 /// The first fault of sections and segments. The lines of sections rise.
-fn check_lines(alloc: Global, sections: &[SectionLine], segments: &[SegmentLine]) -> Result<(), MapFault>
+fn check_lines(
+    alloc: Global,
+    sections: &[SectionLine],
+    segments: &[SegmentLine],
+) -> Result<(), MapFault>
     requires { LinesRise sections.now }
     ensures { Judges result sections.now segments.now }
 {

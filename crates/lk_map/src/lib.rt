@@ -12,5 +12,5 @@ mod numbers;
 mod spans;
 mod sweep;
 
-pub use crate::check::{check_map, MapFault};
-pub use crate::map_text::{read_map, MapError, MapText, SectionLine, SegmentLine};
+pub use crate::check::{MapFault, check_map};
+pub use crate::map_text::{MapError, MapText, SectionLine, SegmentLine, read_map};

@@ -8,7 +8,7 @@ ghost use Rattle.lk_map.specs.MapText.{number_at};
 ghost use Rattle.lk_map.specs.Values.{line_if, shown, values_if, words_at};
 
 use crate::cut::cut;
-use crate::forms::{fields, text_of, Field, Form, FORMS, MOST_FIELDS};
+use crate::forms::{FORMS, Field, Form, MOST_FIELDS, fields, text_of};
 use crate::numbers::{read_address, read_number};
 
 /// The values of a line: none where `-` stands.

@@ -6,8 +6,8 @@ ghost use Rattle.lk_map.specs.MapText.{map_of, section_at, section_told, segment
 ghost use Rattle.lk_map.specs.Values.{shown};
 
 use crate::cut::cut;
-use crate::forms::{rank_of, Form};
-use crate::lines::{read_line, Values};
+use crate::forms::{Form, rank_of};
+use crate::lines::{Values, read_line};
 use std::alloc::{AllocError, Global};
 
 /// The line of an output section.

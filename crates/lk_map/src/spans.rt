@@ -110,7 +110,10 @@ fn first_overlap(spans: &mut [Span]) -> Option<(usize, usize)>
 }
 
 /// The lines of the first two sections that overlap in memory.
-pub fn overlap_in_memory(alloc: Global, sections: &[SectionLine]) -> Result<Option<(usize, usize)>, AllocError>
+pub fn overlap_in_memory(
+    alloc: Global,
+    sections: &[SectionLine],
+) -> Result<Option<(usize, usize)>, AllocError>
     requires { LinesRise sections.now }
     ensures { IfOk result (λ lines. FindsOverlap (memory_spans sections.now) lines) }
 {
@@ -119,7 +122,10 @@ pub fn overlap_in_memory(alloc: Global, sections: &[SectionLine]) -> Result<Opti
 }
 
 /// The lines of the first two sections that overlap in the file.
-pub fn overlap_in_file(alloc: Global, sections: &[SectionLine]) -> Result<Option<(usize, usize)>, AllocError>
+pub fn overlap_in_file(
+    alloc: Global,
+    sections: &[SectionLine],
+) -> Result<Option<(usize, usize)>, AllocError>
     requires { LinesRise sections.now }
     ensures { IfOk result (λ lines. FindsOverlap (file_spans sections.now) lines) }
 {

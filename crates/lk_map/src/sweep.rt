@@ -110,8 +110,7 @@ fn all_offers(alloc: Global, segments: &[SegmentLine]) -> Result<Vec<Offer>, All
 fn has_begun(offer: &Offer, need: &Need) -> bool
     ensures { IsTrue result ↔ HasBegun offer.now need.now }
 {
-    offer.distance < need.distance
-        || (offer.distance == need.distance && offer.start <= need.start)
+    offer.distance < need.distance || (offer.distance == need.distance && offer.start <= need.start)
 }
 
 /// Whether a segment ends before a section does.

@@ -1,4 +1,4 @@
-use Rattle.std.proofs.Common.{◌≡◌, None, sym, ◌∙◌}
+use Rattle.std.proofs.Common.{sym, ◌∙◌}
 use Rattle.lk_map.specs.Spans.{FindsOverlap}
 use Rattle.lk_map.proofs.check.check_lines.Goals as goal
 

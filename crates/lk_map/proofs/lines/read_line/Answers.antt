@@ -1,4 +1,4 @@
-use Rattle.std.proofs.Common.{◌≡◌, ℕ, ◌∷◌, Some}
+use Rattle.std.proofs.Common.{◌∷◌}
 use Rattle.std.specs.Prelude.{option_copied}
 use Rattle.lk_map.specs.Cutting.{parts_left}
 use Rattle.lk_map.specs.Forms.{forms}

@@ -1,4 +1,4 @@
-use Rattle.std.proofs.Common.{◌≡◌, ℕ, ◌+◌, ◌≤◌, length}
+use Rattle.std.proofs.Common.{◌≡◌, ◌+◌, ◌≤◌, length}
 use Rattle.lk_map.specs.MapText.{lines_from, map_of, parts_of}
 use Rattle.lk_map.proofs.Reading.{told_by}
 use Rattle.lk_map.proofs.map_text.read_map.Given as goal

@@ -1,4 +1,3 @@
-use Rattle.std.proofs.Common.{◌≡◌, ℕ}
 use Rattle.lk_map.proofs.Digits.{IsWrittenSo}
 use Rattle.lk_map.proofs.numbers.is_written.Given as goal
 

@@ -1,4 +1,4 @@
-use Rattle.std.proofs.Common.{◌≡◌, ℕ, sym, ◌∙◌}
+use Rattle.std.proofs.Common.{sym, ◌∙◌}
 use Rattle.lk_map.proofs.Digits.{value_kept, value_lost}
 use Rattle.lk_map.proofs.numbers.value_in.Goals as goal
 

@@ -1,4 +1,4 @@
-use Rattle.std.proofs.Common.{◌≡◌, ℕ, ◌+◌, ◌<◌, List, Some, None, length, get_or, sym, ◌∙◌, arith}
+use Rattle.std.proofs.Common.{ℕ, ◌+◌, ◌<◌, List, length, get_or, arith}
 use Rattle.std.specs.List.Sorted.{IsSorted}
 use Rattle.std.specs.Ordering.{nat_cmp, ordering_then}
 use Rattle.lk_map.specs.declared.spans.Span.{Span}
@@ -13,13 +13,16 @@ pub returns-in_err-place : goal.returns-in_err-place
 unfolding FindsOverlap
 returns-in_err-place c =
     rw c.from_residual.ensures
-     (none_found c.args.spans.now c.sort_unstable.new.self c.sort_unstable.ensures.permutation c.requires (next c.sort_unstable.new.self c.sort_unstable.ensures.sorted) (c.in_err-place.ensures {u = tt}))
+    (none_found c.args.spans.now c.sort_unstable.new.self c.sort_unstable.ensures.permutation c.requires (next c.sort_unstable.new.self c.sort_unstable.ensures.sorted) (c.in_err-place.ensures {u = tt}))
 
 pub returns : goal.returns
 unfolding FindsOverlap
 returns c =
     let d : Span = record { start = 0; line = 0; size = 0 } in
-    let (within, apart, below) = c.in_ok-place.ensures {u = tt} in
-    (get_or c.sort_unstable.new.self c.in_ok-place.place d, get_or c.sort_unstable.new.self (c.in_ok-place.place + 1) d,
-     overlap_found c.args.spans.now c.sort_unstable.new.self c.sort_unstable.ensures.permutation c.requires (next c.sort_unstable.new.self c.sort_unstable.ensures.sorted) c.in_ok-place.place d within apart below,
-     c.min.ensures, c.max.ensures)
+    let (within, apart, below) = c.in_ok-place.ensures {u = tt} in (
+      get_or c.sort_unstable.new.self c.in_ok-place.place d,
+      get_or c.sort_unstable.new.self (c.in_ok-place.place + 1) d,
+      overlap_found c.args.spans.now c.sort_unstable.new.self c.sort_unstable.ensures.permutation c.requires (next c.sort_unstable.new.self c.sort_unstable.ensures.sorted) c.in_ok-place.place d within apart below,
+      c.min.ensures,
+      c.max.ensures,
+    )

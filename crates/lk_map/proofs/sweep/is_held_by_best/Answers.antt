@@ -1,4 +1,3 @@
-use Rattle.std.proofs.Common.{◌≡◌, sym}
 use Rattle.std.specs.BinaryHeap.{heap_items}
 use Rattle.lk_map.proofs.Opening.{best_decides, lets_go_more, so_false, so_true}
 use Rattle.lk_map.proofs.sweep.is_held_by_best.Goals as goal

@@ -1,4 +1,4 @@
-use Rattle.std.proofs.Common.{◌≡◌, ℕ, ◌+◌, get_or, take, sym, subst}
+use Rattle.std.proofs.Common.{◌+◌, get_or, take, sym, subst}
 use Rattle.std.specs.BinaryHeap.{heap_items}
 use Rattle.std.proofs.lemmas.List.{get_or_default}
 use Rattle.lk_map.specs.declared.sweep.Need.{Need}
@@ -21,16 +21,17 @@ is_held_by_best-is_held-requires-clause-near c =
 
 pub loop-need-preserved : goal.loop-need-preserved
 loop-need-preserved c =
-    let is = λ (d : Need). get_or_default c.args.needs.now c.loop-need.need-index d some_need c.loop-need-test.true in
-    (open_next c.args.offers.now c.loop-need.next c.in_ok-next.next c.args.needs.now c.loop-need.need-index (get_or c.args.needs.now c.loop-need.need-index some_need)
-      (heap_items c.loop-need.heap) (heap_items c.open_up_to.new.heap) (heap_items c.is_held_by_best-is_held.new.heap) c.loop-need.invariant.0 c.loop-need-test.true is (c.in_ok-next.ensures {u = tt})
-      c.is_held_by_best-is_held.ensures.left c.requires.needs,
-     subst (λ o. IsLeast c.args.offers.now (take (c.loop-need.need-index + 1) c.args.needs.now) o) (sym c.lesser-least.ensures)
-      (least_more c.args.offers.now c.args.needs.now c.loop-need.need-index c.loop-need.least (get_or c.args.needs.now c.loop-need.need-index some_need) c.is_held_by_best-is_held.result c.loop-need-test.true is
-       c.loop-need.invariant.1
-       (served_so c.args.offers.now c.loop-need.next c.in_ok-next.next c.args.needs.now c.loop-need.need-index (get_or c.args.needs.now c.loop-need.need-index some_need)
-        (heap_items c.loop-need.heap) (heap_items c.open_up_to.new.heap) (heap_items c.is_held_by_best-is_held.new.heap) c.loop-need.invariant.0 c.loop-need-test.true is (c.in_ok-next.ensures {u = tt})
-        c.is_held_by_best-is_held.ensures.left c.is_held_by_best-is_held.result c.is_held_by_best-is_held.ensures.found)))
+    let is = λ (d : Need). get_or_default c.args.needs.now c.loop-need.need-index d some_need c.loop-need-test.true in (
+      open_next c.args.offers.now c.loop-need.next c.in_ok-next.next c.args.needs.now c.loop-need.need-index (get_or c.args.needs.now c.loop-need.need-index some_need)
+          (heap_items c.loop-need.heap) (heap_items c.open_up_to.new.heap) (heap_items c.is_held_by_best-is_held.new.heap) c.loop-need.invariant.0 c.loop-need-test.true is (c.in_ok-next.ensures {u = tt})
+          c.is_held_by_best-is_held.ensures.left c.requires.needs,
+      subst (λ o. IsLeast c.args.offers.now (take (c.loop-need.need-index + 1) c.args.needs.now) o) (sym c.lesser-least.ensures)
+          (least_more c.args.offers.now c.args.needs.now c.loop-need.need-index c.loop-need.least (get_or c.args.needs.now c.loop-need.need-index some_need) c.is_held_by_best-is_held.result c.loop-need-test.true is
+          c.loop-need.invariant.1
+          (served_so c.args.offers.now c.loop-need.next c.in_ok-next.next c.args.needs.now c.loop-need.need-index (get_or c.args.needs.now c.loop-need.need-index some_need)
+          (heap_items c.loop-need.heap) (heap_items c.open_up_to.new.heap) (heap_items c.is_held_by_best-is_held.new.heap) c.loop-need.invariant.0 c.loop-need-test.true is (c.in_ok-next.ensures {u = tt})
+          c.is_held_by_best-is_held.ensures.left c.is_held_by_best-is_held.result c.is_held_by_best-is_held.ensures.found)),
+    )
 
 pub returns : goal.returns
 returns c = least_all c.args.offers.now c.args.needs.now c.loop-need.need-index c.loop-need.least c.loop-need-test.false c.loop-need.invariant.1

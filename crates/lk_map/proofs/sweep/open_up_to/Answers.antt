@@ -1,4 +1,4 @@
-use Rattle.std.proofs.Common.{◌≡◌, get_or}
+use Rattle.std.proofs.Common.{get_or}
 use Rattle.std.specs.BinaryHeap.{heap_items}
 use Rattle.std.proofs.lemmas.List.{get_or_default}
 use Rattle.lk_map.proofs.Opening.{opens_all, opens_first, opens_more, opens_stop, so_false, so_true, some_offer}

@@ -1,9 +1,8 @@
-use Rattle.std.proofs.Common.{◌≡◌, ℕ, ◌≤◌, Some, None, sym, ◌∙◌, ap, arith, length}
-use Rattle.std.specs.Prelude.{option_copied, is_some}
+use Rattle.std.proofs.Common.{◌∙◌, arith}
+use Rattle.std.specs.Prelude.{option_copied}
 use Rattle.lk_map.specs.declared.forms.Field.TheVariants as is
 use Rattle.lk_map.specs.Cutting.{parts_left}
-use Rattle.lk_map.specs.Lines.{behind, values_of}
-use Rattle.lk_map.specs.Values.{shown, values_if, words_at}
+use Rattle.lk_map.specs.Values.{shown}
 use Rattle.lk_map.proofs.Fields.{field_lost, field_more, field_none, fields_end, is_some_copied}
 use Rattle.lk_map.proofs.lines.Values.take_all.Goals as goal
 
@@ -19,12 +18,13 @@ returns-in-None c =
     (rw c.in-None.is at c.loop-field.invariant.1)
 
 pub loop-field-preserved : goal.loop-field-preserved
-loop-field-preserved c =
-    (omega (arith, c.take.ensures.count),
-     rw c.next_word.ensures
+loop-field-preserved c = (
+  omega (arith, c.take.ensures.count),
+  rw c.next_word.ensures
       (field_more c.args.fields.now c.loop-field.field-index _ c.loop-field-test.true (shown c.loop-field.self) (shown c.take.new.self) c.in-Some.text.now (parts_left 32 (option_copied c.loop-field.rest)) _
-       (rw c.in-Some.is at c.loop-field.invariant.1)
-       (rw c.if-not-take.false at c.take.ensures.values)))
+      (rw c.in-Some.is at c.loop-field.invariant.1)
+      (rw c.if-not-take.false at c.take.ensures.values)),
+)
 
 pub returns : goal.returns
 returns c =

@@ -1,4 +1,4 @@
-use Rattle.std.proofs.Common.{◌≡◌, ℕ, ◌≤◌, Some, drop}
+use Rattle.std.proofs.Common.{◌≡◌, ◌≤◌, Some, drop}
 use Rattle.std.specs.Prelude.{option_copied}
 use Rattle.lk_map.specs.Lines.{behind, values_of}
 use Rattle.lk_map.specs.Values.{shown, words_at}
