@@ -57,7 +57,11 @@ fn add_line(text: &mut Vec<u8>, written: &[u8]) -> Result<(), AllocError> {
                 left = rest;
             }
             [b'%', high, low, rest @ ..] => {
-                text.push(digit_of(*high).wrapping_mul(16).wrapping_add(digit_of(*low)))?;
+                text.push(
+                    digit_of(*high)
+                        .wrapping_mul(16)
+                        .wrapping_add(digit_of(*low)),
+                )?;
                 left = rest;
             }
             [byte, rest @ ..] => {
