@@ -47,30 +47,28 @@ fn digit_of(byte: u8) -> u8 {
 
 /// Adds bytes as they are written here, and a line feed.
 fn add_line(text: &mut Vec<u8>, written: &[u8]) -> Result<(), AllocError> {
-    let mut left = written;
-    loop {
-        match left {
-            [] => break,
-            [b'~'] => return Ok(()),
-            [b'|', rest @ ..] => {
-                text.push(b'\n')?;
-                left = rest;
+    let mut digits_to_come = 0u8;
+    let mut value = 0u8;
+    let mut is_ended = true;
+    for byte in written {
+        if digits_to_come > 0 {
+            value = value.wrapping_mul(16).wrapping_add(digit_of(*byte));
+            digits_to_come -= 1;
+            if digits_to_come == 0 {
+                text.push(value)?;
             }
-            [b'%', high, low, rest @ ..] => {
-                text.push(
-                    digit_of(*high)
-                        .wrapping_mul(16)
-                        .wrapping_add(digit_of(*low)),
-                )?;
-                left = rest;
-            }
-            [byte, rest @ ..] => {
-                text.push(*byte)?;
-                left = rest;
+        } else {
+            match *byte {
+                b'%' => digits_to_come = 2,
+                b'|' => text.push(b'\n')?,
+                b'~' => is_ended = false,
+                other => text.push(other)?,
             }
         }
     }
-    text.push(b'\n')?;
+    if is_ended {
+        text.push(b'\n')?;
+    }
     Ok(())
 }
 
