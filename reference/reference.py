@@ -3,11 +3,13 @@
 
 usage: reference.py WORDS.. < DESCRIPTION
        reference.py --reach|--placement < DESCRIPTION
+       reference.py --map < MAP
 
 Writes what the program is to write and ends with the status that it is to end with. With --reach it writes
 what the traversal answers: the live sections, the flags of all symbols, and the output sections that are kept.
 With --placement it writes what placement answers beside the report: whether the plan is plain, the bytes of
-the headers, the counters, merged records, compacted segments, and the end of thread-local data.
+the headers, the counters, merged records, compacted segments, and the end of thread-local data. With --map it
+reads a map in place of a description, and tells whether it is good.
 """
 
 import sys
@@ -16,6 +18,7 @@ from rules.checking import check_link
 from rules.generated import generated_description, seed_and_size, summary_line
 from rules.json_text import read_json
 from rules.layout import placement_lines, report
+from rules.maps import map_lines
 from rules.reach import reach_lines
 from rules.reading import description
 from rules.refusal import LAID_OUT, UNREADABLE, Refusal, usage
@@ -75,8 +78,13 @@ def placement_answer(_, data):
     return answer_of(lambda: placement_lines(link_of(data)))
 
 
+def map_answer(_, data):
+    """What is told of a map."""
+    return answer_of(map_lines, data)
+
+
 # What is asked of the reference alone, by the first word.
-OWN_WORDS = {"--reach": reach_answer, "--placement": placement_answer}
+OWN_WORDS = {"--reach": reach_answer, "--placement": placement_answer, "--map": map_answer}
 
 
 def own_answer(words, data):

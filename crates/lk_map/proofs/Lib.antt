@@ -1,0 +1,12 @@
+pub mod Among
+pub mod Cuts
+pub mod Digits
+pub mod Fields
+pub mod Goodness
+pub mod Least
+pub mod Opening
+pub mod Overlaps
+pub mod Reading
+pub mod Refused
+pub mod Spelled
+pub mod WrittenMaps

@@ -1,0 +1,12 @@
+pub mod Checking
+pub mod Cutting
+pub mod Forms
+pub mod Good
+pub mod Lines
+pub mod MapText
+pub mod Numbers
+pub mod Sorted
+pub mod Spans
+pub mod Sweep
+pub mod Values
+pub mod Written

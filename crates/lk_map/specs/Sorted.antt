@@ -1,0 +1,12 @@
+-- Private: ranges in the order of their starts.
+use Rattle.std.specs.Prelude.{ℕ, ◌+◌, ◌<◌, ◌≤◌, List, slice_index_or}
+use Rattle.std.specs.List.{AllAdjacentBelow}
+use Rattle.lk_map.specs.declared.spans.Span.{Span}
+
+-- the neighbours up to a place have no byte in common
+abbrev pub NeighboursApart : List Span → ℕ → Type 0
+NeighboursApart spans high = AllAdjacentBelow (λ x y. x.start + x.size ≤ y.start) spans high
+
+-- the range behind this place starts below the end of the one there
+abbrev pub StartsBelow : List Span → ℕ → Type 0
+StartsBelow spans k = (d : Span) → (slice_index_or spans (k + 1) d).start < (slice_index_or spans k d).start + (slice_index_or spans k d).size

@@ -1,0 +1,87 @@
+-- How a map is written, and what is read of a text: the two laws that say what a map is.
+use Rattle.std.specs.Prelude.{◌≡◌, ℕ, ◌+◌, ◌^◌, ◌<◌, ◌≤◌, ◌↔◌, true, false, List, [], ◌∷◌, ◌++◌, Option, Some, None, Ok, Err, codes, length, take, map}
+use Rattle.std.specs.Fmt.{decimal, digits}
+use Rattle.std.specs.List.{flat_map, join_with_byte}
+use Rattle.lk_map.specs.declared.forms.Field.{Field}
+use Rattle.lk_map.specs.declared.forms.Field.TheVariants as is
+use Rattle.lk_map.specs.declared.forms.Form.{Form}
+use Rattle.lk_map.specs.Forms.{fields_of, follows, is_end, word_text}
+use Rattle.lk_map.specs.Lines.{Line}
+use Rattle.lk_map.specs.MapText.{map_lines, parts_of}
+
+-- ---- how a line is written
+
+-- an address: behind `0x`, in base 16
+abbrev pub address_text : ℕ → List ℕ
+address_text n = codes "0x" ++ digits 16 false n
+
+-- a value as it is written in a field
+unfoldable pub value_text : Field → Option ℕ → List ℕ
+value_text (is.Word w) value = []
+value_text is.Number (Some n) = decimal n
+value_text is.Address (Some n) = address_text n
+value_text is.NumberOrNone (Some n) = decimal n
+value_text is.AddressOrNone (Some n) = address_text n
+value_text field None = codes "-"
+
+-- the words of a line with these fields and these values, in their order
+unfoldable pub words_for : List Field → List (Option ℕ) → List (List ℕ)
+words_for [] values = []
+words_for (is.Word w ∷ fields) values = word_text w ∷ words_for fields values
+words_for (field ∷ fields) [] = []
+words_for (field ∷ fields) (value ∷ values) = value_text field value ∷ words_for fields values
+
+-- a line as it is written: its words, with a blank between each two
+abbrev pub line_text : Line → List ℕ
+line_text line = join_with_byte 32 (words_for (fields_of line.form) line.values)
+
+-- ---- which values a line can have
+
+-- whether a value can stand in a field: a number of 64 bits, or none where `-` may stand
+unfoldable pub CanStand : Field → Option ℕ → Type 0
+CanStand (is.Word w) value = ⊥
+CanStand is.Number (Some n) = n < 2 ^ 64
+CanStand is.Number None = ⊥
+CanStand is.Address (Some n) = n < 2 ^ 64
+CanStand is.Address None = ⊥
+CanStand is.NumberOrNone (Some n) = n < 2 ^ 64
+CanStand is.NumberOrNone None = Unit {0}
+CanStand is.AddressOrNone (Some n) = n < 2 ^ 64
+CanStand is.AddressOrNone None = Unit {0}
+
+-- whether values can stand in fields, each in its own; words have none
+unfoldable pub StandAt : List Field → List (Option ℕ) → Type 0
+StandAt [] [] = Unit {0}
+StandAt [] (value ∷ values) = ⊥
+StandAt (is.Word w ∷ fields) values = StandAt fields values
+StandAt (field ∷ fields) [] = ⊥
+StandAt (field ∷ fields) (value ∷ values) = CanStand field value × StandAt fields values
+
+-- ---- maps
+
+-- lines go on a map behind a line of this form, up to its end: each can stand behind the one before it, and has the values of its form
+unfoldable pub GoOn : Option Form → List Line → Type 0
+GoOn before [] = is_end before ≡ true
+GoOn before (line ∷ lines) = (follows before line.form ≡ true) × StandAt (fields_of line.form) line.values × GoOn (Some line.form) lines
+
+-- a text is the map of these lines: they are a map's, and the text is what is written of them, each ended by a line feed
+abbrev pub IsMap : List ℕ → List Line → Type 0
+IsMap text lines = GoOn None lines × (text ≡ flat_map (λ line. line_text line ++ 10 ∷ []) lines)
+
+-- ---- the laws
+
+-- a text is read as these lines exactly where it is the map of them
+abbrev pub ReadsMaps : Type 0
+ReadsMaps = (text : List ℕ) (lines : List Line) → (map_lines text ≡ Ok lines) ↔ IsMap text lines
+
+-- a line is the first at which no map goes on: it is there, or it is what is missing behind the last line feed; the lines before it begin a map; no map begins with
+-- these and with it, if it has its line feed; and the text is no map
+pub record IsFirstWrong (text : List ℕ) (line : ℕ) : Type 0 where
+  pub within : line ≤ length (parts_of text)
+  pub before : (n : ℕ) × (line ≡ n + 1) × (lines : List Line) × GoOn None lines × (take n (parts_of text) ≡ take n (map line_text lines))
+  pub wrong : (lines : List Line) → GoOn None lines → line < length (parts_of text) → take line (parts_of text) ≡ take line (map line_text lines) → ⊥
+  pub other : (lines : List Line) → IsMap text lines → ⊥
+
+-- what is refused is refused at the first line at which no map goes on
+abbrev pub RefusesFirst : Type 0
+RefusesFirst = (text : List ℕ) (line : ℕ) → map_lines text ≡ Err line → IsFirstWrong text line

@@ -1,0 +1,20 @@
+//! Laws on maps. Each is a function that does nothing, and ensures its law.
+
+ghost use Rattle.lk_map.specs.Good.{GoodMapsAreCongruent};
+ghost use Rattle.lk_map.specs.Written.{ReadsMaps, RefusesFirst};
+
+/// A text is read as these lines exactly where it is a map of them.
+pub fn reads_maps()
+    ensures { ReadsMaps }
+{}
+
+/// A text that is no map is refused at the first line at which no map goes on.
+pub fn refuses_first()
+    ensures { RefusesFirst }
+{}
+
+/// In a good map each section that is allocated and has bytes in the file is as far behind the start of a segment that holds it in memory as
+/// in the file, modulo every number.
+pub fn good_maps_are_congruent()
+    ensures { GoodMapsAreCongruent }
+{}
