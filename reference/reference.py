@@ -4,14 +4,17 @@
 usage: reference.py WORDS.. < DESCRIPTION
        reference.py --reach|--placement < DESCRIPTION
        reference.py --map < MAP
+       reference.py --why G F I < DESCRIPTION
 
 Writes what the program is to write and ends with the status that it is to end with. With --reach it writes
 what the traversal answers: the live sections, the flags of all symbols, and the output sections that are kept.
 With --placement it writes what placement answers beside the report: whether the plan is plain, the bytes of
 the headers, the counters, merged records, compacted segments, and the end of thread-local data. With --map it
 reads a map in place of a description, and tells whether it is good.
+With --why it writes why the section with this group, file and index is kept: a shortest path to it from a root.
 """
 
+import re
 import sys
 
 from rules.checking import check_link
@@ -22,8 +25,10 @@ from rules.maps import map_lines
 from rules.reach import reach_lines
 from rules.reading import description
 from rules.refusal import LAID_OUT, UNREADABLE, Refusal, usage
+from rules.why import why_lines
 
 LONGEST_INPUT = 1_073_741_824
+LARGEST_NUMBER = 4_294_967_295
 # the numbers of workers, as they are written; the answer doesn't depend on them
 WORKERS = [str(number) for number in range(65)]
 
@@ -78,13 +83,38 @@ def placement_answer(_, data):
     return answer_of(lambda: placement_lines(link_of(data)))
 
 
+def number_of(word):
+    """The number that a word is, up to 4,294,967,295."""
+    if re.fullmatch("0|[1-9][0-9]{0,9}", word) is None or int(word) > LARGEST_NUMBER:
+        raise usage()
+    return int(word)
+
+
+def section_lines(words, data):
+    """Why a section is kept, by the words for its group, file and index."""
+    if len(words) != 3:
+        raise usage()
+    place = tuple(number_of(word) for word in words)
+    return why_lines(link_of(data), place)
+
+
+def why_answer(words, data):
+    """What is told of why a section is kept."""
+    return answer_of(section_lines, words, data)
+
+
 def map_answer(_, data):
     """What is told of a map."""
     return answer_of(map_lines, data)
 
 
 # What is asked of the reference alone, by the first word.
-OWN_WORDS = {"--reach": reach_answer, "--placement": placement_answer, "--map": map_answer}
+OWN_WORDS = {
+    "--reach": reach_answer,
+    "--placement": placement_answer,
+    "--map": map_answer,
+    "--why": why_answer,
+}
 
 
 def own_answer(words, data):

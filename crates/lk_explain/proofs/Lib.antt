@@ -1,0 +1,6 @@
+pub mod LawLemmas
+pub mod LevelLemmas
+pub mod NumberLemmas
+pub mod PathLemmas
+pub mod ShownLemmas
+pub mod TakeLemmas

@@ -1,0 +1,5 @@
+pub mod Explaining
+pub mod Faults
+pub mod KeepPath
+pub mod Laws
+pub mod Searching
