@@ -84,7 +84,7 @@ fn is_cut_at(alloc: Global, input: &str, length: usize) -> Result<bool, AllocErr
     let mut source = slow_source(alloc, front, Vec::new(alloc))?;
     let mut sink = MemorySink::new(alloc, ROOM, 7, Vec::new(alloc))?;
     let code = ended_over(alloc, &mut source, &mut sink)?;
-    Ok(code == Status::Unreadable.code() && sink.written() == b"not JSON\n")
+    Ok(code == Status::Unreadable.code() && sink.written() == b"not JSON\n".as_slice())
 }
 
 /// How many lengths there are, from nothing on, at which a description is cut so.
