@@ -286,3 +286,9 @@ among_is (f ∷ more) words l e = or_is f (values_of (fields_of f) words) words 
 -- what is read of words as a line is what is written of it
 pub line_is_of : (words : List (List ℕ)) (l : Line) → line_among forms words ≡ Some l → (words ≡ words_for (fields_of l.form) l.values) × StandAt (fields_of l.form) l.values
 line_is_of words l e = values_are (fields_of l.form) words l.values (among_is forms words l e)
+
+-- words that fit a form are a line of that form: no earlier one fits them
+pub form_first : (f : Form) (fields : List Field) (words : List (List ℕ)) (vs : List (Option ℕ)) → fields ≡ fields_of f → Some vs ≡ values_of fields words → Some (record { form = f; values = vs }) ≡ line_among forms words
+form_first f fields words vs is fits =
+    let (same, stand) = values_are (fields_of f) words vs (ap (λ fs. values_of fs words) (sym is) ∙ sym fits) in
+    sym (ap (line_among forms) same ∙ form_again f vs stand)

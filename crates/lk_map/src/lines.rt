@@ -134,8 +134,8 @@ fn next_word(rest: Option<&[u8]>) -> (Option<&[u8]>, Option<&[u8]>)
     }
 }
 
-/// The form of a line, the values of which are taken in place of those that are there.
-pub fn read_line(values: &mut Values, line: &[u8]) -> Option<Form>
+/// The first form that a line has, and its values in place of those that are there.
+fn read_any(values: &mut Values, line: &[u8]) -> Option<Form>
     ensures { line_if result (shown values.new) ≡ line_of line.now }
 {
     let (first, behind) = cut(line, b' ');
@@ -145,4 +145,16 @@ pub fn read_line(values: &mut Values, line: &[u8]) -> Option<Form>
         }
     }
     None
+}
+
+/// The same. A form that is likely is tried first, since most lines have that of the line before them; no line has two.
+pub fn read_line(values: &mut Values, line: &[u8], likely: Form) -> Option<Form>
+    ensures { line_if result (shown values.new) ≡ line_of line.now }
+{
+    let (first, behind) = cut(line, b' ');
+    let is_likely = values.take_all(fields(likely), first, behind);
+    if is_likely {
+        return Some(likely);
+    }
+    read_any(values, line)
 }

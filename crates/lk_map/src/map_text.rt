@@ -163,7 +163,8 @@ pub fn read_map(alloc: Global, text: &[u8]) -> Result<MapText, MapError>
             }
             return Err(MapError::NotMap { line });
         };
-        let Some(form) = read_line(&mut values, here) else {
+        let likely = before.unwrap_or(Form::Layout);
+        let Some(form) = read_line(&mut values, here, likely) else {
             return Err(MapError::NotMap { line });
         };
         if !goes_on(before, form) {
