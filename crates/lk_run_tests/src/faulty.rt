@@ -2,26 +2,27 @@
 
 use crate::rows::{Asked, expect_rows};
 use crate::runs::{ROOM, words_of};
-use lk_run::{MemorySink, MemorySource, Status, run_alone};
+use lk_link::NoGate;
+use lk_run::{MemorySink, MemorySource, Status, run};
 use lk_test_rows::add;
 use std::alloc::{AllocError, Global};
 use std::str;
+use std::sync::Wait;
 use std::test::Fail;
+use std::thread::Threads;
 
 /// More calls than any run here makes.
 const MOST_CALLS: u64 = 10000;
 
-/// How a run of `layout 0` over these devices ends; 99 where it doesn't.
+/// How a run of `layout 0` over these devices ends.
 fn ended_over(
+    rt: &(impl Threads + Wait + Sync),
     alloc: Global,
     source: &mut MemorySource,
     sink: &mut MemorySink,
-) -> Result<u8, AllocError> {
+) -> Result<Status, AllocError> {
     let words = words_of(alloc, "layout 0")?;
-    Ok(match run_alone(alloc, &words, source, sink) {
-        Some(status) => status.code(),
-        None => 99,
-    })
+    Ok(run(rt, alloc, &words, source, sink, &NoGate))
 }
 
 /// The list of the number of the one call that fails.
@@ -37,17 +38,26 @@ fn slow_source(alloc: Global, input: &[u8], failing: Vec<u64>) -> Result<MemoryS
 }
 
 /// Whether a run that meets a fault at this read of its source ends with 4, by that one fault, and has written nothing.
-fn fails_at_read(alloc: Global, input: &str, call: u64) -> Result<bool, AllocError> {
+fn fails_at_read(
+    rt: &(impl Threads + Wait + Sync),
+    alloc: Global,
+    input: &str,
+    call: u64,
+) -> Result<bool, AllocError> {
     let mut source = slow_source(alloc, input.as_bytes(), only(alloc, call)?)?;
     let mut sink = MemorySink::new(alloc, ROOM, 1, Vec::new(alloc))?;
-    let code = ended_over(alloc, &mut source, &mut sink)?;
-    Ok(code == Status::ReadFault.code() && source.faults() == 1 && sink.written().is_empty())
+    let status = ended_over(rt, alloc, &mut source, &mut sink)?;
+    Ok(status == Status::ReadFault && source.faults() == 1 && sink.written().is_empty())
 }
 
 /// How many reads there are, one after the other, at which a run fails so.
-fn failing_reads(alloc: Global, input: &str) -> Result<u64, AllocError> {
+fn failing_reads(
+    rt: &(impl Threads + Wait + Sync),
+    alloc: Global,
+    input: &str,
+) -> Result<u64, AllocError> {
     for call in 0..MOST_CALLS {
-        if !fails_at_read(alloc, input, call)? {
+        if !fails_at_read(rt, alloc, input, call)? {
             return Ok(call);
         }
     }
@@ -56,6 +66,7 @@ fn failing_reads(alloc: Global, input: &str) -> Result<u64, AllocError> {
 
 /// Whether a run that meets a fault at this write of its sink ends with 5, by that one fault, and has written just the bytes before it.
 fn fails_at_write(
+    rt: &(impl Threads + Wait + Sync),
     alloc: Global,
     input: &str,
     report: &[u8],
@@ -63,15 +74,20 @@ fn fails_at_write(
 ) -> Result<bool, AllocError> {
     let mut source = slow_source(alloc, input.as_bytes(), Vec::new(alloc))?;
     let mut sink = MemorySink::new(alloc, ROOM, 1, only(alloc, call)?)?;
-    let code = ended_over(alloc, &mut source, &mut sink)?;
+    let status = ended_over(rt, alloc, &mut source, &mut sink)?;
     let is_front = report.get(..call as usize) == Some(sink.written());
-    Ok(code == Status::WriteFault.code() && sink.faults() == 1 && is_front)
+    Ok(status == Status::WriteFault && sink.faults() == 1 && is_front)
 }
 
 /// How many writes there are, one after the other, at which a run fails so.
-fn failing_writes(alloc: Global, input: &str, report: &[u8]) -> Result<u64, AllocError> {
+fn failing_writes(
+    rt: &(impl Threads + Wait + Sync),
+    alloc: Global,
+    input: &str,
+    report: &[u8],
+) -> Result<u64, AllocError> {
     for call in 0..MOST_CALLS {
-        if !fails_at_write(alloc, input, report, call)? {
+        if !fails_at_write(rt, alloc, input, report, call)? {
             return Ok(call);
         }
     }
@@ -79,18 +95,27 @@ fn failing_writes(alloc: Global, input: &str, report: &[u8]) -> Result<u64, Allo
 }
 
 /// Whether a run over the front of a description ends with 3, and the text that it is no JSON.
-fn is_cut_at(alloc: Global, input: &str, length: usize) -> Result<bool, AllocError> {
+fn is_cut_at(
+    rt: &(impl Threads + Wait + Sync),
+    alloc: Global,
+    input: &str,
+    length: usize,
+) -> Result<bool, AllocError> {
     let front = input.as_bytes().get(..length).unwrap_or(&[]);
     let mut source = slow_source(alloc, front, Vec::new(alloc))?;
     let mut sink = MemorySink::new(alloc, ROOM, 7, Vec::new(alloc))?;
-    let code = ended_over(alloc, &mut source, &mut sink)?;
-    Ok(code == Status::Unreadable.code() && sink.written() == b"not JSON\n".as_slice())
+    let status = ended_over(rt, alloc, &mut source, &mut sink)?;
+    Ok(status == Status::Unreadable && sink.written() == b"not JSON\n".as_slice())
 }
 
 /// How many lengths there are, from nothing on, at which a description is cut so.
-fn cuts(alloc: Global, input: &str) -> Result<usize, AllocError> {
+fn cuts(
+    rt: &(impl Threads + Wait + Sync),
+    alloc: Global,
+    input: &str,
+) -> Result<usize, AllocError> {
     for length in 0..input.len() {
-        if !is_cut_at(alloc, input, length)? {
+        if !is_cut_at(rt, alloc, input, length)? {
             return Ok(length);
         }
     }
@@ -99,6 +124,7 @@ fn cuts(alloc: Global, input: &str) -> Result<usize, AllocError> {
 
 /// Adds how a run ends whose source gives and whose sink takes one byte with each call, and the text that was taken; gives that text.
 fn add_slow(
+    rt: &(impl Threads + Wait + Sync),
     alloc: Global,
     line: &mut String,
     input: &str,
@@ -106,31 +132,49 @@ fn add_slow(
 ) -> Result<(), AllocError> {
     let mut source = slow_source(alloc, input.as_bytes(), Vec::new(alloc))?;
     let mut sink = MemorySink::new(alloc, ROOM, 1, Vec::new(alloc))?;
-    let code = ended_over(alloc, &mut source, &mut sink)?;
+    let status = ended_over(rt, alloc, &mut source, &mut sink)?;
     report.extend_from_slice(sink.written())?;
-    add(line, "slow", &(code, str::from_utf8(sink.written())))
+    add(
+        line,
+        "slow",
+        &(status.code(), str::from_utf8(sink.written())),
+    )
 }
 
 /// Adds how a run ends whose sink takes nothing, and what it has taken.
-fn add_full(alloc: Global, line: &mut String, input: &str) -> Result<(), AllocError> {
+fn add_full(
+    rt: &(impl Threads + Wait + Sync),
+    alloc: Global,
+    line: &mut String,
+    input: &str,
+) -> Result<(), AllocError> {
     let mut source = slow_source(alloc, input.as_bytes(), Vec::new(alloc))?;
     let mut sink = MemorySink::new(alloc, ROOM, 0, Vec::new(alloc))?;
-    let code = ended_over(alloc, &mut source, &mut sink)?;
-    add(line, "full", &(code, str::from_utf8(sink.written())))
+    let status = ended_over(rt, alloc, &mut source, &mut sink)?;
+    add(
+        line,
+        "full",
+        &(status.code(), str::from_utf8(sink.written())),
+    )
 }
 
 /// Adds how runs over such devices end.
-pub fn add_faulty_runs(alloc: Global, line: &mut String, input: &str) -> Result<(), AllocError> {
+pub fn add_faulty_runs(
+    rt: &(impl Threads + Wait + Sync),
+    alloc: Global,
+    line: &mut String,
+    input: &str,
+) -> Result<(), AllocError> {
     let mut report = Vec::new(alloc);
-    add_slow(alloc, line, input, &mut report)?;
-    add_full(alloc, line, input)?;
-    add(line, "reads", &failing_reads(alloc, input)?)?;
+    add_slow(rt, alloc, line, input, &mut report)?;
+    add_full(rt, alloc, line, input)?;
+    add(line, "reads", &failing_reads(rt, alloc, input)?)?;
     add(
         line,
         "writes",
-        &failing_writes(alloc, input, report.as_slice())?,
+        &failing_writes(rt, alloc, input, report.as_slice())?,
     )?;
-    add(line, "cuts", &cuts(alloc, input)?)
+    add(line, "cuts", &cuts(rt, alloc, input)?)
 }
 
 /// A description: how a run ends whose devices move one byte with each call; and one whose sink takes nothing; at how many reads a run

@@ -1,7 +1,7 @@
 //! Descriptions that are made to go wrong: circles, lists that are too long, sizes at the end of what a number holds, two places in one.
 
 use crate::rows::{Asked, expect_rows};
-use crate::runs::expect_reports;
+use crate::runs::{expect_reports, expect_reports_by_two};
 use std::test::Fail;
 
 /// Those that are laid out all the same, with their reports.
@@ -41,10 +41,15 @@ fn what_can_be_laid_out_is(rt: HostRuntime) -> Result<(), Fail> {
     expect_reports(&rt, rt.alloc(), REPORTED)
 }
 
+#[test]
+fn what_can_be_is_laid_out_by_two_workers(rt: HostRuntime) -> Result<(), Fail> {
+    expect_reports_by_two(&rt, rt.alloc(), REPORTED)
+}
+
 /// Those that are refused, with the statuses and the texts of their runs.
 const REFUSED: &str = r#"
 # A group too many.
-{"plan":{"page":16},"groups":[[{"kind":"prelude"}],«65535 of []»]} => 1 too many groups: 65536, limit 65535
+{"plan":{"page":16},"groups":[«65536 of []»]} => 1 too many groups: 65536, limit 65535
 # A segment too many, and a region.
 {"plan":{"page":16,"segments":[«65 of {"kind":"load"}»]},"groups":[[{"kind":"prelude"}]]} => 1 too many segments: 65, limit 64
 {"plan":{"page":16,"regions":[«65 of {"name":"r","origin":["num",0],"length":["num",1]}»]},"groups":[[{"kind":"prelude"}]]} => 1 too many regions: 65, limit 64

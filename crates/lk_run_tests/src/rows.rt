@@ -44,7 +44,7 @@ fn add_answer(
         Asked::Words => add_words(alloc, line, text),
         Asked::BothRuns => add_both_runs(rt, alloc, line, text),
         Asked::Generated => add_generated(alloc, line, text),
-        Asked::Faulty => add_faulty_runs(alloc, line, text),
+        Asked::Faulty => add_faulty_runs(rt, alloc, line, text),
     }
 }
 

@@ -131,6 +131,18 @@ fn told_block(alloc: Global, frame: Frame, block: &str) -> Result<String, AllocE
     format!(in alloc; "{front}\n{told}")
 }
 
+/// The same of a run by two workers.
+fn block_told_by_two(
+    rt: &(impl Threads + Wait + Sync),
+    alloc: Global,
+    block: &str,
+) -> Result<String, AllocError> {
+    let (front, _) = block.split_once('\n').unwrap_or((block, ""));
+    let mut told = String::new(alloc);
+    add_end_by_two(rt, alloc, &mut told, front)?;
+    format!(in alloc; "{front}\n{told}")
+}
+
 /// Wants how a run over each description of a text ends. Below the line of a description stand the status and the lines of
 /// its report, and behind them an empty line; above it may stand a remark. A block that begins with `@` is a frame, and holds
 /// for the blocks below it: their first lines stand in place of its dots.
@@ -143,6 +155,19 @@ pub fn expect_reports(rt: &impl Abort, alloc: Global, blocks: &'static str) -> R
         } else {
             expect_text(rt, told_block(alloc, frame, block)?.as_str(), block);
         }
+    }
+    Ok(())
+}
+
+/// The same by two workers, of a text without frames.
+pub fn expect_reports_by_two(
+    rt: &(impl Abort + Threads + Wait + Sync),
+    alloc: Global,
+    blocks: &'static str,
+) -> Result<(), Fail> {
+    for block in blocks.split("\n\n") {
+        let block = without_remark(block);
+        expect_text(rt, block_told_by_two(rt, alloc, block)?.as_str(), block);
     }
     Ok(())
 }
