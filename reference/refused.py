@@ -1,14 +1,15 @@
 #!/usr/bin/env python3
-"""Refuse the program each of its allocations in turn, by no worker and by several.
+"""Refuse the program each growth of its memory in turn, by no worker and by several.
 
 usage: refused.py PROGRAM [DESCRIPTION..]
 
 For each of the descriptions, unless told those of examples/ and some random ones in which something is merged in
-several groups, and for 0, 2 and 4 workers: a run in which the first allocation is refused, one in which the second is,
-and so on to the last. Each has to write nothing and end with 6; by several workers it may also answer as the run in
-which none is refused. The same of two generated links. Says at its end how many allocations there were, and ends with 1
-where a run did something else. The examples are of every kind: merged strings, thunks, relaxation, output that is
-linked again, redirects, tables. Needs a C compiler, `cc`.
+several groups, and for 0, 2 and 4 workers: a run in which the first growth is refused, one in which the second is, and
+so on to the last. The same of two generated links. Each has to write nothing and end with 6, or to do without and
+answer as the run in which none is refused: with one thread that is the scratch of a sort alone, which the sort of the
+standard library can do without. The examples are of every kind: merged strings, thunks, relaxation, output that is
+linked again, redirects, tables. Says at its end how many growths there were, and ends with 1 where a run did something
+else. Needs a C compiler, `cc`.
 """
 
 import glob
@@ -21,9 +22,7 @@ import tempfile
 import cases
 
 HERE = os.path.dirname(os.path.abspath(__file__))
-# Where a worker finds no memory, others may do without it.
-LAID_OUT_BY_WORKERS = ("layout 2", "layout 4")
-WORDS = ("layout 0", *LAID_OUT_BY_WORKERS)
+WORDS = ("layout 0", "layout 2", "layout 4")
 GENERATED = ("gen 3 9", "gen 7 200")
 MERGED = 6
 NO_MEMORY = 6
@@ -51,21 +50,33 @@ class Refusing:
 
 
 def refuse_each(refusing, name, words, data):
-    """Refuses each call in turn; answers how many there were, and how many runs did something else than they may."""
+    """Refuses each growth in turn; answers how many there were, how many the run did without, and how many did something else."""
     whole, _ = refusing.run(words, data, 0)
-    by_workers = words in LAID_OUT_BY_WORKERS
-    refused, wrong, goes_on = 0, 0, True
+    counts, goes_on = Counts(), True
     while goes_on:
-        refused += 1
-        got, goes_on = refusing.run(words, data, refused)
-        may = {(NO_MEMORY, b"")} if goes_on else {whole}
-        if by_workers:
-            may.add(whole)
-        if got not in may:
-            wrong += 1
-            print("%s, %s, call %d: status %d, %r" % (name, words, refused, got[0], got[1][:200]))
-    print("%s, %s: %d calls refused, %d wrong" % (name, words, refused - 1, wrong), flush=True)
-    return refused - 1, wrong
+        got, goes_on = refusing.run(words, data, counts.refused + 1)
+        counts.refused += goes_on
+        counts.spared += goes_on and got == whole
+        if got != whole and not (goes_on and got == (NO_MEMORY, b"")):
+            counts.wrong += 1
+            print("%s, %s, growth %d: status %d, %r" % (name, words, counts.refused, got[0], got[1][:200]))
+    print("%s, %s: %s" % (name, words, counts), flush=True)
+    return counts
+
+
+class Counts:
+    """Of growths that were refused: how many, how many a run did without, and how many it met otherwise than it may."""
+
+    def __init__(self):
+        self.refused = self.spared = self.wrong = 0
+
+    def add(self, other):
+        self.refused += other.refused
+        self.spared += other.spared
+        self.wrong += other.wrong
+
+    def __str__(self):
+        return "%d growths refused, %d done without, %d wrong" % (self.refused, self.spared, self.wrong)
 
 
 def merged(number):
@@ -87,18 +98,16 @@ def descriptions(paths):
 def main(words):
     if not words:
         sys.exit(__doc__)
-    refused, wrong = 0, 0
+    counts = Counts()
     with tempfile.TemporaryDirectory() as folder:
         refusing = Refusing(os.path.abspath(words[0]), folder)
         for name, data in descriptions(words[1:]):
             for line in WORDS:
-                calls, others = refuse_each(refusing, name, line, data)
-                refused, wrong = refused + calls, wrong + others
+                counts.add(refuse_each(refusing, name, line, data))
         for line in () if words[1:] else GENERATED:
-            calls, others = refuse_each(refusing, "generated", line, b"")
-            refused, wrong = refused + calls, wrong + others
-    print("%d allocations refused in all, %d runs wrong" % (refused, wrong))
-    sys.exit(1 if wrong else 0)
+            counts.add(refuse_each(refusing, "generated", line, b""))
+    print("in all: %s" % counts)
+    sys.exit(1 if counts.wrong else 0)
 
 
 if __name__ == "__main__":

@@ -1,8 +1,10 @@
-/* An allocator for LD_PRELOAD that refuses one call: the one whose number stands in REFUSED,
-   counted from 1. It then makes the file whose path stands in TOLD. */
+/* An allocator for LD_PRELOAD that refuses one growth: the one whose number stands in REFUSED,
+   counted from 1. It then makes the file whose path stands in TOLD. What gives memory back in
+   place is no growth: a list that isn't shortened stays as it is, so nothing has to be told. */
 #define _GNU_SOURCE
 #include <errno.h>
 #include <fcntl.h>
+#include <malloc.h>
 #include <stdatomic.h>
 #include <stdlib.h>
 #include <unistd.h>
@@ -30,7 +32,12 @@ extern void *__libc_malloc(size_t), *__libc_realloc(void *, size_t), *__libc_cal
 extern void *__libc_memalign(size_t, size_t);
 
 void *malloc(size_t size) { return is_refused() ? NULL : __libc_malloc(size); }
-void *realloc(void *old, size_t size) { return is_refused() ? NULL : __libc_realloc(old, size); }
+
+void *realloc(void *old, size_t size) {
+    int grows = old == NULL || size > malloc_usable_size(old);
+    return grows && is_refused() ? NULL : __libc_realloc(old, size);
+}
+
 void *calloc(size_t count, size_t size) { return is_refused() ? NULL : __libc_calloc(count, size); }
 void *aligned_alloc(size_t alignment, size_t size) { return is_refused() ? NULL : __libc_memalign(alignment, size); }
 
