@@ -89,15 +89,15 @@ class Output:
 
 def read_words(words: List[str]) -> List[str]:
     """The files that a linker's words name, as the compiler's driver gives them."""
-    paths, folders, takes = [], [], {"-o", "-m", "-z", "-plugin", "--hash-style", "-e"}
+    paths, folders, takes = [], [], {"-o", "-dynamic-linker", "-m", "-z", "-plugin", "--hash-style", "-e"}
     rest = iter(words)
     for word in rest:
-        if word in ("-shared", "-pie", "-r", "-dynamic-linker", "-T"):
+        if word in ("-shared", "-pie", "-r", "-T"):
             refuse(f"output or input by {word}: only static executables are described")
         elif word in takes:
             next(rest, None)
         elif word.startswith("-L"):
-            folders.append(word[2:])
+            folders.append(word[2:] or next(rest))
         elif word.startswith("-l"):
             tries = [os.path.join(folder, f"lib{word[2:]}.a") for folder in folders]
             paths.append(next((p for p in tries if os.path.exists(p)), None) or refuse(f"no archive for {word}"))

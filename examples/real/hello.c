@@ -10,8 +10,8 @@ static int built, shared[1000];
 static pthread_mutex_t lock = PTHREAD_MUTEX_INITIALIZER;
 int common_total;
 
-__attribute__((constructor)) static void early(void) { built = 7; }
-__attribute__((constructor(200))) static void earlier(void) { built = built ? 1 : 2; }
+__attribute__((constructor)) static void early(void) { built = built * 10 + 2; }
+__attribute__((constructor(200))) static void earlier(void) { built = built * 10 + 1; }
 __attribute__((destructor)) static void late(void) { puts("the end"); }
 int left_out(void) { return puts("never"); }
 

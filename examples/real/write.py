@@ -206,14 +206,12 @@ def write_live(out: Output) -> None:
         row, the = out.row(place), out.objects.get(place[:2])
         expect(f"section {place}", row["size"], live.size)
         of = row.get("of")
-        if of and "section" not in of:
-            continue  # a row of a table
+        if of and "section" not in of or not of and the.sections[place[2]].type == elf.SHT_NOBITS:
+            continue  # a row of a table, or zeros
         if of:
             data = bytearray(the.contents(of["section"])[of["offset"] : of["offset"] + row["size"]])
         else:
             data = bytearray(the.contents(place[2]))
-            if the.sections[place[2]].type == elf.SHT_NOBITS:
-                data = bytearray(0 if out.part(row["part"]).file_size == 0 else live.size)
         for relocation in relocations_of(out, place):
             how = elf.RELOCATION_TYPES[relocation.type]
             if how.width:
