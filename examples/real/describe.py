@@ -131,7 +131,6 @@ def load_all(paths: List[str]) -> List[Tuple[int, Object]]:
             refuse(f"{path}: a linker script, or no object")
         else:
             loaded[at, 0] = elf.load(path, 0)
-    bodies = {p: {o: (n, b) for o, n, b in elf.members(p)} for p in set(paths) if elf.is_archive(p)}
     waiting, defined = list(loaded.values()), set()
     for the in waiting:  # it grows as members come in
         globals_of = [s for s in the.symbols if s.binding != elf.STB_LOCAL]
@@ -141,9 +140,7 @@ def load_all(paths: List[str]) -> List[Tuple[int, Object]]:
             place = lazy.get(s.name)
             if s.section or s.binding != elf.STB_GLOBAL or s.name in defined or not place or place in loaded:
                 continue
-            path = paths[place[0]]
-            name, body = bodies[path][place[1]]
-            member = loaded[place] = elf.read_object(path, place[1], f"{path}({name})", body)
+            member = loaded[place] = elf.load(paths[place[0]], place[1])
             defined.update(t.name for t in member.symbols if t.binding != elf.STB_LOCAL and t.section)
             waiting.append(member)
     return [(at, loaded[at, offset]) for at, offset in sorted(loaded)]
@@ -260,7 +257,8 @@ def add_frames(file: File, index: int) -> None:
         at += size
     if not data:
         records.append((0, 0, len(file.inputs)))
-        file.inputs.append(Input(".eh_frame", "unloaded", 0, ".eh_frame", 8))
+        of = {"record": "end", "section": index, "offset": 0}
+        file.inputs.append(Input(".eh_frame", "unloaded", 0, ".eh_frame", 8, of=of))
     file.frames[index] = records
 
 

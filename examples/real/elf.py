@@ -164,9 +164,11 @@ def file_bytes(path: str) -> bytes:
         return file.read()
 
 
-def members(path: str) -> Iterator[Tuple[int, str, bytes]]:
-    """The objects of an archive: where the member's header is, its name, its bytes."""
+@lru_cache(maxsize=None)
+def members(path: str) -> Dict[int, Tuple[str, bytes]]:
+    """The objects of an archive by where the member's header is: name and bytes."""
     image, at, long_names = file_bytes(path), 8, b""
+    found: Dict[int, Tuple[str, bytes]] = {}
     while at + 60 <= len(image):
         name = image[at : at + 16].decode("ascii").rstrip()
         size = int(image[at + 48 : at + 58])
@@ -177,8 +179,9 @@ def members(path: str) -> Iterator[Tuple[int, str, bytes]]:
             if name[0] == "/":
                 start = int(name[1:])
                 name = long_names[start : long_names.index(b"\n", start)].decode()
-            yield at, name.rstrip("/"), body
+            found[at] = name.rstrip("/"), body
         at += 60 + size + size % 2
+    return found
 
 
 def is_archive(path: str) -> bool:
@@ -189,7 +192,5 @@ def load(path: str, offset: int) -> Object:
     """The object that a description's file names by its keys `path` and `offset`."""
     if not is_archive(path):
         return read_object(path, 0, path, file_bytes(path))
-    for at, name, body in members(path):
-        if at == offset:
-            return read_object(path, at, f"{path}({name})", body)
-    refuse(f"{path}: no member at {offset}")
+    name, body = members(path).get(offset) or refuse(f"{path}: no member at {offset}")
+    return read_object(path, offset, f"{path}({name})", body)
