@@ -119,16 +119,24 @@ def archive_symbols(path: str) -> Iterable[Tuple[str, int]]:
     return zip((n.decode("utf-8", "surrogateescape") for n in names), offsets)
 
 
+def real_paths(path: str) -> List[str]:
+    """The file itself, or those of the one list in the text that a C library has in place of an archive."""
+    start = elf.file_bytes(path)[:8]
+    if start == b"!<arch>\n" or start[:4] == b"\x7fELF":
+        return [path]
+    listed = re.fullmatch(r"(?:/\*.*?\*/|\s|OUTPUT_FORMAT\([^)]*\))*(?:GROUP|INPUT) *\(([^()]*)\)\s*", elf.file_bytes(path).decode("latin-1"), re.S)
+    return listed[1].split() if listed else refuse(f"{path}: a linker script, or no object")
+
+
 def load_all(paths: List[str]) -> List[Tuple[int, Object]]:
     """The objects, and the members of archives that something refers to, by input and place in it."""
     lazy: Dict[str, Tuple[int, int]] = {}
+    paths[:] = [real for path in paths for real in real_paths(path)]
     loaded: Dict[Tuple[int, int], Object] = {}
     for at, path in enumerate(paths):
         if elf.is_archive(path):
             for name, offset in archive_symbols(path):
                 lazy.setdefault(name, (at, offset))
-        elif elf.file_bytes(path)[:4] != b"\x7fELF":
-            refuse(f"{path}: a linker script, or no object")
         else:
             loaded[at, 0] = elf.load(path, 0)
     waiting, defined = list(loaded.values()), set()

@@ -19,6 +19,7 @@ from report import Range, Report, read_report
 WIDTH, LEFT, BAR, ROW = 1180, 250, 620, 22  # the page; where bars begin, their length, a line's height
 ALLOC, WRITE, CODE, TLS, NOBITS = 1, 2, 4, 8, 16
 COLOURS = {"code": "#d95f30", "written": "#3b7dc4", "zeros": "#9fc3e8", "read": "#5a9e58", "none": "#999"}
+TABLES = ("file_header", "program_headers", "section_headers", "got", "plt", "strtab", "shstrtab", "dynsym", "dynstr")
 STYLE = "text{font:12px sans-serif;fill:#222}.t{font-size:17px;font-weight:bold}.h{font-size:14px;font-weight:bold}.s{fill:#666}"
 
 
@@ -82,11 +83,16 @@ def bytes_text(size: int) -> str:
 
 
 def names_of(link: Optional[Dict[str, Any]], count: int) -> List[str]:
-    planned = link["plan"].get("sections", []) if link else [{}] * count
-    return [row.get("name") or f"section {i}" for i, row in enumerate(planned)]
+    """Output sections by name; those without one by the table that they hold, or by number."""
+    if link is None:
+        return [f"section {index}" for index in range(count)]
+    plan = link["plan"]
+    owner = [index for index, row in enumerate(plan["sections"]) for _ in row["parts"]]
+    tables = {owner[part]: field.replace("_", " ") for field, part in plan.items() if field in TABLES}
+    return [row.get("name") or tables.get(i, f"section {i}") for i, row in enumerate(plan["sections"])]
 
 
-def places(page: Page, report: Report, names: List[str], in_file: bool) -> None:
+def places(page: Page, report: Report, names: List[str], kinds: List[str], in_file: bool) -> None:
     """Segments and sections in memory, or in the file."""
 
     def ends(there: Range) -> Tuple[int, int]:
@@ -96,7 +102,7 @@ def places(page: Page, report: Report, names: List[str], in_file: bool) -> None:
     for index, there in report.segments.items():
         start, size = ends(there)
         if size:
-            bars.append(Bar(f"segment {index}", f"{start:#x}, {bytes_text(size)}", start, size, "#c9b458"))
+            bars.append(Bar(f"segment {index}{kinds[index] if kinds else ''}", f"{start:#x}, {bytes_text(size)}", start, size, "#c9b458"))
     for index, there in report.sections.items():
         start, size = ends(there)
         if size and (in_file or there.attrs & ALLOC):
@@ -127,17 +133,18 @@ def left_out(link: Dict[str, Any], report: Report) -> Tuple[Dict[int, List[int]]
 def picture(report: Report, link: Optional[Dict[str, Any]]) -> str:
     page = Page()
     names = names_of(link, len(report.sections))
+    kinds = [f", {segment['kind']}" for segment in link["plan"].get("segments", [])] if link else []
     page.text(20, "Where everything stands", "t")
-    x = LEFT
+    x = LEFT + 30
     for name, colour in COLOURS.items():
         page.box(x, 14, colour, "")
         page.text(x + 20, {"none": "not in memory", "read": "read only"}.get(name, name), "s")
         x += 110
     page.y += ROW
     page.heading("In memory", "from the first address that is taken to the last, to scale")
-    places(page, report, names, False)
+    places(page, report, names, kinds, False)
     page.heading("In the file", "from its first byte to its last, to scale")
-    places(page, report, names, True)
+    places(page, report, names, kinds, True)
     if link:
         sums, gone = left_out(link, report)
         page.heading("Kept and left out", "bytes of input sections: coloured what stays, grey what nothing refers to")
