@@ -304,7 +304,7 @@ def add_relocations(file: File, best: Dict[str, Tuple[File, int]]) -> None:
     for index, made in enumerate(file.inputs):
         if index < len(file.object.sections) and made.slot in ("unloaded", "must"):
             made.group = file.groups.get(index)
-            own = file.object.relocations.get(index, [])
+            own = file.object.relocations_of(index)
             made.relocs = [[r.offset, r, r.symbol, r.addend, False] for r in own]
         for row in made.relocs:
             if isinstance(row[1], elf.Relocation):

@@ -13,7 +13,7 @@ SHF_TLS, SHF_COMPRESSED, SHF_GNU_RETAIN = 0x400, 0x800, 0x200000
 SHN_UNDEF, SHN_ABS, SHN_COMMON, SHN_XINDEX = 0, 0xFFF1, 0xFFF2, 0xFFFF
 STB_LOCAL, STB_GLOBAL, STB_WEAK = 0, 1, 2
 STT_SECTION, STT_FILE, STT_GNU_IFUNC = 3, 4, 10
-R_X86_64_IRELATIVE = 37
+R_X86_64_NONE, R_X86_64_TLSGD, R_X86_64_TLSLD, R_X86_64_TPOFF32, R_X86_64_IRELATIVE = 0, 19, 20, 23, 37
 
 
 @dataclass(frozen=True)
@@ -39,10 +39,11 @@ RELOCATION_TYPES: Dict[int, RelocationType] = {
     13: RelocationType("R_X86_64_PC16", "Relative", 2, "S+A-P", True),
     14: RelocationType("R_X86_64_8", "Absolute", 1, "S+A"),
     15: RelocationType("R_X86_64_PC8", "Relative", 1, "S+A-P", True),
-    17: RelocationType("R_X86_64_DTPOFF64", "DtpOff", 8, "S+A-TLS"),
+    17: RelocationType("R_X86_64_DTPOFF64", "TpOff", 8, "S+A-T"),
     18: RelocationType("R_X86_64_TPOFF64", "TpOff", 8, "S+A-T"),
-    19: RelocationType("R_X86_64_TLSGD", "TlsGd", 4, "GD+A-P", True),
-    21: RelocationType("R_X86_64_DTPOFF32", "DtpOff", 4, "S+A-TLS", True),
+    19: RelocationType("R_X86_64_TLSGD", "TpOff", 4, "S+A-T", True),  # an executable has its own thread-local data
+    20: RelocationType("R_X86_64_TLSLD", "None", 0, ""),  # at hand, so that code that asks for it is made shorter
+    21: RelocationType("R_X86_64_DTPOFF32", "TpOff", 4, "S+A-T", True),
     22: RelocationType("R_X86_64_GOTTPOFF", "GotTpOff", 4, "GT+A-P", True),
     23: RelocationType("R_X86_64_TPOFF32", "TpOff", 4, "S+A-T", True),
     24: RelocationType("R_X86_64_PC64", "Relative", 8, "S+A-P"),
@@ -112,6 +113,14 @@ class Object:
         if section.type == SHT_NOBITS:
             return b""
         return self.image[section.offset : section.offset + section.size]
+
+    def relocations_of(self, index: int) -> List[Relocation]:
+        """Those of a section; a call of `__tls_get_addr`, which is behind the relocation that asks for it, is none."""
+        result: List[Relocation] = []
+        for one in self.relocations.get(index, []):
+            asked = result and result[-1].type in (R_X86_64_TLSGD, R_X86_64_TLSLD)
+            result.append(Relocation(one.offset, R_X86_64_NONE, 0, 0) if asked else one)
+        return result
 
 
 def text_at(table: bytes, offset: int) -> str:

@@ -50,4 +50,10 @@ else
     echo "musl: left out, no musl-gcc (Debian's package musl-tools)"
 fi
 try glibc gcc "$folder/hello.o" -pthread
+if command -v g++ >/dev/null; then
+    g++ $flags -c "$here/unwind.cc" -o "$folder/unwind.o" || exit 1
+    try exceptions g++ "$folder/unwind.o"
+else
+    echo "exceptions: left out, no g++"
+fi
 exit $failed

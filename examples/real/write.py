@@ -21,7 +21,7 @@ from report import Range, Report, Value, read_report
 
 MASK = (1 << 64) - 1
 ALLOC, WRITE, CODE, TLS, NOBITS = 1, 2, 4, 8, 16  # of `attrs`
-INDIRECT, GOT, GOT_TPOFF, GOT_TLS_GD = 4, 128, 512, 1024  # of a symbol's flags
+INDIRECT, GOT, GOT_TPOFF = 4, 128, 512  # of a symbol's flags
 Place = Tuple[int, int, int]  # group, file, section
 
 
@@ -161,17 +161,17 @@ def relocations_of(out: Output, place: Place) -> List[Relocation]:
     if the is None or (of and "section" not in of):
         return []
     if not of:
-        return the.relocations.get(place[2], [])
+        return the.relocations_of(place[2])
     start, own = of["offset"], the.relocations.get(of["section"], [])
     inside = (r for r in own if start <= r.offset < start + row["size"])
     return [Relocation(r.offset - start, r.type, r.symbol, r.addend) for r in inside]
 
 
 def got_word(known: Value, flag: int) -> int:
-    """Where a symbol's words of one kind begin in its entry: they stand in the order of the flags."""
+    """Where a symbol's word of one kind stands in its entry: they come in the order of the flags."""
     if known.got is None or not known.flags & flag:
         refuse(f"no entry of the GOT with flag {flag}")
-    return known.got + (8 if known.flags & GOT and flag > GOT else 0) + (8 if known.flags & GOT_TPOFF and flag > GOT_TPOFF else 0)
+    return known.got + (8 if known.flags & GOT and flag > GOT else 0)
 
 
 def computed(out: Output, formula: str, target: Target, place: int) -> int:
@@ -181,14 +181,11 @@ def computed(out: Output, formula: str, target: Target, place: int) -> int:
     elif first == "Z":
         value = out.symbol_size(target.number)
     else:
-        flag = {"G": GOT, "GT": GOT_TPOFF, "GD": GOT_TLS_GD}[first]
-        value = got_word(out.report.symbols[target.number], flag)
+        value = got_word(out.report.symbols[target.number], GOT if first == "G" else GOT_TPOFF)
     if less == "-P":
         value -= place
     elif less == "-T":
         value -= out.thread_pointer()
-    elif less == "-TLS":
-        value -= (out.tls or refuse("thread-local data without a segment")).mem
     return value + target.addend
 
 
@@ -199,6 +196,19 @@ def field_bytes(how: elf.RelocationType, value: int, where: str) -> bytes:
     if how.width < 8 and not low <= value < high:
         refuse(f"{where}: {how.name} doesn't reach: {value:#x}")
     return (value & (1 << bits) - 1).to_bytes(how.width, "little")
+
+
+def local_exec(data: bytearray, one: Relocation) -> Relocation:
+    """Code that asks where thread-local data is, made code that knows: `mov %fs:0, %rax`, and for one symbol a `lea`."""
+    at = one.offset
+    if one.type == elf.R_X86_64_TLSGD and data[at - 4 : at] == b"\x66\x48\x8d\x3d":
+        data[at - 4 : at + 8] = bytes.fromhex("64488b042500000000488d80")
+        return Relocation(at + 8, elf.R_X86_64_TPOFF32, one.symbol, one.addend + 4)
+    if one.type == elf.R_X86_64_TLSLD and data[at - 3 : at] == b"\x48\x8d\x3d" and data[at + 4] == 0xE8:
+        data[at - 3 : at + 9] = bytes.fromhex("66666664488b042500000000")
+    elif one.type in (elf.R_X86_64_TLSGD, elf.R_X86_64_TLSLD):
+        refuse(f"code around {elf.RELOCATION_TYPES[one.type].name} that isn't known")
+    return one
 
 
 def write_live(out: Output) -> None:
@@ -213,6 +223,7 @@ def write_live(out: Output) -> None:
         else:
             data = bytearray(the.contents(place[2]))
         for relocation in relocations_of(out, place):
+            relocation = local_exec(data, relocation)
             how = elf.RELOCATION_TYPES[relocation.type]
             if how.width:
                 target = out.target(place[:2], relocation.symbol, relocation.addend)
@@ -279,8 +290,6 @@ def write_got_and_plt(out: Output) -> None:
             got += struct.pack("<Q", known.value)
         if known.flags & GOT_TPOFF:
             got += struct.pack("<Q", known.value - out.thread_pointer() & MASK)
-        if known.flags & GOT_TLS_GD:
-            got += struct.pack("<QQ", 1, known.value - out.tls.mem)
     out.whole("got", bytes(got))
     out.whole("plt", bytes(plt))
 
