@@ -23,24 +23,20 @@ from elf import Object, Section, Symbol, refuse
 
 ALLOC, WRITE, CODE, TLS, NOBITS = 1, 2, 4, 8, 16  # of `attrs`
 BASE, PAGE = 0x400000, 4096
-# Order of output sections; those of other names go where `*` and their attributes are.
-READ = [".note*", ".rela.iplt", ".rodata", "*", ".eh_frame_hdr", ".eh_frame", ".gcc_except_table"]
-EXECUTE = [".init", ".plt", ".text", ".fini", "*"]
-RELOCATED = [".preinit_array", ".init_array", ".fini_array", ".ctors", ".dtors", ".data.rel.ro", ".got"]
-CHANGE = [".tdata", ".tbss", *RELOCATED, ".data", "*", ".bss"]
-PREFIXES = [".text", ".rodata", ".data.rel.ro", ".data", ".bss", ".tdata", ".tbss", ".init_array", ".fini_array"]
-PREFIXES += [".preinit_array", ".gcc_except_table", ".ctors", ".dtors"]
+# Output sections in their order; others go where `*` and their attributes are.
+ORDER = [".note", ".rela.iplt", ".rodata", "*1", ".eh_frame_hdr", ".eh_frame", ".gcc_except_table"]
+ORDER += [".init", ".plt", ".text", ".fini", "*5", ".tdata", ".tbss", ".preinit_array", ".init_array", ".fini_array"]
+ORDER += [".ctors", ".dtors", ".data.rel.ro", ".got", ".data", "*3", ".bss", "*19"]
 ALWAYS_THERE = {".rela.iplt": 1, ".rodata": 1, ".plt": 5, ".text": 5, ".got": 3, ".data": 3, ".bss": 19}
-ALWAYS_THERE.update({".preinit_array": 3, ".init_array": 3, ".fini_array": 3})
+ARRAYS = {".preinit_array": 3, ".init_array": 3, ".fini_array": 3}
+PREFIXES = [".text", ".rodata", ".data.rel.ro", ".data", ".bss", ".tdata", ".tbss", ".gcc_except_table", *ARRAYS]
 IN_A_ROW = {".init", ".fini", ".eh_frame", ".eh_frame_hdr"}  # in link order, nothing between: one packed part
-ROOTS = {".init", ".fini", ".init_array", ".fini_array", ".preinit_array", ".ctors", ".dtors"}
-EDGES = {"_end": ("end", ".bss"), "end": ("end", ".bss"), "__bss_start": ("start", ".bss"), "_edata": ("end", ".data")}
-EDGES.update({"edata": ("end", ".data"), "_etext": ("end", ".text"), "etext": ("end", ".text")})
-EDGES.update({"_GLOBAL_OFFSET_TABLE_": ("start", ".got"), "__GNU_EH_FRAME_HDR": ("start", ".eh_frame_hdr")})
-for array in ("preinit_array", "init_array", "fini_array", "rela_iplt"):
-    name = "." + array.replace("_iplt", ".iplt")
-    EDGES.update({f"__{array}_start": ("start", name), f"__{array}_end": ("end", name)})
-LOAD_BASE = {"__ehdr_start", "__executable_start"}
+ROOTS = {".init", ".fini", ".ctors", ".dtors", *ARRAYS}
+EDGES = {"_end": "end .bss", "end": "end .bss", "__bss_start": "start .bss", "_edata": "end .data", "edata": "end .data"}
+EDGES.update({"_etext": "end .text", "etext": "end .text", "_GLOBAL_OFFSET_TABLE_": "start .got"})
+EDGES["__GNU_EH_FRAME_HDR"] = "start .eh_frame_hdr"
+for label, of_edge in [(a[1:], a) for a in ARRAYS] + [("rela_iplt", ".rela.iplt")]:
+    EDGES.update({f"__{label}_start": f"start {of_edge}", f"__{label}_end": f"end {of_edge}"})
 
 
 @dataclass
@@ -220,13 +216,13 @@ def section_input(file: File, index: int, section: Section) -> Input:
     result = Input(section.name, "discard", section.size, name, section.align)
     if left_out:
         return result
-    result.attrs = (WRITE if section.flags & elf.SHF_WRITE else 0) | (CODE if section.flags & elf.SHF_EXECINSTR else 0)
+    result.attrs = attributes(section) & (WRITE | CODE)
     if is_string_table(section):
         result.slot, result.data = "merge", file.object.contents(index)
         return result
     keep = name in ROOTS or section.type == elf.SHT_NOTE or section.flags & elf.SHF_GNU_RETAIN
     result.slot = "must" if keep else "unloaded"
-    if name in (".init_array", ".fini_array", ".preinit_array"):
+    if name in ARRAYS:
         number = section.name[len(name) + 1 :]
         result.name, result.sorted = f"{name}.{int(number) if number else 65536:05}", True
     return result
@@ -314,21 +310,22 @@ def add_relocations(file: File, best: Dict[str, Tuple[File, int]]) -> None:
 # The plan
 
 
+def attributes(section: Section) -> int:
+    bits = ((elf.SHF_ALLOC, ALLOC), (elf.SHF_WRITE, WRITE), (elf.SHF_EXECINSTR, CODE), (elf.SHF_TLS, TLS))
+    return sum(attr for flag, attr in bits if section.flags & flag) | (NOBITS if section.type == elf.SHT_NOBITS else 0)
+
+
 def outputs_of(files: List[File]) -> Dict[str, Output]:
-    outputs = {name: Output(name, attrs, 8 if attrs & NOBITS else 1) for name, attrs in ALWAYS_THERE.items()}
+    there_anyway = {**ALWAYS_THERE, **ARRAYS}.items()
+    outputs = {name: Output(name, attrs, 8 if attrs & NOBITS else 1) for name, attrs in there_anyway}
     for file in files:
         for index, made in enumerate(file.inputs):
             if made.slot == "discard":
                 continue
             section = file.object.sections[index] if index < len(file.object.sections) else None
-            flags = section.flags if section else elf.SHF_ALLOC
-            attrs = (flags & elf.SHF_ALLOC and ALLOC) | (flags & elf.SHF_WRITE and WRITE) | (flags & elf.SHF_EXECINSTR and CODE)
-            attrs |= (flags & elf.SHF_TLS and TLS) | (section is not None and section.type == elf.SHT_NOBITS and NOBITS)
-            sh_type = section.type if section else elf.SHT_PROGBITS
-            there = outputs.setdefault(made.output, Output(made.output, attrs, sh_type))
-            if not attrs & NOBITS:
-                there.attrs &= ~NOBITS
-            there.attrs |= attrs & ~NOBITS
+            attrs = attributes(section) if section else ALLOC
+            there = outputs.setdefault(made.output, Output(made.output, attrs, section.type if section else elf.SHT_PROGBITS))
+            there.attrs = (there.attrs | attrs) & ~NOBITS | (there.attrs & attrs & NOBITS)
             there.aligns.add(made.align)
         for symbol in file.object.symbols:
             if symbol.section == elf.SHN_COMMON:
@@ -338,17 +335,26 @@ def outputs_of(files: List[File]) -> Dict[str, Output]:
     return outputs
 
 
-def ordered(outputs: Dict[str, Output], names: List[str], wanted: int) -> List[Output]:
-    """The output sections of these attributes (written, code) in the order of `names`."""
-    mine = [o for o in outputs.values() if o.attrs & ALLOC and o.attrs & (WRITE | CODE) == wanted]
-    place = {name: at for at, name in enumerate(names)}
+def place_of(output: Output) -> int:
+    name = ".note" if output.name.startswith(".note") else output.name
+    attrs = output.attrs & (ALLOC | WRITE | CODE | NOBITS)
+    return ORDER.index(name if name in ORDER else f"*{attrs}" if f"*{attrs}" in ORDER else "*3")
 
-    def key(output: Output) -> int:
-        if output.name.startswith(".note"):
-            return -1
-        return place.get(output.name, place[".bss"] if output.attrs & NOBITS and ".bss" in place else place["*"])
 
-    return sorted(mine, key=key)
+def segments_around(output: Output) -> List[Tuple[str, int, int]]:
+    """Those that an output section stands in, the outermost first: kind, type and flags."""
+    if not output.attrs & ALLOC:
+        return []
+    if output.attrs & WRITE and output.attrs & CODE:
+        refuse(f"{output.name}: both written and code")
+    around = [("load", 1, 4 | (2 if output.attrs & WRITE else 0) | (1 if output.attrs & CODE else 0))]
+    if output.attrs & TLS:
+        around.append(("tls", 7, 4))
+    elif output.name.startswith(".note"):
+        around.append(("other", 4, 4))
+    elif output.name == ".eh_frame_hdr":
+        around.append(("other", 0x6474E550, 4))
+    return around
 
 
 class Plan:
@@ -360,67 +366,32 @@ class Plan:
         self.events: List[List[Any]] = []
         self.number: Dict[str, int] = {}
         self.parts: Dict[Tuple[str, int], int] = {}
-        self.part_count = 0
-        self.load(4, [Output("", ALLOC, 0, {8}), Output("headers", ALLOC, 0, {8}), *ordered(outputs, READ, 0)])
-        self.load(5, ordered(outputs, EXECUTE, CODE))
-        self.load(6, ordered(outputs, CHANGE, WRITE))
-        if any(o.attrs & WRITE and o.attrs & CODE for o in outputs.values()):
-            refuse("a section that is both written and code")
-        self.segments.append({"kind": "stack", "always": True, "p_type": 0x6474E551, "p_flags": 6})
-        self.events += [["seg", len(self.segments) - 1], ["endseg", len(self.segments) - 1]]
         tables = [(".comment", 1, {1}), (".symtab", 2, {8, 4}), (".strtab", 3, {1}), (".shstrtab", 3, {1}), ("table", 0, {8})]
-        for name, sh_type, aligns in tables:
-            self.place(Output(name, 0, sh_type, aligns))
-        self.sections[0]["emit"] = "always"  # the section headers begin with one of no section
-        self.sections[self.number[".shstrtab"]]["emit"] = "always"
-        self.sections[self.number["table"]]["emit"] = self.sections[1]["emit"] = "never"
+        heads = [Output("", ALLOC, 0, {8}), Output("headers", ALLOC, 0, {8})]
+        is_open: List[Tuple[Tuple[str, int, int], int]] = []
+        for output in [*heads, *sorted(outputs.values(), key=place_of), *(Output(n, 0, t, a) for n, t, a in tables)]:
+            around = segments_around(output)
+            while [segment for segment, _ in is_open] != around[: len(is_open)]:
+                self.events.append(["endseg", is_open.pop()[1]])
+            for segment in around[len(is_open) :]:
+                is_open.append((segment, len(self.segments)))
+                self.events.append(["seg", len(self.segments)])
+                self.segments.append(dict(zip(("kind", "p_type", "p_flags"), segment)))
+            self.place(output)
+        self.events += [["seg", len(self.segments)], ["endseg", len(self.segments)]]
+        self.segments.append({"kind": "stack", "p_type": 0x6474E551, "p_flags": 6})
+        self.sections[0]["emit"] = self.sections[self.number[".shstrtab"]]["emit"] = "always"
+        self.sections[1]["emit"] = self.sections[self.number["table"]]["emit"] = "never"
 
     def place(self, output: Output) -> None:
-        self.number[output.name] = len(self.sections)
+        first, packed = sum(len(section["parts"]) for section in self.sections), output.name in IN_A_ROW
         aligns = sorted(output.aligns or {1}, reverse=True)
-        if output.name in IN_A_ROW:
-            parts = [[aligns[0], True]]
-        else:
-            parts = [[align, False] for align in aligns]
-        for align in aligns:
-            self.parts[output.name, align] = self.part_count + (0 if output.name in IN_A_ROW else aligns.index(align))
-        self.part_count += len(parts)
-        row = {"name": output.name, "attrs": output.attrs, "parts": parts, "sh_type": output.sh_type}
+        for at, align in enumerate(aligns):
+            self.parts[output.name, align] = first + (0 if packed else at)
+        self.number[output.name] = len(self.sections)
         self.events.append(["sec", len(self.sections)])
-        self.sections.append(row)
-
-    def segment(self, kind: str, p_type: int, p_flags: int, outputs: List[Output]) -> None:
-        number = len(self.segments)
-        self.segments.append({"kind": kind, "p_type": p_type, "p_flags": p_flags})
-        self.events.append(["seg", number])
-        for inner_kind, inner_type, run in self.runs(outputs) if kind == "load" else [("", 0, outputs)]:
-            if inner_kind:
-                self.segment(inner_kind, inner_type, 4, run)
-            else:
-                for output in run:
-                    self.place(output)
-        self.events.append(["endseg", number])
-
-    def load(self, p_flags: int, outputs: List[Output]) -> None:
-        self.segment("load", 1, p_flags, outputs)
-
-    @staticmethod
-    def runs(outputs: List[Output]) -> List[Tuple[str, int, List[Output]]]:
-        """Output sections in a row that stand in one segment inside the load segment, or in none."""
-        result: List[Tuple[str, int, List[Output]]] = []
-        for output in outputs:
-            inner = ("", 0)
-            if output.attrs & TLS:
-                inner = ("tls", 7)
-            elif output.name.startswith(".note"):
-                inner = ("other", 4)
-            elif output.name == ".eh_frame_hdr":
-                inner = ("other", 0x6474E550)
-            if result and result[-1][:2] == inner:
-                result[-1][2].append(output)
-            else:
-                result.append((*inner, [output]))
-        return result
+        parts = [[align, packed] for align in (aligns[:1] if packed else aligns)]
+        self.sections.append({"name": output.name, "attrs": output.attrs, "parts": parts, "sh_type": output.sh_type})
 
     def described(self) -> Dict[str, Any]:
         parts, number = self.parts, self.number
@@ -442,10 +413,10 @@ def linker_symbols(names: Iterable[str], plan: Plan) -> Tuple[List[Dict[str, Any
     edges, bounds, kept = [], [], set()
     for name in names:
         start = re.fullmatch(r"__(start|stop)_(\w+)", name)
-        if name in EDGES and EDGES[name][1] in plan.number:
-            edge, section = EDGES[name]
+        edge, section = EDGES.get(name, "- -").split()
+        if section in plan.number:
             edges.append({"name": name, "at": [edge, plan.number[section]]})
-        elif name in LOAD_BASE:
+        elif name in ("__ehdr_start", "__executable_start"):
             edges.append({"name": name, "at": ["loadbase"]})
         elif start and start[2] in plan.number:
             bounds.append({"name": name, "at": ["start" if start[1] == "start" else "end", plan.number[start[2]]]})
