@@ -26,7 +26,7 @@ BASE, PAGE = 0x400000, 4096
 # Output sections in their order; others go where `*` and their attributes are.
 ORDER = [".note", ".rela.iplt", ".rodata", "*1", ".eh_frame_hdr", ".eh_frame", ".gcc_except_table"]
 ORDER += [".init", ".plt", ".text", ".fini", "*5", ".tdata", ".tbss", ".preinit_array", ".init_array", ".fini_array"]
-ORDER += [".ctors", ".dtors", ".data.rel.ro", ".got", ".data", "*3", ".bss", "*19"]
+ORDER += [".ctors", ".dtors", ".data.rel.ro", ".got", ".data", "*3", "*19", ".bss"]
 ALWAYS_THERE = {".rela.iplt": 1, ".rodata": 1, ".plt": 5, ".text": 5, ".got": 3, ".data": 3, ".bss": 19}
 ARRAYS = {".preinit_array": 3, ".init_array": 3, ".fini_array": 3}
 PREFIXES = [".text", ".rodata", ".data.rel.ro", ".data", ".bss", ".tdata", ".tbss", ".gcc_except_table", *ARRAYS]
@@ -228,42 +228,44 @@ def section_input(file: File, index: int, section: Section) -> Input:
     return result
 
 
+def add_record(file: File, index: int, at: int, size: int, made_at: Dict[int, int]) -> int:
+    """Makes an input section of a record of `.eh_frame`, and of a frame's row; gives its number, or that of the whole
+    `.eh_frame` for a frame whose function another file has."""
+    length, back = size - 4, struct.unpack_from("<I", file.object.contents(index), at + 4)[0] if size > 4 else 0
+    of = {"record": "fde" if back else "cie" if length else "end", "section": index, "offset": at}
+    made = Input(".eh_frame", "unloaded" if length else "must", size, ".eh_frame", 8, of=of)
+    inside = [r for r in file.object.relocations.get(index, []) if at <= r.offset < at + size]
+    made.relocs = [[r.offset - at, r, r.symbol, r.addend, False] for r in inside]
+    if back:
+        starts = [file.object.symbols[r.symbol].section for r in inside if r.offset == at + 8]
+        if not starts or not 0 < starts[0] < len(file.object.sections):
+            refuse(f"{file.object.name}: a frame at {at} of .eh_frame whose function isn't in a section")
+        if starts[0] in file.dropped:
+            return index
+        made.group, of["cie"] = file.group_of(starts[0]), made_at[at + 4 - back]
+        made.relocs.append([4, "Relative", len(file.object.symbols) + len(file.marks), 0, False])
+        file.marks.append(of["cie"])
+        row = {"record": "row", "fde": len(file.inputs) + 1}
+        file.inputs.append(Input("", "unloaded", 8, ".eh_frame_hdr", 4, group=made.group, of=row))
+    file.inputs.append(made)
+    return len(file.inputs) - 1
+
+
 def add_frames(file: File, index: int) -> None:
-    """Cuts an `.eh_frame` into records: each FDE goes with its function's section, and so does its row in the header."""
-    data = file.object.contents(index)
-    relocations = sorted(file.object.relocations.get(index, []), key=lambda r: r.offset)
-    records, at, infos = [], 0, {}
+    """Cuts an `.eh_frame` into records: each frame goes with its function's section, and so does its row."""
+    data, at, made_at = file.object.contents(index), 0, {}
+    file.frames[index] = []
     while at < len(data):
         (length,) = struct.unpack_from("<I", data, at)
         if length == 0xFFFFFFFF:
             refuse(f"{file.object.name}: a record of .eh_frame with 64-bit length")
-        size, back = length + 4, struct.unpack_from("<I", data, at + 4)[0] if length else 0
-        inside = [r for r in relocations if at <= r.offset < at + size]
-        of = {"record": "fde" if back else "cie" if length else "end", "section": index, "offset": at}
-        made = Input(".eh_frame", "unloaded" if length else "must", size, ".eh_frame", 8, of=of)
-        made.relocs = [[r.offset - at, r, r.symbol, r.addend, False] for r in inside]
-        if back:
-            function = file.object.symbols[inside[0].symbol].section if inside else 0
-            if not inside or inside[0].offset != at + 8 or not 0 < function < len(file.object.sections):
-                refuse(f"{file.object.name}: a frame at {at} of .eh_frame whose function isn't in a section")
-            if function in file.dropped:
-                records.append((at, size, index))
-                at += size
-                continue
-            made.group, of["cie"] = file.group_of(function), infos[at + 4 - back]
-            made.relocs.append([4, "Relative", len(file.object.symbols) + len(file.marks), 0, False])
-            file.marks.append(of["cie"])
-            row = {"record": "row", "fde": len(file.inputs) + 1}
-            file.inputs.append(Input("", "unloaded", 8, ".eh_frame_hdr", 4, group=made.group, of=row))
-        infos[at] = len(file.inputs)
-        records.append((at, size, len(file.inputs)))
-        file.inputs.append(made)
-        at += size
+        made_at[at] = add_record(file, index, at, length + 4, made_at)
+        file.frames[index].append((at, length + 4, made_at[at]))
+        at += length + 4
     if not data:
-        records.append((0, 0, len(file.inputs)))
+        file.frames[index].append((0, 0, len(file.inputs)))
         of = {"record": "end", "section": index, "offset": 0}
         file.inputs.append(Input(".eh_frame", "unloaded", 0, ".eh_frame", 8, of=of))
-    file.frames[index] = records
 
 
 def add_resolvers(file: File, best: Dict[str, Tuple[File, int]]) -> None:
@@ -325,7 +327,7 @@ def outputs_of(files: List[File]) -> Dict[str, Output]:
             section = file.object.sections[index] if index < len(file.object.sections) else None
             attrs = attributes(section) if section else ALLOC
             there = outputs.setdefault(made.output, Output(made.output, attrs, section.type if section else elf.SHT_PROGBITS))
-            there.attrs = (there.attrs | attrs) & ~NOBITS | (there.attrs & attrs & NOBITS)
+            there.attrs = (there.attrs | attrs) & ~NOBITS | (there.attrs & attrs & NOBITS)  # zeros only where all are
             there.aligns.add(made.align)
         for symbol in file.object.symbols:
             if symbol.section == elf.SHN_COMMON:
@@ -369,7 +371,8 @@ class Plan:
         tables = [(".comment", 1, {1}), (".symtab", 2, {8, 4}), (".strtab", 3, {1}), (".shstrtab", 3, {1}), ("table", 0, {8})]
         heads = [Output("", ALLOC, 0, {8}), Output("headers", ALLOC, 0, {8})]
         is_open: List[Tuple[Tuple[str, int, int], int]] = []
-        for output in [*heads, *sorted(outputs.values(), key=place_of), *(Output(n, 0, t, a) for n, t, a in tables)]:
+        allocated = sorted((o for o in outputs.values() if o.attrs & ALLOC), key=place_of)
+        for output in [*heads, *allocated, *(Output(n, 0, t, a) for n, t, a in tables)]:
             around = segments_around(output)
             while [segment for segment, _ in is_open] != around[: len(is_open)]:
                 self.events.append(["endseg", is_open.pop()[1]])
@@ -481,9 +484,8 @@ def described_file(file: File, plan: Plan, numbers: Dict[str, int]) -> Dict[str,
     return {"kind": "object", "name": the.name, "path": os.path.abspath(the.path), "offset": the.offset, "symbols": rows, "sections": inputs}
 
 
-def describe(paths: List[str]) -> Dict[str, Any]:
-    placed = load_all(paths)
-    files = [File(the) for _, the in placed]
+def prepare(files: List[File]) -> Dict[str, Tuple[File, int]]:
+    """Fills in the input sections of the files; what stands for each global name."""
     choose_groups(files)
     best = resolve(files)
     for file in files:
@@ -493,38 +495,51 @@ def describe(paths: List[str]) -> Dict[str, Any]:
                 add_frames(file, index)
         add_resolvers(file, best)
         add_relocations(file, best)
-    framed = any(i.output == ".eh_frame_hdr" for file in files for i in file.inputs)
-    outputs = outputs_of(files)
-    plan = Plan(outputs)
-    missing = [n for n, (file, i) in best.items() if rank(file, file.object.symbols[i])[0] == 0]
-    edges, bounds, kept = linker_symbols(missing, plan)
-    head = {"kind": "object", "name": "header of frames", "sections": []}
-    if framed:
-        part = plan.parts[".eh_frame_hdr", 4]
-        head["sections"] = [{"slot": "must", "size": 12, "part": part, "of": {"record": "header"}}]
-    at = len(edges) + len(bounds)
+    return best
+
+
+def number_symbols(files: List[File], best: Dict[str, Tuple[File, int]], made: List[Dict[str, Any]]) -> Dict[str, int]:
+    """The numbers of what stands for global names: the linker's own come first, then those of the files."""
+    at = len(made)
     for file in files:
         file.first = at
         at += len(file.object.symbols) + len(file.marks)
     numbers = {name: file.first + index for name, (file, index) in best.items()}
-    numbers.update({row["name"]: index for index, row in enumerate(edges + bounds)})
-    groups: List[List[Dict[str, Any]]] = [[{"kind": "prelude", "symbols": edges}], [head]]
-    candidates, made_by, last = [], {"kind": "synthetic", "symbols": bounds}, -1
-    groups[1].insert(0, made_by)
+    numbers.update({row["name"]: index for index, row in enumerate(made)})
+    return numbers
+
+
+def own_files(plan: Plan, bounds: List[Dict[str, Any]]) -> List[Dict[str, Any]]:
+    """What the linker brings along: `__start_` and `__stop_`, and the header of the rows of frames."""
+    head: Dict[str, Any] = {"kind": "object", "name": "header of frames"}
+    if (".eh_frame_hdr", 4) in plan.parts:
+        part = plan.parts[".eh_frame_hdr", 4]
+        head["sections"] = [{"slot": "must", "size": 12, "part": part, "of": {"record": "header"}}]
+    return [{"kind": "synthetic", "symbols": bounds, "candidates": []}, head]
+
+
+def describe(paths: List[str]) -> Dict[str, Any]:
+    placed = load_all(paths)
+    files = [File(the) for _, the in placed]
+    best = prepare(files)
+    plan = Plan(outputs_of(files))
+    missing = [n for n, (file, i) in best.items() if rank(file, file.object.symbols[i])[0] == 0]
+    edges, bounds, kept = linker_symbols(missing, plan)
+    numbers = number_symbols(files, best, edges + bounds)
+    own, last = own_files(plan, bounds), -1
+    groups: List[List[Dict[str, Any]]] = [[{"kind": "prelude", "symbols": edges}], own]
     for (input_at, _), file in zip(placed, files):
-        if input_at != last:
+        if input_at != last:  # a group for each object or archive that is named
             groups.append([])
             last = input_at
         place = [len(groups) - 1, len(groups[-1])]
         for index, made in enumerate(file.inputs):
             if made.output in kept and made.slot in ("unloaded", "must"):
-                candidates.append([plan.number[made.output], *place, index])
+                own[0]["candidates"].append([plan.number[made.output], *place, index])
         groups[-1].append(described_file(file, plan, numbers))
-    made_by["candidates"] = candidates
-    options: Dict[str, Any] = {"output": "static", "identity": "a layout that is proved"}
     if "_start" not in numbers:
         refuse("no symbol _start")
-    options["entry"] = numbers["_start"]
+    options = {"output": "static", "identity": "a layout that is proved", "entry": numbers["_start"]}
     return {"options": options, "plan": plan.described(), "groups": groups}
 
 

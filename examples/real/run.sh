@@ -43,6 +43,11 @@ for source in start text hello; do
     gcc $flags -ffreestanding -fno-stack-protector -c "$here/$source.c" -o "$folder/$source.o" || exit 1
 done
 try freestanding gcc -nostdlib "$folder/start.o" "$folder/text.o"
+sed 's/^\(live .*\) /\1 1/' "$folder/freestanding.report" >"$folder/wrong.report"
+if python3 "$here/write.py" "$folder/freestanding.json" "$folder/wrong.report" "$folder/wrong" 2>/dev/null; then
+    echo "wrong sizes in a report: FAILED, they were taken"
+    failed=1
+fi
 if command -v musl-gcc >/dev/null; then
     musl-gcc $flags -c "$here/hello.c" -o "$folder/hello-musl.o" || exit 1
     try musl musl-gcc "$folder/hello-musl.o"
