@@ -4,8 +4,8 @@
     describe.py [-LDIR] [-lNAME] OBJECT .. ARCHIVE .. > link.json
 
 Beside what docs/FORMAT.md asks for, the description has keys that its reader passes over and write.py uses: `path` and
-`offset` of a file, `p_type` and `p_flags` of a segment, `sh_type` of an output section, and `of` of an input section that
-is no section of its object, but a record of `.eh_frame` or a row of a table that grows with what is live.
+`offset` of a file, `p_type` and `p_flags` of a segment, `sh_type` of an output section, and `of` of an input section
+that is no section of its object, but a record of `.eh_frame` or a row of a table that grows with what is live.
 """
 
 from __future__ import annotations
@@ -32,8 +32,8 @@ ARRAYS = {".preinit_array": 3, ".init_array": 3, ".fini_array": 3}
 PREFIXES = [".text", ".rodata", ".data.rel.ro", ".data", ".bss", ".tdata", ".tbss", ".gcc_except_table", *ARRAYS]
 IN_A_ROW = {".init", ".fini", ".eh_frame", ".eh_frame_hdr"}  # in link order, nothing between: one packed part
 ROOTS = {".init", ".fini", ".ctors", ".dtors", *ARRAYS}
-EDGES = {"_end": "end .bss", "end": "end .bss", "__bss_start": "start .bss", "_edata": "end .data", "edata": "end .data"}
-EDGES.update({"_etext": "end .text", "etext": "end .text", "_GLOBAL_OFFSET_TABLE_": "start .got"})
+EDGES = {"_end": "end .bss", "end": "end .bss", "__bss_start": "start .bss", "_edata": "end .data"}
+EDGES.update(edata="end .data", _etext="end .text", etext="end .text", _GLOBAL_OFFSET_TABLE_="start .got")
 EDGES["__GNU_EH_FRAME_HDR"] = "start .eh_frame_hdr"
 for label, of_edge in [(a[1:], a) for a in ARRAYS] + [("rela_iplt", ".rela.iplt")]:
     EDGES.update({f"__{label}_start": f"start {of_edge}", f"__{label}_end": f"end {of_edge}"})
@@ -120,7 +120,8 @@ def real_paths(path: str) -> List[str]:
     start = elf.file_bytes(path)[:8]
     if start == b"!<arch>\n" or start[:4] == b"\x7fELF":
         return [path]
-    listed = re.fullmatch(r"(?:/\*.*?\*/|\s|OUTPUT_FORMAT\([^)]*\))*(?:GROUP|INPUT) *\(([^()]*)\)\s*", elf.file_bytes(path).decode("latin-1"), re.S)
+    form = r"(?:/\*.*?\*/|\s|OUTPUT_FORMAT\([^)]*\))*(?:GROUP|INPUT) *\(([^()]*)\)\s*"
+    listed = re.fullmatch(form, elf.file_bytes(path).decode("latin-1"), re.S)
     return listed[1].split() if listed else refuse(f"{path}: a linker script, or no object")
 
 
@@ -326,7 +327,8 @@ def outputs_of(files: List[File]) -> Dict[str, Output]:
                 continue
             section = file.object.sections[index] if index < len(file.object.sections) else None
             attrs = attributes(section) if section else ALLOC
-            there = outputs.setdefault(made.output, Output(made.output, attrs, section.type if section else elf.SHT_PROGBITS))
+            sh_type = section.type if section else elf.SHT_PROGBITS
+            there = outputs.setdefault(made.output, Output(made.output, attrs, sh_type))
             there.attrs = (there.attrs | attrs) & ~NOBITS | (there.attrs & attrs & NOBITS)  # zeros only where all are
             there.aligns.add(made.align)
         for symbol in file.object.symbols:
@@ -368,11 +370,11 @@ class Plan:
         self.events: List[List[Any]] = []
         self.number: Dict[str, int] = {}
         self.parts: Dict[Tuple[str, int], int] = {}
-        tables = [(".comment", 1, {1}), (".symtab", 2, {8, 4}), (".strtab", 3, {1}), (".shstrtab", 3, {1}), ("table", 0, {8})]
+        tables = [(".comment", 1, {1}), (".symtab", 2, {8, 4}), (".strtab", 3, {1}), (".shstrtab", 3, {1})]
         heads = [Output("", ALLOC, 0, {8}), Output("headers", ALLOC, 0, {8})]
         is_open: List[Tuple[Tuple[str, int, int], int]] = []
         allocated = sorted((o for o in outputs.values() if o.attrs & ALLOC), key=place_of)
-        for output in [*heads, *allocated, *(Output(n, 0, t, a) for n, t, a in tables)]:
+        for output in [*heads, *allocated, *(Output(n, 0, t, a) for n, t, a in [*tables, ("table", 0, {8})])]:
             around = segments_around(output)
             while [segment for segment, _ in is_open] != around[: len(is_open)]:
                 self.events.append(["endseg", is_open.pop()[1]])
@@ -480,8 +482,8 @@ def described_file(file: File, plan: Plan, numbers: Dict[str, int]) -> Dict[str,
         rows.append(symbol_row(file, symbol, plan, index, defs))
     rows += [{"at": ["sec", made, 0], "local": True} for made in file.marks]
     the = file.object
-    inputs = [input_row(made, plan) for made in file.inputs]
-    return {"kind": "object", "name": the.name, "path": os.path.abspath(the.path), "offset": the.offset, "symbols": rows, "sections": inputs}
+    row = {"kind": "object", "name": the.name, "path": os.path.abspath(the.path), "offset": the.offset}
+    return {**row, "symbols": rows, "sections": [input_row(made, plan) for made in file.inputs]}
 
 
 def prepare(files: List[File]) -> Dict[str, Tuple[File, int]]:

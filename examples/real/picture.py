@@ -14,13 +14,14 @@ from dataclasses import dataclass
 from html import escape
 from typing import Any, Dict, List, Optional, Tuple
 
+from elf import Refusal
 from report import Range, Report, read_report
 
 WIDTH, LEFT, BAR, ROW = 1180, 250, 620, 22  # the page; where bars begin, their length, a line's height
 ALLOC, WRITE, CODE, TLS, NOBITS = 1, 2, 4, 8, 16
 COLOURS = {"code": "#d95f30", "written": "#3b7dc4", "zeros": "#9fc3e8", "read": "#5a9e58", "none": "#999"}
 TABLES = ("file_header", "program_headers", "section_headers", "got", "plt", "strtab", "shstrtab", "dynsym", "dynstr")
-STYLE = "text{font:12px sans-serif;fill:#222}.t{font-size:17px;font-weight:bold}.h{font-size:14px;font-weight:bold}.s{fill:#666}"
+STYLE = "text{font:12px sans-serif;fill:#222}.t{font-size:17px}.h{font-size:14px}.t,.h{font-weight:bold}.s{fill:#666}"
 
 
 @dataclass(frozen=True)
@@ -73,7 +74,8 @@ class Page:
 
     def svg(self) -> str:
         height = self.y + 10
-        head = f'<svg xmlns="http://www.w3.org/2000/svg" width="{WIDTH}" height="{height}" viewBox="0 0 {WIDTH} {height}">'
+        size = f'width="{WIDTH}" height="{height}" viewBox="0 0 {WIDTH} {height}"'
+        head = f'<svg xmlns="http://www.w3.org/2000/svg" {size}>'
         back = f'<rect width="{WIDTH}" height="{height}" fill="#fff"/>'
         return "\n".join([head, f"<style>{STYLE}</style>", back, *self.lines, "</svg>"])
 
@@ -87,9 +89,9 @@ def names_of(link: Optional[Dict[str, Any]], count: int) -> List[str]:
     if link is None:
         return [f"section {index}" for index in range(count)]
     plan = link["plan"]
-    owner = [index for index, row in enumerate(plan["sections"]) for _ in row["parts"]]
+    owner = [index for index, row in enumerate(plan.get("sections", [])) for _ in row["parts"]]
     tables = {owner[part]: field.replace("_", " ") for field, part in plan.items() if field in TABLES}
-    return [row.get("name") or tables.get(i, f"section {i}") for i, row in enumerate(plan["sections"])]
+    return [row.get("name") or tables.get(i, f"section {i}") for i, row in enumerate(plan.get("sections", []))]
 
 
 def places(page: Page, report: Report, names: List[str], kinds: List[str], in_file: bool) -> None:
@@ -102,7 +104,8 @@ def places(page: Page, report: Report, names: List[str], kinds: List[str], in_fi
     for index, there in report.segments.items():
         start, size = ends(there)
         if size:
-            bars.append(Bar(f"segment {index}{kinds[index] if kinds else ''}", f"{start:#x}, {bytes_text(size)}", start, size, "#c9b458"))
+            name = f"segment {index}{kinds[index] if kinds else ''}"
+            bars.append(Bar(name, f"{start:#x}, {bytes_text(size)}", start, size, "#c9b458"))
     for index, there in report.sections.items():
         start, size = ends(there)
         if size and (in_file or there.attrs & ALLOC):
@@ -162,11 +165,17 @@ def picture(report: Report, link: Optional[Dict[str, Any]]) -> str:
     return page.svg()
 
 
-if __name__ == "__main__":
-    with open(sys.argv[1], encoding="utf-8") as file:
-        told = read_report(file)
+def main(report: str, description: Optional[str] = None) -> None:
     described = None
-    if len(sys.argv) > 2:
-        with open(sys.argv[2], encoding="utf-8") as file:
+    if description:
+        with open(description, encoding="utf-8") as file:
             described = json.load(file)
-    print(picture(told, described))
+    with open(report, encoding="utf-8") as file:
+        print(picture(read_report(file), described))
+
+
+if __name__ == "__main__":
+    try:
+        main(*sys.argv[1:3])
+    except Refusal as refusal:
+        sys.exit(f"picture.py: {refusal}")

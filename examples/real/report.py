@@ -5,6 +5,8 @@ from __future__ import annotations
 from dataclasses import dataclass, field
 from typing import Dict, Iterable, List, Optional, Tuple
 
+from elf import refuse
+
 
 @dataclass(frozen=True)
 class Range:
@@ -59,8 +61,11 @@ def a_range(words: List[str], index: Optional[int] = None, attrs: int = 0) -> Ra
 
 
 def read_report(lines: Iterable[str]) -> Report:
-    report, words = Report(), []
-    for line in lines:
+    report, words, rest = Report(), [], iter(lines)
+    first = next(rest, "").rstrip()
+    if first != "layout":
+        refuse(f"no report, but: {first}")
+    for line in rest:
         words = line.split()
         if words[0] == "section":
             report.sections[int(words[1])] = a_range(words[4:], maybe(words[3]), int(words[15]))
@@ -81,5 +86,5 @@ def read_report(lines: Iterable[str]) -> Report:
         elif words[0] == "entry" and words[1].startswith("0x"):
             report.entry = number(words[1])
     if words != ["end"]:
-        raise ValueError("the report has no end")
+        refuse("a report without its end")
     return report

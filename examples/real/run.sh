@@ -1,12 +1,13 @@
 #!/bin/sh
-# run.sh PROGRAM [FOLDER]: links programs by the layouts of PROGRAM (lk_program), runs them, and compares what they print
-# with what the system's linker's links of the same objects print. Without a compiler it says so and ends with 0.
+# run.sh PROGRAM [FOLDER]: links programs by the layouts of PROGRAM (lk_program), runs them, and compares what they
+# print with what the system's linker's links of the same objects print. Without a compiler it says so and ends with 0.
 here=$(cd "$(dirname "$0")" && pwd)
 case ${1:?run.sh PROGRAM [FOLDER]} in
 */*) PROGRAM=$(cd "$(dirname "$1")" && pwd)/$(basename "$1") ;;
 *) PROGRAM=$1 ;;
 esac
 export PROGRAM
+[ "$(uname -sm)" = "Linux x86_64" ] || { echo "no Linux on x86-64: no real program is linked"; exit 0; }
 for tool in python3 gcc; do
     command -v $tool >/dev/null || { echo "no $tool: no real program is linked"; exit 0; }
 done

@@ -199,7 +199,7 @@ def field_bytes(how: elf.RelocationType, value: int, where: str) -> bytes:
 
 
 def local_exec(data: bytearray, one: Relocation) -> Relocation:
-    """Code that asks where thread-local data is, made code that knows: `mov %fs:0, %rax`, and for one symbol a `lea`."""
+    """Code that asks where thread-local data is, made code that knows: `mov %fs:0,%rax`, and for one symbol a `lea`."""
     at = one.offset
     if one.type == elf.R_X86_64_TLSGD and data[at - 4 : at] == b"\x66\x48\x8d\x3d":
         data[at - 4 : at + 8] = bytes.fromhex("64488b042500000000488d80")
@@ -365,8 +365,8 @@ def write_program_headers(out: Output) -> None:
         if load and (there.mem - offset) % page:
             refuse(f"segment {index}: memory and file differ modulo {page}")
         align = max(there.align, page) if load else there.align
-        kind, flags = planned["p_type"], planned["p_flags"]
-        rows += struct.pack("<IIQQQQQQ", kind, flags, offset, there.mem, there.mem, there.file_size, there.mem_size, align)
+        rows += struct.pack("<IIQQQ", planned["p_type"], planned["p_flags"], offset, there.mem, there.mem)
+        rows += struct.pack("<QQQ", there.file_size, there.mem_size, align)
     out.whole("program_headers", rows)
 
 
@@ -392,7 +392,8 @@ def write_section_headers(out: Output) -> None:
     head = b"\x7fELF\x02\x01\x01" + bytes(9)
     fields = (2, 62, 1, out.report.entry, out.part(out.plan["program_headers"]).file, table, 0)
     head += struct.pack("<HHIQQQI", *fields)
-    out.whole("file_header", head + struct.pack("<6H", 64, 56, len(out.report.segments), 64, len(emitted), index_of[".shstrtab"]))
+    head += struct.pack("<6H", 64, 56, len(out.report.segments), 64, len(emitted), index_of[".shstrtab"])
+    out.whole("file_header", head)
 
 
 def write(link: Dict[str, Any], report: Report) -> bytearray:
