@@ -235,7 +235,7 @@ def add_record(file: File, index: int, at: int, size: int, made_at: Dict[int, in
     length, back = size - 4, struct.unpack_from("<I", file.object.contents(index), at + 4)[0] if size > 4 else 0
     of = {"record": "fde" if back else "cie" if length else "end", "section": index, "offset": at}
     made = Input(".eh_frame", "unloaded" if length else "must", size, ".eh_frame", 8, of=of)
-    inside = [r for r in file.object.relocations.get(index, []) if at <= r.offset < at + size]
+    inside = file.object.relocations_between(index, at, at + size)
     made.relocs = [[r.offset - at, r, r.symbol, r.addend, False] for r in inside]
     if back:
         starts = [file.object.symbols[r.symbol].section for r in inside if r.offset == at + 8]

@@ -3,6 +3,7 @@
 from __future__ import annotations
 
 import struct
+from bisect import bisect_left
 from dataclasses import dataclass, field
 from functools import lru_cache
 from typing import Dict, Iterator, List, NoReturn, Optional, Tuple
@@ -106,6 +107,7 @@ class Object:
     sections: List[Section] = field(default_factory=list)
     symbols: List[Symbol] = field(default_factory=list)
     relocations: Dict[int, List[Relocation]] = field(default_factory=dict)
+    offsets: Dict[int, List[int]] = field(default_factory=dict)  # of the relocations, which rise
     groups: List[Tuple[str, bool, List[int]]] = field(default_factory=list)  # signature, COMDAT, members
 
     def contents(self, index: int) -> bytes:
@@ -113,6 +115,10 @@ class Object:
         if section.type == SHT_NOBITS:
             return b""
         return self.image[section.offset : section.offset + section.size]
+
+    def relocations_between(self, index: int, start: int, end: int) -> List[Relocation]:
+        offsets = self.offsets.get(index, [])
+        return self.relocations.get(index, [])[bisect_left(offsets, start) : bisect_left(offsets, end)]
 
     def relocations_of(self, index: int) -> List[Relocation]:
         """Those of a section; a call of `__tls_get_addr`, which is behind the relocation that asks for it, is none."""
@@ -156,7 +162,9 @@ def read_object(path: str, offset: int, name: str, image: bytes) -> Object:
     for index, section in enumerate(the.sections):
         if section.type == SHT_RELA:
             rows = struct.iter_unpack("<QQq", the.contents(index))
-            the.relocations[section.info] = [Relocation(o, i & 0xFFFFFFFF, i >> 32, a) for o, i, a in rows]
+            found = [Relocation(o, i & 0xFFFFFFFF, i >> 32, a) for o, i, a in rows]
+            the.relocations[section.info] = sorted(found, key=lambda one: one.offset)
+            the.offsets[section.info] = [one.offset for one in the.relocations[section.info]]
         elif section.type == SHT_REL:
             refuse(f"{name}: relocations without addends (SHT_REL)")
         elif section.type == SHT_GROUP:

@@ -162,8 +162,8 @@ def relocations_of(out: Output, place: Place) -> List[Relocation]:
         return []
     if not of:
         return the.relocations_of(place[2])
-    start, own = of["offset"], the.relocations.get(of["section"], [])
-    inside = (r for r in own if start <= r.offset < start + row["size"])
+    start = of["offset"]
+    inside = the.relocations_between(of["section"], start, start + row["size"])
     return [Relocation(r.offset - start, r.type, r.symbol, r.addend) for r in inside]
 
 
