@@ -213,7 +213,7 @@ def section_input(file: File, index: int, section: Section) -> Input:
     alloc, name = bool(section.flags & elf.SHF_ALLOC), output_name(section)
     listed = section.type not in (0, elf.SHT_SYMTAB, elf.SHT_RELA, elf.SHT_GROUP)
     left_out = not listed or index in file.dropped or section.name in (".eh_frame", ".note.gnu.property")
-    left_out = left_out or bool(section.flags & 0x80000000) or not (alloc or section.name == ".comment")
+    left_out = left_out or bool(section.flags & elf.SHF_EXCLUDE) or not (alloc or section.name == ".comment")
     result = Input(section.name, "discard", section.size, name, section.align)
     if left_out:
         return result
@@ -292,7 +292,8 @@ def definition(file: File, index: int, best: Dict[str, Tuple[File, int]]) -> Opt
 def kind_of(file: File, relocation: elf.Relocation, best: Dict[str, Tuple[File, int]]) -> str:
     known = elf.RELOCATION_TYPES.get(relocation.type)
     if known is None:
-        refuse(f"{file.object.name}: relocation of type {relocation.type}")
+        name = "R_X86_64_" + elf.REFUSED.get(relocation.type, f"({relocation.type})")
+        refuse(f"{file.object.name}: a relocation {name}, for which there is no rule here")
     target = definition(file, relocation.symbol, best)
     if target and target.section and target.type == elf.STT_GNU_IFUNC and known.kind in ("Absolute", "Relative"):
         return "PltRelative"

@@ -18,7 +18,7 @@ from elf import Refusal
 from report import Range, Report, read_report
 
 WIDTH, LEFT, BAR, ROW = 1180, 250, 620, 22  # the page; where bars begin, their length, a line's height
-ALLOC, WRITE, CODE, TLS, NOBITS = 1, 2, 4, 8, 16
+ALLOC, WRITE, CODE, NOBITS = 1, 2, 4, 16
 COLOURS = {"code": "#d95f30", "written": "#3b7dc4", "zeros": "#9fc3e8", "read": "#5a9e58", "none": "#999"}
 TABLES = ("file_header", "program_headers", "section_headers", "got", "plt", "strtab", "shstrtab", "dynsym", "dynstr")
 STYLE = "text{font:12px sans-serif;fill:#222}.t{font-size:17px}.h{font-size:14px}.t,.h{font-weight:bold}.s{fill:#666}"
