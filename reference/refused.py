@@ -6,8 +6,7 @@ usage: refused.py PROGRAM [DESCRIPTION..]
 For each of the descriptions, unless told those of examples/ and some random ones in which something is merged in
 several groups, and for 0, 2 and 4 workers: a run in which the first growth is refused, one in which the second is, and
 so on to the last. The same of two generated links. Each has to write nothing and end with 6, or to do without and
-answer as the run in which none is refused: with one thread that is the scratch of a sort alone, which the sort of the
-standard library can do without. The examples are of every kind: merged strings, thunks, relaxation, output that is
+answer as the run in which none is refused, which with one thread few do. What gives memory back isn't refused. The examples are of every kind: merged strings, thunks, relaxation, output that is
 linked again, redirects, tables. Says at its end how many growths there were, and ends with 1 where a run did something
 else. Needs a C compiler, `cc`.
 """
