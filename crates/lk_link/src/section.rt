@@ -82,7 +82,8 @@ pub struct InputSection {
     pub part: PartId,
     /// Bytes; of a merge section, how many it holds.
     pub size: u64,
-    /// Its data, empty where none are given; in a checked link those of a section that isn't merged are `size` bytes.
+    /// Its data; those that a reader makes are empty where none are given. In a checked link they are as many bytes as its size says
+    /// where they are `given` and the section isn't merged.
     pub bytes: List<u8>,
     /// Whether data are given, empty ones too.
     pub given: bool,

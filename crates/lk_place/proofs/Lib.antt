@@ -7,6 +7,7 @@ mod Checked
 mod Computing
 mod CongruenceLaws
 mod Congruent
+mod DistanceLaws
 mod GivenLists
 mod HullLaws
 mod InsideLaws
@@ -30,6 +31,7 @@ mod RefusalLaws
 mod RegionLaws
 mod RegionNames
 mod SecondaryLaws
+mod SectionDistances
 mod SectionEnds
 mod SectionRegions
 mod SegmentAlignments

@@ -3,6 +3,7 @@ pub mod Answers
 pub mod AtHand
 pub mod Base
 pub mod Counters
+pub mod Distance
 pub mod FileRange
 pub mod Hulls
 pub mod InRegions

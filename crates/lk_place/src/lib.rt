@@ -5,6 +5,7 @@
 pub mod alignments;
 pub mod base;
 pub mod cursors;
+pub mod distance;
 pub mod error;
 pub mod file_range;
 pub mod hulls;

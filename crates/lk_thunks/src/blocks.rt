@@ -3,7 +3,7 @@
 //! Objects follow each other in memory. A block is a stretch of them with one owner, behind whose bytes its thunks stand: the
 //! first object of all owns the first block, and objects join as long as they end in range of the owner's end. The next one
 //! opens a block, and the last object that ends in range of where that one begins owns it. So thunks stand behind a part of their
-//! users and before the rest, and each user is in range of where they begin.
+//! users and before the rest; where each object is shorter than the range, each byte of a user is in range of where they begin.
 
 ghost use Rattle.std.specs.Prelude.{◌≡◌, ◌<◌, ◌≤◌, ◌^◌, ◌++◌, IfOk, OnOk, length};
 ghost use Rattle.lk_thunks.specs.Blocks.{assigned, block_from, objects_of, owner_from, past, pending_owner, thunk_blocks, assigned_from, users_of};
