@@ -18,7 +18,7 @@ use Rattle.lk_map.specs.Spans.{AreApart, counts_in_file, counts_in_memory, file_
 
 -- ---- what is found, and what isn't
 
-contains_more : {X : Type 0} (x : X) (xs : List X) (y : X) → Contains xs y → Contains (x ∷ xs) y
+pub contains_more : {X : Type 0} (x : X) (xs : List X) (y : X) → Contains xs y → Contains (x ∷ xs) y
 contains_more x xs y (k, h, e) = (suc k, omega arith, e)
 
 none_case : {X : Type 0} (test : X → Bool) (x : X) (xs : List X) (b : Bool) → test x ≡ b → find test (x ∷ xs) ≡ None → (find test xs ≡ None → All (λ y. test y ≡ false) xs) → All (λ y. test y ≡ false) (x ∷ xs)
@@ -51,7 +51,7 @@ any_case test x xs false is e rest =
     (y, contains_more x xs y there, passes)
 
 -- one passes
-any_of : {X : Type 0} (test : X → Bool) (xs : List X) → list_any test xs ≡ true → (x : X) × Contains xs x × (test x ≡ true)
+pub any_of : {X : Type 0} (test : X → Bool) (xs : List X) → list_any test xs ≡ true → (x : X) × Contains xs x × (test x ≡ true)
 any_of test [] e = absurd (false≢true e)
 any_of test (x ∷ xs) e = any_case test x xs (test x) refl e (any_of test xs)
 
@@ -60,7 +60,7 @@ no_case test x xs true is e rest = absurd (false≢true (sym e ∙ ap (λ b. b |
 no_case test x xs false is e rest = All-cons (λ y. test y ≡ false) x xs is (rest (sym (ap (λ b. b || list_any test xs) is) ∙ e))
 
 -- none does
-none_of : {X : Type 0} (test : X → Bool) (xs : List X) → list_any test xs ≡ false → All (λ x. test x ≡ false) xs
+pub none_of : {X : Type 0} (test : X → Bool) (xs : List X) → list_any test xs ≡ false → All (λ x. test x ≡ false) xs
 none_of test [] e = All-nil (λ x. test x ≡ false)
 none_of test (x ∷ xs) e = no_case test x xs (test x) refl e (none_of test xs)
 
@@ -157,22 +157,22 @@ apart_both spans x y apart (a, in_a, is_a) (b, in_b, is_b) some overlap =
     (cases_lt a b))
     (cases_eq a b)
 
-counted_in_memory : (s : SectionLine) → counts_in_memory s ≡ true → 0 < s.mem_size
+pub counted_in_memory : (s : SectionLine) → counts_in_memory s ≡ true → 0 < s.mem_size
 unfolding counts_in_memory
 counted_in_memory s h =
     let some = (and_parts (nat_lt 0 s.mem_size) (is_allocated s && not (is_set 8 s.attrs && is_set 16 s.attrs)) h).0 in
     grind (arith, nat_tests)
 
-counted_in_file : (s : SectionLine) → counts_in_file s ≡ true → 0 < s.file_size
+pub counted_in_file : (s : SectionLine) → counts_in_file s ≡ true → 0 < s.file_size
 unfolding counts_in_file
 counted_in_file s h = grind (arith, nat_tests)
 
 -- ranges of sections that count have bytes
-have_bytes : (counts : SectionLine → Bool) (span : SectionLine → Span) → ((s : SectionLine) → counts s ≡ true → 0 < (span s).size) → (ss : List SectionLine) → All (λ x. 0 < x.size) (map span (filter counts ss))
+pub have_bytes : (counts : SectionLine → Bool) (span : SectionLine → Span) → ((s : SectionLine) → counts s ≡ true → 0 < (span s).size) → (ss : List SectionLine) → All (λ x. 0 < x.size) (map span (filter counts ss))
 have_bytes counts span some ss =
     All-map (λ (x : Span). 0 < x.size) span (filter counts ss) (All-weaker (λ s. counts s ≡ true) (λ s. 0 < (span s).size) some (filter counts ss) (filter_passes counts ss))
 
-overlap_not : (spans : List Span) (lines : ℕ × ℕ) → All (λ x. 0 < x.size) spans → FindsOverlap spans (Some lines) → AreApart spans → ⊥
+pub overlap_not : (spans : List Span) (lines : ℕ × ℕ) → All (λ x. 0 < x.size) spans → FindsOverlap spans (Some lines) → AreApart spans → ⊥
 unfolding FindsOverlap
 overlap_not spans lines bytes (x, y, first, low, high) apart =
     apart_both spans x y apart first.one first.other (All-contains (λ x. 0 < x.size) spans y bytes first.other) first.overlap

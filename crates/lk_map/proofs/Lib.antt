@@ -9,4 +9,5 @@ pub mod Overlaps
 pub mod Reading
 pub mod Refused
 pub mod Spelled
+pub mod Verdicts
 pub mod WrittenMaps

@@ -9,4 +9,5 @@ pub mod Sorted
 pub mod Spans
 pub mod Sweep
 pub mod Values
+pub mod Verdicts
 pub mod Written

@@ -1,6 +1,7 @@
 //! Laws on maps. Each is a function that does nothing, and ensures its law.
 
 ghost use Rattle.lk_map.specs.Good.{GoodMapsAreCongruent};
+ghost use Rattle.lk_map.specs.Verdicts.{MapsAreJudged, MapsRise, VerdictsAgree};
 ghost use Rattle.lk_map.specs.Written.{ReadsMaps, RefusesFirst};
 
 /// A text is read as these lines exactly where it is a map of them.
@@ -17,4 +18,19 @@ pub fn refuses_first()
 /// in the file, modulo every number.
 pub fn good_maps_are_congruent()
     ensures { GoodMapsAreCongruent }
+{}
+
+/// The sections of a map stand in rising order of their lines.
+pub fn maps_rise()
+    ensures { MapsRise }
+{}
+
+/// Sections whose lines rise have a verdict, with any segments.
+pub fn maps_are_judged()
+    ensures { MapsAreJudged }
+{}
+
+/// No two verdicts on the same sections and segments differ.
+pub fn verdicts_agree()
+    ensures { VerdictsAgree }
 {}
