@@ -1,5 +1,5 @@
 -- Each byte of the file of a defined layout is one owner's.
-use Rattle.std.proofs.Common.{◌≡◌, ℕ, zero, suc, ◌+◌, ◌-◌, ◌<◌, ◌≤◌, true, List, [], ◌∷◌, Some, length, map, take, refl, sym, ap, subst, ◌∙◌, inl, inr, arith, add-one, length-drop, length-take}
+use Rattle.std.proofs.Common.{◌≡◌, ℕ, zero, suc, ◌+◌, ◌-◌, ◌<◌, ◌≤◌, true, List, [], ◌∷◌, Some, length, map, take, sym, ap, subst, ◌∙◌, inl, inr, arith, add-one, length-drop, length-take}
 use Rattle.std.specs.Prelude.{drop, if◌then◌else◌, slice_get, slice_index}
 use Rattle.std.specs.List.{slice_index_or}
 use Rattle.std.proofs.lemmas.Bool.{cases_lt}
@@ -7,6 +7,7 @@ use Rattle.std.proofs.lemmas.Bool.Decides.{eqb_tells}
 use Rattle.std.proofs.lemmas.List.{get_or-map, length-map}
 use Rattle.lk_check.specs.FirstFault.{WellFormedExactlyUnfaulted}
 use Rattle.lk_link.specs.declared.link.LinkInput.{LinkInput}
+use Rattle.lk_link.specs.declared.plan.PlanPart.{PlanPart}
 use Rattle.lk_link.specs.declared.plan.PlanSection.{PlanSection}
 use Rattle.lk_link.specs.Inputs.{Input}
 use Rattle.lk_link.specs.Parts.{all_parts, first_part, part_at}
@@ -19,7 +20,7 @@ use Rattle.lk_place.specs.Segments.{greatest, hull, least, part_records, section
 use Rattle.lk_place.specs.Setting.{Setting, part_count, part_number, size_at}
 use Rattle.lk_relaxing.specs.RelaxedLaws.{RelaxedStands}
 use Rattle.lk_sizes.specs.declared.addresses.LiveSection.{LiveSection}
-use Rattle.lk_sizes.specs.Owners.{Owner, SectionOwner, size_of}
+use Rattle.lk_sizes.specs.Owners.{Owner, SectionOwner, bytes_of, owner_bytes, size_of}
 use Rattle.lk_sizes.specs.PartOwners.{LiveSectionsAreOwners, owner_number, owners_of}
 use Rattle.lk_sizes.specs.Tiles.{HasByte}
 use Rattle.lk_layout.specs.FileBytes.{HasFileByte, IsFileBacked, IsInFileOf, LaidOutFileHasOneOwner, LiveSectionsOwnTheirFileBytes, LiveSectionsShareNoFileByte, OwnersShareNoFileByte, OwnersStandInTheirSections, file_place}
@@ -28,10 +29,10 @@ use Rattle.lk_layout.specs.LayoutRecord.{LayoutRecord}
 use Rattle.lk_layout.specs.Machines.{Machine}
 use Rattle.lk_layout.specs.Made.{Made, made_filling, made_of}
 use Rattle.lk_layout.specs.Sound.{IsSharedOut, IsSound, IsTold, part_record}
-use Rattle.lk_layout.specs.Spans.{made_sections}
 use Rattle.lk_layout.proofs.HeldParts as held
 use Rattle.lk_layout.proofs.LaidOut.{IsLaidOut, laid_out}
 use Rattle.lk_layout.proofs.Settings.{ready}
+use Rattle.lk_layout.proofs.ThunkAddresses.{bytes_within}
 use Rattle.lk_layout.proofs.Soundness.{Stands, has_byte, one_owner, parts_are, set_by, stands}
 
 -- ---- the section of a part
@@ -133,20 +134,24 @@ parts_end sections parts s p each from below =
     = subst (λ n. n ≤ greatest 0 ends) (get_or-map file_end rs j nowhere 0 count) (held.at_most 0 ends j 0 (omega (arith, count, length-map rs file_end))) in
     omega (arith, under, whole, ap file_end at)
 
-stand_inside : (machine : Machine) (link : LinkInput) (layout : LayoutRecord) (laid : IsLaidOut machine link layout) (made : Made) → made.link ≡ link → AreShared made layout → TakesBoth made.link layout
-    → layout.section_layouts ≡ section_records link.plan.sections layout.section_part_layouts → length layout.section_part_layouts ≡ length (all_parts link.plan.sections)
+stand_inside : (made : Made) (layout : LayoutRecord) → AreShared made layout → TakesBoth made.link layout
+    → layout.section_layouts ≡ section_records made.link.plan.sections layout.section_part_layouts → length layout.section_part_layouts ≡ length (all_parts made.link.plan.sections)
     → OwnersStandInTheirSections made layout
-stand_inside machine link layout laid made is shared both spans each p k offset byte =
-    let part = byte.in_file.part in
-    let s : ℕ = byte.in_file.section in
-    let from : first_part link.plan.sections s ≤ p = subst (λ (l : LinkInput). first_part l.plan.sections s ≤ p) is part.from in
-    let below : p < first_part link.plan.sections (s + 1) = subst (λ (l : LinkInput). p < first_part l.plan.sections (s + 1)) is part.below in
-    let inside = in_part made layout shared both p k offset byte in
-    omega (
-      arith,
-      inside.ends,
-      parts_end link.plan.sections layout.section_part_layouts s p each from below,
-      ap (λ (rs : List Record). file_end (record_at rs s)) spans,
+stand_inside made layout shared both spans each p k o at backed =
+    let sections : List PlanSection = made.link.plan.sections in
+    let part : PlanPart = part_at sections p in
+    let owners : List Owner = owners_of (made_filling made) p in
+    let of = shared p (part_there made p backed) in
+    let within : bytes_of part (take k owners) + owner_bytes part o ≤ bytes_of part owners = bytes_within part owners k o at in (
+      omega arith,
+      omega (
+        arith,
+        within,
+        of.whole,
+        both p backed,
+        parts_end sections layout.section_part_layouts backed.section p each backed.part.from backed.part.below,
+        ap (λ (rs : List Record). file_end (record_at rs backed.section)) spans,
+      ),
     )
 
 -- ---- live sections
@@ -201,7 +206,7 @@ one_owner_each exactly standing owners mass in_file sound machine link layout la
         is,
         record {
           owners = apart;
-          inside = stand_inside machine link layout laid made refl is.shared both spans (ap length parts ∙ laid.stands.placed.each);
+          inside = stand_inside made layout is.shared both spans (ap length parts ∙ laid.stands.placed.each);
           owned = own;
           apart = sections_share_none made layout owners is own apart;
         },

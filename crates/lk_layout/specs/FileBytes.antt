@@ -1,7 +1,8 @@
 -- What stands in the file: each byte there is one owner's.
-use Rattle.std.specs.Prelude.{◌≡◌, ◌≢◌, ℕ, ◌+◌, ◌-◌, ◌<◌, ◌≤◌, true, Ok}
+use Rattle.std.specs.Prelude.{◌≡◌, ◌≢◌, ℕ, ◌+◌, ◌-◌, ◌<◌, ◌≤◌, true, Ok, Some, slice_get}
 use Rattle.lk_link.specs.declared.link.LinkInput.{LinkInput}
 use Rattle.lk_link.specs.declared.plan.Plan.{Plan}
+use Rattle.lk_link.specs.declared.plan.PlanPart.{PlanPart}
 use Rattle.lk_link.specs.Inputs.{Input}
 use Rattle.lk_link.specs.Parts.{part_at}
 use Rattle.lk_link.specs.PlanSections.{is_file_backed}
@@ -10,6 +11,7 @@ use Rattle.lk_live.specs.declared.live.Live.{Live}
 use Rattle.lk_place.specs.Ranges.{HasPart}
 use Rattle.lk_relaxing.specs.Stages.{Stage}
 use Rattle.lk_sizes.specs.declared.addresses.LiveSection.{LiveSection}
+use Rattle.lk_sizes.specs.Owners.{Owner, owner_address, owner_bytes}
 use Rattle.lk_sizes.specs.PartOwners.{owner_number, owners_of}
 use Rattle.lk_sizes.specs.Tiles.{HasByte}
 use Rattle.lk_layout.specs.Defined.{IsDefined}
@@ -40,10 +42,14 @@ abbrev pub OwnersShareNoFileByte : Made → LayoutRecord → Type 0
 OwnersShareNoFileByte made layout = (p q j k offset : ℕ) → HasFileByte made layout p j offset → HasFileByte made layout q k offset
     → (p ≡ q) × (j ≡ k)
 
--- each stands in the file range of its output section
+-- owner k of a part stands behind the part's start, and ends with all its bytes in the file range of its output section
 abbrev pub OwnersStandInTheirSections : Made → LayoutRecord → Type 0
-OwnersStandInTheirSections made layout = (p k offset : ℕ) → (byte : HasFileByte made layout p k offset)
-    → offset < file_end (record_at layout.section_layouts byte.in_file.section)
+OwnersStandInTheirSections made layout = (p k : ℕ) (o : Owner) → slice_get (owners_of (made_filling made) p) k ≡ Some o
+    → (backed : IsFileBacked made.link.plan p)
+    → let part : PlanPart = part_at made.link.plan.sections p in
+    let address : ℕ = owner_address (part_record layout p).mem_offset part (owners_of (made_filling made) p) k in
+    ((part_record layout p).mem_offset ≤ address)
+    × (file_place (part_record layout p) address + owner_bytes part o ≤ file_end (record_at layout.section_layouts backed.section))
 
 -- ---- live sections
 
