@@ -40,7 +40,7 @@ use Rattle.lk_layout.proofs.Soundness.{Stands, has_byte, one_owner, parts_are, s
 -- behind the last section there are no parts
 none_behind : (sections : List PlanSection) (s : ℕ) → length sections ≤ s → first_part sections (s + 1) ≤ first_part sections s
 none_behind [] zero h = omega arith
-none_behind [] (suc s) h = omega arith
+none_behind [] (suc s) h = omega (arith, first_part-le [] (suc s + 1))
 none_behind (x ∷ xs) zero h = absurd (omega arith)
 none_behind (x ∷ xs) (suc s) h =
     omega (arith, first_part-cons x xs s, first_part-cons x xs (suc s), none_behind xs s (omega arith), ap (first_part (x ∷ xs)) (add-one (suc s)), ap (first_part xs) (add-one s))
@@ -55,7 +55,7 @@ there sections s p from below = elim (cases_lt s (length sections)) [
 -- ---- parts in the file
 
 -- a part whose section's bytes stand in the file takes as many there as in memory
-TakesBoth : LinkInput → LayoutRecord → Type 0
+abbrev TakesBoth : LinkInput → LayoutRecord → Type 0
 TakesBoth link layout = (p : ℕ) → IsFileBacked link.plan p → (part_record layout p).file_size ≡ (part_record layout p).mem_size
 
 takes_both : PartsTakeTheirBytes → PartsTakeFileBytes → (machine : Machine) (link : LinkInput) (layout : LayoutRecord) (laid : IsLaidOut machine link layout) → TakesBoth link layout
@@ -84,7 +84,7 @@ takes_both mass in_file machine link layout laid p is =
 
 -- ---- owners
 
-AreShared : Made → LayoutRecord → Type 0
+abbrev AreShared : Made → LayoutRecord → Type 0
 AreShared made layout = (p : ℕ) → p < length (all_parts made.link.plan.sections) → IsSharedOut made layout p
 
 part_there : (made : Made) (p : ℕ) → IsFileBacked made.link.plan p → p < length (all_parts made.link.plan.sections)
