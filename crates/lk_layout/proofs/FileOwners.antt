@@ -1,7 +1,6 @@
 -- Each byte of the file of a defined layout is one owner's.
-use Rattle.std.proofs.Common.{◌≡◌, ℕ, zero, suc, ◌+◌, ◌-◌, ◌<◌, ◌≤◌, true, List, [], ◌∷◌, Some, length, map, take, sym, ap, subst, ◌∙◌, inl, inr, arith, add-one, length-drop, length-take}
+use Rattle.std.proofs.Common.{◌≡◌, ℕ, zero, suc, ◌+◌, ◌-◌, ◌<◌, ◌≤◌, List, [], ◌∷◌, Some, length, map, take, sym, ap, subst, ◌∙◌, inl, inr, arith, add-one, length-drop, length-take}
 use Rattle.std.specs.Prelude.{drop, if◌then◌else◌, slice_get, slice_index}
-use Rattle.std.specs.List.{slice_index_or}
 use Rattle.std.proofs.lemmas.Bool.{cases_lt}
 use Rattle.std.proofs.lemmas.Bool.Decides.{eqb_tells}
 use Rattle.std.proofs.lemmas.List.{get_or-map, length-map}
@@ -9,26 +8,24 @@ use Rattle.lk_check.specs.FirstFault.{WellFormedExactlyUnfaulted}
 use Rattle.lk_link.specs.declared.link.LinkInput.{LinkInput}
 use Rattle.lk_link.specs.declared.plan.PlanPart.{PlanPart}
 use Rattle.lk_link.specs.declared.plan.PlanSection.{PlanSection}
-use Rattle.lk_link.specs.Inputs.{Input}
 use Rattle.lk_link.specs.Parts.{all_parts, first_part, part_at}
-use Rattle.lk_link.specs.PlanSections.{is_file_backed, section_at}
+use Rattle.lk_link.specs.PlanSections.{is_file_backed}
 use Rattle.lk_link.proofs.PartNumbers.{first_part-cons, first_part-le, first_part-suc}
 use Rattle.lk_expressions.specs.Records.{Record, file_end, nowhere, record_at}
 use Rattle.lk_place.specs.PlacementLaws.{PartsTakeFileBytes, PartsTakeTheirBytes}
-use Rattle.lk_place.specs.Ranges.{FileIsDisjoint, HasPart, IsInFile}
-use Rattle.lk_place.specs.Segments.{greatest, hull, least, part_records, section_records}
+use Rattle.lk_place.specs.Ranges.{FileIsDisjoint, IsInFile}
+use Rattle.lk_place.specs.Segments.{greatest, hull, part_records, section_records}
 use Rattle.lk_place.specs.Setting.{Setting, part_count, part_number, size_at}
 use Rattle.lk_relaxing.specs.RelaxedLaws.{RelaxedStands}
-use Rattle.lk_sizes.specs.declared.addresses.LiveSection.{LiveSection}
 use Rattle.lk_sizes.specs.Owners.{Owner, SectionOwner, bytes_of, owner_bytes, size_of}
 use Rattle.lk_sizes.specs.PartOwners.{LiveSectionsAreOwners, owner_number, owners_of}
 use Rattle.lk_sizes.specs.Tiles.{HasByte}
-use Rattle.lk_layout.specs.FileBytes.{HasFileByte, IsFileBacked, IsInFileOf, LaidOutFileHasOneOwner, LiveSectionsOwnTheirFileBytes, LiveSectionsShareNoFileByte, OwnersShareNoFileByte, OwnersStandInTheirSections, file_place}
+use Rattle.lk_layout.specs.FileBytes.{HasFileByte, IsFileBacked, LaidOutFileHasOneOwner, LiveSectionsOwnTheirFileBytes, LiveSectionsShareNoFileByte, OwnersShareNoFileByte, OwnersStandInTheirSections}
 use Rattle.lk_layout.specs.Laws.{DefinedLayoutsAreSound}
 use Rattle.lk_layout.specs.LayoutRecord.{LayoutRecord}
 use Rattle.lk_layout.specs.Machines.{Machine}
 use Rattle.lk_layout.specs.Made.{Made, made_filling, made_of}
-use Rattle.lk_layout.specs.Sound.{IsSharedOut, IsSound, IsTold, part_record}
+use Rattle.lk_layout.specs.Sound.{IsSharedOut, IsSound, part_record}
 use Rattle.lk_layout.proofs.HeldParts as held
 use Rattle.lk_layout.proofs.LaidOut.{IsLaidOut, laid_out}
 use Rattle.lk_layout.proofs.Settings.{ready}
@@ -72,7 +69,7 @@ takes_both mass in_file machine link layout laid p is =
     let file : (record_at records (part_number sections s j)).file_size ≡ (if is_file_backed link.plan s then size_at setting.sizes (part_number sections s j) else 0)
     = in_file setting laid.stage.states records can laid.stands.placed laid.unrefused s j within below in
     let memory : (record_at records p).mem_size ≡ size_at setting.sizes p
-    = sym (get_or-map (λ (r : Record). r.mem_size) records p nowhere)
+    = sym (get_or-map (λ (r : Record). r.mem_size) records p nowhere 0 (omega (arith, is.part.below, first_part-le sections (s + 1), laid.stands.placed.each)))
     ∙ ap (λ (sizes : List ℕ). slice_index sizes p) (mass setting laid.stage.states records can laid.stands.placed laid.unrefused) in
     let both : (record_at records p).file_size ≡ (record_at records p).mem_size
     = ap (λ (n : ℕ). (record_at records n).file_size) (sym number)
