@@ -96,7 +96,7 @@ found_in handed bounds words sets n from within own = record {
 pub set_keeps : (handed bounds : List ℕ) (slots id : ℕ) (me : Me ℕ View) (n bits : ℕ) → n < length bounds → Within bits (slice_index bounds n)
     → Allows (IsKeptBy handed bounds) slots id me n (λ k. bit_or k bits) (SetsFlags handed bounds (step slots n bits 0 none) me)
 set_keeps handed bounds slots id me n bits lt new s kept homes at small =
-    let x : FlagSet = record { word = n; bits = bits } in
+    let x : FlagSet = record { word = n; bits = bits; found = slice_index s.words n } in
     let w : View = view_of (me.0.sets ++ x ∷ []) in
     let after = set_in s.words n bits in
     let grow : AllWithin s.words after = grows s.words n bits in

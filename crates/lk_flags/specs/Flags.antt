@@ -16,7 +16,7 @@ AllWithin vs ws = (n : ℕ) → Within (slice_index vs n) (slice_index ws n)
 abbrev pub AreIn : List FlagSet → List ℕ → Type 0
 AreIn sets words = All (λ x. Within x.bits (slice_index words x.word)) sets
 
--- what a pass knows: the table that it is of, and what it set there, in order
+-- what a pass knows: the table that it is of, and what it set and found there, in order
 pub record Pass : Type 0 where
   pub table : TableId
   pub sets : List FlagSet

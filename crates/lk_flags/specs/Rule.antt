@@ -24,6 +24,6 @@ IsKeptBy handed bounds s = IsKept handed bounds s.words s.views
 
 -- a step sets its flags in its word, and tells what it found there
 pub record SetsFlags (handed bounds : List ℕ) (step : Step ℕ) (old : Me ℕ View) (found : ℕ) (new : Me ℕ View) : Type 0 where
-  pub sets : new.0.sets ≡ old.0.sets ++ record { word = step.word; bits = step.first } ∷ []
+  pub sets : new.0.sets ≡ old.0.sets ++ record { word = step.word; bits = step.first; found = found } ∷ []
   pub held : new.1 ≡ old.1
   pub finds : IsFound handed bounds old.0.sets step.word found

@@ -10,13 +10,14 @@ use std::alloc::{AllocError, Global};
 use std::collections::LinkedList;
 use std::marker::{Model, PhantomData};
 
-/// Flags that were set in a word.
+/// Flags that were set in a word, and the word as it was found. No value of it is made.
 pub struct FlagSet {
     pub word: usize,
     pub bits: u64,
+    pub found: u64,
 }
 
-/// What a thread knows: the flags that it set. No value of it is made.
+/// What a thread knows: the flags that it set, and what it found there. No value of it is made.
 pub struct View {
     sets: LinkedList<FlagSet>,
 }
@@ -73,7 +74,7 @@ impl<J: Reach> Model for FlagTable<J> {
     ghost invariant = { λ t. (t.table.shared.table_id.words ≡ length J.lists.words) × (t.table.shared.table_id.slots ≡ 0) × (0 < length J.lists.words) × (length t.room.items ≡ length J.lists.words) };
 }
 
-/// The right to set flags in a table. Contracts see which table, and what was set. It takes no bytes.
+/// The right to set flags in a table. Contracts see which table, and what was set and found. It takes no bytes.
 #[derive(Drop)]
 pub struct FlagPass {
     seat: Seat<u8, View>,
@@ -105,13 +106,13 @@ impl<J: Reach> FlagTable<J> {
         Ok((FlagTable { table, room }, FlagPass { seat }))
     }
 
-    /// Sets flags in a word, and answers the word as it was.
+    /// Sets flags in a word, and answers the word as it was, which the pass keeps.
     pub fn set(&self, pass: &mut FlagPass, word: usize, bits: u64) -> u64
         requires own { pass.old.table ≡ self.now }
         requires place { word < length J.lists.words }
         requires bounded { Within bits (slice_index J.lists.words word) }
         ensures table { pass.new.table ≡ pass.old.table }
-        ensures sets { pass.new.sets ≡ pass.old.sets ++ record { word = word; bits = bits } ∷ [] }
+        ensures sets { pass.new.sets ≡ pass.old.sets ++ record { word = word; bits = bits; found = result } ∷ [] }
         ensures found { IsFound J.lists.handed J.lists.words pass.old.sets word result }
     {
         self.table

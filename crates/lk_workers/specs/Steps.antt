@@ -31,14 +31,14 @@ PassesOn groups item old new = new ≡ with_items old (old.items ++ own_of group
 abbrev pub is_asked : ValueFlags → ℕ → Bool
 is_asked flags found = (flags.0 == 0) || not (has_resolution found)
 
--- flags that an ask sets in a symbol's word
-abbrev pub flags_set : ℕ → ValueFlags → FlagSet
-flags_set s flags = record { word = word_of s; bits = flags.0 }
+-- flags that an ask sets in a symbol's word, and the word as it was found
+abbrev pub flags_set : ℕ → ValueFlags → ℕ → FlagSet
+flags_set s flags found = record { word = word_of s; bits = flags.0; found = found }
 
--- a symbol gets its flags, and is asked for where it had no resolution
+-- a symbol gets its flags, and is asked for where the word that was found had no resolution
 pub record Refers (groups : List (List InputFile)) (s : ℕ) (flags : ValueFlags) (old new : StateValue) (before after : List FlagSet) : Type 0 where
   pub found : ℕ
-  pub sets : after ≡ before ++ flags_set s flags ∷ []
+  pub sets : after ≡ before ++ flags_set s flags found ∷ []
   pub asks : MatchBool (is_asked flags found) (PassesOn groups (LoadGlobalSymbol s) old new) (new ≡ old)
 
 -- what one ask does: a reference that exports its symbol is passed on, as a section is; any other sets its flags
@@ -46,7 +46,7 @@ abbrev pub DoesAsk : List (List InputFile) → Ask → StateValue → StateValue
 DoesAsk groups (ask.Reference s flags) old new before after =
     MatchBool (flags.0 == flag.EXPORT_DYNAMIC.0) (PassesOn groups (ExportDynamic s) old new × (after ≡ before)) (Refers groups s flags old new before after)
 DoesAsk groups (ask.Section id i) old new before after = PassesOn groups (LoadGcUnit (record { file_id = id; gc_unit = i })) old new × (after ≡ before)
-DoesAsk groups (ask.Mark s flags) old new before after = (new ≡ old) × (after ≡ before ++ flags_set s flags ∷ [])
+DoesAsk groups (ask.Mark s flags) old new before after = (new ≡ old) × (found : ℕ) × (after ≡ before ++ flags_set s flags found ∷ [])
 
 -- asks, one after the other
 unfoldable pub DoesAsks : List (List InputFile) → List Ask → StateValue → StateValue → List FlagSet → List FlagSet → Type 0

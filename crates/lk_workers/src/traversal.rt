@@ -322,13 +322,13 @@ impl<J: Reach> Traversal<'_, J> {
         }
     }
 
-    /// Sets flags of a symbol, and answers the word as it was.
+    /// Sets flags of a symbol, and answers the word as it was, which the pass keeps.
     pub fn set(&self, pass: &mut FlagPass, symbol: SymbolId, flags: ValueFlags) -> u64
         requires own { pass.old.table ≡ self.now.table }
         requires there { symbol < symbols_in_all J.lists.groups }
         requires bounded { Within flags.0 (slice_index J.lists.words (word_of symbol)) }
         ensures table { pass.new.table ≡ pass.old.table }
-        ensures sets { pass.new.sets ≡ pass.old.sets ++ flags_set symbol flags ∷ [] }
+        ensures sets { pass.new.sets ≡ pass.old.sets ++ flags_set symbol flags result ∷ [] }
         ensures found { IsFound J.lists.handed J.lists.words pass.old.sets (word_of symbol) result }
     {
         self.table
