@@ -77,7 +77,7 @@ unit_step : (link : LinkInput) (unit : LinkUnit) (old new : StateValue) (rest : 
 unit_step link unit old new rest item before after true wf is load items e does =
     let n = unit_number link.groups unit in
     let start = group_of link.groups [] (with_items old rest) in
-    let from : Side = record { group = start; sets = before } in
+    let from : Side = record { group = start; sets = before; sent = machine_items link.groups old.sent } in
     record {
       start = start;
       begins = inr (record {
@@ -96,9 +96,12 @@ unit_step link unit old new rest item before after false wf is load items e does
     let n = unit_number link.groups unit in
     let marked : StateValue = does.0 in
     let one = does.1 in
-    let leads = asks_lead link (follows link unit) old.group marked new before after one.group (asks_are_inside.by_unit link unit wf) does.2 in
+    let start = group_of link.groups (map (task_of link) (follows link unit)) marked in
+    let leads : Leads (graph_of link) old.group (record { group = start; sets = before; sent = machine_items link.groups old.sent }) (side_of link.groups [] new after)
+    = subst (λ sent. Leads (graph_of link) old.group (record { group = start; sets = before; sent = machine_items link.groups sent }) (side_of link.groups [] new after)) one.sent
+        (asks_lead link (follows link unit) old.group marked new before after one.group (asks_are_inside.by_unit link unit wf) does.2) in
     record {
-      start = group_of link.groups (map (task_of link) (follows link unit)) marked;
+      start = start;
       begins = inr (record {
         item = Load n;
         idle = refl;

@@ -19,8 +19,8 @@ use Rattle.lk_workers.specs.declared.work.WorkItem.{WorkItem}
 use Rattle.lk_workers.specs.declared.work.WorkItem.TheVariants.{ExportDynamic, LoadGcUnit, LoadGlobalSymbol}
 use Rattle.lk_workers.specs.Items.{machine_item, machine_items, unit_of}
 use Rattle.lk_workers.specs.Machines.{AreTurns, AsksAreTurns, Side, TurnsFlags, TurnsItem, side_of}
-use Rattle.lk_workers.specs.States.{StateValue, group_of, is_done, with_items}
-use Rattle.lk_workers.specs.Steps.{DoesAsk, DoesAsks, PassesOn, Refers, flags_set, is_asked, own_of}
+use Rattle.lk_workers.specs.States.{StateValue, group_of, is_done, with_items, with_sent}
+use Rattle.lk_workers.specs.Steps.{DoesAsk, DoesAsks, PassesOn, Refers, flags_set, is_asked}
 
 -- ---- one step, and then others
 
@@ -74,8 +74,8 @@ item_turn link item task rest old new sets is puts passes =
       sets = refl;
       goes = elim (cases_eq group old.group) [
         | inl own ↦
-            let kept : own_of groups old.group item ≡ item ∷ [] = ap (λ b. cond b (item ∷ []) []) (eq-eqb group old.group own) in
-            let state : new ≡ with_items old (old.items ++ item ∷ []) = passes ∙ ap (λ xs. with_items old (old.items ++ xs)) kept in
+            let state : new ≡ with_items old (old.items ++ item ∷ [])
+            = subst (λ b. MatchBool b (new ≡ with_items old (old.items ++ item ∷ [])) (new ≡ with_sent old (old.sent ++ item ∷ []))) (eq-eqb group old.group own) passes in
             inl (
               home_is link item is ∙ own,
               record {
@@ -84,18 +84,20 @@ item_turn link item task rest old new sets is puts passes =
                 items = ap (λ (v : StateValue). machine_items groups v.items) state ∙ map-append (machine_item groups) old.items (item ∷ []);
                 done = λ u. ap (λ (v : StateValue). is_done v u) state;
               },
+              ap (λ (v : StateValue). machine_items groups v.sent) state,
             )
         | inr other ↦
-            let left : own_of groups old.group item ≡ [] = ap (λ b. cond b (item ∷ []) []) (ne_eqb group old.group other) in
-            let state : new ≡ with_items old (old.items ++ []) = passes ∙ ap (λ xs. with_items old (old.items ++ xs)) left in
+            let state : new ≡ with_sent old (old.sent ++ item ∷ [])
+            = subst (λ b. MatchBool b (new ≡ with_items old (old.items ++ item ∷ [])) (new ≡ with_sent old (old.sent ++ item ∷ []))) (ne_eqb group old.group other) passes in
             inr (
               (λ e. other (sym (home_is link item is) ∙ e)),
               record {
                 hand = refl;
                 active = ap (λ (v : StateValue). v.active) state;
-                items = ap (λ (v : StateValue). machine_items groups v.items) state ∙ ap (machine_items groups) (append-nil old.items);
+                items = ap (λ (v : StateValue). machine_items groups v.items) state;
                 done = λ u. ap (λ (v : StateValue). is_done v u) state;
               },
+              ap (λ (v : StateValue). machine_items groups v.sent) state ∙ map-append (machine_item groups) old.sent (item ∷ []),
             )
       ];
     }
@@ -127,6 +129,7 @@ flag_turn link task left rest s flags found v sets does is = record {
   does = does;
   begins = refl;
   sets = refl;
+  sent = refl;
   turns = subst (λ xs. Turns (xs ++ rest) (group_of link.groups (task ∷ rest) v) (group_of link.groups (left ++ rest) v)) (sym is) (hand_turns link.groups (task ∷ rest) (left ++ rest) v);
 }
 
@@ -180,18 +183,25 @@ ask_leads link (ask.Mark s flags) rest old new before after inside does =
     (last_turn (graph_of link) old.group from (side_of link.groups rest old sets) (inl (flag_turn link task [] rest s flags does.1 old before (refl, refl) refl)))
 
 -- the group stays the same
+kept_pass : (old new : StateValue) (items sent : List WorkItem) (own : Bool) → MatchBool own (new ≡ with_items old items) (new ≡ with_sent old sent) → new.group ≡ old.group
+kept_pass old new items sent true passes = ap (λ (v : StateValue). v.group) passes
+kept_pass old new items sent false passes = ap (λ (v : StateValue). v.group) passes
+
+kept_item : (groups : List (List InputFile)) (item : WorkItem) (old new : StateValue) → PassesOn groups item old new → new.group ≡ old.group
+kept_item groups item old new passes = kept_pass old new (old.items ++ item ∷ []) (old.sent ++ item ∷ []) (unit_group groups (Some (unit_of item)) == old.group) passes
+
 kept_refer : (groups : List (List InputFile)) (s : ℕ) (old new : StateValue) (asked : Bool) → MatchBool asked (PassesOn groups (LoadGlobalSymbol s) old new) (new ≡ old) → new.group ≡ old.group
-kept_refer groups s old new true passes = ap (λ (v : StateValue). v.group) passes
+kept_refer groups s old new true passes = kept_item groups (LoadGlobalSymbol s) old new passes
 kept_refer groups s old new false same = ap (λ (v : StateValue). v.group) same
 
 kept_reference : (groups : List (List InputFile)) (s : ℕ) (flags : ValueFlags) (old new : StateValue) (before after : List FlagSet) (export : Bool)
     → MatchBool export (PassesOn groups (ExportDynamic s) old new × (after ≡ before)) (Refers groups s flags old new before after) → new.group ≡ old.group
-kept_reference groups s flags old new before after true passes = ap (λ (v : StateValue). v.group) passes.0
+kept_reference groups s flags old new before after true passes = kept_item groups (ExportDynamic s) old new passes.0
 kept_reference groups s flags old new before after false refers = kept_refer groups s old new (is_asked flags refers.found) refers.asks
 
 kept_group : (link : LinkInput) (a : Ask) (old new : StateValue) (before after : List FlagSet) → DoesAsk link.groups a old new before after → new.group ≡ old.group
 kept_group link (ask.Reference s flags) old new before after does = kept_reference link.groups s flags old new before after (flags.0 == flag.EXPORT_DYNAMIC.0) does
-kept_group link (ask.Section id i) old new before after does = ap (λ (v : StateValue). v.group) does.0
+kept_group link (ask.Section id i) old new before after does = kept_item link.groups (LoadGcUnit (record { file_id = id; gc_unit = i })) old new does.0
 kept_group link (ask.Mark s flags) old new before after does = ap (λ (v : StateValue). v.group) does.0
 
 leads_both : (graph : Graph) (g n : ℕ) (old mid new : Side) → AreTurns graph g n old mid → Leads graph g mid new → Leads graph g old new

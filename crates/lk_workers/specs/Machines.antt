@@ -8,18 +8,20 @@ use Rattle.lk_reach.specs.declared.units.Ask.{Ask}
 use Rattle.lk_reach.specs.Marks.{IsInside, IsUnit, word_of}
 use Rattle.lk_slot_link.specs.LinkGraphs.{graph_of, task_of}
 use Rattle.lk_slots.specs.Machine.{Activates, Graph, Group, Item, Keeps, PutsDown, SetsFlags, Takes, Task, Turns, home_of, left_of}
-use Rattle.lk_workers.specs.Items.{unit_of}
+use Rattle.lk_workers.specs.Items.{machine_items, unit_of}
 use Rattle.lk_workers.specs.States.{StateValue, group_of}
 use Rattle.lk_workers.specs.Steps.{DoesAsks, IsStep}
 
--- what is seen of steps on a group's own side: the group, and what its worker has set and found in words of flags
+-- what is seen of steps on a group's own side: the group, what its worker has set and found in words of flags, and what the group
+-- has left in slots of others
 pub record Side : Type 0 where
   pub group : Group
   pub sets : List FlagSet
+  pub sent : List Item
 
 -- the same of a state, with these tasks in hand
 abbrev pub side_of : List (List InputFile) → List Task → StateValue → List FlagSet → Side
-side_of groups hand v sets = record { group = group_of groups hand v; sets = sets }
+side_of groups hand v sets = record { group = group_of groups hand v; sets = sets; sent = machine_items groups v.sent }
 
 -- the first task in hand sets its flags, and what is left of it, by the word that was found there, stays in hand
 pub record TurnsFlags (graph : Graph) (old new : Side) : Type 0 where
@@ -31,9 +33,10 @@ pub record TurnsFlags (graph : Graph) (old new : Side) : Type 0 where
   pub does : SetsFlags task symbol flags
   pub begins : old.group.hand ≡ task ∷ rest
   pub sets : new.sets ≡ old.sets ++ record { word = word_of symbol; bits = flags; found = found } ∷ []
+  pub sent : new.sent ≡ old.sent
   pub turns : Turns (left_of graph found task ++ rest) old.group new.group
 
--- the first task in hand puts its item down: into the group's own list if it belongs there, else it leaves the group
+-- the first task in hand puts its item down: into the group's own list if it belongs there, else it is left for another group, once
 pub record TurnsItem (graph : Graph) (g : ℕ) (old new : Side) : Type 0 where
   pub task : Task
   pub rest : List Task
@@ -41,7 +44,8 @@ pub record TurnsItem (graph : Graph) (g : ℕ) (old new : Side) : Type 0 where
   pub puts : PutsDown graph task item
   pub begins : old.group.hand ≡ task ∷ rest
   pub sets : new.sets ≡ old.sets
-  pub goes : ((home_of graph item ≡ g) × Keeps item rest old.group new.group) ⊎ ((home_of graph item ≢ g) × Turns rest old.group new.group)
+  pub goes : ((home_of graph item ≡ g) × Keeps item rest old.group new.group × (new.sent ≡ old.sent))
+      ⊎ ((home_of graph item ≢ g) × Turns rest old.group new.group × (new.sent ≡ old.sent ++ item ∷ []))
 
 -- so many of the machine's steps with tasks in hand, on the group that they are of
 unfoldable pub AreTurns : Graph → ℕ → ℕ → Side → Side → Type 0
@@ -59,7 +63,7 @@ pub record IsMachineStep (link : LinkInput) (old new : StateValue) (before after
   pub start : Group
   pub begins : Activates (graph_of link) old.group (group_of link.groups [] old) start ⊎ Takes (graph_of link) (group_of link.groups [] old) start
   pub count : ℕ
-  pub turns : AreTurns (graph_of link) old.group count (record { group = start; sets = before }) (side_of link.groups [] new after)
+  pub turns : AreTurns (graph_of link) old.group count (record { group = start; sets = before; sent = machine_items link.groups old.sent }) (side_of link.groups [] new after)
 
 -- every step of a group whose items are units of the link
 abbrev pub StepsAreMachineSteps : Type 0
