@@ -216,8 +216,8 @@ split_keeps handed bounds id v two s kept at =
         | inr new ↦ subst (λ (w : View). AreIn w.sets s.words) new (nothing_in s.words)
       ];
       no_more = λ m i h. still_set s.views (first ++ view_of 1 [] ∷ []) handed m i (λ k u there.
-        let among = among_set s.views id v rest at (λ x c. c) k u there in
-        (among.0, among.1, at_longer first (view_of 1 [] ∷ []) among.0 among.1 among.2, among.3)) (kept.no_more m i h);
+          let among = among_set s.views id v rest at (λ x c. c) k u there in
+          (among.0, among.1, at_longer first (view_of 1 [] ∷ []) among.0 among.1 among.2, among.3)) (kept.no_more m i h);
       parts = omega (arith, total, more, kept.parts, two);
       idle = λ k u h none. elim (at_snoc first (view_of 1 []) u k h) [
         | inl old ↦ elim (at_set s.views id k rest u old) [

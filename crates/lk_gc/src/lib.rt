@@ -1,6 +1,6 @@
 //! The traversal of a link by any number of workers, and what files and groups are in it. Gives on what `lk_live` and `lk_workers`
-//! offer, and of `lk_flags` what their calls ask for, so a caller needs this crate alone. The state of a group that a worker steps is
-//! called `WorkerState` here.
+//! offer, and of `lk_reach` and `lk_flags` what their calls are asked or answered with, so a caller needs this crate alone. The state
+//! of a group that a worker steps is called `WorkerState` here.
 #![tactic(auto)]
 
 mod faults_by_groups;
@@ -14,8 +14,11 @@ pub use lk_live::{
     laws, live, live_exists, live_is_one, primary, primary_references, reaching, slot_after,
     successors, traverse_alone, units,
 };
-pub use lk_workers::GroupState as WorkerState;
-pub use lk_workers::{Closed, GcLoadRequest, LocalWorkQueue, Traversal, WorkItem, WorkerSlot};
+pub use lk_reach::{Roots, files_of_inputs, roots, unit_at};
+pub use lk_workers::{
+    Closed, GcLoadRequest, GroupState as WorkerState, LocalWorkQueue, Traversal, WorkItem,
+    WorkerSlot,
+};
 pub use states::{
     DynamicLayoutState, EpilogueLayoutState, FileLayoutState, GroupState, HandlerData,
     LinkerScriptLayoutState, ObjectLayoutState, PreludeLayoutState, SymbolRequestHandler,

@@ -99,7 +99,7 @@ unit_step link unit old new rest item before after false wf is load items e does
     let start = group_of link.groups (map (task_of link) (follows link unit)) marked in
     let leads : Leads (graph_of link) old.group (record { group = start; sets = before; sent = machine_items link.groups old.sent }) (side_of link.groups [] new after)
     = subst (λ sent. Leads (graph_of link) old.group (record { group = start; sets = before; sent = machine_items link.groups sent }) (side_of link.groups [] new after)) one.sent
-        (asks_lead link (follows link unit) old.group marked new before after one.group (asks_are_inside.by_unit link unit wf) does.2) in
+    (asks_lead link (follows link unit) old.group marked new before after one.group (asks_are_inside.by_unit link unit wf) does.2) in
     record {
       start = start;
       begins = inr (record {

@@ -31,7 +31,7 @@ loop-index-preserved g c =
     let both : DoesAsks groups (flat_map (file_roots link) (take k files) ++ file_roots link of.file) old new before after
     = does_both groups (flat_map (file_roots link) (take k files)) (file_roots link of.file) old mid new before between after c.loop-index.invariant.3 next in (
       c.do_asks.ensures.table ∙ c.loop-index.invariant.0,
-  c.do_asks.ensures.parts ∙ c.loop-index.invariant.1,
+      c.do_asks.ensures.parts ∙ c.loop-index.invariant.1,
       c.do_asks.ensures.group ∙ c.loop-index.invariant.2,
       subst (λ (asks : List Ask). DoesAsks groups asks old new before after) (sym (roots_more (file_roots link) files k of.file there)) both,
     )
