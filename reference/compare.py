@@ -9,6 +9,8 @@ usage: compare.py PROGRAM COUNT [SEED [FIRST]]
        compare.py PROGRAM --merging COUNT [SEED]
        compare.py PROGRAM --tls COUNT [SEED]
        compare.py PROGRAM --thunks COUNT [SEED]
+       compare.py PROGRAM --why COUNT [SEED]
+       compare.py PROGRAM --maps COUNT [SEED]
 
 Runs PROGRAM on the random descriptions of the numbers FIRST to FIRST + COUNT - 1, and where FIRST is
 0 on the fixed ones too, on each one with the words `layout 0`, and with 1, 2, 4 and 8 in place of 0. Shows
@@ -21,10 +23,15 @@ are all links of two sections that may refer to each other and to what is undefi
 words are `gen`, random seeds and numbers of objects up to 300, and there is no input. With --shortened, in most
 of the random descriptions relaxation leaves something out; with --merging, in each of them something is merged; with
 --tls, in each of them a load segment opens behind zero-filled thread-local data; with --thunks, each has a primary part, and
-most of them more code than a branch reaches.
+most of them more code than a branch reaches. With --why, the words are `why` and three sections of each random description, one
+after the other. With --maps, the words are `check`, and the inputs are reports, as they are and changed at one to three places.
 """
 
 import collections
+import glob
+import itertools
+import json
+import os
 import random
 import re
 import sys
@@ -39,6 +46,10 @@ from rules.refusal import LAID_OUT
 # No worker, one, two, four, and more than most of the descriptions have groups.
 WORKERS = (0, 1, 2, 4, 8)
 MOST_SHOWN = 2000
+HERE = os.path.dirname(os.path.abspath(__file__))
+# Other answers of status 0, by their first words.
+DONE = {b"why": "kept", b"map": "good map"}
+SECTIONS_EACH = 3
 LISTED = {"--places": changed_at_every_place, "--small": every_small_link}
 
 
@@ -49,11 +60,12 @@ def shown(text):
 def kind_of(status, text):
     """A short name of an answer, for the counts at the end."""
     if status == LAID_OUT:
-        return "laid out"
+        return DONE.get(text.split(b" ")[0], "laid out") if b"\nnot reached\n" not in text else "not reached"
     if text.startswith((b"discarded:", b"undefined:")):
         return "references that can't be met"
     line = re.sub("description:.*", "description", shown(text).strip())
     line = re.sub("(link: rule [0-9]+|overflow: [a-z]+|too many [a-z ]+).*", r"\1", line)
+    line = re.sub("(such section|: lines?) .*|^line [0-9]+", lambda found: found[1] or "line", line)
     line = re.sub("(merge offset: [a-z]*|not null-terminated|bucket too large).*", r"\1", line)
     line = re.sub(r"(expression at [a-z]+).*(: .*)", r"\1\2", line)
     line = re.sub(r"(backwards|headers|overflowed) .*", r"\1", line)
@@ -71,9 +83,9 @@ class Comparison:
         wanted = reference.answer(["layout", "0"], data)
         self.compare_by(name, data, wanted, [["layout", str(workers)] for workers in WORKERS])
 
-    def compare_words(self, words):
-        """Compares words behind which nothing is read."""
-        self.compare_by(" ".join(words), b"", reference.answer(words, b""), [words])
+    def compare_words(self, words, name="", data=b""):
+        """Compares an input with these words, which have no number of workers; none where nothing is read behind them."""
+        self.compare_by(name or " ".join(words), data, reference.answer(words, data), [words])
 
     def compare_by(self, name, data, wanted, ways):
         """Compares an answer with what the program gives by each of these words, up to the first that differs."""
@@ -144,6 +156,48 @@ def compare_thunked(program, count, seed=0):
     return comparison
 
 
+def sections_of(data):
+    """The places of all sections of a description, as far as it is one."""
+    try:
+        groups = json.loads(data)["groups"]
+        files = [(g, f, file) for g, group in enumerate(groups) for f, file in enumerate(group)]
+        return [(g, f, i) for g, f, file in files for i, _ in enumerate(file.get("sections", []))]
+    except (AttributeError, KeyError, RecursionError, TypeError, ValueError):
+        return []
+
+
+def compare_why(program, count, seed=0):
+    comparison = Comparison(program)
+    for number in range(count):
+        data = cases.case(seed, number)
+        rng = random.Random("why %d:%d" % (seed, number))
+        places = sections_of(data)
+        for _ in range(SECTIONS_EACH):
+            place = rng.choice(places) if places and rng.random() < 0.95 else [rng.randint(0, 3) for _ in range(3)]
+            comparison.compare_words(["why", *map(str, place)], "why %d:%d" % (seed, number), data)
+    return comparison
+
+
+def reports(seed):
+    """The reports of examples, and then of random descriptions, each with its name."""
+    for path in sorted(glob.glob(os.path.join(HERE, "..", "examples", "*.report"))):
+        with open(path, "rb") as file:
+            yield os.path.basename(path), file.read()
+    for number in itertools.count():
+        status, report = reference.answer(["layout", "0"], cases.case(seed, number))
+        if status == LAID_OUT:
+            yield "%d:%d" % (seed, number), report
+
+
+def compare_maps(program, count, seed=0):
+    comparison = Comparison(program)
+    for name, report in itertools.islice(reports(seed), count):
+        changed = cases.changed_map(random.Random("maps %d:%s" % (seed, name)), report)
+        comparison.compare_words(["check"], "maps " + name, report)
+        comparison.compare_words(["check"], "maps %s, changed" % name, changed)
+    return comparison
+
+
 def compare_random(program, count, seed=0, first=0):
     comparison = Comparison(program)
     if first == 0:
@@ -182,10 +236,13 @@ COUNTED = {
     "--merging": (compare_merging, 2),
     "--tls": (compare_thread_local, 2),
     "--thunks": (compare_thunked, 2),
+    "--why": (compare_why, 2),
+    "--maps": (compare_maps, 2),
 }
 USAGE = (
     "usage: compare.py PROGRAM COUNT [SEED [FIRST]], "
-    "or compare.py PROGRAM --places|--small|--generated COUNT|--shortened COUNT [SEED]|--merging COUNT [SEED]|--tls COUNT [SEED]|--thunks COUNT [SEED]"
+    "or compare.py PROGRAM --places|--small|--generated COUNT|--shortened COUNT [SEED]|--merging COUNT [SEED]|--tls COUNT [SEED]|--thunks COUNT [SEED]|"
+    "--why COUNT [SEED]|--maps COUNT [SEED]"
 )
 
 

@@ -3,17 +3,14 @@
 
 usage: reference.py WORDS.. < DESCRIPTION
        reference.py --reach|--placement < DESCRIPTION
-       reference.py --map < MAP
-       reference.py --why G F I < DESCRIPTION
        reference.py --image < DESCRIPTION
 
-Writes what the program is to write and ends with the status that it is to end with. With --reach it writes
-what the traversal answers: the live sections, the flags of all symbols, and the output sections that are kept.
+With the words of a command, `layout N`, `gen SEED SIZE`, `why G F I` or `check`, it writes what the program is to
+write and ends with the status that it is to end with; what `check` reads is a map. With --reach it writes what the
+traversal answers: the live sections, the flags of all symbols, and the output sections that are kept.
 With --placement it writes what placement answers beside the report: whether the plan is plain, the bytes of
-the headers, the counters, merged records, compacted segments, and the end of thread-local data. With --map it
-reads a map in place of a description, and tells whether it is good.
-With --why it writes why the section with this group, file and index is kept: a shortest path to it from a root.
-With --image it writes the bytes of the output file, as far as a layout tells them.
+the headers, the counters, merged records, compacted segments, and the end of thread-local data. With --image it writes
+the bytes of the output file, as far as a layout tells them.
 """
 
 import re
@@ -36,16 +33,35 @@ LARGEST_NUMBER = 4_294_967_295
 WORKERS = [str(number) for number in range(65)]
 
 
-def link_of(data):
-    """The description, which keeps all limits and rules."""
+def whole_input(data):
+    """The input, which isn't too long."""
     if len(data) > LONGEST_INPUT:
         raise Refusal(UNREADABLE, "input is longer than %d bytes" % LONGEST_INPUT)
-    link = description(read_json(data))
+    return data
+
+
+def link_of(data):
+    """The description, which keeps all limits and rules."""
+    link = description(read_json(whole_input(data)))
     check_link(link)
     return link
 
 
-def generated_lines(words):
+def number_of(word):
+    """The number that a word is, up to 4,294,967,295."""
+    if re.fullmatch("0|[1-9][0-9]{0,9}", word) is None or int(word) > LARGEST_NUMBER:
+        raise usage()
+    return int(word)
+
+
+def laid_out_lines(words, data):
+    """The lines of the report."""
+    if len(words) != 2 or words[1] not in WORKERS:
+        raise usage()
+    return report(link_of(data))
+
+
+def generated_lines(words, _):
     """The line of the layout of a generated link."""
     seed, size = seed_and_size(words)
     link = description(generated_description(seed, size))
@@ -53,13 +69,35 @@ def generated_lines(words):
     yield summary_line(link, seed, size)
 
 
-def report_lines(words, data):
-    """The lines of the report."""
-    if words[:1] == ["gen"]:
-        return generated_lines(words)
-    if len(words) != 2 or words[0] != "layout" or words[1] not in WORKERS:
+def section_lines(words, data):
+    """Why a section is kept, by the words for its group, file and index."""
+    if len(words) != 4:
         raise usage()
-    return report(link_of(data))
+    place = tuple(number_of(word) for word in words[1:])
+    return why_lines(link_of(data), place)
+
+
+def checked_lines(words, data):
+    """What is told of a map."""
+    if len(words) != 1:
+        raise usage()
+    return map_lines(whole_input(data))
+
+
+# What each command tells, by its first word.
+COMMANDS = {
+    "layout": laid_out_lines,
+    "gen": generated_lines,
+    "why": section_lines,
+    "check": checked_lines,
+}
+
+
+def command_lines(words, data):
+    """The lines that a command tells."""
+    if not words or words[0] not in COMMANDS:
+        raise usage()
+    return COMMANDS[words[0]](words, data)
 
 
 def answer_of(make_lines, *inputs):
@@ -73,7 +111,7 @@ def answer_of(make_lines, *inputs):
 
 def answer(words, data):
     """The status and the bytes that these words and this input give."""
-    return answer_of(report_lines, words, data)
+    return answer_of(command_lines, words, data)
 
 
 def reach_answer(_, data):
@@ -86,26 +124,6 @@ def placement_answer(_, data):
     return answer_of(lambda: placement_lines(link_of(data)))
 
 
-def number_of(word):
-    """The number that a word is, up to 4,294,967,295."""
-    if re.fullmatch("0|[1-9][0-9]{0,9}", word) is None or int(word) > LARGEST_NUMBER:
-        raise usage()
-    return int(word)
-
-
-def section_lines(words, data):
-    """Why a section is kept, by the words for its group, file and index."""
-    if len(words) != 3:
-        raise usage()
-    place = tuple(number_of(word) for word in words)
-    return why_lines(link_of(data), place)
-
-
-def why_answer(words, data):
-    """What is told of why a section is kept."""
-    return answer_of(section_lines, words, data)
-
-
 def image_answer(_, data):
     """The status, and the bytes of the image or why there is none."""
     try:
@@ -114,17 +132,10 @@ def image_answer(_, data):
         return refusal.status, "".join(line + "\n" for line in refusal.lines).encode()
 
 
-def map_answer(_, data):
-    """What is told of a map."""
-    return answer_of(map_lines, data)
-
-
 # What is asked of the reference alone, by the first word.
 OWN_WORDS = {
     "--reach": reach_answer,
     "--placement": placement_answer,
-    "--map": map_answer,
-    "--why": why_answer,
     "--image": image_answer,
 }
 

@@ -4,8 +4,9 @@
 usage: refused.py PROGRAM [DESCRIPTION..]
 
 For each of the descriptions, unless told those of examples/ and some random ones in which something is merged in
-several groups, and for 0, 2 and 4 workers: a run in which the first growth is refused, one in which the second is, and
-so on to the last. The same of two generated links. Each has to write nothing and end with 6, or to do without and
+several groups, for 0, 2 and 4 workers, and for why its first section is kept: a run in which the first growth is refused,
+one in which the second is, and so on to the last. The same of two generated links, and of a check of each map of
+examples/, the reports among them. Each has to write nothing and end with 6, or to do without and
 answer as the run in which none is refused, which with one thread few do. Where what gives memory back is refused, each has
 to answer as that run. The examples are of every kind: merged strings, thunks, relaxation, output that is linked again,
 redirects, tables; two generated links are laid out by the call that has one thread alone. Says at its end how many calls
@@ -22,7 +23,8 @@ import tempfile
 import cases
 
 HERE = os.path.dirname(os.path.abspath(__file__))
-WORDS = ("layout 0", "layout 2", "layout 4")
+WORDS = ("layout 0", "layout 2", "layout 4", "why 1 0 0")
+MAPS = ("*.report", "*.map")
 GENERATED = ("gen 3 9", "gen 7 200")
 MERGED = 6
 NO_MEMORY = 6
@@ -88,11 +90,21 @@ def merged(number):
     return json.dumps(description).encode()
 
 
-def descriptions(paths):
-    """Names and texts of descriptions."""
-    for path in paths or sorted(glob.glob(os.path.join(HERE, "..", "examples", "*.json"))):
+def examples(pattern):
+    """The paths of examples with such a name."""
+    return sorted(glob.glob(os.path.join(HERE, "..", "examples", pattern)))
+
+
+def texts(paths):
+    """Names and texts of files."""
+    for path in paths:
         with open(path, "rb") as file:
             yield os.path.basename(path), file.read()
+
+
+def descriptions(paths):
+    """Names and texts of descriptions."""
+    yield from texts(paths or examples("*.json"))
     for number in range(0 if paths else MERGED):
         yield "merged %d" % number, merged(number)
 
@@ -104,6 +116,8 @@ def runs(paths):
             yield name, line, data
     for line in () if paths else GENERATED:
         yield "generated", line, b""
+    for name, data in texts([] if paths else [path for pattern in MAPS for path in examples(pattern)]):
+        yield name, "check", data
 
 
 def main(words):

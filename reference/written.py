@@ -9,7 +9,8 @@ input is what the text says.
 
 In documents an example is an indented line that is a JSON list or object, followed by the indented
 lines of its text; a "·" is a space at the end of a line, and what follows it a remark. In examples/
-the description and the text are files of the same name.
+the description and the text are files of the same name: the report, or a text whose first line is the words; and a map and
+what is told of it.
 """
 
 import collections
@@ -24,7 +25,8 @@ TOP = os.path.dirname(HERE)
 DOCUMENTS = ("FORMAT.md", "DECISIONS.md")
 LAYOUT_WORDS = ["layout", "0"]
 INDENT = " " * 4
-UNREADABLE_STARTS = ("not JSON", "not a link description:", "input is longer")
+UNREADABLE_STARTS = ("not JSON", "not a link description:", "not a map:", "input is longer")
+DONE_STARTS = ("layout\n", "why ", "map ok:")
 
 
 class Example(collections.namedtuple("Example", "place words data status text")):
@@ -76,14 +78,14 @@ def known_examples(path):
 # Examples in documents and beside them
 
 
-def laid_down(place, data, text):
+def laid_down(place, data, text, words=LAYOUT_WORDS):
     """An example with this text."""
-    return Example(place, LAYOUT_WORDS, data, status_of(text), text)
+    return Example(place, words, data, status_of(text), text)
 
 
 def status_of(text):
     """The status that goes with a text."""
-    if text.startswith("layout\n"):
+    if text.startswith(DONE_STARTS):
         return LAID_OUT
     return UNREADABLE if text.startswith(UNREADABLE_STARTS) else REFUSED
 
@@ -106,17 +108,32 @@ def document_examples(path):
             text.append(line_text + " " if space else line_text)
 
 
+def text_of(path):
+    """The text of a file."""
+    with open(path, encoding="utf-8") as file:
+        return file.read()
+
+
+def words_for(ending, text):
+    """The words that give a text in a file with this ending."""
+    if ending == ".why":
+        return text.split("\n")[0].split(" ")
+    return ["check"] if ending == ".checked" else LAYOUT_WORDS
+
+
+# The ending of a file with a text, and that of its input.
+INPUTS = {".report": ".json", ".why": ".json", ".checked": ".map"}
+
+
 def file_examples(folder):
-    """The descriptions of a folder that have a report of the same name."""
+    """The texts of a folder, each with the input of the same name."""
     for name in sorted(os.listdir(folder)):
         start, ending = os.path.splitext(name)
-        if ending == ".json":
-            with open(os.path.join(folder, name), encoding="utf-8") as file:
-                data = file.read()
-            with open(os.path.join(folder, start + ".report"), encoding="utf-8") as file:
-                text = file.read()
-            place = os.path.relpath(os.path.join(folder, name), TOP)
-            yield laid_down(place, data, text)
+        if ending in INPUTS:
+            path = os.path.join(folder, name)
+            text = text_of(path)
+            data = text_of(os.path.join(folder, start + INPUTS[ending]))
+            yield laid_down(os.path.relpath(path, TOP), data, text, words_for(ending, text))
 
 
 def all_examples():

@@ -7,6 +7,7 @@ from .contents import add_contents
 from .faults import break_rules
 from .fixed import fixed_cases
 from .good import good_description, move_to_the_edge
+from .maps import changed_map
 from .merges import add_merges
 from .richer import make_richer
 from .shapes import break_shape, random_shapes
@@ -17,7 +18,7 @@ from .values import objects
 from .thunked import thunked_description
 from .wide import widen
 
-__all__ = ["case", "fixed_cases", "merging_case", "shortened_case", "thread_local_case"]
+__all__ = ["case", "changed_map", "fixed_cases", "merging_case", "shortened_case", "thread_local_case"]
 
 # Kinds of random descriptions, with their weights.
 MIX = {

@@ -1,5 +1,5 @@
-//! The linker core as a program: reads a link description from standard input, and writes its layout's report or the
-//! text of a fault to standard output. It ends with the status of the run.
+//! The linker core as a program: does what its words ask for with what standard input holds, and writes the answer to
+//! standard output. It ends with the status of the run.
 #![tactic(auto)]
 
 use lk_run::program::run_program;

@@ -7,11 +7,12 @@ use Rattle.std.proofs.lemmas.Fmt.{decimal_digit, decimal_is_IsNumeral, decimal-d
 use Rattle.std.proofs.lemmas.Bool.{cases_lt, eqb-true, leb-true, le-leb}
 use Rattle.std.proofs.lemmas.Str.Parse.{numerals_by_value, tells_digits}
 use Rattle.std.proofs.lemmas.Slice.Eq.{bytes_eq-Decides}
+use Rattle.lk_link.specs.declared.ids.FileId.{FileId}
 use Rattle.lk_run.specs.RunAlone.{AsksForWorkers}
 use Rattle.lk_run.specs.Steps.{CanBeAsked, IsPadded}
-use Rattle.lk_run.specs.Words.{IsCommand, command_of, number_in, workers_of, seed_of, size_of, layout_with, gen_with, workers_for}
+use Rattle.lk_run.specs.Words.{IsCommand, command_of, number_in, workers_of, seed_of, short_of, size_of, layout_with, gen_with, why_with, workers_for}
 use Rattle.lk_run.specs.declared.words.Command.{Command}
-use Rattle.lk_run.specs.declared.words.Command.TheVariants.{Layout, Gen}
+use Rattle.lk_run.specs.declared.words.Command.TheVariants.{Layout, Gen, Why, Check}
 use Rattle.lk_run.specs.declared.words.TheConstants.{MOST_WORKERS, MOST_OBJECTS}
 
 -- all tests hold where there is a number
@@ -106,6 +107,10 @@ pub others_are_none : {E : Type 0} (least most : ℕ) (word : List ℕ) (r : Res
 others_are_none least most word r parsed small never =
     no_numbers least most word (λ n some few is. never n (parse-decimal 64 n word r (omega (arith, few, small)) (omega (arith, few, small)) is parsed) some few)
 
+-- a number of 32 bits is read of the word that writes it
+short_written : (n : ℕ) → n < 2 ^ 32 → short_of (decimal n) ≡ Some n
+short_written n small = written_numbers 0 (2 ^ 32 - 1) (decimal n) n (omega arith) (omega (arith, small)) (omega (arith, small)) refl
+
 -- the words of a command are read as that command
 pub reads_command : (words : List (List ℕ)) (command : Command) → IsCommand words command → command_of words ≡ Some command
 unfolding command_of
@@ -115,6 +120,16 @@ reads_command words (Gen seed size) is =
     let first : seed_of (decimal seed) ≡ Some seed = written_numbers 0 (2 ^ 64 - 1) (decimal seed) seed (omega arith) (omega (arith, is.0)) is.0 refl in
     let second : size_of (decimal size) ≡ Some size = written_numbers 1 MOST_OBJECTS (decimal size) size is.1 is.2 (omega (arith, is.2)) refl in
     rw is.3 (ap (λ (o : Option ℕ). gen_with o (size_of (decimal size))) first ∙ ap (gen_with (Some seed)) second)
+reads_command words (Why file index) is =
+    let first = short_written file.group is.0 in
+    let second = short_written file.file is.1 in
+    let third = short_written index is.2 in
+    rw is.3 (
+    ap (λ (o : Option ℕ). why_with o (short_of (decimal file.file)) (short_of (decimal index))) first
+    ∙ ap (λ (o : Option ℕ). why_with (Some file.group) o (short_of (decimal index))) second
+    ∙ ap (why_with (Some file.group) (Some file.file)) third
+    )
+reads_command words Check is = rw is refl
 
 -- a number that a word behind `layout` was read as
 layout_read : (is_verb : Bool) (workers : Option ℕ) (command : Command) → (if is_verb then layout_with workers else None) ≡ Some command
@@ -131,11 +146,34 @@ gen_read true (Some n) None command read = absurd (cc)
 gen_read true None size command read = absurd (cc)
 gen_read false seed size command read = absurd (cc)
 
+-- the numbers that three words behind `why` were read as
+why_read : (is_verb : Bool) (group file index : Option ℕ) (command : Command) → (if is_verb then why_with group file index else None) ≡ Some command
+    → (is_verb ≡ true) × ((g f i : ℕ) × (group ≡ Some g) × (file ≡ Some f) × (index ≡ Some i) × (command ≡ Why (record { group = g; file = f }) i))
+why_read true (Some g) (Some f) (Some i) command read = (refl, (g, f, i, refl, refl, refl, cc))
+why_read true (Some g) (Some f) None command read = absurd (cc)
+why_read true (Some g) None index command read = absurd (cc)
+why_read true None file index command read = absurd (cc)
+why_read false group file index command read = absurd (cc)
+
+-- a word alone was read as `check`
+check_read : (is_verb : Bool) (command : Command) → (if is_verb then Some Check else None) ≡ Some command → (is_verb ≡ true) × (command ≡ Check)
+check_read true command read = (refl, cc)
+check_read false command read = absurd (cc)
+
+-- a word that was read as a number of 32 bits writes it
+short_is_written : (word : List ℕ) (n : ℕ) → short_of word ≡ Some n → (n < 2 ^ 32) × (word ≡ decimal n)
+short_is_written word n read =
+    let is = numbers_are_written 0 (2 ^ 32 - 1) word n read in
+    (omega (arith, is.1), is.2)
+
 -- what is read as a command are its words
 pub command_is_read : (words : List (List ℕ)) (command : Command) → command_of words ≡ Some command → IsCommand words command
 unfolding command_of
 command_is_read [] command read = absurd (cc)
-command_is_read (verb ∷ []) command read = absurd (cc)
+command_is_read (verb ∷ []) command read =
+    let tests = check_read (bytes_eq verb (codes "check")) command read in
+    let is_verb = (bytes_eq-Decides verb (codes "check")).0 tests.0 in
+    subst (IsCommand (verb ∷ [])) (sym tests.1) (ap (λ v. v ∷ []) is_verb)
 command_is_read (verb ∷ workers ∷ []) command read =
     let tests = layout_read (bytes_eq verb (codes "layout")) (workers_of workers) command read in
     let is_verb = (bytes_eq-Decides verb (codes "layout")).0 tests.0 in
@@ -156,7 +194,23 @@ command_is_read (verb ∷ seed ∷ size ∷ []) command read =
       second.1,
       ap (λ v. v ∷ seed ∷ size ∷ []) is_verb ∙ ap (λ w. codes "gen" ∷ w ∷ size ∷ []) first.2 ∙ ap (λ w. codes "gen" ∷ decimal n ∷ w ∷ []) second.2,
     )
-command_is_read (verb ∷ seed ∷ size ∷ more ∷ others) command read = absurd (cc)
+command_is_read (verb ∷ group ∷ file ∷ index ∷ []) command read =
+    let tests = why_read (bytes_eq verb (codes "why")) (short_of group) (short_of file) (short_of index) command read in
+    let is_verb = (bytes_eq-Decides verb (codes "why")).0 tests.0 in
+    let found = tests.1 in
+    let first = short_is_written group found.0 found.3 in
+    let second = short_is_written file found.1 found.4 in
+    let third = short_is_written index found.2 found.5 in
+    subst (IsCommand (verb ∷ group ∷ file ∷ index ∷ [])) (sym found.6) (
+      first.0,
+      second.0,
+      third.0,
+      ap (λ v. v ∷ group ∷ file ∷ index ∷ []) is_verb
+          ∙ ap (λ w. codes "why" ∷ w ∷ file ∷ index ∷ []) first.1
+          ∙ ap (λ w. codes "why" ∷ decimal found.0 ∷ w ∷ index ∷ []) second.1
+          ∙ ap (λ w. codes "why" ∷ decimal found.0 ∷ decimal found.1 ∷ w ∷ []) third.1,
+    )
+command_is_read (verb ∷ group ∷ file ∷ index ∷ more ∷ others) command read = absurd (cc)
 
 -- a command that asks for several workers
 pub asks : (words : List (List ℕ)) (command : Command) → command_of words ≡ Some command → 2 ≤ workers_for command → AsksForWorkers words

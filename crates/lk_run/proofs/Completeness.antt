@@ -1,11 +1,28 @@
 -- What the words and the input define is what a run tells.
-use Rattle.std.proofs.Common.{◌≡◌, ◌⊎◌, inl, inr, Bool, true, false, ℕ, List, [], length, Option, Some, None, Result, Ok, Err, sym, subst, ap, ◌∙◌, refl, arith}
+use Rattle.std.proofs.Common.{◌≡◌, ◌⊎◌, inl, inr, Bool, true, false, true≢false, ℕ, List, [], length, Option, Some, None, Result, Ok, Err, sym, subst, ap, ◌∙◌, refl, arith}
 use Rattle.std.proofs.lemmas.Bool.{cases_lt}
-use Rattle.std.specs.Prelude.{MatchBool, MatchOption}
+use Rattle.std.specs.Prelude.{MatchBool, MatchOption, slice_index_or}
 use Rattle.lk_input.specs.declared.read.error.InputError.{InputError}
 use Rattle.lk_input.specs.Reading.{reading_of}
 use Rattle.lk_generator.specs.Generated.{generated_link}
+use Rattle.lk_check.specs.FirstFault.{WellFormedExactlyUnfaulted, first_fault}
+use Rattle.lk_explain.specs.Faults.{has_unit}
+use Rattle.lk_explain.specs.Laws.{ReachedIsShown, ShownIsOne}
+use Rattle.lk_explain.proofs.NumberLemmas.{reached_by}
+use Rattle.lk_explain.proofs.PathLemmas.{has_is_unit}
+use Rattle.lk_link.specs.declared.fault.LinkFault.{LinkFault}
+use Rattle.lk_link.specs.declared.ids.FileId.{FileId}
 use Rattle.lk_link.specs.declared.link.LinkInput.{LinkInput}
+use Rattle.lk_link.specs.WellFormed.{IsWellFormed}
+use Rattle.lk_map.specs.declared.check.MapFault.{MapFault}
+use Rattle.lk_map.specs.declared.map_text.SectionLine.{SectionLine}
+use Rattle.lk_map.specs.declared.map_text.SegmentLine.{SegmentLine}
+use Rattle.lk_map.specs.MapText.{map_of}
+use Rattle.lk_map.specs.Verdicts.{MapsAreJudged, MapsRise, VerdictsAgree}
+use Rattle.lk_reach.specs.declared.units.Unit.{Unit as LinkUnit}
+use Rattle.lk_reach.specs.declared.units.Unit.TheVariants.{Sec}
+use Rattle.lk_reach.specs.Laws.{MarksAreReached}
+use Rattle.lk_reach.specs.Marks.{reached_marks, unit_number}
 use Rattle.lk_layout.specs.Machines.{small64_machine}
 use Rattle.lk_layout.specs.declared.error.LayoutError.{LayoutError}
 use Rattle.lk_layout.specs.LayoutRecord.{LayoutRecord}
@@ -17,32 +34,86 @@ use Rattle.lk_run.specs.declared.status.Status.{Status}
 use Rattle.lk_run.specs.declared.status.Status.TheVariants.{Done, Refused, Usage, Unreadable, ReadFault, WriteFault, NoMemory}
 use Rattle.lk_run.specs.declared.words.Command.{Command}
 use Rattle.lk_run.specs.declared.words.Command.TheVariants as commands
-use Rattle.lk_run.specs.Complete.{IsFaultless, Tells, DescribesLayout}
+use Rattle.lk_run.specs.Complete.{DescribesLayout, IsAnswerOver, IsFaultless, RunsTellOneAnswer, RunsTellTheAnswer, Tells}
 use Rattle.lk_devices.specs.Device.{SourceState, SinkState}
 use Rattle.lk_report.specs.FaultText.{input_fault_text_of}
-use Rattle.lk_run.specs.Run.{Held, Whole, Longer, Holds, Takes, IsAnswerOf, IsAnswerTo, IsAnswerToReading, IsAnswered, IsGeneratedAnswer, Commanded, Uncommanded, Unmoved, Finished, IsRun, Unread, summed_up, told_of}
+use Rattle.lk_run.specs.Run.{Held, Whole, Longer, Holds, Takes, IsAnswerOf, IsAnswerTo, IsAnswerToReading, IsAnswered, IsGeneratedAnswer, IsLayoutAnswer, IsMapAnswer, IsSectionAnswer, IsWayAnswer, IsWhyAnswer, done, judged, refused, unreadable, Commanded, Uncommanded, Unmoved, Finished, IsRun, Unread, summed_up, told_of}
 use Rattle.lk_run.specs.TooLong.{too_long_text}
+use Rattle.lk_run.specs.MapTexts.{no_map_text}
+use Rattle.lk_run.specs.WhyTexts.{IsWay, link_fault_line, no_section_text, why_text}
 use Rattle.lk_run.specs.Words.{IsCommand, command_of, reads, usage}
 use Rattle.lk_run.proofs.Commands.{reads_command}
 use Rattle.lk_run.proofs.RunLaws.{answered}
 
+-- ---- the laws that it stands on
+
+-- by which each command has an answer
+pub record AnswersExist : Type 0 where
+  pub layouts : DefinedAnswerExists
+  pub unfaulted : WellFormedExactlyUnfaulted
+  pub marks : MarksAreReached
+  pub shown : ReachedIsShown
+  pub rises : MapsRise
+  pub verdicts : MapsAreJudged
+
+-- by which it is one
+pub record AnswersAreOne : Type 0 where
+  pub layouts : DefinedAnswerIsOne
+  pub unfaulted : WellFormedExactlyUnfaulted
+  pub shown : ShownIsOne
+  pub verdicts : VerdictsAgree
+
 -- ---- there is an answer
 
-reading_answer : DefinedAnswerExists → (reading : Result LinkInput InputError) → (answer : Answer) × IsAnswerToReading reading answer
-reading_answer law (Ok link) = let found = law small64_machine link in (told_of link found.0, (found.0, found.1, refl))
-reading_answer law (Err e) = (record { status = Unreadable; bytes = input_fault_text_of e }, refl)
+reading_answer : (to_link : LinkInput → Answer → Type 0) → ((link : LinkInput) → (answer : Answer) × to_link link answer)
+    → (reading : Result LinkInput InputError) → (answer : Answer) × IsAnswerToReading to_link reading answer
+reading_answer to_link every (Ok link) = every link
+reading_answer to_link every (Err e) = (unreadable (input_fault_text_of e), refl)
 
-generated_answer : DefinedAnswerExists → (seed size : ℕ) → (answer : Answer) × IsGeneratedAnswer seed size answer
-generated_answer law seed size = let found = law small64_machine (generated_link seed size) in (summed_up seed size found.0, (found.0, found.1, refl))
+layout_answer : AnswersExist → (link : LinkInput) → (answer : Answer) × IsLayoutAnswer link answer
+layout_answer law link = let found = law.layouts small64_machine link in (told_of link found.0, (found.0, found.1, refl))
+
+generated_answer : AnswersExist → (seed size : ℕ) → (answer : Answer) × IsGeneratedAnswer seed size answer
+generated_answer law seed size = let found = law.layouts small64_machine (generated_link seed size) in (summed_up seed size found.0, (found.0, found.1, refl))
+
+-- a unit is reached or not, as its mark says
+way_by_mark : AnswersExist → (link : LinkInput) (unit : LinkUnit) → IsWellFormed link → has_unit link unit ≡ true → (mark : Bool)
+    → slice_index_or (reached_marks link) (unit_number link.groups unit) false ≡ mark → (way : Option (List LinkUnit)) × IsWay link unit way
+way_by_mark law link unit wf there true is =
+    let found = law.shown link unit wf ((law.marks link unit wf (has_is_unit link unit there)).0 is) in
+    (Some found.0, found.1)
+way_by_mark law link unit wf there false is =
+    (None, λ reached. true≢false (sym ((law.marks link unit wf (has_is_unit link unit there)).1 reached) ∙ is))
+
+section_answer : AnswersExist → (link : LinkInput) (file : FileId) (index : ℕ) → IsWellFormed link → (is_there : Bool) → has_unit link (Sec file index) ≡ is_there
+    → (answer : Answer) × MatchBool is_there (IsWayAnswer link file index answer) (answer ≡ refused (no_section_text file index))
+section_answer law link file index wf true there =
+    let found = way_by_mark law link (Sec file index) wf there (slice_index_or (reached_marks link) (unit_number link.groups (Sec file index)) false) refl in
+    (done (why_text file index found.0), (found.0, found.1, refl))
+section_answer law link file index wf false there = (refused (no_section_text file index), refl)
+
+why_answer : AnswersExist → (file : FileId) (index : ℕ) (link : LinkInput) (found : Option LinkFault) → first_fault link ≡ found
+    → (answer : Answer) × MatchOption found (IsSectionAnswer link file index answer) (λ fault. answer ≡ refused (link_fault_line fault))
+why_answer law file index link None is = section_answer law link file index ((law.unfaulted link).1 is) (has_unit link (Sec file index)) refl
+why_answer law file index link (Some fault) is = (refused (link_fault_line fault), refl)
+
+map_answer : AnswersExist → (text : List ℕ) (said : Result (List SectionLine × List SegmentLine) ℕ) → map_of text ≡ said → (answer : Answer) × IsMapAnswer said answer
+map_answer law text (Ok map) is =
+    let found = law.verdicts map.0 map.1 (law.rises text map.0 map.1 is) in
+    (judged map.0 map.1 found.0, (found.0, found.1, refl))
+map_answer law text (Err line) is = (unreadable (no_map_text line), refl)
 
 -- a case for each command
-command_answer : DefinedAnswerExists → (command : Command) (bytes : List ℕ) → (answer : Answer) × IsAnswerOf command bytes answer
-command_answer law (commands.Layout workers) bytes = reading_answer law (reading_of bytes)
+command_answer : AnswersExist → (command : Command) (bytes : List ℕ) → (answer : Answer) × IsAnswerOf command bytes answer
+command_answer law (commands.Layout workers) bytes = reading_answer IsLayoutAnswer (layout_answer law) (reading_of bytes)
 command_answer law (commands.Gen seed size) bytes = generated_answer law seed size
+command_answer law (commands.Why file index) bytes =
+    reading_answer (IsWhyAnswer file index) (λ link. why_answer law file index link (first_fault link) refl) (reading_of bytes)
+command_answer law commands.Check bytes = map_answer law bytes (map_of bytes) refl
 
-held_answer : DefinedAnswerExists → (command : Command) (held : Held) → (answer : Answer) × IsAnswerTo command held answer
+held_answer : AnswersExist → (command : Command) (held : Held) → (answer : Answer) × IsAnswerTo command held answer
 held_answer law command (Whole bytes) = command_answer law command bytes
-held_answer law command Longer = (record { status = Unreadable; bytes = too_long_text }, refl)
+held_answer law command Longer = (unreadable too_long_text, refl)
 
 -- what bytes are held as
 held_of : (bytes : List ℕ) → (held : Held) × Holds (Some bytes) held
@@ -53,19 +124,49 @@ held_of bytes = elim (cases_lt LONGEST_INPUT (length bytes)) [
 
 -- ---- and it is one
 
-one_of_reading : DefinedAnswerIsOne → (reading : Result LinkInput InputError) (a b : Answer) → IsAnswerToReading reading a → IsAnswerToReading reading b → a ≡ b
-one_of_reading law (Ok link) a b p q = p.2 ∙ ap (told_of link) (law small64_machine link p.0 q.0 p.1 q.1) ∙ sym q.2
-one_of_reading law (Err e) a b p q = p ∙ sym q
+one_of_reading : (to_link : LinkInput → Answer → Type 0) → ((link : LinkInput) (a b : Answer) → to_link link a → to_link link b → a ≡ b)
+    → (reading : Result LinkInput InputError) (a b : Answer) → IsAnswerToReading to_link reading a → IsAnswerToReading to_link reading b → a ≡ b
+one_of_reading to_link one (Ok link) a b p q = one link a b p q
+one_of_reading to_link one (Err e) a b p q = p ∙ sym q
 
-one_generated : DefinedAnswerIsOne → (seed size : ℕ) (a b : Answer) → IsGeneratedAnswer seed size a → IsGeneratedAnswer seed size b → a ≡ b
-one_generated law seed size a b p q = p.2 ∙ ap (summed_up seed size) (law small64_machine (generated_link seed size) p.0 q.0 p.1 q.1) ∙ sym q.2
+one_laid_out : AnswersAreOne → (link : LinkInput) (a b : Answer) → IsLayoutAnswer link a → IsLayoutAnswer link b → a ≡ b
+one_laid_out law link a b p q = p.2 ∙ ap (told_of link) (law.layouts small64_machine link p.0 q.0 p.1 q.1) ∙ sym q.2
+
+one_generated : AnswersAreOne → (seed size : ℕ) (a b : Answer) → IsGeneratedAnswer seed size a → IsGeneratedAnswer seed size b → a ≡ b
+one_generated law seed size a b p q = p.2 ∙ ap (summed_up seed size) (law.layouts small64_machine (generated_link seed size) p.0 q.0 p.1 q.1) ∙ sym q.2
+
+one_way : AnswersAreOne → (link : LinkInput) (unit : LinkUnit) → IsWellFormed link → (a b : Option (List LinkUnit)) → IsWay link unit a → IsWay link unit b → a ≡ b
+one_way law link unit wf (Some path) (Some other) p q = ap Some (law.shown link path other unit wf p q)
+one_way law link unit wf (Some path) None p q = absurd (q (reached_by link path unit p.leads))
+one_way law link unit wf None (Some other) p q = absurd (p (reached_by link other unit q.leads))
+one_way law link unit wf None None p q = refl
+
+one_section : AnswersAreOne → (link : LinkInput) (file : FileId) (index : ℕ) → IsWellFormed link → (is_there : Bool) (a b : Answer)
+    → MatchBool is_there (IsWayAnswer link file index a) (a ≡ refused (no_section_text file index))
+    → MatchBool is_there (IsWayAnswer link file index b) (b ≡ refused (no_section_text file index)) → a ≡ b
+one_section law link file index wf true a b p q =
+    p.2 ∙ ap (λ way. done (why_text file index way)) (one_way law link (Sec file index) wf p.0 q.0 p.1 q.1) ∙ sym q.2
+one_section law link file index wf false a b p q = p ∙ sym q
+
+one_why : AnswersAreOne → (file : FileId) (index : ℕ) (link : LinkInput) (found : Option LinkFault) (a b : Answer) → first_fault link ≡ found
+    → MatchOption found (IsSectionAnswer link file index a) (λ fault. a ≡ refused (link_fault_line fault))
+    → MatchOption found (IsSectionAnswer link file index b) (λ fault. b ≡ refused (link_fault_line fault)) → a ≡ b
+one_why law file index link None a b is p q = one_section law link file index ((law.unfaulted link).1 is) (has_unit link (Sec file index)) a b p q
+one_why law file index link (Some fault) a b is p q = p ∙ sym q
+
+one_of_map : AnswersAreOne → (said : Result (List SectionLine × List SegmentLine) ℕ) (a b : Answer) → IsMapAnswer said a → IsMapAnswer said b → a ≡ b
+one_of_map law (Ok map) a b p q = p.2 ∙ ap (judged map.0 map.1) (law.verdicts map.0 map.1 p.0 q.0 p.1 q.1) ∙ sym q.2
+one_of_map law (Err line) a b p q = p ∙ sym q
 
 -- a case for each command
-one_of_command : DefinedAnswerIsOne → (command : Command) (bytes : List ℕ) (a b : Answer) → IsAnswerOf command bytes a → IsAnswerOf command bytes b → a ≡ b
-one_of_command law (commands.Layout workers) bytes a b p q = one_of_reading law (reading_of bytes) a b p q
+one_of_command : AnswersAreOne → (command : Command) (bytes : List ℕ) (a b : Answer) → IsAnswerOf command bytes a → IsAnswerOf command bytes b → a ≡ b
+one_of_command law (commands.Layout workers) bytes a b p q = one_of_reading IsLayoutAnswer (one_laid_out law) (reading_of bytes) a b p q
 one_of_command law (commands.Gen seed size) bytes a b p q = one_generated law seed size a b p q
+one_of_command law (commands.Why file index) bytes a b p q =
+    one_of_reading (IsWhyAnswer file index) (λ link c d. one_why law file index link (first_fault link) c d refl) (reading_of bytes) a b p q
+one_of_command law commands.Check bytes a b p q = one_of_map law (map_of bytes) a b p q
 
-one_of_held : DefinedAnswerIsOne → (command : Command) (held : Held) (a b : Answer) → IsAnswerTo command held a → IsAnswerTo command held b → a ≡ b
+one_of_held : AnswersAreOne → (command : Command) (held : Held) (a b : Answer) → IsAnswerTo command held a → IsAnswerTo command held b → a ≡ b
 one_of_held law command (Whole bytes) a b p q = one_of_command law command bytes a b p q
 one_of_held law command Longer a b p q = p ∙ sym q
 
@@ -80,25 +181,32 @@ abbrev IsTheAnswer : SourceState → Option Command → Answer → Type 0
 IsTheAnswer from command answer = (to : SourceState) (told : Answer) → MatchOption command (Uncommanded from to told) (λ c. IsAnswered c from to told) → told ≡ answer
 
 -- that of a command which reads, and of one which doesn't
-its_answer : DefinedAnswerExists → DefinedAnswerIsOne → (from : SourceState) (bytes : List ℕ) → from.left ≡ Some bytes → (does_read : Bool) (command : Command)
-    → (answer : Answer) × ((to : SourceState) (told : Answer) → MatchBool does_read (Commanded command from to told) (Unmoved command from to told) → told ≡ answer)
-its_answer every one from bytes left true command =
+over_answer : AnswersExist → (bytes : List ℕ) (does_read : Bool) (command : Command)
+    → (answer : Answer) × MatchBool does_read ((held : Held) × Holds (Some bytes) held × IsAnswerTo command held answer) (IsAnswerOf command [] answer)
+over_answer every bytes true command =
     let held = held_of bytes in
-    let found = held_answer every command held.0 in (
-      found.0,
-      λ to told is.
-          let holds : Holds (Some bytes) is.held = subst (λ o. Holds o is.held) left is.holds in
-          let same : is.held ≡ held.0 = one_held bytes is.held held.0 holds held.1 in
-          one_of_held one command held.0 told found.0 (subst (λ h. IsAnswerTo command h told) same is.answers) found.1,
-    )
-its_answer every one from bytes left false command =
-    let found = command_answer every command [] in
-    (found.0, λ to told is. one_of_command one command [] told found.0 is.answers found.1)
+    let found = held_answer every command held.0 in
+    (found.0, (held.0, held.1, found.1))
+over_answer every bytes false command = command_answer every command []
 
-the_answer : DefinedAnswerExists → DefinedAnswerIsOne → (from : SourceState) (bytes : List ℕ) → from.left ≡ Some bytes → (command : Option Command)
-    → (answer : Answer) × IsTheAnswer from command answer
-the_answer every one from bytes left None = (record { status = Usage; bytes = usage }, λ to told is. is.answers)
-the_answer every one from bytes left (Some command) = its_answer every one from bytes left (reads command) command
+answer_over : AnswersExist → (bytes : List ℕ) (command : Option Command) → (answer : Answer) × IsAnswerOver bytes command answer
+answer_over every bytes None = (record { status = Usage; bytes = usage }, refl)
+answer_over every bytes (Some command) = over_answer every bytes (reads command) command
+
+-- each run tells it
+its_answer : AnswersAreOne → (from : SourceState) (bytes : List ℕ) → from.left ≡ Some bytes → (does_read : Bool) (command : Command) (answer : Answer)
+    → MatchBool does_read ((held : Held) × Holds (Some bytes) held × IsAnswerTo command held answer) (IsAnswerOf command [] answer)
+    → (to : SourceState) (told : Answer) → MatchBool does_read (Commanded command from to told) (Unmoved command from to told) → told ≡ answer
+its_answer one from bytes left true command answer given to told is =
+    let holds : Holds (Some bytes) is.held = subst (λ o. Holds o is.held) left is.holds in
+    let same : is.held ≡ given.0 = one_held bytes is.held given.0 holds given.1 in
+    one_of_held one command given.0 told answer (subst (λ h. IsAnswerTo command h told) same is.answers) given.2
+its_answer one from bytes left false command answer given to told is = one_of_command one command [] told answer is.answers given
+
+the_answer : AnswersAreOne → (from : SourceState) (bytes : List ℕ) → from.left ≡ Some bytes → (command : Option Command) (answer : Answer)
+    → IsAnswerOver bytes command answer → IsTheAnswer from command answer
+the_answer one from bytes left None answer given to told is = is.answers ∙ sym given
+the_answer one from bytes left (Some command) answer given to told is = its_answer one from bytes left (reads command) command answer given to told is
 
 -- a run whose devices didn't fail told it
 finished_tells : (words : List (List ℕ)) (from to : SourceState) (before after : SinkState) (status : Status) (answer : Answer) → IsTheAnswer from (command_of words) answer
@@ -120,12 +228,14 @@ tells words from to before after ReadFault answer is run faultless = absurd (ome
 tells words from to before after WriteFault answer is run faultless = absurd (omega (arith, run.written.faulty, faultless.sink))
 tells words from to before after NoMemory answer is run faultless = inr refl
 
-pub runs_tell : DefinedAnswerExists → DefinedAnswerIsOne → (words : List (List ℕ)) (from : SourceState) (bytes : List ℕ) → from.left ≡ Some bytes
-    → (answer : Answer) × ((to : SourceState) (before after : SinkState) (status : Status) → IsRun words from to before after status
-    → IsFaultless from to before after → Tells before after status answer ⊎ (status ≡ NoMemory))
-runs_tell every one words from bytes left =
-    let found = the_answer every one from bytes left (command_of words) in
-    (found.0, λ to before after status run faultless. tells words from to before after status found.0 found.1 run faultless)
+pub runs_tell_the_answer : AnswersAreOne → RunsTellTheAnswer
+runs_tell_the_answer one words bytes answer given from to before after status left run faultless =
+    tells words from to before after status answer (the_answer one from bytes left (command_of words) answer given) run faultless
+
+pub runs_tell : AnswersExist → AnswersAreOne → RunsTellOneAnswer
+runs_tell every one words bytes =
+    let found = answer_over every bytes (command_of words) in
+    (found.0, found.1, runs_tell_the_answer one words bytes found.0 found.1)
 
 -- ---- a description that meets no refusal
 
@@ -138,7 +248,7 @@ told_done : (workers : ℕ) (bytes : List ℕ) (held : Held) (answer : Answer) �
     → IsAnswerTo (commands.Layout workers) held answer → answer.status ≡ Done
 told_done workers bytes (Whole b) answer good holds is =
     let described : reading_of b ≡ Ok good.link = ap reading_of (sym holds.1) ∙ good.described in
-    let answers : IsAnswerToReading (Ok good.link) answer = subst (λ r. IsAnswerToReading r answer) described is in
+    let answers : IsLayoutAnswer good.link answer = subst (λ r. IsAnswerToReading IsLayoutAnswer r answer) described is in
     told_result good.link answers.0 answer good.unrefused answers.1 answers.2
 told_done workers bytes Longer answer good holds is = absurd (omega (arith, good.fits, holds))
 

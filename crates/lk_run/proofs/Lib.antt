@@ -3,3 +3,4 @@ pub mod Completeness
 pub mod Refusals
 pub mod RunLaws
 pub mod SoundRuns
+pub mod Ways

@@ -1,9 +1,18 @@
 -- The steps of a run make the run that is promised.
-use Rattle.std.proofs.Common.{◌≡◌, ◌⊎◌, inl, inr, ℕ, Bool, true, false, List, [], Some, None, Result, Ok, Err, sym, subst, ap, ◌∙◌, refl}
+use Rattle.std.proofs.Common.{◌≡◌, ◌⊎◌, inl, inr, ℕ, Bool, true, false, List, [], Option, Some, None, Result, Ok, Err, sym, subst, ap, ◌∙◌, refl}
 use Rattle.std.specs.Prelude.{IfOk, MatchBool, MatchOption}
 use Rattle.lk_input.specs.declared.read.error.InputError.{InputError}
 use Rattle.lk_input.specs.Reading.{reading_of}
+use Rattle.lk_check.specs.FirstFault.{first_fault}
+use Rattle.lk_explain.specs.Faults.{has_unit}
+use Rattle.lk_link.specs.declared.fault.LinkFault.{LinkFault}
+use Rattle.lk_link.specs.declared.ids.FileId.{FileId}
 use Rattle.lk_link.specs.declared.link.LinkInput.{LinkInput}
+use Rattle.lk_map.specs.declared.check.MapFault.{MapFault}
+use Rattle.lk_map.specs.declared.map_text.SectionLine.{SectionLine}
+use Rattle.lk_map.specs.declared.map_text.SegmentLine.{SegmentLine}
+use Rattle.lk_map.specs.MapText.{map_of}
+use Rattle.lk_reach.specs.declared.units.Unit.TheVariants.{Sec}
 use Rattle.lk_layout.specs.declared.error.LayoutError.{LayoutError}
 use Rattle.lk_layout.specs.LayoutRecord.{LayoutRecord}
 use Rattle.lk_run.specs.declared.answer.Answer.{Answer}
@@ -14,8 +23,9 @@ use Rattle.lk_run.specs.declared.status.Status.TheVariants.{Done, Refused, Usage
 use Rattle.lk_run.specs.declared.words.Command.{Command}
 use Rattle.lk_run.specs.declared.words.Command.TheVariants as commands
 use Rattle.lk_devices.specs.Device.{SourceState, SinkState}
-use Rattle.lk_run.specs.Run.{Held, Whole, Longer, Holds, IsReadUp, IsKept, IsAnswerOf, IsAnswerTo, IsAnswerToReading, IsAnswered, IsDefinedFor, Commanded, Unmoved, Uncommanded, IsRun, summed_up, told_of}
+use Rattle.lk_run.specs.Run.{Held, Whole, Longer, Holds, IsReadUp, IsKept, IsAnswerOf, IsAnswerTo, IsAnswerToReading, IsLayoutAnswer, IsMapAnswer, IsSectionAnswer, IsWayAnswer, IsWhyAnswer, judged, refused, IsAnswered, IsDefinedFor, Commanded, Unmoved, Uncommanded, IsRun, summed_up, told_of}
 use Rattle.lk_run.specs.Steps.{GivesInput, IsCommandRun, IsFailure, IsMadeTold, IsToldBy, IsUsageRun, held_by}
+use Rattle.lk_run.specs.WhyTexts.{link_fault_line, no_section_text}
 use Rattle.lk_run.specs.Words.{command_of, reads, usage}
 
 -- ---- what an answer's status may be
@@ -27,18 +37,46 @@ told_link : (link : LinkInput) (result : Result LayoutRecord LayoutError) → Is
 told_link link (Ok layout) = inl refl
 told_link link (Err e) = inr (inl refl)
 
-told_reading : (reading : Result LinkInput InputError) (answer : Answer) → IsAnswerToReading reading answer → IsTold answer.status
-told_reading (Ok link) answer is = subst (λ (a : Answer). IsTold a.status) (sym is.2) (told_link link is.0)
-told_reading (Err e) answer is = inr (inr (ap (λ (a : Answer). a.status) is))
+told_laid_out : (link : LinkInput) (answer : Answer) → IsLayoutAnswer link answer → IsTold answer.status
+told_laid_out link answer is = subst (λ (a : Answer). IsTold a.status) (sym is.2) (told_link link is.0)
+
+told_reading : (to_link : LinkInput → Answer → Type 0) (reading : Result LinkInput InputError) (answer : Answer)
+    → ((link : LinkInput) → to_link link answer → IsTold answer.status) → IsAnswerToReading to_link reading answer → IsTold answer.status
+told_reading to_link (Ok link) answer told is = told link is
+told_reading to_link (Err e) answer told is = inr (inr (ap (λ (a : Answer). a.status) is))
 
 told_summed_up : (seed size : ℕ) (result : Result LayoutRecord LayoutError) → IsTold (summed_up seed size result).status
 told_summed_up seed size (Ok layout) = inl refl
 told_summed_up seed size (Err e) = inr (inl refl)
 
+told_refused : (text : List ℕ) (answer : Answer) → answer ≡ refused text → IsTold answer.status
+told_refused text answer is = inr (inl (ap (λ (a : Answer). a.status) is))
+
+told_section : (link : LinkInput) (file : FileId) (index : ℕ) (is_there : Bool) (answer : Answer)
+    → MatchBool is_there (IsWayAnswer link file index answer) (answer ≡ refused (no_section_text file index)) → IsTold answer.status
+told_section link file index true answer is = inl (ap (λ (a : Answer). a.status) is.2)
+told_section link file index false answer is = told_refused (no_section_text file index) answer is
+
+told_why : (file : FileId) (index : ℕ) (link : LinkInput) (found : Option LinkFault) (answer : Answer)
+    → MatchOption found (IsSectionAnswer link file index answer) (λ fault. answer ≡ refused (link_fault_line fault)) → IsTold answer.status
+told_why file index link None answer is = told_section link file index (has_unit link (Sec file index)) answer is
+told_why file index link (Some fault) answer is = told_refused (link_fault_line fault) answer is
+
+told_judged : (sections : List SectionLine) (segments : List SegmentLine) (verdict : Result (Unit {0}) MapFault) → IsTold (judged sections segments verdict).status
+told_judged sections segments (Ok u) = inl refl
+told_judged sections segments (Err fault) = inr (inl refl)
+
+told_map : (said : Result (List SectionLine × List SegmentLine) ℕ) (answer : Answer) → IsMapAnswer said answer → IsTold answer.status
+told_map (Ok map) answer is = subst (λ (a : Answer). IsTold a.status) (sym is.2) (told_judged map.0 map.1 is.0)
+told_map (Err line) answer is = inr (inr (ap (λ (a : Answer). a.status) is))
+
 -- a case for each command
 told_command : (command : Command) (bytes : List ℕ) (answer : Answer) → IsAnswerOf command bytes answer → IsTold answer.status
-told_command (commands.Layout workers) bytes answer is = told_reading (reading_of bytes) answer is
+told_command (commands.Layout workers) bytes answer is = told_reading IsLayoutAnswer (reading_of bytes) answer (λ link. told_laid_out link answer) is
 told_command (commands.Gen seed size) bytes answer is = subst (λ (a : Answer). IsTold a.status) (sym is.2) (told_summed_up seed size is.0)
+told_command (commands.Why file index) bytes answer is =
+    told_reading (IsWhyAnswer file index) (reading_of bytes) answer (λ link. told_why file index link (first_fault link) answer) is
+told_command commands.Check bytes answer is = told_map (map_of bytes) answer is
 
 told_held : (command : Command) (held : Held) (answer : Answer) → IsAnswerTo command held answer → IsTold answer.status
 told_held command (Whole bytes) answer is = told_command command bytes answer is
@@ -123,7 +161,7 @@ told_run words from to before after status answer is_defined is_told told =
       | inl whole ↦ elim is_told [
         | inl done ↦ subst run (sym (whole.0 ∙ done)) (record { answer = answer; defined = is_defined; same = sym done; written = whole.1 })
         | inr other ↦ elim other [
-          | inl refused ↦ subst run (sym (whole.0 ∙ refused)) (record { answer = answer; defined = is_defined; same = sym refused; written = whole.1 })
+          | inl is_refused ↦ subst run (sym (whole.0 ∙ is_refused)) (record { answer = answer; defined = is_defined; same = sym is_refused; written = whole.1 })
           | inr unreadable ↦ subst run (sym (whole.0 ∙ unreadable)) (record { answer = answer; defined = is_defined; same = sym unreadable; written = whole.1 })
         ]
       ]

@@ -1,4 +1,4 @@
--- A run that laid out a link has told a sound layout.
+-- A run that laid out a link has told a sound layout, and one that found no fault of a map has read a good one.
 use Rattle.std.proofs.Common.{◌≡◌, ℕ, List, Result, Ok, Err, refl, subst, ap, ◌∙◌}
 use Rattle.lk_generator.specs.Generated.{generated_link}
 use Rattle.lk_input.specs.declared.read.error.InputError.{InputError}
@@ -10,13 +10,19 @@ use Rattle.lk_layout.specs.declared.error.LayoutError.{LayoutError}
 use Rattle.lk_layout.specs.LayoutRecord.{LayoutRecord}
 use Rattle.lk_layout.specs.Defined.{IsDefined}
 use Rattle.lk_layout.specs.Laws.{DefinedLayoutsAreSound}
+use Rattle.lk_map.specs.declared.check.MapFault.{MapFault}
+use Rattle.lk_map.specs.Lines.{Line}
+use Rattle.lk_map.specs.MapText.{map_lines, sections_of, segments_of, told_map}
+use Rattle.lk_map.specs.Verdicts.{IsVerdict}
+use Rattle.lk_map.specs.Written.{ReadsMaps}
+use Rattle.lk_map.proofs.Goodness.{judged_tells}
 use Rattle.lk_run.specs.declared.answer.Answer.{Answer}
 use Rattle.lk_run.specs.declared.status.Status.{Status}
 use Rattle.lk_run.specs.declared.status.Status.TheVariants.{Done, Refused, Unreadable}
 use Rattle.lk_run.specs.declared.words.Command.TheVariants as commands
 use Rattle.lk_devices.specs.Device.{SourceState, SinkState}
-use Rattle.lk_run.specs.Run.{Held, Whole, Longer, Holds, Takes, IsAnswerTo, IsAnswerToReading, Finished, IsRun, summed_up, told_of}
-use Rattle.lk_run.specs.SoundRun.{TellsSoundLayout, TellsSoundSummary, IsSoundRun}
+use Rattle.lk_run.specs.Run.{Held, Whole, Longer, Holds, Takes, IsAnswerTo, IsAnswerToReading, IsLayoutAnswer, Finished, IsMapAnswer, IsRun, judged, summed_up, told_of}
+use Rattle.lk_run.specs.SoundRun.{TellsGoodMap, TellsSoundLayout, TellsSoundSummary, IsSoundRun}
 use Rattle.lk_run.specs.Words.{IsCommand}
 use Rattle.lk_run.proofs.Commands.{reads_command}
 use Rattle.lk_run.proofs.RunLaws.{answered}
@@ -47,7 +53,7 @@ told_layout law from before after bytes link (Err e) answer holds described defi
     absurd (cc)
 
 told_reading : SmallLayoutsAreSound → (from : SourceState) (before after : SinkState) (bytes : List ℕ) (reading : Result LinkInput InputError) (answer : Answer)
-    → Holds from.left (Whole bytes) → reading_of bytes ≡ reading → IsAnswerToReading reading answer → Done ≡ answer.status → Takes before after answer.bytes
+    → Holds from.left (Whole bytes) → reading_of bytes ≡ reading → IsAnswerToReading IsLayoutAnswer reading answer → Done ≡ answer.status → Takes before after answer.bytes
     → TellsSoundLayout from before after
 told_reading law from before after bytes (Ok link) answer holds described is status written = told_layout law from before after bytes link is.0 answer holds described is.1 is.2 status written
 told_reading law from before after bytes (Err e) answer holds described is status written =
@@ -96,9 +102,52 @@ gen_run law words seed size from to before after asked run =
     let given = answered words (commands.Gen seed size) from to run.answer read run.defined in
     told_summary law seed size before after given.answers.0 run.answer given.answers.1 given.answers.2 run.same run.written
 
-pub sound_run : DefinedLayoutsAreSound → IsLawfulMachine small64_machine → (words : List (List ℕ)) (from to : SourceState) (before after : SinkState) (status : Status) → IsRun words from to before after status
+-- ---- maps
+
+-- an answer to the map of lines, with the status of a good one, tells that
+told_good : ReadsMaps → (from : SourceState) (before after : SinkState) (bytes : List ℕ) (lines : List Line) (verdict : Result (Unit {0}) MapFault) (answer : Answer)
+    → Holds from.left (Whole bytes) → map_lines bytes ≡ Ok lines → IsVerdict verdict (sections_of 1 lines) (segments_of 1 lines)
+    → answer ≡ judged (sections_of 1 lines) (segments_of 1 lines) verdict → Done ≡ answer.status → Takes before after answer.bytes → TellsGoodMap from before after
+told_good law from before after bytes lines (Ok u) answer holds read is_verdict is status written = record {
+  bytes = bytes;
+  holds = holds;
+  lines = lines;
+  map = (law bytes lines).0 read;
+  good = judged_tells (Ok u) (sections_of 1 lines) (segments_of 1 lines) is_verdict.1;
+  written = subst (Takes before after) (ap (λ (a : Answer). a.bytes) is) written;
+}
+told_good law from before after bytes lines (Err fault) answer holds read is_verdict is status written =
+    let refused : Done ≡ Refused = status ∙ ap (λ (a : Answer). a.status) is in
+    absurd (cc)
+
+told_lines : ReadsMaps → (from : SourceState) (before after : SinkState) (bytes : List ℕ) (said : Result (List Line) ℕ) (answer : Answer)
+    → Holds from.left (Whole bytes) → map_lines bytes ≡ said → IsMapAnswer (told_map said) answer → Done ≡ answer.status → Takes before after answer.bytes
+    → TellsGoodMap from before after
+unfolding told_map
+told_lines law from before after bytes (Ok lines) answer holds read is status written =
+    told_good law from before after bytes lines is.0 answer holds read is.1 is.2 status written
+told_lines law from before after bytes (Err line) answer holds read is status written =
+    let unreadable : Done ≡ Unreadable = status ∙ ap (λ (a : Answer). a.status) is in
+    absurd (cc)
+
+checked_held : ReadsMaps → (from : SourceState) (before after : SinkState) (held : Held) (answer : Answer) → Holds from.left held
+    → IsAnswerTo commands.Check held answer → Done ≡ answer.status → Takes before after answer.bytes → TellsGoodMap from before after
+checked_held law from before after (Whole bytes) answer holds is status written = told_lines law from before after bytes (map_lines bytes) answer holds refl is status written
+checked_held law from before after Longer answer holds is status written =
+    let unreadable : Done ≡ Unreadable = status ∙ ap (λ (a : Answer). a.status) is in
+    absurd (cc)
+
+check_run : ReadsMaps → (words : List (List ℕ)) (from to : SourceState) (before after : SinkState) → IsCommand words commands.Check
+    → Finished words from to before after Done → TellsGoodMap from before after
+check_run law words from to before after asked run =
+    let read = reads_command words commands.Check asked in
+    let given = answered words commands.Check from to run.answer read run.defined in
+    checked_held law from before after given.held run.answer given.holds given.answers run.same run.written
+
+pub sound_run : DefinedLayoutsAreSound → IsLawfulMachine small64_machine → ReadsMaps → (words : List (List ℕ)) (from to : SourceState) (before after : SinkState) (status : Status) → IsRun words from to before after status
     → IsSoundRun words from before after status
-sound_run law lawful words from to before after status run = record {
+sound_run law lawful reads words from to before after status run = record {
   read = λ workers asked laid. read_run (law, lawful) words workers from to before after asked (subst (IsRun words from to before after) laid run);
   generated = λ seed size asked laid. gen_run (law, lawful) words seed size from to before after asked (subst (IsRun words from to before after) laid run);
+  checked = λ asked good. check_run reads words from to before after asked (subst (IsRun words from to before after) good run);
 }

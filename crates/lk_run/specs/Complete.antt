@@ -1,5 +1,5 @@
 -- Laws: what the words and the input define is what a run tells, unless a device fails or memory runs out.
-use Rattle.std.specs.Prelude.{◌≡◌, ℕ, ◌≤◌, List, length, Ok, Err, Some, ◌⊎◌}
+use Rattle.std.specs.Prelude.{◌≡◌, ℕ, ◌≤◌, List, [], length, Option, Ok, Err, None, Some, MatchBool, ◌⊎◌}
 use Rattle.lk_generator.specs.Generated.{generated_link}
 use Rattle.lk_input.specs.Reading.{reading_of}
 use Rattle.lk_link.specs.declared.link.LinkInput.{LinkInput}
@@ -9,11 +9,12 @@ use Rattle.lk_layout.specs.Machines.{small64_machine}
 use Rattle.lk_run.specs.declared.answer.Answer.{Answer}
 use Rattle.lk_devices.specs.declared.limit.TheConstants.{LONGEST_INPUT}
 use Rattle.lk_run.specs.declared.status.Status.{Status}
-use Rattle.lk_run.specs.declared.status.Status.TheVariants.{Done, NoMemory}
+use Rattle.lk_run.specs.declared.status.Status.TheVariants.{Done, Usage, NoMemory}
+use Rattle.lk_run.specs.declared.words.Command.{Command}
 use Rattle.lk_run.specs.declared.words.Command.TheVariants as commands
 use Rattle.lk_devices.specs.Device.{SourceState, SinkState}
-use Rattle.lk_run.specs.Run.{Takes, IsRun}
-use Rattle.lk_run.specs.Words.{IsCommand}
+use Rattle.lk_run.specs.Run.{Held, Holds, IsAnswerOf, IsAnswerTo, IsRun, Takes}
+use Rattle.lk_run.specs.Words.{IsCommand, command_of, reads, usage}
 
 -- neither device failed
 pub record IsFaultless (from to : SourceState) (before after : SinkState) : Type 0 where
@@ -25,11 +26,29 @@ pub record Tells (before after : SinkState) (status : Status) (answer : Answer) 
   pub same : status ≡ answer.status
   pub written : Takes before after answer.bytes
 
--- every words and bytes have one answer, which each run tells in which no device failed, unless memory ran out
+-- the answer to these bytes where a source holds them: of a command that reads, to what is held of them; of one that doesn't, whatever
+-- they are; and to words that are no command
+abbrev pub IsAnswerOver : List ℕ → Option Command → Answer → Type 0
+IsAnswerOver bytes None answer = answer ≡ record { status = Usage; bytes = usage }
+IsAnswerOver bytes (Some command) answer =
+    MatchBool (reads command) ((held : Held) × Holds (Some bytes) held × IsAnswerTo command held answer) (IsAnswerOf command [] answer)
+
+-- the answer that words and bytes define
+abbrev pub IsAnswerFor : List (List ℕ) → List ℕ → Answer → Type 0
+IsAnswerFor words bytes answer = IsAnswerOver bytes (command_of words) answer
+
+-- a run of the words over a source that holds the bytes, in which no device failed, told the answer, unless memory ran out
+abbrev pub EachRunTells : List (List ℕ) → List ℕ → Answer → Type 0
+EachRunTells words bytes answer = (from to : SourceState) (before after : SinkState) (status : Status) → from.left ≡ Some bytes
+    → IsRun words from to before after status → IsFaultless from to before after → Tells before after status answer ⊎ (status ≡ NoMemory)
+
+-- the answer that words and bytes define, of whatever command, is told by each such run
+abbrev pub RunsTellTheAnswer : Type 0
+RunsTellTheAnswer = (words : List (List ℕ)) (bytes : List ℕ) (answer : Answer) → IsAnswerFor words bytes answer → EachRunTells words bytes answer
+
+-- every words and bytes define an answer, which each such run tells
 abbrev pub RunsTellOneAnswer : Type 0
-RunsTellOneAnswer = (words : List (List ℕ)) (from : SourceState) (bytes : List ℕ) → from.left ≡ Some bytes
-    → (answer : Answer) × ((to : SourceState) (before after : SinkState) (status : Status) → IsRun words from to before after status
-    → IsFaultless from to before after → Tells before after status answer ⊎ (status ≡ NoMemory))
+RunsTellOneAnswer = (words : List (List ℕ)) (bytes : List ℕ) → (answer : Answer) × IsAnswerFor words bytes answer × EachRunTells words bytes answer
 
 -- the bytes describe a link that meets no refusal
 pub record DescribesLayout (bytes : List ℕ) : Type 0 where

@@ -1,4 +1,5 @@
 pub mod Complete
+pub mod MapTexts
 pub mod Program
 pub mod Run
 pub mod RunAlone
@@ -6,4 +7,5 @@ pub mod SoundRun
 pub mod Status
 pub mod Steps
 pub mod TooLong
+pub mod WhyTexts
 pub mod Words

@@ -4,7 +4,17 @@ use Rattle.std.specs.Prelude.{MatchBool, MatchOption}
 use Rattle.lk_input.specs.declared.read.error.InputError.{InputError}
 use Rattle.lk_input.specs.Reading.{reading_of}
 use Rattle.lk_generator.specs.Generated.{generated_link}
+use Rattle.lk_check.specs.FirstFault.{first_fault}
+use Rattle.lk_explain.specs.Faults.{has_unit}
+use Rattle.lk_link.specs.declared.ids.FileId.{FileId}
 use Rattle.lk_link.specs.declared.link.LinkInput.{LinkInput}
+use Rattle.lk_map.specs.declared.check.MapFault.{MapFault}
+use Rattle.lk_map.specs.declared.map_text.SectionLine.{SectionLine}
+use Rattle.lk_map.specs.declared.map_text.SegmentLine.{SegmentLine}
+use Rattle.lk_map.specs.MapText.{map_of}
+use Rattle.lk_map.specs.Verdicts.{IsVerdict}
+use Rattle.lk_reach.specs.declared.units.Unit.{Unit as LinkUnit}
+use Rattle.lk_reach.specs.declared.units.Unit.TheVariants.{Sec}
 use Rattle.lk_layout.specs.declared.error.LayoutError.{LayoutError}
 use Rattle.lk_layout.specs.LayoutRecord.{LayoutRecord}
 use Rattle.lk_layout.specs.Defined.{IsDefined}
@@ -19,35 +29,86 @@ use Rattle.lk_devices.specs.Device.{SourceState, SinkState, Appends, AppendsPref
 use Rattle.lk_report.specs.FaultText.{fault_text_of, input_fault_text_of}
 use Rattle.lk_report.specs.Report.{report}
 use Rattle.lk_report.specs.Summary.{summary}
+use Rattle.lk_run.specs.MapTexts.{good_map_text, map_fault_text, no_map_text}
 use Rattle.lk_run.specs.TooLong.{too_long_text}
+use Rattle.lk_run.specs.WhyTexts.{IsWay, link_fault_line, no_section_text, why_text}
 use Rattle.lk_run.specs.Words.{command_of, reads, usage}
 
--- ---- the answer
+-- ---- answers
+
+-- the command is done, and tells this
+abbrev pub done : List ℕ → Answer
+done bytes = record { status = Done; bytes = bytes }
+
+-- what it speaks of is refused, for this reason
+abbrev pub refused : List ℕ → Answer
+refused bytes = record { status = Refused; bytes = bytes }
+
+-- its source holds nothing that it reads, for this reason
+abbrev pub unreadable : List ℕ → Answer
+unreadable bytes = record { status = Unreadable; bytes = bytes }
+
+-- the answer to what was read: the one to the link, or why there is no link
+abbrev pub IsAnswerToReading : (LinkInput → Answer → Type 0) → Result LinkInput InputError → Answer → Type 0
+IsAnswerToReading to_link (Ok link) answer = to_link link answer
+IsAnswerToReading to_link (Err e) answer = answer ≡ unreadable (input_fault_text_of e)
+
+-- ---- of a layout
 
 -- what is told of a link and its layout, or of why it has none
 abbrev pub told_of : LinkInput → Result LayoutRecord LayoutError → Answer
-told_of link (Ok layout) = record { status = Done; bytes = report link layout }
-told_of link (Err e) = record { status = Refused; bytes = fault_text_of e }
+told_of link (Ok layout) = done (report link layout)
+told_of link (Err e) = refused (fault_text_of e)
 
--- the answer to what was read: what is told of the link's defined answer on the small platform, or why there is no link
-abbrev pub IsAnswerToReading : Result LinkInput InputError → Answer → Type 0
-IsAnswerToReading (Ok link) answer = (result : Result LayoutRecord LayoutError) × IsDefined small64_machine link result × (answer ≡ told_of link result)
-IsAnswerToReading (Err e) answer = answer ≡ record { status = Unreadable; bytes = input_fault_text_of e }
+-- the answer to a link: what is told of its defined answer on the small platform
+abbrev pub IsLayoutAnswer : LinkInput → Answer → Type 0
+IsLayoutAnswer link answer = (result : Result LayoutRecord LayoutError) × IsDefined small64_machine link result × (answer ≡ told_of link result)
 
 -- what is told of a generated link's layout, or of why it has none
 abbrev pub summed_up : ℕ → ℕ → Result LayoutRecord LayoutError → Answer
-summed_up seed size (Ok layout) = record { status = Done; bytes = summary seed size layout }
-summed_up seed size (Err e) = record { status = Refused; bytes = fault_text_of e }
+summed_up seed size (Ok layout) = done (summary seed size layout)
+summed_up seed size (Err e) = refused (fault_text_of e)
 
 -- the answer to a seed and a number of objects: what is told of the defined answer of the link that they give, on the small platform
 abbrev pub IsGeneratedAnswer : ℕ → ℕ → Answer → Type 0
 IsGeneratedAnswer seed size answer =
     (result : Result LayoutRecord LayoutError) × IsDefined small64_machine (generated_link seed size) result × (answer ≡ summed_up seed size result)
 
+-- ---- of why a section is kept
+
+-- the answer for a section that is there: the path by which it is kept, or that it isn't reached
+abbrev pub IsWayAnswer : LinkInput → FileId → ℕ → Answer → Type 0
+IsWayAnswer link file index answer = (way : Option (List LinkUnit)) × IsWay link (Sec file index) way × (answer ≡ done (why_text file index way))
+
+-- the answer to a link without a fault: that, or that there is no such section
+abbrev pub IsSectionAnswer : LinkInput → FileId → ℕ → Answer → Type 0
+IsSectionAnswer link file index answer =
+    MatchBool (has_unit link (Sec file index)) (IsWayAnswer link file index answer) (answer ≡ refused (no_section_text file index))
+
+-- the answer to a link: its first fault as a check tells it, if it has one; else that. Nothing is said of its layout
+abbrev pub IsWhyAnswer : FileId → ℕ → LinkInput → Answer → Type 0
+IsWhyAnswer file index link answer = MatchOption (first_fault link) (IsSectionAnswer link file index answer) (λ fault. answer ≡ refused (link_fault_line fault))
+
+-- ---- of a map
+
+-- what is told of a map by a verdict on its sections and segments
+abbrev pub judged : List SectionLine → List SegmentLine → Result (Unit {0}) MapFault → Answer
+judged sections segments (Ok _) = done (good_map_text (length sections) (length segments))
+judged sections segments (Err fault) = refused (map_fault_text fault)
+
+-- the answer to what a text says: what is told of the map by its verdict, or the line at which the text is no map
+abbrev pub IsMapAnswer : Result (List SectionLine × List SegmentLine) ℕ → Answer → Type 0
+IsMapAnswer (Ok map) answer = (verdict : Result (Unit {0}) MapFault) × IsVerdict verdict map.0 map.1 × (answer ≡ judged map.0 map.1 verdict)
+IsMapAnswer (Err line) answer = answer ≡ unreadable (no_map_text line)
+
+-- ---- of a command
+
 -- the answer of a command to all bytes of its source; a command that reads nothing has one answer, whatever the bytes
 abbrev pub IsAnswerOf : Command → List ℕ → Answer → Type 0
-IsAnswerOf (commands.Layout workers) bytes answer = IsAnswerToReading (reading_of bytes) answer
+IsAnswerOf (commands.Layout workers) bytes answer = IsAnswerToReading IsLayoutAnswer (reading_of bytes) answer
 IsAnswerOf (commands.Gen seed size) bytes answer = IsGeneratedAnswer seed size answer
+IsAnswerOf (commands.Why file index) bytes answer = IsAnswerToReading (IsWhyAnswer file index) (reading_of bytes) answer
+IsAnswerOf commands.Check bytes answer = IsMapAnswer (map_of bytes) answer
 
 -- what a source holds: all its bytes, or more than are read
 pub data Held : Type 0 where
@@ -62,7 +123,7 @@ Holds left Longer = IfSome left (λ held. LONGEST_INPUT < length held)
 -- the answer of a command to what its source holds; to more than is read each command has the same
 abbrev pub IsAnswerTo : Command → Held → Answer → Type 0
 IsAnswerTo command (Whole bytes) answer = IsAnswerOf command bytes answer
-IsAnswerTo command Longer answer = answer ≡ record { status = Unreadable; bytes = too_long_text }
+IsAnswerTo command Longer answer = answer ≡ unreadable too_long_text
 
 -- ---- the devices
 

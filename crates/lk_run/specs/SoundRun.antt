@@ -1,6 +1,6 @@
 -- What a run that laid out a link has told: the report of a sound layout of the link that its source held, or the line of a sound layout
--- of the link that its words give.
-use Rattle.std.specs.Prelude.{◌≡◌, ℕ, List, Ok}
+-- of the link that its words give. And what one has read that found no fault of a map: a good map.
+use Rattle.std.specs.Prelude.{◌≡◌, ℕ, List, Ok, length}
 use Rattle.lk_generator.specs.Generated.{generated_link}
 use Rattle.lk_input.specs.Reading.{reading_of}
 use Rattle.lk_layout.specs.LayoutRecord.{LayoutRecord}
@@ -8,11 +8,16 @@ use Rattle.lk_layout.specs.Defined.{IsDefined}
 use Rattle.lk_layout.specs.Machines.{small64_machine}
 use Rattle.lk_layout.specs.Made.{Made}
 use Rattle.lk_layout.specs.Sound.{IsSound}
+use Rattle.lk_map.specs.Good.{IsGood}
+use Rattle.lk_map.specs.Lines.{Line}
+use Rattle.lk_map.specs.MapText.{sections_of, segments_of}
+use Rattle.lk_map.specs.Written.{IsMap}
 use Rattle.lk_run.specs.declared.status.Status.{Status}
 use Rattle.lk_run.specs.declared.status.Status.TheVariants.{Done}
 use Rattle.lk_run.specs.declared.words.Command.TheVariants as commands
 use Rattle.lk_devices.specs.Device.{SourceState, SinkState}
 use Rattle.lk_report.specs.Report.{report}
+use Rattle.lk_run.specs.MapTexts.{good_map_text}
 use Rattle.lk_run.specs.Run.{Whole, Holds, IsRun, Takes}
 use Rattle.lk_report.specs.Summary.{summary}
 use Rattle.lk_run.specs.Words.{IsCommand}
@@ -39,10 +44,20 @@ pub record TellsSoundSummary (seed size : ℕ) (before after : SinkState) : Type
   pub sound : IsSound made layout
   pub written : Takes before after (summary seed size layout)
 
--- a run that ends with the status of a layout has told a sound one
+-- the source held the map of some lines, whose sections and segments are good; and the sink took how many these are
+pub record TellsGoodMap (from : SourceState) (before after : SinkState) : Type 0 where
+  pub bytes : List ℕ
+  pub holds : Holds from.left (Whole bytes)
+  pub lines : List Line
+  pub map : IsMap bytes lines
+  pub good : IsGood (sections_of 1 lines) (segments_of 1 lines)
+  pub written : Takes before after (good_map_text (length (sections_of 1 lines)) (length (segments_of 1 lines)))
+
+-- a run that ends with the status of a layout has told a sound one, and one that ends with that of a good map has read one
 pub record IsSoundRun (words : List (List ℕ)) (from : SourceState) (before after : SinkState) (status : Status) : Type 0 where
   pub read : (workers : ℕ) → IsCommand words (commands.Layout workers) → status ≡ Done → TellsSoundLayout from before after
   pub generated : (seed size : ℕ) → IsCommand words (commands.Gen seed size) → status ≡ Done → TellsSoundSummary seed size before after
+  pub checked : IsCommand words commands.Check → status ≡ Done → TellsGoodMap from before after
 
 -- each run that is one by the run theorem is so
 abbrev pub RunsAreSound : Type 0

@@ -43,7 +43,7 @@ GivesInput command (Err status) from to = IsFailure command status from to
 -- what was read as this gives this reading: the link, or an answer that tells why there is none
 abbrev pub IsReadAs : Result LinkInput InputError → Reading → Type 0
 IsReadAs read (Link link) = read ≡ Ok link
-IsReadAs read (Fault answer) = IsAnswerToReading read answer
+IsReadAs read (Fault answer) = IsAnswerToReading (λ link answer. ⊥) read answer
 
 -- the answer was told: its bytes are written, or the sink failed on them
 abbrev pub IsToldBy : Status → Answer → SinkState → SinkState → Type 0

@@ -6,8 +6,7 @@ ghost use Rattle.lk_layout.specs.Defined.{Gives};
 ghost use Rattle.lk_layout.specs.Machines.{small64_machine};
 ghost use Rattle.lk_run.specs.Run.{IsGeneratedAnswer};
 
-use crate::answer::{Answer, bytes_of};
-use crate::status::Status;
+use crate::answer::{Answer, done, refused};
 use lk_generator::generate_link;
 use lk_layout::{Layout, LayoutError, Small64Arch, compute_alone};
 use lk_link::platform::Small64;
@@ -25,15 +24,9 @@ fn sum_up(
     ensures { IfOk result (IsGeneratedAnswer seed size) }
 {
     match computed {
-        Ok(layout) => Ok(Answer {
-            status: Status::Done,
-            bytes: bytes_of(summary_text(alloc, seed, size, layout)?),
-        }),
+        Ok(layout) => Ok(done(summary_text(alloc, seed, size, layout)?)),
         Err(LayoutError::NoMemory) => Err(AllocError),
-        Err(fault) => Ok(Answer {
-            status: Status::Refused,
-            bytes: bytes_of(fault_text(alloc, fault)?),
-        }),
+        Err(fault) => Ok(refused(fault_text(alloc, fault)?)),
     }
 }
 

@@ -6,7 +6,7 @@ ghost use Rattle.lk_run.specs.declared.words.Command.{Command};
 ghost use Rattle.lk_run.specs.Run.{Longer, IsAnswerTo};
 ghost use Rattle.lk_run.specs.Steps.{GivesInput, IsReadAs};
 
-use crate::answer::{Answer, bytes_of};
+use crate::answer::{Answer, unreadable};
 use crate::status::Status;
 use crate::too_long::too_long_text;
 use crate::words::Command;
@@ -62,10 +62,7 @@ fn read_bytes(alloc: Global, bytes: &[u8]) -> Result<Reading, AllocError>
     match read_link(alloc, bytes) {
         Ok(link) => Ok(Reading::Link(link)),
         Err(InputError::NoMemory) => Err(AllocError),
-        Err(fault) => Ok(Reading::Fault(Answer {
-            status: Status::Unreadable,
-            bytes: bytes_of(input_fault_text(alloc, &fault)?),
-        })),
+        Err(fault) => Ok(Reading::Fault(unreadable(input_fault_text(alloc, &fault)?))),
     }
 }
 
@@ -80,8 +77,5 @@ pub(crate) fn read_up(alloc: Global, bytes: Vec<u8>) -> Result<Reading, AllocErr
 pub(crate) fn answer_too_long(alloc: Global) -> Result<Answer, AllocError>
     ensures { IfOk result (λ answer. (command : Command) → IsAnswerTo command Longer answer) }
 {
-    Ok(Answer {
-        status: Status::Unreadable,
-        bytes: bytes_of(too_long_text(alloc)?),
-    })
+    Ok(unreadable(too_long_text(alloc)?))
 }

@@ -1,14 +1,13 @@
 //! The answer to `layout N`: the report of the link's layout, or the text of its first refusal.
 
-ghost use Rattle.std.specs.Prelude.{◌≤◌, IfOk, Ok};
+ghost use Rattle.std.specs.Prelude.{◌≤◌, IfOk};
 ghost use Rattle.lk_input.specs.Reading.{reading_of};
 ghost use Rattle.lk_layout.specs.Defined.{Gives};
 ghost use Rattle.lk_layout.specs.Machines.{small64_machine};
-ghost use Rattle.lk_run.specs.Run.{IsAnswerToReading};
+ghost use Rattle.lk_run.specs.Run.{IsAnswerToReading, IsLayoutAnswer};
 
-use crate::answer::{Answer, bytes_of};
+use crate::answer::{Answer, done, refused};
 use crate::inputs::{Reading, read_up};
-use crate::status::Status;
 use lk_layout::laws::laid_out_links_are_well_formed;
 use lk_layout::{Layout, LayoutError, Small64Arch, compute, compute_alone};
 use lk_link::gate::Gate;
@@ -27,20 +26,14 @@ fn answer_computed(
     computed: &Result<Layout<'_>, LayoutError>,
 ) -> Result<Answer, AllocError>
     requires { Gives small64_machine link.now computed.now }
-    ensures { IfOk result (λ answer. IsAnswerToReading (Ok link.now) answer) }
+    ensures { IfOk result (IsLayoutAnswer link.now) }
 {
     // A law, which does nothing: what has a layout is well formed.
     laid_out_links_are_well_formed();
     match computed {
-        Ok(layout) => Ok(Answer {
-            status: Status::Done,
-            bytes: bytes_of(report_text(alloc, link, layout)?),
-        }),
+        Ok(layout) => Ok(done(report_text(alloc, link, layout)?)),
         Err(LayoutError::NoMemory) => Err(AllocError),
-        Err(fault) => Ok(Answer {
-            status: Status::Refused,
-            bytes: bytes_of(fault_text(alloc, fault)?),
-        }),
+        Err(fault) => Ok(refused(fault_text(alloc, fault)?)),
     }
 }
 
@@ -53,15 +46,12 @@ fn answer_by_workers<R: Threads + Sync>(
     workers: u32,
 ) -> Result<Answer, AllocError>
     requires { Gives small64_machine link.now computed.now }
-    ensures { IfOk result (λ answer. IsAnswerToReading (Ok link.now) answer) }
+    ensures { IfOk result (IsLayoutAnswer link.now) }
 {
     // A law, which does nothing: what has a layout is well formed.
     laid_out_links_are_well_formed();
     match computed {
-        Ok(layout) => Ok(Answer {
-            status: Status::Done,
-            bytes: bytes_of(report_text_by_workers(rt, alloc, link, layout, workers)?),
-        }),
+        Ok(layout) => Ok(done(report_text_by_workers(rt, alloc, link, layout, workers)?)),
         Err(_) => answer_computed(alloc, link, computed),
     }
 }
@@ -85,7 +75,7 @@ pub(crate) fn answer_layout<R: Threads + Wait + Sync, G: Gate + Sync>(
     is_last: bool,
 ) -> Result<Answer, AllocError>
     requires gate { 2 ≤ workers → G.may_enter gate.now }
-    ensures { IfOk result (IsAnswerToReading (reading_of bytes.items)) }
+    ensures { IfOk result (IsAnswerToReading IsLayoutAnswer (reading_of bytes.items)) }
 {
     match read_up(alloc, bytes)? {
         Reading::Link(link) => {
@@ -102,7 +92,7 @@ pub(crate) fn answer_layout<R: Threads + Wait + Sync, G: Gate + Sync>(
 
 /// The same on the caller's own thread.
 pub(crate) fn answer_layout_alone(alloc: Global, bytes: Vec<u8>) -> Result<Answer, AllocError>
-    ensures { IfOk result (IsAnswerToReading (reading_of bytes.items)) }
+    ensures { IfOk result (IsAnswerToReading IsLayoutAnswer (reading_of bytes.items)) }
 {
     match read_up(alloc, bytes)? {
         Reading::Link(link) => {

@@ -1,19 +1,41 @@
 //! Laws of the definitions, each proved as the contract of a function that does nothing.
 
 ghost use Rattle.lk_run.specs.SoundRun.{RunsAreSound};
-ghost use Rattle.lk_run.specs.Complete.{GeneratedRunsAreComplete, RunsAreComplete, RunsTellOneAnswer};
+ghost use Rattle.lk_run.specs.Complete.{GeneratedRunsAreComplete, RunsAreComplete, RunsTellOneAnswer, RunsTellTheAnswer};
 
+use lk_check::well_formed_exactly_unfaulted;
+use lk_explain::laws::{reached_is_shown, shown_is_one};
 use lk_layout::laws::{
     defined_answer_exists, defined_answer_is_one, defined_layouts_are_sound,
     small64_machine_is_lawful,
 };
+use lk_map::laws::{maps_are_judged, maps_rise, reads_maps, verdicts_agree};
+use lk_reach::laws::marks_are_reached;
 
-/// A law: every words and bytes have one answer, which each run tells in which no device failed, unless memory ran out.
+/// A law: the answer that words and bytes define, of whatever command, is told by each run in which no device failed, unless memory ran
+/// out.
+pub fn runs_tell_the_answer()
+    ensures { RunsTellTheAnswer }
+{
+    defined_answer_is_one();
+    well_formed_exactly_unfaulted();
+    shown_is_one();
+    verdicts_agree();
+}
+
+/// A law: every words and bytes define an answer, which each run tells in which no device failed, unless memory ran out.
 pub fn runs_tell_one_answer()
     ensures { RunsTellOneAnswer }
 {
     defined_answer_exists();
     defined_answer_is_one();
+    well_formed_exactly_unfaulted();
+    marks_are_reached();
+    reached_is_shown();
+    shown_is_one();
+    maps_rise();
+    maps_are_judged();
+    verdicts_agree();
 }
 
 /// A law: a description that meets no refusal is laid out by each run in which no device failed, unless memory ran out.
@@ -27,10 +49,12 @@ pub fn generated_runs_are_complete()
     ensures { GeneratedRunsAreComplete }
 {}
 
-/// A law: a run that ends with the status of a layout has told a sound one, whoever made it: `run`, `run_alone` or the program.
+/// A law: a run that ends with the status of a layout has told a sound one, and one of `check` that ends so has read a good map, whoever
+/// made it: `run`, `run_alone` or the program.
 pub fn runs_are_sound()
     ensures { RunsAreSound }
 {
     defined_layouts_are_sound();
     small64_machine_is_lawful();
+    reads_maps();
 }

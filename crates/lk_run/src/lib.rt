@@ -3,6 +3,8 @@
 #![tactic(auto)]
 
 pub mod answer;
+mod checked_map;
+mod explained;
 mod generated;
 mod inputs;
 mod laid_out;
@@ -20,6 +22,7 @@ pub use lk_devices::{
     transfer,
 };
 pub use lk_generator::generate_link;
+pub use lk_link::FileId;
 pub use lk_report::{
     fault_text, input_fault_text, report_text, report_text_by_workers, summary_text,
 };

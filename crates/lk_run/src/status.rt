@@ -9,13 +9,13 @@ use std::process::ExitCode;
 /// How a run ended, and what it wrote.
 #[derive(Clone, Copy, Debug, PartialEq, Eq)]
 pub enum Status {
-    /// The command is done; what it tells is written, as the report of a layout.
+    /// The command is done; what it tells is written: a report, a line, a path, or what a map has.
     Done = 0,
     /// What the command speaks of is refused; the text of the fault is written.
     Refused = 1,
     /// The words are no command; the usage text is written.
     Usage = 2,
-    /// The input is too long, is not JSON, or describes no link; a text says which.
+    /// The input is too long, is not JSON, describes no link, or is no map; a text says which.
     Unreadable = 3,
     /// The source failed; nothing is written.
     ReadFault = 4,

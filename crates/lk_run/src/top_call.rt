@@ -11,6 +11,8 @@ ghost use Rattle.lk_run.specs.Steps.{CanBeAsked, held_by, IsCommandRun, IsMadeTo
 ghost use Rattle.lk_run.specs.Words.{workers_for};
 
 use crate::answer::Answer;
+use crate::checked_map::answer_check;
+use crate::explained::answer_why;
 use crate::generated::answer_gen;
 use crate::inputs::{CommandInput, answer_too_long, read_for};
 use crate::laid_out::{answer_layout, answer_layout_alone};
@@ -41,6 +43,8 @@ fn answer_bytes<R: Threads + Wait + Sync, G: Gate + Sync>(
     match command {
         Command::Layout(workers) => answer_layout(rt, alloc, workers, bytes, gate, is_last),
         Command::Gen { seed, size } => answer_gen(alloc, seed, size),
+        Command::Why { file, index } => answer_why(alloc, file, index, bytes),
+        Command::Check => answer_check(alloc, bytes),
     }
 }
 
@@ -52,6 +56,8 @@ fn answer_bytes_alone(alloc: Global, command: Command, bytes: Vec<u8>) -> Result
     match command {
         Command::Layout(_) => answer_layout_alone(alloc, bytes),
         Command::Gen { seed, size } => answer_gen(alloc, seed, size),
+        Command::Why { file, index } => answer_why(alloc, file, index, bytes),
+        Command::Check => answer_check(alloc, bytes),
     }
 }
 

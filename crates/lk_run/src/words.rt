@@ -3,9 +3,10 @@
 ghost use Rattle.std.specs.Prelude.{◌≡◌, ℕ, ◌≤◌, ◌↔◌, List, drop, map, string_bytes, IfOk, IfSome, IsTrue};
 ghost use Rattle.std.specs.Vec.Iter.{into_iter_items};
 ghost use Rattle.lk_run.specs.Steps.{IsPadded};
-ghost use Rattle.lk_run.specs.Words.{IsCommand, command_of, gen_with, number_in, reads, seed_of, size_of, workers_of, workers_for, usage};
+ghost use Rattle.lk_run.specs.Words.{IsCommand, command_of, gen_with, number_in, reads, seed_of, short_of, size_of, usage, why_with, workers_for, workers_of};
 ghost use Rattle.lk_run.specs.declared.words.Command.{Command};
 
+use lk_link::FileId;
 use std::alloc::{AllocError, Global};
 use std::env::Args;
 
@@ -22,6 +23,10 @@ pub enum Command {
     Layout(u8),
     /// Lay out the link that a seed and a number of objects give. Nothing is read.
     Gen { seed: u64, size: u32 },
+    /// Tell why the input section with this file and index is kept, in the link that the source holds.
+    Why { file: FileId, index: u32 },
+    /// Check the map that the source holds.
+    Check,
 }
 
 impl Command {
@@ -31,7 +36,7 @@ impl Command {
     {
         match self {
             Command::Layout(workers) => workers,
-            Command::Gen { .. } => 0,
+            Command::Gen { .. } | Command::Why { .. } | Command::Check => 0,
         }
     }
 
@@ -40,7 +45,7 @@ impl Command {
         ensures { result ≡ reads self }
     {
         match self {
-            Command::Layout(_) => true,
+            Command::Layout(_) | Command::Why { .. } | Command::Check => true,
             Command::Gen { .. } => false,
         }
     }
@@ -110,6 +115,29 @@ fn read_gen(seed: &str, size: &str) -> Option<Command>
     Some(Command::Gen { seed, size })
 }
 
+/// The number that a word writes: 0 to 4,294,967,295.
+fn read_short(word: &str) -> Option<u32>
+    ensures { result ≡ short_of word.now }
+{
+    match read_number(word, 0, u64::from(u32::MAX)) {
+        Some(number) => Some(number as u32),
+        None => None,
+    }
+}
+
+/// The command `why` with the group, the file and the index that three words write.
+fn read_why(group: &str, file: &str, index: &str) -> Option<Command>
+    ensures { result ≡ why_with (short_of group.now) (short_of file.now) (short_of index.now) }
+{
+    let group = read_short(group)?;
+    let file = read_short(file)?;
+    let index = read_short(index)?;
+    Some(Command::Why {
+        file: FileId { group, file },
+        index,
+    })
+}
+
 /// The command that these words are; `None` where they are no command.
 #[tactic(auto, unfolding(crate::specs::Words::command_of))]
 pub fn read_words(words: &[String]) -> Option<Command>
@@ -120,6 +148,10 @@ pub fn read_words(words: &[String]) -> Option<Command>
             read_workers(workers.as_str()).map(Command::Layout)
         }
         [verb, seed, size] if verb.as_str() == "gen" => read_gen(seed.as_str(), size.as_str()),
+        [verb, group, file, index] if verb.as_str() == "why" => {
+            read_why(group.as_str(), file.as_str(), index.as_str())
+        }
+        [verb] if verb.as_str() == "check" => Some(Command::Check),
         _ => None,
     }
 }
@@ -128,7 +160,7 @@ pub fn read_words(words: &[String]) -> Option<Command>
 pub fn usage_text() -> &'static str
     ensures { result.now ≡ usage }
 {
-    "usage: lk_program layout N | gen SEED SIZE\n"
+    "usage: lk_program layout N | gen SEED SIZE | why G F I | check\n"
 }
 
 /// A law: words are read as a command exactly where they are that command's words. It does nothing.

@@ -4,11 +4,15 @@
 #[cfg(test)]
 mod commons;
 #[cfg(test)]
+mod explained;
+#[cfg(test)]
 mod faulty;
 #[cfg(test)]
 mod groups;
 #[cfg(test)]
 mod hostile;
+#[cfg(test)]
+mod maps;
 #[cfg(test)]
 mod merged_links;
 #[cfg(test)]

@@ -120,6 +120,35 @@ pub fn add_words(alloc: Global, line: &mut String, row: &str) -> Result<(), Allo
     add(line, "ends", &told(alloc, &words, "{}")?)
 }
 
+/// A text with line feeds in place of its slashes.
+fn with_line_feeds(alloc: Global, text: &str) -> Result<String, AllocError> {
+    let mut lines = String::new(alloc);
+    for (number, line) in text.split('/').enumerate() {
+        if number > 0 {
+            lines.push('\n')?;
+        }
+        lines.push_str(line)?;
+    }
+    Ok(lines)
+}
+
+/// Adds how the words before the first colon of a row end over what is behind it, in which line feeds are slashes, and whether they end
+/// so by workers too.
+pub fn add_ends(
+    rt: &(impl Threads + Wait + Sync),
+    alloc: Global,
+    line: &mut String,
+    row: &str,
+) -> Result<(), AllocError> {
+    let (words, input) = row.split_once(':').unwrap_or((row, ""));
+    let words = words_of(alloc, words)?;
+    let input = with_line_feeds(alloc, input.trim_start())?;
+    let alone = told(alloc, &words, input.as_str())?;
+    let by_workers = told_by_workers(rt, alloc, &words, input.as_str())?;
+    add(line, "ends", &alone)?;
+    add(line, "alike", &(by_workers.as_str() == alone.as_str()))
+}
+
 /// A block without the remark above it.
 fn without_remark(block: &'static str) -> &'static str {
     match block.split_once('\n') {
