@@ -6,7 +6,7 @@ use crate::rows::{Asked, expect_rows};
 use lk_check::check_link;
 use lk_layout::{Layout, LayoutError, Small64Arch, compute};
 use lk_link::{Gate, LinkInput, NoGate, Small64};
-use lk_run::report_text_by_workers;
+use lk_report::report_text_by_workers;
 use lk_test_rows::add;
 use std::alloc::{AllocError, Global};
 use std::sync::Wait;

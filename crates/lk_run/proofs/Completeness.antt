@@ -19,8 +19,9 @@ use Rattle.lk_run.specs.declared.words.Command.{Command}
 use Rattle.lk_run.specs.declared.words.Command.TheVariants as commands
 use Rattle.lk_run.specs.Complete.{IsFaultless, Tells, DescribesLayout}
 use Rattle.lk_devices.specs.Device.{SourceState, SinkState}
-use Rattle.lk_run.specs.FaultText.{input_fault_text_of, too_long_text}
+use Rattle.lk_report.specs.FaultText.{input_fault_text_of}
 use Rattle.lk_run.specs.Run.{Held, Whole, Longer, Holds, Takes, IsAnswerOf, IsAnswerTo, IsAnswerToReading, IsAnswered, IsGeneratedAnswer, Commanded, Uncommanded, Unmoved, Finished, IsRun, Unread, summed_up, told_of}
+use Rattle.lk_run.specs.TooLong.{too_long_text}
 use Rattle.lk_run.specs.Words.{IsCommand, command_of, reads, usage}
 use Rattle.lk_run.proofs.Commands.{reads_command}
 use Rattle.lk_run.proofs.RunLaws.{answered}

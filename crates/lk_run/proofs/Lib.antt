@@ -1,11 +1,5 @@
 pub mod Commands
 pub mod Completeness
-pub mod Digits
-pub mod Lines
-pub mod LiveLines
-pub mod PieceLines
 pub mod Refusals
 pub mod RunLaws
-pub mod SingleLines
 pub mod SoundRuns
-pub mod SymbolParts

@@ -1,15 +1,9 @@
 pub mod Complete
-pub mod FaultText
-pub mod LiveLines
-pub mod MergedLines
 pub mod Program
-pub mod Report
-pub mod ReportPieces
 pub mod Run
 pub mod RunAlone
 pub mod SoundRun
 pub mod Status
 pub mod Steps
-pub mod Summary
-pub mod SymbolParts
+pub mod TooLong
 pub mod Words

@@ -16,9 +16,10 @@ use Rattle.lk_run.specs.declared.status.Status.TheVariants.{Done, Refused, Usage
 use Rattle.lk_run.specs.declared.words.Command.{Command}
 use Rattle.lk_run.specs.declared.words.Command.TheVariants as commands
 use Rattle.lk_devices.specs.Device.{SourceState, SinkState, Appends, AppendsPrefix, Keeps}
-use Rattle.lk_run.specs.FaultText.{fault_text_of, input_fault_text_of, too_long_text}
-use Rattle.lk_run.specs.Report.{report}
-use Rattle.lk_run.specs.Summary.{summary}
+use Rattle.lk_report.specs.FaultText.{fault_text_of, input_fault_text_of}
+use Rattle.lk_report.specs.Report.{report}
+use Rattle.lk_report.specs.Summary.{summary}
+use Rattle.lk_run.specs.TooLong.{too_long_text}
 use Rattle.lk_run.specs.Words.{command_of, reads, usage}
 
 -- ---- the answer

@@ -12,9 +12,9 @@ use Rattle.lk_run.specs.declared.status.Status.{Status}
 use Rattle.lk_run.specs.declared.status.Status.TheVariants.{Done}
 use Rattle.lk_run.specs.declared.words.Command.TheVariants as commands
 use Rattle.lk_devices.specs.Device.{SourceState, SinkState}
-use Rattle.lk_run.specs.Report.{report}
+use Rattle.lk_report.specs.Report.{report}
 use Rattle.lk_run.specs.Run.{Whole, Holds, IsRun, Takes}
-use Rattle.lk_run.specs.Summary.{summary}
+use Rattle.lk_report.specs.Summary.{summary}
 use Rattle.lk_run.specs.Words.{IsCommand}
 
 -- the source held bytes that describe a link; the link's defined layout is sound; and the sink took its report

@@ -7,14 +7,15 @@ ghost use Rattle.lk_run.specs.Run.{Longer, IsAnswerTo};
 ghost use Rattle.lk_run.specs.Steps.{GivesInput, IsReadAs};
 
 use crate::answer::{Answer, bytes_of};
-use crate::fault_texts::{input_fault_text, too_long_text};
 use crate::status::Status;
+use crate::too_long::too_long_text;
 use crate::words::Command;
 use lk_devices::limit::LONGEST_INPUT;
 use lk_devices::source::Source;
 use lk_devices::transfer::{ReadAllError, read_all};
 use lk_input::{InputError, read_link};
 use lk_link::link::LinkInput;
+use lk_report::input_fault_text;
 use std::alloc::{AllocError, Global};
 
 /// What the source of a command was found to hold.

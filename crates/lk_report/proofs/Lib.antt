@@ -1,0 +1,6 @@
+pub mod Digits
+pub mod Lines
+pub mod LiveLines
+pub mod PieceLines
+pub mod SingleLines
+pub mod SymbolParts

@@ -1,0 +1,7 @@
+pub mod FaultText
+pub mod LiveLines
+pub mod MergedLines
+pub mod Report
+pub mod ReportPieces
+pub mod Summary
+pub mod SymbolParts

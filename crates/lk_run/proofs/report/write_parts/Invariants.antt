@@ -1,7 +1,0 @@
-use Rattle.std.proofs.Common.{◌≡◌, ◌++◌, drop}
-use Rattle.std.specs.Prelude.{string_bytes}
-use Rattle.lk_run.specs.Report.{each, section_part_lines, part_lines}
-use Rattle.lk_run.proofs.report.write_parts.Given as goal
-
-abbrev pub invariant-loop-number : goal.invariant-loop-number
-invariant-loop-number l = string_bytes l.text ++ each (λ s section. section_part_lines l.sections l.parts s) l.number (drop l.number l.sections) ≡ string_bytes l.initial.text ++ part_lines l.sections l.parts
