@@ -6,6 +6,7 @@ usage: run.py [--merges|--named|--thunks|--relaxed|--plans] [PROGRAM [MEGABYTES.
        run.py --memory [PROGRAM]
        run.py --workers [PROGRAM [MEGABYTES [ROUNDS [SHAPE..]]]]
        run.py --generated [PROGRAM]
+       run.py --maps [PROGRAM]
 
 PROGRAM is crates/lk_program/out/lk_program unless given, the sizes are 1, 10 and 100 MB. Each
 description is given to the program in three forms, several times: with a value of a wrong shape that is
@@ -28,6 +29,8 @@ With --workers, each description of 100 MB is laid out by 0, 2 and 4 workers in 
 reading is set against that of 0 workers in the same round. The run fails where they give other bytes. It wants a C compiler.
 
 With --generated, the words `gen` are set against `layout 0` over the description of the same link.
+
+With --maps, the word `check` is set against `wc -l` over the same map.
 """
 
 import hashlib
@@ -42,6 +45,7 @@ import time
 import against_serde
 import generated
 import long_lists
+import maps
 import memory
 import workers as by_workers
 from merges import MERGES
@@ -109,6 +113,12 @@ GENERATED_COLUMNS = (("MB", 6), ("layout", 8), ("gen", 8), ("growth", 7), ("gen/
 GENERATED_LEGEND = """\
 MB: of the description; layout, gen: seconds; growth: the power of the number of objects by which those of gen
 grow; peak: of gen. Aim: gen/layout at most 0.3 at 100,000 objects.
+"""
+
+MAP_COLUMNS = (("MB", 6), ("seconds", 8), ("ms/MB", 7), ("growth", 7), ("x wc -l", 8), ("beside", 8), ("a line", 7))
+MAP_LEGEND = """\
+growth: the power of the number of lines by which seconds grow, from a tenth of them; beside: the peak memory that is more than the
+text, in MB; a line: the bytes of it for each line of a section or a segment. Aim: at most 12 times `wc -l`, and 64 bytes a line.
 """
 
 BASELINE_COLUMNS = (("ours", 7), ("serde", 7), ("ratio", 6), ("peak MB", 8), ("serde MB", 9), ("ratio", 6))
@@ -448,6 +458,30 @@ def measure_generated(program, folder):
     print(GENERATED_LEGEND)
 
 
+def measure_maps(program, folder):
+    path, output = os.path.join(folder, "map"), os.path.join(folder, "output")
+    print_headings(MAP_COLUMNS)
+    for shape, (counts, wanted) in maps.MAPS.items():
+        before = None
+        for count in counts:
+            lines = maps.put(path, shape, count)
+            size = os.path.getsize(path)
+            checked, counted = best([program, "check"], path, output, wanted), best(["wc", "-l"], path, output, b"")
+            growth = power((checked.seconds, count), before) if before else ""
+            before = checked.seconds, count
+            line = (
+                "%.1f" % (size / 1e6),
+                "%.2f" % checked.seconds,
+                "%.1f" % (checked.seconds * 1e9 / size),
+                growth,
+                "%.1f" % (checked.seconds / counted.seconds),
+                "%.1f" % ((checked.peak - size) / 1e6),
+                "%.0f" % ((checked.peak - size) / lines),
+            )
+            print_line(MAP_COLUMNS, ("%s %d" % (shape, count), *line))
+    print(MAP_LEGEND)
+
+
 SPECIAL_SHAPES = {"--merges": MERGES, "--named": NAMED, "--plans": PLANS, "--thunks": THUNKED, "--relaxed": RELAXED}
 OTHER_MEASURES = {
     "--long": measure_long_lists,
@@ -455,6 +489,7 @@ OTHER_MEASURES = {
     "--generated": measure_generated,
     "--workers": measure_workers,
     "--baseline": measure_baseline,
+    "--maps": measure_maps,
 }
 
 

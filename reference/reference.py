@@ -5,6 +5,7 @@ usage: reference.py WORDS.. < DESCRIPTION
        reference.py --reach|--placement < DESCRIPTION
        reference.py --map < MAP
        reference.py --why G F I < DESCRIPTION
+       reference.py --image < DESCRIPTION
 
 Writes what the program is to write and ends with the status that it is to end with. With --reach it writes
 what the traversal answers: the live sections, the flags of all symbols, and the output sections that are kept.
@@ -12,6 +13,7 @@ With --placement it writes what placement answers beside the report: whether the
 the headers, the counters, merged records, compacted segments, and the end of thread-local data. With --map it
 reads a map in place of a description, and tells whether it is good.
 With --why it writes why the section with this group, file and index is kept: a shortest path to it from a root.
+With --image it writes the bytes of the output file, as far as a layout tells them.
 """
 
 import re
@@ -19,6 +21,7 @@ import sys
 
 from rules.checking import check_link
 from rules.generated import generated_description, seed_and_size, summary_line
+from rules.image import image
 from rules.json_text import read_json
 from rules.layout import placement_lines, report
 from rules.maps import map_lines
@@ -103,6 +106,14 @@ def why_answer(words, data):
     return answer_of(section_lines, words, data)
 
 
+def image_answer(_, data):
+    """The status, and the bytes of the image or why there is none."""
+    try:
+        return LAID_OUT, image(link_of(data))
+    except Refusal as refusal:
+        return refusal.status, "".join(line + "\n" for line in refusal.lines).encode()
+
+
 def map_answer(_, data):
     """What is told of a map."""
     return answer_of(map_lines, data)
@@ -114,6 +125,7 @@ OWN_WORDS = {
     "--placement": placement_answer,
     "--map": map_answer,
     "--why": why_answer,
+    "--image": image_answer,
 }
 
 

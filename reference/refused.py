@@ -1,14 +1,15 @@
 #!/usr/bin/env python3
-"""Refuse the program each growth of its memory in turn, by no worker and by several.
+"""Refuse the program each growth of its memory in turn, and each call that gives memory back, by no worker and by several.
 
 usage: refused.py PROGRAM [DESCRIPTION..]
 
 For each of the descriptions, unless told those of examples/ and some random ones in which something is merged in
 several groups, and for 0, 2 and 4 workers: a run in which the first growth is refused, one in which the second is, and
 so on to the last. The same of two generated links. Each has to write nothing and end with 6, or to do without and
-answer as the run in which none is refused, which with one thread few do. What gives memory back isn't refused. The examples are of every kind: merged strings, thunks, relaxation, output that is
-linked again, redirects, tables. Says at its end how many growths there were, and ends with 1 where a run did something
-else. Needs a C compiler, `cc`.
+answer as the run in which none is refused, which with one thread few do. Where what gives memory back is refused, each has
+to answer as that run. The examples are of every kind: merged strings, thunks, relaxation, output that is linked again,
+redirects, tables; two generated links are laid out by the call that has one thread alone. Says at its end how many calls
+of both kinds there were, and ends with 1 where a run did something else. Needs a C compiler, `cc`.
 """
 
 import glob
@@ -25,6 +26,7 @@ WORDS = ("layout 0", "layout 2", "layout 4")
 GENERATED = ("gen 3 9", "gen 7 200")
 MERGED = 6
 NO_MEMORY = 6
+GROWTH, RETURN = KINDS = "growth", "return"
 SECONDS = 60
 
 
@@ -37,9 +39,9 @@ class Refusing:
         source = os.path.join(HERE, "refusing.c")
         subprocess.run(["cc", "-O1", "-shared", "-fPIC", "-o", self.allocator, source], check=True)
 
-    def run(self, words, data, refused):
-        """Status and output where the call of that number is refused, and whether there was one; 0 refuses none."""
-        variables = {**os.environ, "LD_PRELOAD": self.allocator, "TOLD": self.told, "REFUSED": str(refused or 1 << 62)}
+    def run(self, words, data, kind, refused):
+        """Status and output where the call of that kind and number is refused, and whether there was one; 0 refuses none."""
+        variables = {**os.environ, "LD_PRELOAD": self.allocator, "TOLD": self.told, "KIND": kind, "REFUSED": str(refused or 1 << 62)}
         command = [self.program, *words.split()]
         ended = subprocess.run(command, input=data, stdout=subprocess.PIPE, env=variables, timeout=SECONDS)
         was_refused = os.path.exists(self.told)
@@ -48,23 +50,24 @@ class Refusing:
         return (ended.returncode, ended.stdout), was_refused
 
 
-def refuse_each(refusing, name, words, data):
-    """Refuses each growth in turn; answers how many there were, how many the run did without, and how many did something else."""
-    whole, _ = refusing.run(words, data, 0)
+def refuse_each(refusing, name, words, data, kind):
+    """Refuses each call of a kind in turn; answers how many there were, how many the run did without, and how many did something else."""
+    whole, _ = refusing.run(words, data, kind, 0)
+    allowed = {whole, (NO_MEMORY, b"")} if kind == GROWTH else {whole}
     counts, goes_on = Counts(), True
     while goes_on:
-        got, goes_on = refusing.run(words, data, counts.refused + 1)
+        got, goes_on = refusing.run(words, data, kind, counts.refused + 1)
         counts.refused += goes_on
         counts.spared += goes_on and got == whole
-        if got != whole and not (goes_on and got == (NO_MEMORY, b"")):
+        if got not in (allowed if goes_on else {whole}):
             counts.wrong += 1
-            print("%s, %s, growth %d: status %d, %r" % (name, words, counts.refused, got[0], got[1][:200]))
-    print("%s, %s: %s" % (name, words, counts), flush=True)
+            print("%s, %s, %s %d: status %d, %r" % (name, words, kind, counts.refused, got[0], got[1][:200]))
+    print("%s, %s, %s: %s" % (name, words, kind, counts), flush=True)
     return counts
 
 
 class Counts:
-    """Of growths that were refused: how many, how many a run did without, and how many it met otherwise than it may."""
+    """Of calls that were refused: how many, how many a run did without, and how many it met otherwise than it may."""
 
     def __init__(self):
         self.refused = self.spared = self.wrong = 0
@@ -75,7 +78,7 @@ class Counts:
         self.wrong += other.wrong
 
     def __str__(self):
-        return "%d growths refused, %d done without, %d wrong" % (self.refused, self.spared, self.wrong)
+        return "%d refused, %d done without, %d wrong" % (self.refused, self.spared, self.wrong)
 
 
 def merged(number):
@@ -94,19 +97,27 @@ def descriptions(paths):
         yield "merged %d" % number, merged(number)
 
 
+def runs(paths):
+    """Names, words and descriptions of the runs."""
+    for name, data in descriptions(paths):
+        for line in WORDS:
+            yield name, line, data
+    for line in () if paths else GENERATED:
+        yield "generated", line, b""
+
+
 def main(words):
     if not words:
         sys.exit(__doc__)
-    counts = Counts()
+    counts = {kind: Counts() for kind in KINDS}
     with tempfile.TemporaryDirectory() as folder:
         refusing = Refusing(os.path.abspath(words[0]), folder)
-        for name, data in descriptions(words[1:]):
-            for line in WORDS:
-                counts.add(refuse_each(refusing, name, line, data))
-        for line in () if words[1:] else GENERATED:
-            counts.add(refuse_each(refusing, "generated", line, b""))
-    print("in all: %s" % counts)
-    sys.exit(1 if counts.wrong else 0)
+        for name, line, data in runs(words[1:]):
+            for kind in KINDS:
+                counts[kind].add(refuse_each(refusing, name, line, data, kind))
+    for kind in KINDS:
+        print("in all, %s: %s" % (kind, counts[kind]))
+    sys.exit(1 if any(count.wrong for count in counts.values()) else 0)
 
 
 if __name__ == "__main__":

@@ -1,17 +1,30 @@
-/* An allocator for LD_PRELOAD that refuses one growth: the one whose number stands in REFUSED,
-   counted from 1. It then makes the file whose path stands in TOLD. What gives memory back in
-   place is no growth: a list that isn't shortened stays as it is, so nothing has to be told. */
+/* An allocator for LD_PRELOAD that refuses one call: the one whose number stands in REFUSED, counted
+   from 1. It then makes the file whose path stands in TOLD. Counted are growths; or, where KIND is
+   `return`, the calls that give memory back in place, which are no growths. */
 #define _GNU_SOURCE
 #include <errno.h>
 #include <fcntl.h>
 #include <malloc.h>
 #include <stdatomic.h>
 #include <stdlib.h>
+#include <string.h>
 #include <unistd.h>
 
 static atomic_ulong calls;
 
-static int is_refused(void) {
+static int is_counted(int grows) {
+    static atomic_int counts_returns = -1;
+    if (counts_returns < 0) {
+        const char *kind = getenv("KIND");
+        counts_returns = kind != NULL && strcmp(kind, "return") == 0;
+    }
+    return counts_returns != grows;
+}
+
+static int is_refused(int grows) {
+    if (!is_counted(grows)) {
+        return 0;
+    }
     static atomic_ulong refused;
     if (refused == 0) {
         const char *number = getenv("REFUSED");
@@ -31,18 +44,18 @@ static int is_refused(void) {
 extern void *__libc_malloc(size_t), *__libc_realloc(void *, size_t), *__libc_calloc(size_t, size_t);
 extern void *__libc_memalign(size_t, size_t);
 
-void *malloc(size_t size) { return is_refused() ? NULL : __libc_malloc(size); }
+void *malloc(size_t size) { return is_refused(1) ? NULL : __libc_malloc(size); }
 
 void *realloc(void *old, size_t size) {
     int grows = old == NULL || size > malloc_usable_size(old);
-    return grows && is_refused() ? NULL : __libc_realloc(old, size);
+    return is_refused(grows) ? NULL : __libc_realloc(old, size);
 }
 
-void *calloc(size_t count, size_t size) { return is_refused() ? NULL : __libc_calloc(count, size); }
-void *aligned_alloc(size_t alignment, size_t size) { return is_refused() ? NULL : __libc_memalign(alignment, size); }
+void *calloc(size_t count, size_t size) { return is_refused(1) ? NULL : __libc_calloc(count, size); }
+void *aligned_alloc(size_t alignment, size_t size) { return is_refused(1) ? NULL : __libc_memalign(alignment, size); }
 
 int posix_memalign(void **result, size_t alignment, size_t size) {
-    void *found = is_refused() ? NULL : __libc_memalign(alignment, size);
+    void *found = is_refused(1) ? NULL : __libc_memalign(alignment, size);
     if (found == NULL) {
         return ENOMEM;
     }

@@ -90,3 +90,7 @@ def wrong_expression(place, cause):
 
 def out_of_reach(kind, place, index):
     return Refusal(REFUSED, "out of reach: %s %d %d %d %d" % (kind, *place, index))
+
+
+def no_image(why):
+    return Refusal(REFUSED, "no image: " + why)

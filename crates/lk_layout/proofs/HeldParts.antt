@@ -41,7 +41,7 @@ at_least none [] k d below = absurd (omega (arith, below))
 at_least none (n ∷ ns) zero d below = least_first n ns
 at_least none (n ∷ ns) (suc k) d below = least_each n ns k d (omega (arith, below))
 
-at_most : (none : ℕ) (ns : List ℕ) (k d : ℕ) → k < length ns → slice_index_or ns k d ≤ greatest none ns
+pub at_most : (none : ℕ) (ns : List ℕ) (k d : ℕ) → k < length ns → slice_index_or ns k d ≤ greatest none ns
 at_most none [] k d below = absurd (omega (arith, below))
 at_most none (n ∷ ns) zero d below = greatest_first n ns
 at_most none (n ∷ ns) (suc k) d below = greatest_each n ns k d (omega (arith, below))

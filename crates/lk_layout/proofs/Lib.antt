@@ -8,6 +8,7 @@ mod DynsymStart
 mod Ending
 mod EntriesStand
 mod FewHeaders
+mod FileOwners
 mod FileSections
 mod Fitting
 mod GroupsBegin

@@ -79,7 +79,7 @@ use Rattle.lk_layout.specs.Made.{Made, made_filling, made_of, relaxing_for}
 
 -- ---- the layout and its records
 
-parts_are : (machine : Machine) (link : LinkInput) (layout : LayoutRecord) (laid : IsLaidOut machine link layout) → layout.section_part_layouts ≡ laid.stage.records
+pub parts_are : (machine : Machine) (link : LinkInput) (layout : LayoutRecord) (laid : IsLaidOut machine link layout) → layout.section_part_layouts ≡ laid.stage.records
 parts_are machine link layout laid = ap (λ (l : LayoutRecord). l.section_part_layouts) laid.same
 
 shown_at : (machine : Machine) (link : LinkInput) (layout : LayoutRecord) (laid : IsLaidOut machine link layout) → told_live link layout ≡ live_sections (made_filling (made_by laid)) (starts_of laid.stage.records)
@@ -118,12 +118,12 @@ shared_out tile mass machine link layout laid p within = record {
 -- ---- one live section
 
 -- a live section that is told stands among the owners of its part
-record Stands (made : Made) (layout : LayoutRecord) (x : Input) (l : LiveSection) : Type 0 where
-  address : l.address ≡ owner_address (part_record layout x.section.part).mem_offset (part_at made.link.plan.sections x.section.part) (owners_of (made_filling made) x.section.part) (owner_number (made_filling made) x)
-  size : l.size ≡ size_of (made_filling made) x
-  owner : slice_get (owners_of (made_filling made) x.section.part) (owner_number (made_filling made) x) ≡ Some (SectionOwner x (size_of (made_filling made) x))
+pub record Stands (made : Made) (layout : LayoutRecord) (x : Input) (l : LiveSection) : Type 0 where
+  pub address : l.address ≡ owner_address (part_record layout x.section.part).mem_offset (part_at made.link.plan.sections x.section.part) (owners_of (made_filling made) x.section.part) (owner_number (made_filling made) x)
+  pub size : l.size ≡ size_of (made_filling made) x
+  pub owner : slice_get (owners_of (made_filling made) x.section.part) (owner_number (made_filling made) x) ≡ Some (SectionOwner x (size_of (made_filling made) x))
 
-stands : LiveSectionsAreOwners → (made : Made) (layout : LayoutRecord) (a : ℕ) (x : Input) (l : LiveSection)
+pub stands : LiveSectionsAreOwners → (made : Made) (layout : LayoutRecord) (a : ℕ) (x : Input) (l : LiveSection)
     → told_live made.link layout ≡ live_sections (made_filling made) (starts_of layout.section_part_layouts) → IsTold made layout a x l → Stands made layout x l
 stands owners made layout a x l is told =
     let records : List Record = layout.section_part_layouts in
@@ -139,7 +139,7 @@ stands owners made layout a x l is told =
     }
 
 -- the bytes of a live section are its owner's
-has_byte : (made : Made) (layout : LayoutRecord) (x : Input) (l : LiveSection) (address : ℕ) → Stands made layout x l → IsInSection address l
+pub has_byte : (made : Made) (layout : LayoutRecord) (x : Input) (l : LiveSection) (address : ℕ) → Stands made layout x l → IsInSection address l
     → HasByte (part_record layout x.section.part).mem_offset (part_at made.link.plan.sections x.section.part) (owners_of (made_filling made) x.section.part) (owner_number (made_filling made) x) address
 has_byte made layout x l address s here = record {
   owner = SectionOwner x (size_of (made_filling made) x);
@@ -162,7 +162,7 @@ differ_at (z ∷ xs) zero (suc b) x y h less at_a at_b = let same : z ≡ x = cc
 differ_at (z ∷ xs) (suc a) (suc b) x y h less at_a at_b = differ_at xs a b x y h.1 (omega arith) at_a at_b
 
 -- two live sections of one part with one number there are the same, which stands once
-one_owner : (link : LinkInput) (live : Live) (a b : ℕ) (x y : Input) → (a ≡ b → ⊥) → slice_get (live_inputs link live) a ≡ Some x → slice_get (live_inputs link live) b ≡ Some y → x ≡ y → ⊥
+pub one_owner : (link : LinkInput) (live : Live) (a b : ℕ) (x y : Input) → (a ≡ b → ⊥) → slice_get (live_inputs link live) a ≡ Some x → slice_get (live_inputs link live) b ≡ Some y → x ≡ y → ⊥
 one_owner link live a b x y other at_a at_b same =
     let xs : List Input = live_inputs link live in
     elim (cases_lt a b) [
@@ -241,7 +241,7 @@ sections_aligned tile aligned owners machine link layout laid a x l told some un
 -- ---- the laws
 
 -- what its placement is of
-abbrev set_by : {machine : Machine} {link : LinkInput} {layout : LayoutRecord} → IsLaidOut machine link layout → Setting
+abbrev pub set_by : {machine : Machine} {link : LinkInput} {layout : LayoutRecord} → IsLaidOut machine link layout → Setting
 set_by {machine} {link} laid = setting_after (relaxing_for machine link laid.live) laid.stage.walked
 
 soundly_set : (machine : Machine) (link : LinkInput) (layout : LayoutRecord) (laid : IsLaidOut machine link layout) → IsLawfulMachine machine → IsSoundlySet (set_by laid) laid.stage.states laid.stage.records

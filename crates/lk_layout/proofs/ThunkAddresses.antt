@@ -30,7 +30,7 @@ use Rattle.lk_layout.proofs.LaidOut.{IsLaidOut, made_by}
 use Rattle.lk_layout.proofs.ThunksTold.{thunks_addressed, thunks_owned}
 
 -- an owner with those before it has no more bytes than all
-bytes_within : (part : PlanPart) (owners : List Owner) (k : ℕ) (o : Owner) → slice_get owners k ≡ Some o → bytes_of part (take k owners) + owner_bytes part o ≤ bytes_of part owners
+pub bytes_within : (part : PlanPart) (owners : List Owner) (k : ℕ) (o : Owner) → slice_get owners k ≡ Some o → bytes_of part (take k owners) + owner_bytes part o ≤ bytes_of part owners
 bytes_within part [] k o at = absurd (cc)
 bytes_within part (q ∷ owners) zero o at =
     let same : q ≡ o = cc in

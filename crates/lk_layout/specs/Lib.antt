@@ -1,6 +1,7 @@
 pub mod Defined
 pub mod DynsymStart
 pub mod Errors
+pub mod FileBytes
 pub mod FileRanges
 pub mod FileTexts
 pub mod Files

@@ -1,5 +1,6 @@
 //! Laws on the answer, each proved as the contract of a function that does nothing.
 
+ghost use Rattle.lk_layout.specs.FileBytes.{LaidOutFileHasOneOwner};
 ghost use Rattle.lk_layout.specs.Laws.{DefinedAnswerExists, DefinedAnswerIsOne, LaidOutLinksAreWellFormed};
 ghost use Rattle.lk_layout.specs.Laws.{DefinedLayoutsAreSound, LaidOutMemoryIsDisjoint, LaidOutSectionsAreApart, ResolvedSectionsAreLive};
 ghost use Rattle.lk_layout.specs.Machines.{IsLawfulMachine, small64_machine};
@@ -10,9 +11,9 @@ use lk_check::well_formed_exactly_unfaulted;
 use lk_edges::laws::others_are_no_redirects;
 use lk_live::{live_exists, live_is_one};
 use lk_place::laws::{
-    file_ranges_are_disjoint, memory_ranges_are_disjoint, parts_take_their_bytes,
-    plain_memory_is_congruent, plain_memory_is_disjoint, records_keep_alignments,
-    refused_exactly_past,
+    file_ranges_are_disjoint, memory_ranges_are_disjoint, parts_take_file_bytes,
+    parts_take_their_bytes, plain_memory_is_congruent, plain_memory_is_disjoint,
+    records_keep_alignments, refused_exactly_past,
 };
 use lk_relaxing::laws::{
     deleted_sites_are_near, deletions_are_read, relaxed_exists, relaxed_is_one, relaxed_is_shrunk,
@@ -97,6 +98,18 @@ pub fn laid_out_sections_are_apart()
     live_sections_are_owners();
     defined_layouts_are_sound();
     laid_out_memory_is_disjoint();
+}
+
+/// A law: under every plan each byte of the file is one owner's, a live section's or an image's, and stands in the range of its output section.
+pub fn laid_out_file_has_one_owner()
+    ensures { LaidOutFileHasOneOwner }
+{
+    well_formed_exactly_unfaulted();
+    relaxed_stands();
+    live_sections_are_owners();
+    parts_take_their_bytes();
+    parts_take_file_bytes();
+    defined_layouts_are_sound();
 }
 
 /// A law: where references are met, a symbol of an object that has a resolution, and stands for a place in a section, stands in a

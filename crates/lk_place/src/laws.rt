@@ -3,7 +3,7 @@
 ghost use Rattle.lk_place.specs.Base.{MemoryLeavesRoom};
 ghost use Rattle.lk_place.specs.Laws.{FileRangesAreDisjoint, InsideIsPlaced, MemoryRangesAreDisjoint, OneLoadSegmentIsPlain};
 ghost use Rattle.lk_place.specs.Laws.{PlainMemoryIsCongruent, PlainMemoryIsDisjoint, RecordsKeepAlignments};
-ghost use Rattle.lk_place.specs.PlacementLaws.{LoadsGoByWhatStands, PartsTakeTheirBytes, PlacementExists, PlacementIsOne, RefusedExactlyPast};
+ghost use Rattle.lk_place.specs.PlacementLaws.{LoadsGoByWhatStands, PartsTakeFileBytes, PartsTakeTheirBytes, PlacementExists, PlacementIsOne, RefusedExactlyPast};
 ghost use Rattle.lk_place.specs.PositionLaws.{AnswersGoWithoutPositions, PlacementsGoWithoutPositions};
 ghost use Rattle.lk_place.specs.Shallow.{ExpressionsAreShallow};
 
@@ -37,6 +37,11 @@ pub fn answers_go_without_positions()
 /// A law: where no event is refused, the record of each part takes exactly the part's bytes in memory.
 pub fn parts_take_their_bytes()
     ensures { PartsTakeTheirBytes }
+{}
+
+/// A law: there it takes as many in the file, if its section's bytes stand in the file, else none.
+pub fn parts_take_file_bytes()
+    ensures { PartsTakeFileBytes }
 {}
 
 /// A law: the load address of a section is the value of its expression by all that stands behind it, the section itself with it, and

@@ -188,3 +188,45 @@ const FAULTY: &str = r#"
 fn faults_of_devices_are_told_at_each_call(rt: HostRuntime) -> Result<(), Fail> {
     expect_rows(&rt, rt.alloc(), Asked::Faulty, FAULTY)
 }
+
+/// The smallest description.
+const SMALLEST: &str = r#"{"plan":{"page":4096},"groups":[[{"kind":"prelude"}]]}"#;
+
+/// The number of the one call that a word says fails; none for a dash.
+fn failing_of(alloc: Global, word: &str) -> Result<Vec<u64>, AllocError> {
+    match word.parse::<u64>() {
+        Ok(call) => only(alloc, call),
+        Err(_) => Ok(Vec::new(alloc)),
+    }
+}
+
+/// Adds how a run over the smallest description ends whose source gives 20 bytes with each read and whose sink takes 10 with each
+/// write, where the read and the write of the row's numbers fail; and how many bytes were taken.
+pub fn add_faulty_run(
+    rt: &(impl Threads + Wait + Sync),
+    alloc: Global,
+    line: &mut String,
+    row: &str,
+) -> Result<(), AllocError> {
+    let (read, write) = row.split_once(' ').unwrap_or((row, ""));
+    let input = SMALLEST.as_bytes().to_vec(alloc)?;
+    let mut source = MemorySource::new(input, 20, failing_of(alloc, read)?);
+    let mut sink = MemorySink::new(alloc, ROOM, 10, failing_of(alloc, write)?)?;
+    let status = ended_over(rt, alloc, &mut source, &mut sink)?;
+    add(line, "run", &(status, sink.written().len()))
+}
+
+/// Which read and which write fails: how a run over the smallest description ends, and how many bytes were taken. Where both fail, the
+/// source is named: nothing was written yet.
+const RUNS: &str = "
+- - => run (Done, 19)
+1 - => run (ReadFault, 0)
+- 0 => run (WriteFault, 0)
+- 1 => run (WriteFault, 10)
+0 0 => run (ReadFault, 0)
+";
+
+#[test]
+fn faults_of_devices_are_named(rt: HostRuntime) -> Result<(), Fail> {
+    expect_rows(&rt, rt.alloc(), Asked::FaultyRun, RUNS)
+}

@@ -1,7 +1,7 @@
 //! Descriptions that are made to go wrong: circles, lists that are too long, sizes at the end of what a number holds, two places in one.
 
 use crate::rows::{Asked, expect_rows};
-use crate::runs::{expect_reports, expect_reports_by_two};
+use crate::runs::{expect_reports, expect_reports_by_workers};
 use std::test::Fail;
 
 /// Those that are laid out all the same, with their reports.
@@ -42,8 +42,8 @@ fn what_can_be_laid_out_is(rt: HostRuntime) -> Result<(), Fail> {
 }
 
 #[test]
-fn what_can_be_is_laid_out_by_two_workers(rt: HostRuntime) -> Result<(), Fail> {
-    expect_reports_by_two(&rt, rt.alloc(), REPORTED)
+fn what_can_be_is_laid_out_by_workers(rt: HostRuntime) -> Result<(), Fail> {
+    expect_reports_by_workers(&rt, rt.alloc(), REPORTED)
 }
 
 /// Those that are refused, with the statuses and the texts of their runs.
@@ -71,6 +71,6 @@ fn what_cannot_is_refused(rt: HostRuntime) -> Result<(), Fail> {
 }
 
 #[test]
-fn it_is_refused_by_two_workers(rt: HostRuntime) -> Result<(), Fail> {
-    expect_rows(&rt, rt.alloc(), Asked::RunByTwo, REFUSED)
+fn it_is_refused_by_workers(rt: HostRuntime) -> Result<(), Fail> {
+    expect_rows(&rt, rt.alloc(), Asked::RunByWorkers, REFUSED)
 }

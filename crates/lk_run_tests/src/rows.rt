@@ -1,7 +1,7 @@
 //! What rows ask here, and that the answers are theirs.
 
-use crate::faulty::add_faulty_runs;
-use crate::runs::{add_end, add_end_by_two, add_lock_step, add_words};
+use crate::faulty::{add_faulty_run, add_faulty_runs};
+use crate::runs::{add_end, add_end_by_workers, add_lock_step, add_words};
 use crate::words::{add_both_runs, add_generated};
 use lk_test_rows::{Row, rows_of};
 use std::alloc::{AllocError, Global};
@@ -17,8 +17,8 @@ pub enum Asked {
     LockStep,
     /// How a run over it ends.
     Run,
-    /// How a run over it by two workers ends.
-    RunByTwo,
+    /// How runs over it by none and by two workers end.
+    RunByWorkers,
     /// What command its words are, and how a run with them ends.
     Words,
     /// How runs with its words end, alone and by workers.
@@ -27,6 +27,8 @@ pub enum Asked {
     Generated,
     /// How runs over it end in which a device fails, or gives and takes little.
     Faulty,
+    /// How a run over the smallest description ends, where the read and the write of its numbers fail.
+    FaultyRun,
 }
 
 /// Adds what is answered.
@@ -40,11 +42,12 @@ fn add_answer(
     match asked {
         Asked::LockStep => add_lock_step(rt, alloc, line, text),
         Asked::Run => add_end(alloc, line, text),
-        Asked::RunByTwo => add_end_by_two(rt, alloc, line, text),
+        Asked::RunByWorkers => add_end_by_workers(rt, alloc, line, text),
         Asked::Words => add_words(alloc, line, text),
         Asked::BothRuns => add_both_runs(rt, alloc, line, text),
         Asked::Generated => add_generated(alloc, line, text),
         Asked::Faulty => add_faulty_runs(rt, alloc, line, text),
+        Asked::FaultyRun => add_faulty_run(rt, alloc, line, text),
     }
 }
 

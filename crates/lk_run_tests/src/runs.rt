@@ -97,15 +97,20 @@ pub fn add_end(alloc: Global, line: &mut String, input: &str) -> Result<(), Allo
     line.push_str(ended(alloc, input)?.as_str())
 }
 
-/// Adds how `layout 2` ends over an input.
-pub fn add_end_by_two(
+/// Adds how a run of `layout 0` that may use workers ends over an input, and how one of `layout 2` ends, where that is told otherwise.
+pub fn add_end_by_workers(
     rt: &(impl Threads + Wait + Sync),
     alloc: Global,
     line: &mut String,
     input: &str,
 ) -> Result<(), AllocError> {
-    let words = words_of(alloc, "layout 2")?;
-    line.push_str(told_by_workers(rt, alloc, &words, input)?.as_str())
+    let by_none = told_by_workers(rt, alloc, &words_of(alloc, "layout 0")?, input)?;
+    let by_two = told_by_workers(rt, alloc, &words_of(alloc, "layout 2")?, input)?;
+    line.push_str(by_none.as_str())?;
+    if by_two.as_str() == by_none.as_str() {
+        return Ok(());
+    }
+    add(line, "by two", &by_two)
 }
 
 /// Adds the command that the words of a row are, and how they end over `{}`.
@@ -131,15 +136,15 @@ fn told_block(alloc: Global, frame: Frame, block: &str) -> Result<String, AllocE
     format!(in alloc; "{front}\n{told}")
 }
 
-/// The same of a run by two workers.
-fn block_told_by_two(
+/// The same of runs that may use workers.
+fn block_told_by_workers(
     rt: &(impl Threads + Wait + Sync),
     alloc: Global,
     block: &str,
 ) -> Result<String, AllocError> {
     let (front, _) = block.split_once('\n').unwrap_or((block, ""));
     let mut told = String::new(alloc);
-    add_end_by_two(rt, alloc, &mut told, front)?;
+    add_end_by_workers(rt, alloc, &mut told, front)?;
     format!(in alloc; "{front}\n{told}")
 }
 
@@ -159,15 +164,15 @@ pub fn expect_reports(rt: &impl Abort, alloc: Global, blocks: &'static str) -> R
     Ok(())
 }
 
-/// The same by two workers, of a text without frames.
-pub fn expect_reports_by_two(
+/// The same of runs that may use workers, by none and by two, of a text without frames.
+pub fn expect_reports_by_workers(
     rt: &(impl Abort + Threads + Wait + Sync),
     alloc: Global,
     blocks: &'static str,
 ) -> Result<(), Fail> {
     for block in blocks.split("\n\n") {
         let block = without_remark(block);
-        expect_text(rt, block_told_by_two(rt, alloc, block)?.as_str(), block);
+        expect_text(rt, block_told_by_workers(rt, alloc, block)?.as_str(), block);
     }
     Ok(())
 }
