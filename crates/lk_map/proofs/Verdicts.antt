@@ -1,8 +1,8 @@
 -- Sections whose lines rise have a verdict, and no two verdicts differ.
-use Rattle.std.proofs.Common.{◌≡◌, ℕ, zero, suc, ◌+◌, ◌<◌, ◌≤◌, ◌⊎◌, Bool, true, false, List, [], ◌∷◌, Option, Some, None, Result, Ok, Err, length, get_or, refl, sym, ap, ◌∙◌, subst, inl, inr, ⊎_elim, arith}
+use Rattle.std.proofs.Common.{◌≡◌, ℕ, zero, suc, ◌+◌, ◌<◌, ◌≤◌, ◌⊎◌, Bool, true, false, List, [], ◌∷◌, Option, Some, None, Result, Ok, Err, get_or, refl, sym, ap, ◌∙◌, subst, inl, inr, ⊎_elim, arith}
 use Rattle.std.specs.Prelude.{◌==◌, ◌&&◌, ◌||◌, nat_lt, min, max}
 use Rattle.std.specs.List.{All, Contains, list_any}
-use Rattle.std.proofs.lemmas.Bool.{cases_lt, false≢true}
+use Rattle.std.proofs.lemmas.Bool.{false≢true}
 use Rattle.std.proofs.lemmas.Bool.Decides.{nat_tests}
 use Rattle.std.proofs.lemmas.List.Elements.{All-cons, All-contains, All-nil, Contains-get_or}
 use Rattle.lk_map.specs.declared.check.MapFault.{MapFault}
@@ -10,7 +10,7 @@ use Rattle.lk_map.specs.declared.check.MapFault.TheVariants.{Overflow, MemOverla
 use Rattle.lk_map.specs.declared.map_text.SectionLine.{SectionLine}
 use Rattle.lk_map.specs.declared.map_text.SegmentLine.{SegmentLine}
 use Rattle.lk_map.specs.declared.spans.Span.{Span}
-use Rattle.lk_map.specs.Checking.{first_outside, first_overflow, Judges}
+use Rattle.lk_map.specs.Checking.{first_outside, first_overflow}
 use Rattle.lk_map.specs.MapText.{LinesRise}
 use Rattle.lk_map.specs.Spans.{AreApart, counts_in_file, counts_in_memory, file_span, file_spans, FindsOverlap, IsBefore, IsFirstOverlap, LinesRiseIn, memory_span, memory_spans, Overlaps}
 use Rattle.lk_map.specs.Verdicts.{IsVerdict, MapsAreJudged, VerdictsAgree}
