@@ -1,5 +1,5 @@
 -- Words of flags that threads share: what each may hold, and what a thread knows of them.
-use Rattle.std.specs.Prelude.{◌≡◌, ℕ, List, All, length, slice_index}
+use Rattle.std.specs.Prelude.{◌≡◌, ◌⊎◌, ℕ, List, All, Contains, length, slice_index}
 use Rattle.std.specs.Int.{bit_at}
 use Rattle.lk_flags.specs.declared.flags.FlagSet.{FlagSet}
 pub use Rattle.atomic_table.specs.Seated.{TableId}
@@ -16,10 +16,22 @@ AllWithin vs ws = (n : ℕ) → Within (slice_index vs n) (slice_index ws n)
 abbrev pub AreIn : List FlagSet → List ℕ → Type 0
 AreIn sets words = All (λ x. Within x.bits (slice_index words x.word)) sets
 
--- what a pass knows: the table that it is of, and what it set there, in order
+-- all parts of the right to set flags in a table
+abbrev pub all_parts : ℕ
+all_parts = 4294967296
+
+-- what a pass knows: the table that it is of, how many parts of the right it has, and what it set and found there, in order
 pub record Pass : Type 0 where
   pub table : TableId
+  pub parts : ℕ
   pub sets : List FlagSet
+
+-- a bit of a word is among those that were set
+pub record IsSet (sets : List FlagSet) (n i : ℕ) : Type 0 where
+  pub one : FlagSet
+  pub among : Contains sets one
+  pub there : one.word ≡ n
+  pub bit : bit_at one.bits i ≡ 1
 
 -- a word as it is found: it has what was handed in and what was set before, and nothing beyond its bound
 pub record IsFound (handed words : List ℕ) (sets : List FlagSet) (word found : ℕ) : Type 0 where
@@ -33,3 +45,7 @@ pub record AreLeft (handed words : List ℕ) (sets : List FlagSet) (left : List 
   pub handed_in : AllWithin handed left
   pub bounded : AllWithin left words
   pub own : AreIn sets left
+
+-- words have nothing but what was handed in and what was set
+abbrev pub HaveNoMore : List ℕ → List FlagSet → List ℕ → Type 0
+HaveNoMore handed sets words = (n i : ℕ) → bit_at (slice_index words n) i ≡ 1 → (bit_at (slice_index handed n) i ≡ 1) ⊎ IsSet sets n i

@@ -1,22 +1,39 @@
 -- Words of private contracts: the rule of a table of flags, and what its steps tell.
-use Rattle.std.specs.Prelude.{◌≡◌, ℕ, List, [], ◌∷◌, ◌++◌, length}
+use Rattle.std.specs.Prelude.{◌≡◌, ◌⊎◌, ℕ, ◌+◌, List, [], ◌∷◌, ◌++◌, length, slice_index}
+use Rattle.std.specs.Int.{bit_at}
 use mathlib.Core.Option.{some}
 use lib.ListN.{get_elem?}
 use Rattle.atomic_table.specs.Table.{Me, State, Step}
 use Rattle.lk_flags.specs.declared.flags.FlagSet.{FlagSet}
 use Rattle.lk_flags.specs.declared.flags.View.{View}
-use Rattle.lk_flags.specs.Flags.{AllWithin, AreIn, IsFound}
+use Rattle.lk_flags.specs.Flags.{AllWithin, AreIn, IsFound, IsSet, all_parts}
 
--- a view in which these flags were set
-abbrev pub view_of : List FlagSet → View
-view_of sets = record { sets = sets }
+-- a view with so many parts, in which these flags were set
+abbrev pub view_of : ℕ → List FlagSet → View
+view_of parts sets = record { parts = parts; sets = sets }
 
--- every word has what was handed in and all that some view knows of, and is within its bound
+-- the parts of all views
+abbrev pub parts_of : List View → ℕ
+parts_of [] = 0
+parts_of (v ∷ views) = v.parts + parts_of views
+
+-- a bit of a word is among those that were set in some view
+pub record IsSetBySome (views : List View) (n i : ℕ) : Type 0 where
+  pub number : ℕ
+  pub view : View
+  pub at : get_elem? views number ≡ some view
+  pub set_there : IsSet view.sets n i
+
+-- every word has what was handed in and what was set in views, and nothing else, and is within its bound; the views have all parts
+-- together, and one that has none has set nothing
 pub record IsKept (handed bounds words : List ℕ) (views : List View) : Type 0 where
   pub count : length words ≡ length bounds
   pub handed_in : AllWithin handed words
   pub bounded : AllWithin words bounds
   pub views_in : (k : ℕ) (v : View) → get_elem? views k ≡ some v → AreIn v.sets words
+  pub no_more : (n i : ℕ) → bit_at (slice_index words n) i ≡ 1 → (bit_at (slice_index handed n) i ≡ 1) ⊎ IsSetBySome views n i
+  pub parts : parts_of views ≡ all_parts
+  pub idle : (k : ℕ) (v : View) → get_elem? views k ≡ some v → v.parts ≡ 0 → v.sets ≡ []
 
 -- the same for a table
 abbrev pub IsKeptBy : List ℕ → List ℕ → State ℕ View → Type 0
@@ -24,6 +41,7 @@ IsKeptBy handed bounds s = IsKept handed bounds s.words s.views
 
 -- a step sets its flags in its word, and tells what it found there
 pub record SetsFlags (handed bounds : List ℕ) (step : Step ℕ) (old : Me ℕ View) (found : ℕ) (new : Me ℕ View) : Type 0 where
-  pub sets : new.0.sets ≡ old.0.sets ++ record { word = step.word; bits = step.first } ∷ []
+  pub sets : new.0.sets ≡ old.0.sets ++ record { word = step.word; bits = step.first; found = found } ∷ []
+  pub parts : new.0.parts ≡ old.0.parts
   pub held : new.1 ≡ old.1
   pub finds : IsFound handed bounds old.0.sets step.word found

@@ -1,18 +1,24 @@
 //! The traversal of a link by any number of workers, and what files and groups are in it. Gives on what `lk_live` and `lk_workers`
-//! offer, so a caller needs this crate alone.
+//! offer, and of `lk_reach` and `lk_flags` what their calls are asked or answered with, so a caller needs this crate alone. The state
+//! of a group that a worker steps is called `WorkerState` here.
 #![tactic(auto)]
 
 mod faults_by_groups;
 pub mod states;
 pub mod traversal;
 
+pub use lk_flags::{FlagPass, Reach};
 pub use lk_live::{
     Ask, ExportSymbolsMode, GcError, InputAt, Live, LiveInputs, ReferenceFault, Successors, Unit,
     asks, can_export_global_def, error, export_symbols_mode, exports, file_roots, is_singleton,
     laws, live, live_exists, live_is_one, primary, primary_references, reaching, slot_after,
     successors, traverse_alone, units,
 };
-pub use lk_workers::{Closed, GcLoadRequest, LocalWorkQueue, Traversal, WorkItem, WorkerSlot};
+pub use lk_reach::{Roots, files_of_inputs, roots, unit_at};
+pub use lk_workers::{
+    Closed, GcLoadRequest, GroupState as WorkerState, LocalWorkQueue, Traversal, WorkItem,
+    WorkerSlot,
+};
 pub use states::{
     DynamicLayoutState, EpilogueLayoutState, FileLayoutState, GroupState, HandlerData,
     LinkerScriptLayoutState, ObjectLayoutState, PreludeLayoutState, SymbolRequestHandler,

@@ -36,7 +36,7 @@ greatest_each n (m ∷ ms) zero d below = omega (arith, greatest_first (max n m)
 greatest_each n (m ∷ ms) (suc k) d below = greatest_each (max n m) ms k d (omega (arith, below))
 
 -- no number is below the least of a list, nor past the greatest
-at_least : (none : ℕ) (ns : List ℕ) (k d : ℕ) → k < length ns → least none ns ≤ slice_index_or ns k d
+pub at_least : (none : ℕ) (ns : List ℕ) (k d : ℕ) → k < length ns → least none ns ≤ slice_index_or ns k d
 at_least none [] k d below = absurd (omega (arith, below))
 at_least none (n ∷ ns) zero d below = least_first n ns
 at_least none (n ∷ ns) (suc k) d below = least_each n ns k d (omega (arith, below))

@@ -100,7 +100,8 @@ pub fn laid_out_sections_are_apart()
     laid_out_memory_is_disjoint();
 }
 
-/// A law: under every plan each byte of the file is one owner's, a live section's or an image's, and stands in the range of its output section.
+/// A law: under every plan no byte of the file has two owners (live sections, images, commons, entries of tables, thunks, the identity);
+/// each that a part takes there has one, and each owner lies in the file range of its output section.
 pub fn laid_out_file_has_one_owner()
     ensures { LaidOutFileHasOneOwner }
 {

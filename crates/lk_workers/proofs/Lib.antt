@@ -7,4 +7,5 @@ mod Making
 mod Sharing
 mod Stepping
 mod Turning
+mod Walks
 mod WorkLemmas

@@ -22,20 +22,20 @@ use Rattle.lk_slots.specs.Machine.{Load, Refer, TakesOut}
 use Rattle.lk_workers.specs.declared.work.WorkItem.{WorkItem}
 use Rattle.lk_workers.specs.declared.work.WorkItem.TheVariants.{ExportDynamic, LoadGcUnit, LoadGlobalSymbol}
 use Rattle.lk_workers.specs.Items.{machine_item, machine_items, unit_of}
-use Rattle.lk_workers.specs.Machines.{AreTurns, IsMachineStep, StepsAreMachineSteps}
+use Rattle.lk_workers.specs.Machines.{AreTurns, IsMachineStep, Side, StepsAreMachineSteps, side_of}
 use Rattle.lk_workers.specs.States.{DoesOne, StateValue, activated, group_of, is_done, with_items}
-use Rattle.lk_workers.specs.Steps.{DoesAsks, DoesItem, IsActivated, is_asked}
+use Rattle.lk_workers.specs.Steps.{DoesAsks, DoesItem, IsActivated}
 use Rattle.lk_workers.proofs.Asked.{all_in}
-use Rattle.lk_workers.proofs.Turning.{Leads, asks_are_turns, no_turn, refer_leads}
+use Rattle.lk_workers.proofs.Turning.{Leads, asks_are_turns, no_turn, refers_leads}
 
 -- asks that are all in hand lead to an empty hand
 asks_lead : (link : LinkInput) (asks : List Ask) (g : ℕ) (old new : StateValue) (before after : List FlagSet) → old.group ≡ g → All (IsInside link.groups) asks → DoesAsks link.groups asks old new before after
-    → Leads (graph_of link) g (group_of link.groups (map (task_of link) asks) old) (group_of link.groups [] new)
+    → Leads (graph_of link) g (side_of link.groups (map (task_of link) asks) old before) (side_of link.groups [] new after)
 asks_lead link asks g old new before after same inside does =
-    subst (λ n. Leads (graph_of link) n (group_of link.groups (map (task_of link) asks) old) (group_of link.groups [] new)) same
-    (subst (λ hand. Leads (graph_of link) old.group (group_of link.groups hand old) (group_of link.groups [] new)) (append-nil (map (task_of link) asks)) (asks_are_turns link asks [] old new before after inside does))
+    subst (λ n. Leads (graph_of link) n (side_of link.groups (map (task_of link) asks) old before) (side_of link.groups [] new after)) same
+    (subst (λ hand. Leads (graph_of link) old.group (side_of link.groups hand old before) (side_of link.groups [] new after)) (append-nil (map (task_of link) asks)) (asks_are_turns link asks [] old new before after inside does))
 
-activated_step : (link : LinkInput) (old new : StateValue) (before after : List FlagSet) → IsWellFormed link → IsActivated link.groups link old new before after → IsMachineStep link old new
+activated_step : (link : LinkInput) (old new : StateValue) (before after : List FlagSet) → IsWellFormed link → IsActivated link.groups link old new before after → IsMachineStep link old new before after
 activated_step link old new before after wf f =
     let inside = all_in (IsInside link.groups) (group_roots link old.group) (roots link) (root_of_group link old.group) (asks_are_inside.by_roots link wf) in
     let leads = asks_lead link (group_roots link old.group) old.group (activated old) new before after refl inside f.asks in
@@ -73,10 +73,11 @@ or_again done n u is = elim (cases_eq u n) [
 unit_step : (link : LinkInput) (unit : LinkUnit) (old new : StateValue) (rest : List WorkItem) (item : WorkItem) (before after : List FlagSet) (done : Bool) → IsWellFormed link → IsUnit link.groups unit
     → machine_item link.groups item ≡ Load (unit_number link.groups unit) → old.items ≡ rest ++ item ∷ [] → is_done old (unit_number link.groups unit) ≡ done
     → MatchBool done ((new ≡ with_items old rest) × (after ≡ before)) ((marked : StateValue) × DoesOne (with_items old rest) (unit_number link.groups unit) marked × DoesAsks link.groups (follows link unit) marked new before after)
-    → IsMachineStep link old new
+    → IsMachineStep link old new before after
 unit_step link unit old new rest item before after true wf is load items e does =
     let n = unit_number link.groups unit in
     let start = group_of link.groups [] (with_items old rest) in
+    let from : Side = record { group = start; sets = before; sent = machine_items link.groups old.sent } in
     record {
       start = start;
       begins = inr (record {
@@ -88,15 +89,19 @@ unit_step link unit old new rest item before after true wf is load items e does 
         done = λ u. or_again (is_done old) n u e;
       });
       count = 0;
-      turns = subst (λ (v : StateValue). AreTurns (graph_of link) old.group 0 start (group_of link.groups [] v)) (sym does.0) (no_turn (graph_of link) old.group start);
+      turns = subst (λ (v : StateValue). AreTurns (graph_of link) old.group 0 from (side_of link.groups [] v after)) (sym does.0)
+          (subst (λ sets. AreTurns (graph_of link) old.group 0 from (side_of link.groups [] (with_items old rest) sets)) (sym does.1) (no_turn (graph_of link) old.group from));
     }
 unit_step link unit old new rest item before after false wf is load items e does =
     let n = unit_number link.groups unit in
     let marked : StateValue = does.0 in
     let one = does.1 in
-    let leads = asks_lead link (follows link unit) old.group marked new before after one.group (asks_are_inside.by_unit link unit wf) does.2 in
+    let start = group_of link.groups (map (task_of link) (follows link unit)) marked in
+    let leads : Leads (graph_of link) old.group (record { group = start; sets = before; sent = machine_items link.groups old.sent }) (side_of link.groups [] new after)
+    = subst (λ sent. Leads (graph_of link) old.group (record { group = start; sets = before; sent = machine_items link.groups sent }) (side_of link.groups [] new after)) one.sent
+    (asks_lead link (follows link unit) old.group marked new before after one.group (asks_are_inside.by_unit link unit wf) does.2) in
     record {
-      start = group_of link.groups (map (task_of link) (follows link unit)) marked;
+      start = start;
       begins = inr (record {
         item = Load n;
         idle = refl;
@@ -111,13 +116,13 @@ unit_step link unit old new rest item before after false wf is load items e does
     }
 
 item_step : (link : LinkInput) (item : WorkItem) (old new : StateValue) (rest : List WorkItem) (before after : List FlagSet) → IsWellFormed link → IsUnit link.groups (unit_of item)
-    → old.items ≡ rest ++ item ∷ [] → DoesItem link.groups link item (with_items old rest) new before after → IsMachineStep link old new
+    → old.items ≡ rest ++ item ∷ [] → DoesItem link.groups link item (with_items old rest) new before after → IsMachineStep link old new before after
 item_step link (LoadGlobalSymbol s) old new rest before after wf is items does =
     unit_step link (unit_of (LoadGlobalSymbol s)) old new rest (LoadGlobalSymbol s) before after (is_done old (unit_number link.groups (unit_of (LoadGlobalSymbol s)))) wf is refl items refl does
 item_step link (LoadGcUnit r) old new rest before after wf is items does =
     unit_step link (unit_of (LoadGcUnit r)) old new rest (LoadGcUnit r) before after (is_done old (unit_number link.groups (unit_of (LoadGcUnit r)))) wf is refl items refl does
 item_step link (ExportDynamic s) old new rest before after wf is items does =
-    let leads = refer_leads link s flag.EXPORT_DYNAMIC [] (with_items old rest) new does.found (is_asked flag.EXPORT_DYNAMIC does.found) refl is does.asks in
+    let leads = refers_leads link s flag.EXPORT_DYNAMIC [] (with_items old rest) new before after is does in
     record {
       start = group_of link.groups (Refer s flag.EXPORT_DYNAMIC.0 ∷ []) (with_items old rest);
       begins = inr (record {

@@ -1,12 +1,15 @@
 -- Words of private contracts: asks that there is reason for, and what a traversal knows.
-use Rattle.std.specs.Prelude.{◌≡◌, ℕ, Bool, List, Some, All, length, map, option_map, slice_get}
+use Rattle.std.specs.Prelude.{◌≡◌, ℕ, Bool, List, IsSome, Some, All, ⊤, length, map, option_map, slice_get}
 use Rattle.std.specs.Option.{ForSome}
 use Rattle.lk_flags.specs.Lists.{Lists}
 use Rattle.lk_link.specs.declared.file.InputFile.{InputFile}
 use Rattle.lk_link.specs.declared.link.LinkInput.{LinkInput}
+use Rattle.lk_link.specs.Files.{file_in}
 use Rattle.lk_link.specs.Inputs.{NumberedFile}
 use Rattle.lk_link.specs.WellFormed.{IsWellFormed}
 use Rattle.lk_reach.specs.declared.units.Ask.{Ask}
+use Rattle.lk_reach.specs.declared.units.Unit.{Unit as LinkUnit}
+use Rattle.lk_reach.specs.declared.units.Unit.TheVariants.{Sec, Sym}
 use Rattle.lk_reach.specs.Marks.{IsInside, IsJoined, IsMarked, unit_number}
 use Rattle.lk_reach.specs.Units.{file_roots, numbered_symbols, target_of}
 use Rattle.lk_slot_link.specs.LinkGraphs.{files_of_group}
@@ -40,3 +43,8 @@ pub record IsRootsOf (link : LinkInput) (g k : ℕ) (asks : List Ask) : Type 0 w
   pub file : NumberedFile
   pub there : slice_get (files_of_group link.groups g) k ≡ Some file
   pub roots : asks ≡ file_roots link file
+
+-- a unit has a number: a symbol always, a section where its file is there
+abbrev pub HasNumber : List (List InputFile) → LinkUnit → Type 0
+HasNumber groups (Sym s) = ⊤
+HasNumber groups (Sec id i) = IsSome (file_in groups id)

@@ -1,55 +1,71 @@
 -- A step of a group's state is steps of the slot machine.
 use Rattle.std.specs.Prelude.{◌≡◌, ◌≢◌, ◌⊎◌, ℕ, zero, suc, List, [], ◌∷◌, ◌++◌, All, map}
+use Rattle.lk_link.specs.declared.file.InputFile.{InputFile}
 use Rattle.lk_link.specs.declared.link.LinkInput.{LinkInput}
 use Rattle.lk_link.specs.WellFormed.{IsWellFormed}
 use Rattle.lk_flags.specs.declared.flags.FlagSet.{FlagSet}
 use Rattle.lk_reach.specs.declared.units.Ask.{Ask}
-use Rattle.lk_reach.specs.Marks.{IsInside, IsUnit}
+use Rattle.lk_reach.specs.Marks.{IsInside, IsUnit, word_of}
 use Rattle.lk_slot_link.specs.LinkGraphs.{graph_of, task_of}
 use Rattle.lk_slots.specs.Machine.{Activates, Graph, Group, Item, Keeps, PutsDown, SetsFlags, Takes, Task, Turns, home_of, left_of}
-use Rattle.lk_workers.specs.Items.{unit_of}
+use Rattle.lk_workers.specs.Items.{machine_items, unit_of}
 use Rattle.lk_workers.specs.States.{StateValue, group_of}
 use Rattle.lk_workers.specs.Steps.{DoesAsks, IsStep}
 
--- the first task in hand sets its flags, and what is left of it, by the word that was found, stays in hand
-pub record TurnsFlags (graph : Graph) (old new : Group) : Type 0 where
+-- what is seen of steps on a group's own side: the group, what its worker has set and found in words of flags, and what the group
+-- has left in slots of others
+pub record Side : Type 0 where
+  pub group : Group
+  pub sets : List FlagSet
+  pub sent : List Item
+
+-- the same of a state, with these tasks in hand
+abbrev pub side_of : List (List InputFile) → List Task → StateValue → List FlagSet → Side
+side_of groups hand v sets = record { group = group_of groups hand v; sets = sets; sent = machine_items groups v.sent }
+
+-- the first task in hand sets its flags, and what is left of it, by the word that was found there, stays in hand
+pub record TurnsFlags (graph : Graph) (old new : Side) : Type 0 where
   pub task : Task
   pub rest : List Task
   pub symbol : ℕ
   pub flags : ℕ
   pub found : ℕ
-  pub sets : SetsFlags task symbol flags
-  pub begins : old.hand ≡ task ∷ rest
-  pub turns : Turns (left_of graph found task ++ rest) old new
+  pub does : SetsFlags task symbol flags
+  pub begins : old.group.hand ≡ task ∷ rest
+  pub sets : new.sets ≡ old.sets ++ record { word = word_of symbol; bits = flags; found = found } ∷ []
+  pub sent : new.sent ≡ old.sent
+  pub turns : Turns (left_of graph found task ++ rest) old.group new.group
 
--- the first task in hand puts its item down: into the group's own list if it belongs there, else it leaves the group
-pub record TurnsItem (graph : Graph) (g : ℕ) (old new : Group) : Type 0 where
+-- the first task in hand puts its item down: into the group's own list if it belongs there, else it is left for another group, once
+pub record TurnsItem (graph : Graph) (g : ℕ) (old new : Side) : Type 0 where
   pub task : Task
   pub rest : List Task
   pub item : Item
   pub puts : PutsDown graph task item
-  pub begins : old.hand ≡ task ∷ rest
-  pub goes : ((home_of graph item ≡ g) × Keeps item rest old new) ⊎ ((home_of graph item ≢ g) × Turns rest old new)
+  pub begins : old.group.hand ≡ task ∷ rest
+  pub sets : new.sets ≡ old.sets
+  pub goes : ((home_of graph item ≡ g) × Keeps item rest old.group new.group × (new.sent ≡ old.sent))
+      ⊎ ((home_of graph item ≢ g) × Turns rest old.group new.group × (new.sent ≡ old.sent ++ item ∷ []))
 
 -- so many of the machine's steps with tasks in hand, on the group that they are of
-unfoldable pub AreTurns : Graph → ℕ → ℕ → Group → Group → Type 0
+unfoldable pub AreTurns : Graph → ℕ → ℕ → Side → Side → Type 0
 AreTurns graph g zero old new = new ≡ old
-AreTurns graph g (suc n) old new = (mid : Group) × (TurnsFlags graph old mid ⊎ TurnsItem graph g old mid) × AreTurns graph g n mid new
+AreTurns graph g (suc n) old new = (mid : Side) × (TurnsFlags graph old mid ⊎ TurnsItem graph g old mid) × AreTurns graph g n mid new
 
 -- asks that are done one after the other are steps of the machine, in which the hand begins with their tasks and ends without them
 abbrev pub AsksAreTurns : Type 0
 AsksAreTurns = (link : LinkInput) (asks : List Ask) (rest : List Task) (old new : StateValue) (before after : List FlagSet) → All (IsInside link.groups) asks
     → DoesAsks link.groups asks old new before after
-    → (n : ℕ) × AreTurns (graph_of link) old.group n (group_of link.groups (map (task_of link) asks ++ rest) old) (group_of link.groups rest new)
+    → (n : ℕ) × AreTurns (graph_of link) old.group n (side_of link.groups (map (task_of link) asks ++ rest) old before) (side_of link.groups rest new after)
 
 -- a step is one of the machine that gives a hand, and then others until nothing is in hand
-pub record IsMachineStep (link : LinkInput) (old new : StateValue) : Type 0 where
+pub record IsMachineStep (link : LinkInput) (old new : StateValue) (before after : List FlagSet) : Type 0 where
   pub start : Group
   pub begins : Activates (graph_of link) old.group (group_of link.groups [] old) start ⊎ Takes (graph_of link) (group_of link.groups [] old) start
   pub count : ℕ
-  pub turns : AreTurns (graph_of link) old.group count start (group_of link.groups [] new)
+  pub turns : AreTurns (graph_of link) old.group count (record { group = start; sets = before; sent = machine_items link.groups old.sent }) (side_of link.groups [] new after)
 
 -- every step of a group whose items are units of the link
 abbrev pub StepsAreMachineSteps : Type 0
 StepsAreMachineSteps = (link : LinkInput) (old new : StateValue) (before after : List FlagSet) → IsWellFormed link
-    → All (λ item. IsUnit link.groups (unit_of item)) old.items → IsStep link.groups link old new before after → IsMachineStep link old new
+    → All (λ item. IsUnit link.groups (unit_of item)) old.items → IsStep link.groups link old new before after → IsMachineStep link old new before after

@@ -18,13 +18,15 @@ pub record Ranged : Type 0 where
 abbrev pub is_in : Ranged → ℕ → Bool
 is_in r n = if nat_lt n r.first then false else is_marked r.marks (n - r.first)
 
--- what a state shows: its group, whether that is activated, its own items, and which of its symbols and sections are done
+-- what a state shows: its group, whether that is activated, its own items, which of its symbols and sections are done, and the items
+-- that its steps left in slots of other groups
 pub record StateValue : Type 0 where
   pub group : ℕ
   pub active : Bool
   pub items : List WorkItem
   pub symbols : Ranged
   pub sections : Ranged
+  pub sent : List WorkItem
 
 -- whether a unit is done, by its number
 abbrev pub is_done : StateValue → ℕ → Bool
@@ -40,11 +42,15 @@ group_of groups hand v = record { active = v.active; hand = hand; items = machin
 
 -- the same state with other items
 abbrev pub with_items : StateValue → List WorkItem → StateValue
-with_items v items = record { group = v.group; active = v.active; items = items; symbols = v.symbols; sections = v.sections }
+with_items v items = record { group = v.group; active = v.active; items = items; symbols = v.symbols; sections = v.sections; sent = v.sent }
+
+-- the same state, which left other items
+abbrev pub with_sent : StateValue → List WorkItem → StateValue
+with_sent v items = record { group = v.group; active = v.active; items = v.items; symbols = v.symbols; sections = v.sections; sent = items }
 
 -- the same state, activated
 abbrev pub activated : StateValue → StateValue
-activated v = record { group = v.group; active = true; items = v.items; symbols = v.symbols; sections = v.sections }
+activated v = record { group = v.group; active = true; items = v.items; symbols = v.symbols; sections = v.sections; sent = v.sent }
 
 -- one number more has a mark
 abbrev pub MarksOne : Ranged → ℕ → Ranged → Type 0
@@ -55,4 +61,5 @@ pub record DoesOne (old : StateValue) (n : ℕ) (new : StateValue) : Type 0 wher
   pub group : new.group ≡ old.group
   pub active : new.active ≡ old.active
   pub items : new.items ≡ old.items
+  pub sent : new.sent ≡ old.sent
   pub done : (u : ℕ) → is_done new u ≡ is_done old u || (u == n)

@@ -5,6 +5,7 @@
 pub mod closed;
 pub mod laws;
 pub mod marks;
+pub mod sent;
 pub mod slot;
 pub mod state;
 pub mod traversal;
@@ -12,6 +13,7 @@ pub mod work;
 pub mod workers;
 
 pub use closed::Closed;
+pub use sent::Sent;
 pub use slot::WorkerSlot;
 pub use state::GroupState;
 pub use traversal::Traversal;

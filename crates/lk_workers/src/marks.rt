@@ -1,6 +1,6 @@
 //! Marks of numbers that follow each other.
 
-ghost use Rattle.std.specs.Prelude.{◌≡◌, ◌⊎◌, ◌<◌, ℕ, false, true, IfOk, MatchBool, length, slice_set};
+ghost use Rattle.std.specs.Prelude.{◌≡◌, ◌⊎◌, ◌<◌, ℕ, false, true, IfOk, MatchBool, length, replicate, slice_set};
 ghost use Rattle.lk_reach.specs.Marks.{IsMarked};
 ghost use Rattle.lk_workers.specs.States.{MarksOne, is_in};
 
@@ -26,7 +26,8 @@ impl Model for Marks {
 impl Marks {
     /// So many numbers from the first on, none of them marked.
     pub fn new(alloc: Global, first: usize, count: usize) -> Result<Marks, AllocError>
-        ensures { IfOk result (λ m. (n : ℕ) → is_in m n ≡ false) }
+        ensures numbers { IfOk result (λ m. m ≡ record { first = first; marks = replicate count false }) }
+        ensures none { IfOk result (λ m. (n : ℕ) → is_in m n ≡ false) }
     {
         Ok(Marks {
             first,

@@ -1,9 +1,10 @@
 //! What others leave for a group.
 
-ghost use Rattle.std.specs.Prelude.{◌≡◌, [], false, IfErr, IfOk, MatchBool};
+ghost use Rattle.std.specs.Prelude.{◌≡◌, ◌++◌, ◌∷◌, [], false, IfErr, IfOk, MatchBool, OnErr, OnOk};
 ghost use Rattle.lk_slots.specs.Machine.{Parks, Receives, Swaps};
 ghost use Rattle.lk_workers.specs.Items.{AreOwn, IsOwn, machine_item, machine_items, slot_of};
 
+use crate::sent::Sent;
 use crate::work::{LocalWorkQueue, WorkItem};
 use lk_flags::Reach;
 use std::alloc::{AllocError, AllocFailed, Global};
@@ -66,6 +67,25 @@ impl<J: Reach> WorkerSlot<J> {
         let was_parked = self.parked;
         self.parked = false;
         Ok(was_parked)
+    }
+
+    /// Does the same with an item of a group's steps, and adds it to what these sent. Without memory the item is given up, and all stays
+    /// as it is.
+    pub(crate) fn deposit(&mut self, item: WorkItem, sent: &mut Sent) -> Result<bool, AllocError>
+        requires own { IsOwn J.lists self.old.group item }
+        ensures left { IfOk result (λ was. (was ≡ self.old.parked) × Receives (machine_item J.lists.groups item) (slot_of J.lists.groups self.old) (slot_of J.lists.groups self.new)) }
+        ensures noted { OnOk result (sent.new.items ≡ sent.old.items ++ item ∷ []) }
+        ensures kept { OnErr result ((self.new ≡ self.old) × (sent.new.items ≡ sent.old.items)) }
+        ensures group { self.new.group ≡ self.old.group }
+    {
+        let longer = sent.and(&item);
+        match self.send_work(item) {
+            Ok(was_parked) => {
+                *sent = longer;
+                Ok(was_parked)
+            }
+            Err((_item, error)) => Err(error),
+        }
     }
 
     /// Parks the group where nothing waits for it; else what waits becomes its own list. Takes no memory.

@@ -1,6 +1,6 @@
 //! The state of a group, and the steps that it takes.
 
-ghost use Rattle.std.specs.Prelude.{◌≡◌, ◌++◌, ◌∷◌, ℕ, [], false, true, IfNone, IfOk, IfSome, MatchBool, OnOk, Some};
+ghost use Rattle.std.specs.Prelude.{◌≡◌, ◌++◌, ◌∷◌, ℕ, [], false, true, IfNone, IfOk, IfSome, MatchBool, OnErr, OnOk, Some};
 ghost use Rattle.lk_reach.specs.declared.units.Ask.TheVariants as ask;
 ghost use Rattle.lk_reach.specs.Marks.{IsMarked, IsUnit, unit_at, unit_number};
 ghost use Rattle.lk_slot_link.specs.LinkGraphs.{group_roots, unit_group};
@@ -8,9 +8,10 @@ ghost use Rattle.lk_workers.specs.Asked.{AreMet, AreReached, IsMet};
 ghost use Rattle.lk_slots.specs.Machine.{Parks, Swaps};
 ghost use Rattle.lk_workers.specs.Items.{IsMeant, IsOwn, machine_items, slot_of};
 ghost use Rattle.lk_workers.specs.States.{DoesOne, activated, is_done, is_in, with_items};
-ghost use Rattle.lk_workers.specs.Steps.{DoesAsk, DoesAsks, DoesItem, DoesUnit, IsStep, PassesOn, Refers, is_asked};
+ghost use Rattle.lk_workers.specs.Steps.{DoesAsk, DoesAsks, DoesItem, DoesSome, DoesUnit, GivesItemUp, GivesUnitUp, IsGivenUp, IsStep, IsStepGivenUp, PassesOn, Refers, is_asked};
 
 use crate::marks::Marks;
+use crate::sent::Sent;
 use crate::slot::WorkerSlot;
 use crate::traversal::Traversal;
 use crate::work::{GcLoadRequest, LocalWorkQueue, WorkItem};
@@ -23,7 +24,8 @@ use std::marker::{Model, PhantomData};
 use std::sync::Wait;
 
 /// The state of a group: whether it is activated, its own items, and which of its symbols and sections are done. All of these are the
-/// group's own, and there is reason for them. It lies behind a lock (libwild: `GroupState`).
+/// group's own, and there is reason for them. Contracts also see what its steps left for other groups. It lies behind a lock (libwild:
+/// `GroupState`).
 #[derive(Drop)]
 pub struct GroupState<J: Reach> {
     group: u32,
@@ -31,6 +33,7 @@ pub struct GroupState<J: Reach> {
     items: LocalWorkQueue,
     symbols: Marks,
     sections: Marks,
+    sent: Sent,
     of: PhantomData<J>,
 }
 
@@ -40,7 +43,7 @@ impl<J: Reach> Model for GroupState<J> {
 
     ghost Value = { StateValue };
 
-    ghost view = { λ a. record { group = a.group; active = a.active; items = a.items; symbols = a.symbols; sections = a.sections } };
+    ghost view = { λ a. record { group = a.group; active = a.active; items = a.items; symbols = a.symbols; sections = a.sections; sent = a.sent.items } };
 
     ghost invariant = { λ a. AreOwn J.lists a.group a.items × AreDone J.lists a.group a.symbols × AreDone J.lists a.group a.sections };
 }
@@ -50,7 +53,7 @@ impl<J: Reach> GroupState<J> {
     pub fn new(alloc: Global, group: u32, symbols: Marks, sections: Marks) -> GroupState<J>
         requires symbols { (n : ℕ) → is_in symbols n ≡ false }
         requires sections { (n : ℕ) → is_in sections n ≡ false }
-        ensures { result ≡ record { group = group; active = false; items = []; symbols = symbols; sections = sections } }
+        ensures { result ≡ record { group = group; active = false; items = []; symbols = symbols; sections = sections; sent = [] } }
     {
         GroupState {
             group,
@@ -58,6 +61,7 @@ impl<J: Reach> GroupState<J> {
             items: LocalWorkQueue::new(alloc),
             symbols,
             sections,
+            sent: Sent::new(),
             of: PhantomData,
         }
     }
@@ -69,7 +73,8 @@ impl<J: Reach> GroupState<J> {
         self.group
     }
 
-    /// Passes an item on: to the group's own list, or to the slot of the group that it belongs to. Without memory it is given up.
+    /// Passes an item on: to the group's own list, or to the slot of the group that it belongs to. Without memory it is given up, and all
+    /// stays as it is.
     fn pass_on<R: Wait>(
         &mut self,
         traversal: &Traversal<'_, J>,
@@ -78,6 +83,7 @@ impl<J: Reach> GroupState<J> {
     ) -> Result<(), AllocError>
         requires meant { IsMeant J.lists item }
         ensures passes { OnOk result (PassesOn J.lists.groups item self.old self.new) }
+        ensures kept { OnErr result (self.new ≡ self.old) }
         ensures group { self.new.group ≡ self.old.group }
     {
         let own = self.group;
@@ -86,7 +92,7 @@ impl<J: Reach> GroupState<J> {
             self.items.push(item)?;
             Ok(())
         } else {
-            traversal.send(rt, group, item)
+            traversal.send(rt, group, item, &mut self.sent)
         }
     }
 
@@ -102,6 +108,8 @@ impl<J: Reach> GroupState<J> {
         requires own { pass.old.table ≡ traversal.now.table }
         requires met { IsMet J.lists (ask.Reference symbol flags) }
         ensures table { pass.new.table ≡ pass.old.table }
+        ensures parts { pass.new.parts ≡ pass.old.parts }
+        ensures given_up { OnErr result ((self.new ≡ self.old) × IsGivenUp (ask.Reference symbol flags) pass.old.sets pass.new.sets) }
         ensures refers { OnOk result (Refers J.lists.groups symbol flags self.old self.new pass.old.sets pass.new.sets) }
         ensures group { self.new.group ≡ self.old.group }
     {
@@ -124,7 +132,9 @@ impl<J: Reach> GroupState<J> {
         requires own { pass.old.table ≡ traversal.now.table }
         requires met { IsMet J.lists ask }
         ensures table { pass.new.table ≡ pass.old.table }
+        ensures parts { pass.new.parts ≡ pass.old.parts }
         ensures does { OnOk result (DoesAsk J.lists.groups ask self.old self.new pass.old.sets pass.new.sets) }
+        ensures given_up { OnErr result ((self.new ≡ self.old) × IsGivenUp ask pass.old.sets pass.new.sets) }
         ensures group { self.new.group ≡ self.old.group }
     {
         match ask {
@@ -158,7 +168,9 @@ impl<J: Reach> GroupState<J> {
         requires own { pass.old.table ≡ traversal.now.table }
         requires met { AreMet J.lists asks }
         ensures table { pass.new.table ≡ pass.old.table }
+        ensures parts { pass.new.parts ≡ pass.old.parts }
         ensures does { OnOk result (DoesAsks J.lists.groups asks.entry self.old self.new pass.old.sets pass.new.sets) }
+        ensures some { OnErr result (DoesSome J.lists.groups asks.entry self.old self.new pass.old.sets pass.new.sets) }
         ensures group { self.new.group ≡ self.old.group }
     {
         for ask in asks {
@@ -197,7 +209,9 @@ impl<J: Reach> GroupState<J> {
         requires reached { IsMarked J.lists.units (unit_number J.lists.groups unit) }
         requires group { unit_group J.lists.groups (Some unit) ≡ self.old.group }
         ensures table { pass.new.table ≡ pass.old.table }
+        ensures parts { pass.new.parts ≡ pass.old.parts }
         ensures does { OnOk result (DoesUnit J.lists.groups traversal.now.link unit self.old self.new pass.old.sets pass.new.sets) }
+        ensures given_up { OnErr result (GivesUnitUp J.lists.groups traversal.now.link unit self.old self.new pass.old.sets pass.new.sets) }
         ensures group { self.new.group ≡ self.old.group }
     {
         let Some(number) = traversal.number_of(&unit) else {
@@ -221,7 +235,9 @@ impl<J: Reach> GroupState<J> {
         requires own { pass.old.table ≡ traversal.now.table }
         requires item { IsOwn J.lists self.old.group item }
         ensures table { pass.new.table ≡ pass.old.table }
+        ensures parts { pass.new.parts ≡ pass.old.parts }
         ensures does { OnOk result (DoesItem J.lists.groups traversal.now.link item self.old self.new pass.old.sets pass.new.sets) }
+        ensures given_up { OnErr result (GivesItemUp J.lists.groups traversal.now.link item self.old self.new pass.old.sets pass.new.sets) }
         ensures group { self.new.group ≡ self.old.group }
     {
         match item {
@@ -247,7 +263,9 @@ impl<J: Reach> GroupState<J> {
     ) -> Result<(), AllocError>
         requires own { pass.old.table ≡ traversal.now.table }
         ensures table { pass.new.table ≡ pass.old.table }
+        ensures parts { pass.new.parts ≡ pass.old.parts }
         ensures does { OnOk result (DoesAsks J.lists.groups (group_roots traversal.now.link self.old.group) self.old self.new pass.old.sets pass.new.sets) }
+        ensures some { OnErr result (DoesSome J.lists.groups (group_roots traversal.now.link self.old.group) self.old self.new pass.old.sets pass.new.sets) }
         ensures group { self.new.group ≡ self.old.group }
     {
         let group = self.group();
@@ -269,7 +287,9 @@ impl<J: Reach> GroupState<J> {
     ) -> Result<(), AllocError>
         requires own { pass.old.table ≡ traversal.now.table }
         ensures table { pass.new.table ≡ pass.old.table }
+        ensures parts { pass.new.parts ≡ pass.old.parts }
         ensures does { OnOk result (DoesAsks J.lists.groups (group_roots traversal.now.link self.old.group) (activated self.old) self.new pass.old.sets pass.new.sets) }
+        ensures some { OnErr result (DoesSome J.lists.groups (group_roots traversal.now.link self.old.group) (activated self.old) self.new pass.old.sets pass.new.sets) }
         ensures group { self.new.group ≡ self.old.group }
     {
         self.active = true;
@@ -289,7 +309,7 @@ impl<J: Reach> GroupState<J> {
     }
 
     /// Activates the group, or takes an item of its own, and does all that it asks for; answers whether there was either. Without
-    /// memory the rest of those asks is given up (libwild: `GroupState::do_pending_work`).
+    /// memory the rest of those asks is given up, or the item, and nothing else (libwild: `GroupState::do_pending_work`).
     pub fn step<R: Wait>(
         &mut self,
         traversal: &Traversal<'_, J>,
@@ -298,9 +318,11 @@ impl<J: Reach> GroupState<J> {
     ) -> Result<bool, AllocError>
         requires own { pass.old.table ≡ traversal.now.table }
         ensures table { pass.new.table ≡ pass.old.table }
+        ensures parts { pass.new.parts ≡ pass.old.parts }
         ensures step { IfOk result (λ did. MatchBool did
             (IsStep J.lists.groups traversal.now.link self.old self.new pass.old.sets pass.new.sets)
             ((self.old.active ≡ true) × (self.old.items ≡ []) × (self.new ≡ self.old) × (pass.new.sets ≡ pass.old.sets))) }
+        ensures given_up { OnErr result (IsStepGivenUp J.lists.groups traversal.now.link self.old self.new pass.old.sets pass.new.sets) }
         ensures group { self.new.group ≡ self.old.group }
     {
         if !self.active {
@@ -329,10 +351,11 @@ impl<J: Reach> GroupState<J> {
         slot.park_or_swap(&mut self.items)
     }
 
-    /// Moves what is done to the marks of all units.
+    /// Sets the marks of what is done in a list that has one for every unit; those that it has stay.
     pub(crate) fn gather(self, room: &mut Vec<bool>)
         requires { AreReached J.lists room.old.items }
-        ensures { AreReached J.lists room.new.items }
+        ensures reached { AreReached J.lists room.new.items }
+        ensures kept { (n : ℕ) → IsMarked room.old.items n → IsMarked room.new.items n }
     {
         self.symbols.gather(room);
         self.sections.gather(room);

@@ -1,20 +1,21 @@
 //! What workers share: the slots and the states of all groups, each behind a lock of its own, the words of flags, and the groups that
 //! can run. Locks are taken in this order: a state, then a slot, then the groups that can run.
 
-ghost use Rattle.std.specs.Prelude.{◌≡◌, ◌<◌, ◌++◌, ◌∷◌, [], true, IfNone, IfOk, IfSome, OnOk, map, None, Some, length, slice_get, slice_index};
-ghost use Rattle.lk_flags.specs.Flags.{AreIn, IsFound, Within};
+ghost use Rattle.std.specs.Prelude.{◌≡◌, ◌<◌, ◌+◌, ◌-◌, ◌++◌, ◌∷◌, [], true, IfNone, IfOk, IfSome, OnErr, OnOk, SomeIff, map, None, Some, length, slice_get, slice_index};
+ghost use Rattle.lk_flags.specs.Flags.{AreIn, HaveNoMore, IsFound, Within, all_parts};
 ghost use Rattle.lk_reach.specs.Marks.{IsMarked, IsUnit, all_units, symbols_in_all, unit_number, word_of};
 ghost use Rattle.lk_link.specs.NumberedSymbols.{symbols_of};
 ghost use Rattle.lk_link.specs.Walks.{file_of};
 ghost use Rattle.lk_link.specs.WellFormed.{IsWellFormed};
 ghost use Rattle.lk_slot_link.specs.LinkGraphs.{files_of_group, unit_group};
 ghost use Rattle.lk_reach.specs.Units.{follows};
-ghost use Rattle.lk_workers.specs.Asked.{AreListsOf, AreMet, AreReached, IsRootsOf, symbol_groups};
+ghost use Rattle.lk_workers.specs.Asked.{AreListsOf, AreMet, AreReached, HasNumber, IsRootsOf, symbol_groups};
 ghost use Rattle.lk_workers.specs.Items.{IsOwn};
 ghost use Rattle.lk_workers.specs.Steps.{flags_set};
 
 use crate::closed::Closed;
 use crate::marks::Marks;
+use crate::sent::Sent;
 use crate::slot::WorkerSlot;
 use crate::state::GroupState;
 use crate::work::WorkItem;
@@ -85,7 +86,7 @@ impl<'l, J: Reach> Model for Traversal<'l, J> {
 }
 
 impl<'l, J: Reach> Traversal<'l, J> {
-    /// A traversal in which no group is activated, and the first pass for its flags. Takes a slot, a state and two turns for each group,
+    /// A traversal in which no group is activated, and the first pass for its flags, which has all parts. Takes a slot, a state and two turns for each group,
     /// twice a mark for each unit, twice a word and once a number for each symbol.
     pub fn new(
         alloc: Global,
@@ -93,7 +94,7 @@ impl<'l, J: Reach> Traversal<'l, J> {
     ) -> Result<(Traversal<'l, J>, FlagPass), AllocError>
         requires { AreListsOf J.lists link.now }
         ensures link { IfOk result (λ t. t.0.link ≡ link.now) }
-        ensures pass { IfOk result (λ t. (t.1.table ≡ t.0.table) × (t.1.sets ≡ [])) }
+        ensures pass { IfOk result (λ t. (t.1.table ≡ t.0.table) × (t.1.parts ≡ all_parts) × (t.1.sets ≡ [])) }
     {
         let (table, pass) = flag_table::<J>(alloc, link)?;
         let traversal = Traversal {
@@ -109,11 +110,12 @@ impl<'l, J: Reach> Traversal<'l, J> {
         Ok((traversal, pass))
     }
 
-    /// What the traversal came to: the units that states have as done, and the words of flags, which have all that the pass set. Takes
-    /// no memory.
+    /// What the traversal came to: the units that states have as done, and the words of flags, which have all that the pass set, and
+    /// beside what was handed in nothing else, if the pass has all parts. Takes no memory.
     pub fn close(self, pass: FlagPass) -> Closed<J>
         requires { pass.table ≡ self.table }
-        ensures { AreIn pass.sets result.words }
+        ensures sets { AreIn pass.sets result.words }
+        ensures whole { pass.parts ≡ all_parts → HaveNoMore J.lists.handed pass.sets result.words }
     {
         let Traversal {
             link: _,
@@ -134,7 +136,7 @@ impl<'l, J: Reach> Traversal<'l, J> {
     }
 }
 
-/// Moves what is done in states to the marks of all units.
+/// Sets the marks of what is done in states.
 fn gather<J: Reach>(states: Vec<Mutex<GroupState<J>>>, room: &mut Vec<bool>)
     requires { AreReached J.lists room.old.items }
     ensures { AreReached J.lists room.new.items }
@@ -150,7 +152,7 @@ fn flag_table<J: Reach>(
     link: &LinkInput,
 ) -> Result<(FlagTable<J>, FlagPass), AllocError>
     requires { AreListsOf J.lists link.now }
-    ensures { IfOk result (λ t. (t.1.table ≡ t.0) × (t.1.sets ≡ [])) }
+    ensures { IfOk result (λ t. (t.1.table ≡ t.0) × (t.1.parts ≡ all_parts) × (t.1.sets ≡ [])) }
 {
     let words = handed_in(alloc, link)?;
     FlagTable::new(alloc, words.as_slice())
@@ -290,9 +292,9 @@ impl<J: Reach> Traversal<'_, J> {
         }
     }
 
-    /// The number of a unit, if its file is there.
+    /// The number of a unit: of a symbol its own, of a section one if its file is there.
     pub fn number_of(&self, unit: &Unit) -> Option<usize>
-        ensures { IfSome result (λ n. n ≡ unit_number J.lists.groups unit.now) }
+        ensures { SomeIff result (HasNumber J.lists.groups unit.now) (unit_number J.lists.groups unit.now) }
     {
         match *unit {
             Unit::Sym(symbol) => Some(symbol.as_usize()),
@@ -322,22 +324,33 @@ impl<J: Reach> Traversal<'_, J> {
         }
     }
 
-    /// Sets flags of a symbol, and answers the word as it was.
+    /// Sets flags of a symbol, and answers the word as it was, which the pass keeps.
     pub fn set(&self, pass: &mut FlagPass, symbol: SymbolId, flags: ValueFlags) -> u64
         requires own { pass.old.table ≡ self.now.table }
         requires there { symbol < symbols_in_all J.lists.groups }
         requires bounded { Within flags.0 (slice_index J.lists.words (word_of symbol)) }
         ensures table { pass.new.table ≡ pass.old.table }
-        ensures sets { pass.new.sets ≡ pass.old.sets ++ flags_set symbol flags ∷ [] }
+        ensures parts { pass.new.parts ≡ pass.old.parts }
+        ensures sets { pass.new.sets ≡ pass.old.sets ++ flags_set symbol flags result ∷ [] }
         ensures found { IsFound J.lists.handed J.lists.words pass.old.sets (word_of symbol) result }
     {
         self.table
             .set(pass, symbol.as_usize() + 1, u64::from(flags.0))
     }
 
-    /// Leaves an item in the slot of its group, which can run from then on. Without memory the item is given up.
-    pub fn send<R: Wait>(&self, rt: &R, group: u32, item: WorkItem) -> Result<(), AllocError>
+    /// Leaves an item in the slot of its group, which can run from then on, and adds it to what was sent. Without memory, or without such
+    /// a slot, the item is given up, and what was sent stays as it is. Where there is no memory to note that the group can run, what it
+    /// was left stays undone.
+    pub fn send<R: Wait>(
+        &self,
+        rt: &R,
+        group: u32,
+        item: WorkItem,
+        sent: &mut Sent,
+    ) -> Result<(), AllocError>
         requires { IsOwn J.lists group item }
+        ensures sent { OnOk result (sent.new.items ≡ sent.old.items ++ item ∷ []) }
+        ensures kept { OnErr result (sent.new.items ≡ sent.old.items) }
     {
         let Some(slot) = self.slots.get(group as usize) else {
             return Err(AllocError);
@@ -347,21 +360,18 @@ impl<J: Reach> Traversal<'_, J> {
         if slot.group() != group {
             return Err(AllocError);
         }
-        match slot.send_work(item) {
-            Ok(true) => self.wake(rt, group),
-            Ok(false) => Ok(()),
-            Err((_item, error)) => Err(error),
-        }
-    }
-
-    /// A group that had parked can run, which is told to a worker that waits, if one does.
-    fn wake<R: Wait>(&self, rt: &R, group: u32) -> Result<(), AllocError> {
-        let mut turns = self.turns.lock(rt);
-        turns.woken.push(group)?;
-        if turns.waiting != 0 {
-            self.changed.notify_one();
+        if slot.deposit(item, sent)? {
+            self.wake(rt, group);
         }
         Ok(())
+    }
+
+    /// A group that had parked can run, which is told to a worker that waits, if one does. Without memory it isn't noted.
+    fn wake<R: Wait>(&self, rt: &R, group: u32) {
+        let mut turns = self.turns.lock(rt);
+        if turns.woken.push(group).is_ok() && turns.waiting != 0 {
+            self.changed.notify_one();
+        }
     }
 
     /// Parks a group that has nothing left to do, and answers whether it is to stop; else what waits for it becomes its own list.
@@ -387,6 +397,7 @@ impl<J: Reach> Traversal<'_, J> {
         requires own { pass.old.table ≡ self.now.table }
         requires gate { G.may_enter gate.now }
         ensures table { pass.new.table ≡ pass.old.table }
+        ensures parts { pass.new.parts ≡ pass.old.parts }
     {
         let Some(state) = self.states.get(group as usize) else {
             return;
@@ -403,21 +414,22 @@ impl<J: Reach> Traversal<'_, J> {
         }
     }
 
-    /// A further pass, which has set nothing.
+    /// A further pass, which has set nothing, with one of the parts.
     pub fn split(&self, pass: &mut FlagPass) -> FlagPass
-        requires { pass.old.table ≡ self.now.table }
-        ensures same { pass.new ≡ pass.old }
-        ensures table { result.table ≡ self.now.table }
-        ensures sets { result.sets ≡ [] }
+        requires own { pass.old.table ≡ self.now.table }
+        requires parts { 1 < pass.old.parts }
+        ensures rest { pass.new ≡ record { table = pass.old.table; parts = pass.old.parts - 1; sets = pass.old.sets } }
+        ensures further { result ≡ record { table = self.now.table; parts = 1; sets = [] } }
     {
         self.table.split(pass)
     }
 
-    /// Joins a pass to another, which has then set what both had.
+    /// Joins a pass to another, which then has the parts of both, and has set what both had.
     pub fn join(&self, pass: &mut FlagPass, other: FlagPass)
         requires own { pass.old.table ≡ self.now.table }
         requires same { other.table ≡ self.now.table }
         ensures table { pass.new.table ≡ pass.old.table }
+        ensures parts { pass.new.parts ≡ pass.old.parts + other.parts }
         ensures sets { pass.new.sets ≡ pass.old.sets ++ other.sets }
     {
         self.table.join(pass, other);

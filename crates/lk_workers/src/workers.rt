@@ -1,6 +1,6 @@
 //! Workers, which run groups until none can run, and what is reached by them.
 
-ghost use Rattle.std.specs.Prelude.{◌≡◌, IfOk};
+ghost use Rattle.std.specs.Prelude.{◌≡◌, ◌<◌, IfOk};
 ghost use Rattle.lk_link.specs.WellFormed.{IsWellFormed};
 ghost use Rattle.lk_reach.specs.Marks.{flag_words, reached_marks};
 ghost use Rattle.lk_workers.specs.Asked.{AreListsOf};
@@ -22,7 +22,8 @@ fn work<J: Reach, R: Wait, G: Gate>(
 ) -> FlagPass
     requires own { pass.table ≡ traversal.now.table }
     requires gate { G.may_enter gate.now }
-    ensures { result.table ≡ traversal.now.table }
+    ensures table { result.table ≡ traversal.now.table }
+    ensures parts { result.parts ≡ pass.parts }
 {
     let mut pass = pass;
     for _ in rt.forever() {
@@ -35,7 +36,8 @@ fn work<J: Reach, R: Wait, G: Gate>(
     unreachable!()
 }
 
-/// Runs all groups by so many workers, and answers a pass that has set all that theirs set. Waits for them.
+/// Runs all groups by so many workers, and answers a pass that has set all that theirs set: it has as many parts as the one that is
+/// handed in, of which each worker's has one. Waits for them.
 pub fn run_all<J: Reach + Send + Sync, R: Threads + Wait + Sync, G: Gate + Sync>(
     traversal: &Traversal<'_, J>,
     rt: &R,
@@ -45,20 +47,23 @@ pub fn run_all<J: Reach + Send + Sync, R: Threads + Wait + Sync, G: Gate + Sync>
     gate: &G,
 ) -> Result<FlagPass, AllocError>
     requires own { pass.table ≡ traversal.now.table }
+    requires parts { workers < pass.parts }
     requires gate { G.may_enter gate.now }
-    ensures { IfOk result (λ p. p.table ≡ traversal.now.table) }
+    ensures table { IfOk result (λ p. p.table ≡ traversal.now.table) }
+    ensures parts { IfOk result (λ p. p.parts ≡ pass.parts) }
 {
     let mut pass = pass;
     let mut passes = Vec::with_capacity(alloc, workers as usize)?;
-    for _ in 0..workers {
+    for index in 0..workers {
+        let _ = index;
         passes.push(traversal.split(&mut pass))?;
     }
     let passes = map_vec(
         rt,
         passes,
         &|pass: FlagPass| -> FlagPass
-            requires { (pass.table ≡ traversal.now.table) × G.may_enter gate.now }
-            ensures { result.table ≡ traversal.entry.now.table }
+            requires { (pass.table ≡ traversal.now.table) × (pass.parts ≡ 1) × G.may_enter gate.now }
+            ensures { (result.table ≡ traversal.entry.now.table) × (result.parts ≡ 1) }
         { work(traversal, rt, pass, gate) },
     )?;
     for other in passes {

@@ -1,7 +1,7 @@
 use Rattle.std.proofs.Common.{rules, ◌≡◌, ◌<◌, ◌≤◌, length, sym, ap, ◌∙◌, subst, arith}
 use Rattle.std.proofs.lemmas.List.{ext_get_or, length-set}
-use Rattle.lk_flags.specs.Flags.{Pass, AreLeft}
-use Rattle.lk_flags.proofs.Keeping.{left_words, moved_more}
+use Rattle.lk_flags.specs.Flags.{AreLeft, HaveNoMore, Pass, all_parts}
+use Rattle.lk_flags.proofs.Keeping.{left_words, moved_more, none_else}
 use Rattle.lk_flags.proofs.flags.FlagTable.close.Goals as goal
 
 pub loop-place-preserved : goal.loop-place-preserved
@@ -19,10 +19,14 @@ returns g c =
     let words = c.close_with-closed.result.words.items in
     let room = c.loop-place.room.items in
     let lists = g.J.Reach.lists in
+    let me = c.pass.inside.seat.me.0 in
     let count : length room ≡ length words
     = c.loop-place.invariant.0 ∙ c.close_with-closed.ensures.counts.0 ∙ c.self.invariant.0 ∙ sym kept.count ∙ ap length final.2 in
     let end : length room ≤ c.loop-place.place = search rules in
     let same : room ≡ words = ext_get_or 0 room words count (λ k lt. c.loop-place.invariant.1 k (omega (arith, lt, end))) in
-    let left : AreLeft lists.handed lists.words c.pass.inside.seat.me.0.sets room
-    = left_words lists.handed lists.words c.pass.inside.seat.id c.pass.inside.seat.me.0 words room final.0 kept final.1.1 final.2 same in
-    subst (λ sets. AreLeft lists.handed lists.words sets room) (ap (λ (p : Pass). p.sets) c.pass.view_is) left
+    let left : AreLeft lists.handed lists.words me.sets room = left_words lists.handed lists.words c.pass.inside.seat.id me words room final.0 kept final.1.1 final.2 same in
+    let whole : me.parts ≡ all_parts → HaveNoMore lists.handed me.sets room = none_else lists.handed lists.words c.pass.inside.seat.id me words room final.0 kept final.1.1 final.2 same in
+    record {
+      left = subst (λ (p : Pass). AreLeft lists.handed lists.words p.sets room) c.pass.view_is left;
+      whole = subst (λ (p : Pass). p.parts ≡ all_parts → HaveNoMore lists.handed p.sets room) c.pass.view_is whole;
+    }

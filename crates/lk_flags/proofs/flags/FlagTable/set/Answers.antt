@@ -7,5 +7,6 @@ pub fetch_or-requires : goal.fetch_or-requires
 fetch_or-requires g c = (
   ap (λ (p : Pass). p.table) c.pass.view_is ∙ c.requires.own ∙ sym c.self.view_is,
   search rules,
-  set_keeps g.J.Reach.lists.handed g.J.Reach.lists.words c.self.inside.table.shared.table_id.slots c.pass.inside.seat.id c.pass.inside.seat.me c.args.word c.args.bits c.requires.place c.requires.bounded,
+  set_keeps g.J.Reach.lists.handed g.J.Reach.lists.words c.self.inside.table.shared.table_id.slots c.pass.inside.seat.id c.pass.inside.seat.me c.args.word c.args.bits c.requires.place c.requires.bounded
+      c.pass.invariant.1,
 )

@@ -8,5 +8,5 @@ use Rattle.lk_workers.proofs.state.GroupState.do_files.Given as goal
 -- what the files so far ask for is done
 abbrev pub invariant-loop-index : goal.invariant-loop-index
 invariant-loop-index g l =
-    (l.pass.table ≡ l.fn.pass.table) × (l.self.group ≡ l.fn.self.group)
+    (l.pass.table ≡ l.fn.pass.table) × (l.pass.parts ≡ l.fn.pass.parts) × (l.self.group ≡ l.fn.self.group)
     × DoesAsks g.J.Reach.lists.groups (flat_map (file_roots l.traversal.link) (take l.index (files_of_group l.traversal.link.groups l.fn.self.group))) l.fn.self l.self l.fn.pass.sets l.pass.sets
