@@ -1,8 +1,8 @@
 -- Sections whose lines rise have a verdict, and no two verdicts differ.
-use Rattle.std.proofs.Common.{◌≡◌, ℕ, zero, suc, ◌+◌, ◌<◌, ◌≤◌, ◌⊎◌, Bool, true, false, List, [], ◌∷◌, Option, Some, None, Result, Ok, Err, length, get_or, refl, sym, ap, ◌∙◌, subst, inl, inr, ⊎_elim, arith}
+use Rattle.std.proofs.Common.{◌≡◌, ℕ, zero, suc, ◌+◌, ◌<◌, ◌≤◌, ◌⊎◌, Bool, true, false, List, [], ◌∷◌, Option, Some, None, Result, Ok, Err, get_or, refl, sym, ap, ◌∙◌, subst, inl, inr, ⊎_elim, arith}
 use Rattle.std.specs.Prelude.{◌==◌, ◌&&◌, ◌||◌, nat_lt, min, max}
 use Rattle.std.specs.List.{All, Contains, list_any}
-use Rattle.std.proofs.lemmas.Bool.{cases_lt, false≢true}
+use Rattle.std.proofs.lemmas.Bool.{false≢true}
 use Rattle.std.proofs.lemmas.Bool.Decides.{nat_tests}
 use Rattle.std.proofs.lemmas.List.Elements.{All-cons, All-contains, All-nil, Contains-get_or}
 use Rattle.lk_map.specs.declared.check.MapFault.{MapFault}
@@ -10,11 +10,11 @@ use Rattle.lk_map.specs.declared.check.MapFault.TheVariants.{Overflow, MemOverla
 use Rattle.lk_map.specs.declared.map_text.SectionLine.{SectionLine}
 use Rattle.lk_map.specs.declared.map_text.SegmentLine.{SegmentLine}
 use Rattle.lk_map.specs.declared.spans.Span.{Span}
-use Rattle.lk_map.specs.Checking.{first_outside, first_overflow, Judges}
+use Rattle.lk_map.specs.Checking.{first_outside, first_overflow}
 use Rattle.lk_map.specs.MapText.{LinesRise}
 use Rattle.lk_map.specs.Spans.{AreApart, counts_in_file, counts_in_memory, file_span, file_spans, FindsOverlap, IsBefore, IsFirstOverlap, LinesRiseIn, memory_span, memory_spans, Overlaps}
-use Rattle.lk_map.specs.Verdicts.{IsVerdict, MapsAreJudged, VerdictsAgree}
-use Rattle.lk_map.proofs.Goodness.{any_of, contains_more, counted_in_file, counted_in_memory, have_bytes, none_of, overlap_not}
+use Rattle.lk_map.specs.Verdicts.{IsVerdict, MapsAreJudged, VerdictsAgree, VerdictsTellGood}
+use Rattle.lk_map.proofs.Goodness.{any_of, contains_more, counted_in_file, counted_in_memory, have_bytes, judged_tells, none_of, overlap_not}
 use Rattle.lk_map.proofs.Overlaps.{spans_rise}
 
 -- ---- the order of ranges, as a test
@@ -308,3 +308,13 @@ module _ (ss : List SectionLine) (gs : List SegmentLine) where
 pub verdicts_agree : VerdictsAgree
 unfolding Agrees
 verdicts_agree ss gs one other h k = agrees ss gs one other h k
+
+-- ---- what a verdict tells
+
+pub verdicts_tell_good : VerdictsTellGood
+verdicts_tell_good ss gs (Ok u) (_, judged) = (λ _. judged_tells (Ok u) ss gs judged, λ _. refl)
+verdicts_tell_good ss gs (Err (Overflow a)) (_, judged) = (λ h. cc, λ good. absurd (judged_tells (Err (Overflow a)) ss gs judged good))
+verdicts_tell_good ss gs (Err (MemOverlap a b)) (_, judged) = (λ h. cc, λ good. absurd (judged_tells (Err (MemOverlap a b)) ss gs judged good))
+verdicts_tell_good ss gs (Err (FileOverlap a b)) (_, judged) = (λ h. cc, λ good. absurd (judged_tells (Err (FileOverlap a b)) ss gs judged good))
+verdicts_tell_good ss gs (Err (NoSegment a)) (_, judged) = (λ h. cc, λ good. absurd (judged_tells (Err (NoSegment a)) ss gs judged good))
+verdicts_tell_good ss gs (Err NoMemory) (not, judged) = absurd (not refl)

@@ -1,10 +1,11 @@
--- Verdicts: the laws that a map whose lines rise has one, and that nothing has two.
-use Rattle.std.specs.Prelude.{◌≡◌, ℕ, List, Result, Ok, Err}
+-- Verdicts: the laws that a map whose lines rise has one, that nothing has two, and that good maps alone have that of no fault.
+use Rattle.std.specs.Prelude.{◌≡◌, ◌↔◌, ℕ, List, Result, Ok, Err}
 use Rattle.lk_map.specs.declared.check.MapFault.{MapFault}
 use Rattle.lk_map.specs.declared.check.MapFault.TheVariants.{NoMemory}
 use Rattle.lk_map.specs.declared.map_text.SectionLine.{SectionLine}
 use Rattle.lk_map.specs.declared.map_text.SegmentLine.{SegmentLine}
 use Rattle.lk_map.specs.Checking.{Judges}
+use Rattle.lk_map.specs.Good.{IsGood}
 use Rattle.lk_map.specs.MapText.{map_of, LinesRise}
 
 -- a verdict on sections and segments: what a check tells of them, and not that memory ran out
@@ -24,3 +25,8 @@ MapsAreJudged =
 abbrev pub VerdictsAgree : Type 0
 VerdictsAgree =
     (sections : List SectionLine) (segments : List SegmentLine) (one other : Result (Unit {0}) MapFault) → IsVerdict one sections segments → IsVerdict other sections segments → one ≡ other
+
+-- a verdict finds no fault exactly where the map is good
+abbrev pub VerdictsTellGood : Type 0
+VerdictsTellGood =
+    (sections : List SectionLine) (segments : List SegmentLine) (result : Result (Unit {0}) MapFault) → IsVerdict result sections segments → (result ≡ Ok tt) ↔ IsGood sections segments

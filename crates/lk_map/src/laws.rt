@@ -1,7 +1,7 @@
 //! Laws on maps. Each is a function that does nothing, and ensures its law.
 
 ghost use Rattle.lk_map.specs.Good.{GoodMapsAreCongruent};
-ghost use Rattle.lk_map.specs.Verdicts.{MapsAreJudged, MapsRise, VerdictsAgree};
+ghost use Rattle.lk_map.specs.Verdicts.{MapsAreJudged, MapsRise, VerdictsAgree, VerdictsTellGood};
 ghost use Rattle.lk_map.specs.Written.{ReadsMaps, RefusesFirst};
 
 /// A text is read as these lines exactly where it is a map of them.
@@ -33,4 +33,9 @@ pub fn maps_are_judged()
 /// No two verdicts on the same sections and segments differ.
 pub fn verdicts_agree()
     ensures { VerdictsAgree }
+{}
+
+/// A verdict finds no fault exactly where the map is good.
+pub fn verdicts_tell_good()
+    ensures { VerdictsTellGood }
 {}
