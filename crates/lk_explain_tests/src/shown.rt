@@ -46,6 +46,31 @@ const SHOWN: &str = r#"
 @ ...: {"options":{"entry":0},"plan":{"page":1,"sections":[{"parts":[[1,false]]}],"events":[["sec",0]]},"groups":[[{"kind":"prelude"}],[{"kind":"synthetic","symbols":[{"at":["start",0]},{"at":["end",0]}],"candidates":[[0,1,1,0],[0,1,1,1]]},{"kind":"object","sections":[{"slot":"unloaded","size":1},{"slot":"unloaded","size":1}],"symbols":[]}]]}
 1 1 1 => 0, 1 1 1
 1 => not reached
+# Two members of a section group that are found with the greater one first: the lesser one counts for a third. What each of them refers to itself is reached as well.
+@ ...: {"plan":{"page":1,"sections":[{"parts":[[1,false]]}],"events":[["sec",0]]},"groups":[[{"kind":"prelude"}],[{"kind":"object","sections":[{"slot":"must","size":1,"relocs":[[0,"Absolute",0,0,false],[0,"Absolute",1,0,false]]},{"slot":"unloaded","size":1},{"slot":"unloaded","size":1,"group":0},{"slot":"unloaded","size":1,"relocs":[[0,"Absolute",2,0,false]],"group":0},{"slot":"unloaded","size":1,"relocs":[[0,"Absolute",3,0,false]],"group":0},{"slot":"unloaded","size":1}],"symbols":[{"at":["sec",3,0]},{"at":["sec",2,0]},{"at":["sec",1,0]},{"at":["sec",5,0]}]}]]}
+1 0 2 => 1 0 0, 1, 1 0 2
+1 0 3 => 1 0 0, 0, 1 0 3
+1 0 4 => 1 0 0, 1, 1 0 2, 1 0 4
+1 0 1 => 1 0 0, 0, 1 0 3, 2, 1 0 1
+1 0 5 => 1 0 0, 1, 1 0 2, 1 0 4, 3, 1 0 5
+# The same, where the first one that is met is in the last file: groups of two files have one number, and are two.
+@ ...: {"plan":{"page":1,"sections":[{"parts":[[1,false]]}],"events":[["sec",0]]},"groups":[[{"kind":"prelude"}],[{"kind":"object","sections":[{"slot":"unloaded","size":1,"group":0},{"slot":"unloaded","size":1,"group":0}],"symbols":[{"at":["sec",0,0]}]},{"kind":"object","sections":[{"slot":"unloaded","size":1,"group":0},{"slot":"unloaded","size":1,"group":0}],"symbols":[{"at":["sec",1,0]}]},{"kind":"object","sections":[{"slot":"must","size":1,"relocs":[[0,"Absolute",1,0,false],[0,"Absolute",0,0,false]]}],"symbols":[{"at":["undef"],"def":0},{"at":["undef"],"def":1}]}]]}
+1 0 1 => 1 2 0, 0, 1 0 0, 1 0 1
+1 1 0 => 1 2 0, 1, 1 1 1, 1 1 0
+# Two symbols at one output section that are found with the greater one first, and one that is found by a candidate.
+@ ...: {"plan":{"page":1,"sections":[{"parts":[[1,false]]}],"events":[["sec",0]]},"groups":[[{"kind":"prelude"}],[{"kind":"synthetic","symbols":[{"at":["start",0]},{"at":["end",0]},{"at":["start",0]}],"candidates":[[0,1,1,1],[0,1,1,2]]},{"kind":"object","sections":[{"slot":"must","size":1,"relocs":[[0,"Absolute",0,0,false],[0,"Absolute",1,0,false]]},{"slot":"unloaded","size":1,"relocs":[[0,"Absolute",2,0,false]]},{"slot":"unloaded","size":1}],"symbols":[{"at":["undef"],"def":1},{"at":["undef"],"def":0},{"at":["undef"],"def":2}]}]]}
+1 1 1 => 1 1 0, 0, 1 1 1
+1 1 2 => 1 1 0, 0, 1 1 2
+1 => 1 1 0, 1
+2 => 1 1 0, 0, 1 1 1, 2
+# Symbols of two files at one output section ask for the candidates of their own files.
+@ ...: {"plan":{"page":1,"sections":[{"parts":[[1,false]]}],"events":[["sec",0]]},"groups":[[{"kind":"prelude"}],[{"kind":"synthetic","symbols":[{"at":["start",0]}],"candidates":[[0,1,2,1]]},{"kind":"synthetic","symbols":[{"at":["start",0]}],"candidates":[[0,1,2,2]]},{"kind":"object","sections":[{"slot":"must","size":1,"relocs":[[0,"Absolute",0,0,false],[0,"Absolute",1,0,false]]},{"slot":"unloaded","size":1},{"slot":"unloaded","size":1}],"symbols":[{"at":["undef"],"def":0},{"at":["undef"],"def":1}]}]]}
+1 2 1 => 1 2 0, 0, 1 2 1
+1 2 2 => 1 2 0, 1, 1 2 2
+# Sections of files behind ones that have none.
+@ ...: {"plan":{"page":1,"sections":[{"parts":[[1,false]]}],"events":[["sec",0]]},"groups":[[{"kind":"prelude"}],[],[{"kind":"object","sections":[],"symbols":[]},{"kind":"object","sections":[{"slot":"unloaded","size":1}],"symbols":[{"at":["sec",0,0]}]},{"kind":"object","sections":[],"symbols":[]}],[{"kind":"object","sections":[{"slot":"must","size":1,"relocs":[[0,"Absolute",0,0,false]]}],"symbols":[{"at":["undef"],"def":0}]},{"kind":"object","sections":[],"symbols":[]}]]}
+2 1 0 => 3 0 0, 0, 2 1 0
+3 0 0 => 3 0 0
 # What asks for itself, and in a ring; without collection each section is its own root.
 @ ...: {"plan":{"page":1,"sections":[{"parts":[[1,false]]}],"events":[["sec",0]]},"groups":[[{"kind":"prelude"}],[{"kind":"object","sections":[{"slot":"must","size":1,"relocs":[[0,"Absolute",0,0,false]]},{"slot":"unloaded","size":1,"relocs":[[0,"Absolute",2,0,false],[0,"Absolute",1,0,false]]}],"symbols":[{"at":["sec",0,0]},{"at":["sec",1,0]},{"at":["sec",0,0]}]}]]}
 1 0 0 => 1 0 0
