@@ -1,6 +1,6 @@
 -- Levels of a search: the first, the next, and what is known at the end.
 use Rattle.std.proofs.Common.{◌≡◌, ◌⊎◌, ℕ, zero, suc, ◌+◌, ◌-◌, ◌<◌, ◌≤◌, List, [], ◌∷◌, ◌++◌, Contains, drop, IsPermutation, length, replicate, take, Some, refl, sym, ap, ◌∙◌, subst, inl, inr, arith, get_or}
-use Rattle.std.specs.List.{All, slice_get, slice_index}
+use Rattle.std.specs.List.{slice_get, slice_index}
 use Rattle.std.specs.Option.{ForSome}
 use Rattle.std.proofs.lemmas.List.{get_or-drop, get_or_append_left, length-append, length-drop, length-replicate}
 use Rattle.std.specs.List.Sorted.{IsNonDecreasing}

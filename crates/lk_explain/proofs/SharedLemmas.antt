@@ -1,5 +1,5 @@
 -- What many units ask for whole: where it was taken, all of it is found.
-use Rattle.std.proofs.Common.{◌≡◌, ◌⊎◌, ℕ, zero, suc, ◌+◌, ◌<◌, ◌++◌, ◌&&◌, Bool, true, false, if◌then◌else◌, List, [], ◌∷◌, Contains, length, ltb, map, Option, Some, None, refl, sym, ap, ◌∙◌, subst, inl, inr, replicate, get_or, take, arith}
+use Rattle.std.proofs.Common.{◌≡◌, ◌⊎◌, ℕ, zero, suc, ◌+◌, ◌<◌, ◌++◌, ◌&&◌, Bool, true, false, if◌then◌else◌, List, [], ◌∷◌, Contains, length, ltb, map, Some, None, refl, sym, ap, ◌∙◌, subst, inl, inr, get_or, take, arith}
 use Rattle.std.specs.List.{All, flat_map, slice_get, slice_index, slice_index_or, slice_set}
 use Rattle.std.specs.Option.{ForSome, option_to_list}
 use Rattle.std.proofs.lemmas.Bool.{ltb-true, lt-ltb}

@@ -1,10 +1,10 @@
 -- What asks do to a search: one, several, and one after the other.
-use Rattle.std.proofs.Common.{◌≡◌, ◌⊎◌, ℕ, zero, suc, ◌+◌, ◌<◌, ◌≤◌, Bool, true, false, if◌then◌else◌, ◌==◌, List, take, [], ◌∷◌, ◌++◌, Contains, length, Option, Some, None, refl, sym, ap, ◌∙◌, subst, inl, inr, arith, get_or, length-set}
+use Rattle.std.proofs.Common.{◌≡◌, ◌⊎◌, ℕ, zero, suc, ◌+◌, ◌<◌, ◌≤◌, Bool, true, false, if◌then◌else◌, ◌==◌, List, take, [], ◌∷◌, ◌++◌, Contains, length, Some, None, refl, sym, ap, ◌∙◌, subst, inl, inr, arith, get_or, length-set}
 use Rattle.std.specs.List.{All, flat_map, slice_get, slice_index, slice_set}
 use Rattle.std.specs.Prelude.{Result, Ok, Err, OnOk}
 use Rattle.std.specs.Option.{ForSome}
 use Rattle.std.proofs.lemmas.Bool.{eqb-false, eqb-true}
-use Rattle.std.proofs.lemmas.List.{append-nil, append_assoc, flat_map_more, length-append, map-append, map_push, take_more}
+use Rattle.std.proofs.lemmas.List.{append-nil, append_assoc, flat_map_more, length-append, map_push, take_more}
 use Rattle.std.proofs.lemmas.List.Elements.{All-append, All-contains, All-head, All-nil, All-push, All-tail, Contains-append_left, Contains-append_right}
 use Rattle.std.proofs.lemmas.Option.{slice_get-get_or}
 use Rattle.lk_link.proofs.Elements.{at_contained, contains_at, flat_map_at, map_at, map_in}

@@ -1,5 +1,5 @@
 -- Words of private contracts: what many units ask for whole, and of which of it all is found.
-use Rattle.std.specs.Prelude.{◌≡◌, ℕ, ◌+◌, ◌<◌, ◌^◌, Bool, false, true, List, All, length, map, nat_lt, not, replicate, slice_index}
+use Rattle.std.specs.Prelude.{◌≡◌, ℕ, ◌+◌, ◌<◌, ◌^◌, Bool, false, List, All, length, map, nat_lt, not, replicate, slice_index}
 use Rattle.std.specs.List.{flat_map}
 use Rattle.std.specs.Option.{option_map_or, option_to_list}
 use Rattle.lk_link.specs.declared.file.InputFile.{InputFile}

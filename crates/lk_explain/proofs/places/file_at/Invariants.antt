@@ -1,6 +1,5 @@
 use Rattle.std.proofs.Common.{ℕ, ◌<◌, ◌≤◌, ◌-◌, length}
 use Rattle.lk_explain.proofs.PlaceLemmas.{start_of}
-use Rattle.lk_explain.specs.Sharing.{files_of}
 use Rattle.lk_explain.proofs.places.file_at.Given as goal
 
 -- the files before the first bound start by the place, and those from the second on behind it

@@ -1,4 +1,4 @@
-use Rattle.std.proofs.Common.{List, ℕ, sym, ap, subst}
+use Rattle.std.proofs.Common.{sym, ap, subst}
 use Rattle.lk_explain.specs.Sharing.{NoneTaken}
 use Rattle.lk_explain.proofs.shared.lead_symbols.Goals as goal
 use Rattle.lk_explain.proofs.shared.lead_symbols.Goals.{in-Some, in_default}

@@ -1,5 +1,3 @@
-use Rattle.std.proofs.Common.{◌<◌, arith}
-use Rattle.std.proofs.lemmas.List.Elements.{All-push}
 use Rattle.lk_explain.proofs.SharedLemmas.{none_marked_below}
 use Rattle.lk_explain.proofs.shared.numbers_to.Goals as goal
 

@@ -1,12 +1,11 @@
-use Rattle.std.proofs.Common.{rules, ◌≡◌, ◌+◌, ◌-◌, ◌<◌, ◌≤◌, ◌++◌, List, [], ℕ, drop, length, get_or, inl, inr, sym, ap, ◌∙◌, subst, arith}
-use Rattle.std.specs.List.{All, slice_index}
+use Rattle.std.proofs.Common.{rules, ◌≡◌, ◌+◌, ◌<◌, ◌≤◌, ◌++◌, List, ℕ, drop, length, get_or, inl, inr, sym, ap, ◌∙◌, subst, arith}
+use Rattle.std.specs.List.{slice_index}
 use Rattle.std.proofs.lemmas.Grind.{common_steps}
 use Rattle.std.proofs.lemmas.List.{length-append, length-drop}
 use Rattle.std.proofs.Math.Seq.{drop-append_seam}
 use Rattle.lk_reach.specs.Marks.{asking}
 use Rattle.lk_reach.proofs.SymbolNumbers.{units_few}
-use Rattle.lk_explain.specs.Searching.{IsBelow, IsLevel, IsSized, Takes, asks_of, far}
-use Rattle.lk_explain.specs.Sharing.{AreShared}
+use Rattle.lk_explain.specs.Searching.{IsLevel}
 use Rattle.lk_explain.proofs.LevelLemmas.{first_level, level_sorted, next_level, none_long, read_index, unfound_some, zero_at}
 use Rattle.lk_explain.proofs.SharedLemmas.{shared_new, shared_same}
 use Rattle.lk_explain.proofs.search.Search.over.Goals as goal

@@ -1,4 +1,4 @@
-use Rattle.std.proofs.Common.{◌≡◌, ◌+◌, ◌<◌, ◌≤◌, drop, length}
+use Rattle.std.proofs.Common.{◌+◌, ◌<◌, ◌≤◌, drop, length}
 use Rattle.lk_reach.specs.Marks.{asking}
 use Rattle.lk_explain.specs.Searching.{IsLevel, unfound}
 use Rattle.lk_explain.specs.Sharing.{AreShared}

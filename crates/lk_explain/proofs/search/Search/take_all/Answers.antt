@@ -1,6 +1,6 @@
 use Rattle.lk_reach.specs.Marks.{IsInside, asking}
 use Rattle.lk_reach.proofs.WalkLemmas.{ask_turn}
-use Rattle.lk_explain.proofs.TakeLemmas.{below_after, sized_after, takes_next}
+use Rattle.lk_explain.proofs.TakeLemmas.{below_after, takes_next}
 use Rattle.lk_explain.proofs.search.Search.take_all.Goals as goal
 
 pub take-requires-clause-inside : goal.take-requires-clause-inside

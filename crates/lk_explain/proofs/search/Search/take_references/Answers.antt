@@ -1,11 +1,10 @@
 use Rattle.std.proofs.Common.{◌≡◌, List, [], sym, subst}
-use Rattle.std.specs.List.{All, flat_map}
-use Rattle.std.specs.Prelude.{OnOk}
+use Rattle.std.specs.List.{All}
 use Rattle.std.proofs.lemmas.Option.{MatchOption-at_none, MatchOption-at_some}
 use Rattle.lk_reach.specs.declared.units.Ask.{Ask}
 use Rattle.lk_reach.specs.declared.units.Unit.TheVariants.{Sec}
 use Rattle.lk_reach.specs.Marks.{IsInside, asking}
-use Rattle.lk_reach.specs.Units.{asked_members, asked_references, relocation_asks}
+use Rattle.lk_reach.specs.Units.{asked_members, asked_references}
 use Rattle.lk_reach.proofs.MarkLemmas.{all_right}
 use Rattle.lk_reach.proofs.UnitLemmas.{asks_are_inside}
 use Rattle.lk_explain.specs.Searching.{Takes, with_asker}

@@ -1,5 +1,4 @@
-use Rattle.std.proofs.Common.{◌≡◌, ◌<◌, List, [], ◌∷◌, Some, None, take, sym, ap, ◌∙◌, subst, ℕ, length}
-use Rattle.std.specs.List.{slice_get}
+use Rattle.std.proofs.Common.{List, [], ◌∷◌, take, sym, ap, ◌∙◌, subst, ℕ}
 use Rattle.std.specs.Option.{option_to_list}
 use Rattle.std.proofs.lemmas.Option.{slice_get-get_or}
 use Rattle.lk_link.specs.declared.relocation.Relocation.{Relocation}
