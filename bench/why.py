@@ -1,10 +1,11 @@
-"""Links in which one unit is asked for: behind a long chain, in a large section group, and among many candidates."""
+"""Links in which one unit is asked for: behind a long chain, in a large section group, among many candidates, and by many scripts."""
 
 # Names of the shapes, with two sizes for each, of which the second is ten times the first.
-WHY = {"chain": (100_000, 1_000_000), "group": (10_000, 100_000), "edge": (10_000, 100_000)}
+WHY = {"chain": (100_000, 1_000_000), "group": (10_000, 100_000), "edge": (10_000, 100_000), "scripts": (10_000, 100_000)}
 
-PLAN = '"plan":{"page":4096,"sections":[{"parts":[[8,false]]}],"segments":[{"kind":"load"}],"events":[["seg",0],["sec",0],["endseg",0]]}'
-START = '{%s,\n"groups":[\n[{"kind":"prelude"}],\n[' % PLAN
+PLAN_START = '{"plan":{"page":4096,"sections":[{"parts":[[8,false]]}],"segments":[{"kind":"load"}],"events":[["seg",0],["sec",0],\n'
+START = '["endseg",0]]},\n"groups":[\n[{"kind":"prelude"}],\n['
+LOCATION = '["loc",["max",["dot"],["sym",0]]],\n'
 ENDING = "]\n]}\n"
 
 
@@ -51,13 +52,23 @@ def edge_texts(count):
     yield "]}\n"
 
 
-TEXTS = {"chain": chain_texts, "group": group_texts, "edge": edge_texts}
+def script_texts(count):
+    """A symbol to which as many expressions of the location counter refer as there are scripts, in a section that nothing else keeps."""
+    yield '{"kind":"object","symbols":[{"at":["sec",0,0]}],"sections":[%s]}' % section_text("unloaded")
+    for _ in range(count):
+        yield ',\n{"kind":"script"}'
+
+
+TEXTS = {"chain": chain_texts, "group": group_texts, "edge": edge_texts, "scripts": script_texts}
 
 
 def put(path, shape, count):
     """Writes the description, and gives the words that ask for a unit of it that is found last."""
     with open(path, "w", encoding="ascii") as stream:
+        stream.write(PLAN_START)
+        stream.writelines(LOCATION for _ in range(count if shape == "scripts" else 0))
         stream.write(START)
         stream.writelines(TEXTS[shape](count))
         stream.write(ENDING)
-    return ["why", "1", "0", str(count - 2 if shape == "group" else count - 1)]
+    found = {"chain": count - 1, "group": count - 2, "edge": count - 1, "scripts": 0}
+    return ["why", "1", "0", str(found[shape])]

@@ -3,6 +3,7 @@ pub mod LevelLemmas
 pub mod NumberLemmas
 pub mod PathLemmas
 pub mod PlaceLemmas
+pub mod RootLemmas
 pub mod SharedLemmas
 pub mod ShownLemmas
 pub mod TakeLemmas

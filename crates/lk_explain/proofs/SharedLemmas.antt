@@ -46,7 +46,7 @@ marked_found s u h = marked_by s.distances.items u h
 pub found_marked : (s : Search) (u : ℕ) → 0 < far s u → IsMarked (found_marks s) u
 found_marked s u h = mark_by s.distances.items u h
 
-found_keeps : (g : Asking) (distance : ℕ) (asks : List (ℕ × Ask)) (old new : Search) → Takes g distance asks old new → (u : ℕ) → IsMarked (found_marks old) u → IsMarked (found_marks new) u
+pub found_keeps : (g : Asking) (distance : ℕ) (asks : List (ℕ × Ask)) (old new : Search) → Takes g distance asks old new → (u : ℕ) → IsMarked (found_marks old) u → IsMarked (found_marks new) u
 found_keeps g distance asks old new h u is =
     let before : 0 < far old u = marked_found old u is in
     found_marked new u (omega (arith, before, (h.kept u before).0))

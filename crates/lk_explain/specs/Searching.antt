@@ -109,3 +109,13 @@ pub record IsOver (g : Asking) (unit : ℕ) (s : Search) : Type 0 where
   pub some : 0 < distance
   pub is : IsLevel g level distance s.distances.items s.askers.items
   pub ends : (level ≡ []) ⊎ (0 < far s unit)
+
+-- ---- the way back
+
+-- from a place on, numbers are the units of a path by their distances, each found by the one before it, and the last is the unit
+pub record IsTrail (s : Search) (unit : ℕ) (numbers : List ℕ) (place : ℕ) : Type 0 where
+  pub long : length numbers ≡ far s unit
+  pub within : place < length numbers
+  pub last : (k : ℕ) → suc k ≡ length numbers → slice_index numbers k ≡ unit
+  pub far_off : (k : ℕ) → place ≤ k → k < length numbers → far s (slice_index numbers k) ≡ suc k
+  pub steps : (k : ℕ) → place ≤ k → suc k < length numbers → slice_index numbers k ≡ back s (slice_index numbers (suc k))

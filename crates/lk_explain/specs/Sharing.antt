@@ -1,5 +1,5 @@
 -- Words of private contracts: what many units ask for whole, and of which of it all is found.
-use Rattle.std.specs.Prelude.{◌≡◌, ℕ, ◌+◌, ◌<◌, ◌^◌, Bool, false, List, All, length, map, nat_lt, not, replicate, slice_index}
+use Rattle.std.specs.Prelude.{◌≡◌, ◌==◌, ℕ, ◌+◌, ◌<◌, ◌^◌, Bool, false, List, All, length, map, nat_lt, not, replicate, slice_index}
 use Rattle.std.specs.List.{flat_map}
 use Rattle.std.specs.Option.{option_map_or, option_to_list}
 use Rattle.lk_link.specs.declared.file.InputFile.{InputFile}
@@ -10,6 +10,7 @@ use Rattle.lk_link.specs.declared.symbol.InputSymbol.{InputSymbol}
 use Rattle.lk_link.specs.Files.{file_in}
 use Rattle.lk_link.specs.Inputs.{all_inputs, first_input, numbered_files}
 use Rattle.lk_reach.specs.declared.units.Ask.{Ask}
+use Rattle.lk_reach.specs.declared.units.Ask.TheVariants.{Mark, Reference, Section}
 use Rattle.lk_reach.specs.declared.units.Unit.TheVariants.{Sym}
 use Rattle.lk_reach.specs.Marks.{IsHit, asking}
 use Rattle.lk_reach.specs.Units.{asked_references, follows, reference, relocation_asks}
@@ -43,6 +44,14 @@ pub record AreReferences (link : LinkInput) (id : FileId) (i : ℕ) (r : Referen
   pub primary : Bool
   pub are : asked_references link id i ≡ flat_map (relocation_asks primary r.first r.symbols.now) r.relocations.now
   pub numbers : All (λ (x : Relocation). r.first + x.symbol < 2 ^ 32) r.relocations.now
+
+-- ---- scripts
+
+-- whether an ask refers to a symbol and sets flags of it
+abbrev pub sets_flags : Ask → Bool
+sets_flags (Reference s f) = not (f.0 == 0)
+sets_flags (Section id i) = false
+sets_flags (Mark s f) = false
 
 -- ---- what is taken
 

@@ -5,24 +5,26 @@
 //! gets the next distance, and this asker. So what many units ask for whole is looked at for the first of them alone: all of it is
 //! found then, none of it further and none by a greater asker.
 
-ghost use Rattle.std.specs.Prelude.{◌≡◌, ◌+◌, ◌<◌, ◌≤◌, ◌^◌, [], ◌∷◌, All, IfOk, IsPermutation, OnOk, drop, length, map, replicate, ℕ};
+ghost use Rattle.std.specs.Prelude.{◌≡◌, ◌+◌, ◌<◌, ◌≤◌, ◌^◌, [], ◌∷◌, All, IfOk, IsPermutation, OnOk, drop, length, map, replicate, Some, true, ℕ};
 ghost use Rattle.std.specs.List.Sorted.{IsNonDecreasing};
+ghost use Rattle.lk_link.specs.FileKinds.{is_script};
 ghost use Rattle.lk_link.specs.Files.{file_in};
+ghost use Rattle.lk_link.specs.Walks.{file_of};
 ghost use Rattle.lk_link.specs.WellFormed.{IsWellFormed};
 ghost use Rattle.lk_reach.specs.Marks.{IsInside, asking, unit_number};
-ghost use Rattle.lk_reach.specs.Units.{asked_references, follows, roots};
+ghost use Rattle.lk_reach.specs.Units.{asked_references, file_roots, follows, location_asks, roots};
 ghost use Rattle.lk_reach.specs.Walking.{IsGroupPlace};
 ghost use Rattle.lk_reach.specs.declared.units.Unit.TheVariants.{Sec, Sym};
 ghost use Rattle.lk_explain.specs.Searching.{IsBelow, IsFresh, IsOver, IsSized, Meets, Takes, asks_of, far, with_asker};
-ghost use Rattle.lk_explain.specs.Sharing.{AreShared, files_of, references_in};
+ghost use Rattle.lk_explain.specs.Sharing.{AreFound, AreShared, files_of, references_in, sets_flags};
 ghost use Rattle.lk_link.specs.declared.relocation.Relocation.{Relocation};
 
 use crate::places::{group_place, unit_at};
 use crate::references::{References, reference, references_of};
 use crate::shared::Shared;
 use lk_link::marks::is_marked;
-use lk_link::{FileId, LinkInput, SymbolId};
-use lk_reach::{Ask, Successors, Unit, roots, section_number, successors};
+use lk_link::{FileId, FileRef, LinkInput, SymbolId};
+use lk_reach::{Ask, Successors, Unit, file_roots, section_number, successors};
 use std::alloc::{AllocError, Global};
 
 /// What is found so far: units by their numbers.
@@ -89,14 +91,65 @@ impl Search {
         sort_behind(self.found.as_mut_slice(), start);
     }
 
-    /// Takes what roots ask for.
+    /// Takes what roots ask for: what each file asks for by itself.
     fn take_roots(&mut self, link: &LinkInput) -> Result<(), AllocError>
         requires well_formed { IsWellFormed link.now }
         requires sized { IsSized (asking link.now) self.old }
         requires below { IsBelow self.old 1 0 }
         ensures { OnOk result (Takes (asking link.now) 1 (with_asker 0 (roots link.now)) self.old self.new) }
     {
-        for ask in roots(link) {
+        let mut located = false;
+        for file in link.groups.files() {
+            self.take_file(link, file, &mut located)?;
+        }
+        Ok(())
+    }
+
+    /// Takes what a file asks for by itself. `located` is whether the location counter's expressions were taken, for which each
+    /// script asks.
+    fn take_file<'a>(
+        &mut self,
+        link: &'a LinkInput,
+        file: FileRef<'a>,
+        located: &mut bool,
+    ) -> Result<(), AllocError>
+        requires well_formed { IsWellFormed link.now }
+        requires there { file_in link.now.groups file.id ≡ Some file.file.now }
+        requires sized { IsSized (asking link.now) self.old }
+        requires below { IsBelow self.old 1 0 }
+        requires located { located.old ≡ true → AreFound link.now self.old (location_asks link.now) }
+        ensures { OnOk result
+            (Takes (asking link.now) 1 (with_asker 0 (file_roots link.now (file_of file.entry))) self.old self.new
+            × (located.new ≡ true → AreFound link.now self.new (location_asks link.now))) }
+    {
+        if !file.file.kind.is_script() {
+            self.take_all(link, 0, file_roots(link, file), 1)?;
+            return Ok(());
+        }
+        if *located {
+            self.take_wanted(link, file)?;
+            return Ok(());
+        }
+        self.take_all(link, 0, file_roots(link, file), 1)?;
+        *located = true;
+        Ok(())
+    }
+
+    /// Takes what a script asks for where the location counter's expressions were taken: its symbols, of which it sets no flags. What
+    /// those expressions refer to comes behind them, and has a flag set.
+    fn take_wanted<'a>(&mut self, link: &'a LinkInput, file: FileRef<'a>) -> Result<(), AllocError>
+        requires well_formed { IsWellFormed link.now }
+        requires there { file_in link.now.groups file.id ≡ Some file.file.now }
+        requires script { is_script file.file.now.kind ≡ true }
+        requires sized { IsSized (asking link.now) self.old }
+        requires below { IsBelow self.old 1 0 }
+        requires located { AreFound link.now self.old (location_asks link.now) }
+        ensures { OnOk result (Takes (asking link.now) 1 (with_asker 0 (file_roots link.now (file_of file.entry))) self.old self.new) }
+    {
+        for ask in file_roots(link, file) {
+            if sets_flags(&ask) {
+                return Ok(());
+            }
             self.take(link, 0, ask, 1)?;
         }
         Ok(())
@@ -363,6 +416,17 @@ impl Search {
             self.found.push(number as u32)?;
         }
         Ok(())
+    }
+}
+
+/// Whether an ask refers to a symbol and sets flags of it.
+fn sets_flags(ask: &Ask) -> bool
+    ensures { result ≡ sets_flags ask.now }
+{
+    match *ask {
+        Ask::Reference(_, flags) => flags.0 != 0,
+        Ask::Section(_, _) => false,
+        Ask::Mark(_, _) => false,
     }
 }
 

@@ -4,9 +4,9 @@ ghost use Rattle.std.specs.Prelude.{◌≡◌, ◌<◌, All, IfOk, MatchOption, 
 ghost use Rattle.lk_link.specs.WellFormed.{IsWellFormed};
 ghost use Rattle.lk_reach.specs.Marks.{all_units, asking, unit_at, unit_number};
 ghost use Rattle.lk_reach.specs.Reach.{IsReached};
-ghost use Rattle.lk_explain.specs.Explaining.{IsRefused, IsShortest, IsTrail};
+ghost use Rattle.lk_explain.specs.Explaining.{IsRefused, IsShortest};
 ghost use Rattle.lk_explain.specs.Faults.{has_unit};
-ghost use Rattle.lk_explain.specs.Searching.{IsOver, far};
+ghost use Rattle.lk_explain.specs.Searching.{IsOver, IsTrail, far};
 ghost use Rattle.lk_explain.specs.Sharing.{files_of};
 
 use crate::check::has_unit;
@@ -50,10 +50,11 @@ impl<T: Drop> From<AllocFailed<T>> for ExplainError {
 /// The path by which a unit is kept: a shortest one, in which each unit is the least, by its number among all, of those that can
 /// stand before the next (libwild has none: it keeps no paths). None where the unit isn't reached. Takes the time of what the units
 /// ask for that are no further than this one, where the members of a section group and the candidates of one output section in a file
-/// count once (what the location counter's expressions refer to counts for each script), and n log n for sorting each level; a unit's
-/// file is found by halving among files.
+/// count once, and so does what the location counter's expressions refer to, and n log n for sorting each level; a unit's file is found
+/// by halving among files.
 /// 16 bytes a symbol and 13 a section: 4 for its distance, 4 for its asker, 4 for its place among those that are found, and what tells
-/// which lists were taken, 4 a symbol and 1 a section. Beside these 8 bytes a file, 4 an output section, and the path.
+/// which lists were taken, 4 a symbol and 1 a section. Beside these 8 bytes a file and 4 an output section. All but the files is let go
+/// before the path is made, from 4 bytes for each of its units.
 pub fn explain(
     alloc: Global,
     link: &LinkInput,
@@ -88,6 +89,7 @@ fn shown_path(
         return Ok(None);
     }
     let numbers = trail(alloc, link, &search, number)?;
+    drop(search);
     let path = units_of(alloc, link, files.as_slice(), numbers.as_slice())?;
     Ok(Some(path))
 }

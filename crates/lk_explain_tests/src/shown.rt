@@ -71,6 +71,15 @@ const SHOWN: &str = r#"
 @ ...: {"plan":{"page":1,"sections":[{"parts":[[1,false]]}],"events":[["sec",0]]},"groups":[[{"kind":"prelude"}],[],[{"kind":"object","sections":[],"symbols":[]},{"kind":"object","sections":[{"slot":"unloaded","size":1}],"symbols":[{"at":["sec",0,0]}]},{"kind":"object","sections":[],"symbols":[]}],[{"kind":"object","sections":[{"slot":"must","size":1,"relocs":[[0,"Absolute",0,0,false]]}],"symbols":[{"at":["undef"],"def":0}]},{"kind":"object","sections":[],"symbols":[]}]]}
 2 1 0 => 3 0 0, 0, 2 1 0
 3 0 0 => 3 0 0
+# Two scripts, and an expression of the location counter: what it refers to is asked for by roots, and so are the symbols of both that aren't only provided.
+@ ...: {"plan":{"page":1,"sections":[{"parts":[[1,false]]}],"events":[["loc",["sym",1]],["sec",0]]},"groups":[[{"kind":"prelude"}],[{"kind":"script","symbols":[{"at":["redirect",["num",1],["none"],false],"name":"a"}]},{"kind":"object","sections":[{"slot":"unloaded","size":1},{"slot":"unloaded","size":1}],"symbols":[{"at":["sec",0,0]},{"at":["sec",1,0]}]},{"kind":"script","symbols":[{"at":["redirect",["sym",2],["none"],false],"name":"b"},{"at":["redirect",["num",1],["none"],true],"name":"c"}]}]]}
+0 => 0
+1 => 1
+1 1 0 => 1, 1 1 0
+3 => 3
+2 => 3, 2
+1 1 1 => 3, 2, 1 1 1
+4 => not reached
 # What asks for itself, and in a ring; without collection each section is its own root.
 @ ...: {"plan":{"page":1,"sections":[{"parts":[[1,false]]}],"events":[["sec",0]]},"groups":[[{"kind":"prelude"}],[{"kind":"object","sections":[{"slot":"must","size":1,"relocs":[[0,"Absolute",0,0,false]]},{"slot":"unloaded","size":1,"relocs":[[0,"Absolute",2,0,false],[0,"Absolute",1,0,false]]}],"symbols":[{"at":["sec",0,0]},{"at":["sec",1,0]},{"at":["sec",0,0]}]}]]}
 1 0 0 => 1 0 0
