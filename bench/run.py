@@ -7,6 +7,7 @@ usage: run.py [--merges|--named|--thunks|--relaxed|--plans] [PROGRAM [MEGABYTES.
        run.py --workers [PROGRAM [MEGABYTES [ROUNDS [SHAPE..]]]]
        run.py --generated [PROGRAM]
        run.py --maps [PROGRAM]
+       run.py --why [PROGRAM]
 
 PROGRAM is crates/lk_program/out/lk_program unless given, the sizes are 1, 10 and 100 MB. Each
 description is given to the program in three forms, several times: with a value of a wrong shape that is
@@ -31,6 +32,9 @@ reading is set against that of 0 workers in the same round. The run fails where 
 With --generated, the words `gen` are set against `layout 0` over the description of the same link.
 
 With --maps, the word `check` is set against `wc -l` over the same map.
+
+With --why, the words `why` ask for one unit of a link, and what comes after reading is set against parsing. The run fails where the unit
+isn't told.
 """
 
 import hashlib
@@ -47,6 +51,7 @@ import generated
 import long_lists
 import maps
 import memory
+import why
 import workers as by_workers
 from merges import MERGES
 from named import NAMED
@@ -119,6 +124,13 @@ MAP_COLUMNS = (("MB", 6), ("seconds", 8), ("ms/MB", 7), ("growth", 7), ("x wc -l
 MAP_LEGEND = """\
 growth: the power of the number of lines by which seconds grow, from a tenth of them; beside: the peak memory that is more than the
 text, in MB; a line: the bytes of it for each line of a section or a segment. Aim: at most 12 times `wc -l`, and 64 bytes a line.
+"""
+
+WHY_COLUMNS = (("MB", 6), ("parse", 7), ("read/parse", 11), ("rest", 7), ("growth", 7), ("rest/parse", 11), ("beside", 7))
+WHY_LEGEND = """\
+parse: ms/MB of making one JSON value of the whole text; rest: ms/MB of all after reading; growth: the power of the number of
+sections by which it grows, from a tenth of them; beside: the peak memory that is more than that of reading, in MB. Aim: rest/parse
+at most 0.15.
 """
 
 BASELINE_COLUMNS = (("ours", 7), ("serde", 7), ("ratio", 6), ("peak MB", 8), ("serde MB", 9), ("ratio", 6))
@@ -482,6 +494,44 @@ def measure_maps(program, folder):
     print(MAP_LEGEND)
 
 
+def why_rests(program, path, output, shape):
+    """For each size of a shape the number of sections, the description's bytes, and what parsing, reading and the whole took."""
+    for count in why.WHY[shape]:
+        words = [program, *why.put(path, shape, count)]
+        size = os.path.getsize(path)
+        whole = best(words, path, output, b"")
+        if whole.status != 0:
+            sys.exit("%s: status %d, %r" % (words, whole.status, whole.start))
+        around = path + ".around"
+        surround(path, PARSED_START, PARSED_ENDING, around)
+        parsed = best([program, "layout", "0"], around, output, PARSED_ANSWER)
+        os.remove(around)
+        set_ending(path, size, READ_ENDING)
+        yield count, size, parsed, best(words, path, output, READ_ANSWER), whole
+
+
+def measure_why(program, folder):
+    path, output = os.path.join(folder, "description"), os.path.join(folder, "output")
+    print_headings(WHY_COLUMNS)
+    for shape in why.WHY:
+        before = None
+        for count, size, parsed, read, whole in why_rests(program, path, output, shape):
+            rest = whole.seconds - read.seconds
+            growth = power((rest, count), before) if before else ""
+            before = rest, count
+            line = (
+                "%.1f" % (size / 1e6),
+                "%.1f" % (parsed.seconds * 1e9 / size),
+                "%.2f" % (read.seconds / parsed.seconds),
+                "%.1f" % (rest * 1e9 / size),
+                growth,
+                "%.2f" % (rest / parsed.seconds),
+                "%.1f" % ((whole.peak - read.peak) / 1e6),
+            )
+            print_line(WHY_COLUMNS, ("%s %d" % (shape, count), *line))
+    print(WHY_LEGEND)
+
+
 SPECIAL_SHAPES = {"--merges": MERGES, "--named": NAMED, "--plans": PLANS, "--thunks": THUNKED, "--relaxed": RELAXED}
 OTHER_MEASURES = {
     "--long": measure_long_lists,
@@ -490,6 +540,7 @@ OTHER_MEASURES = {
     "--workers": measure_workers,
     "--baseline": measure_baseline,
     "--maps": measure_maps,
+    "--why": measure_why,
 }
 
 

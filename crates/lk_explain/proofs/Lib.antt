@@ -2,5 +2,8 @@ pub mod LawLemmas
 pub mod LevelLemmas
 pub mod NumberLemmas
 pub mod PathLemmas
+pub mod PlaceLemmas
+pub mod RootLemmas
+pub mod SharedLemmas
 pub mod ShownLemmas
 pub mod TakeLemmas

@@ -14,9 +14,9 @@ use Rattle.lk_reach.specs.Units.{AsksFor, IsRoot, follows, roots}
 use Rattle.lk_reach.proofs.ReachLemmas.{reached_unit}
 use Rattle.lk_reach.proofs.UnitLemmas.{asks_are_inside, number_of}
 use Rattle.lk_explain.specs.declared.search.Search.{Search}
-use Rattle.lk_explain.specs.Explaining.{IsShortest, IsTrail}
+use Rattle.lk_explain.specs.Explaining.{IsShortest}
 use Rattle.lk_explain.specs.KeepPath.{IsDistance, IsLeastAsker, IsPathTo, IsShown}
-use Rattle.lk_explain.specs.Searching.{IsFor, IsLevel, IsOver, LeadsTo, back, far}
+use Rattle.lk_explain.specs.Searching.{IsFor, IsLevel, IsOver, IsTrail, LeadsTo, back, far}
 use Rattle.lk_explain.proofs.LevelLemmas.{all_found, least_back, no_nearer}
 use Rattle.lk_explain.proofs.NumberLemmas.{asked_unit, asks_number, follower, led_to, path_last, path_leads, path_some, reached_by, same_at}
 use Rattle.lk_explain.proofs.PathLemmas.{accepted_path, path_accepted}

@@ -1,32 +1,73 @@
 -- What asks do to a search: one, several, and one after the other.
-use Rattle.std.proofs.Common.{◌≡◌, ◌⊎◌, ℕ, zero, suc, ◌+◌, ◌<◌, ◌≤◌, Bool, true, false, if◌then◌else◌, ◌&&◌, ◌||◌, ◌==◌, ltb, List, take, [], ◌∷◌, ◌++◌, Contains, length, Some, None, refl, sym, ap, ◌∙◌, subst, inl, inr, arith, get_or, length-set}
-use Rattle.std.specs.List.{All, flat_map, slice_index, slice_set}
+use Rattle.std.proofs.Common.{◌≡◌, ◌⊎◌, ℕ, zero, suc, ◌+◌, ◌<◌, ◌≤◌, Bool, true, false, if◌then◌else◌, ◌==◌, List, take, [], ◌∷◌, ◌++◌, Contains, length, Some, None, refl, sym, ap, ◌∙◌, subst, inl, inr, arith, get_or, length-set}
+use Rattle.std.specs.List.{All, flat_map, slice_get, slice_index, slice_set}
 use Rattle.std.specs.Prelude.{Result, Ok, Err, OnOk}
 use Rattle.std.specs.Option.{ForSome}
-use Rattle.std.proofs.lemmas.Bool.{and_parts, eq-eqb, eqb-false, eqb-true, ltb-false, ltb-true}
-use Rattle.std.proofs.lemmas.List.{flat_map_more, length_push, map_push, take_more}
-use Rattle.std.proofs.lemmas.List.Elements.{All-append, All-nil, All-push, Contains-append_left, Contains-append_right, Contains-push}
+use Rattle.std.proofs.lemmas.Bool.{eqb-false, eqb-true}
+use Rattle.std.proofs.lemmas.List.{append-nil, append_assoc, flat_map_more, length-append, map_push, take_more}
+use Rattle.std.proofs.lemmas.List.Elements.{All-append, All-contains, All-head, All-nil, All-push, All-tail, Contains-append_left, Contains-append_right}
+use Rattle.std.proofs.lemmas.Option.{slice_get-get_or}
+use Rattle.lk_link.proofs.Elements.{at_contained, contains_at, flat_map_at, map_at, map_in}
 use Rattle.lk_reach.specs.declared.units.Ask.{Ask}
 use Rattle.lk_reach.specs.Marks.{Asking}
 use Rattle.lk_explain.specs.declared.search.Search.{Search}
-use Rattle.lk_explain.specs.Searching.{IsAskedBy, IsSized, Meets, Takes, asks_of, back, far, is_lower, is_new, unfound, with_asker}
+use Rattle.lk_explain.specs.Searching.{IsAskedBy, IsBelow, IsFor, IsSized, Meets, Takes, asks_of, back, far, unfound, with_asker}
+
+-- a target is found, and at the distance by no greater asker
+abbrev Settled : Asking → ℕ → Search → ℕ × Ask → Type 0
+Settled g distance s p = ForSome (g.target p.1) (λ u. (0 < far s u) × (far s u ≡ distance → back s u ≤ p.0))
+
+-- ---- asks with their askers
+
+pub asked_at : (g : Asking) (asker : ℕ) (asks : List Ask) (u w k : ℕ) (a : Ask) → g.target a ≡ Some u → slice_get (with_asker asker asks) k ≡ Some (w, a) → (asker ≡ w) × IsFor g asks u
+asked_at g asker asks u w k a target h =
+    let pair : Ask → ℕ × Ask = λ b. (asker, b) in
+    let at = map_at pair asks k (w, a) h in
+    let own : asker ≡ w = ap (λ (p : ℕ × Ask). p.0) at.2 in
+    let same : at.0 ≡ a = ap (λ (p : ℕ × Ask). p.1) at.2 in
+    (own, record { ask = a; among = contains_at asks k a (at.1 ∙ ap Some same); target = target })
+
+pub asked_by_one : (g : Asking) (asker : ℕ) (asks : List Ask) (u w : ℕ) → IsAskedBy g (with_asker asker asks) u w → (asker ≡ w) × IsFor g asks u
+asked_by_one g asker asks u w h =
+    let at = at_contained (with_asker asker asks) (w, h.ask) h.among in
+    asked_at g asker asks u w at.0 h.ask h.target at.1
+
+pub asked_by_level : (g : Asking) (level : List ℕ) (u w : ℕ) → IsAskedBy g (asks_of g level) u w → Contains level w × IsFor g (g.follows w) u
+asked_by_level g level u w h =
+    let each : ℕ → List (ℕ × Ask) = λ v. with_asker v (g.follows v) in
+    let at = at_contained (asks_of g level) (w, h.ask) h.among in
+    let from = flat_map_at each level at.0 (w, h.ask) at.1 in
+    let v : ℕ = from.from in
+    let one = asked_at g v (g.follows v) u w from.inner h.ask h.target from.gives in
+    (contains_at level from.outer w (from.there ∙ ap Some one.0), subst (λ x. IsFor g (g.follows x) u) one.0 one.1)
+
+pub one_among : (asker : ℕ) (asks : List Ask) (a : Ask) → Contains asks a → (k : ℕ) × (slice_get (with_asker asker asks) k ≡ Some (asker, a))
+one_among asker asks a h =
+    let pair : Ask → ℕ × Ask = λ b. (asker, b) in
+    let at = at_contained asks a h in
+    (at.0, map_in pair asks at.0 a at.1)
+
+pub contains_one : (asker : ℕ) (asks : List Ask) (a : Ask) → Contains asks a → Contains (with_asker asker asks) (asker, a)
+contains_one asker asks a h = let at = one_among asker asks a h in contains_at (with_asker asker asks) at.0 (asker, a) at.1
 
 -- ---- none, and more
+
+pub zero_or : (n : ℕ) → (n ≡ 0) ⊎ (0 < n)
+zero_or zero = inl refl
+zero_or (suc n) = inr (omega arith)
 
 pub takes_none : (g : Asking) (distance : ℕ) (s : Search) → 0 < distance → Takes g distance [] s s
 takes_none g distance s some = record {
   distances = refl;
   askers = refl;
-  kept = λ u h. refl;
+  kept = λ u h. (refl, refl);
   fresh = λ u h. inl h;
-  backs = λ u h. inl (h, refl);
-  lower = λ u h. omega arith;
-  same = λ u h ne. refl;
-  settled = All-nil (λ (p : ℕ × Ask). ForSome (g.target p.1) (λ u. (0 < far s u) × (far s u ≡ distance → back s u ≤ p.0)));
-  found = λ u h e. absurd (omega (arith, h, e));
-  waits = λ u h. h;
-  within = λ all. all;
-  measure = refl;
+  settled = All-nil (Settled g distance s);
+  more = [];
+  behind = sym (append-nil s.found.items);
+  found = λ u h e. absurd (omega (arith, h, e, some));
+  within = All-nil (λ u. far s u ≡ distance);
+  measure = omega arith;
 }
 
 asked_left : (g : Asking) (asks more : List (ℕ × Ask)) (u w : ℕ) → IsAskedBy g asks u w → IsAskedBy g (asks ++ more) u w
@@ -36,44 +77,40 @@ asked_right : (g : Asking) (asks more : List (ℕ × Ask)) (u w : ℕ) → IsAsk
 asked_right g asks more u w h = record { ask = h.ask; among = Contains-append_right asks more (w, h.ask) h.among; target = h.target }
 
 pub takes_more : (g : Asking) (distance : ℕ) (asks more : List (ℕ × Ask)) (a b c : Search) → 0 < distance → Takes g distance asks a b → Takes g distance more b c → Takes g distance (asks ++ more) a c
-takes_more g distance asks more a b c some h k =
-    let keep : (u : ℕ) → 0 < far a u → far b u ≡ far a u = h.kept in
-    let here : (u : ℕ) → far a u ≡ distance → far b u ≡ distance = λ u e. h.kept u (omega (arith, e)) ∙ e in
-    record {
-      distances = k.distances ∙ h.distances;
-      askers = k.askers ∙ h.askers;
-      kept = λ u e. k.kept u (omega (arith, keep u e)) ∙ keep u e;
-      fresh = λ u e. elim (h.fresh u e) [ inl none ↦ k.fresh u none | inr is ↦ inr (k.kept u (omega (arith, is)) ∙ is) ];
-      backs = λ u e. elim (k.backs u e) [
-        | inr asked ↦ inr (asked_right g asks more u (back c u) asked)
-        | inl before ↦ elim (h.backs u before.0) [
-          | inl first ↦ inl (first.0, before.1 ∙ first.1)
-          | inr asked ↦ inr (subst (IsAskedBy g (asks ++ more) u) (sym before.1) (asked_left g asks more u (back b u) asked))
-        ]
-      ];
-      lower = λ u e. omega (arith, h.lower u e, k.lower u (here u e));
-      same = λ u e ne.
-          let now : far b u ≡ far a u = keep u e in
-          k.same u (omega (arith, now)) (λ is. ne (sym now ∙ is)) ∙ h.same u e ne;
-      settled =
-          All-append (λ (p : ℕ × Ask). ForSome (g.target p.1) (λ u. (0 < far c u) × (far c u ≡ distance → back c u ≤ p.0))) asks more
-          (λ i d lt u e.
-          let first = h.settled i d lt u e in
-          let now : far c u ≡ far b u = k.kept u first.0 in (
-            omega (arith, now, first.0),
-            λ is.
-                let at_level : far b u ≡ distance = sym now ∙ is in
-                omega (arith, k.lower u at_level, first.1 at_level),
-          ))
-          k.settled;
-      found = λ u e is. elim (h.fresh u e) [
-        | inl none ↦ k.found u none is
-        | inr was ↦ k.waits u (h.found u e was)
-      ];
-      waits = λ u e. k.waits u (h.waits u e);
-      within = λ all. k.within (h.within all);
-      measure = k.measure ∙ h.measure;
-    }
+takes_more g distance asks more a b c some h k = record {
+  distances = k.distances ∙ h.distances;
+  askers = k.askers ∙ h.askers;
+  kept = λ u e.
+      let first = h.kept u e in
+      let last = k.kept u (omega (arith, first.0, e)) in
+      (last.0 ∙ first.0, last.1 ∙ first.1);
+  fresh = λ u e. elim (h.fresh u e) [
+    | inl none ↦ elim (k.fresh u none) [ inl nil ↦ inl nil | inr at ↦ inr (at.0, asked_right g asks more u (back c u) at.1) ]
+    | inr at ↦
+        let last = k.kept u (omega (arith, at.0, some)) in
+        inr (last.0 ∙ at.0, subst (IsAskedBy g (asks ++ more) u) (sym last.1) (asked_left g asks more u (back b u) at.1))
+  ];
+  settled =
+      All-append (Settled g distance c) asks more
+      (λ i d lt u e.
+      let first = h.settled i d lt u e in
+      let now = k.kept u first.0 in (
+        omega (arith, now.0, first.0),
+        λ is. omega (arith, now.1, first.1 (sym now.0 ∙ is)),
+      ))
+      k.settled;
+  more = h.more ++ k.more;
+  behind = k.behind ∙ ap (λ xs. xs ++ k.more) h.behind ∙ append_assoc a.found.items h.more k.more;
+  found = λ u e is. elim (h.fresh u e) [
+    | inl none ↦ Contains-append_right h.more k.more u (k.found u none is)
+    | inr at ↦ Contains-append_left h.more k.more u (h.found u e at.0)
+  ];
+  within =
+      All-append (λ u. far c u ≡ distance) h.more k.more
+      (λ i d lt. let at : far b (get_or h.more i d) ≡ distance = h.within i d lt in (k.kept (get_or h.more i d) (omega (arith, at, some))).0 ∙ at)
+      k.within;
+  measure = omega (arith, k.measure, h.measure, length-append h.more k.more);
+}
 
 -- ---- meeting a unit
 
@@ -97,17 +134,15 @@ read_set (x ∷ xs) (suc i) v (suc j) lt = elim (read_set xs i v j (omega arith)
   | inr isnt ↦ inr (λ e. isnt.0 (omega (arith, e)), isnt.1)
 ]
 
--- a unit stands at the distance with an asker, and all others as before
+-- a new unit stands at the distance with an asker, and all others as before
 record Puts (unit asker distance : ℕ) (old new : Search) : Type 0 where
-  before : (far old unit ≡ 0) ⊎ ((far old unit ≡ distance) × (asker < back old unit))
+  before : far old unit ≡ 0
   there : (far new unit ≡ distance) × (back new unit ≡ asker)
   others : (u : ℕ) → (u ≡ unit) ⊎ ((u ≡ unit → ⊥) × (far new u ≡ far old u) × (back new u ≡ back old u))
   distances : length new.distances.items ≡ length old.distances.items
   askers : length new.askers.items ≡ length old.askers.items
-  found : (u : ℕ) → far old u ≡ 0 → far new u ≡ distance → Contains new.next.items u
-  waits : (u : ℕ) → Contains old.next.items u → Contains new.next.items u
-  within : All (λ u. far old u ≡ distance) old.next.items → All (λ u. far new u ≡ distance) new.next.items
-  measure : unfound new.distances.items + length new.next.items ≡ unfound old.distances.items + length old.next.items
+  behind : new.found.items ≡ old.found.items ++ unit ∷ []
+  measure : suc (unfound new.distances.items) ≡ unfound old.distances.items
 
 one_asks : (g : Asking) (a : Ask) (asker unit : ℕ) → g.target a ≡ Some unit → IsAskedBy g ((asker, a) ∷ []) unit asker
 one_asks g a asker unit target = record { ask = a; among = (0, omega arith, refl); target = target }
@@ -120,80 +155,58 @@ takes_put g distance asker unit a old new some target h =
       distances = h.distances;
       askers = h.askers;
       kept = λ u e. elim (h.others u) [
-        | inr other ↦ other.1
+        | inr other ↦ (other.1, other.2)
         | inl is ↦
             let own : far old u ≡ far old unit = ap (far old) is in
-            let now : far new u ≡ far new unit = ap (far new) is in
-            elim h.before [ inl none ↦ absurd (omega (arith, e, own, none)) | inr was ↦ now ∙ there ∙ sym was.0 ∙ sym own ]
+            absurd (omega (arith, e, own, h.before))
       ];
-      fresh = λ u e. elim (h.others u) [ inr other ↦ inl (other.1 ∙ e) | inl is ↦ inr (ap (far new) is ∙ there) ];
-      backs = λ u e. elim (h.others u) [
-        | inr other ↦ inl (sym other.1 ∙ e, other.2)
+      fresh = λ u e. elim (h.others u) [
+        | inr other ↦ inl (other.1 ∙ e)
         | inl is ↦
             let now : asker ≡ back new u = sym (ap (back new) is ∙ by) in
-            inr (subst (IsAskedBy g ((asker, a) ∷ []) u) now (one_asks g a asker u (target ∙ ap Some (sym is))))
-      ];
-      lower = λ u e. elim (h.others u) [
-        | inr other ↦ omega (arith, other.2)
-        | inl is ↦
-            let own : far old u ≡ far old unit = ap (far old) is in
-            let own_back : back old u ≡ back old unit = ap (back old) is in
-            let now : back new u ≡ asker = ap (back new) is ∙ by in
-            elim h.before [ inl none ↦ absurd (omega (arith, e, own, none, some)) | inr was ↦ omega (arith, now, own_back, was.1) ]
-      ];
-      same = λ u e ne. elim (h.others u) [
-        | inr other ↦ other.2
-        | inl is ↦
-            let own : far old u ≡ far old unit = ap (far old) is in
-            elim h.before [ inl none ↦ absurd (omega (arith, e, own, none)) | inr was ↦ absurd (ne (own ∙ was.0)) ]
+            inr (ap (far new) is ∙ there, subst (IsAskedBy g ((asker, a) ∷ []) u) now (one_asks g a asker u (target ∙ ap Some (sym is))))
       ];
       settled =
-          All-push (λ (p : ℕ × Ask). ForSome (g.target p.1) (λ u. (0 < far new u) × (far new u ≡ distance → back new u ≤ p.0))) [] (asker, a)
-          (All-nil (λ (p : ℕ × Ask). ForSome (g.target p.1) (λ u. (0 < far new u) × (far new u ≡ distance → back new u ≤ p.0))))
+          All-push (Settled g distance new) [] (asker, a) (All-nil (Settled g distance new))
           (λ u e.
           let same : Some unit ≡ Some u = sym target ∙ e in
           let is : u ≡ unit = cc in
           let now : far new u ≡ distance = ap (far new) is ∙ there in
           let now_by : back new u ≡ asker = ap (back new) is ∙ by in
           (omega (arith, now, some), λ at. omega (arith, now_by)));
-      found = h.found;
-      waits = h.waits;
-      within = h.within;
-      measure = h.measure;
+      more = unit ∷ [];
+      behind = h.behind;
+      found = λ u e at. elim (h.others u) [
+        | inr other ↦ absurd (omega (arith, e, at, other.1, some))
+        | inl is ↦ subst (Contains (unit ∷ [])) (sym is) (0, omega arith, refl)
+      ];
+      within = All-push (λ u. far new u ≡ distance) [] unit (All-nil (λ u. far new u ≡ distance)) there;
+      measure = omega (arith, h.measure);
     }
 
 -- nothing changes, where the unit is found and has no greater asker
-takes_kept : (g : Asking) (distance asker unit : ℕ) (a : Ask) (old new : Search) → 0 < distance → g.target a ≡ Some unit → 0 < far old unit → (far old unit ≡ distance → back old unit ≤ asker)
-    → new.distances.items ≡ old.distances.items → new.askers.items ≡ old.askers.items → new.next.items ≡ old.next.items → Takes g distance ((asker, a) ∷ []) old new
-takes_kept g distance asker unit a old new some target is_found is_least ds bs ns =
+takes_kept : (g : Asking) (distance asker unit : ℕ) (a : Ask) (old new : Search) → 0 < distance → g.target a ≡ Some unit → 0 < far old unit → IsBelow old distance asker
+    → new.distances.items ≡ old.distances.items → new.askers.items ≡ old.askers.items → new.found.items ≡ old.found.items → Takes g distance ((asker, a) ∷ []) old new
+takes_kept g distance asker unit a old new some target is_found below ds bs ns =
     let fars : (u : ℕ) → far new u ≡ far old u = λ u. ap (λ xs. slice_index xs u) ds in
     let backs : (u : ℕ) → back new u ≡ back old u = λ u. ap (λ xs. slice_index xs u) bs in
     record {
       distances = ap length ds;
       askers = ap length bs;
-      kept = λ u e. fars u;
+      kept = λ u e. (fars u, backs u);
       fresh = λ u e. inl (fars u ∙ e);
-      backs = λ u e. inl (sym (fars u) ∙ e, backs u);
-      lower = λ u e. omega (arith, backs u);
-      same = λ u e ne. backs u;
       settled =
-          All-push (λ (p : ℕ × Ask). ForSome (g.target p.1) (λ u. (0 < far new u) × (far new u ≡ distance → back new u ≤ p.0))) [] (asker, a)
-          (All-nil (λ (p : ℕ × Ask). ForSome (g.target p.1) (λ u. (0 < far new u) × (far new u ≡ distance → back new u ≤ p.0))))
+          All-push (Settled g distance new) [] (asker, a) (All-nil (Settled g distance new))
           (λ u e.
           let same : Some unit ≡ Some u = sym target ∙ e in
           let is : unit ≡ u = cc in
           let found : 0 < far old u = subst (λ v. 0 < far old v) is is_found in
-          let least : far old u ≡ distance → back old u ≤ asker = subst (λ v. far old v ≡ distance → back old v ≤ asker) is is_least in (
-            omega (arith, fars u, found),
-            λ at.
-                let at_level : far old u ≡ distance = sym (fars u) ∙ at in
-                omega (arith, backs u, least at_level),
-          ));
+          (omega (arith, fars u, found), λ at. omega (arith, backs u, below u (sym (fars u) ∙ at))));
+      more = [];
+      behind = ns ∙ sym (append-nil old.found.items);
       found = λ u e at. absurd (omega (arith, e, at, fars u, some));
-      waits = λ u e. subst (λ xs. Contains xs u) (sym ns) e;
-      within = λ all.
-          subst (All (λ u. far new u ≡ distance)) (sym ns) (λ k d lt. fars (get_or old.next.items k d) ∙ all k d lt);
-      measure = ap (λ xs. unfound xs + length new.next.items) ds ∙ ap (λ xs. unfound old.distances.items + length xs) ns;
+      within = All-nil (λ u. far new u ≡ distance);
+      measure = omega (arith, ap unfound ds);
     }
 
 -- what is written, and what others have
@@ -212,112 +225,120 @@ read_own : (xs : List ℕ) (i v : ℕ) → i < length xs → slice_index (slice_
 read_own xs i v lt = elim (read_set xs i v i lt) [ inl is ↦ is.1 | inr isnt ↦ absurd (isnt.0 refl) ]
 
 puts_new : (unit asker distance : ℕ) (old new : Search) → 0 < distance → unit < length old.distances.items → unit < length old.askers.items → far old unit ≡ 0
-    → new.distances.items ≡ slice_set old.distances.items unit distance → new.askers.items ≡ slice_set old.askers.items unit asker → new.next.items ≡ old.next.items ++ unit ∷ []
+    → new.distances.items ≡ slice_set old.distances.items unit distance → new.askers.items ≡ slice_set old.askers.items unit asker → new.found.items ≡ old.found.items ++ unit ∷ []
     → Puts unit asker distance old new
-puts_new unit asker distance old new some lt_d lt_b none ds bs ns =
-    let others : (u : ℕ) → (u ≡ unit) ⊎ ((u ≡ unit → ⊥) × (far new u ≡ far old u) × (back new u ≡ back old u)) = others_by unit asker distance old new lt_d lt_b ds bs in
-    let there : far new unit ≡ distance = ap (λ xs. slice_index xs unit) ds ∙ read_own old.distances.items unit distance lt_d in
-    let back_there : back new unit ≡ asker = ap (λ xs. slice_index xs unit) bs ∙ read_own old.askers.items unit asker lt_b in
-    record {
-      before = inl none;
-      there = (there, back_there);
-      others = others;
-      distances = ap length ds ∙ length-set old.distances.items unit distance;
-      askers = ap length bs ∙ length-set old.askers.items unit asker;
-      found = λ u e at. elim (others u) [
-        | inr other ↦ absurd (omega (arith, e, at, other.1, some))
-        | inl is ↦ subst (λ xs. Contains xs u) (sym ns) (subst (Contains (old.next.items ++ unit ∷ [])) (sym is) (Contains-push old.next.items unit))
-      ];
-      waits = λ u e. subst (λ xs. Contains xs u) (sym ns) (Contains-append_left old.next.items (unit ∷ []) u e);
-      within = λ all.
-          let before : All (λ u. far new u ≡ distance) old.next.items = λ k d lt. elim (others (get_or old.next.items k d)) [
-            | inl is ↦ ap (far new) is ∙ there
-            | inr other ↦ other.1 ∙ all k d lt
-          ] in
-          subst (All (λ u. far new u ≡ distance)) (sym ns) (All-push (λ u. far new u ≡ distance) old.next.items unit before there);
-      measure = omega (arith, ap unfound ds, ap length ns, unfound_fewer old.distances.items unit distance lt_d some none, length_push old.next.items unit);
-    }
-
-puts_lower : (unit asker distance : ℕ) (old new : Search) → 0 < distance → unit < length old.distances.items → unit < length old.askers.items → far old unit ≡ distance → asker < back old unit
-    → new.distances.items ≡ old.distances.items → new.askers.items ≡ slice_set old.askers.items unit asker → new.next.items ≡ old.next.items
-    → Puts unit asker distance old new
-puts_lower unit asker distance old new some lt_d lt_b at less ds bs ns =
-    let fars : (u : ℕ) → far new u ≡ far old u = λ u. ap (λ xs. slice_index xs u) ds in
-    let back_there : back new unit ≡ asker = ap (λ xs. slice_index xs unit) bs ∙ read_own old.askers.items unit asker lt_b in
-    record {
-      before = inr (at, less);
-      there = (fars unit ∙ at, back_there);
-      others = λ u. elim (read_set old.askers.items unit asker u lt_b) [
-        | inl is ↦ inl is.0
-        | inr isnt ↦ inr (isnt.0, fars u, ap (λ xs. slice_index xs u) bs ∙ isnt.1)
-      ];
-      distances = ap length ds;
-      askers = ap length bs ∙ length-set old.askers.items unit asker;
-      found = λ u e is. absurd (omega (arith, e, is, fars u, some));
-      waits = λ u e. subst (λ xs. Contains xs u) (sym ns) e;
-      within = λ all. subst (All (λ u. far new u ≡ distance)) (sym ns) (λ k d lt. fars (get_or old.next.items k d) ∙ all k d lt);
-      measure = ap (λ xs. unfound xs + length new.next.items) ds ∙ ap (λ xs. unfound old.distances.items + length xs) ns;
-    }
+puts_new unit asker distance old new some lt_d lt_b none ds bs ns = record {
+  before = none;
+  there = (
+    ap (λ xs. slice_index xs unit) ds ∙ read_own old.distances.items unit distance lt_d,
+    ap (λ xs. slice_index xs unit) bs ∙ read_own old.askers.items unit asker lt_b,
+  );
+  others = others_by unit asker distance old new lt_d lt_b ds bs;
+  distances = ap length ds ∙ length-set old.distances.items unit distance;
+  askers = ap length bs ∙ length-set old.askers.items unit asker;
+  behind = ns;
+  measure = omega (arith, ap unfound ds, unfound_fewer old.distances.items unit distance lt_d some none);
+}
 
 found_by : (n : ℕ) → (n == 0) ≡ false → 0 < n
 found_by n h = omega (arith, eqb-false n 0 h)
 
-not_less : (x y : Bool) → x ≡ true → (x && y) ≡ false → y ≡ false
-not_less true y is h = h
-not_less false y is h = absurd (cc)
-
-least_by : (n distance asker b : ℕ) → n ≡ distance → (n == distance && ltb asker b) ≡ false → b ≤ asker
-least_by n distance asker b at h =
-    let is : (n == distance) ≡ true = eq-eqb n distance at in
-    ltb-false asker b (not_less (n == distance) (ltb asker b) is h)
-
-meets_by : (g : Asking) (distance asker unit : ℕ) (a : Ask) (old new : Search) (b c : Bool) → 0 < distance → g.target a ≡ Some unit → unit < length old.distances.items → unit < length old.askers.items
-    → is_new old unit ≡ b → is_lower old unit asker distance ≡ c
+meets_by : (g : Asking) (distance asker unit : ℕ) (a : Ask) (old new : Search) (b : Bool) → 0 < distance → g.target a ≡ Some unit → unit < length old.distances.items → unit < length old.askers.items
+    → IsBelow old distance asker → (far old unit == 0) ≡ b
     → new.distances.items ≡ (if b then slice_set old.distances.items unit distance else old.distances.items)
-    → new.askers.items ≡ (if b || c then slice_set old.askers.items unit asker else old.askers.items)
-    → new.next.items ≡ (if b then old.next.items ++ unit ∷ [] else old.next.items)
+    → new.askers.items ≡ (if b then slice_set old.askers.items unit asker else old.askers.items)
+    → new.found.items ≡ (if b then old.found.items ++ unit ∷ [] else old.found.items)
     → Takes g distance ((asker, a) ∷ []) old new
-meets_by g distance asker unit a old new true c some target lt_d lt_b is lower ds bs ns =
+meets_by g distance asker unit a old new true some target lt_d lt_b below is ds bs ns =
     takes_put g distance asker unit a old new some target (puts_new unit asker distance old new some lt_d lt_b (eqb-true (far old unit) 0 is) ds bs ns)
-meets_by g distance asker unit a old new false true some target lt_d lt_b is lower ds bs ns =
-    let parts = and_parts (far old unit == distance) (ltb asker (back old unit)) lower in
-    takes_put g distance asker unit a old new some target
-    (puts_lower unit asker distance old new some lt_d lt_b (eqb-true (far old unit) distance parts.0) (ltb-true asker (back old unit) parts.1) ds bs ns)
-meets_by g distance asker unit a old new false false some target lt_d lt_b is lower ds bs ns =
-    takes_kept g distance asker unit a old new some target (found_by (far old unit) is) (λ at. least_by (far old unit) distance asker (back old unit) at lower) ds bs ns
+meets_by g distance asker unit a old new false some target lt_d lt_b below is ds bs ns =
+    takes_kept g distance asker unit a old new some target (found_by (far old unit) is) below ds bs ns
 
 -- meeting the target of an ask is taking it
-pub takes_met : (g : Asking) (distance asker unit : ℕ) (a : Ask) (old new : Search) → 0 < distance → g.target a ≡ Some unit → IsSized g old → unit < g.count → Meets unit asker distance old new
+pub takes_met : (g : Asking) (distance asker unit : ℕ) (a : Ask) (old new : Search) → 0 < distance → g.target a ≡ Some unit → IsSized g old → unit < g.count → IsBelow old distance asker → Meets unit asker distance old new
     → Takes g distance ((asker, a) ∷ []) old new
-takes_met g distance asker unit a old new some target size lt h =
-    meets_by g distance asker unit a old new (is_new old unit) (is_lower old unit asker distance) some target (omega (arith, size.distances)) (omega (arith, size.askers)) refl refl h.distances h.askers h.next
+takes_met g distance asker unit a old new some target size lt below h =
+    meets_by g distance asker unit a old new (far old unit == 0) some target (omega (arith, size.distances)) (omega (arith, size.askers)) below refl h.distances h.askers h.found
 
--- an ask that reaches nothing changes nothing
-pub takes_past : (g : Asking) (distance asker : ℕ) (a : Ask) (s : Search) → 0 < distance → g.target a ≡ None → Takes g distance ((asker, a) ∷ []) s s
-takes_past g distance asker a s some target =
-    let none = takes_none g distance s some in
-    record {
-      distances = refl;
-      askers = refl;
-      kept = none.kept;
-      fresh = none.fresh;
-      backs = λ u h. inl (h, refl);
-      lower = none.lower;
-      same = none.same;
-      settled =
-          All-push (λ (p : ℕ × Ask). ForSome (g.target p.1) (λ u. (0 < far s u) × (far s u ≡ distance → back s u ≤ p.0))) [] (asker, a)
-          (All-nil (λ (p : ℕ × Ask). ForSome (g.target p.1) (λ u. (0 < far s u) × (far s u ≡ distance → back s u ≤ p.0))))
-          (λ u e. let both : None ≡ Some u = sym target ∙ e in absurd (cc));
-      found = none.found;
-      waits = none.waits;
-      within = none.within;
-      measure = refl;
-    }
+-- ---- what is settled already
 
--- ---- sizes
+-- an ask that reaches nothing, or what is found, changes nothing
+takes_still : (g : Asking) (distance asker : ℕ) (a : Ask) (s : Search) → 0 < distance → IsBelow s distance asker → ForSome (g.target a) (λ u. 0 < far s u) → Takes g distance ((asker, a) ∷ []) s s
+takes_still g distance asker a s some below found = record {
+  distances = refl;
+  askers = refl;
+  kept = λ u h. (refl, refl);
+  fresh = λ u h. inl h;
+  settled = All-push (Settled g distance s) [] (asker, a) (All-nil (Settled g distance s)) (λ u e. (found u e, λ at. below u at));
+  more = [];
+  behind = sym (append-nil s.found.items);
+  found = λ u h e. absurd (omega (arith, h, e, some));
+  within = All-nil (λ u. far s u ≡ distance);
+  measure = omega arith;
+}
+
+pub takes_past : (g : Asking) (distance asker : ℕ) (a : Ask) (s : Search) → 0 < distance → IsBelow s distance asker → g.target a ≡ None → Takes g distance ((asker, a) ∷ []) s s
+takes_past g distance asker a s some below target =
+    takes_still g distance asker a s some below (λ u e. let both : None ≡ Some u = sym target ∙ e in absurd (cc))
+
+-- asks whose targets are found may be skipped, where no asker so far is greater
+pub takes_settled : (g : Asking) (distance asker : ℕ) (asks : List Ask) (s : Search) → 0 < distance → IsBelow s distance asker → All (λ a. ForSome (g.target a) (λ u. 0 < far s u)) asks
+    → Takes g distance (with_asker asker asks) s s
+takes_settled g distance asker [] s some below h = takes_none g distance s some
+takes_settled g distance asker (a ∷ asks) s some below h =
+    let P : Ask → Type 0 = λ b. ForSome (g.target b) (λ u. 0 < far s u) in
+    takes_more g distance ((asker, a) ∷ []) (with_asker asker asks) s s s some (takes_still g distance asker a s some below (All-head P a asks h))
+    (takes_settled g distance asker asks s some below (All-tail P a asks h))
+
+-- what was taken is found
+pub takes_found : (g : Asking) (distance asker : ℕ) (asks : List Ask) (old new : Search) → Takes g distance (with_asker asker asks) old new → (a : Ask) → Contains asks a → ForSome (g.target a) (λ u. 0 < far new u)
+takes_found g distance asker asks old new h a among u e =
+    (All-contains (Settled g distance new) (with_asker asker asks) (asker, a) h.settled (contains_one asker asks a among) u e).0
+
+-- more asks of the same unit that reach nothing
+pub takes_like : (g : Asking) (distance asker : ℕ) (asks more : List Ask) (old new : Search) → ((a : Ask) → Contains asks a → Contains more a) → ((a : Ask) → Contains more a → Contains asks a ⊎ (g.target a ≡ None))
+    → Takes g distance (with_asker asker asks) old new → Takes g distance (with_asker asker more) old new
+takes_like g distance asker asks more old new within only h = record {
+  distances = h.distances;
+  askers = h.askers;
+  kept = h.kept;
+  fresh = λ u e. elim (h.fresh u e) [
+    | inl none ↦ inl none
+    | inr at ↦
+        let one = asked_by_one g asker asks u (back new u) at.1 in
+        let by : IsAskedBy g (with_asker asker more) u asker = record { ask = one.1.ask; among = contains_one asker more one.1.ask (within one.1.ask one.1.among); target = one.1.target } in
+        inr (at.0, subst (IsAskedBy g (with_asker asker more) u) one.0 by)
+  ];
+  settled = λ i d lt.
+      let x : ℕ × Ask = get_or (with_asker asker more) i d in
+      let pair : Ask → ℕ × Ask = λ b. (asker, b) in
+      let at = map_at pair more i x (slice_get-get_or (with_asker asker more) i d lt) in
+      subst (Settled g distance new) at.2 (elim (only at.0 (contains_at more i at.0 at.1)) [
+        | inl is ↦ All-contains (Settled g distance new) (with_asker asker asks) (asker, at.0) h.settled (contains_one asker asks at.0 is)
+        | inr none ↦ λ u e. let both : None ≡ Some u = sym none ∙ e in absurd (cc)
+      ]);
+  more = h.more;
+  behind = h.behind;
+  found = h.found;
+  within = h.within;
+  measure = h.measure;
+}
+
+-- ---- sizes, and askers
 
 pub sized_after : (g : Asking) (distance : ℕ) (asks : List (ℕ × Ask)) (old new : Search) → IsSized g old → Takes g distance asks old new → IsSized g new
 sized_after g distance asks old new size h = record { distances = h.distances ∙ size.distances; askers = h.askers ∙ size.askers }
+
+pub below_after : (g : Asking) (distance asker : ℕ) (asks : List Ask) (old new : Search) → 0 < distance → IsBelow old distance asker → Takes g distance (with_asker asker asks) old new → IsBelow new distance asker
+below_after g distance asker asks old new some below h u e = elim (zero_or (far old u)) [
+  | inr pos ↦
+      let kept = h.kept u pos in
+      omega (arith, kept.1, below u (sym kept.0 ∙ e))
+  | inl none ↦ elim (h.fresh u none) [
+    | inl nil ↦ absurd (omega (arith, nil, e, some))
+    | inr at ↦ omega (arith, (asked_by_one g asker asks u (back new u) at.1).0)
+  ]
+]
 
 -- ---- one more of a list
 

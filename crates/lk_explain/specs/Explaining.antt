@@ -1,13 +1,11 @@
 -- What is answered of a unit: the path that is shown, and that none is shorter.
-use Rattle.std.specs.Prelude.{◌≡◌, ℕ, suc, ◌<◌, ◌≤◌, true, false, List, None, Some, length, slice_get, slice_index}
+use Rattle.std.specs.Prelude.{◌≡◌, ℕ, suc, ◌≤◌, true, false, List, None, Some, length, slice_get}
 use Rattle.lk_link.specs.declared.link.LinkInput.{LinkInput}
 use Rattle.lk_reach.specs.declared.units.Unit.{Unit as LinkUnit}
 use Rattle.lk_explain.specs.declared.shown.ExplainError.{ExplainError}
 use Rattle.lk_explain.specs.declared.shown.ExplainError.TheVariants.{NoSuchUnit, NoMemory}
-use Rattle.lk_explain.specs.declared.search.Search.{Search}
 use Rattle.lk_explain.specs.Faults.{has_unit, path_fault}
 use Rattle.lk_explain.specs.KeepPath.{IsShown}
-use Rattle.lk_explain.specs.Searching.{back, far}
 
 -- the shown path to a unit: a check accepts it, and no path that a check accepts and that ends there is shorter
 pub record IsShortest (link : LinkInput) (path : List LinkUnit) (unit : LinkUnit) : Type 0 where
@@ -19,11 +17,3 @@ pub record IsShortest (link : LinkInput) (path : List LinkUnit) (unit : LinkUnit
 abbrev pub IsRefused : LinkInput → LinkUnit → ExplainError → Type 0
 IsRefused link unit NoSuchUnit = has_unit link unit ≡ false
 IsRefused link unit NoMemory = has_unit link unit ≡ true
-
--- from a place on, numbers are the units of a path by their distances, each found by the one before it, and the last is the unit
-pub record IsTrail (s : Search) (unit : ℕ) (numbers : List ℕ) (place : ℕ) : Type 0 where
-  pub long : length numbers ≡ far s unit
-  pub within : place < length numbers
-  pub last : (k : ℕ) → suc k ≡ length numbers → slice_index numbers k ≡ unit
-  pub far_off : (k : ℕ) → place ≤ k → k < length numbers → far s (slice_index numbers k) ≡ suc k
-  pub steps : (k : ℕ) → place ≤ k → suc k < length numbers → slice_index numbers k ≡ back s (slice_index numbers (suc k))

@@ -3,3 +3,4 @@ pub mod Faults
 pub mod KeepPath
 pub mod Laws
 pub mod Searching
+pub mod Sharing

@@ -1,5 +1,5 @@
 -- Words of private contracts: a search by levels over units by their numbers, with the distance and the least asker of each.
-use Rattle.std.specs.Prelude.{◌≡◌, ◌⊎◌, ℕ, zero, suc, ◌+◌, ◌<◌, ◌≤◌, ◌==◌, ◌&&◌, ◌||◌, Bool, if◌then◌else◌, List, [], ◌∷◌, ◌++◌, Some, All, Contains, length, map, nat_lt, replicate, slice_index, slice_set}
+use Rattle.std.specs.Prelude.{◌≡◌, ◌⊎◌, ℕ, zero, suc, ◌+◌, ◌<◌, ◌≤◌, ◌==◌, if◌then◌else◌, List, [], ◌∷◌, ◌++◌, Some, All, Contains, length, map, replicate, slice_index, slice_set}
 use Rattle.std.specs.List.{flat_map}
 use Rattle.std.specs.Option.{ForSome}
 use Rattle.lk_reach.specs.declared.units.Ask.{Ask}
@@ -55,38 +55,32 @@ pub record IsSized (g : Asking) (s : Search) : Type 0 where
 pub record IsFresh (g : Asking) (s : Search) : Type 0 where
   pub distances : s.distances.items ≡ replicate g.count 0
   pub askers : s.askers.items ≡ replicate g.count 0
-  pub next : s.next.items ≡ []
+  pub found : s.found.items ≡ []
+
+-- no unit at this distance has a greater asker
+abbrev pub IsBelow : Search → ℕ → ℕ → Type 0
+IsBelow s distance asker = (u : ℕ) → far s u ≡ distance → back s u ≤ asker
 
 -- ---- steps
 
--- a unit that wasn't found
-abbrev pub is_new : Search → ℕ → Bool
-is_new s unit = far s unit == 0
-
--- one at this distance, with a greater asker
-abbrev pub is_lower : Search → ℕ → ℕ → ℕ → Bool
-is_lower s unit asker distance = far s unit == distance && nat_lt asker (back s unit)
-
--- what meeting a unit does
+-- what meeting a unit does: one that wasn't found is found
 pub record Meets (unit asker distance : ℕ) (old new : Search) : Type 0 where
-  pub distances : new.distances.items ≡ (if is_new old unit then slice_set old.distances.items unit distance else old.distances.items)
-  pub askers : new.askers.items ≡ (if is_new old unit || is_lower old unit asker distance then slice_set old.askers.items unit asker else old.askers.items)
-  pub next : new.next.items ≡ (if is_new old unit then old.next.items ++ unit ∷ [] else old.next.items)
+  pub distances : new.distances.items ≡ (if far old unit == 0 then slice_set old.distances.items unit distance else old.distances.items)
+  pub askers : new.askers.items ≡ (if far old unit == 0 then slice_set old.askers.items unit asker else old.askers.items)
+  pub found : new.found.items ≡ (if far old unit == 0 then old.found.items ++ unit ∷ [] else old.found.items)
 
 -- what asks do at a distance: their targets are found, those that weren't found at this distance, with the least of their askers
 pub record Takes (g : Asking) (distance : ℕ) (asks : List (ℕ × Ask)) (old new : Search) : Type 0 where
   pub distances : length new.distances.items ≡ length old.distances.items
   pub askers : length new.askers.items ≡ length old.askers.items
-  pub kept : (u : ℕ) → 0 < far old u → far new u ≡ far old u
-  pub fresh : (u : ℕ) → far old u ≡ 0 → (far new u ≡ 0) ⊎ (far new u ≡ distance)
-  pub backs : (u : ℕ) → far new u ≡ distance → ((far old u ≡ distance) × (back new u ≡ back old u)) ⊎ IsAskedBy g asks u (back new u)
-  pub lower : (u : ℕ) → far old u ≡ distance → back new u ≤ back old u
-  pub same : (u : ℕ) → 0 < far old u → (far old u ≡ distance → ⊥) → back new u ≡ back old u
+  pub kept : (u : ℕ) → 0 < far old u → (far new u ≡ far old u) × (back new u ≡ back old u)
+  pub fresh : (u : ℕ) → far old u ≡ 0 → (far new u ≡ 0) ⊎ ((far new u ≡ distance) × IsAskedBy g asks u (back new u))
   pub settled : All (λ p. ForSome (g.target p.1) (λ u. (0 < far new u) × (far new u ≡ distance → back new u ≤ p.0))) asks
-  pub found : (u : ℕ) → far old u ≡ 0 → far new u ≡ distance → Contains new.next.items u
-  pub waits : (u : ℕ) → Contains old.next.items u → Contains new.next.items u
-  pub within : All (λ u. far old u ≡ distance) old.next.items → All (λ u. far new u ≡ distance) new.next.items
-  pub measure : unfound new.distances.items + length new.next.items ≡ unfound old.distances.items + length old.next.items
+  pub more : List ℕ
+  pub behind : new.found.items ≡ old.found.items ++ more
+  pub found : (u : ℕ) → far old u ≡ 0 → far new u ≡ distance → Contains more u
+  pub within : All (λ u. far new u ≡ distance) more
+  pub measure : unfound new.distances.items + length more ≡ unfound old.distances.items
 
 -- ---- levels
 
@@ -115,3 +109,13 @@ pub record IsOver (g : Asking) (unit : ℕ) (s : Search) : Type 0 where
   pub some : 0 < distance
   pub is : IsLevel g level distance s.distances.items s.askers.items
   pub ends : (level ≡ []) ⊎ (0 < far s unit)
+
+-- ---- the way back
+
+-- from a place on, numbers are the units of a path by their distances, each found by the one before it, and the last is the unit
+pub record IsTrail (s : Search) (unit : ℕ) (numbers : List ℕ) (place : ℕ) : Type 0 where
+  pub long : length numbers ≡ far s unit
+  pub within : place < length numbers
+  pub last : (k : ℕ) → suc k ≡ length numbers → slice_index numbers k ≡ unit
+  pub far_off : (k : ℕ) → place ≤ k → k < length numbers → far s (slice_index numbers k) ≡ suc k
+  pub steps : (k : ℕ) → place ≤ k → suc k < length numbers → slice_index numbers k ≡ back s (slice_index numbers (suc k))

@@ -4,7 +4,10 @@
 
 pub mod check;
 pub mod laws;
+mod places;
+mod references;
 mod search;
+mod shared;
 pub mod shown;
 
 pub use check::{PathFault, check_path, has_unit};

@@ -1,21 +1,31 @@
 //! The search for the units that are reached, by levels: first those that roots ask for, then those that these ask for, and so on,
 //! until the level of the unit that is looked for is done.
 //!
-//! Each ask of a unit that is found is looked at once. A unit that wasn't found gets the next distance and the unit that asks for
-//! it. One that is at the next distance keeps the lesser of its asker and this one: all that count are in the level that is being
-//! taken, so the least of them is there once it is done.
+//! A level is taken by rising numbers, so the first unit of it that asks for one that wasn't found is the least that does: that one
+//! gets the next distance, and this asker. So what many units ask for whole is looked at for the first of them alone: all of it is
+//! found then, none of it further and none by a greater asker.
 
-ghost use Rattle.std.specs.Prelude.{◌≡◌, ◌+◌, ◌<◌, ◌≤◌, ◌^◌, [], ◌∷◌, All, IfOk, OnOk, length, map, replicate};
+ghost use Rattle.std.specs.Prelude.{◌≡◌, ◌+◌, ◌<◌, ◌≤◌, ◌^◌, [], ◌∷◌, All, IfOk, IsPermutation, OnOk, drop, length, map, replicate, Some, true, ℕ};
+ghost use Rattle.std.specs.List.Sorted.{IsNonDecreasing};
+ghost use Rattle.lk_link.specs.FileKinds.{is_script};
+ghost use Rattle.lk_link.specs.Files.{file_in};
+ghost use Rattle.lk_link.specs.Walks.{file_of};
 ghost use Rattle.lk_link.specs.WellFormed.{IsWellFormed};
 ghost use Rattle.lk_reach.specs.Marks.{IsInside, asking, unit_number};
-ghost use Rattle.lk_reach.specs.Units.{roots};
-ghost use Rattle.lk_reach.specs.Walking.{files_of_inputs};
-ghost use Rattle.lk_explain.specs.Searching.{IsFresh, IsOver, IsSized, Meets, Takes, asks_of, with_asker};
+ghost use Rattle.lk_reach.specs.Units.{asked_references, file_roots, follows, location_asks, roots};
+ghost use Rattle.lk_reach.specs.Walking.{IsGroupPlace};
+ghost use Rattle.lk_reach.specs.declared.units.Unit.TheVariants.{Sec, Sym};
+ghost use Rattle.lk_explain.specs.Searching.{IsBelow, IsFresh, IsOver, IsSized, Meets, Takes, asks_of, far, with_asker};
+ghost use Rattle.lk_explain.specs.Sharing.{AreFound, AreShared, files_of, references_in, sets_flags};
+ghost use Rattle.lk_link.specs.declared.relocation.Relocation.{Relocation};
 
-use lk_link::{FileId, LinkInput};
-use lk_reach::{Ask, Roots, Successors, Unit, roots, section_number, successors, unit_at};
+use crate::places::{group_place, unit_at};
+use crate::references::{References, reference, references_of};
+use crate::shared::Shared;
+use lk_link::marks::is_marked;
+use lk_link::{FileId, FileRef, LinkInput, SymbolId};
+use lk_reach::{Ask, Successors, Unit, file_roots, section_number, successors};
 use std::alloc::{AllocError, Global};
-use std::mem;
 
 /// What is found so far: units by their numbers.
 #[derive(Drop)]
@@ -24,8 +34,8 @@ pub(crate) struct Search {
     pub(crate) distances: Vec<u32>,
     /// For each unit that was found, and that no root asks for, the least unit that asks for it of those of one less distance.
     pub(crate) askers: Vec<u32>,
-    /// The units that were found last, whose own asks are still to come.
-    next: Vec<u32>,
+    /// The units that are found, level by level.
+    found: Vec<u32>,
 }
 
 impl Search {
@@ -37,18 +47,21 @@ impl Search {
         number: usize,
     ) -> Result<Search, AllocError>
         requires well_formed { IsWellFormed link.now }
-        requires files { files.now ≡ files_of_inputs link.now }
+        requires files { files.now ≡ files_of link.now }
         requires there { number < (asking link.now).count }
         ensures { IfOk result (IsOver (asking link.now) number) }
     {
         let mut search = Search::new(alloc, link)?;
+        let mut shared = Shared::new(alloc, link)?;
         search.take_roots(link)?;
-        let mut level = search.take_next(alloc);
+        let mut start = 0;
         let mut distance = 1;
-        while !level.is_empty() && search.distances[number] == 0 {
+        while start < search.found.len() && search.distances[number] == 0 {
+            let end = search.found.len();
             distance += 1;
-            search.take_level(link, files, level.as_slice(), distance)?;
-            level = search.take_next(alloc);
+            search.sort_from(start);
+            search.take_level(link, files, &mut shared, start, distance)?;
+            start = end;
         }
         Ok(search)
     }
@@ -62,50 +75,283 @@ impl Search {
         Ok(Search {
             distances: zeros(alloc, count)?,
             askers: zeros(alloc, count)?,
-            next: Vec::new(alloc),
+            found: Vec::with_capacity(alloc, count)?,
         })
     }
 
-    /// The units that were found last; those that are found from now on are the next ones.
-    fn take_next(&mut self, alloc: Global) -> Vec<u32>
-        ensures level { result.items ≡ self.old.next.items }
-        ensures none { self.new.next.items ≡ [] }
+    /// Puts the units that were found from a place on into rising order.
+    fn sort_from(&mut self, start: usize)
+        requires { start ≤ length self.old.found.items }
+        ensures same { IsPermutation (drop start self.old.found.items) (drop start self.new.found.items) }
+        ensures rises { IsNonDecreasing (drop start self.new.found.items) }
+        ensures length { length self.new.found.items ≡ length self.old.found.items }
         ensures distances { self.new.distances.items ≡ self.old.distances.items }
         ensures askers { self.new.askers.items ≡ self.old.askers.items }
     {
-        mem::replace(&mut self.next, Vec::new(alloc))
+        sort_behind(self.found.as_mut_slice(), start);
     }
 
-    /// Takes what roots ask for.
+    /// Takes what roots ask for: what each file asks for by itself.
     fn take_roots(&mut self, link: &LinkInput) -> Result<(), AllocError>
         requires well_formed { IsWellFormed link.now }
         requires sized { IsSized (asking link.now) self.old }
+        requires below { IsBelow self.old 1 0 }
         ensures { OnOk result (Takes (asking link.now) 1 (with_asker 0 (roots link.now)) self.old self.new) }
     {
-        for ask in roots(link) {
+        let mut located = false;
+        for file in link.groups.files() {
+            self.take_file(link, file, &mut located)?;
+        }
+        Ok(())
+    }
+
+    /// Takes what a file asks for by itself. `located` is whether the location counter's expressions were taken, for which each
+    /// script asks.
+    fn take_file<'a>(
+        &mut self,
+        link: &'a LinkInput,
+        file: FileRef<'a>,
+        located: &mut bool,
+    ) -> Result<(), AllocError>
+        requires well_formed { IsWellFormed link.now }
+        requires there { file_in link.now.groups file.id ≡ Some file.file.now }
+        requires sized { IsSized (asking link.now) self.old }
+        requires below { IsBelow self.old 1 0 }
+        requires located { located.old ≡ true → AreFound link.now self.old (location_asks link.now) }
+        ensures { OnOk result
+            (Takes (asking link.now) 1 (with_asker 0 (file_roots link.now (file_of file.entry))) self.old self.new
+            × (located.new ≡ true → AreFound link.now self.new (location_asks link.now))) }
+    {
+        if !file.file.kind.is_script() {
+            self.take_all(link, 0, file_roots(link, file), 1)?;
+            return Ok(());
+        }
+        if *located {
+            self.take_wanted(link, file)?;
+            return Ok(());
+        }
+        self.take_all(link, 0, file_roots(link, file), 1)?;
+        *located = true;
+        Ok(())
+    }
+
+    /// Takes what a script asks for where the location counter's expressions were taken: its symbols, of which it sets no flags. What
+    /// those expressions refer to comes behind them, and has a flag set.
+    fn take_wanted<'a>(&mut self, link: &'a LinkInput, file: FileRef<'a>) -> Result<(), AllocError>
+        requires well_formed { IsWellFormed link.now }
+        requires there { file_in link.now.groups file.id ≡ Some file.file.now }
+        requires script { is_script file.file.now.kind ≡ true }
+        requires sized { IsSized (asking link.now) self.old }
+        requires below { IsBelow self.old 1 0 }
+        requires located { AreFound link.now self.old (location_asks link.now) }
+        ensures { OnOk result (Takes (asking link.now) 1 (with_asker 0 (file_roots link.now (file_of file.entry))) self.old self.new) }
+    {
+        for ask in file_roots(link, file) {
+            if sets_flags(&ask) {
+                return Ok(());
+            }
             self.take(link, 0, ask, 1)?;
         }
         Ok(())
     }
 
-    /// Takes what the units of a level ask for.
+    /// Takes what the units of a level ask for: those that were found from a place on, which stand in rising order.
     fn take_level(
         &mut self,
         link: &LinkInput,
         files: &[FileId],
-        level: &[u32],
+        shared: &mut Shared,
+        start: usize,
         distance: u32,
     ) -> Result<(), AllocError>
         requires well_formed { IsWellFormed link.now }
-        requires files { files.now ≡ files_of_inputs link.now }
+        requires files { files.now ≡ files_of link.now }
         requires sized { IsSized (asking link.now) self.old }
         requires distance { 0 < distance }
-        ensures { OnOk result (Takes (asking link.now) distance (asks_of (asking link.now) level.now) self.old self.new) }
+        requires start { start ≤ length self.old.found.items }
+        requires found { All (λ u. 0 < far self.old u) (drop start self.old.found.items) }
+        requires rises { IsNonDecreasing (drop start self.old.found.items) }
+        requires fresh { (u : ℕ) → far self.old u ≡ distance → ⊥ }
+        requires shared { AreShared link.now shared.old self.old }
+        ensures { OnOk result
+            (Takes (asking link.now) distance (asks_of (asking link.now) (drop start self.old.found.items)) self.old self.new × AreShared link.now shared.new self.new) }
     {
-        for number in level {
-            let number = *number;
+        let end = self.found.len();
+        for place in start..end {
+            let number = self.found[place];
             if let Some(unit) = unit_at(link, files, number as usize) {
-                self.take_all(link, number, successors(link, unit), distance)?;
+                self.take_unit(link, number, unit, shared, distance)?;
+            }
+        }
+        Ok(())
+    }
+
+    /// Takes what a unit asks for that is found itself. `shared` has what was taken of that for which others ask as well.
+    fn take_unit(
+        &mut self,
+        link: &LinkInput,
+        number: u32,
+        unit: Unit,
+        shared: &mut Shared,
+        distance: u32,
+    ) -> Result<(), AllocError>
+        requires well_formed { IsWellFormed link.now }
+        requires sized { IsSized (asking link.now) self.old }
+        requires distance { 0 < distance }
+        requires number { number ≡ unit_number link.now.groups unit }
+        requires found { 0 < far self.old number }
+        requires below { IsBelow self.old distance number }
+        requires shared { AreShared link.now shared.old self.old }
+        ensures { OnOk result
+            (Takes (asking link.now) distance (with_asker number (follows link.now unit)) self.old self.new × AreShared link.now shared.new self.new) }
+    {
+        match unit {
+            Unit::Sym(symbol) => {
+                self.take_symbol(link, number, symbol, shared, distance)?;
+                Ok(())
+            }
+            Unit::Sec(file, index) => {
+                self.take_section(link, number, file, index, shared, distance)?;
+                Ok(())
+            }
+        }
+    }
+
+    /// Takes what a symbol asks for, unless that was taken.
+    fn take_symbol(
+        &mut self,
+        link: &LinkInput,
+        number: u32,
+        symbol: SymbolId,
+        shared: &mut Shared,
+        distance: u32,
+    ) -> Result<(), AllocError>
+        requires well_formed { IsWellFormed link.now }
+        requires sized { IsSized (asking link.now) self.old }
+        requires distance { 0 < distance }
+        requires below { IsBelow self.old distance number }
+        requires shared { AreShared link.now shared.old self.old }
+        ensures { OnOk result
+            (Takes (asking link.now) distance (with_asker number (follows link.now (Sym symbol))) self.old self.new × AreShared link.now shared.new self.new) }
+    {
+        if shared.is_taken(link, symbol) {
+            return Ok(());
+        }
+        self.take_all(link, number, successors(link, Unit::Sym(symbol)), distance)?;
+        shared.take(link, symbol);
+        Ok(())
+    }
+
+    /// Takes what a section asks for that is found itself.
+    fn take_section(
+        &mut self,
+        link: &LinkInput,
+        number: u32,
+        file: FileId,
+        index: u32,
+        shared: &mut Shared,
+        distance: u32,
+    ) -> Result<(), AllocError>
+        requires well_formed { IsWellFormed link.now }
+        requires sized { IsSized (asking link.now) self.old }
+        requires distance { 0 < distance }
+        requires number { number ≡ unit_number link.now.groups (Sec file index) }
+        requires found { 0 < far self.old number }
+        requires below { IsBelow self.old distance number }
+        requires shared { AreShared link.now shared.old self.old }
+        ensures { OnOk result
+            (Takes (asking link.now) distance (with_asker number (follows link.now (Sec file index))) self.old self.new × AreShared link.now shared.new self.new) }
+    {
+        match group_place(link, file, index) {
+            Some(place) => self.take_member(link, number, file, index, place, shared, distance),
+            None => {
+                self.take_all(
+                    link,
+                    number,
+                    successors(link, Unit::Sec(file, index)),
+                    distance,
+                )?;
+                Ok(())
+            }
+        }
+    }
+
+    /// Takes what a section of a group asks for, of the group nothing if its members were taken. `place` is where the mark of the
+    /// group stands.
+    fn take_member(
+        &mut self,
+        link: &LinkInput,
+        number: u32,
+        file: FileId,
+        index: u32,
+        place: usize,
+        shared: &mut Shared,
+        distance: u32,
+    ) -> Result<(), AllocError>
+        requires well_formed { IsWellFormed link.now }
+        requires sized { IsSized (asking link.now) self.old }
+        requires distance { 0 < distance }
+        requires number { number ≡ unit_number link.now.groups (Sec file index) }
+        requires found { 0 < far self.old number }
+        requires below { IsBelow self.old distance number }
+        requires shared { AreShared link.now shared.old self.old }
+        requires place { IsGroupPlace link.now file index place }
+        ensures { OnOk result
+            (Takes (asking link.now) distance (with_asker number (follows link.now (Sec file index))) self.old self.new × AreShared link.now shared.new self.new) }
+    {
+        if is_marked(shared.groups.as_slice(), place) {
+            return self.take_references(link, number, file, index, distance);
+        }
+        self.take_all(
+            link,
+            number,
+            successors(link, Unit::Sec(file, index)),
+            distance,
+        )?;
+        shared.groups[place] = true;
+        Ok(())
+    }
+
+    /// Takes what a section asks for by its relocations.
+    fn take_references(
+        &mut self,
+        link: &LinkInput,
+        number: u32,
+        id: FileId,
+        index: u32,
+        distance: u32,
+    ) -> Result<(), AllocError>
+        requires well_formed { IsWellFormed link.now }
+        requires sized { IsSized (asking link.now) self.old }
+        requires distance { 0 < distance }
+        requires below { IsBelow self.old distance number }
+        ensures { OnOk result (Takes (asking link.now) distance (with_asker number (asked_references link.now id index)) self.old self.new) }
+    {
+        match references_of(link, id, index) {
+            Some(references) => { self.take_relocations(link, number, references, distance) }
+            None => Ok(()),
+        }
+    }
+
+    /// Takes what relocations refer to.
+    fn take_relocations(
+        &mut self,
+        link: &LinkInput,
+        asker: u32,
+        references: References<'_>,
+        distance: u32,
+    ) -> Result<(), AllocError>
+        requires well_formed { IsWellFormed link.now }
+        requires numbers { All (λ (r : Relocation). references.first + r.symbol < 2 ^ 32) references.relocations.now }
+        requires inside { All (IsInside link.now.groups) (references_in references) }
+        requires sized { IsSized (asking link.now) self.old }
+        requires distance { 0 < distance }
+        requires below { IsBelow self.old distance asker }
+        ensures { OnOk result (Takes (asking link.now) distance (with_asker asker (references_in references.entry)) self.old self.new) }
+    {
+        for relocation in references.relocations {
+            if let Some(ask) = reference(references.first, references.symbols, *relocation) {
+                self.take(link, asker, ask, distance)?;
             }
         }
         Ok(())
@@ -123,6 +369,7 @@ impl Search {
         requires inside { All (IsInside link.now.groups) asks }
         requires sized { IsSized (asking link.now) self.old }
         requires distance { 0 < distance }
+        requires below { IsBelow self.old distance asker }
         ensures { OnOk result (Takes (asking link.now) distance (with_asker asker asks.entry) self.old self.new) }
     {
         for ask in asks {
@@ -131,7 +378,7 @@ impl Search {
         Ok(())
     }
 
-    /// Takes an ask of a unit.
+    /// Takes an ask of a unit; no asker so far is greater.
     fn take(
         &mut self,
         link: &LinkInput,
@@ -143,6 +390,7 @@ impl Search {
         requires inside { IsInside link.now.groups ask }
         requires sized { IsSized (asking link.now) self.old }
         requires distance { 0 < distance }
+        requires below { IsBelow self.old distance asker }
         ensures { OnOk result (Takes (asking link.now) distance (with_asker asker (ask ∷ [])) self.old self.new) }
     {
         match ask {
@@ -155,8 +403,7 @@ impl Search {
         }
     }
 
-    /// Meets a unit that is asked for by another, or by a root: it is new, at the next distance with a greater asker, or else it
-    /// stays as it is.
+    /// Meets a unit that is asked for by another, or by a root: it is new, or stays as it is.
     fn meet(&mut self, number: usize, asker: u32, distance: u32) -> Result<(), AllocError>
         requires there { number < length self.old.distances.items }
         requires asked { number < length self.old.askers.items }
@@ -166,12 +413,31 @@ impl Search {
         if self.distances[number] == 0 {
             self.distances[number] = distance;
             self.askers[number] = asker;
-            self.next.push(number as u32)?;
-        } else if self.distances[number] == distance && asker < self.askers[number] {
-            self.askers[number] = asker;
+            self.found.push(number as u32)?;
         }
         Ok(())
     }
+}
+
+/// Whether an ask refers to a symbol and sets flags of it.
+fn sets_flags(ask: &Ask) -> bool
+    ensures { result ≡ sets_flags ask.now }
+{
+    match *ask {
+        Ask::Reference(_, flags) => flags.0 != 0,
+        Ask::Section(_, _) => false,
+        Ask::Mark(_, _) => false,
+    }
+}
+
+/// Puts numbers from a place on into rising order.
+fn sort_behind(numbers: &mut [u32], start: usize)
+    requires { start ≤ length numbers.old }
+    ensures same { IsPermutation (drop start numbers.old) (drop start numbers.new) }
+    ensures rises { IsNonDecreasing (drop start numbers.new) }
+    ensures length { length numbers.new ≡ length numbers.old }
+{
+    numbers[start..].sort_unstable();
 }
 
 /// So many zeros.

@@ -4,15 +4,16 @@ ghost use Rattle.std.specs.Prelude.{◌≡◌, ◌<◌, All, IfOk, MatchOption, 
 ghost use Rattle.lk_link.specs.WellFormed.{IsWellFormed};
 ghost use Rattle.lk_reach.specs.Marks.{all_units, asking, unit_at, unit_number};
 ghost use Rattle.lk_reach.specs.Reach.{IsReached};
-ghost use Rattle.lk_reach.specs.Walking.{files_of_inputs};
-ghost use Rattle.lk_explain.specs.Explaining.{IsRefused, IsShortest, IsTrail};
+ghost use Rattle.lk_explain.specs.Explaining.{IsRefused, IsShortest};
 ghost use Rattle.lk_explain.specs.Faults.{has_unit};
-ghost use Rattle.lk_explain.specs.Searching.{IsOver, far};
+ghost use Rattle.lk_explain.specs.Searching.{IsOver, IsTrail, far};
+ghost use Rattle.lk_explain.specs.Sharing.{files_of};
 
 use crate::check::has_unit;
+use crate::places::{files_of, unit_at};
 use crate::search::{Search, zeros};
 use lk_link::{FileId, LinkInput};
-use lk_reach::{Unit, files_of_inputs, section_number, unit_at};
+use lk_reach::{Unit, section_number};
 use std::alloc::{AllocError, AllocFailed, Global};
 
 /// Why it isn't told by which path a unit is kept.
@@ -48,8 +49,12 @@ impl<T: Drop> From<AllocFailed<T>> for ExplainError {
 
 /// The path by which a unit is kept: a shortest one, in which each unit is the least, by its number among all, of those that can
 /// stand before the next (libwild has none: it keeps no paths). None where the unit isn't reached. Takes the time of what the units
-/// ask for that are no further than this one; 8 bytes a symbol, 16 a section, and 4 for each unit of two levels one behind the
-/// other, in vectors that grow by doubling.
+/// ask for that are no further than this one, where the members of a section group and the candidates of one output section in a file
+/// count once, and so does what the location counter's expressions refer to, and n log n for sorting each level; a unit's file is found
+/// by halving among files.
+/// 16 bytes a symbol and 13 a section: 4 for its distance, 4 for its asker, 4 for its place among those that are found, and what tells
+/// which lists were taken, 4 a symbol and 1 a section. Beside these 8 bytes a file and 4 an output section. All but the files is let go
+/// before the path is made, from 4 bytes for each of its units.
 pub fn explain(
     alloc: Global,
     link: &LinkInput,
@@ -78,12 +83,13 @@ fn shown_path(
         return Err(ExplainError::NoSuchUnit);
     }
     let number = number_of(link, *unit);
-    let files = files_of_inputs(alloc, link)?;
+    let files = files_of(alloc, link)?;
     let search = Search::over(alloc, link, files.as_slice(), number)?;
     if search.distances[number] == 0 {
         return Ok(None);
     }
     let numbers = trail(alloc, link, &search, number)?;
+    drop(search);
     let path = units_of(alloc, link, files.as_slice(), numbers.as_slice())?;
     Ok(Some(path))
 }
@@ -132,7 +138,7 @@ fn units_of(
     numbers: &[u32],
 ) -> Result<Vec<Unit>, AllocError>
     requires well_formed { IsWellFormed link.now }
-    requires files { files.now ≡ files_of_inputs link.now }
+    requires files { files.now ≡ files_of link.now }
     requires there { All (λ n. n < length (all_units link.now.groups)) numbers.now }
     ensures { IfOk result (λ units. map Some units.items ≡ map (unit_at link.now.groups) numbers.now) }
 {

@@ -46,6 +46,40 @@ const SHOWN: &str = r#"
 @ ...: {"options":{"entry":0},"plan":{"page":1,"sections":[{"parts":[[1,false]]}],"events":[["sec",0]]},"groups":[[{"kind":"prelude"}],[{"kind":"synthetic","symbols":[{"at":["start",0]},{"at":["end",0]}],"candidates":[[0,1,1,0],[0,1,1,1]]},{"kind":"object","sections":[{"slot":"unloaded","size":1},{"slot":"unloaded","size":1}],"symbols":[]}]]}
 1 1 1 => 0, 1 1 1
 1 => not reached
+# Two members of a section group that are found with the greater one first: the lesser one counts for a third. What each of them refers to itself is reached as well.
+@ ...: {"plan":{"page":1,"sections":[{"parts":[[1,false]]}],"events":[["sec",0]]},"groups":[[{"kind":"prelude"}],[{"kind":"object","sections":[{"slot":"must","size":1,"relocs":[[0,"Absolute",0,0,false],[0,"Absolute",1,0,false]]},{"slot":"unloaded","size":1},{"slot":"unloaded","size":1,"group":0},{"slot":"unloaded","size":1,"relocs":[[0,"Absolute",2,0,false]],"group":0},{"slot":"unloaded","size":1,"relocs":[[0,"Absolute",3,0,false]],"group":0},{"slot":"unloaded","size":1}],"symbols":[{"at":["sec",3,0]},{"at":["sec",2,0]},{"at":["sec",1,0]},{"at":["sec",5,0]}]}]]}
+1 0 2 => 1 0 0, 1, 1 0 2
+1 0 3 => 1 0 0, 0, 1 0 3
+1 0 4 => 1 0 0, 1, 1 0 2, 1 0 4
+1 0 1 => 1 0 0, 0, 1 0 3, 2, 1 0 1
+1 0 5 => 1 0 0, 1, 1 0 2, 1 0 4, 3, 1 0 5
+# The same, where the first one that is met is in the last file: groups of two files have one number, and are two.
+@ ...: {"plan":{"page":1,"sections":[{"parts":[[1,false]]}],"events":[["sec",0]]},"groups":[[{"kind":"prelude"}],[{"kind":"object","sections":[{"slot":"unloaded","size":1,"group":0},{"slot":"unloaded","size":1,"group":0}],"symbols":[{"at":["sec",0,0]}]},{"kind":"object","sections":[{"slot":"unloaded","size":1,"group":0},{"slot":"unloaded","size":1,"group":0}],"symbols":[{"at":["sec",1,0]}]},{"kind":"object","sections":[{"slot":"must","size":1,"relocs":[[0,"Absolute",1,0,false],[0,"Absolute",0,0,false]]}],"symbols":[{"at":["undef"],"def":0},{"at":["undef"],"def":1}]}]]}
+1 0 1 => 1 2 0, 0, 1 0 0, 1 0 1
+1 1 0 => 1 2 0, 1, 1 1 1, 1 1 0
+# Two symbols at one output section that are found with the greater one first, and one that is found by a candidate.
+@ ...: {"plan":{"page":1,"sections":[{"parts":[[1,false]]}],"events":[["sec",0]]},"groups":[[{"kind":"prelude"}],[{"kind":"synthetic","symbols":[{"at":["start",0]},{"at":["end",0]},{"at":["start",0]}],"candidates":[[0,1,1,1],[0,1,1,2]]},{"kind":"object","sections":[{"slot":"must","size":1,"relocs":[[0,"Absolute",0,0,false],[0,"Absolute",1,0,false]]},{"slot":"unloaded","size":1,"relocs":[[0,"Absolute",2,0,false]]},{"slot":"unloaded","size":1}],"symbols":[{"at":["undef"],"def":1},{"at":["undef"],"def":0},{"at":["undef"],"def":2}]}]]}
+1 1 1 => 1 1 0, 0, 1 1 1
+1 1 2 => 1 1 0, 0, 1 1 2
+1 => 1 1 0, 1
+2 => 1 1 0, 0, 1 1 1, 2
+# Symbols of two files at one output section ask for the candidates of their own files.
+@ ...: {"plan":{"page":1,"sections":[{"parts":[[1,false]]}],"events":[["sec",0]]},"groups":[[{"kind":"prelude"}],[{"kind":"synthetic","symbols":[{"at":["start",0]}],"candidates":[[0,1,2,1]]},{"kind":"synthetic","symbols":[{"at":["start",0]}],"candidates":[[0,1,2,2]]},{"kind":"object","sections":[{"slot":"must","size":1,"relocs":[[0,"Absolute",0,0,false],[0,"Absolute",1,0,false]]},{"slot":"unloaded","size":1},{"slot":"unloaded","size":1}],"symbols":[{"at":["undef"],"def":0},{"at":["undef"],"def":1}]}]]}
+1 2 1 => 1 2 0, 0, 1 2 1
+1 2 2 => 1 2 0, 1, 1 2 2
+# Sections of files behind ones that have none.
+@ ...: {"plan":{"page":1,"sections":[{"parts":[[1,false]]}],"events":[["sec",0]]},"groups":[[{"kind":"prelude"}],[],[{"kind":"object","sections":[],"symbols":[]},{"kind":"object","sections":[{"slot":"unloaded","size":1}],"symbols":[{"at":["sec",0,0]}]},{"kind":"object","sections":[],"symbols":[]}],[{"kind":"object","sections":[{"slot":"must","size":1,"relocs":[[0,"Absolute",0,0,false]]}],"symbols":[{"at":["undef"],"def":0}]},{"kind":"object","sections":[],"symbols":[]}]]}
+2 1 0 => 3 0 0, 0, 2 1 0
+3 0 0 => 3 0 0
+# Two scripts, and an expression of the location counter: what it refers to is asked for by roots, and so are the symbols of both that aren't only provided.
+@ ...: {"plan":{"page":1,"sections":[{"parts":[[1,false]]}],"events":[["loc",["sym",1]],["sec",0]]},"groups":[[{"kind":"prelude"}],[{"kind":"script","symbols":[{"at":["redirect",["num",1],["none"],false],"name":"a"}]},{"kind":"object","sections":[{"slot":"unloaded","size":1},{"slot":"unloaded","size":1}],"symbols":[{"at":["sec",0,0]},{"at":["sec",1,0]}]},{"kind":"script","symbols":[{"at":["redirect",["sym",2],["none"],false],"name":"b"},{"at":["redirect",["num",1],["none"],true],"name":"c"}]}]]}
+0 => 0
+1 => 1
+1 1 0 => 1, 1 1 0
+3 => 3
+2 => 3, 2
+1 1 1 => 3, 2, 1 1 1
+4 => not reached
 # What asks for itself, and in a ring; without collection each section is its own root.
 @ ...: {"plan":{"page":1,"sections":[{"parts":[[1,false]]}],"events":[["sec",0]]},"groups":[[{"kind":"prelude"}],[{"kind":"object","sections":[{"slot":"must","size":1,"relocs":[[0,"Absolute",0,0,false]]},{"slot":"unloaded","size":1,"relocs":[[0,"Absolute",2,0,false],[0,"Absolute",1,0,false]]}],"symbols":[{"at":["sec",0,0]},{"at":["sec",1,0]},{"at":["sec",0,0]}]}]]}
 1 0 0 => 1 0 0

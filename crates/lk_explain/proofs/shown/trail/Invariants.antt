@@ -1,4 +1,4 @@
-use Rattle.lk_explain.specs.Explaining.{IsTrail}
+use Rattle.lk_explain.specs.Searching.{IsTrail}
 use Rattle.lk_explain.proofs.shown.trail.Given as goal
 
 -- from the place on the numbers are right

@@ -18,5 +18,5 @@ returns c =
     record {
       distances = c.in_ok-zeros.ensures ∙ ap (λ n. replicate n 0) count;
       askers = c.in_ok-zeros-2.ensures ∙ ap (λ n. replicate n 0) count;
-      next = c.new.ensures.items;
+      found = c.in_ok-with_capacity.ensures.items;
     }

@@ -44,7 +44,7 @@ returns-in-Reference c =
     let target : (asking link).target c.args.ask ≡ Some c.as_usize.result = ap (asking link).target c.in-Reference.is ∙ ap Some (sym c.as_usize.ensures) in
     let within : c.as_usize.result < (asking link).count = omega (arith, unit_within link.groups (Sym c.in-Reference.symbol) unit) in
     on_ok c.meet.result (Meets c.as_usize.result c.args.asker c.args.distance old new) (Takes (asking link) c.args.distance (with_asker c.args.asker (c.args.ask ∷ [])) old new) c.meet.ensures
-    (takes_met (asking link) c.args.distance c.args.asker c.as_usize.result c.args.ask old new c.requires.distance target c.requires.sized within)
+    (takes_met (asking link) c.args.distance c.args.asker c.as_usize.result c.args.ask old new c.requires.distance target c.requires.sized within c.requires.below)
 
 pub returns-in-Some : goal.returns-in-Some
 returns-in-Some c =
@@ -56,7 +56,7 @@ returns-in-Some c =
     let target : (asking link).target c.args.ask ≡ Some c.in-Some.number = ap (asking link).target c.in-Section.is ∙ ap Some (sym number.1) in
     let within : c.in-Some.number < (asking link).count = omega (arith, number.1, unit_within link.groups (Sec c.in-Section.file c.in-Section.index) unit) in
     on_ok c.meet-in-Some.result (Meets c.in-Some.number c.args.asker c.args.distance old new) (Takes (asking link) c.args.distance (with_asker c.args.asker (c.args.ask ∷ [])) old new) c.meet-in-Some.ensures
-    (takes_met (asking link) c.args.distance c.args.asker c.in-Some.number c.args.ask old new c.requires.distance target c.requires.sized within)
+    (takes_met (asking link) c.args.distance c.args.asker c.in-Some.number c.args.ask old new c.requires.distance target c.requires.sized within c.requires.below)
 
 pub returns-in-None : goal.returns-in-None
 returns-in-None c =
