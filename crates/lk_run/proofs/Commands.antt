@@ -7,7 +7,6 @@ use Rattle.std.proofs.lemmas.Fmt.{decimal_digit, decimal_is_IsNumeral, decimal-d
 use Rattle.std.proofs.lemmas.Bool.{cases_lt, eqb-true, leb-true, le-leb}
 use Rattle.std.proofs.lemmas.Str.Parse.{numerals_by_value, tells_digits}
 use Rattle.std.proofs.lemmas.Slice.Eq.{bytes_eq-Decides}
-use Rattle.lk_link.specs.declared.ids.FileId.{FileId}
 use Rattle.lk_run.specs.RunAlone.{AsksForWorkers}
 use Rattle.lk_run.specs.Steps.{CanBeAsked, IsPadded}
 use Rattle.lk_run.specs.Words.{IsCommand, command_of, number_in, workers_of, seed_of, short_of, size_of, layout_with, gen_with, why_with, workers_for}

@@ -14,7 +14,6 @@ use Rattle.lk_link.specs.declared.fault.LinkFault.{LinkFault}
 use Rattle.lk_link.specs.declared.ids.FileId.{FileId}
 use Rattle.lk_link.specs.declared.link.LinkInput.{LinkInput}
 use Rattle.lk_link.specs.WellFormed.{IsWellFormed}
-use Rattle.lk_map.specs.declared.check.MapFault.{MapFault}
 use Rattle.lk_map.specs.declared.map_text.SectionLine.{SectionLine}
 use Rattle.lk_map.specs.declared.map_text.SegmentLine.{SegmentLine}
 use Rattle.lk_map.specs.MapText.{map_of}

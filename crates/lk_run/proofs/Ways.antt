@@ -1,13 +1,24 @@
 -- The answers to `why`, by what the check of the link answered.
-use Rattle.std.proofs.Common.{◌≡◌, ℕ, Some, None, Result, Ok, Err, sym, subst}
+use Rattle.std.proofs.Common.{◌≡◌, ℕ, Option, Some, None, Result, Ok, Err, refl, sym, ap, subst}
 use Rattle.std.specs.Prelude.{IfOk, MatchOption}
-use Rattle.lk_check.specs.FirstFault.{first_fault}
+use Rattle.lk_check.specs.FirstFault.{check_of, first_fault}
 use Rattle.lk_link.specs.declared.fault.LinkFault.{LinkFault}
 use Rattle.lk_link.specs.declared.ids.FileId.{FileId}
 use Rattle.lk_link.specs.declared.link.LinkInput.{LinkInput}
 use Rattle.lk_run.specs.declared.answer.Answer.{Answer}
 use Rattle.lk_run.specs.Run.{IsSectionAnswer, IsWhyAnswer, refused}
 use Rattle.lk_run.specs.WhyTexts.{link_fault_line}
+
+-- what a check of a link told is its first fault, or that there is none
+pub fault_none : (o : Option LinkFault) → Ok tt ≡ check_of o → o ≡ None
+unfolding check_of
+fault_none None h = refl
+fault_none (Some f) h = absurd (cc)
+
+pub fault_some : (o : Option LinkFault) (f : LinkFault) → Err f ≡ check_of o → o ≡ Some f
+unfolding check_of
+fault_some None f h = absurd (cc)
+fault_some (Some g) f h = let same : g ≡ f = cc in ap (λ (x : LinkFault). Some x) same
 
 -- the answer to a link without a fault
 pub told_unfaulted : {E : Type 0} (made : Result Answer E) (link : LinkInput) (file : FileId) (index : ℕ) → first_fault link ≡ None

@@ -2,7 +2,6 @@
 use Rattle.std.specs.Prelude.{◌≡◌, ℕ, ◌-◌, ◌^◌, ◌<◌, ◌≤◌, List, [], ◌∷◌, ◌&&◌, Bool, true, false, bytes_eq, codes, decimal, nat_le, Option, None, Some, if◌then◌else◌}
 use Rattle.std.specs.Str.Parse.{digits_value}
 use Rattle.lk_run.specs.declared.words.Command.{Command}
-use Rattle.lk_link.specs.declared.ids.FileId.{FileId}
 use Rattle.lk_run.specs.declared.words.Command.TheVariants.{Layout, Gen, Why, Check}
 use Rattle.lk_run.specs.declared.words.TheConstants.{MOST_WORKERS, MOST_OBJECTS}
 

@@ -1,7 +1,6 @@
 use Rattle.std.proofs.Common.{sym, ◌∙◌}
 use Rattle.lk_check.specs.FirstFault.{first_fault}
-use Rattle.lk_layout.proofs.Answering.{fault_none, fault_some}
-use Rattle.lk_run.proofs.Ways.{told_fault, told_unfaulted}
+use Rattle.lk_run.proofs.Ways.{fault_none, fault_some, told_fault, told_unfaulted}
 use Rattle.lk_run.proofs.explained.answer_link.Goals as goal
 
 pub returns-in-Ok : goal.returns-in-Ok
