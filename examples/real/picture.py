@@ -10,37 +10,37 @@ from __future__ import annotations
 
 import json
 import sys
-from dataclasses import dataclass
 from html import escape
-from typing import Any, Dict, List, Optional, Tuple
+from typing import Any, Dict, Iterable, List, NamedTuple, Tuple
 
 from elf import Refusal
-from report import Range, Report, read_report
+from report import ALLOC, CODE, NOBITS, WRITE, Range, Report, read_report
 
-WIDTH, LEFT, BAR, ROW = 1180, 250, 620, 22  # the page; where bars begin, their length, a line's height
-ALLOC, WRITE, CODE, NOBITS = 1, 2, 4, 16
-COLOURS = {"code": "#d95f30", "written": "#3b7dc4", "zeros": "#9fc3e8", "read": "#5a9e58", "none": "#999"}
-TABLES = ("file_header", "program_headers", "section_headers", "got", "plt", "strtab", "shstrtab", "dynsym", "dynstr")
+LEFT, BAR, NOTE, ROW = 200, 290, 170, 22  # where bars begin, their length, the room for a note, a line's height
+WIDTH = LEFT + 2 * (BAR + NOTE)
+COLOURS = {"segment": "#c9b458", "read only": "#5a9e58", "code": "#d95f30", "written": "#3b7dc4", "zeros": "#9fc3e8"}
+COLOURS.update({"not in memory": "#8d7bab", "left out": "#b5b5b5"})
 STYLE = "text{font:12px sans-serif;fill:#222}.t{font-size:17px}.h{font-size:14px}.t,.h{font-weight:bold}.s{fill:#666}"
 
 
-@dataclass(frozen=True)
-class Bar:
+class Row(NamedTuple):
+    """What stands somewhere, in memory and in the file."""
+
     name: str
-    note: str
-    start: int
-    size: int
     colour: str
+    there: Range
+    in_memory: bool
 
 
 def colour_of(attrs: int) -> str:
     if not attrs & ALLOC:
-        return COLOURS["none"]
-    if attrs & CODE:
-        return COLOURS["code"]
-    if attrs & NOBITS:
-        return COLOURS["zeros"]
-    return COLOURS["written" if attrs & WRITE else "read"]
+        return COLOURS["not in memory"]
+    rules = ((CODE, "code"), (NOBITS, "zeros"), (WRITE, "written"), (ALLOC, "read only"))
+    return COLOURS[next(name for bit, name in rules if attrs & bit)]
+
+
+def bytes_text(size: int) -> str:
+    return f"{size:,} byte{'' if size == 1 else 's'}"
 
 
 class Page:
@@ -49,129 +49,121 @@ class Page:
     def __init__(self) -> None:
         self.y, self.lines = 34, []
 
-    def text(self, x: int, text: str, style: str = "", anchor: str = "start") -> None:
-        self.lines.append(f'<text x="{x}" y="{self.y}" class="{style}" text-anchor="{anchor}">{escape(text)}</text>')
+    def text(self, x: float, text: str, style: str = "") -> None:
+        self.lines.append(f'<text x="{x}" y="{self.y}" class="{style}">{escape(text)}</text>')
 
-    def box(self, x: float, width: float, colour: str, title: str) -> None:
-        size = f'x="{x:.2f}" y="{self.y - 13}" width="{max(width, 1):.2f}" height="16" fill="{colour}"'
+    def name(self, name: str, room: int = LEFT) -> None:
+        most = room // 7
+        self.text(20, name if len(name) <= most else name[: most - 2] + "..")
+
+    def box(self, x: float, width: float, colour: str, title: str = "") -> None:
+        size = f'x="{x:.2f}" y="{self.y - 13}" width="{max(width, 2):.2f}" height="16" fill="{colour}"'
         self.lines.append(f"<rect {size}><title>{escape(title)}</title></rect>")
 
-    def heading(self, text: str, explained: str) -> None:
-        self.y += 16
-        self.text(20, text, "h")
-        self.text(LEFT, explained, "s")
+    def heading(self, *texts: Tuple[int, str]) -> None:
+        self.y += ROW
+        for x, text in texts:
+            self.text(x, text, "h" if x == 20 else "s")
         self.y += ROW
 
-    def bars(self, bars: List[Bar], start: int, end: int) -> None:
-        """Each on a line, to one scale from start to end."""
-        scale = BAR / max(end - start, 1)
-        for bar in bars:
-            self.text(20, bar.name if len(bar.name) < 36 else bar.name[:34] + "..")
-            self.box(LEFT, BAR, "#f0f0f0", "")
-            self.box(LEFT + (bar.start - start) * scale, bar.size * scale, bar.colour, f"{bar.name}: {bar.note}")
-            self.text(LEFT + BAR + 12, bar.note)
-            self.y += ROW
+    def bar(self, x: int, ends: Tuple[int, int], start: int, size: int, colour: str, title: str) -> None:
+        """From start on, where the whole line goes from one end to the other; and a note behind it."""
+        scale = BAR / max(ends[1] - ends[0], 1)
+        note = f"{start:#x}, {bytes_text(size)}"
+        self.box(x, BAR, "#f0f0f0")
+        self.box(min(x + (start - ends[0]) * scale, x + BAR - 2), size * scale, colour, f"{title}: {note}")
+        self.text(x + BAR + 8, note)
 
     def svg(self) -> str:
-        height = self.y + 10
-        size = f'width="{WIDTH}" height="{height}" viewBox="0 0 {WIDTH} {height}"'
-        head = f'<svg xmlns="http://www.w3.org/2000/svg" {size}>'
-        back = f'<rect width="{WIDTH}" height="{height}" fill="#fff"/>'
-        return "\n".join([head, f"<style>{STYLE}</style>", back, *self.lines, "</svg>"])
+        size = f'width="{WIDTH}" height="{self.y}" viewBox="0 0 {WIDTH} {self.y}"'
+        back = f'<style>{STYLE}</style><rect width="{WIDTH}" height="{self.y}" fill="#fff"/>'
+        return "\n".join([f'<svg xmlns="http://www.w3.org/2000/svg" {size}>', back, *self.lines, "</svg>"])
 
 
-def bytes_text(size: int) -> str:
-    return f"{size:,} byte" + ("" if size == 1 else "s")
+def names_of(plan: Dict[str, Any], count: int) -> List[str]:
+    sections = plan.get("sections", [{}] * count)
+    return [row.get("name") or f"section {number}" for number, row in enumerate(sections)]
 
 
-def names_of(link: Optional[Dict[str, Any]], count: int) -> List[str]:
-    """Output sections by name; those without one by the table that they hold, or by number."""
-    if link is None:
-        return [f"section {index}" for index in range(count)]
-    plan = link["plan"]
-    owner = [index for index, row in enumerate(plan.get("sections", [])) for _ in row["parts"]]
-    tables = {owner[part]: field.replace("_", " ") for field, part in plan.items() if field in TABLES}
-    return [row.get("name") or tables.get(i, f"section {i}") for i, row in enumerate(plan.get("sections", []))]
+def placed(page: Page, rows: List[Row]) -> None:
+    """Each on a line, with a bar for memory and one for the file."""
+    in_memory = [row.there for row in rows if row.in_memory]
+    mem = min((r.mem for r in in_memory), default=0), max((r.mem + r.mem_size for r in in_memory), default=0)
+    end = max((row.there.file + row.there.file_size for row in rows), default=0)
+    page.heading((20, "Where"), (LEFT, f"memory, from {mem[0]:#x} to {mem[1]:#x}"), (LEFT + BAR + NOTE, "file"))
+    for name, colour, there, is_in_memory in rows:
+        page.name(name)
+        if is_in_memory:
+            page.bar(LEFT, mem, there.mem, there.mem_size, colour, name)
+        if there.file_size:
+            page.bar(LEFT + BAR + NOTE, (0, end), there.file, there.file_size, colour, name)
+        page.y += ROW
 
 
-def places(page: Page, report: Report, names: List[str], kinds: List[str], in_file: bool) -> None:
-    """Segments and sections in memory, or in the file."""
-
-    def ends(there: Range) -> Tuple[int, int]:
-        return (there.file, there.file_size) if in_file else (there.mem, there.mem_size)
-
-    bars = []
-    for index, there in report.segments.items():
-        start, size = ends(there)
-        if size:
-            name = f"segment {index}{kinds[index] if kinds else ''}"
-            bars.append(Bar(name, f"{start:#x}, {bytes_text(size)}", start, size, "#c9b458"))
-    for index, there in report.sections.items():
-        start, size = ends(there)
-        if size and (in_file or there.attrs & ALLOC):
-            bars.append(Bar(names[index], f"{start:#x}, {bytes_text(size)}", start, size, colour_of(there.attrs)))
-    if bars:
-        page.bars(bars, min(b.start for b in bars), max(b.start + b.size for b in bars))
+def rows_of(report: Report, plan: Dict[str, Any], names: List[str]) -> Iterable[Row]:
+    for number, there in report.segment.items():
+        kind = f", {plan['segments'][number]['kind']}" if plan else ""
+        if there.mem_size:
+            yield Row(f"segment {number}{kind}", COLOURS["segment"], there, True)
+    for number, there in report.section.items():
+        if there.mem_size or there.file_size:
+            yield Row(names[number], colour_of(there.attrs), there, bool(there.attrs & ALLOC))
 
 
-def left_out(link: Dict[str, Any], report: Report) -> Tuple[Dict[int, List[int]], List[Bar]]:
-    """Bytes of input sections by output section, that stay and that nothing refers to; and of these the largest."""
-    owner = [i for i, section in enumerate(link["plan"].get("sections", [])) for _ in section["parts"]]
+def left_out(page: Page, report: Report, link: Dict[str, Any], names: List[str]) -> None:
+    """What stays of input sections and what doesn't, by output section; and the largest that don't."""
+    owner = [number for number, row in enumerate(link["plan"].get("sections", [])) for _ in row["parts"]]
     sums: Dict[int, List[int]] = {}
-    gone: List[Bar] = []
-    for g, files in enumerate(link["groups"]):
-        for f, file in enumerate(files):
-            for i, row in enumerate(file.get("sections", [])):
-                if row["slot"] not in ("must", "unloaded", "debug", "mustdebug"):
-                    continue
-                live = report.live.get((g, f, i))
-                counts = sums.setdefault(owner[row.get("part", 0)], [0, 0])
-                counts[0 if live else 1] += live.size if live else row.get("size", 0)
-                if not live:
-                    name = f"{row.get('name', '')} {file.get('name', '').split('/')[-1]}"
-                    gone.append(Bar(name, bytes_text(row.get("size", 0)), 0, row.get("size", 0), "#bbb"))
-    return sums, sorted(gone, key=lambda bar: -bar.size)[:12]
+    gone: List[Tuple[int, str]] = []
+    for place, file, row in inputs_of(link):
+        number, live = owner[row.get("part", 0)], report.live.get(place)
+        sums.setdefault(number, [0, 0])[0 if live else 1] += live.size if live else row.get("size", 0)
+        if not live:
+            gone.append((row.get("size", 0), f"{row.get('name') or names[number]} of {file.get('name', '')}"))
+    page.heading((20, "Kept and left out"), (LEFT, "bytes of input sections that aren't merged"))
+    longest = max((kept + out for kept, out in sums.values()), default=0) or 1
+    for number, (kept, out) in sorted(sums.items()):
+        page.name(names[number])
+        page.box(LEFT, kept / longest * 2 * BAR, colour_of(report.section[number].attrs), "kept")
+        page.box(LEFT + kept / longest * 2 * BAR, out / longest * 2 * BAR, COLOURS["left out"] if out else "none")
+        page.text(LEFT + 2 * BAR + 12, f"{bytes_text(kept)} stay, {out:,} left out")
+        page.y += ROW
+    if gone:
+        page.heading((20, "The largest that are left out"))
+    for size, name in sorted(gone, key=lambda one: -one[0])[:12]:
+        page.name(f"{bytes_text(size)}: {name}", WIDTH)
+        page.y += ROW
 
 
-def picture(report: Report, link: Optional[Dict[str, Any]]) -> str:
-    page = Page()
-    names = names_of(link, len(report.sections))
-    kinds = [f", {segment['kind']}" for segment in link["plan"].get("segments", [])] if link else []
-    page.text(20, "Where everything stands", "t")
-    x = LEFT + 30
-    for name, colour in COLOURS.items():
-        page.box(x, 14, colour, "")
-        page.text(x + 20, {"none": "not in memory", "read": "read only"}.get(name, name), "s")
-        x += 110
-    page.y += ROW
-    page.heading("In memory", "from the first address that is taken to the last, to scale")
-    places(page, report, names, kinds, False)
-    page.heading("In the file", "from its first byte to its last, to scale")
-    places(page, report, names, kinds, True)
+def inputs_of(link: Dict[str, Any]) -> Iterable[Tuple[Tuple[int, ...], Dict[str, Any], Dict[str, Any]]]:
+    """Input sections that are live or not, with their places and files."""
+    for group, files in enumerate(link["groups"]):
+        for at, file in enumerate(files):
+            for index, row in enumerate(file.get("sections", [])):
+                if row["slot"] in ("must", "unloaded", "debug", "mustdebug"):
+                    yield (group, at, index), file, row
+
+
+def picture(report: Report, link: Dict[str, Any]) -> str:
+    page, plan = Page(), link.get("plan", {})
+    names = names_of(plan, len(report.section))
+    page.text(20, "A layout", "t")
+    for at, (name, colour) in enumerate(COLOURS.items()):
+        page.box(LEFT + 130 * at, 14, colour)
+        page.text(LEFT + 130 * at + 20, name, "s")
+    placed(page, list(rows_of(report, plan, names)))
     if link:
-        sums, gone = left_out(link, report)
-        page.heading("Kept and left out", "bytes of input sections: coloured what stays, grey what nothing refers to")
-        longest = max((kept + out for kept, out in sums.values()), default=1)
-        for index, (kept, out) in sorted(sums.items()):
-            scale = BAR / max(longest, 1)
-            page.text(20, names[index])
-            page.box(LEFT, kept * scale, colour_of(report.sections[index].attrs), "kept")
-            page.box(LEFT + kept * scale, out * scale, "#bbb" if out else "none", "left out")
-            page.text(LEFT + BAR + 12, f"{bytes_text(kept)} stay, {out:,} left out")
-            page.y += ROW
-        if gone and gone[0].size:
-            page.heading("Largest left out", "input sections, and whose they are")
-            page.bars(gone, 0, gone[0].size)
+        left_out(page, report, link, names)
     return page.svg()
 
 
-def main(report: str, description: Optional[str] = None) -> None:
-    described = None
+def main(report: str, description: str = "") -> None:
+    link = {}
     if description:
         with open(description, encoding="utf-8") as file:
-            described = json.load(file)
+            link = json.load(file)
     with open(report, encoding="utf-8") as file:
-        print(picture(read_report(file), described))
+        print(picture(read_report(file), link))
 
 
 if __name__ == "__main__":
