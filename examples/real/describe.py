@@ -16,14 +16,14 @@ import re
 import struct
 from collections import deque
 from dataclasses import dataclass, field
-from typing import Any, Dict, Iterable, List, NamedTuple, Optional, Set, Tuple
+from typing import Any, Dict, Iterable, Iterator, List, NamedTuple, Optional, Set, Tuple
 
 import elf
 from elf import Object, Section, Symbol, refuse
 from report import ALLOC, CODE, FLAGS, NOBITS, TLS, WRITE
 
 Row = Dict[str, Any]  # an object of the description
-BASE, PAGE = 0x400000, 4096
+BASE, PAGE, DATA = 0x400000, 4096, ALLOC | WRITE
 ARRAYS = (".preinit_array", ".init_array", ".fini_array")
 # Output sections in their order; `*N` is the place of others with the attributes N.
 ORDER = ["", "program headers", ".note", ".rela.iplt", ".rodata", "*1", ".eh_frame_hdr", ".eh_frame"]
@@ -31,21 +31,15 @@ ORDER += [".gcc_except_table", ".init", ".plt", ".text", ".fini", "*5", ".tdata"
 ORDER += [".data.rel.ro", ".got", ".data", "*3", "*19", ".bss"]
 ORDER += [".comment", ".symtab", ".strtab", ".shstrtab", "section headers"]
 # Those that are there anyway: attributes, type, alignments, when they are emitted. The first holds the file header, and
-# is emitted for the section header of no section.
-PLANNED: Dict[str, Tuple[int, int, Set[int], str]] = {
-    "": (ALLOC, 0, {8}, "always"),
-    "program headers": (ALLOC, 0, {8}, "never"),
-    ".rela.iplt": (ALLOC, elf.SHT_PROGBITS, {8}, "auto"),
-    ".plt": (ALLOC | CODE, elf.SHT_PROGBITS, {16}, "auto"),
-    ".text": (ALLOC | CODE, elf.SHT_PROGBITS, {1}, "auto"),
-    **{name: (ALLOC | WRITE, elf.SHT_PROGBITS, {8}, "auto") for name in (*ARRAYS, ".got", ".data")},
-    ".bss": (ALLOC | WRITE | NOBITS, elf.SHT_NOBITS, {1}, "auto"),
-    ".comment": (0, elf.SHT_PROGBITS, {1}, "auto"),
-    ".symtab": (0, elf.SHT_SYMTAB, {8, 4}, "auto"),
-    ".strtab": (0, elf.SHT_STRTAB, {1}, "auto"),
-    ".shstrtab": (0, elf.SHT_STRTAB, {1}, "always"),  # what stands in it has no say in what is emitted
-    "section headers": (0, 0, {8}, "never"),
-}
+# is emitted for the section header of no section. What stands in `.shstrtab` has no say in what is emitted.
+PLANNED: List[Tuple[str, int, int, Set[int], str]] = [
+    ("", ALLOC, 0, {8}, "always"), ("program headers", ALLOC, 0, {8}, "never"), ("section headers", 0, 0, {8}, "never"),
+    (".rela.iplt", ALLOC, elf.SHT_PROGBITS, {8}, "auto"), (".plt", ALLOC | CODE, elf.SHT_PROGBITS, {16}, "auto"),
+    *((name, DATA, elf.SHT_PROGBITS, {8}, "auto") for name in (*ARRAYS, ".got", ".data")),
+    (".text", ALLOC | CODE, elf.SHT_PROGBITS, {1}, "auto"), (".bss", DATA | NOBITS, elf.SHT_NOBITS, {8}, "auto"),
+    (".comment", 0, elf.SHT_PROGBITS, {1}, "auto"), (".symtab", 0, elf.SHT_SYMTAB, {8, 4}, "auto"),
+    (".strtab", 0, elf.SHT_STRTAB, {1}, "auto"), (".shstrtab", 0, elf.SHT_STRTAB, {1}, "always"),
+]  # fmt: skip
 # The table parts: output section and alignment.
 TABLES = {"file_header": ("", 8), "program_headers": ("program headers", 8), "section_headers": ("section headers", 8)}
 TABLES.update(got=(".got", 8), plt=(".plt", 16), symtab_local=(".symtab", 8), symtab_global=(".symtab", 4))
@@ -55,8 +49,9 @@ IN_A_ROW = {".init", ".fini", ".eh_frame", ".eh_frame_hdr"}  # in link order, no
 ROOTS = {".init", ".fini", ".ctors", ".dtors", *ARRAYS}
 # What the linker's own symbols stand at, where no file defines them.
 EDGES = {"__bss_start": ".bss start", "_GLOBAL_OFFSET_TABLE_": ".got start"}
-EDGES.update({"__GNU_EH_FRAME_HDR": ".eh_frame_hdr start", "end": ".bss end", "edata": ".data end", "etext": ".text end"})
-EDGES.update({f"_{name}": EDGES[name] for name in ("end", "edata", "etext")})
+EDGES["__GNU_EH_FRAME_HDR"] = ".eh_frame_hdr start"
+for name in ("", "_"):
+    EDGES.update({f"{name}end": ".bss end", f"{name}edata": ".data end", f"{name}etext": ".text end"})
 for at in ("start", "end"):
     EDGES.update({f"__{name[1:]}_{at}".replace(".", "_"): f"{name} {at}" for name in (*ARRAYS, ".rela.iplt")})
 STRONG, COMMON, WEAK, NONE = 3, 2, 1, 0  # ranks of definitions
@@ -103,19 +98,15 @@ class File:
     marks: List[int] = field(default_factory=list)  # made symbols, each at the start of an input
     first: int = 0  # number of its first symbol
 
-    # What stands for symbols
-
-    def choose_groups(self, seen: Set[str]) -> None:
-        """Of section groups of one signature the first stays."""
+    def resolve(self, seen: Set[str]) -> None:
+        """Of section groups of one signature the first stays. A strong definition stands for a global name, else the
+        largest common, else the first weak one, else none."""
         for index, (signature, comdat, sections) in enumerate(self.object.groups):
             if comdat and signature in seen:
                 self.dropped.update(sections)
             else:
                 self.groups.update((section, index) for section in sections)
             seen.add(signature)
-
-    def define(self) -> None:
-        """A strong definition stands for a global name, else the largest common, else the first weak one, else none."""
         for index, symbol in enumerate(self.object.symbols):
             if symbol.binding == elf.STB_LOCAL:
                 continue
@@ -137,17 +128,17 @@ class File:
         symbol = self.object.symbols[index] if index < len(self.object.symbols) else None
         return self.definitions[symbol.name].symbol if symbol and symbol.binding != elf.STB_LOCAL else symbol
 
-    # Input sections
-
     def add_inputs(self) -> None:
         self.inputs = [self.section_input(index, section) for index, section in enumerate(self.object.sections)]
         for index, section in enumerate(self.object.sections):
             if section.name == ".eh_frame" and index not in self.dropped:
                 self.add_frames(index, section)
         self.add_resolvers()
-        for index in range(len(self.object.sections)):  # last, when it is known what is in a group
-            if self.inputs[index].slot in ("unloaded", "must"):
-                self.add_relocations(index, self.inputs[index])
+        for index, made in enumerate(self.inputs[: len(self.object.sections)]):  # last: groups are known
+            if made.slot in ("unloaded", "must"):
+                made.group = self.groups.get(index)
+                for one in self.object.relocations.get(index, []):
+                    self.relocate(made, *one)
 
     def section_input(self, index: int, section: Section) -> Input:
         """What the description says of a section of an object."""
@@ -191,14 +182,6 @@ class File:
             kind = "PltRelative"
         made.relocs.append([offset, kind, symbol, addend, False])
         made.types.append(number)
-
-    def add_relocations(self, index: int, made: Input) -> None:
-        """Those of a section; a call of `__tls_get_addr`, which is behind the relocation that asks for it, is none."""
-        made.group, asked = self.groups.get(index), False
-        for one in self.object.relocations.get(index, []):
-            if not asked:
-                self.relocate(made, *one)
-            asked = not asked and one.type in (elf.R_TLSGD, elf.R_TLSLD)
 
     def add_frames(self, index: int, section: Section) -> None:
         """Cuts an `.eh_frame` into records, which are input sections of their own."""
@@ -247,8 +230,6 @@ class File:
                 self.relocate(row, 16, elf.RESOLVER, index, 0)
                 self.add(row)
 
-    # The description
-
     def placement(self, symbol: Symbol, plan: Plan) -> List[Any]:
         section, value = symbol.section, symbol.value
         if section == elf.SHN_ABS:
@@ -284,10 +265,8 @@ class File:
         return {"kind": "object", "name": self.object.name, "path": path, "symbols": symbols, "sections": sections}
 
 
-# Which files are linked
 
-
-def read_words(words: Iterable[str]) -> Iterable[str]:
+def read_words(words: Iterable[str]) -> Iterator[str]:
     """The files that a linker's words name, as the compiler's driver gives them."""
     folders, rest = [], iter(words)
     for word in rest:
@@ -299,20 +278,9 @@ def read_words(words: Iterable[str]) -> Iterable[str]:
             folders.append(word[2:] or next(rest))
         elif word.startswith("-l"):
             tries = [os.path.join(folder, f"lib{word[2:]}.a") for folder in folders]
-            found = next((path for path in tries if os.path.exists(path)), None)
-            yield from real_paths(found or refuse(f"no archive for {word}"))
+            yield next((path for path in tries if os.path.exists(path)), None) or refuse(f"no archive for {word}")
         elif not word.startswith("-"):
-            yield from real_paths(word)
-
-
-def real_paths(path: str) -> List[str]:
-    """The file itself, or those of the one list in the text that a C library has in place of an archive."""
-    image = elf.file_bytes(path)
-    if elf.is_archive(path) or image[:4] == b"\x7fELF":
-        return [path]
-    form = r"(?:/\*.*?\*/|\s|OUTPUT_FORMAT\([^)]*\))*(?:GROUP|INPUT) *\(([^()]*)\)\s*"
-    listed = re.fullmatch(form, image.decode("latin-1"), re.S)
-    return listed[1].split() if listed else refuse(f"{path}: a linker script, or no object")
+            yield word
 
 
 def load_all(paths: List[str]) -> List[Object]:
@@ -337,8 +305,6 @@ def load_all(paths: List[str]) -> List[Object]:
             waiting.append(member)
     return [loaded[place] for place in sorted(loaded)]
 
-
-# The plan
 
 
 @dataclass
@@ -375,7 +341,7 @@ def attributes(section: Section) -> int:
 
 
 def outputs_of(files: List[File]) -> List[Output]:
-    outputs = {name: Output(name, attrs, of, set(aligns), emit) for name, (attrs, of, aligns, emit) in PLANNED.items()}
+    outputs = {name: Output(name, attrs, sh_type, set(aligns), emit) for name, attrs, sh_type, aligns, emit in PLANNED}
     for file in files:
         for index, made in enumerate(file.inputs):
             if made.slot == "discard":
@@ -429,8 +395,6 @@ class Plan:
         return {"page": PAGE, "base": ["num", BASE], **lists, **tables}
 
 
-# The description
-
 
 def linker_symbols(names: Iterable[str], plan: Plan) -> Tuple[List[Row], Set[str]]:
     """Of undefined names those that the linker makes: edges of sections, also by `__start_` and `__stop_`, and the
@@ -449,21 +413,11 @@ def linker_symbols(names: Iterable[str], plan: Plan) -> Tuple[List[Row], Set[str
     return made, kept
 
 
-def header_of_frames(plan: Plan) -> Row:
-    """An object of the linker's own: what stands in front of the rows of frames."""
-    row: Row = {"kind": "object", "name": "header of frames"}
-    if ".eh_frame_hdr" in plan.number:
-        data, part = bytes([1, 0x1B, 0x03, 0x3B]) + bytes(8), plan.parts[".eh_frame_hdr", 4]
-        row["sections"] = [{"slot": "must", "size": len(data), "data": data.hex(), "part": part}]
-    return row
-
-
 def describe(*words: str) -> None:
     definitions, seen = {}, set()
     files = [File(the, definitions) for the in load_all(list(read_words(words)))]
     for file in files:
-        file.choose_groups(seen)
-        file.define()
+        file.resolve(seen)
     for file in files:
         file.add_inputs()
     plan = Plan(outputs_of(files))
@@ -475,7 +429,10 @@ def describe(*words: str) -> None:
     numbers = {name: found.file.first + found.index for name, found in definitions.items()}
     numbers.update((row["name"], number) for number, row in enumerate(made))
     candidates: List[List[int]] = []  # what `__start_` and `__stop_` keep
-    own: List[Row] = [{"kind": "synthetic", "symbols": made, "candidates": candidates}, header_of_frames(plan)]
+    head = {"slot": "must", "size": 12, "data": (bytes([1, 0x1B, 0x03, 0x3B]) + bytes(8)).hex()}  # of rows of frames
+    heads = [{**head, "part": plan.parts[of]} for of in [(".eh_frame_hdr", 4)] if of in plan.parts]
+    own: List[Row] = [{"kind": "synthetic", "symbols": made, "candidates": candidates}]
+    own.append({"kind": "object", "name": "header of frames", "sections": heads})
     for group, file in enumerate(files, 2):
         members = [index for index, one in enumerate(file.inputs) if one.output in kept and one.slot != "discard"]
         candidates += [[plan.number[file.inputs[index].output], group, 0, index] for index in members]

@@ -14,7 +14,7 @@ SHF_TLS, SHF_GNU_RETAIN, SHF_EXCLUDE = 0x400, 0x200000, 0x80000000
 SHN_UNDEF, SHN_ABS, SHN_COMMON, SHN_XINDEX = 0, 0xFFF1, 0xFFF2, 0xFFFF
 STB_LOCAL, STB_GLOBAL, STB_WEAK = 0, 1, 2
 STT_SECTION, STT_FILE, STT_TLS, STT_GNU_IFUNC = 3, 4, 6, 10
-R_TLSGD, R_TLSLD, R_IRELATIVE = 19, 20, 37
+R_IRELATIVE = 37
 # Fields of sections that describe.py makes, above the numbers that ELF gives.
 CIE_POINTER, FRAME_ROW, RESOLVED_ENTRY, RESOLVER = 256, 257, 258, 259
 
@@ -31,17 +31,14 @@ class RelocationType(NamedTuple):
 RELOCATIONS: Dict[int, RelocationType] = {
     number: RelocationType(kind, form, formula, f"R_X86_64_{name}")
     for kind, form, formula, names in (
-        ("None", "", "", {0: "NONE", R_TLSLD: "TLSLD"}),
+        ("None", "", "", {0: "NONE"}),
         ("Absolute", "Q", "S+A", {1: "64"}),
         ("Absolute", "I", "S+A", {10: "32"}),
         ("Absolute", "i", "S+A", {11: "32S"}),
         ("Relative", "i", "S+A-P", {2: "PC32", 4: "PLT32", 26: "GOTPC32"}),
-        ("Relative", "Q", "S+A-P", {24: "PC64"}),
         ("GotRelative", "i", "G+A-P", {9: "GOTPCREL", 41: "GOTPCRELX", 42: "REX_GOTPCRELX"}),
         ("GotTpOff", "i", "O+A-P", {22: "GOTTPOFF"}),
-        ("TpOff", "i", "S+A-T", {R_TLSGD: "TLSGD", 21: "DTPOFF32", 23: "TPOFF32"}),
-        ("TpOff", "Q", "S+A-T", {17: "DTPOFF64", 18: "TPOFF64"}),
-        ("SymbolSize", "I", "Z+A", {32: "SIZE32"}),
+        ("TpOff", "i", "S+A-T", {23: "TPOFF32"}),
         ("SymbolSize", "Q", "Z+A", {33: "SIZE64"}),
         ("Relative", "i", "P-S", {CIE_POINTER: "(of a frame, to its common information)"}),
         ("Relative", "i", "S+A-H", {FRAME_ROW: "(in a row of .eh_frame_hdr)"}),
@@ -50,8 +47,9 @@ RELOCATIONS: Dict[int, RelocationType] = {
     )
     for number, name in names.items()
 }
-REFUSED = {3: "GOT32", 12: "16", 13: "PC16", 14: "8", 15: "PC8", 16: "DTPMOD64", 25: "GOTOFF64", 27: "GOT64"}
-REFUSED.update({28: "GOTPCREL64", 29: "GOTPC64", 31: "PLTOFF64", 34: "GOTPC32_TLSDESC", 35: "TLSDESC_CALL"})
+REFUSED = {3: "GOT32", 12: "16", 13: "PC16", 14: "8", 15: "PC8", 16: "DTPMOD64", 17: "DTPOFF64", 18: "TPOFF64"}
+REFUSED.update({19: "TLSGD", 20: "TLSLD", 21: "DTPOFF32", 24: "PC64", 25: "GOTOFF64", 27: "GOT64", 28: "GOTPCREL64"})
+REFUSED.update({29: "GOTPC64", 31: "PLTOFF64", 32: "SIZE32", 34: "GOTPC32_TLSDESC", 35: "TLSDESC_CALL", 36: "TLSDESC"})
 
 
 class Refusal(Exception):

@@ -15,17 +15,13 @@ from pathlib import Path
 from typing import Any, Dict, List, Optional, Tuple
 
 import elf
-from elf import RELOCATIONS, file_bytes, refuse
+from elf import RELOCATIONS, RelocationType, file_bytes, refuse
 from report import FLAGS, GOT, GOT_TPOFF, INDIRECT, NOBITS, TLS, Range, Report, Value, read_report
 
 Row = Dict[str, Any]  # an object of the description
 FileAt = Tuple[int, int]  # group, file
 Place = Tuple[int, ...]  # group, file, section
 MASK = (1 << 64) - 1
-# Code that asks where thread-local data is, up to the field; and code that knows: `mov %fs:0,%rax`, for one symbol with
-# a `lea` behind it, whose field is 8 bytes further on.
-ASKS = {elf.R_TLSGD: b"\x66\x48\x8d\x3d", elf.R_TLSLD: b"\x48\x8d\x3d"}
-KNOWS = {elf.R_TLSGD: "64488b042500000000488d80", elf.R_TLSLD: "66666664488b042500000000"}
 
 
 def expect(what: str, mine: int, told: int) -> None:
@@ -46,14 +42,6 @@ def got_word(known: Value, flag: int) -> int:
     if known.got is None or not known.flags & flag:
         refuse(f"no entry of the GOT with flag {flag}")
     return known.got + (8 if known.flags & GOT and flag > GOT else 0)
-
-
-def know_thread_local(data: bytearray, at: int, number: int) -> None:
-    """Makes code that asks where thread-local data is, with the field of that relocation, code that knows."""
-    start = at - len(ASKS[number])
-    if data[start:at] != ASKS[number] or (number == elf.R_TLSLD and data[at + 4] != 0xE8):
-        refuse(f"code around {RELOCATIONS[number].name} that isn't known")
-    data[start : start + 12] = bytes.fromhex(KNOWS[number])
 
 
 class Output:
@@ -167,26 +155,20 @@ class Output:
             else:
                 continue  # zeros that the file doesn't have
             for (at, _, symbol, addend, _), number in zip(row.get("relocs", []), row.get("types", [])):
-                self.relocate(data, live.mem, place[:2], (at, number, symbol, addend))
+                self.relocate(data, live.mem, RELOCATIONS[number], at, self.target(place[:2], symbol, addend))
             self.put(row["part"], live.mem, bytes(data))
 
-    def relocate(self, data: bytearray, mem: int, file: FileAt, one: Tuple[int, int, int, int]) -> None:
-        """Fills the field of a relocation of data that stands there: offset, type, symbol and addend."""
-        at, number, symbol, addend = one
-        how = RELOCATIONS[number]
-        if number in ASKS:
-            know_thread_local(data, at, number)
-            at, addend = at + 8, addend + 4
-        if how.form:
-            target, value, addend = self.target(file, symbol, addend)
-            terms, result = {"S": value, "A": addend, "P": mem + at}, 0
-            for sign, letter in re.findall("(-?)([A-Z])", how.formula):
-                term = terms[letter] if letter in terms else self.term(letter, target)
-                result += -term if sign else term
-            try:
-                struct.pack_into(f"<{how.form}", data, at, result & MASK if how.form == "Q" else result)
-            except struct.error:
-                refuse(f"{self.files[file]['name']}: {how.name} at {mem + at:#x} doesn't reach {value:#x}")
+    def relocate(self, data: bytearray, mem: int, how: RelocationType, at: int, target: Tuple[int, int, int]) -> None:
+        """Fills the field at an offset of data that stand there in memory."""
+        number, value, addend = target
+        terms, result = {"S": value, "A": addend, "P": mem + at}, 0
+        for sign, letter in re.findall("(-?)([A-Z])", how.formula):
+            term = terms[letter] if letter in terms else self.term(letter, number)
+            result += -term if sign else term
+        try:
+            struct.pack_into(f"<{how.form}", data, at, result & MASK if how.form == "Q" else result)
+        except struct.error:
+            refuse(f"{how.name} at {mem + at:#x} doesn't reach {value:#x}, or what is asked of it")
 
     def write_frame_header(self) -> None:
         """`.eh_frame_hdr` has a row for each live frame, which write_live filled in; here they are put in order."""
@@ -198,7 +180,7 @@ class Output:
             self.image[there.file + 4 : there.file + 4 + len(ordered)] = ordered
 
     def write_got_and_plt(self) -> None:
-        """Entries by the number of the symbol, one behind the other; of the PLT, jumps by the GOT's word for the value."""
+        """Entries by the numbers of symbols; those of the PLT are jumps by the GOT's word for the value."""
         got, plt = bytearray(), bytearray()
         got_start, plt_start = (self.part(self.plan[table]).mem for table in ("got", "plt"))
         for number, known in sorted(self.report.symbol.items()):
@@ -260,8 +242,9 @@ class Output:
                 info = row.get("info", elf.STB_GLOBAL << 4)
                 if info & 15 == elf.STT_TLS:  # these count from the start of thread-local data
                     value -= min(there.mem for there in self.report.section.values() if there.attrs & TLS)
-                fields = (len(names), info, 0, elf.SHN_ABS if index is None else index, value & MASK, row.get("size", 0))
-                (local_rows if row.get("local") else global_rows).extend(struct.pack("<IBBHQQ", *fields))
+                index = elf.SHN_ABS if index is None else index
+                entry = struct.pack("<IBBHQQ", len(names), info, 0, index, value & MASK, row.get("size", 0))
+                (local_rows if row.get("local") else global_rows).extend(entry)
                 names += row["name"].encode("utf-8", "surrogateescape") + b"\0"
         self.whole("symtab_local", local_rows)
         self.whole("symtab_global", global_rows)
