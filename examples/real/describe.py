@@ -243,20 +243,20 @@ class File:
             return ["sec", section, value]
         return ["undef"] if symbol.name else ["abs", 0]  # the first symbol of an object is none
 
-    def symbol_row(self, symbol: Symbol, plan: Plan, number: int) -> Row:
+    def symbol_row(self, symbol: Symbol, plan: Plan, number: int, numbers: Dict[str, int]) -> Row:
         local, flags = symbol.binding == elf.STB_LOCAL, 1 if symbol.section == elf.SHN_ABS else 0
         if symbol.type == elf.STT_GNU_IFUNC and symbol.section:
             flags |= 4
-        row = {"at": self.placement(symbol, plan), "def": number, "flags": flags, "local": local}
+        row = {"at": self.placement(symbol, plan), "flags": flags, "local": local}
+        row["def"] = number if local else numbers[symbol.name]
         row.update(weak=symbol.binding == elf.STB_WEAK, info=symbol.binding << 4 | symbol.type, size=symbol.size)
         return row if symbol.type in (elf.STT_SECTION, elf.STT_FILE) else {**row, "name": symbol.name}
 
     def described(self, plan: Plan, numbers: Dict[str, int]) -> Row:
-        symbols, sections = [], []
-        for number, symbol in enumerate(self.object.symbols, self.first):
-            is_local = symbol.binding == elf.STB_LOCAL
-            symbols.append(self.symbol_row(symbol, plan, number if is_local else numbers[symbol.name]))
+        own = enumerate(self.object.symbols, self.first)
+        symbols = [self.symbol_row(symbol, plan, number, numbers) for number, symbol in own]
         symbols += [{"at": ["sec", made, 0], "local": True} for made in self.marks]
+        sections = []
         for made in self.inputs:
             row = {key: value for key, value in vars(made).items() if value is not None}
             del row["output"], row["align"]
@@ -326,13 +326,8 @@ class Output:
         if self.attrs & WRITE and self.attrs & CODE:
             refuse(f"{self.name}: both written and code")
         around = [("load", 1, 4 | (2 if self.attrs & WRITE else 0) | (1 if self.attrs & CODE else 0))]
-        if self.attrs & TLS:
-            around.append(("tls", 7, 4))
-        elif self.name.startswith(".note"):
-            around.append(("other", 4, 4))
-        elif self.name == ".eh_frame_hdr":
-            around.append(("other", 0x6474E550, 4))
-        return around
+        inner = {".note": ("other", 4, 4), ".eh_frame_hdr": ("other", 0x6474E550, 4)}.get(ORDER[self.place()])
+        return around + [("tls", 7, 4)] if self.attrs & TLS else around + [inner] if inner else around
 
 
 def attributes(section: Section) -> int:
@@ -434,8 +429,8 @@ def describe(*words: str) -> None:
     own: List[Row] = [{"kind": "synthetic", "symbols": made, "candidates": candidates}]
     own.append({"kind": "object", "name": "header of frames", "sections": heads})
     for group, file in enumerate(files, 2):
-        members = [index for index, one in enumerate(file.inputs) if one.output in kept and one.slot != "discard"]
-        candidates += [[plan.number[file.inputs[index].output], group, 0, index] for index in members]
+        inputs = [(index, one.output) for index, one in enumerate(file.inputs) if one.slot != "discard"]
+        candidates += [[plan.number[output], group, 0, index] for index, output in inputs if output in kept]
     groups = [[{"kind": "prelude"}], own, *([file.described(plan, numbers)] for file in files)]
     if "_start" not in numbers:
         refuse("no symbol _start")

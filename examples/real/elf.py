@@ -39,7 +39,6 @@ RELOCATIONS: Dict[int, RelocationType] = {
         ("GotRelative", "i", "G+A-P", {9: "GOTPCREL", 41: "GOTPCRELX", 42: "REX_GOTPCRELX"}),
         ("GotTpOff", "i", "O+A-P", {22: "GOTTPOFF"}),
         ("TpOff", "i", "S+A-T", {23: "TPOFF32"}),
-        ("SymbolSize", "Q", "Z+A", {33: "SIZE64"}),
         ("Relative", "i", "P-S", {CIE_POINTER: "(of a frame, to its common information)"}),
         ("Relative", "i", "S+A-H", {FRAME_ROW: "(in a row of .eh_frame_hdr)"}),
         ("PltRelative", "Q", "G", {RESOLVED_ENTRY: "(the entry that a resolver fills)"}),
@@ -49,7 +48,7 @@ RELOCATIONS: Dict[int, RelocationType] = {
 }
 REFUSED = {3: "GOT32", 12: "16", 13: "PC16", 14: "8", 15: "PC8", 16: "DTPMOD64", 17: "DTPOFF64", 18: "TPOFF64"}
 REFUSED.update({19: "TLSGD", 20: "TLSLD", 21: "DTPOFF32", 24: "PC64", 25: "GOTOFF64", 27: "GOT64", 28: "GOTPCREL64"})
-REFUSED.update({29: "GOTPC64", 31: "PLTOFF64", 32: "SIZE32", 34: "GOTPC32_TLSDESC", 35: "TLSDESC_CALL", 36: "TLSDESC"})
+REFUSED.update({29: "GOTPC64", 31: "PLTOFF64", 32: "SIZE32", 33: "SIZE64", 34: "GOTPC32_TLSDESC", 36: "TLSDESC"})
 
 
 class Refusal(Exception):
@@ -68,33 +67,15 @@ def run(main: Callable[..., None]) -> None:
         sys.exit(f"{sys.argv[0]}: {refusal}")
 
 
-class Section(NamedTuple):
-    name: str
-    type: int
-    flags: int
-    addr: int
-    offset: int
-    size: int
-    link: int
-    info: int
-    align: int
-    entsize: int
-
-
-class Symbol(NamedTuple):
-    name: str
-    binding: int
-    type: int
-    section: int
-    value: int
-    size: int
-
-
-class Relocation(NamedTuple):
-    offset: int
-    type: int
-    symbol: int
-    addend: int
+Section = NamedTuple(
+    "Section",
+    [("name", str), ("type", int), ("flags", int), ("addr", int), ("offset", int), ("size", int), ("link", int)]
+    + [("info", int), ("align", int), ("entsize", int)],
+)
+Symbol = NamedTuple(
+    "Symbol", [("name", str), ("binding", int), ("type", int), ("section", int), ("value", int), ("size", int)]
+)
+Relocation = NamedTuple("Relocation", [("offset", int), ("type", int), ("symbol", int), ("addend", int)])
 
 
 @dataclass
@@ -159,10 +140,8 @@ def is_archive(path: str) -> bool:
 def archive_index(path: str) -> Dict[str, int]:
     """Names of symbols, and where the header of the first member is that defines each."""
     image = file_bytes(path)
-    if len(image) == 8:
-        return {}
     if image[8:24].rstrip() != b"/":
-        refuse(f"{path}: an archive without an index")
+        return {} if len(image) == 8 else refuse(f"{path}: an archive without an index")
     (count,) = struct.unpack_from(">I", image, 68)
     offsets = struct.unpack_from(f">{count}I", image, 72)
     names = image[72 + 4 * count : 68 + int(image[56:66])].decode("utf-8", "surrogateescape").split("\0")
@@ -176,7 +155,6 @@ def load(path: str, header: int) -> Object:
         return Object(path, 0, path, image)
     name, size, start = image[header : header + 16].decode().rstrip(), image[header + 48 : header + 58], header + 60
     if name[0] == "/":  # in the table of long names, which is behind the index
-        index_size = int(image[56:66])
-        at = 128 + index_size + index_size % 2 + int(name[1:])
+        at = 128 + (int(image[56:66]) + 1) // 2 * 2 + int(name[1:])
         name = image[at : image.index(b"\n", at)].decode()
     return Object(path, start, f"{path}({name.rstrip('/')})", image[start : start + int(size)])

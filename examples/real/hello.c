@@ -1,4 +1,4 @@
-/* Threads, thread-local data, constructors, a common, a section by its name, frames of functions: over any C library. */
+/* Threads, thread-local data, constructors, a common, a section by its name, frames: over any C library. */
 #include <pthread.h>
 #include <stdio.h>
 #include <stdlib.h>

@@ -11,7 +11,7 @@ from __future__ import annotations
 import json
 from html import escape
 from pathlib import Path
-from typing import Any, Dict, Iterator, List, Tuple
+from typing import Any, Dict, List, Tuple
 
 from elf import run
 from report import ALLOC, CODE, NOBITS, WRITE, Range, Report, read_report
@@ -42,9 +42,9 @@ class Page:
         text = text if len(text) <= most else text[: most - 2] + ".."
         self.lines.append(f'<text x="{x}" y="{self.y}" class="{style}">{escape(text)}</text>')
 
-    def box(self, x: float, width: float, colour: str, title: str = "") -> None:
-        size = f'x="{x:.2f}" y="{self.y - 13}" width="{max(width, 2):.2f}" height="16" fill="{colour}"'
-        self.lines.append(f"<rect {size}><title>{escape(title)}</title></rect>")
+    def box(self, x: float, width: float, colour: str) -> None:
+        size = f'x="{x:.2f}" y="{self.y - 13}" width="{max(width, 2):.2f}" height="16"'
+        self.lines.append(f'<rect {size} fill="{colour}"/>')
 
     def heading(self, text: str, *columns: Tuple[int, str]) -> None:
         self.y += ROW
@@ -55,10 +55,10 @@ class Page:
 
     def bar(self, x: int, ends: Tuple[int, int], start: int, size: int, colour: str) -> None:
         """From start on, where the whole line goes from one end to the other; and a note behind it."""
-        scale, note = BAR / max(ends[1] - ends[0], 1), f"{start:#x}, {bytes_text(size)}"
+        scale = BAR / max(ends[1] - ends[0], 1)
         self.box(x, BAR, "#f0f0f0")
-        self.box(min(x + (start - ends[0]) * scale, x + BAR - 2), size * scale, colour, note)
-        self.text(x + BAR + 8, note)
+        self.box(min(x + (start - ends[0]) * scale, x + BAR - 2), size * scale, colour)
+        self.text(x + BAR + 8, f"{start:#x}, {bytes_text(size)}")
 
     def places(self, rows: List[Tuple[str, str, Range]]) -> None:
         """Name, colour and ranges of each, with a bar for memory and one for the file."""
@@ -80,11 +80,15 @@ class Page:
         owner = [number for number, row in enumerate(link["plan"].get("sections", [])) for _ in row["parts"]]
         sums: Dict[int, List[int]] = {}
         gone: List[Tuple[int, str]] = []
-        for place, name, row in inputs_of(link):
-            number, live, size = owner[row.get("part", 0)], report.live.get(place), row.get("size", 0)
+        files = ((g, f, file) for g, group in enumerate(link["groups"]) for f, file in enumerate(group))
+        inputs = ((g, f, i, file, row) for g, f, file in files for i, row in enumerate(file.get("sections", [])))
+        for g, f, i, file, row in inputs:
+            if row["slot"] not in ("must", "unloaded", "debug", "mustdebug"):
+                continue
+            number, live, size = owner[row.get("part", 0)], report.live.get((g, f, i)), row.get("size", 0)
             sums.setdefault(number, [0, 0])[0 if live else 1] += live.size if live else size
             if not live:
-                gone.append((size, f"{bytes_text(size)}: {row.get('name') or names[number]} of {name}"))
+                gone.append((size, f"{bytes_text(size)}: {row.get('name') or names[number]} of {file.get('name', '')}"))
         self.heading("Kept and left out", (LEFT, "bytes of input sections, but for merged ones"))
         scale = 2 * BAR / (max((kept + out for kept, out in sums.values()), default=0) or 1)
         for number, (kept, out) in sorted(sums.items()):
@@ -96,15 +100,6 @@ class Page:
         for _, text in sorted(gone, key=lambda one: -one[0])[:10]:
             self.text(LEFT, f"left out: {text}", "s")
             self.y += ROW
-
-
-def inputs_of(link: Dict[str, Any]) -> Iterator[Tuple[Tuple[int, ...], str, Dict[str, Any]]]:
-    """Input sections that are live or not, with their places and their files' names."""
-    for group, files in enumerate(link["groups"]):
-        for at, file in enumerate(files):
-            for index, row in enumerate(file.get("sections", [])):
-                if row["slot"] in ("must", "unloaded", "debug", "mustdebug"):
-                    yield (group, at, index), file.get("name", ""), row
 
 
 def picture(report: str, description: str = "") -> None:

@@ -10,6 +10,8 @@ from elf import SHF_ALLOC, SHF_EXECINSTR, SHF_TLS, SHF_WRITE, refuse
 ALLOC, WRITE, CODE, TLS, NOBITS = 1, 2, 4, 8, 16  # of `attrs`
 FLAGS = {ALLOC: SHF_ALLOC, WRITE: SHF_WRITE, CODE: SHF_EXECINSTR, TLS: SHF_TLS}
 INDIRECT, GOT, GOT_TPOFF = 4, 128, 512  # of a symbol's flags
+Bytes = NamedTuple("Bytes", [("mem", int), ("size", int)])  # of a live section, a merged image or a piece of one
+Value = NamedTuple("Value", [("value", int), ("flags", int), ("got", Optional[int]), ("plt", Optional[int])])
 
 
 class Range(NamedTuple):
@@ -22,22 +24,6 @@ class Range(NamedTuple):
     align: int
     attrs: int = 0  # of a section
     index: Optional[int] = None  # of a section: its number among the emitted ones
-
-
-class Bytes(NamedTuple):
-    """A live section, a merged image or a piece of one."""
-
-    mem: int
-    size: int
-
-
-class Value(NamedTuple):
-    """What a symbol stands for, and where its entries begin."""
-
-    value: int
-    flags: int
-    got: Optional[int]
-    plt: Optional[int]
 
 
 @dataclass

@@ -1,6 +1,6 @@
 #!/bin/sh
-# run.sh PROGRAM [FOLDER]: links hello.c over each C library that is here by the layouts of PROGRAM (lk_program), runs it
-# and compares what it prints with the system linker's link. Where there is no compiler it says so and ends with 0.
+# run.sh PROGRAM [FOLDER]: links hello.c over each C library that is here by the layouts of PROGRAM, runs it and compares
+# what it prints with the system linker's link. Where there is no compiler it says so and ends with 0.
 here=$(cd "$(dirname "$0")" && pwd)
 PROGRAM=$(realpath "${1:?run.sh PROGRAM [FOLDER]}")
 export PROGRAM
@@ -16,7 +16,7 @@ failed=0
 # try NAME COMPILER: both links, what they print, the picture, and a report with wrong sizes.
 try() {
     out=$folder/$1
-    command -v "$2" >/dev/null || { echo "$1: left out, no $2"; return; }
+    command -v "$2" >/dev/null || { echo "$1: left out, no $2 (Debian: gcc, musl-tools)"; return; }
     flags="-O1 -fno-pie -fcommon -ffunction-sections -fdata-sections -pthread -static -no-pie"
     for object in FIRST SECOND; do
         $2 $flags -D$object -c "$here/hello.c" -o "$out.$object.o" || { failed=1; return; }
@@ -24,18 +24,13 @@ try() {
     $2 $flags "$out.FIRST.o" "$out.SECOND.o" -o "$out.theirs" 2>"$out.log" ||
         { echo "$1: left out, the system's linker has no such link here"; return; }
     "$out.theirs" word >"$out.expected"
-    if ! $2 -B "$here/" $flags "$out.FIRST.o" "$out.SECOND.o" -o "$out" || ! "$out" word >"$out.printed" ||
-        ! cmp "$out.expected" "$out.printed" ||
-        ! python3 "$here/picture.py" "$out.report" "$out.json" >"$out.svg"; then
-        echo "$1: FAILED"
-        failed=1
-    elif sed 's/^\(live .*\) /\1 1/' "$out.report" >"$out.wrong" &&
-        python3 "$here/write.py" "$out.json" "$out.wrong" "$out.none" 2>"$out.log"; then
-        echo "$1: FAILED, a report with wrong sizes was taken"
-        failed=1
-    else
-        echo "$1: runs, and prints what the system's link prints ($(wc -l <"$out.printed") lines)"
-    fi
+    $2 -B "$here/" $flags "$out.FIRST.o" "$out.SECOND.o" -o "$out" && "$out" word >"$out.printed" &&
+        cmp "$out.expected" "$out.printed" && python3 "$here/picture.py" "$out.report" "$out.json" >"$out.svg" &&
+        sed 's/^\(live .*\) /\1 1/' "$out.report" >"$out.wrong" &&
+        ! python3 "$here/write.py" "$out.json" "$out.wrong" "$out.none" 2>"$out.log" &&
+        echo "$1: runs, and prints what the system's link prints ($(wc -l <"$out.printed") lines)" && return
+    echo "$1: FAILED"
+    failed=1
 }
 
 try musl musl-gcc

@@ -63,8 +63,6 @@ class Output:
         self.named = {section["name"]: report.section[number] for number, section in enumerate(sections)}
         self.pieces: Dict[Tuple[int, bytes], int] = {}  # merged ones by output section: their addresses
 
-    # Where things stand
-
     def part(self, number: int) -> Range:
         """A part's ranges; one without bytes has no line, and is where its output section starts."""
         owner = self.report.section[self.part_owner[number]]
@@ -93,8 +91,6 @@ class Output:
         tls = self.report.segment.get(kinds.index("tls")) if "tls" in kinds else None
         return -(-(tls.mem + tls.mem_size) // tls.align) * tls.align if tls else refuse("no thread-local segment")
 
-    # What symbols stand for
-
     def target(self, file: FileAt, symbol: int, addend: int) -> Tuple[int, int, int]:
         """What stands for a relocation's symbol, which is given by its index in the file; its value; and the addend."""
         number = self.first_symbol[file] + symbol
@@ -120,12 +116,8 @@ class Output:
             return self.thread_pointer()
         if letter == "H":  # rows of frames count from their header
             return self.named[".eh_frame_hdr"].mem
-        if letter == "Z":
-            return self.symbols[number][1]["size"]
         known = self.report.symbol[number]
         return known.value if letter == "V" else got_word(known, GOT if letter == "G" else GOT_TPOFF)
-
-    # Contents
 
     def write_merged(self) -> None:
         """Distinct pieces by bucket, in each in the order in which they come; `piece` lines tell where each stands."""
@@ -204,8 +196,6 @@ class Output:
         start = image.mem + image.size if image else self.part(part).mem
         self.put(part, start, f"Linker: {self.identity}\0".encode())
 
-    # The symbol table
-
     def is_copied(self, number: int) -> bool:
         """Whether the symbol table has it."""
         owner, row = self.symbols[number]
@@ -226,10 +216,9 @@ class Output:
         value, (kind, *at) = known.value if known else 0, row["at"]
         if kind == "sec":
             place = (*owner, at[0])
-            if known is None and self.row(place)["slot"] == "merge":
-                value = self.piece_address(place, at[1])
-            elif known is None:
-                value = self.report.live[place].mem + at[1]
+            if known is None:
+                merged = self.row(place)["slot"] == "merge"
+                value = self.piece_address(place, at[1]) if merged else self.report.live[place].mem + at[1]
             return value, self.part_owner[self.row(place)["part"]]
         return value, at[0] if kind in ("start", "end") else self.part_owner[at[0]] if kind == "common" else None
 
@@ -250,8 +239,6 @@ class Output:
         self.whole("symtab_global", global_rows)
         self.whole("strtab", names)
 
-    # Headers
-
     def write_program_headers(self) -> None:
         rows, page = b"", self.plan["page"]
         for index, there in sorted(self.report.segment.items()):
@@ -271,12 +258,13 @@ class Output:
             there, planned = self.report.section[number], self.plan["sections"][number]
             flags = sum(flag for attr, flag in FLAGS.items() if there.attrs & attr)
             size = there.mem_size if there.attrs & NOBITS else there.file_size
-            of_table = (0, 0, there.align, 0)  # link, info, alignment, entry
+            link = info = entry_size = 0
             if planned["name"] == ".symtab":
-                locals_of = self.part(self.plan["symtab_local"]).file_size // 24
-                of_table = (self.named[".strtab"].index, locals_of, there.align, 24)
-            fields = (len(names), planned["sh_type"], flags, there.mem, there.file, size, *of_table)
-            rows += struct.pack("<IIQQQQIIQQ", *fields) if index else bytes(64)
+                link, entry_size = self.named[".strtab"].index, 24
+                info = self.part(self.plan["symtab_local"]).file_size // 24
+            header = struct.pack("<IIQQQQ", len(names), planned["sh_type"], flags, there.mem, there.file, size)
+            header += struct.pack("<IIQQ", link, info, there.align, entry_size)
+            rows += header if index else bytes(64)
             names += planned["name"].encode() + b"\0"
         self.whole("section_headers", rows)
         self.whole("shstrtab", names)
@@ -284,8 +272,8 @@ class Output:
     def write_file_header(self) -> None:
         entry = refuse("no entry") if self.report.entry is None else self.report.entry
         segments, sections = (self.part(self.plan[name]) for name in ("program_headers", "section_headers"))
-        head = b"\x7fELF\x02\x01\x01" + bytes(9)
-        head += struct.pack("<HHIQQQI", 2, 62, 1, entry, segments.file, sections.file, 0)
+        head = b"\x7fELF\x02\x01\x01" + bytes(9) + struct.pack("<HHI", 2, 62, 1)
+        head += struct.pack("<QQQI", entry, segments.file, sections.file, 0)
         counts = (segments.file_size // 56, 64, sections.file_size // 64, self.named[".shstrtab"].index)
         self.whole("file_header", head + struct.pack("<6H", 64, 56, *counts))
 
