@@ -265,7 +265,6 @@ class File:
         return {"kind": "object", "name": self.object.name, "path": path, "symbols": symbols, "sections": sections}
 
 
-
 def read_words(words: Iterable[str]) -> Iterator[str]:
     """The files that a linker's words name, as the compiler's driver gives them."""
     folders, rest = [], iter(words)
@@ -304,7 +303,6 @@ def load_all(paths: List[str]) -> List[Object]:
             defined.update(t.name for t in member.symbols if t.binding != elf.STB_LOCAL and t.section)
             waiting.append(member)
     return [loaded[place] for place in sorted(loaded)]
-
 
 
 @dataclass
@@ -388,7 +386,6 @@ class Plan:
         tables = {table: self.parts[part] for table, part in TABLES.items()}
         lists = {"sections": self.sections, "segments": self.segments, "events": self.events}
         return {"page": PAGE, "base": ["num", BASE], **lists, **tables}
-
 
 
 def linker_symbols(names: Iterable[str], plan: Plan) -> Tuple[List[Row], Set[str]]:

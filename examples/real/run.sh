@@ -1,6 +1,6 @@
 #!/bin/sh
-# run.sh PROGRAM [FOLDER]: links hello.c over each C library that is here by the layouts of PROGRAM, runs it and compares
-# what it prints with the system linker's link. Where there is no compiler it says so and ends with 0.
+# run.sh PROGRAM [FOLDER]: links hello.c over each C library that is here by the layouts of PROGRAM, runs it, and holds
+# what it prints to what the system linker's link prints. Where there is no compiler it says so and ends with 0.
 here=$(cd "$(dirname "$0")" && pwd)
 PROGRAM=$(realpath "${1:?run.sh PROGRAM [FOLDER]}")
 export PROGRAM
