@@ -16,7 +16,7 @@ from typing import Any, Dict, List, Tuple
 from elf import run
 from report import ALLOC, CODE, NOBITS, WRITE, Range, Report, read_report
 
-LEFT, BAR, NOTE, ROW = 200, 290, 170, 22  # where bars begin, their length, the room for a note, a line's height
+LEFT, BAR, NOTE, ROW = 200, 260, 215, 22  # where bars begin, their length, the room for a note, a line's height
 FILE, WIDTH = LEFT + BAR + NOTE, LEFT + 2 * (BAR + NOTE)
 COLOURS = {"segment": "#c9b458", "read only": "#5a9e58", "code": "#d95f30", "written": "#3b7dc4", "zeros": "#9fc3e8"}
 COLOURS.update({"not in memory": "#8d7bab", "left out": "#b5b5b5"})
