@@ -7,7 +7,9 @@
 
 use lk_input::read_link;
 use lk_layout::files::ObjectLayout;
-use lk_layout::{FileLayout, Layout, LayoutError, Resolution, Small64Arch, compute_alone};
+use lk_layout::{
+    FileLayout, GroupLayout, Layout, LayoutError, Resolution, Small64Arch, compute_alone,
+};
 use lk_link::{LinkInput, SectionSlot, Small64, SymbolId};
 use lk_place::OutputRecordLayout;
 use lk_test_rows::{Row, add, rows_of};
@@ -19,7 +21,7 @@ use std::test::Fail;
 const VALUE_WORD: u32 = 128;
 /// A symbol with this flag has one for its thread-local offset, behind that for its value.
 const OFFSET_WORD: u32 = 512;
-/// So many symbols are told.
+/// So many groups are told, so many files of each, sections of each of these, and symbols.
 const TOLD: u32 = 10;
 
 /// How long the file is: no output section ends behind that.
@@ -109,11 +111,26 @@ fn add_object(
     Ok(())
 }
 
+/// Adds where the live sections of the files of a group stand.
+fn add_group(
+    line: &mut String,
+    layout: &Layout<'_>,
+    group: &GroupLayout<'_, '_>,
+) -> Result<(), AllocError> {
+    for number in 0..TOLD {
+        if let Some(FileLayout::Object(object)) = group.files.get(number) {
+            add_object(line, layout, &object)?;
+        }
+    }
+    Ok(())
+}
+
 /// Adds where the live sections of all files stand.
 fn add_live(line: &mut String, layout: &Layout<'_>) -> Result<(), AllocError> {
-    for one in layout.link().groups.files() {
-        if let FileLayout::Object(object) = layout.file_layout(one.id) {
-            add_object(line, layout, &object)?;
+    let groups = layout.group_layouts();
+    for number in 0..TOLD {
+        if let Some(group) = groups.get(number) {
+            add_group(line, layout, &group)?;
         }
     }
     Ok(())
