@@ -9,38 +9,27 @@ With the description, sections have names, and input sections are told that it h
 from __future__ import annotations
 
 import json
-import sys
-from dataclasses import dataclass
 from html import escape
-from typing import Any, Dict, List, Optional, Tuple
+from pathlib import Path
+from typing import Any, Dict, List, Tuple
 
-from elf import Refusal
-from report import Range, Report, read_report
+from elf import run
+from report import ALLOC, CODE, NOBITS, WRITE, Range, Report, read_report
 
-WIDTH, LEFT, BAR, ROW = 1180, 250, 620, 22  # the page; where bars begin, their length, a line's height
-ALLOC, WRITE, CODE, NOBITS = 1, 2, 4, 16
-COLOURS = {"code": "#d95f30", "written": "#3b7dc4", "zeros": "#9fc3e8", "read": "#5a9e58", "none": "#999"}
-TABLES = ("file_header", "program_headers", "section_headers", "got", "plt", "strtab", "shstrtab", "dynsym", "dynstr")
-STYLE = "text{font:12px sans-serif;fill:#222}.t{font-size:17px}.h{font-size:14px}.t,.h{font-weight:bold}.s{fill:#666}"
-
-
-@dataclass(frozen=True)
-class Bar:
-    name: str
-    note: str
-    start: int
-    size: int
-    colour: str
+LEFT, BAR, NOTE, ROW = 200, 260, 215, 22  # where bars begin, their length, the room for a note, a line's height
+FILE, WIDTH = LEFT + BAR + NOTE, LEFT + 2 * (BAR + NOTE)
+COLOURS = {"segment": "#c9b458", "read only": "#5a9e58", "code": "#d95f30", "written": "#3b7dc4", "zeros": "#9fc3e8"}
+COLOURS.update({"not in memory": "#8d7bab", "left out": "#b5b5b5"})
+STYLE = "text{font:12px sans-serif;fill:#222}.t{font-size:16px;font-weight:bold}.s{fill:#666}"
 
 
 def colour_of(attrs: int) -> str:
-    if not attrs & ALLOC:
-        return COLOURS["none"]
-    if attrs & CODE:
-        return COLOURS["code"]
-    if attrs & NOBITS:
-        return COLOURS["zeros"]
-    return COLOURS["written" if attrs & WRITE else "read"]
+    rules = ((CODE, "code"), (NOBITS, "zeros"), (WRITE, "written"), (ALLOC, "read only"))
+    return COLOURS[next((name for bit, name in rules if attrs & bit and attrs & ALLOC), "not in memory")]
+
+
+def bytes_text(size: int) -> str:
+    return f"{size:,} byte{'' if size == 1 else 's'}"
 
 
 class Page:
@@ -49,133 +38,90 @@ class Page:
     def __init__(self) -> None:
         self.y, self.lines = 34, []
 
-    def text(self, x: int, text: str, style: str = "", anchor: str = "start") -> None:
-        self.lines.append(f'<text x="{x}" y="{self.y}" class="{style}" text-anchor="{anchor}">{escape(text)}</text>')
+    def text(self, x: float, text: str, style: str = "", most: int = 150) -> None:
+        text = text if len(text) <= most else text[: most - 2] + ".."
+        self.lines.append(f'<text x="{x}" y="{self.y}" class="{style}">{escape(text)}</text>')
 
-    def box(self, x: float, width: float, colour: str, title: str) -> None:
-        size = f'x="{x:.2f}" y="{self.y - 13}" width="{max(width, 1):.2f}" height="16" fill="{colour}"'
-        self.lines.append(f"<rect {size}><title>{escape(title)}</title></rect>")
+    def box(self, x: float, width: float, colour: str) -> None:
+        size = f'x="{x:.2f}" y="{self.y - 13}" width="{max(width, 2):.2f}" height="16"'
+        self.lines.append(f'<rect {size} fill="{colour}"/>')
 
-    def heading(self, text: str, explained: str) -> None:
-        self.y += 16
-        self.text(20, text, "h")
-        self.text(LEFT, explained, "s")
+    def heading(self, text: str, *columns: Tuple[int, str]) -> None:
+        self.y += ROW
+        self.text(20, text, "t")
+        for x, column in columns:
+            self.text(x, column, "s")
         self.y += ROW
 
-    def bars(self, bars: List[Bar], start: int, end: int) -> None:
-        """Each on a line, to one scale from start to end."""
-        scale = BAR / max(end - start, 1)
-        for bar in bars:
-            self.text(20, bar.name if len(bar.name) < 36 else bar.name[:34] + "..")
-            self.box(LEFT, BAR, "#f0f0f0", "")
-            self.box(LEFT + (bar.start - start) * scale, bar.size * scale, bar.colour, f"{bar.name}: {bar.note}")
-            self.text(LEFT + BAR + 12, bar.note)
+    def bar(self, x: int, ends: Tuple[int, int], start: int, size: int, colour: str) -> None:
+        """From start on, where the whole line goes from one end to the other; and a note behind it."""
+        scale = BAR / max(ends[1] - ends[0], 1)
+        self.box(x, BAR, "#f0f0f0")
+        self.box(min(x + (start - ends[0]) * scale, x + BAR - 2), size * scale, colour)
+        self.text(x + BAR + 8, f"{start:#x}, {bytes_text(size)}")
+
+    def places(self, rows: List[Tuple[str, str, Range]]) -> None:
+        """Name, colour and ranges of each, with a bar for memory and one for the file."""
+        in_memory = [there for _, colour, there in rows if colour != COLOURS["not in memory"]]
+        mem = min((r.mem for r in in_memory), default=0), max((r.mem + r.mem_size for r in in_memory), default=0)
+        file = 0, max((there.file + there.file_size for _, _, there in rows), default=0)
+        texts = (f"{name}, {start:#x} to {end:#x}" for name, (start, end) in (("memory", mem), ("file", file)))
+        self.heading("Where", *zip((LEFT, FILE), texts))
+        for name, colour, there in rows:
+            self.text(20, name, most=28)
+            if there in in_memory and there.mem_size:
+                self.bar(LEFT, mem, there.mem, there.mem_size, colour)
+            if there.file_size:
+                self.bar(FILE, file, there.file, there.file_size, colour)
             self.y += ROW
 
-    def svg(self) -> str:
-        height = self.y + 10
-        size = f'width="{WIDTH}" height="{height}" viewBox="0 0 {WIDTH} {height}"'
-        head = f'<svg xmlns="http://www.w3.org/2000/svg" {size}>'
-        back = f'<rect width="{WIDTH}" height="{height}" fill="#fff"/>'
-        return "\n".join([head, f"<style>{STYLE}</style>", back, *self.lines, "</svg>"])
+    def left_out(self, report: Report, link: Dict[str, Any], names: List[str]) -> None:
+        """What stays of input sections and what doesn't, by output section; and the largest that don't."""
+        owner = [number for number, row in enumerate(link["plan"].get("sections", [])) for _ in row["parts"]]
+        sums: Dict[int, List[int]] = {}
+        gone: List[Tuple[int, str]] = []
+        files = ((g, f, file) for g, group in enumerate(link["groups"]) for f, file in enumerate(group))
+        inputs = ((g, f, i, file, row) for g, f, file in files for i, row in enumerate(file.get("sections", [])))
+        for g, f, i, file, row in inputs:
+            if row["slot"] not in ("must", "unloaded", "debug", "mustdebug"):
+                continue
+            number, live, size = owner[row.get("part", 0)], report.live.get((g, f, i)), row.get("size", 0)
+            sums.setdefault(number, [0, 0])[0 if live else 1] += live.size if live else size
+            if not live:
+                gone.append((size, f"{bytes_text(size)}: {row.get('name') or names[number]} of {file.get('name', '')}"))
+        self.heading("Kept and left out", (LEFT, "bytes of input sections, but for merged ones"))
+        scale = 2 * BAR / (max((kept + out for kept, out in sums.values()), default=0) or 1)
+        for number, (kept, out) in sorted(sums.items()):
+            self.text(20, names[number], most=28)
+            self.box(LEFT, kept * scale, colour_of(report.section[number].attrs) if kept else "none")
+            self.box(LEFT + kept * scale, out * scale, COLOURS["left out"] if out else "none")
+            self.text(LEFT + 2 * BAR + 12, f"{bytes_text(kept)} stay, {out:,} left out")
+            self.y += ROW
+        for _, text in sorted(gone, key=lambda one: -one[0])[:10]:
+            self.text(LEFT, f"left out: {text}", "s")
+            self.y += ROW
 
 
-def bytes_text(size: int) -> str:
-    return f"{size:,} byte" + ("" if size == 1 else "s")
-
-
-def names_of(link: Optional[Dict[str, Any]], count: int) -> List[str]:
-    """Output sections by name; those without one by the table that they hold, or by number."""
-    if link is None:
-        return [f"section {index}" for index in range(count)]
-    plan = link["plan"]
-    owner = [index for index, row in enumerate(plan.get("sections", [])) for _ in row["parts"]]
-    tables = {owner[part]: field.replace("_", " ") for field, part in plan.items() if field in TABLES}
-    return [row.get("name") or tables.get(i, f"section {i}") for i, row in enumerate(plan.get("sections", []))]
-
-
-def places(page: Page, report: Report, names: List[str], kinds: List[str], in_file: bool) -> None:
-    """Segments and sections in memory, or in the file."""
-
-    def ends(there: Range) -> Tuple[int, int]:
-        return (there.file, there.file_size) if in_file else (there.mem, there.mem_size)
-
-    bars = []
-    for index, there in report.segments.items():
-        start, size = ends(there)
-        if size:
-            name = f"segment {index}{kinds[index] if kinds else ''}"
-            bars.append(Bar(name, f"{start:#x}, {bytes_text(size)}", start, size, "#c9b458"))
-    for index, there in report.sections.items():
-        start, size = ends(there)
-        if size and (in_file or there.attrs & ALLOC):
-            bars.append(Bar(names[index], f"{start:#x}, {bytes_text(size)}", start, size, colour_of(there.attrs)))
-    if bars:
-        page.bars(bars, min(b.start for b in bars), max(b.start + b.size for b in bars))
-
-
-def left_out(link: Dict[str, Any], report: Report) -> Tuple[Dict[int, List[int]], List[Bar]]:
-    """Bytes of input sections by output section, that stay and that nothing refers to; and of these the largest."""
-    owner = [i for i, section in enumerate(link["plan"].get("sections", [])) for _ in section["parts"]]
-    sums: Dict[int, List[int]] = {}
-    gone: List[Bar] = []
-    for g, files in enumerate(link["groups"]):
-        for f, file in enumerate(files):
-            for i, row in enumerate(file.get("sections", [])):
-                if row["slot"] not in ("must", "unloaded", "debug", "mustdebug"):
-                    continue
-                live = report.live.get((g, f, i))
-                counts = sums.setdefault(owner[row.get("part", 0)], [0, 0])
-                counts[0 if live else 1] += live.size if live else row.get("size", 0)
-                if not live:
-                    name = f"{row.get('name', '')} {file.get('name', '').split('/')[-1]}"
-                    gone.append(Bar(name, bytes_text(row.get("size", 0)), 0, row.get("size", 0), "#bbb"))
-    return sums, sorted(gone, key=lambda bar: -bar.size)[:12]
-
-
-def picture(report: Report, link: Optional[Dict[str, Any]]) -> str:
-    page = Page()
-    names = names_of(link, len(report.sections))
-    kinds = [f", {segment['kind']}" for segment in link["plan"].get("segments", [])] if link else []
-    page.text(20, "Where everything stands", "t")
-    x = LEFT + 30
-    for name, colour in COLOURS.items():
-        page.box(x, 14, colour, "")
-        page.text(x + 20, {"none": "not in memory", "read": "read only"}.get(name, name), "s")
-        x += 110
-    page.y += ROW
-    page.heading("In memory", "from the first address that is taken to the last, to scale")
-    places(page, report, names, kinds, False)
-    page.heading("In the file", "from its first byte to its last, to scale")
-    places(page, report, names, kinds, True)
+def picture(report: str, description: str = "") -> None:
+    link = json.loads(Path(description).read_bytes()) if description else {}
+    with open(report, encoding="utf-8") as lines:
+        told = read_report(lines)
+    page, plan = Page(), link.get("plan", {})
+    names = [row.get("name") or f"section {i}" for i, row in enumerate(plan.get("sections", [{}] * len(told.section)))]
+    for at, (name, colour) in enumerate(COLOURS.items()):
+        page.box(LEFT + 130 * at, 14, colour)
+        page.text(LEFT + 130 * at + 20, name, "s")
+    page.y += ROW // 2
+    kinds = [f", {row['kind']}" for row in plan.get("segments", [])] or [""] * 64
+    rows = [(f"segment {i}{kinds[i]}", COLOURS["segment"], r) for i, r in told.segment.items()]
+    rows += [(names[i], colour_of(r.attrs), r) for i, r in told.section.items()]
+    page.places([row for row in rows if row[2].mem_size or row[2].file_size])
     if link:
-        sums, gone = left_out(link, report)
-        page.heading("Kept and left out", "bytes of input sections: coloured what stays, grey what nothing refers to")
-        longest = max((kept + out for kept, out in sums.values()), default=1)
-        for index, (kept, out) in sorted(sums.items()):
-            scale = BAR / max(longest, 1)
-            page.text(20, names[index])
-            page.box(LEFT, kept * scale, colour_of(report.sections[index].attrs), "kept")
-            page.box(LEFT + kept * scale, out * scale, "#bbb" if out else "none", "left out")
-            page.text(LEFT + BAR + 12, f"{bytes_text(kept)} stay, {out:,} left out")
-            page.y += ROW
-        if gone and gone[0].size:
-            page.heading("Largest left out", "input sections, and whose they are")
-            page.bars(gone, 0, gone[0].size)
-    return page.svg()
-
-
-def main(report: str, description: Optional[str] = None) -> None:
-    described = None
-    if description:
-        with open(description, encoding="utf-8") as file:
-            described = json.load(file)
-    with open(report, encoding="utf-8") as file:
-        print(picture(read_report(file), described))
+        page.left_out(told, link, names)
+    size = f'width="{WIDTH}" height="{page.y}" viewBox="0 0 {WIDTH} {page.y}"'
+    back = f'<style>{STYLE}</style><rect width="{WIDTH}" height="{page.y}" fill="#fff"/>'
+    print(f'<svg xmlns="http://www.w3.org/2000/svg" {size}>', back, *page.lines, "</svg>", sep="\n")
 
 
 if __name__ == "__main__":
-    try:
-        main(*sys.argv[1:3])
-    except Refusal as refusal:
-        sys.exit(f"picture.py: {refusal}")
+    run(picture)
