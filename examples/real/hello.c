@@ -7,7 +7,7 @@
 /* A section group that both objects have, which are made of this file. */
 __asm__(".section .data.once,\"awG\",@progbits,once,comdat; .weak once; once: .long 41; .previous");
 extern int once;
-int common_total;
+__attribute__((common)) int common_total;
 int second(int added);
 
 #ifdef SECOND

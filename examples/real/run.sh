@@ -17,7 +17,7 @@ failed=0
 try() {
     out=$folder/$1
     command -v "$2" >/dev/null || { echo "$1: left out, no $2 (Debian: gcc, musl-tools)"; return; }
-    flags="-O1 -fno-pie -fcommon -ffunction-sections -fdata-sections -pthread -static -no-pie"
+    flags="-O1 -fno-pie -ffunction-sections -fdata-sections -pthread -static -no-pie"
     for object in FIRST SECOND; do
         $2 $flags -D$object -c "$here/hello.c" -o "$out.$object.o" ||
             { echo "$1: left out, $2 compiles no such program here"; return; }
