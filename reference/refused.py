@@ -7,8 +7,8 @@ For each of the descriptions, unless told those of examples/ and some random one
 several groups, for 0, 2 and 4 workers, and for why its first section is kept: a run in which the first growth is refused,
 one in which the second is, and so on to the last. The same of two generated links, and of a check of each map of
 examples/, the reports among them. Each has to write nothing and end with 6, or to do without and
-answer as the run in which none is refused, which with one thread few do. Where what gives memory back is refused, each has
-to answer as that run. The examples are of every kind: merged strings, thunks, relaxation, output that is linked again,
+answer as the run in which none is refused, which with one thread few do. The same where what gives memory back is refused,
+which most runs do without. The examples are of every kind: merged strings, thunks, relaxation, output that is linked again,
 redirects, tables; two generated links are laid out by the call that has one thread alone. Says at its end how many calls
 of both kinds there were, and ends with 1 where a run did something else. Needs a C compiler, `cc`.
 """
@@ -28,7 +28,7 @@ MAPS = ("*.report", "*.map")
 GENERATED = ("gen 3 9", "gen 7 200")
 MERGED = 6
 NO_MEMORY = 6
-GROWTH, RETURN = KINDS = "growth", "return"
+KINDS = "growth", "return"
 SECONDS = 60
 
 
@@ -55,7 +55,7 @@ class Refusing:
 def refuse_each(refusing, name, words, data, kind):
     """Refuses each call of a kind in turn; answers how many there were, how many the run did without, and how many did something else."""
     whole, _ = refusing.run(words, data, kind, 0)
-    allowed = {whole, (NO_MEMORY, b"")} if kind == GROWTH else {whole}
+    allowed = {whole, (NO_MEMORY, b"")}
     counts, goes_on = Counts(), True
     while goes_on:
         got, goes_on = refusing.run(words, data, kind, counts.refused + 1)
