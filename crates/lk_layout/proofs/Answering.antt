@@ -15,8 +15,8 @@ use Rattle.lk_link.specs.declared.resolution.Resolution.{Resolution}
 use Rattle.lk_layout.specs.Defined.{Gives, IsMergedAnswer, IsPlacedAnswer, IsSpannedAnswer, Unless, WithMemory, fault_refusal, is_memory, joining_refusal, made_sections}
 use Rattle.lk_layout.specs.Defined.{branch_refusal, made_standing, offsets_refusal, references_error, references_refusal, segment_refusal, sites_refusal}
 use Rattle.lk_layout.specs.Errors.{branch_error, fault_error, gc_error, offset_error, place_error, site_error}
-use Rattle.lk_values.specs.declared.outside.MergeOffsetPlace.{MergeOffsetPlace}
-use Rattle.lk_values.specs.Outside.{merge_offsets}
+use Rattle.lk_resolutions.specs.declared.outside.MergeOffsetPlace.{MergeOffsetPlace}
+use Rattle.lk_resolutions.specs.Outside.{merge_offsets}
 use Rattle.lk_live.specs.declared.error.GcError.{GcError}
 use Rattle.lk_live.specs.declared.error.GcError.TheVariants as gc
 use Rattle.lk_live.specs.Reach.{GivesLive}
@@ -28,9 +28,9 @@ use Rattle.lk_place.specs.Secondaries.{merge_refusal}
 use Rattle.lk_place.specs.declared.error.PlaceError.{PlaceError}
 use Rattle.lk_place.specs.declared.error.PlaceError.TheVariants as place
 use Rattle.lk_place.specs.Segments.{Refuses, segments_refusal}
-use Rattle.lk_relaxing.specs.declared.sites.RelaxedPlace.{RelaxedPlace}
-use Rattle.lk_relax.specs.LinkDeletions.{Deletions}
-use Rattle.lk_relaxing.specs.Sites.{past_limit}
+use Rattle.lk_relax.specs.declared.sites.RelaxedPlace.{RelaxedPlace}
+use Rattle.lk_deltas.specs.LinkDeletions.{Deletions}
+use Rattle.lk_relax.specs.Sites.{past_limit}
 use Rattle.lk_sizes.specs.declared.sorted.InputSortedSection.{InputSortedSection}
 use Rattle.lk_sizes.specs.Emitted.{active_segments, is_emitted}
 use Rattle.lk_tables.specs.declared.header_info.HeaderInfo.{HeaderInfo}
@@ -40,8 +40,8 @@ use Rattle.lk_layout.specs.Made.{Made, made_content}
 use Rattle.lk_layout.specs.Redirects.{made_redirected, redirects_refusal, refused_by}
 use Rattle.lk_layout.specs.Stages.{Reaches}
 use Rattle.lk_layout.specs.Thunks.{made_branching}
-use Rattle.lk_branches.specs.declared.check.BranchPlace.{BranchPlace}
-use Rattle.lk_branches.specs.Branches.{unreached}
+use Rattle.lk_thunk_plan.specs.declared.check.BranchPlace.{BranchPlace}
+use Rattle.lk_thunk_plan.specs.Branches.{unreached}
 
 -- the exit of a `?`: what holds of each error that may come through it
 pub err_exit : {X : Type 0} (Q : Result X LayoutError → Type 0) (P : LayoutError → Type 0) (r : Result X LayoutError) → IsErrAnd r P → ((e : LayoutError) → P e → Q (Err e)) → Q r

@@ -1,11 +1,11 @@
 -- What the branches of a link go by, once it is addressed.
 use Rattle.std.proofs.Common.{◌≡◌, ℕ, Bool, List, Option, map, sym, ap, ◌∙◌}
-use Rattle.lk_branches.specs.Branches.{Branching, block_places, branching}
+use Rattle.lk_thunk_plan.specs.Branches.{Branching, block_places, branching}
 use Rattle.lk_live.specs.declared.live.Live.{Live}
 use Rattle.lk_link.specs.declared.ids.FileId.{FileId}
 use Rattle.lk_link.specs.declared.link.LinkInput.{LinkInput}
 use Rattle.lk_link.specs.declared.resolution.Resolution.{Resolution}
-use Rattle.lk_relax.specs.LinkDeletions.{Deletions}
+use Rattle.lk_deltas.specs.LinkDeletions.{Deletions}
 use Rattle.lk_sizes.specs.Addresses.{primary_address}
 use Rattle.lk_thunks.specs.declared.arch.ThunkConfig.{ThunkConfig}
 use Rattle.lk_layout.specs.declared.stages.AddressedLink.{AddressedLink}
@@ -14,7 +14,7 @@ use Rattle.lk_layout.specs.Made.{Made, made_filling}
 use Rattle.lk_layout.specs.Redirects.{unless_refused}
 use Rattle.lk_layout.specs.Stages.{IsAddressedLink, made_addressed}
 use Rattle.lk_layout.specs.Thunks.{made_branching, made_places, made_sets}
-use Rattle.lk_values.specs.Starts.{starts_of}
+use Rattle.lk_resolutions.specs.Starts.{starts_of}
 
 -- what branches go by is the same where all of it is
 same_branching : (link : LinkInput) (live : Live) (config config' : Option ThunkConfig) (sets sets' : List (List ℕ)) (users users' : List (FileId × ℕ × Bool)) (places places' : List (Option ℕ))

@@ -6,9 +6,9 @@ use Rattle.std.specs.Option.{option_map_or}
 use Rattle.std.proofs.lemmas.List.{length-map}
 use Rattle.std.proofs.lemmas.List.Concat.{length-flat_map}
 use Rattle.std.proofs.lemmas.Option.{get_or_from_slice_get, slice_get_within}
-use Rattle.lk_edges.specs.Edges.{edge_value}
-use Rattle.lk_edges.specs.EdgeLaws.{OthersAreNoRedirects}
-use Rattle.lk_edges.specs.Redirects.{has_redirects}
+use Rattle.lk_own_symbols.specs.Edges.{edge_value}
+use Rattle.lk_own_symbols.specs.EdgeLaws.{OthersAreNoRedirects}
+use Rattle.lk_own_symbols.specs.Redirects.{has_redirects}
 use Rattle.lk_link.specs.declared.file.FileKind.{FileKind}
 use Rattle.lk_link.specs.declared.file.FileKind.TheVariants as kind
 use Rattle.lk_link.specs.declared.file.InputFile.{InputFile}
@@ -30,11 +30,11 @@ use Rattle.lk_sizes.specs.Emitted.{told_marks}
 use Rattle.lk_tables.specs.Late.{late_flags}
 use Rattle.lk_reach.proofs.Numbered.{file_at}
 use Rattle.lk_tables.proofs.ShareSums.{sum_alike}
-use Rattle.lk_values.specs.Entries.{EntrySetting, told_flags, with_entries}
-use Rattle.lk_values.specs.Resolutions.{Places, placed_value, resolution_at, resolution_of}
-use Rattle.lk_values.specs.StoreLaws.{ChangesValuesAlone}
-use Rattle.lk_values.specs.Stores.{valued}
-use Rattle.lk_values.proofs.Pushing.{first_is}
+use Rattle.lk_resolutions.specs.Entries.{EntrySetting, told_flags, with_entries}
+use Rattle.lk_resolutions.specs.Resolutions.{Places, placed_value, resolution_at, resolution_of}
+use Rattle.lk_resolutions.specs.StoreLaws.{ChangesValuesAlone}
+use Rattle.lk_resolutions.specs.Stores.{valued}
+use Rattle.lk_resolutions.proofs.Pushing.{first_is}
 use Rattle.lk_layout.specs.Defined.{layout_of}
 use Rattle.lk_layout.specs.Flags.{all_flags, marked_flags}
 use Rattle.lk_layout.specs.Made.{Made, made_content}

@@ -15,10 +15,10 @@ use Rattle.lk_place.specs.Laws.{FileRangesAreDisjoint}
 use Rattle.lk_place.specs.Ranges.{FileIsDisjoint}
 use Rattle.lk_place.specs.Secondaries.{merge_refusal}
 use Rattle.lk_place.specs.Segments.{Refuses, section_records, segments_refusal}
-use Rattle.lk_relaxing.specs.Stages.{setting_after}
+use Rattle.lk_relax.specs.Stages.{setting_after}
 use Rattle.lk_sizes.specs.Emitted.{active_segments, is_emitted}
 use Rattle.lk_tables.specs.declared.header_info.HeaderInfo.{HeaderInfo}
-use Rattle.lk_values.specs.OutputContent.{output_content}
+use Rattle.lk_resolutions.specs.OutputContent.{output_content}
 use Rattle.lk_layout.specs.declared.stages.ToldLink.{ToldLink}
 use Rattle.lk_layout.specs.Errors.{place_error}
 use Rattle.lk_layout.specs.FileRanges.{AreHeld, file_bytes, moved_parts, moved_sections}

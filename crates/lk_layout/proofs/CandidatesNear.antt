@@ -3,7 +3,7 @@ use Rattle.std.proofs.Common.{◌≡◌, ◌||◌, ◌+◌, ℕ, zero, suc, Bool
 use Rattle.std.specs.Prelude.{if◌then◌else◌, option_and_then, option_map, slice_get, slice_index, unwrap_or}
 use Rattle.std.specs.List.{enumerate_from}
 use Rattle.std.proofs.lemmas.Option.{slice_get_within}
-use Rattle.lk_edges.specs.EdgeLaws.{OthersAreNoRedirects}
+use Rattle.lk_own_symbols.specs.EdgeLaws.{OthersAreNoRedirects}
 use Rattle.lk_expressions.specs.declared.positions.SymbolPosition.{SymbolPosition}
 use Rattle.lk_expressions.specs.Records.{Record}
 use Rattle.lk_expressions.specs.Surroundings.{flat}
@@ -40,23 +40,23 @@ use Rattle.lk_link.proofs.SymbolLemmas.{symbols_follow}
 use Rattle.lk_reach.proofs.Numbered.{file_of_input, one_place}
 use Rattle.lk_reach.proofs.UnitLemmas.{symbols_length}
 use Rattle.lk_place.specs.PlacementLaws.{PartsTakeTheirBytes, RefusedExactlyPast}
-use Rattle.lk_relax.specs.Candidates.{goes, is_gone, range_of, shrunk}
-use Rattle.lk_relax.specs.Deletions.{RiseWithin}
-use Rattle.lk_relax.proofs.CandidateLemmas.{gone_again}
-use Rattle.lk_relax.specs.LinkDeletions.{Deletions, output_offset}
-use Rattle.lk_relaxing.specs.Positions.{has_position, position_in, section_position, section_positions, symbol_position}
-use Rattle.lk_relaxing.specs.RelaxedLaws.{RelaxedIsShrunk}
-use Rattle.lk_relaxing.specs.Scan.{Standing, absolute_value, address_in, outcome_by, ranges_of, site, target, told}
-use Rattle.lk_relaxing.specs.Sites.{DeletedSitesAreNear}
-use Rattle.lk_relaxing.specs.Stages.{DeletionsAreRead, IsFirst, IsPass, LeadsTo, Relaxing, Stage, filling_after, is_among, link_of, ranges_behind, standing_at}
+use Rattle.lk_deltas.specs.Candidates.{goes, is_gone, range_of, shrunk}
+use Rattle.lk_deltas.specs.Deletions.{RiseWithin}
+use Rattle.lk_deltas.proofs.CandidateLemmas.{gone_again}
+use Rattle.lk_deltas.specs.LinkDeletions.{Deletions, output_offset}
+use Rattle.lk_relax.specs.Positions.{has_position, position_in, section_position, section_positions, symbol_position}
+use Rattle.lk_relax.specs.RelaxedLaws.{RelaxedIsShrunk}
+use Rattle.lk_relax.specs.Scan.{Standing, absolute_value, address_in, outcome_by, ranges_of, site, target, told}
+use Rattle.lk_relax.specs.Sites.{DeletedSitesAreNear}
+use Rattle.lk_relax.specs.Stages.{DeletionsAreRead, IsFirst, IsPass, LeadsTo, Relaxing, Stage, filling_after, is_among, link_of, ranges_behind, standing_at}
 use Rattle.lk_sizes.specs.Addresses.{section_addresses}
 use Rattle.lk_sizes.specs.Owners.{Filling}
 use Rattle.lk_sizes.specs.PartOwners.{live_address}
 use Rattle.lk_sizes.proofs.Numbering.{table_at}
 use Rattle.lk_tables.specs.Late.{flags_at, late_flags}
-use Rattle.lk_values.specs.Resolutions.{address_at, placed_value}
-use Rattle.lk_values.specs.Starts.{starts_of}
-use Rattle.lk_values.specs.StoreLaws.{ChangesValuesAlone}
+use Rattle.lk_resolutions.specs.Resolutions.{address_at, placed_value}
+use Rattle.lk_resolutions.specs.Starts.{starts_of}
+use Rattle.lk_resolutions.specs.StoreLaws.{ChangesValuesAlone}
 use Rattle.lk_layout.specs.Defined.{layout_of, made_standing}
 use Rattle.lk_layout.specs.LayoutRecord.{LayoutRecord}
 use Rattle.lk_layout.specs.Machines.{Machine}

@@ -28,9 +28,9 @@ use Rattle.lk_sizes.specs.Tiles.{HasByte, OwnersAreAligned, OwnersTileTheirPart}
 use Rattle.lk_sizes.proofs.CommonOnes.{common_is_placed, commons_are_owners}
 use Rattle.lk_layout.specs.LayoutRecord.{LayoutRecord}
 use Rattle.lk_link.specs.declared.resolution.Resolution.{Resolution}
-use Rattle.lk_values.specs.Starts.{starts_of}
-use Rattle.lk_values.specs.Entries.{EntrySetting}
-use Rattle.lk_values.specs.Resolutions.{Places, placed_value, resolution_at, resolution_of}
+use Rattle.lk_resolutions.specs.Starts.{starts_of}
+use Rattle.lk_resolutions.specs.Entries.{EntrySetting}
+use Rattle.lk_resolutions.specs.Resolutions.{Places, placed_value, resolution_at, resolution_of}
 use Rattle.lk_layout.specs.Sound.{CommonsStand, part_record}
 use Rattle.lk_layout.proofs.LaidOut.{IsLaidOut, made_by}
 use Rattle.lk_layout.proofs.PartStarts.{part_starts}

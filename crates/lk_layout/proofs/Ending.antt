@@ -8,7 +8,7 @@ use Rattle.lk_place.specs.declared.error.PlaceError.{PlaceError}
 use Rattle.lk_place.specs.declared.segments.SegmentFileLayout.TheVariants.{FromSections}
 use Rattle.lk_place.specs.declared.segments.SegmentLayout.{SegmentLayout}
 use Rattle.lk_place.specs.Segments.{end_refusal, segments_refusal, thread_local_one}
-use Rattle.lk_edges.specs.EdgeLaws.{SegmentsEndBelow}
+use Rattle.lk_own_symbols.specs.EdgeLaws.{SegmentsEndBelow}
 use Rattle.lk_sizes.specs.Emitted.{active_segments, is_emitted}
 use Rattle.lk_layout.specs.declared.error.LayoutError.{LayoutError}
 use Rattle.lk_layout.specs.Defined.{Unless, branch_refusal, fault_refusal, joining_refusal, layout_of, made_sections, made_segments, offsets_refusal, references_refusal, segment_refusal, sites_refusal, sizes_refusal, walk_refusal}

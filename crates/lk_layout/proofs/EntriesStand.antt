@@ -57,13 +57,13 @@ use Rattle.lk_layout.specs.Redirects.{placed_resolutions}
 use Rattle.lk_layout.specs.Sound.{AreOwnEntries, EntriesStand, IsEntryAt, TablesStandAlone, part_record}
 use Rattle.lk_layout.proofs.LaidOut.{IsLaidOut, made_by}
 use Rattle.lk_layout.proofs.Resolving.{as_many, made_at, made_entries}
-use Rattle.lk_values.specs.Entries.{EntrySetting, entry_in, got_table, plt_table, told_flags, with_entries}
-use Rattle.lk_values.specs.Resolutions.{Places, file_resolutions, has_resolutions, resolution_at, resolution_of, value_of}
-use Rattle.lk_values.specs.Starts.{starts_of}
-use Rattle.lk_values.specs.StoreLaws.{ChangesValuesAlone}
-use Rattle.lk_values.specs.Stores.{valued}
-use Rattle.lk_values.proofs.EntriesTaken.{own_entries}
-use Rattle.lk_values.proofs.Pushing.{first_is}
+use Rattle.lk_resolutions.specs.Entries.{EntrySetting, entry_in, got_table, plt_table, told_flags, with_entries}
+use Rattle.lk_resolutions.specs.Resolutions.{Places, file_resolutions, has_resolutions, resolution_at, resolution_of, value_of}
+use Rattle.lk_resolutions.specs.Starts.{starts_of}
+use Rattle.lk_resolutions.specs.StoreLaws.{ChangesValuesAlone}
+use Rattle.lk_resolutions.specs.Stores.{valued}
+use Rattle.lk_resolutions.proofs.EntriesTaken.{own_entries}
+use Rattle.lk_resolutions.proofs.Pushing.{first_is}
 
 -- ---- whose a resolution is
 

@@ -17,7 +17,7 @@ use Rattle.lk_sizes.specs.Emitted.{active_segments, is_active}
 use Rattle.lk_tables.specs.HeaderParts.{file_header_entries, program_header_entries, told_sum}
 use Rattle.lk_tables.specs.SymbolTable.{FileEntry, SegmentEntry, TableEntry, entry_bytes}
 use Rattle.lk_tables.proofs.HeaderLemmas.{sum_same}
-use Rattle.lk_values.specs.OutputContent.{output_content}
+use Rattle.lk_resolutions.specs.OutputContent.{output_content}
 use Rattle.lk_link.specs.TableSizes.{TableSizes}
 
 -- no more segments are active than there are

@@ -16,7 +16,7 @@ use Rattle.lk_place.specs.PlacementLaws.{PartsTakeFileBytes, PartsTakeTheirBytes
 use Rattle.lk_place.specs.Ranges.{FileIsDisjoint, HasPart, IsInFile}
 use Rattle.lk_place.specs.Segments.{greatest, least, part_records, section_records}
 use Rattle.lk_place.specs.Setting.{Setting, part_count, part_number, size_at}
-use Rattle.lk_relaxing.specs.RelaxedLaws.{RelaxedStands}
+use Rattle.lk_relax.specs.RelaxedLaws.{RelaxedStands}
 use Rattle.lk_sizes.specs.Owners.{Owner, SectionOwner, bytes_of, owner_bytes, size_of}
 use Rattle.lk_sizes.specs.PartOwners.{LiveSectionsAreOwners, owner_number, owners_of}
 use Rattle.lk_sizes.specs.Tiles.{HasByte}

@@ -7,7 +7,7 @@ use Rattle.std.proofs.lemmas.Option.{slice_get_within}
 use Rattle.lk_link.specs.declared.link.LinkInput.{LinkInput}
 use Rattle.lk_link.specs.declared.plan.OrderEvent.TheVariants.{Section}
 use Rattle.lk_link.specs.Parts.{all_parts}
-use Rattle.lk_relaxing.specs.Stages.{setting_after}
+use Rattle.lk_relax.specs.Stages.{setting_after}
 use Rattle.lk_layout.specs.Made.{made_filling, relaxing_for}
 use Rattle.lk_layout.specs.Machines.{Machine}
 use Rattle.lk_merge.specs.Addresses.{AreStartsOf}
@@ -23,11 +23,11 @@ use Rattle.lk_place.specs.Setting.{Setting}
 use Rattle.lk_sizes.specs.Images.{image_addresses}
 use Rattle.lk_sizes.specs.PartOwners.{EndsFit}
 use Rattle.lk_layout.specs.LayoutRecord.{LayoutRecord}
-use Rattle.lk_values.specs.Starts.{starts_of}
-use Rattle.lk_values.proofs.Imaging.{images_fit}
+use Rattle.lk_resolutions.specs.Starts.{starts_of}
+use Rattle.lk_resolutions.proofs.Imaging.{images_fit}
 use Rattle.lk_layout.proofs.LaidOut.{IsLaidOut, made_by}
 use Rattle.lk_layout.proofs.PartStarts.{section_in}
-use Rattle.lk_values.proofs.Placing.{ends_fit, starts_count}
+use Rattle.lk_resolutions.proofs.Placing.{ends_fit, starts_count}
 use Rattle.lk_layout.proofs.Settings.{ready, takes}
 
 no_refusal : (k : ℕ) (o : Option Refusal) → option_map (numbered k) o ≡ None → o ≡ None

@@ -47,7 +47,7 @@ use Rattle.lk_layout.specs.GroupPlaces.{GroupsBegin, StartsBehind, entries_befor
 use Rattle.lk_layout.specs.GroupStarts.{byte_starts, capped, entries_in, files_before, first_bytes, part_for, starts_in, taken_before, taken_in}
 use Rattle.lk_layout.specs.Made.{Made, made_content, made_filling}
 use Rattle.lk_layout.specs.Sound.{TablesStandAlone}
-use Rattle.lk_values.proofs.EntriesTaken.{own_entries}
+use Rattle.lk_resolutions.proofs.EntriesTaken.{own_entries}
 use Rattle.lk_layout.proofs.Starting.{total}
 
 -- ---- the prelude, and the other files

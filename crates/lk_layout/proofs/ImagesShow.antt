@@ -27,9 +27,9 @@ use Rattle.lk_sizes.specs.Images.{image_addresses}
 use Rattle.lk_sizes.specs.Owners.{ImageOwner, Filling}
 use Rattle.lk_sizes.proofs.ImageLemmas.{its_section}
 use Rattle.lk_layout.specs.LayoutRecord.{LayoutRecord}
-use Rattle.lk_values.specs.Starts.{starts_of}
+use Rattle.lk_resolutions.specs.Starts.{starts_of}
 use Rattle.lk_layout.specs.Sound.{ImagesStand, IsImageAt, part_record}
-use Rattle.lk_values.proofs.Imaging.{comes_from, has_part, inputs_at, len_at, stands_at}
+use Rattle.lk_resolutions.proofs.Imaging.{comes_from, has_part, inputs_at, len_at, stands_at}
 use Rattle.lk_layout.proofs.LaidOut.{IsLaidOut, made_by}
 
 -- ---- what an image shows

@@ -13,10 +13,10 @@ use Rattle.lk_layout.specs.Machines.{Machine}
 use Rattle.lk_link.specs.WellFormed.{IsWellFormed}
 use Rattle.lk_merge.specs.Hash.{fnv64}
 use Rattle.lk_merge.specs.LinkInputs.{first_refusal, link_inputs}
-use Rattle.lk_relaxing.specs.declared.sites.RelaxedPlace.{RelaxedPlace}
-use Rattle.lk_relaxing.specs.RelaxedLaws.{RelaxedStands, StandsFor}
-use Rattle.lk_relaxing.specs.Sites.{past_limit}
-use Rattle.lk_relaxing.specs.Stages.{IsRelaxed, Stage, refusal_of}
+use Rattle.lk_relax.specs.declared.sites.RelaxedPlace.{RelaxedPlace}
+use Rattle.lk_relax.specs.RelaxedLaws.{RelaxedStands, StandsFor}
+use Rattle.lk_relax.specs.Sites.{past_limit}
+use Rattle.lk_relax.specs.Stages.{IsRelaxed, Stage, refusal_of}
 use Rattle.lk_place.specs.declared.error.PlaceError.{PlaceError}
 use Rattle.lk_place.specs.declared.segments.SegmentFileLayout.TheVariants.{FromSections}
 use Rattle.lk_place.specs.Segments.{first_outside, outside_refusal, section_records, segments_refusal}
@@ -27,10 +27,10 @@ use Rattle.lk_layout.specs.Defined.{IsDefined, Unless, branch_refusal, reference
 use Rattle.lk_layout.specs.Errors.{branch_error, merge_error, offset_error, place_error, site_error}
 use Rattle.lk_layout.specs.Redirects.{made_redirected, made_resolutions, redirects_refusal, refused_by, unless_refused}
 use Rattle.lk_layout.specs.Thunks.{made_branching}
-use Rattle.lk_branches.specs.Branches.{unreached}
+use Rattle.lk_thunk_plan.specs.Branches.{unreached}
 use Rattle.lk_layout.specs.Merging.{merging_refusal}
-use Rattle.lk_values.specs.OutputContent.{output_content}
-use Rattle.lk_values.specs.Outside.{merge_offsets}
+use Rattle.lk_resolutions.specs.OutputContent.{output_content}
+use Rattle.lk_resolutions.specs.Outside.{merge_offsets}
 use Rattle.lk_layout.specs.Laws.{LaidOutLinksAreWellFormed}
 use Rattle.lk_layout.specs.Made.{Made, made_of, relaxing_for}
 use Rattle.lk_layout.proofs.OneAnswer.{none_of, unrefused}

@@ -20,7 +20,7 @@ use Rattle.lk_place.specs.declared.segments.SegmentFileLayout.TheVariants.{FromS
 use Rattle.lk_place.specs.declared.segments.SegmentLayout.{SegmentLayout}
 use Rattle.lk_place.specs.Secondaries.{joined, joined_among, joined_size, merged_among, secondaries_among}
 use Rattle.lk_place.specs.Segments.{part_records, segment_layout, segment_layouts, thread_local_one}
-use Rattle.lk_relaxing.specs.RelaxedLaws.{RelaxedStands}
+use Rattle.lk_relax.specs.RelaxedLaws.{RelaxedStands}
 use Rattle.lk_sizes.specs.Emitted.{active_segments, is_emitted}
 use Rattle.lk_sizes.specs.Owners.{Content}
 use Rattle.lk_sizes.proofs.Emitting.{emitted_at}

@@ -17,7 +17,7 @@ use Rattle.lk_link.specs.InputSlots.{is_merge}
 use Rattle.lk_link.specs.Inputs.{Input, NumberedFile, all_inputs, first_input, input_number, numbered_files}
 use Rattle.lk_link.specs.Marks.{is_marked}
 use Rattle.lk_link.specs.Symbols.{file_number, first_symbol, symbol_at}
-use Rattle.lk_relax.specs.LinkDeletions.{output_offset}
+use Rattle.lk_deltas.specs.LinkDeletions.{output_offset}
 use Rattle.lk_layout.specs.Made.{made_deletions, made_filling}
 use Rattle.lk_layout.specs.Machines.{Machine}
 use Rattle.lk_link.proofs.Elements.{append_left, flat_map_in}
@@ -39,16 +39,16 @@ use Rattle.lk_tables.specs.SymbolEntries.{is_resolved}
 use Rattle.lk_sizes.specs.Images.{image_addresses}
 use Rattle.lk_sizes.specs.PartOwners.{live_address}
 use Rattle.lk_layout.specs.LayoutRecord.{LayoutRecord}
-use Rattle.lk_values.specs.declared.outside.MergeOffsetPlace.{MergeOffsetPlace}
-use Rattle.lk_values.specs.declared.outside.MergeOffsetPlace.TheVariants.{OfSymbol}
+use Rattle.lk_resolutions.specs.declared.outside.MergeOffsetPlace.{MergeOffsetPlace}
+use Rattle.lk_resolutions.specs.declared.outside.MergeOffsetPlace.TheVariants.{OfSymbol}
 use Rattle.lk_link.specs.declared.resolution.Resolution.{Resolution}
-use Rattle.lk_values.specs.Starts.{starts_of}
-use Rattle.lk_values.specs.Outside.{merge_offsets, relocations_outside, symbol_outside, symbols_outside}
-use Rattle.lk_values.specs.Entries.{EntrySetting}
-use Rattle.lk_values.specs.Resolutions.{Places, found_or_0, images_at, placed_value}
+use Rattle.lk_resolutions.specs.Starts.{starts_of}
+use Rattle.lk_resolutions.specs.Outside.{merge_offsets, relocations_outside, symbol_outside, symbols_outside}
+use Rattle.lk_resolutions.specs.Entries.{EntrySetting}
+use Rattle.lk_resolutions.specs.Resolutions.{Places, found_or_0, images_at, placed_value}
 use Rattle.lk_layout.specs.Sound.{NamedSymbolsShow}
 use Rattle.lk_layout.proofs.LaidOut.{IsLaidOut, made_by}
-use Rattle.lk_values.proofs.Placing.{unmerged}
+use Rattle.lk_resolutions.proofs.Placing.{unmerged}
 use Rattle.lk_layout.proofs.Resolved.{in_file}
 use Rattle.lk_layout.proofs.Resolving.{ObjectsAreTold, made_at, made_entries, object_value}
 

@@ -1,7 +1,7 @@
 -- Symbols of objects and of dynamic files that stand nowhere in the output are worth their numbers, and unnamed ones in merged data 0.
 use Rattle.std.proofs.Common.{◌≡◌, ℕ, ◌+◌, true, if◌then◌else◌, Option, Some, None, ap, ◌∙◌}
 use Rattle.std.specs.Prelude.{option_map, pos, slice_get, unwrap_or}
-use Rattle.lk_edges.specs.EdgeLaws.{OthersAreNoRedirects}
+use Rattle.lk_own_symbols.specs.EdgeLaws.{OthersAreNoRedirects}
 use Rattle.lk_live.specs.Reach.{AreLive}
 use Rattle.lk_link.specs.declared.file.InputFile.{InputFile}
 use Rattle.lk_link.specs.declared.ids.FileId.{FileId}
@@ -13,11 +13,11 @@ use Rattle.lk_link.specs.Inputs.{Input, all_inputs, first_input, input_number}
 use Rattle.lk_link.specs.Symbols.{first_symbol}
 use Rattle.lk_link.proofs.InputLemmas.{inputs_follow}
 use Rattle.lk_merge.specs.OutputAddresses.{MergePlace, place_address, symbol_place}
-use Rattle.lk_relax.specs.LinkDeletions.{output_offset}
+use Rattle.lk_deltas.specs.LinkDeletions.{output_offset}
 use Rattle.lk_sizes.specs.PartOwners.{live_address}
-use Rattle.lk_values.specs.Resolutions.{Places, found_or_0, images_at, placed_value}
-use Rattle.lk_values.specs.Starts.{starts_of}
-use Rattle.lk_values.specs.StoreLaws.{ChangesValuesAlone}
+use Rattle.lk_resolutions.specs.Resolutions.{Places, found_or_0, images_at, placed_value}
+use Rattle.lk_resolutions.specs.Starts.{starts_of}
+use Rattle.lk_resolutions.specs.StoreLaws.{ChangesValuesAlone}
 use Rattle.lk_layout.specs.Defined.{layout_of}
 use Rattle.lk_layout.specs.Made.{Made, made_deletions, made_filling}
 use Rattle.lk_layout.specs.Redirects.{made_resolutions, placed_resolutions}

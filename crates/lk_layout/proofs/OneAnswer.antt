@@ -8,7 +8,7 @@ use Rattle.lk_live.specs.Reach.{AreLive}
 use Rattle.lk_link.specs.declared.link.LinkInput.{LinkInput}
 use Rattle.lk_layout.specs.Machines.{Machine}
 use Rattle.lk_link.specs.WellFormed.{IsWellFormed}
-use Rattle.lk_relaxing.specs.Stages.{RelaxedExists, RelaxedIsOne}
+use Rattle.lk_relax.specs.Stages.{RelaxedExists, RelaxedIsOne}
 use Rattle.lk_layout.specs.declared.error.LayoutError.{LayoutError}
 use Rattle.lk_layout.specs.LayoutRecord.{LayoutRecord}
 use Rattle.lk_layout.specs.Defined.{IsCheckedAnswer, IsLiveAnswer, IsMadeAnswer, IsMergedAnswer, IsPlacedAnswer, IsSizedAnswer, IsSpannedAnswer, Unless, branch_refusal, fault_refusal}

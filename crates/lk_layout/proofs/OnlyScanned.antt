@@ -11,11 +11,11 @@ use Rattle.lk_link.specs.Marks.{is_marked}
 use Rattle.lk_link.specs.PlanSections.{is_set}
 use Rattle.lk_link.proofs.Elements.{filter_at, map_at, numbered_at}
 use Rattle.lk_reach.proofs.Numbered.{one_place}
-use Rattle.lk_relax.specs.Candidates.{shrunk}
-use Rattle.lk_relax.specs.LinkDeletions.{Deletions}
-use Rattle.lk_relaxing.specs.Positions.{has_position}
-use Rattle.lk_relaxing.specs.Scan.{ranges_of, told}
-use Rattle.lk_relaxing.specs.Stages.{DeletionsAreRead, IsFirst, IsPass, IsRelaxed, LeadsTo, Relaxing, Stage, can_shrink, is_among, is_near, link_of, ranges_behind, standing_at}
+use Rattle.lk_deltas.specs.Candidates.{shrunk}
+use Rattle.lk_deltas.specs.LinkDeletions.{Deletions}
+use Rattle.lk_relax.specs.Positions.{has_position}
+use Rattle.lk_relax.specs.Scan.{ranges_of, told}
+use Rattle.lk_relax.specs.Stages.{DeletionsAreRead, IsFirst, IsPass, IsRelaxed, LeadsTo, Relaxing, Stage, can_shrink, is_among, is_near, link_of, ranges_behind, standing_at}
 
 -- an input section with its number is live, has a position and is code, and the link is to be relaxed
 abbrev pub can_lose : Relaxing → ℕ × Input → Bool

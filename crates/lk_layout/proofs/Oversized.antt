@@ -13,7 +13,7 @@ use Rattle.lk_layout.specs.Defined.{IsLiveAnswer, WithMemory, sizes_refusal}
 use Rattle.lk_layout.specs.Errors.{size_error}
 use Rattle.lk_layout.specs.Machines.{Machine}
 use Rattle.lk_layout.specs.Made.{filling_for}
-use Rattle.lk_values.specs.OutputContent.{output_filling}
+use Rattle.lk_resolutions.specs.OutputContent.{output_filling}
 use Rattle.lk_layout.proofs.Answering.{out_of_memory, unless_some}
 
 pub first_none : (a b : Option SizeError) → first_some a b ≡ None → a ≡ None

@@ -1,10 +1,10 @@
 -- The linker's own symbols stand where they are placed, and each redirect is worth its expression.
 use Rattle.std.proofs.Common.{◌≡◌, ℕ, ◌+◌, None, Ok, refl, sym, ap, ◌∙◌}
 use Rattle.std.specs.Prelude.{if◌then◌else◌, option_map}
-use Rattle.lk_edges.specs.Edges.{edge_value}
-use Rattle.lk_edges.specs.Redirects.{AllPlaced}
-use Rattle.lk_edges.specs.Stores.{kept_alone}
-use Rattle.lk_edges.proofs.RedirectLaws.{redirects_hold}
+use Rattle.lk_own_symbols.specs.Edges.{edge_value}
+use Rattle.lk_own_symbols.specs.Redirects.{AllPlaced}
+use Rattle.lk_own_symbols.specs.Stores.{kept_alone}
+use Rattle.lk_own_symbols.proofs.RedirectLaws.{redirects_hold}
 use Rattle.lk_link.specs.declared.flags.ValueFlags.{ValueFlags}
 use Rattle.lk_link.specs.declared.resolution.Resolution.{Resolution}
 use Rattle.lk_link.specs.Inputs.{first_input}
@@ -16,8 +16,8 @@ use Rattle.lk_layout.specs.Redirects.{made_edges, made_redirected, made_resoluti
 use Rattle.lk_layout.specs.Sound.{EdgesStand, FlagsStand, RedirectsStand}
 use Rattle.lk_layout.specs.Spans.{made_joined, made_sections}
 use Rattle.lk_layout.proofs.Resolving.{internal_value, made_at, made_entries, placed_is}
-use Rattle.lk_values.specs.StoreLaws.{ChangesValuesAlone}
-use Rattle.lk_values.specs.Stores.{resolution_store, valued}
+use Rattle.lk_resolutions.specs.StoreLaws.{ChangesValuesAlone}
+use Rattle.lk_resolutions.specs.Stores.{resolution_store, valued}
 
 pub edges_stand : (made : Made) → FlagsStand made (layout_of made) → ChangesValuesAlone made.link.groups (placed_resolutions made) (made_resolutions made) → EdgesStand made (layout_of made)
 edges_stand made flags changed id file k x there internal at_k other =

@@ -22,8 +22,8 @@ use Rattle.lk_sizes.proofs.Tiling.{part_is_aligned}
 use Rattle.lk_link.proofs.Powers.{alignment_divides}
 use Rattle.lk_place.proofs.AlignmentLaws.{greatest_of-least, section_aligned}
 use Rattle.lk_live.specs.declared.live.Live.{Live}
-use Rattle.lk_relaxing.specs.RelaxedLaws.{StandsFor}
-use Rattle.lk_relaxing.specs.Stages.{Stage, filling_after, refusal_of, setting_after}
+use Rattle.lk_relax.specs.RelaxedLaws.{StandsFor}
+use Rattle.lk_relax.specs.Stages.{Stage, filling_after, refusal_of, setting_after}
 use Rattle.lk_layout.specs.Made.{relaxing_for}
 use Rattle.lk_layout.specs.Machines.{Machine}
 use Rattle.lk_sizes.specs.PartOwners.{part_sizes}

@@ -6,11 +6,11 @@ use Rattle.lk_expressions.specs.declared.positions.SymbolPosition.{SymbolPositio
 use Rattle.lk_expressions.specs.Records.{Record}
 use Rattle.lk_link.specs.declared.link.LinkInput.{LinkInput}
 use Rattle.lk_place.specs.Segments.{section_records}
-use Rattle.lk_relaxing.specs.declared.sites.RelaxedPlace.{RelaxedPlace}
-use Rattle.lk_relax.specs.LinkDeletions.{Deletions}
-use Rattle.lk_relaxing.specs.Positions.{section_positions, symbol_positions}
-use Rattle.lk_relaxing.specs.Scan.{Standing}
-use Rattle.lk_relaxing.specs.Sites.{past_limit}
+use Rattle.lk_relax.specs.declared.sites.RelaxedPlace.{RelaxedPlace}
+use Rattle.lk_deltas.specs.LinkDeletions.{Deletions}
+use Rattle.lk_relax.specs.Positions.{section_positions, symbol_positions}
+use Rattle.lk_relax.specs.Scan.{Standing}
+use Rattle.lk_relax.specs.Sites.{past_limit}
 use Rattle.lk_layout.specs.declared.error.LayoutError.{LayoutError}
 use Rattle.lk_layout.specs.declared.stages.PlacedLink.{PlacedLink}
 use Rattle.lk_layout.specs.Defined.{made_standing}

@@ -6,9 +6,9 @@ use Rattle.lk_link.specs.declared.link.LinkInput.{LinkInput}
 use Rattle.lk_place.specs.declared.error.PlaceError.{PlaceError}
 use Rattle.lk_place.specs.declared.error.PlaceError.TheVariants as place
 use Rattle.lk_place.specs.Answers.{GivesPlaced, IsRefused}
-use Rattle.lk_relaxing.specs.Relaxed.{EndsRefused, GivesRelaxed}
-use Rattle.lk_relaxing.specs.RelaxedLaws.{nothing_deleted}
-use Rattle.lk_relaxing.specs.Stages.{Stage, first_scan, has_ended, is_done, refusal_of, setting_after}
+use Rattle.lk_relax.specs.Relaxed.{EndsRefused, GivesRelaxed}
+use Rattle.lk_relax.specs.RelaxedLaws.{nothing_deleted}
+use Rattle.lk_relax.specs.Stages.{Stage, first_scan, has_ended, is_done, refusal_of, setting_after}
 use Rattle.lk_layout.specs.declared.error.LayoutError.{LayoutError}
 use Rattle.lk_layout.specs.declared.error.LayoutError.TheVariants.{NoMemory}
 use Rattle.lk_layout.specs.LayoutRecord.{LayoutRecord}

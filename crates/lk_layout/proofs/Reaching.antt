@@ -6,7 +6,7 @@ use Rattle.lk_layout.specs.Machines.{Machine}
 use Rattle.lk_live.specs.declared.live.Live.{Live}
 use Rattle.lk_sizes.specs.Contents.{size_refusal}
 use Rattle.lk_layout.specs.declared.error.LayoutError.{LayoutError}
-use Rattle.lk_values.specs.declared.images.Images.{Images}
+use Rattle.lk_resolutions.specs.declared.images.Images.{Images}
 use Rattle.lk_layout.specs.LayoutRecord.{LayoutRecord}
 use Rattle.lk_layout.specs.declared.stages.KeptLink.{KeptLink}
 use Rattle.lk_layout.specs.declared.stages.PlacedLink.{PlacedLink}

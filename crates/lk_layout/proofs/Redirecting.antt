@@ -2,8 +2,8 @@
 use Rattle.std.proofs.Common.{◌≡◌, ℕ, ◌≤◌, ◌^◌, true, false, List, length, Option, Some, None, Result, Ok, Err, refl, sym, ap, ◌∙◌, arith}
 use Rattle.std.specs.Prelude.{option_map}
 use Rattle.std.specs.Result.{IsErrAnd}
-use Rattle.lk_edges.specs.Edges.{Edges, edges_of}
-use Rattle.lk_edges.specs.Redirects.{AllPlaced, redirected, redirects_of}
+use Rattle.lk_own_symbols.specs.Edges.{Edges, edges_of}
+use Rattle.lk_own_symbols.specs.Redirects.{AllPlaced, redirected, redirects_of}
 use Rattle.lk_expressions.specs.Records.{Record}
 use Rattle.lk_link.specs.declared.fault.Limited.TheVariants as limited
 use Rattle.lk_link.specs.declared.file.InputFile.{InputFile}
@@ -21,8 +21,8 @@ use Rattle.lk_place.specs.Regions.{GivesRegions, given_regions, regions_of}
 use Rattle.lk_place.specs.declared.cursors.Cursors.{Cursors}
 use Rattle.lk_place.specs.Segments.{section_records}
 use Rattle.lk_place.specs.Start.{cursors_at, memory_by}
-use Rattle.lk_relax.specs.LinkDeletions.{Deletions}
-use Rattle.lk_relaxing.specs.Stages.{refusal_of, setting_after}
+use Rattle.lk_deltas.specs.LinkDeletions.{Deletions}
+use Rattle.lk_relax.specs.Stages.{refusal_of, setting_after}
 use Rattle.lk_layout.specs.declared.error.LayoutError.{LayoutError}
 use Rattle.lk_layout.specs.declared.stages.SpannedLink.{SpannedLink}
 use Rattle.lk_layout.specs.Defined.{is_memory}
@@ -34,9 +34,9 @@ use Rattle.lk_layout.specs.RedirectWords.{GivesResolutions}
 use Rattle.lk_layout.specs.Redirects.{made_base, made_edges, made_redirected, placed_resolutions, placed_with, refused_by, value_or_0}
 use Rattle.lk_layout.specs.Spans.{made_joined, made_sections, made_segments}
 use Rattle.lk_layout.specs.Stages.{IsSpannedLink, made_spanned}
-use Rattle.lk_values.specs.Resolutions.{symbol_resolutions}
-use Rattle.lk_values.specs.Starts.{starts_of}
-use Rattle.lk_values.specs.Stores.{resolution_store}
+use Rattle.lk_resolutions.specs.Resolutions.{symbol_resolutions}
+use Rattle.lk_resolutions.specs.Starts.{starts_of}
+use Rattle.lk_resolutions.specs.Stores.{resolution_store}
 
 -- ---- regions
 

@@ -26,9 +26,9 @@ use Rattle.lk_merge.specs.OffsetsOutside.{is_reference_outside, refers_outside}
 use Rattle.lk_merge.specs.OutputAddresses.{MergePlace, address_in, chosen_offset, merged_address, offset_place, output_of, past_end, place_address, plus_addend, symbol_place}
 use Rattle.lk_merge.proofs.MergedReferences.{merged_references_show}
 use Rattle.lk_layout.specs.LayoutRecord.{LayoutRecord}
-use Rattle.lk_values.specs.declared.outside.MergeOffsetPlace.{MergeOffsetPlace}
-use Rattle.lk_values.specs.declared.outside.MergeOffsetPlace.TheVariants.{OfRelocation}
-use Rattle.lk_values.specs.Outside.{merge_offsets, relocation_outside, relocations_outside, section_outside, symbols_outside}
+use Rattle.lk_resolutions.specs.declared.outside.MergeOffsetPlace.{MergeOffsetPlace}
+use Rattle.lk_resolutions.specs.declared.outside.MergeOffsetPlace.TheVariants.{OfRelocation}
+use Rattle.lk_resolutions.specs.Outside.{merge_offsets, relocation_outside, relocations_outside, section_outside, symbols_outside}
 use Rattle.lk_layout.specs.Sound.{IsReference, ReferencesShow}
 use Rattle.lk_layout.proofs.LaidOut.{IsLaidOut, made_by}
 use Rattle.lk_layout.proofs.NamedSymbols.{has_none, past_tells}

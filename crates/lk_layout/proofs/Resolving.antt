@@ -6,9 +6,9 @@ use Rattle.std.proofs.lemmas.List.{length-map}
 use Rattle.std.proofs.lemmas.List.Concat.{get_or-flat_map, length-flat_map}
 use Rattle.std.proofs.lemmas.List.FromFn.{length-enumerate_from}
 use Rattle.std.proofs.lemmas.Option.{get_or_from_slice_get, slice_get_within}
-use Rattle.lk_edges.specs.Edges.{edge_value}
-use Rattle.lk_edges.specs.EdgeLaws.{OthersAreNoRedirects}
-use Rattle.lk_edges.specs.Redirects.{has_redirects}
+use Rattle.lk_own_symbols.specs.Edges.{edge_value}
+use Rattle.lk_own_symbols.specs.EdgeLaws.{OthersAreNoRedirects}
+use Rattle.lk_own_symbols.specs.Redirects.{has_redirects}
 use Rattle.lk_link.specs.declared.file.FileKind.{FileKind}
 use Rattle.lk_link.specs.declared.file.FileKind.TheVariants as kind
 use Rattle.lk_link.specs.declared.file.InputFile.{InputFile}
@@ -28,10 +28,10 @@ use Rattle.lk_tables.specs.SymbolTable.{symbols_by_number}
 use Rattle.lk_layout.specs.LayoutRecord.{LayoutRecord}
 use Rattle.lk_layout.specs.Made.{Made, made_deletions, made_filling}
 use Rattle.lk_layout.specs.Redirects.{made_edges, placed_resolutions}
-use Rattle.lk_values.specs.Entries.{EntrySetting, told_flags, with_entries}
-use Rattle.lk_values.specs.Resolutions.{Places, entries_of, file_resolutions, placed_value, places_of, resolution_at, resolution_of}
-use Rattle.lk_values.specs.Starts.{starts_of}
-use Rattle.lk_values.specs.StoreLaws.{ChangesValuesAlone}
+use Rattle.lk_resolutions.specs.Entries.{EntrySetting, told_flags, with_entries}
+use Rattle.lk_resolutions.specs.Resolutions.{Places, entries_of, file_resolutions, placed_value, places_of, resolution_at, resolution_of}
+use Rattle.lk_resolutions.specs.Starts.{starts_of}
+use Rattle.lk_resolutions.specs.StoreLaws.{ChangesValuesAlone}
 
 -- what the values of a layout go by, and its entries
 abbrev pub made_at : Made → Places

@@ -13,9 +13,9 @@ use Rattle.lk_link.specs.declared.plan.PlanSegment.{PlanSegment}
 use Rattle.lk_link.specs.Parts.{all_parts}
 use Rattle.lk_link.specs.TableSizes.{TableSizes}
 use Rattle.lk_sizes.specs.Owners.{Filling}
-use Rattle.lk_relax.specs.LinkDeletions.{Deletions}
-use Rattle.lk_relaxing.specs.RelaxedLaws.{StandsFor}
-use Rattle.lk_relaxing.specs.Stages.{Stage, filling_after, refusal_of, setting_after}
+use Rattle.lk_deltas.specs.LinkDeletions.{Deletions}
+use Rattle.lk_relax.specs.RelaxedLaws.{StandsFor}
+use Rattle.lk_relax.specs.Stages.{Stage, filling_after, refusal_of, setting_after}
 use Rattle.lk_layout.specs.Made.{relaxing_for}
 use Rattle.lk_layout.specs.Machines.{Machine}
 use Rattle.lk_link.specs.WellFormed.{IsWellFormed}
@@ -25,8 +25,8 @@ use Rattle.lk_place.specs.Segments.{part_records, section_record, section_record
 use Rattle.lk_place.specs.Setting.{IsReady}
 use Rattle.lk_sizes.specs.Emitted.{active_segments, is_active}
 use Rattle.lk_sizes.specs.PartOwners.{part_size, part_sizes}
-use Rattle.lk_values.specs.OutputContent.{output_content}
-use Rattle.lk_values.proofs.PartCounts.{length-by_part}
+use Rattle.lk_resolutions.specs.OutputContent.{output_content}
+use Rattle.lk_resolutions.proofs.PartCounts.{length-by_part}
 
 -- there is a record for each section
 pub length-section_records : (sections : List PlanSection) (parts : List Record) → length (section_records sections parts) ≡ length sections

@@ -28,14 +28,14 @@ use Rattle.lk_sizes.specs.Owners.{Owner, SectionOwner, bytes_of, owner_address, 
 use Rattle.lk_sizes.specs.PartOwners.{LiveSectionsAreOwners, owner_number, owners_of, part_size, part_sizes}
 use Rattle.lk_sizes.specs.Tiles.{HasByte, IsTiled, OwnersAreAligned, OwnersTileTheirPart}
 use Rattle.lk_sizes.proofs.LiveOnes.{Differ, Pairwise, live_differ, live_goes, live_good}
-use Rattle.lk_relaxing.specs.RelaxedLaws.{RelaxedIsShrunk, RelaxedStands}
-use Rattle.lk_relaxing.specs.Sites.{DeletedSitesAreNear}
-use Rattle.lk_relaxing.specs.Stages.{DeletionsAreRead, setting_after}
+use Rattle.lk_relax.specs.RelaxedLaws.{RelaxedIsShrunk, RelaxedStands}
+use Rattle.lk_relax.specs.Sites.{DeletedSitesAreNear}
+use Rattle.lk_relax.specs.Stages.{DeletionsAreRead, setting_after}
 use Rattle.lk_place.specs.Setting.{Setting}
 use Rattle.lk_layout.specs.Defined.{layout_of}
 use Rattle.lk_layout.specs.GroupPlaces.{GroupsBegin}
 use Rattle.lk_layout.specs.LayoutRecord.{LayoutRecord}
-use Rattle.lk_values.specs.Starts.{starts_of}
+use Rattle.lk_resolutions.specs.Starts.{starts_of}
 use Rattle.lk_layout.specs.Machines.{IsLawfulMachine, Machine}
 use Rattle.lk_layout.specs.Layouts.{told_live}
 use Rattle.lk_layout.specs.Laws.{DefinedLayoutsAreSound, LaidOutLinksAreWellFormed, LaidOutMemoryIsDisjoint, LaidOutSectionsAreApart}
@@ -48,7 +48,7 @@ use Rattle.lk_layout.proofs.EntriesStand.{entries_stand}
 use Rattle.lk_layout.proofs.TablesAlone.{tables_alone}
 use Rattle.lk_layout.proofs.ThunkAddresses.{thunks_stand}
 use Rattle.lk_layout.proofs.ThunksTold.{branches_reach}
-use Rattle.lk_branches.specs.BranchLaws.{BranchesReach, ThunksHaveRanges}
+use Rattle.lk_thunk_plan.specs.BranchLaws.{BranchesReach, ThunksHaveRanges}
 use Rattle.lk_layout.proofs.Fitting.{buckets_start, owners_fit}
 use Rattle.lk_layout.proofs.GroupsBegin.{groups_begin}
 use Rattle.lk_layout.proofs.LaidOut.{IsLaidOut, made_by, laid_out}
@@ -65,15 +65,15 @@ use Rattle.lk_layout.proofs.OnlyScanned.{only_scanned_lose}
 use Rattle.lk_layout.proofs.ToldSizes.{told_live_are}
 use Rattle.lk_link.proofs.GoodPartFields.{good_part_fields}
 use Rattle.lk_sizes.proofs.Placed.{size-le}
-use Rattle.lk_values.proofs.Placing.{starts_count}
+use Rattle.lk_resolutions.proofs.Placing.{starts_count}
 use Rattle.lk_layout.proofs.Resolved.{resolved_sections_are_live}
 use Rattle.lk_layout.proofs.Resolving.{objects_told}
 use Rattle.lk_layout.proofs.Settings.{part_size_at, ready, takes}
 use Rattle.lk_layout.proofs.Valued.{values_are_in_live_sections}
 use Rattle.lk_link.proofs.Elements.{contains_at, map_in}
-use Rattle.lk_values.specs.OutputContent.{output_content}
-use Rattle.lk_values.specs.StoreLaws.{ChangesValuesAlone, RedirectsChangeValuesAlone}
-use Rattle.lk_edges.specs.EdgeLaws.{OthersAreNoRedirects}
+use Rattle.lk_resolutions.specs.OutputContent.{output_content}
+use Rattle.lk_resolutions.specs.StoreLaws.{ChangesValuesAlone, RedirectsChangeValuesAlone}
+use Rattle.lk_own_symbols.specs.EdgeLaws.{OthersAreNoRedirects}
 use Rattle.lk_layout.specs.Spans.{made_joined, made_sections}
 use Rattle.lk_layout.specs.Made.{Made, made_filling, made_of, relaxing_for}
 

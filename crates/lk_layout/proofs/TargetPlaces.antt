@@ -30,21 +30,21 @@ use Rattle.lk_link.proofs.Elements.{map_in}
 use Rattle.lk_link.proofs.GoodInputs.{inputs_are_good}
 use Rattle.lk_link.proofs.InputLemmas.{inputs_follow, numbered_get}
 use Rattle.lk_place.specs.PlacementLaws.{PartsTakeTheirBytes, RefusedExactlyPast}
-use Rattle.lk_relax.specs.Candidates.{AreOf, is_gone, range_of, ranges_in}
-use Rattle.lk_relax.specs.Deletions.{RiseWithin, bytes_before, mapped, mapped_by}
-use Rattle.lk_relax.proofs.CandidateLemmas.{kept_rise, rise_by}
-use Rattle.lk_relax.specs.LinkDeletions.{Deletions, deleted_of, output_offset, size_after, sizes_after}
-use Rattle.lk_relaxing.specs.Positions.{file_positions, has_position, no_starts, position_in, section_position, section_positions, symbol_position, symbol_positions}
-use Rattle.lk_relaxing.specs.RelaxedLaws.{RelaxedIsShrunk}
-use Rattle.lk_relaxing.specs.Scan.{address_in, as_address, ranges_of, site}
+use Rattle.lk_deltas.specs.Candidates.{AreOf, is_gone, range_of, ranges_in}
+use Rattle.lk_deltas.specs.Deletions.{RiseWithin, bytes_before, mapped, mapped_by}
+use Rattle.lk_deltas.proofs.CandidateLemmas.{kept_rise, rise_by}
+use Rattle.lk_deltas.specs.LinkDeletions.{Deletions, deleted_of, output_offset, size_after, sizes_after}
+use Rattle.lk_relax.specs.Positions.{file_positions, has_position, no_starts, position_in, section_position, section_positions, symbol_position, symbol_positions}
+use Rattle.lk_relax.specs.RelaxedLaws.{RelaxedIsShrunk}
+use Rattle.lk_relax.specs.Scan.{address_in, as_address, ranges_of, site}
 use Rattle.lk_sizes.proofs.Placed.{ends_within}
 use Rattle.lk_sizes.specs.Addresses.{section_addresses}
 use Rattle.lk_sizes.specs.Owners.{Filling, bytes_of, size_of}
 use Rattle.lk_sizes.specs.PartOwners.{live_address, owner_number, owners_of}
 use Rattle.lk_sizes.proofs.LiveOnes.{live_goes}
 use Rattle.lk_sizes.proofs.Numbering.{table_at}
-use Rattle.lk_values.specs.Starts.{starts_of}
-use Rattle.lk_values.proofs.Placing.{marked_in}
+use Rattle.lk_resolutions.specs.Starts.{starts_of}
+use Rattle.lk_resolutions.proofs.Placing.{marked_in}
 use Rattle.lk_layout.specs.Defined.{made_standing}
 use Rattle.lk_layout.specs.LayoutRecord.{LayoutRecord}
 use Rattle.lk_layout.specs.Machines.{Machine}

@@ -5,9 +5,9 @@ use Rattle.std.specs.List.{slice_index_or}
 use Rattle.std.proofs.Math.ListN as lists
 use Rattle.std.proofs.lemmas.Bool.Decides.{nat_tests}
 use Rattle.std.proofs.lemmas.Option.{slice_get_within}
-use Rattle.lk_branches.specs.BranchLaws.{ThunksHaveRanges}
-use Rattle.lk_branches.specs.Branches.{thunk_in, thunks_of}
-use Rattle.lk_branches.specs.ThunkPlans.{config_for, thunk_size}
+use Rattle.lk_thunk_plan.specs.BranchLaws.{ThunksHaveRanges}
+use Rattle.lk_thunk_plan.specs.Branches.{thunk_in, thunks_of}
+use Rattle.lk_thunk_plan.specs.ThunkPlans.{config_for, thunk_size}
 use Rattle.lk_expressions.specs.Records.{Record, nowhere}
 use Rattle.lk_link.specs.declared.ids.FileId.{FileId}
 use Rattle.lk_link.specs.declared.link.LinkInput.{LinkInput}
@@ -15,11 +15,11 @@ use Rattle.lk_link.specs.declared.plan.PlanPart.{PlanPart}
 use Rattle.lk_link.specs.Parts.{all_parts, part_at}
 use Rattle.lk_link.proofs.GoodPartFields.{good_part_fields}
 use Rattle.lk_place.specs.PlacementLaws.{PartsTakeTheirBytes, RefusedExactlyPast}
-use Rattle.lk_relaxing.specs.Scan.{as_address}
+use Rattle.lk_relax.specs.Scan.{as_address}
 use Rattle.lk_sizes.specs.Owners.{Filling, Owner, ThunkOwner, bytes_of, owner_address, owner_bytes}
 use Rattle.lk_sizes.specs.PartOwners.{owners_of, thunk_number}
 use Rattle.lk_sizes.proofs.Tiling.{whole}
-use Rattle.lk_values.specs.Starts.{starts_of}
+use Rattle.lk_resolutions.specs.Starts.{starts_of}
 use Rattle.lk_layout.specs.LayoutRecord.{LayoutRecord}
 use Rattle.lk_layout.specs.Layouts.{thunk_address}
 use Rattle.lk_layout.specs.Machines.{IsLawfulMachine, Machine}

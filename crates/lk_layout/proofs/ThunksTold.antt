@@ -5,10 +5,10 @@ use Rattle.std.specs.List.{enumerate_from}
 use Rattle.std.specs.Option.{IfSome, option_map_or}
 use Rattle.std.proofs.Math.ListN as lists
 use Rattle.std.proofs.lemmas.Bool.{and_parts, eqb-true}
-use Rattle.lk_branches.specs.BranchLaws.{BranchesReach, HaveRanges, LiveBranchesReach, ThunksHaveRanges}
-use Rattle.lk_branches.specs.Branches.{block_owner, owns_block}
-use Rattle.lk_branches.specs.ThunkPlans.{config_for, owned_bytes, planned_range, planned_sets, planned_users, thunk_size}
-use Rattle.lk_branches.proofs.PlanLemmas.{owners_are_good}
+use Rattle.lk_thunk_plan.specs.BranchLaws.{BranchesReach, HaveRanges, LiveBranchesReach, ThunksHaveRanges}
+use Rattle.lk_thunk_plan.specs.Branches.{block_owner, owns_block}
+use Rattle.lk_thunk_plan.specs.ThunkPlans.{config_for, owned_bytes, planned_range, planned_sets, planned_users, thunk_size}
+use Rattle.lk_thunk_plan.proofs.PlanLemmas.{owners_are_good}
 use Rattle.lk_expressions.specs.Records.{Record, nowhere}
 use Rattle.lk_link.specs.declared.ids.FileId.{FileId}
 use Rattle.lk_link.specs.declared.link.LinkInput.{LinkInput}
@@ -27,7 +27,7 @@ use Rattle.lk_sizes.specs.PartOwners.{block_address, owners_of, thunk_number}
 use Rattle.lk_thunks.specs.declared.arch.ThunkConfig.{ThunkConfig}
 use Rattle.lk_thunks.specs.Building.{builder_of}
 use Rattle.lk_thunks.specs.Configs.{IsLawfulConfig}
-use Rattle.lk_values.specs.Starts.{starts_of}
+use Rattle.lk_resolutions.specs.Starts.{starts_of}
 use Rattle.lk_layout.specs.LayoutRecord.{LayoutRecord}
 use Rattle.lk_layout.specs.Machines.{IsLawfulMachine, Machine}
 use Rattle.lk_layout.specs.Made.{Made, filling_for, made_filling, made_plain}

@@ -5,7 +5,7 @@ use Rattle.std.proofs.lemmas.Option.{get_or_from_slice_get}
 use Rattle.lk_link.specs.Inputs.{Input, all_inputs}
 use Rattle.lk_link.proofs.Elements.{map_in}
 use Rattle.lk_live.specs.Reach.{marked}
-use Rattle.lk_relax.specs.LinkDeletions.{size_after, sizes_after}
+use Rattle.lk_deltas.specs.LinkDeletions.{size_after, sizes_after}
 use Rattle.lk_sizes.specs.declared.addresses.LiveSection.{LiveSection}
 use Rattle.lk_sizes.specs.Addresses.{live_section, live_sections, section_addresses}
 use Rattle.lk_sizes.specs.Owners.{Filling, size_of}
@@ -15,7 +15,7 @@ use Rattle.lk_sizes.proofs.Numbering.{table_at}
 use Rattle.lk_layout.specs.Defined.{layout_of}
 use Rattle.lk_layout.specs.Layouts.{told_live}
 use Rattle.lk_layout.specs.Made.{Made, made_deletions, made_filling}
-use Rattle.lk_values.specs.Starts.{starts_of}
+use Rattle.lk_resolutions.specs.Starts.{starts_of}
 
 -- the size of a section in the filling is what is left of it
 left_of : (made : Made) (k : ℕ) (x : Input) → slice_get (all_inputs made.link.groups) k ≡ Some x → size_of (made_filling made) x ≡ size_after made.link.groups (made_deletions made) x

@@ -15,7 +15,7 @@ use Rattle.lk_link.specs.declared.link.LinkInput.{LinkInput}
 use Rattle.lk_link.specs.Files.{file_in}
 use Rattle.lk_link.specs.Symbols.{file_number}
 use Rattle.lk_link.proofs.Places.{file_place}
-use Rattle.lk_branches.specs.Orders.{AreUsersOf}
+use Rattle.lk_thunk_plan.specs.Orders.{AreUsersOf}
 use Rattle.lk_layout.specs.ThunkUsers.{AreInOrder, is_before, is_same, user_for}
 
 abbrev pub User : Type 0

@@ -12,16 +12,16 @@ use Rattle.lk_sizes.specs.declared.addresses.LiveSection.{LiveSection}
 use Rattle.lk_sizes.specs.Addresses.{live_section, live_sections}
 use Rattle.lk_sizes.specs.Owners.{Filling}
 use Rattle.lk_sizes.specs.PartOwners.{live_address}
-use Rattle.lk_relax.specs.LinkDeletions.{Deletions, output_offset}
+use Rattle.lk_deltas.specs.LinkDeletions.{Deletions, output_offset}
 use Rattle.lk_layout.specs.LayoutRecord.{LayoutRecord}
 use Rattle.lk_layout.specs.Layouts.{told_live}
 use Rattle.lk_layout.specs.Made.{Made, made_deletions, made_filling}
 use Rattle.lk_layout.specs.Sound.{SymbolsStandInLiveSections, ValuesAreInLiveSections}
 use Rattle.lk_layout.proofs.Resolving.{ObjectsAreTold, made_at, made_entries, object_value}
-use Rattle.lk_values.specs.Entries.{EntrySetting}
-use Rattle.lk_values.specs.Resolutions.{Places, address_at, placed_value}
-use Rattle.lk_values.specs.Starts.{starts_of}
-use Rattle.lk_values.proofs.Placing.{marked_in}
+use Rattle.lk_resolutions.specs.Entries.{EntrySetting}
+use Rattle.lk_resolutions.specs.Resolutions.{Places, address_at, placed_value}
+use Rattle.lk_resolutions.specs.Starts.{starts_of}
+use Rattle.lk_resolutions.proofs.Placing.{marked_in}
 
 pub values_are_in_live_sections : (made : Made) (layout : LayoutRecord) → layout.section_deletions ≡ made_deletions made → told_live made.link layout ≡ live_sections (made_filling made) (starts_of made.stage.records)
     → ObjectsAreTold made layout → SymbolsStandInLiveSections made.link made.live → ValuesAreInLiveSections made layout

@@ -1,17 +1,17 @@
 -- What stands in the parts, by where they are found to stand.
 use Rattle.std.proofs.Common.{◌≡◌, List, ap, ◌∙◌}
-use Rattle.lk_edges.specs.Edges.{Edges}
+use Rattle.lk_own_symbols.specs.Edges.{Edges}
 use Rattle.lk_expressions.specs.Records.{Record}
 use Rattle.lk_link.specs.declared.link.LinkInput.{LinkInput}
 use Rattle.lk_merge.specs.Addresses.{start_addresses}
 use Rattle.lk_merge.specs.Hash.{fnv64}
 use Rattle.lk_merge.specs.LinkInputs.{link_inputs}
-use Rattle.lk_relax.specs.LinkDeletions.{Deletions}
+use Rattle.lk_deltas.specs.LinkDeletions.{Deletions}
 use Rattle.lk_sizes.specs.Addresses.{block_addresses, section_addresses}
 use Rattle.lk_sizes.specs.Images.{image_addresses}
-use Rattle.lk_values.specs.declared.addresses.Addresses.{Addresses}
-use Rattle.lk_values.specs.Resolutions.{symbol_resolutions}
-use Rattle.lk_values.specs.Starts.{starts_of}
+use Rattle.lk_resolutions.specs.declared.addresses.Addresses.{Addresses}
+use Rattle.lk_resolutions.specs.Resolutions.{symbol_resolutions}
+use Rattle.lk_resolutions.specs.Starts.{starts_of}
 use Rattle.lk_layout.specs.declared.stages.SpannedLink.{SpannedLink}
 use Rattle.lk_layout.specs.Machines.{Machine}
 use Rattle.lk_layout.specs.Made.{Made, made_deletions, made_filling}

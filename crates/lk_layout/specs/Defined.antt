@@ -2,8 +2,8 @@
 use Rattle.std.specs.Prelude.{◌≡◌, Bool, true, false, List, [], ◌∷◌, Option, Some, None, option_map, slice_get, Result, Ok, Err}
 use Rattle.lk_link.specs.declared.link.LinkInput.{LinkInput}
 use Rattle.lk_layout.specs.Machines.{Machine}
-use Rattle.lk_branches.specs.Branches.{unreached}
-use Rattle.lk_branches.specs.ThunkPlans.{config_for, thunk_size}
+use Rattle.lk_thunk_plan.specs.Branches.{unreached}
+use Rattle.lk_thunk_plan.specs.ThunkPlans.{config_for, thunk_size}
 use Rattle.lk_check.specs.FirstFault.{first_fault}
 use Rattle.lk_live.specs.declared.error.ReferenceFault.{ReferenceFault}
 use Rattle.lk_live.specs.declared.live.Live.{Live}
@@ -23,9 +23,9 @@ use Rattle.lk_sizes.specs.Addresses.{section_addresses}
 use Rattle.lk_sizes.specs.Harvest.{sorted_sections}
 use Rattle.lk_sizes.specs.Header.{header_info}
 use Rattle.lk_tables.specs.Singletons.{partial_link_plan}
-use Rattle.lk_relaxing.specs.Scan.{Standing}
-use Rattle.lk_relaxing.specs.Sites.{past_limit}
-use Rattle.lk_relaxing.specs.Stages.{IsRelaxed, Stage, refusal_of, standing_at}
+use Rattle.lk_relax.specs.Scan.{Standing}
+use Rattle.lk_relax.specs.Sites.{past_limit}
+use Rattle.lk_relax.specs.Stages.{IsRelaxed, Stage, refusal_of, standing_at}
 use Rattle.lk_layout.specs.declared.error.LayoutError.{LayoutError}
 use Rattle.lk_layout.specs.declared.error.LayoutError.TheVariants.{NoMemory, References}
 use Rattle.lk_layout.specs.DynsymStart.{dynsym_start}
@@ -34,13 +34,13 @@ use Rattle.lk_layout.specs.LayoutRecord.{LayoutRecord}
 use Rattle.lk_layout.specs.Flags.{made_flags}
 use Rattle.lk_layout.specs.Errors.{branch_error, fault_error, offset_error, place_error, site_error, size_error}
 use Rattle.lk_layout.specs.Merging.{merging_refusal}
-use Rattle.lk_values.specs.Outside.{merge_offsets}
-use Rattle.lk_values.specs.Resolutions.{entry_symbol}
+use Rattle.lk_resolutions.specs.Outside.{merge_offsets}
+use Rattle.lk_resolutions.specs.Resolutions.{entry_symbol}
 use Rattle.lk_layout.specs.Made.{Made, filling_for, made_content, made_deletions, made_filling, made_of, made_relaxing, relaxing_for}
 use Rattle.lk_layout.specs.Thunks.{made_branching, made_owners, made_places, made_sets, made_users}
 use Rattle.lk_layout.specs.Redirects.{made_resolutions, redirects_refusal}
 pub use Rattle.lk_layout.specs.Spans.{made_joined, made_sections, made_segments}
-use Rattle.lk_values.specs.Starts.{starts_of}
+use Rattle.lk_resolutions.specs.Starts.{starts_of}
 use Rattle.lk_sizes.specs.Owners.{Filling}
 
 -- the answer is this refusal, if there is one, else P holds of it

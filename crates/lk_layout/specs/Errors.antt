@@ -1,5 +1,5 @@
 -- What a layout answers for the errors of its steps.
-use Rattle.lk_branches.specs.declared.check.BranchPlace.{BranchPlace}
+use Rattle.lk_thunk_plan.specs.declared.check.BranchPlace.{BranchPlace}
 use Rattle.lk_live.specs.declared.error.GcError.{GcError}
 use Rattle.lk_live.specs.declared.error.GcError.TheVariants as gc
 use Rattle.lk_link.specs.declared.fault.LinkFault.{LinkFault}
@@ -8,7 +8,7 @@ use Rattle.lk_merge.specs.declared.error.MergeError.{MergeError}
 use Rattle.lk_merge.specs.declared.error.MergeError.TheVariants as merge
 use Rattle.lk_place.specs.declared.error.PlaceError.{PlaceError}
 use Rattle.lk_place.specs.declared.error.PlaceError.TheVariants as place
-use Rattle.lk_relaxing.specs.declared.sites.RelaxedPlace.{RelaxedPlace}
+use Rattle.lk_relax.specs.declared.sites.RelaxedPlace.{RelaxedPlace}
 use Rattle.lk_sizes.specs.declared.error.SizeError.{SizeError}
 use Rattle.lk_sizes.specs.declared.error.SizeError.TheVariants as size
 use Rattle.lk_layout.specs.declared.error.LayoutError.{LayoutError}
@@ -17,7 +17,7 @@ use Rattle.lk_layout.specs.declared.error.LayoutError.TheVariants.{MergeNotTermi
 use Rattle.lk_layout.specs.declared.error.ReachKind.TheVariants.{Branch, Relaxed}
 use Rattle.lk_layout.specs.declared.error.LayoutError.TheVariants.{AddressOverflow, BaseTooLow, Expression, LocationBackwards, OutsideRegion}
 use Rattle.lk_layout.specs.declared.error.LayoutError.TheVariants.{RegionDuplicate, RegionOverflow, RegionUnknown, SectionOutsideSegments}
-use Rattle.lk_values.specs.declared.outside.MergeOffsetPlace.{MergeOffsetPlace}
+use Rattle.lk_resolutions.specs.declared.outside.MergeOffsetPlace.{MergeOffsetPlace}
 
 -- for a fault of the link
 abbrev pub fault_error : LinkFault → LayoutError

@@ -8,7 +8,7 @@ use Rattle.lk_link.specs.PlanSections.{is_file_backed}
 use Rattle.lk_expressions.specs.Records.{Record, file_end, record_at}
 use Rattle.lk_live.specs.declared.live.Live.{Live}
 use Rattle.lk_place.specs.Ranges.{HasPart, IsInFile}
-use Rattle.lk_relaxing.specs.Stages.{Stage}
+use Rattle.lk_relax.specs.Stages.{Stage}
 use Rattle.lk_sizes.specs.declared.addresses.LiveSection.{LiveSection}
 use Rattle.lk_sizes.specs.Owners.{Owner, bytes_of, owner_address, owner_bytes}
 use Rattle.lk_sizes.specs.PartOwners.{owner_number, owners_of}

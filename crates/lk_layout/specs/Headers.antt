@@ -6,7 +6,7 @@ use Rattle.lk_live.specs.declared.live.Live.{Live}
 use Rattle.lk_tables.specs.declared.headers.HeaderSizes.{HeaderSizes}
 use Rattle.lk_sizes.specs.Header.{header_info}
 use Rattle.lk_tables.specs.HeaderParts.{header_sizes}
-use Rattle.lk_values.specs.OutputContent.{output_content}
+use Rattle.lk_resolutions.specs.OutputContent.{output_content}
 
 -- the header of the file, and those of segments
 abbrev pub leading_bytes : HeaderSizes → ℕ

@@ -7,7 +7,7 @@ use Rattle.lk_live.specs.Faults.{reference_faults}
 use Rattle.lk_live.specs.Reach.{AreLive}
 use Rattle.lk_place.specs.Plans.{IsUnmoved}
 use Rattle.lk_place.specs.Ranges.{MemoryIsDisjoint}
-use Rattle.lk_relaxing.specs.Stages.{Stage}
+use Rattle.lk_relax.specs.Stages.{Stage}
 use Rattle.lk_layout.specs.declared.error.LayoutError.{LayoutError}
 use Rattle.lk_layout.specs.LayoutRecord.{LayoutRecord}
 use Rattle.lk_layout.specs.Defined.{IsDefined}

@@ -7,7 +7,7 @@ use Rattle.lk_link.specs.declared.resolution.Resolution.{Resolution}
 use Rattle.lk_expressions.specs.Records.{Record}
 use Rattle.lk_merge.specs.Pieces.{MergeInput}
 use Rattle.lk_place.specs.declared.segments.SegmentLayout.{SegmentLayout}
-use Rattle.lk_relax.specs.LinkDeletions.{Deletions}
+use Rattle.lk_deltas.specs.LinkDeletions.{Deletions}
 use Rattle.lk_sizes.specs.declared.sorted.InputSortedSection.{InputSortedSection}
 use Rattle.lk_layout.specs.declared.group_starts.GroupStarts.{GroupStarts}
 use Rattle.lk_tables.specs.declared.header_info.HeaderInfo.{HeaderInfo}

@@ -7,11 +7,11 @@ use Rattle.lk_link.specs.Inputs.{Input, all_inputs}
 use Rattle.lk_link.specs.Marks.{is_marked}
 use Rattle.lk_sizes.specs.declared.addresses.LiveSection.{LiveSection}
 use Rattle.lk_live.specs.Reach.{marked}
-use Rattle.lk_relax.specs.LinkDeletions.{size_after}
-use Rattle.lk_relaxing.specs.Scan.{as_address}
+use Rattle.lk_deltas.specs.LinkDeletions.{size_after}
+use Rattle.lk_relax.specs.Scan.{as_address}
 use Rattle.lk_layout.specs.LayoutRecord.{LayoutRecord}
-use Rattle.lk_values.specs.declared.resolution.EntryFault.{EntryFault}
-use Rattle.lk_values.specs.Resolutions.{entry_address}
+use Rattle.lk_resolutions.specs.declared.resolution.EntryFault.{EntryFault}
+use Rattle.lk_resolutions.specs.Resolutions.{entry_address}
 
 -- an input section with its number over all files, as it is told: with its address, and its size without what is deleted
 abbrev pub told_section : LinkInput → LayoutRecord → ℕ × Input → LiveSection

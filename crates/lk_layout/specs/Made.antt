@@ -4,12 +4,12 @@ use Rattle.lk_live.specs.declared.live.Live.{Live}
 use Rattle.lk_link.specs.declared.ids.FileId.{FileId}
 use Rattle.lk_link.specs.declared.link.LinkInput.{LinkInput}
 use Rattle.lk_sizes.specs.Owners.{Content, Filling}
-use Rattle.lk_branches.specs.ThunkPlans.{thunk_owners}
-use Rattle.lk_relax.specs.LinkDeletions.{Deletions}
-use Rattle.lk_relaxing.specs.Stages.{Relaxing, Stage, filling_after}
+use Rattle.lk_thunk_plan.specs.ThunkPlans.{thunk_owners}
+use Rattle.lk_deltas.specs.LinkDeletions.{Deletions}
+use Rattle.lk_relax.specs.Stages.{Relaxing, Stage, filling_after}
 use Rattle.lk_layout.specs.Headers.{header_bytes}
 use Rattle.lk_layout.specs.Machines.{Machine}
-use Rattle.lk_values.specs.OutputContent.{output_content, output_filling, thunked_filling}
+use Rattle.lk_resolutions.specs.OutputContent.{output_content, output_filling, thunked_filling}
 
 -- a link, for a machine, what is live of it, and the stage at which its relaxation ends: what is deleted of its sections, and the placement
 -- that stands, as states round the events and records of all parts

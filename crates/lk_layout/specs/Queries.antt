@@ -16,7 +16,7 @@ use Rattle.lk_expressions.specs.Records.{Record, mem_end, record_at}
 use Rattle.lk_place.specs.Segments.{least}
 use Rattle.lk_tables.specs.Late.{flags_at}
 use Rattle.lk_layout.specs.LayoutRecord.{LayoutRecord}
-use Rattle.lk_values.specs.Resolutions.{resolution_at}
+use Rattle.lk_resolutions.specs.Resolutions.{resolution_at}
 
 -- ---- symbols
 

@@ -1,7 +1,7 @@
 -- What the symbols of a layout stand for: by what is placed, and then behind all redirects.
 use Rattle.std.specs.Prelude.{ℕ, List, [], Option, Some, None, Result, Ok, Err, option_map}
-use Rattle.lk_edges.specs.Edges.{Edges, edges_of}
-use Rattle.lk_edges.specs.Redirects.{AllPlaced, redirected, redirects_of}
+use Rattle.lk_own_symbols.specs.Edges.{Edges, edges_of}
+use Rattle.lk_own_symbols.specs.Redirects.{AllPlaced, redirected, redirects_of}
 use Rattle.lk_expressions.specs.Expressions.{Valued}
 use Rattle.lk_expressions.specs.Records.{Record}
 use Rattle.lk_link.specs.declared.resolution.Resolution.{Resolution}
@@ -14,9 +14,9 @@ use Rattle.lk_layout.specs.Errors.{place_error}
 use Rattle.lk_layout.specs.Headers.{header_bytes}
 use Rattle.lk_layout.specs.Made.{Made, made_deletions, made_filling}
 use Rattle.lk_layout.specs.Spans.{made_joined, made_sections, made_segments}
-use Rattle.lk_values.specs.Resolutions.{resolution_at, symbol_resolutions}
-use Rattle.lk_values.specs.Starts.{starts_of}
-use Rattle.lk_values.specs.Stores.{resolution_store}
+use Rattle.lk_resolutions.specs.Resolutions.{resolution_at, symbol_resolutions}
+use Rattle.lk_resolutions.specs.Starts.{starts_of}
+use Rattle.lk_resolutions.specs.Stores.{resolution_store}
 
 -- what the linker's own symbols stand at
 abbrev pub made_edges : Made → Edges

@@ -5,8 +5,8 @@ use Rattle.lk_link.specs.declared.section.InputSection.{InputSection}
 use Rattle.lk_link.specs.declared.section.SectionSlot.{SectionSlot}
 use Rattle.lk_link.specs.Marks.{is_marked}
 use Rattle.lk_live.specs.Slots.{sized_slot}
-use Rattle.lk_relax.specs.DeltaMaps.{deltas_at}
-use Rattle.lk_relax.specs.Deletions.{mapped_by}
+use Rattle.lk_deltas.specs.DeltaMaps.{deltas_at}
+use Rattle.lk_deltas.specs.Deletions.{mapped_by}
 
 -- a file's sections, whether each is live, and what is deleted of each by its index, if anything is told of that
 pub record SlotsRecord : Type 0 where

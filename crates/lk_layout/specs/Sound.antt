@@ -27,8 +27,8 @@ use Rattle.lk_link.specs.Parts.{all_parts, part_at, part_sections}
 use Rattle.lk_link.specs.PlanSections.{is_file_backed, is_set}
 use Rattle.lk_link.specs.Relocations.{resolution_flags}
 use Rattle.lk_link.specs.Symbols.{definition_of, first_symbol, is_wanted}
-use Rattle.lk_edges.specs.Edges.{Edges, edge_value, edges_of}
-use Rattle.lk_edges.specs.Redirects.{AllPlaced, RedirectsHold, is_redirect}
+use Rattle.lk_own_symbols.specs.Edges.{Edges, edge_value, edges_of}
+use Rattle.lk_own_symbols.specs.Redirects.{AllPlaced, RedirectsHold, is_redirect}
 use Rattle.lk_live.specs.declared.live.Live.{Live}
 use Rattle.lk_live.specs.Faults.{reference_faults}
 use Rattle.lk_live.specs.Reach.{AreLive, live_inputs}
@@ -42,11 +42,11 @@ use Rattle.lk_merge.specs.Pieces.{Piece, MergeInput}
 use Rattle.lk_place.specs.Plain.{IsPlain, PlacesInLoad}
 use Rattle.lk_place.specs.Ranges.{FileIsDisjoint, HasPart, MemoryIsDisjoint, TakesMemory}
 use Rattle.lk_expressions.specs.Records.{Record, record_at}
-use Rattle.lk_relax.specs.Candidates.{AreOf, is_gone}
-use Rattle.lk_relax.specs.LinkDeletions.{output_offset}
-use Rattle.lk_relaxing.specs.Positions.{has_position}
-use Rattle.lk_relaxing.specs.Scan.{ranges_of}
-use Rattle.lk_relaxing.specs.Stages.{IsRelaxed, refusal_of}
+use Rattle.lk_deltas.specs.Candidates.{AreOf, is_gone}
+use Rattle.lk_deltas.specs.LinkDeletions.{output_offset}
+use Rattle.lk_relax.specs.Positions.{has_position}
+use Rattle.lk_relax.specs.Scan.{ranges_of}
+use Rattle.lk_relax.specs.Stages.{IsRelaxed, refusal_of}
 use Rattle.lk_place.specs.Segments.{alignment_inside, first_outside}
 use Rattle.lk_sizes.specs.declared.addresses.LiveSection.{LiveSection}
 use Rattle.lk_sizes.specs.Emitted.{is_emitted, told_marks}
@@ -63,17 +63,17 @@ use Rattle.lk_sizes.specs.Sorted.{IsByName, before}
 use Rattle.lk_sizes.specs.Tiles.{HasByte, IsTiled}
 use Rattle.lk_tables.specs.SymbolEntries.{is_resolved}
 use Rattle.lk_layout.specs.LayoutRecord.{LayoutRecord}
-use Rattle.lk_values.specs.Starts.{starts_of}
+use Rattle.lk_resolutions.specs.Starts.{starts_of}
 use Rattle.lk_layout.specs.Defined.{layout_of}
 use Rattle.lk_layout.specs.GroupPlaces.{GroupsBegin}
 use Rattle.lk_layout.specs.Layouts.{emitted_count, thunk_address, told_live, told_singletons}
-use Rattle.lk_values.specs.Outside.{merge_offsets}
-use Rattle.lk_values.specs.Resolutions.{resolution_at}
+use Rattle.lk_resolutions.specs.Outside.{merge_offsets}
+use Rattle.lk_resolutions.specs.Resolutions.{resolution_at}
 use Rattle.lk_layout.specs.Made.{Made, made_content, made_filling, made_relaxing}
 use Rattle.lk_layout.specs.Redirects.{placed_resolutions, placed_with, value_at}
-use Rattle.lk_branches.specs.BranchLaws.{HaveRanges, LiveBranchesReach}
-use Rattle.lk_branches.specs.Branches.{Branching, thunk_in, thunks_of}
-use Rattle.lk_branches.specs.ThunkPlans.{config_for, thunk_size}
+use Rattle.lk_thunk_plan.specs.BranchLaws.{HaveRanges, LiveBranchesReach}
+use Rattle.lk_thunk_plan.specs.Branches.{Branching, thunk_in, thunks_of}
+use Rattle.lk_thunk_plan.specs.ThunkPlans.{config_for, thunk_size}
 
 -- the record of the part with this number over all sections
 abbrev pub part_record : LayoutRecord → ℕ → Record

@@ -1,8 +1,8 @@
 -- Words of private contracts: how far a link is laid out, stage by stage. What is known of a stage holds what was known before.
 use Rattle.std.specs.Prelude.{◌≡◌, false, [], Some, None, Result, Ok, Err, option_map}
-use Rattle.lk_branches.specs.Branches.{unreached}
-use Rattle.lk_branches.specs.Orders.{IsInOrder}
-use Rattle.lk_branches.specs.ThunkPlans.{IsThunkPlan}
+use Rattle.lk_thunk_plan.specs.Branches.{unreached}
+use Rattle.lk_thunk_plan.specs.Orders.{IsInOrder}
+use Rattle.lk_thunk_plan.specs.ThunkPlans.{IsThunkPlan}
 use Rattle.lk_check.specs.FirstFault.{first_fault}
 use Rattle.lk_live.specs.Faults.{reference_faults}
 use Rattle.lk_live.specs.Reach.{AreLive}
@@ -16,9 +16,9 @@ use Rattle.lk_merge.specs.Addresses.{start_addresses}
 use Rattle.lk_merge.specs.Hash.{fnv64}
 use Rattle.lk_merge.specs.LinkInputs.{link_inputs}
 use Rattle.lk_place.specs.Answers.{ArePlaced}
-use Rattle.lk_relaxing.specs.RelaxedLaws.{nothing_deleted}
-use Rattle.lk_relaxing.specs.Sites.{past_limit}
-use Rattle.lk_relaxing.specs.Stages.{IsRelaxed, Stage, filling_after, refusal_of, setting_after}
+use Rattle.lk_relax.specs.RelaxedLaws.{nothing_deleted}
+use Rattle.lk_relax.specs.Sites.{past_limit}
+use Rattle.lk_relax.specs.Stages.{IsRelaxed, Stage, filling_after, refusal_of, setting_after}
 use Rattle.lk_place.specs.Segments.{thread_local_one}
 use Rattle.lk_sizes.specs.Addresses.{block_addresses, section_addresses}
 use Rattle.lk_sizes.specs.Attributes.{all_section_attributes}
@@ -29,8 +29,8 @@ use Rattle.lk_sizes.specs.Contents.{size_refusal}
 use Rattle.lk_sizes.specs.Owners.{AreThunkOwners}
 use Rattle.lk_sizes.specs.Sizing.{AreFilled}
 use Rattle.lk_layout.specs.declared.error.LayoutError.{LayoutError}
-use Rattle.lk_values.specs.declared.addresses.Addresses.{Addresses}
-use Rattle.lk_values.specs.declared.images.Images.{Images}
+use Rattle.lk_resolutions.specs.declared.addresses.Addresses.{Addresses}
+use Rattle.lk_resolutions.specs.declared.images.Images.{Images}
 use Rattle.lk_layout.specs.declared.stages.AddressedLink.{AddressedLink}
 use Rattle.lk_layout.specs.declared.stages.KeptLink.{KeptLink}
 use Rattle.lk_layout.specs.declared.stages.PlacedLink.{PlacedLink}
@@ -44,10 +44,10 @@ use Rattle.lk_layout.specs.Made.{Made, filling_for, made_filling, made_of, relax
 use Rattle.lk_layout.specs.Thunks.{made_branching, made_owners, made_places}
 use Rattle.lk_layout.specs.Merging.{merging_refusal}
 use Rattle.lk_layout.specs.Redirects.{made_redirected, placed_resolutions}
-use Rattle.lk_values.specs.Images.{AreImages}
-use Rattle.lk_values.specs.Outside.{merge_offsets}
-use Rattle.lk_values.specs.OutputContent.{output_content, output_filling}
-use Rattle.lk_values.specs.Starts.{starts_of}
+use Rattle.lk_resolutions.specs.Images.{AreImages}
+use Rattle.lk_resolutions.specs.Outside.{merge_offsets}
+use Rattle.lk_resolutions.specs.OutputContent.{output_content, output_filling}
+use Rattle.lk_resolutions.specs.Starts.{starts_of}
 
 -- the stage is reached, or the error is the answer of the link, unless memory ran out
 abbrev pub Reaches : {S : Type 0} → Machine → LinkInput → (S → Type 0) → Result S LayoutError → Type 0

@@ -12,7 +12,7 @@ use Rattle.lk_layout.specs.declared.error.LayoutError.{LayoutError}
 use Rattle.lk_layout.specs.declared.error.LayoutError.TheVariants as layout
 use Rattle.lk_layout.specs.declared.error.ReachKind.{ReachKind}
 use Rattle.lk_layout.specs.declared.error.ReachKind.TheVariants as reach
-use Rattle.lk_values.specs.Texts.{merge_offset_text}
+use Rattle.lk_resolutions.specs.Texts.{merge_offset_text}
 
 -- a number with its digits to the base of 16
 abbrev pub hexadecimal : ℕ → List ℕ

@@ -1,13 +1,13 @@
 -- The thunks of a layout: the definitions that each block has some for, its owner, where they begin, and what branches go by.
 use Rattle.std.specs.Prelude.{ℕ, Bool, List, Option}
-use Rattle.lk_branches.specs.Branches.{Branching, block_places, owners_of_blocks}
-use Rattle.lk_branches.specs.ThunkPlans.{config_for, planned_sets, planned_users}
+use Rattle.lk_thunk_plan.specs.Branches.{Branching, block_places, owners_of_blocks}
+use Rattle.lk_thunk_plan.specs.ThunkPlans.{config_for, planned_sets, planned_users}
 use Rattle.lk_link.specs.declared.ids.FileId.{FileId}
 use Rattle.lk_sizes.specs.Addresses.{primary_address, section_addresses}
 use Rattle.lk_sizes.specs.Owners.{Filling}
 use Rattle.lk_layout.specs.Made.{Made, made_deletions, made_filling, made_plain}
 use Rattle.lk_layout.specs.Redirects.{made_resolutions}
-use Rattle.lk_values.specs.Starts.{starts_of}
+use Rattle.lk_resolutions.specs.Starts.{starts_of}
 
 -- the definitions that each block has thunks for
 abbrev pub made_sets : Made → List (List ℕ)

@@ -8,16 +8,16 @@ ghost use Rattle.lk_layout.specs.Texts.{backwards_text, duplicate_text, full_buc
 ghost use Rattle.lk_layout.specs.Texts.{reach_text, references_text, undeclared_text, unterminated_text};
 
 use crate::references::FurtherLines;
-use lk_branches::BranchPlace;
 use lk_link::fault::{Limited, LinkFault, Place, Rule};
 use lk_link::ids::{FileId, OutputSectionId, RegionId};
 use lk_link::list::List;
 use lk_live::{GcError, InputAt, ReferenceFault};
 use lk_merge::MergeError;
 use lk_place::{NoValue, PlaceError};
-use lk_relaxing::RelaxedPlace;
+use lk_relax::RelaxedPlace;
+use lk_resolutions::MergeOffsetPlace;
 use lk_sizes::SizeError;
-use lk_values::MergeOffsetPlace;
+use lk_thunk_plan::BranchPlace;
 use std::alloc::{AllocError, AllocFailed};
 use std::fmt;
 

@@ -3,12 +3,12 @@
 ghost use Rattle.std.specs.Prelude.{◌≡◌, IfOk, Ok, length};
 ghost use Rattle.lk_link.specs.Marks.{is_marked};
 ghost use Rattle.lk_link.specs.Parts.{all_parts};
-ghost use Rattle.lk_relax.specs.LinkDeletions.{sizes_after};
+ghost use Rattle.lk_deltas.specs.LinkDeletions.{sizes_after};
 ghost use Rattle.lk_sizes.specs.Emitted.{is_emitted};
 ghost use Rattle.lk_sizes.specs.Owners.{Filling};
 ghost use Rattle.lk_sizes.specs.Sizing.{GivesOwners};
-ghost use Rattle.lk_values.specs.OutputContent.{in_layout, output_content, output_filling};
-ghost use Rattle.lk_values.specs.Starts.{IsPlaced};
+ghost use Rattle.lk_resolutions.specs.OutputContent.{in_layout, output_content, output_filling};
+ghost use Rattle.lk_resolutions.specs.Starts.{IsPlaced};
 ghost use Rattle.lk_layout.specs.Headers.{header_bytes};
 ghost use Rattle.lk_layout.specs.Machines.{platform_machine};
 ghost use Rattle.lk_layout.specs.Made.{made_deletions};
@@ -19,27 +19,25 @@ use crate::error::LayoutError;
 use crate::group_starts::{GroupStarts, group_starts};
 use crate::redirects::set_redirects;
 use crate::stages::{AddressedLink, KeptLink, PlacedLink, ReachingLink, SizedLink, SpannedLink};
-use lk_branches::laws::thunk_owners_are_good;
-use lk_branches::{ThunkPlan, block_owners, block_places, check_branches, plan_thunks};
-use lk_edges::laws::segments_end_below;
-use lk_edges::{Edges, edges_of};
 use lk_link::ids::FileId;
 use lk_link::link::LinkInput;
 use lk_link::list::List;
 use lk_link::platform::Platform;
+use lk_own_symbols::laws::segments_end_below;
+use lk_own_symbols::{Edges, edges_of};
 use lk_place::laws::parts_take_their_bytes;
 use lk_place::{
     OutputRecordLayout, Placed, SegmentFileLayout, SegmentLayouts, compute_segment_layout,
     merge_secondary_parts,
 };
-use lk_relaxing::laws::{
-    nothing_is_past, relaxed_is_shrunk, relaxed_stands, shrunk_can_be_scanned,
-};
-use lk_relaxing::{check_sites, compute_input_section_positions, is_nothing_deleted, place_first};
+use lk_relax::laws::{nothing_is_past, relaxed_is_shrunk, relaxed_stands, shrunk_can_be_scanned};
+use lk_relax::{check_sites, compute_input_section_positions, is_nothing_deleted, place_first};
+use lk_resolutions::{Addresses, PlacedParts, addresses_of, addresses_of_by_groups, check_offsets};
 use lk_sizes::part_owners::{add_thunks, plain_owners, plain_owners_by_groups};
 use lk_sizes::{PartOwners, PartialLinkPlan, attributes_of_contents};
+use lk_thunk_plan::laws::thunk_owners_are_good;
+use lk_thunk_plan::{ThunkPlan, block_owners, block_places, check_branches, plan_thunks};
 use lk_thunks::Arch;
-use lk_values::{Addresses, PlacedParts, addresses_of, addresses_of_by_groups, check_offsets};
 use std::alloc::{AllocError, Global};
 use std::thread::Threads;
 

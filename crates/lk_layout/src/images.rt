@@ -7,7 +7,7 @@ ghost use Rattle.lk_layout.specs.MergingWords.{GivesImages};
 use crate::error::LayoutError;
 use lk_link::{Gate, LinkInput};
 use lk_merge::{StringMergeInputs, merge_strings, merge_strings_alone};
-use lk_values::images::{Images, image_lens};
+use lk_resolutions::images::{Images, image_lens};
 use std::alloc::Global;
 use std::sync::Wait;
 use std::thread::Threads;

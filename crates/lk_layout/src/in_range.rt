@@ -2,11 +2,11 @@
 
 ghost use Rattle.std.specs.Prelude.{◌≡◌, ◌==◌, drop, length, take};
 ghost use Rattle.std.specs.Iterator.{YieldsFirst, item_count};
-ghost use Rattle.lk_values.specs.Resolutions.{resolution_at};
+ghost use Rattle.lk_resolutions.specs.Resolutions.{resolution_at};
 
 use lk_link::Resolution;
 use lk_link::ids::SymbolIdRange;
-use lk_values::SymbolResolutions;
+use lk_resolutions::SymbolResolutions;
 use std::marker::Model;
 
 /// What the symbols of a range stand for, by number, as far as there are such symbols; none where a symbol has no resolution. It is lent

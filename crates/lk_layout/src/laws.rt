@@ -6,22 +6,22 @@ ghost use Rattle.lk_layout.specs.Laws.{DefinedLayoutsAreSound, LaidOutMemoryIsDi
 ghost use Rattle.lk_layout.specs.Machines.{IsLawfulMachine, small64_machine};
 ghost use Rattle.lk_layout.specs.ToldMemory.{MemoryStays};
 
-use lk_branches::laws::{branches_reach, thunks_have_ranges};
 use lk_check::well_formed_exactly_unfaulted;
-use lk_edges::laws::others_are_no_redirects;
 use lk_live::{live_exists, live_is_one};
+use lk_own_symbols::laws::others_are_no_redirects;
 use lk_place::laws::{
     file_ranges_are_disjoint, memory_ranges_are_disjoint, parts_take_file_bytes,
     parts_take_their_bytes, plain_memory_is_congruent, plain_memory_is_disjoint,
     records_keep_alignments, refused_exactly_past,
 };
-use lk_relaxing::laws::{
+use lk_relax::laws::{
     deleted_sites_are_near, deletions_are_read, relaxed_exists, relaxed_is_one, relaxed_is_shrunk,
     relaxed_stands,
 };
+use lk_resolutions::laws::redirects_change_values_alone;
 use lk_sizes::laws::{live_sections_are_owners, owners_are_aligned, owners_tile_their_part};
+use lk_thunk_plan::laws::{branches_reach, thunks_have_ranges};
 use lk_thunks::{Arch, Small64Arch};
-use lk_values::laws::redirects_change_values_alone;
 
 /// A law: every link has a defined answer, on every machine.
 pub fn defined_answer_exists()

@@ -6,16 +6,16 @@ ghost use Rattle.lk_layout.specs.Layouts.{resolved_entry, thunk_address, thunk_c
 
 use crate::group_starts::GroupStarts;
 use crate::thunk_users::ThunkUsers;
+use lk_deltas::RelaxDeltaMap;
 use lk_link::ValueFlags;
 use lk_link::ids::{FileId, SymbolId};
 use lk_link::link::LinkInput;
 use lk_link::list::List;
 use lk_merge::{MergedStringStartAddresses, MergedStringsSection};
 use lk_place::{OutputRecordLayout, SegmentLayout};
-use lk_relax::RelaxDeltaMap;
+use lk_resolutions::{EntryFault, SymbolResolutions, entry_value};
 use lk_sizes::{HeaderInfo, InputSortedSection, PartialLinkPlan};
 use lk_thunks::{ThunkBlock, ThunkBlockId};
-use lk_values::{EntryFault, SymbolResolutions, entry_value};
 use std::marker::Model;
 
 /// Where everything stands (libwild: `Layout`). Contracts see a record of all that it lends.

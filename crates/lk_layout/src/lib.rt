@@ -35,6 +35,6 @@ pub use crate::section_resolution::SectionResolution;
 pub use lk_link::Resolution;
 pub use lk_live::ReferenceFault;
 pub use lk_merge::{MergedStringStartAddresses, MergedStringsSection};
+pub use lk_resolutions::{EntryFault, MergeOffsetPlace, SymbolResolutions};
 pub use lk_sizes::LiveSection;
 pub use lk_thunks::{Arch, Small64Arch, ThunkBlock, ThunkConfig};
-pub use lk_values::{EntryFault, MergeOffsetPlace, SymbolResolutions};

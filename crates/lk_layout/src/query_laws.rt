@@ -2,7 +2,7 @@
 
 ghost use Rattle.lk_layout.specs.QueryLaws.{ThreadLocalDataEndsBelow};
 
-use lk_edges::laws::segments_end_below;
+use lk_own_symbols::laws::segments_end_below;
 
 /// A law: the thread-local segment of a defined layout ends below 2^64, rounded up to its alignment; so `Layout::tls_end_address` tells
 /// that end of each link that is laid out.

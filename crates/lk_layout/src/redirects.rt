@@ -9,13 +9,13 @@ ghost use Rattle.lk_layout.specs.Stages.{IsSpannedLink, made_spanned};
 use crate::error::LayoutError;
 use crate::headers::header_bytes;
 use crate::stages::SpannedLink;
-use lk_edges::{PlacedLink as AllPlaced, evaluate_redirects};
 use lk_link::link::LinkInput;
 use lk_link::platform::Platform;
+use lk_own_symbols::{PlacedLink as AllPlaced, evaluate_redirects};
 use lk_place::evaluate_regions;
 use lk_place::laws::expressions_are_shallow;
+use lk_resolutions::SymbolResolutions;
 use lk_thunks::Arch;
-use lk_values::SymbolResolutions;
 use std::alloc::Global;
 
 /// Sets the values that redirects come to, where resolutions are kept that go by what is placed. Refuses the first redirect whose

@@ -3,10 +3,10 @@
 ghost use Rattle.std.specs.Prelude.{◌≡◌};
 ghost use Rattle.lk_layout.specs.SectionSlots.{slot_left};
 
+use lk_deltas::{RelaxDeltaMap, opt_input_to_output};
 use lk_link::marks::is_marked;
 use lk_link::{InputSection, LinkInput, SectionSlot};
 use lk_live::slot_after;
-use lk_relax::{RelaxDeltaMap, opt_input_to_output};
 use std::marker::Model;
 
 /// What became of the sections of a file, by index, lent by a layout (libwild: the slots of `ObjectLayout`). Contracts see the sections with

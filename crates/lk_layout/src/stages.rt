@@ -4,24 +4,24 @@ ghost use Rattle.std.specs.Prelude.{◌≡◌};
 ghost use Rattle.lk_layout.specs.Defined.{layout_of};
 ghost use Rattle.lk_layout.specs.DynsymStart.{first_export};
 ghost use Rattle.lk_layout.specs.Machines.{Machine};
-ghost use Rattle.lk_branches.specs.ThunkPlans.{thunk_size};
+ghost use Rattle.lk_thunk_plan.specs.ThunkPlans.{thunk_size};
 ghost use Rattle.lk_layout.specs.Stages.{IsToldLink, made_told};
 
 use crate::group_starts::GroupStarts;
 use crate::late_marks::with_late_marks;
 use crate::layout::Layout;
 use crate::thunk_users::ThunkUsers;
-use lk_branches::ThunkPlan;
+use lk_deltas::RelaxDeltaMap;
 use lk_link::ids::FileId;
 use lk_link::link::LinkInput;
 use lk_link::list::List;
 use lk_live::Live;
 use lk_place::laws::file_ranges_are_disjoint;
 use lk_place::{OutputRecordLayout, Placed, SegmentLayouts};
-use lk_relax::RelaxDeltaMap;
+use lk_resolutions::{Addresses, Images, entry_symbol};
 use lk_sizes::{DynamicNumbers, PartOwners, PartialLinkPlan};
+use lk_thunk_plan::ThunkPlan;
 use lk_thunks::ThunkConfig;
-use lk_values::{Addresses, Images, entry_symbol};
 
 /// A link that is merged, with what is live of it.
 #[derive(Drop)]

@@ -6,20 +6,20 @@
 //! are worth anything here.
 
 ghost use Rattle.std.specs.Prelude.{◌≡◌, ◌<◌, All, IfOk, length};
-ghost use Rattle.lk_edges.specs.Edges.{EndsBelow};
+ghost use Rattle.lk_own_symbols.specs.Edges.{EndsBelow};
 ghost use Rattle.lk_link.specs.WellFormed.{IsWellFormed};
 
 use crate::rows::{Asked, expect_rows};
 use crate::walked::numbers_of;
 use lk_check::check_link;
-use lk_edges::laws::segments_end_below;
-use lk_edges::{Edges, KnownValues, PlacedLink, SymbolValues, edges_of, evaluate_redirects};
 use lk_input::{InputError, read_link};
 use lk_link::{
     FileKind, InputFile, InputSymbol, LinkInput, List, Plan, SegmentId, Small64, SymbolId,
     SymbolPlacement, ValueFlags,
 };
 use lk_live::{Live, traverse_alone};
+use lk_own_symbols::laws::segments_end_below;
+use lk_own_symbols::{Edges, KnownValues, PlacedLink, SymbolValues, edges_of, evaluate_redirects};
 use lk_place::{
     OutputRecordLayout, Placed, SegmentFileLayout, SegmentLayout, SymbolPositions,
     compute_layout_sections, compute_segment_layout, merge_secondary_parts,
@@ -96,7 +96,7 @@ impl Model for Values {
 }
 
 impl KnownValues for Values {
-    ghost use Rattle.lk_edges.specs.Stores.{kept_value};
+    ghost use Rattle.lk_own_symbols.specs.Stores.{kept_value};
 
     ghost value_of = { kept_value (λ n. n) };
 
@@ -110,7 +110,7 @@ impl KnownValues for Values {
 
 impl SymbolValues for Values {
     ghost use Rattle.std.specs.Prelude.{refl};
-    ghost use Rattle.lk_edges.specs.Stores.{kept_alone, kept_with};
+    ghost use Rattle.lk_own_symbols.specs.Stores.{kept_alone, kept_with};
 
     ghost with_value = { kept_with (λ _ n. n) };
 

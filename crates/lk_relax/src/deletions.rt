@@ -1,45 +1,37 @@
-//! What is deleted of the sections of all files.
+//! The sizes of input sections without what is deleted of them.
 
-ghost use Rattle.std.specs.Prelude.{◌≡◌, ◌<◌, ◌^◌, IsSome, slice_get};
-ghost use Rattle.std.specs.Option.{option_copied};
-ghost use Rattle.lk_link.specs.Files.{file_in};
-ghost use Rattle.lk_link.specs.Symbols.{file_number};
-ghost use Rattle.lk_relax.specs.LinkDeletions.{deleted_in, deleted_of};
+ghost use Rattle.std.specs.Prelude.{◌≡◌, IfOk};
+ghost use Rattle.lk_link.specs.Walks.{input_of};
+ghost use Rattle.lk_link.specs.WellFormed.{IsWellFormed};
+ghost use Rattle.lk_sizes.specs.Tables.{IsInput};
+ghost use Rattle.lk_deltas.specs.LinkDeletions.{size_after, sizes_after};
 
-use crate::delta_map::RelaxDeltaMap;
-use crate::deltas::SectionRelaxDeltas;
-use lk_link::{FileId, LinkInput};
+use lk_deltas::{RelaxDeltaMap, deleted_of, opt_input_to_output};
+use lk_link::{InputRef, LinkInput};
+use std::alloc::{AllocError, Global};
 
-/// What is deleted of the section of a file with this index, if there is an entry for it; what is deleted of the sections of each
-/// file stands at the file's number over all groups. Takes logarithmic time.
-pub fn deleted_of<'a>(
+/// The sizes of all input sections, by their numbers, without what is deleted of them. Looks at each section once.
+pub fn sizes_after(
+    alloc: Global,
     link: &LinkInput,
-    deltas: &'a [RelaxDeltaMap],
-    file: FileId,
-    index: usize,
-) -> Option<&'a SectionRelaxDeltas>
-    requires there { IsSome (file_in link.now.groups file) }
-    requires few { index < 2 ^ 32 }
-    ensures { option_copied result ≡ deleted_of link.now.groups deltas.now file index }
+    deltas: &[RelaxDeltaMap],
+) -> Result<Vec<u64>, AllocError>
+    requires { IsWellFormed link.now }
+    ensures { IfOk result (λ sizes. sizes.items ≡ sizes_after link.now.groups deltas.now) }
 {
-    map_of(link, deltas, file)?.get(index as u32)
+    let mut sizes = Vec::with_capacity(alloc, link.groups.input_count() as usize)?;
+    for input in link.groups.inputs() {
+        sizes.push(size_after(link, deltas, input))?;
+    }
+    Ok(sizes)
 }
 
-/// What is deleted of the sections of a file, if there is an entry for it. Takes constant time.
-pub fn map_of<'a>(
-    link: &LinkInput,
-    deltas: &'a [RelaxDeltaMap],
-    file: FileId,
-) -> Option<&'a RelaxDeltaMap>
-    requires { IsSome (file_in link.now.groups file) }
-    ensures { option_copied result ≡ slice_get deltas.now (file_number link.now.groups file) }
+/// The size of an input section without what is deleted of it.
+fn size_after(link: &LinkInput, deltas: &[RelaxDeltaMap], input: InputRef<'_>) -> u64
+    requires good { IsWellFormed link.now }
+    requires there { IsInput link.now (input_of input) }
+    ensures { result ≡ size_after link.now.groups deltas.now (input_of input.entry) }
 {
-    deltas.get(link.groups.file_number(file)?)
-}
-
-/// What is deleted of a section by its index, in a file of which this is deleted. Takes logarithmic time.
-pub fn deleted_in(entries: Option<&RelaxDeltaMap>, index: u32) -> Option<&SectionRelaxDeltas>
-    ensures { option_copied result ≡ deleted_in (option_copied entries.entry) index }
-{
-    entries?.get(index)
+    let deleted = deleted_of(link, deltas, input.file, input.index);
+    opt_input_to_output(deleted, input.section.size)
 }

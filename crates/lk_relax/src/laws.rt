@@ -1,53 +1,110 @@
-//! Laws on deleted ranges, each proved as the contract of a function that does nothing.
+//! Laws, each proved as the contract of a function that does nothing.
 
-ghost use Rattle.lk_relax.specs.Laws.{ApartHaveBoth, BothAreOne, GoodCandidatesCanGo, NothingIsOf, OffsetsKeepOrder, OffsetsOnlyFall, PickedAreNew, PickedCanGo, RangesGoToTheirStarts, ShrunkAreOf};
+ghost use Rattle.lk_relax.specs.RelaxedLaws.{NothingDeletedIsNothingLost, EmptyDeletionsLeaveAll, FirstIsShrunk, FirstStands, NothingDeletedLeavesAll, PassesStand, PassesStayShrunk, RelaxedIsShrunk, RelaxedStands, SizesFallByPasses, StillPassesKeepParts};
+ghost use Rattle.lk_relax.specs.Sites.{DeletedSitesAreNear, NothingIsPast, ShrunkCanBeScanned};
+ghost use Rattle.lk_relax.specs.Stages.{DeletionsAreRead, FirstCanBeScanned, PassesShrink, RelaxedExists, RelaxedIsOne};
 
-/// A law: offsets keep their order.
-pub fn offsets_keep_order()
-    ensures { OffsetsKeepOrder }
+/// A law: where nothing is deleted, input sections have the sizes of the description.
+pub fn nothing_deleted_is_nothing_lost()
+    ensures { NothingDeletedIsNothingLost }
 {}
 
-/// A law: an offset in a deleted range, or at its end, goes where the range's start goes.
-pub fn ranges_go_to_their_starts()
-    ensures { RangesGoToTheirStarts }
+/// A law: deletions without ranges leave sizes and offsets as they are.
+pub fn empty_deletions_leave_all()
+    ensures { EmptyDeletionsLeaveAll }
 {}
 
-/// A law: where more is deleted, an offset goes at most as far from the start.
-pub fn offsets_only_fall()
-    ensures { OffsetsOnlyFall }
+/// A law: an empty entry for each file leaves sizes and offsets as they are.
+pub fn nothing_deleted_leaves_all()
+    ensures { NothingDeletedLeavesAll }
 {}
 
-/// A law: two lists of ranges have one list of both that can be deleted, if any.
-pub fn both_are_one()
-    ensures { BothAreOne }
+/// A law: what is deleted of each section by a pass is read back.
+pub fn deletions_are_read()
+    ensures { DeletionsAreRead }
 {}
 
-/// A law: two lists of ranges that can be deleted, apart, have one list of both.
-pub fn apart_have_both()
-    ensures { ApartHaveBoth }
+/// A law: the sections that the first pass looks at can be looked at.
+pub fn first_can_be_scanned()
+    ensures { FirstCanBeScanned }
+{
+    lk_deltas::laws::nothing_is_of();
+}
+
+/// A law: a pass leaves bytes of candidates deleted, and no section has more bytes behind it.
+pub fn passes_shrink()
+    ensures { PassesShrink }
+{
+    lk_deltas::laws::shrunk_are_of();
+    lk_deltas::laws::picked_are_new();
+    lk_deltas::laws::offsets_only_fall();
+}
+
+/// A law: relaxation of a well-formed link ends at one stage alone.
+pub fn relaxed_is_one()
+    ensures { RelaxedIsOne }
+{
+    lk_place::laws::placement_is_one();
+}
+
+/// A law: it ends at some stage.
+pub fn relaxed_exists()
+    ensures { RelaxedExists }
+{
+    lk_place::laws::placement_exists();
+}
+
+/// A law: at the first stage what is deleted are bytes of candidates, and what is looked at can be.
+pub fn first_is_shrunk()
+    ensures { FirstIsShrunk }
 {}
 
-/// A law: the candidates of a good section can go, and end inside it.
-pub fn good_candidates_can_go()
-    ensures { GoodCandidatesCanGo }
+/// A law: so it is behind a pass, if it was before it.
+pub fn passes_stay_shrunk()
+    ensures { PassesStayShrunk }
 {}
 
-/// A law: nothing is the ranges of none of the candidates.
-pub fn nothing_is_of()
-    ensures { NothingIsOf }
+/// A law: no section has more bytes behind a pass than before it.
+pub fn sizes_fall_by_passes()
+    ensures { SizesFallByPasses }
 {}
 
-/// A law: what a pass picks can be deleted.
-pub fn picked_can_go()
-    ensures { PickedCanGo }
+/// A law: at the stage that relaxation ends at, what is deleted are bytes of candidates.
+pub fn relaxed_is_shrunk()
+    ensures { RelaxedIsShrunk }
 {}
 
-/// A law: what is deleted and what a pass picks are together what is deleted behind the pass, so they can be merged.
-pub fn picked_are_new()
-    ensures { PickedAreNew }
+/// A law: where capacities fall by nothing in a pass, each part keeps its bytes.
+pub fn still_passes_keep_parts()
+    ensures { StillPassesKeepParts }
 {}
 
-/// A law: what is deleted behind a pass are ranges of some of the candidates again.
-pub fn shrunk_are_of()
-    ensures { ShrunkAreOf }
+/// A law: the first stage's placement is of the bytes that the parts have there.
+pub fn first_stands()
+    ensures { FirstStands }
+{}
+
+/// A law: so it is behind a pass, if it was before it.
+pub fn passes_stand()
+    ensures { PassesStand }
+{}
+
+/// A law: the placement that relaxation ends with is of the bytes that the parts have at the end.
+pub fn relaxed_stands()
+    ensures { RelaxedStands }
+{}
+
+/// A law: at a stage where what is deleted are bytes of candidates, each section of which something is deleted can be looked at.
+pub fn shrunk_can_be_scanned()
+    ensures { ShrunkCanBeScanned }
+{}
+
+/// A law: where no candidate is past its limit, none whose bytes are gone stood farther from its symbol than that.
+pub fn deleted_sites_are_near()
+    ensures { DeletedSitesAreNear }
+{}
+
+/// A law: where the map of no file has an entry, no candidate is past its limit.
+pub fn nothing_is_past()
+    ensures { NothingIsPast }
 {}

@@ -1,16 +1,20 @@
-//! What relaxation deletes of sections, where offsets go by that, and a pass over the candidates of one section. Passes over a whole
-//! link are of `lk_relaxing`.
+//! What relaxation deletes over a whole link, where input sections and symbols stand by that, a pass over the sections that are looked at,
+//! the passes one after the other, and the look at what is deleted when all is placed.
 #![tactic(auto)]
 
-mod candidates;
-mod deletions;
-mod delta_map;
-mod deltas;
+pub mod deletions;
+mod judge;
 pub mod laws;
-mod shards;
+mod passes;
+pub mod placing;
+pub mod positions;
+pub mod relaxation;
+pub mod scan;
+pub mod sites;
 
-pub use crate::candidates::{Judge, Outcome, Scan, first_past, scan_candidates};
-pub use crate::deletions::{deleted_in, deleted_of, map_of};
-pub use crate::delta_map::RelaxDeltaMap;
-pub use crate::deltas::{SectionRelaxDeltas, opt_input_to_output};
-pub use crate::shards::split_ordered_symbol_ranges;
+pub use crate::deletions::sizes_after;
+pub use crate::placing::place_first;
+pub use crate::positions::compute_input_section_positions;
+pub use crate::relaxation::{Relaxed, RelaxedParts, perform_iterative_relaxation, relax_owners};
+pub use crate::scan::relaxation_scan_pass;
+pub use crate::sites::{RelaxedPlace, check_sites, is_nothing_deleted};

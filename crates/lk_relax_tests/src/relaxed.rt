@@ -11,19 +11,19 @@ ghost use Rattle.lk_link.specs.TableSizes.{TableSizes};
 ghost use Rattle.lk_link.specs.WellFormed.{IsWellFormed};
 ghost use Rattle.lk_sizes.specs.Contents.{size_refusal};
 ghost use Rattle.lk_sizes.specs.Sizing.{AreFilled};
-ghost use Rattle.lk_relaxing.specs.Relaxed.{ArePlacedFirst, own_filling, relaxing};
+ghost use Rattle.lk_relax.specs.Relaxed.{ArePlacedFirst, own_filling, relaxing};
 
 use crate::rows::{expect_rows, expect_text};
 use lk_check::check_link;
+use lk_deltas::{
+    RelaxDeltaMap, SectionRelaxDeltas, opt_input_to_output, split_ordered_symbol_ranges,
+};
 use lk_expressions::{OutputRecordLayout, SymbolPositions};
 use lk_input::read_link;
 use lk_link::{FileId, LinkInput, PartId, PlanPart, Platform, Section, Small64, SymbolId};
 use lk_live::{Live, traverse_alone};
 use lk_place::{PlaceError, Placed};
 use lk_relax::{
-    RelaxDeltaMap, SectionRelaxDeltas, opt_input_to_output, split_ordered_symbol_ranges,
-};
-use lk_relaxing::{
     Relaxed, compute_input_section_positions, perform_iterative_relaxation, place_first,
     relaxation_scan_pass,
 };
@@ -207,7 +207,7 @@ fn add_scanned(
 ) -> Result<(), AllocError>
     requires { IsWellFormed all.link.now }
 {
-    lk_relax::laws::nothing_is_of();
+    lk_deltas::laws::nothing_is_of();
     let Some(found_in) = all.link.groups.file(file) else {
         return Ok(());
     };
@@ -263,7 +263,7 @@ fn add_first(
     requires live { AreLive link.now live.now }
     requires filled { (tables : TableSizes) × AreFilled (own_filling link.now tables live.now [] []) owners.now }
 {
-    lk_relaxing::laws::nothing_deleted_is_nothing_lost();
+    lk_relax::laws::nothing_deleted_is_nothing_lost();
     let (sections, symbols) = compute_input_section_positions(alloc, link, live, owners, &[])?;
     add_sections(line, &sections)?;
     add_symbols(line, &symbols, link.groups.symbol_count().min(64) as u32)?;

@@ -11,8 +11,8 @@ use Rattle.lk_link.specs.Marks.{is_marked}
 use Rattle.lk_link.specs.Parts.{first_part}
 use Rattle.lk_link.specs.Texts.{joined}
 use Rattle.lk_layout.specs.LayoutRecord.{LayoutRecord}
-use Rattle.lk_values.specs.declared.resolution.EntryFault.{EntryFault}
-use Rattle.lk_values.specs.declared.resolution.EntryFault.TheVariants.{NotAnAddress, NotLoaded}
+use Rattle.lk_resolutions.specs.declared.resolution.EntryFault.{EntryFault}
+use Rattle.lk_resolutions.specs.declared.resolution.EntryFault.TheVariants.{NotAnAddress, NotLoaded}
 use Rattle.lk_link.specs.declared.resolution.Resolution.{Resolution}
 use Rattle.lk_layout.specs.Layouts.{emitted_count, is_told_singleton, resolved_entry, thunk_address, told_live, told_section, told_singletons}
 use Rattle.lk_merge.specs.Addresses.{image_start}

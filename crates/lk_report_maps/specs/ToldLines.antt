@@ -18,8 +18,8 @@ use Rattle.lk_sizes.specs.declared.addresses.LiveSection.{LiveSection}
 use Rattle.lk_place.specs.declared.segments.SegmentLayout.{SegmentLayout}
 use Rattle.lk_layout.specs.LayoutRecord.{LayoutRecord}
 use Rattle.lk_layout.specs.Layouts.{emitted_count, resolved_entry, thunk_address, told_live, told_singletons}
-use Rattle.lk_values.specs.declared.resolution.EntryFault.{EntryFault}
-use Rattle.lk_values.specs.declared.resolution.EntryFault.TheVariants.{NotAnAddress, NotLoaded}
+use Rattle.lk_resolutions.specs.declared.resolution.EntryFault.{EntryFault}
+use Rattle.lk_resolutions.specs.declared.resolution.EntryFault.TheVariants.{NotAnAddress, NotLoaded}
 use Rattle.lk_report.specs.Report.{bytes_behind, takes_memory}
 
 -- what items say, one after the other, each by its number; the first has the number n

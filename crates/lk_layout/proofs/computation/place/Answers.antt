@@ -3,9 +3,9 @@ use Rattle.lk_live.specs.declared.live.Live.{Live}
 use Rattle.lk_link.specs.declared.link.LinkInput.{LinkInput}
 use Rattle.lk_link.specs.Marks.{is_marked}
 use Rattle.lk_place.specs.Answers.{ArePlaced}
-use Rattle.lk_relaxing.specs.Relaxed.{AreRelaxed, GivesRelaxed}
-use Rattle.lk_relaxing.specs.RelaxedLaws.{nothing_deleted}
-use Rattle.lk_relaxing.specs.Stages.{Relaxing, setting_after}
+use Rattle.lk_relax.specs.Relaxed.{AreRelaxed, GivesRelaxed}
+use Rattle.lk_relax.specs.RelaxedLaws.{nothing_deleted}
+use Rattle.lk_relax.specs.Stages.{Relaxing, setting_after}
 use Rattle.lk_sizes.specs.Header.{header_info}
 use Rattle.lk_sizes.specs.Owners.{AreThunkOwners}
 use Rattle.lk_tables.specs.declared.header_info.HeaderInfo.{HeaderInfo}
@@ -14,7 +14,7 @@ use Rattle.lk_layout.specs.Headers.{header_bytes, leading_bytes}
 use Rattle.lk_layout.specs.Machines.{platform_machine}
 use Rattle.lk_layout.specs.Made.{filling_for}
 use Rattle.lk_layout.specs.Stages.{IsPlacedLink, Reaches}
-use Rattle.lk_values.specs.OutputContent.{output_content}
+use Rattle.lk_resolutions.specs.OutputContent.{output_content}
 use Rattle.lk_layout.proofs.Answering.{err_exit, reached_on}
 use Rattle.lk_layout.proofs.FewHeaders.{few_active}
 use Rattle.lk_layout.proofs.PlacingRefused.{relaxing_refused}

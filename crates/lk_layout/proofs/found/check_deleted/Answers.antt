@@ -1,9 +1,9 @@
 use Rattle.std.proofs.Common.{◌≡◌, true, ap, sym, subst, ◌∙◌}
 use Rattle.lk_live.specs.declared.live.Live.{Live}
 use Rattle.lk_link.specs.declared.link.LinkInput.{LinkInput}
-use Rattle.lk_relax.specs.LinkDeletions.{Deletions}
-use Rattle.lk_relaxing.specs.Positions.{section_positions, symbol_positions}
-use Rattle.lk_relaxing.specs.Sites.{CanAllBeScanned, is_nothing_deleted, past_limit}
+use Rattle.lk_deltas.specs.LinkDeletions.{Deletions}
+use Rattle.lk_relax.specs.Positions.{section_positions, symbol_positions}
+use Rattle.lk_relax.specs.Sites.{CanAllBeScanned, is_nothing_deleted, past_limit}
 use Rattle.lk_layout.specs.Defined.{made_standing}
 use Rattle.lk_layout.specs.Machines.{platform_machine}
 use Rattle.lk_layout.specs.Made.{made_filling, relaxing_for}

@@ -1,5 +1,5 @@
 use Rattle.std.proofs.Common.{length, sym, ap, subst, ◌∙◌}
-use Rattle.lk_edges.specs.Edges.{EndsBelow}
+use Rattle.lk_own_symbols.specs.Edges.{EndsBelow}
 use Rattle.lk_place.specs.declared.segments.SegmentFileLayout.TheVariants.{FromSections}
 use Rattle.lk_sizes.specs.Emitted.{active_segments, is_emitted}
 use Rattle.lk_layout.specs.Errors.{place_error}

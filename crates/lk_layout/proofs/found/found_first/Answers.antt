@@ -2,8 +2,8 @@ use Rattle.std.proofs.Common.{ℕ, Err, subst}
 use Rattle.lk_live.specs.declared.live.Live.{Live}
 use Rattle.lk_link.specs.declared.link.LinkInput.{LinkInput}
 use Rattle.lk_place.specs.Answers.{ArePlaced, GivesPlaced}
-use Rattle.lk_relaxing.specs.RelaxedLaws.{nothing_deleted}
-use Rattle.lk_relaxing.specs.Stages.{Relaxing, setting_after}
+use Rattle.lk_relax.specs.RelaxedLaws.{nothing_deleted}
+use Rattle.lk_relax.specs.Stages.{Relaxing, setting_after}
 use Rattle.lk_layout.specs.Machines.{platform_machine}
 use Rattle.lk_layout.specs.Made.{filling_for}
 use Rattle.lk_layout.specs.Stages.{IsPlacedFirst, Reaches}

@@ -1,7 +1,7 @@
 use Rattle.std.proofs.Common.{◌≡◌, Some, Err, ap, sym, ◌∙◌}
 use Rattle.std.specs.Prelude.{slice_get}
-use Rattle.lk_branches.specs.Branches.{Branching, unreached}
-use Rattle.lk_branches.specs.declared.check.BranchPlace.{BranchPlace}
+use Rattle.lk_thunk_plan.specs.Branches.{Branching, unreached}
+use Rattle.lk_thunk_plan.specs.declared.check.BranchPlace.{BranchPlace}
 use Rattle.lk_link.specs.declared.link.LinkInput.{LinkInput}
 use Rattle.lk_layout.specs.Machines.{platform_machine}
 use Rattle.lk_layout.specs.Made.{Made}

@@ -5,7 +5,7 @@ use Rattle.lk_sizes.specs.declared.error.SizeError.{SizeError}
 use Rattle.lk_sizes.specs.Emitted.{is_emitted}
 use Rattle.lk_sizes.specs.Owners.{content_of, plain_filling}
 use Rattle.lk_sizes.specs.Sizing.{GivesOwners}
-use Rattle.lk_values.specs.OutputContent.{image_lens, output_filling}
+use Rattle.lk_resolutions.specs.OutputContent.{image_lens, output_filling}
 use Rattle.lk_layout.specs.Machines.{platform_machine}
 use Rattle.lk_layout.specs.Stages.{IsSized, Reaches}
 use Rattle.lk_layout.proofs.Answering.{err_exit}

@@ -13,7 +13,7 @@ use Rattle.lk_layout.specs.Errors.{place_error}
 use Rattle.lk_layout.specs.Machines.{platform_machine}
 use Rattle.lk_layout.specs.Made.{Made, made_content}
 use Rattle.lk_layout.specs.Stages.{IsSpannedLink, Reaches, made_placed}
-use Rattle.lk_values.specs.OutputContent.{output_content}
+use Rattle.lk_resolutions.specs.OutputContent.{output_content}
 use Rattle.lk_layout.proofs.Answering.{err_exit, outside_segments, segments_of, unjoined}
 use Rattle.lk_layout.proofs.PlacedSites.{sections_are}
 use Rattle.lk_layout.proofs.Reaching.{from_placed}

@@ -1,16 +1,16 @@
 use Rattle.std.proofs.Common.{ℕ, List, length, ap, ◌∙◌}
-use Rattle.lk_branches.specs.ThunkPlans.{planned_sets}
+use Rattle.lk_thunk_plan.specs.ThunkPlans.{planned_sets}
 use Rattle.lk_sizes.specs.Owners.{Filling}
 use Rattle.lk_tables.specs.declared.header_info.HeaderInfo.{HeaderInfo}
-use Rattle.lk_branches.specs.Branches.{owners_of_blocks}
-use Rattle.lk_values.specs.OutputContent.{output_filling}
+use Rattle.lk_thunk_plan.specs.Branches.{owners_of_blocks}
+use Rattle.lk_resolutions.specs.OutputContent.{output_filling}
 use Rattle.lk_link.specs.declared.link.LinkInput.{LinkInput}
 use Rattle.lk_layout.specs.GroupStarts.{group_starts}
 use Rattle.lk_layout.specs.Machines.{platform_machine}
 use Rattle.lk_sizes.specs.Contents.{contents_of}
 use Rattle.lk_layout.specs.Made.{Made, made_filling}
 use Rattle.lk_layout.specs.Stages.{made_reaching}
-use Rattle.lk_values.proofs.PartCounts.{length-by_part}
+use Rattle.lk_resolutions.proofs.PartCounts.{length-by_part}
 use Rattle.lk_layout.proofs.found.found_told.Goals as goal
 
 pub attributes_of_contents-requires-clause-count : goal.attributes_of_contents-requires-clause-count

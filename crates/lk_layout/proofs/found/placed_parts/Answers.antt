@@ -3,7 +3,7 @@ use Rattle.lk_expressions.specs.Records.{Record, record_at}
 use Rattle.lk_live.specs.declared.live.Live.{Live}
 use Rattle.lk_link.specs.declared.link.LinkInput.{LinkInput}
 use Rattle.lk_link.specs.WellFormed.{IsWellFormed}
-use Rattle.lk_relax.specs.LinkDeletions.{sizes_after}
+use Rattle.lk_deltas.specs.LinkDeletions.{sizes_after}
 use Rattle.lk_sizes.specs.Owners.{AreThunkOwners}
 use Rattle.lk_sizes.specs.PartOwners.{part_size}
 use Rattle.lk_layout.specs.Machines.{platform_machine}

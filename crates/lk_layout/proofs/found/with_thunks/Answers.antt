@@ -1,5 +1,5 @@
 use Rattle.std.proofs.Common.{◌≡◌, ℕ, None, Ok, Err, List, Option, length, sym, ap, subst, ◌∙◌}
-use Rattle.lk_branches.specs.ThunkPlans.{IsThunkPlan, thunk_owners}
+use Rattle.lk_thunk_plan.specs.ThunkPlans.{IsThunkPlan, thunk_owners}
 use Rattle.lk_live.specs.declared.live.Live.{Live}
 use Rattle.lk_link.specs.declared.ids.FileId.{FileId}
 use Rattle.lk_link.specs.declared.options.Options.{Options}
@@ -14,8 +14,8 @@ use Rattle.lk_tables.specs.declared.header_info.HeaderInfo.{HeaderInfo}
 use Rattle.lk_thunks.specs.declared.arch.ThunkConfig.{ThunkConfig}
 use Rattle.lk_layout.specs.Machines.{platform_machine}
 use Rattle.lk_layout.specs.Made.{filling_for}
-use Rattle.lk_values.specs.OutputContent.{image_lens, output_filling}
-use Rattle.lk_values.proofs.PartCounts.{length-by_part}
+use Rattle.lk_resolutions.specs.OutputContent.{image_lens, output_filling}
+use Rattle.lk_resolutions.proofs.PartCounts.{length-by_part}
 use Rattle.lk_layout.specs.Stages.{IsSized, Reaches}
 use Rattle.lk_layout.proofs.Answering.{err_exit}
 use Rattle.lk_layout.proofs.Oversized.{first_none, overfull, second_is}

@@ -12,7 +12,7 @@ use Rattle.lk_layout.specs.Stages.{made_spanned}
 use Rattle.lk_layout.proofs.FewHeaders.{few_active}
 use Rattle.lk_layout.proofs.Redirecting.{as_made, at_hand, few_regions, not_redirected, only_memory, out_of_memory}
 use Rattle.lk_layout.proofs.redirects.set_redirects.Goals as goal
-use Rattle.lk_values.specs.OutputContent.{output_content}
+use Rattle.lk_resolutions.specs.OutputContent.{output_content}
 
 pub evaluate_regions-requires-clause-few : goal.evaluate_regions-requires-clause-few
 evaluate_regions-requires-clause-few g c = few_regions c.args.link.now c.requires.placed.kept.merged.checked.good

@@ -1,5 +1,5 @@
 use Rattle.std.proofs.Common.{[]}
-use Rattle.lk_relaxing.specs.Relaxed.{own_filling}
+use Rattle.lk_relax.specs.Relaxed.{own_filling}
 use Rattle.lk_relax_tests.proofs.relaxed.add_first.Goals as goal
 
 pub compute_input_section_positions-requires-clause-filled : goal.compute_input_section_positions-requires-clause-filled

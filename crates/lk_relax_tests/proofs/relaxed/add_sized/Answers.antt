@@ -1,5 +1,5 @@
 use Rattle.std.proofs.Common.{[]}
-use Rattle.lk_relaxing.specs.Relaxed.{own_filling}
+use Rattle.lk_relax.specs.Relaxed.{own_filling}
 use Rattle.lk_relax_tests.proofs.relaxed.add_sized.Goals as goal
 
 pub place_first-requires-clause-filled : goal.place_first-requires-clause-filled

@@ -1,5 +1,5 @@
 use Rattle.lk_link.specs.Walks.{input_of}
-use Rattle.lk_relaxing.proofs.InputsThere.{file_there, index_small}
+use Rattle.lk_relax.proofs.InputsThere.{file_there, index_small}
 use Rattle.lk_report.proofs.live_sections.size_left.Goals as goal
 
 pub deleted_of-deleted-requires-clause-there : goal.deleted_of-deleted-requires-clause-there

@@ -1,10 +1,10 @@
 use Rattle.std.proofs.Common.{Bool, List, ap, sym, ◌∙◌}
 use Rattle.lk_link.specs.declared.flags.ValueFlags.{ValueFlags}
 use Rattle.lk_tables.specs.declared.header_info.HeaderInfo.{HeaderInfo}
-use Rattle.lk_branches.specs.ThunkPlans.{thunk_size}
+use Rattle.lk_thunk_plan.specs.ThunkPlans.{thunk_size}
 use Rattle.lk_layout.specs.Flags.{all_flags}
 use Rattle.lk_layout.specs.Redirects.{unless_refused}
-use Rattle.lk_values.specs.OutputContent.{output_content}
+use Rattle.lk_resolutions.specs.OutputContent.{output_content}
 use Rattle.lk_layout.proofs.Answering.{same_layout}
 use Rattle.lk_layout.proofs.CanMoves.{same_can_move, told_can_move}
 use Rattle.lk_layout.proofs.DynsymStart.{dynsym_is, numbers_before}

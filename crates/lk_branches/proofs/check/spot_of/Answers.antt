@@ -1,6 +1,0 @@
-use Rattle.lk_branches.specs.BranchWords.{branching_of}
-use Rattle.lk_branches.proofs.Spots.{told_rise}
-use Rattle.lk_branches.proofs.check.spot_of.Goals as goal
-
-pub returns-clause-rising : goal.returns-clause-rising
-returns-clause-rising c = told_rise (λ q. (q.0, q.1.now.symbols)) (branching_of c.args.by.now) _ c.thunks_of.result c.requires.sets c.thunks_of.ensures

@@ -1,5 +1,0 @@
-use Rattle.lk_branches.proofs.PlanLemmas.{owners_are_good}
-use Rattle.lk_branches.proofs.laws.thunk_owners_are_good.Goals as goal
-
-pub returns : goal.returns
-returns c = owners_are_good

@@ -1,5 +1,0 @@
-use Rattle.lk_branches.proofs.ThunkRanges.{thunks_have_ranges}
-use Rattle.lk_branches.proofs.laws.thunks_have_ranges.Goals as goal
-
-pub returns : goal.returns
-returns c = thunks_have_ranges

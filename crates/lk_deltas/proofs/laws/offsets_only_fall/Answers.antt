@@ -1,0 +1,5 @@
+use Rattle.lk_deltas.proofs.Offsets as proof
+use Rattle.lk_deltas.proofs.laws.offsets_only_fall.Goals as goal
+
+pub returns : goal.returns
+returns c = proof.offsets_only_fall

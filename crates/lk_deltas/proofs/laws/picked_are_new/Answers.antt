@@ -1,0 +1,5 @@
+use Rattle.lk_deltas.proofs.CandidateLemmas as proof
+use Rattle.lk_deltas.proofs.laws.picked_are_new.Goals as goal
+
+pub returns : goal.returns
+returns c = proof.picked_are_new

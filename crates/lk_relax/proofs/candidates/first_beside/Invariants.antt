@@ -1,7 +1,0 @@
-use Rattle.std.proofs.Common.{drop}
-use Rattle.lk_relax.proofs.PastLimits.{Look}
-use Rattle.lk_relax.proofs.candidates.first_beside.Given as goal
-
--- none of the candidates so far is past its limit
-abbrev pub invariant-loop-index : goal.invariant-loop-index
-invariant-loop-index g l = Look (g.J.Judge.told l.judge) l.old l.candidates l.index l.passed (drop l.index l.candidates)

@@ -1,7 +1,0 @@
-use Rattle.std.proofs.Common.{◌≡◌, take}
-use Rattle.lk_relax.specs.DeltaWords.{ranges_of}
-use Rattle.lk_relax.proofs.deltas.SectionRelaxDeltas.ranges.Given as goal
-
--- the ranges so far
-abbrev pub invariant-loop-delta : goal.invariant-loop-delta
-invariant-loop-delta l = l.ranges.items ≡ ranges_of (take l.delta-index l.delta-items)

@@ -1,5 +1,0 @@
-use Rattle.lk_relax.proofs.Together as proof
-use Rattle.lk_relax.proofs.laws.both_are_one.Goals as goal
-
-pub returns : goal.returns
-returns c = proof.both_are_one

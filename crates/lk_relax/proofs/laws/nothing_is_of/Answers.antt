@@ -1,5 +1,0 @@
-use Rattle.lk_relax.proofs.CandidateLemmas as proof
-use Rattle.lk_relax.proofs.laws.nothing_is_of.Goals as goal
-
-pub returns : goal.returns
-returns c = proof.nothing_is_of

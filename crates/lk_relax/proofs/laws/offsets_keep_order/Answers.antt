@@ -1,5 +1,0 @@
-use Rattle.lk_relax.proofs.Offsets as proof
-use Rattle.lk_relax.proofs.laws.offsets_keep_order.Goals as goal
-
-pub returns : goal.returns
-returns c = proof.offsets_keep_order

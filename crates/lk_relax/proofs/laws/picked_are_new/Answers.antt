@@ -1,5 +1,0 @@
-use Rattle.lk_relax.proofs.CandidateLemmas as proof
-use Rattle.lk_relax.proofs.laws.picked_are_new.Goals as goal
-
-pub returns : goal.returns
-returns c = proof.picked_are_new

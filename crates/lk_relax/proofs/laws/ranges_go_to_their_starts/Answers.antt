@@ -1,5 +1,0 @@
-use Rattle.lk_relax.proofs.Offsets as proof
-use Rattle.lk_relax.proofs.laws.ranges_go_to_their_starts.Goals as goal
-
-pub returns : goal.returns
-returns c = proof.ranges_go_to_their_starts

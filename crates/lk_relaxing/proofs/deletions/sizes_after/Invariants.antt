@@ -1,8 +1,0 @@
-use Rattle.std.proofs.Common.{◌≡◌, map}
-use Rattle.lk_link.specs.Walks.{input_of}
-use Rattle.lk_relax.specs.LinkDeletions.{size_after}
-use Rattle.lk_relaxing.proofs.deletions.sizes_after.Given as goal
-
--- the sizes of the sections so far
-abbrev pub invariant-loop-input : goal.invariant-loop-input
-invariant-loop-input l = l.sizes.items ≡ map (size_after l.link.groups l.deltas) (map input_of l.yielded)

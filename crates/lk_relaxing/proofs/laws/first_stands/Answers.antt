@@ -1,5 +1,0 @@
-use Rattle.lk_relaxing.proofs.StillParts as proof
-use Rattle.lk_relaxing.proofs.laws.first_stands.Goals as goal
-
-pub returns : goal.returns
-returns c = proof.first_stands

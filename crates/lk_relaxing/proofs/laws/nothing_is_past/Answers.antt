@@ -1,5 +1,0 @@
-use Rattle.lk_relaxing.proofs.PastSites as proof
-use Rattle.lk_relaxing.proofs.laws.nothing_is_past.Goals as goal
-
-pub returns : goal.returns
-returns c = proof.nothing_is_past

@@ -1,5 +1,0 @@
-use Rattle.lk_relaxing.proofs.Keeping as proof
-use Rattle.lk_relaxing.proofs.laws.passes_stay_shrunk.Goals as goal
-
-pub returns : goal.returns
-returns c = proof.passes_stay_shrunk

@@ -1,5 +1,0 @@
-use Rattle.lk_reach.proofs.SymbolNumbers.{symbols_few}
-use Rattle.lk_relaxing.proofs.scan.first_symbol.Goals as goal
-
-pub symbol_id_range-requires : goal.symbol_id_range-requires
-symbol_id_range-requires c = symbols_few c.args.link.now c.requires.good

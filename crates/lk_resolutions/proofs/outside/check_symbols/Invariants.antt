@@ -1,0 +1,9 @@
+use Rattle.std.proofs.Common.{◌≡◌, [], map}
+use Rattle.std.specs.List.{flat_map}
+use Rattle.lk_link.specs.Walks.{file_of}
+use Rattle.lk_resolutions.specs.Outside.{symbols_outside}
+use Rattle.lk_resolutions.proofs.outside.check_symbols.Given as goal
+
+-- none of the files so far has a symbol that stands outside
+abbrev pub invariant-loop-file : goal.invariant-loop-file
+invariant-loop-file l = flat_map (symbols_outside l.link l.live) (map file_of l.yielded) ≡ []
