@@ -6,6 +6,7 @@ pub mod Goodness
 pub mod Least
 pub mod Opening
 pub mod Overlaps
+pub mod PlainDigits
 pub mod Reading
 pub mod Refused
 pub mod Spelled

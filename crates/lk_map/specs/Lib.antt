@@ -1,5 +1,6 @@
 pub mod Checking
 pub mod Cutting
+pub mod Digits
 pub mod Forms
 pub mod Good
 pub mod Lines

@@ -91,6 +91,21 @@ pub const FORMS: [Form; 15] = [
 /// The most fields that a form has.
 pub const MOST_FIELDS: usize = 16;
 
+/// The place of the first line among all lines of a map.
+pub const LAYOUT_RANK: u8 = 0;
+
+/// That of the lines of sections.
+pub const SECTION_RANK: u8 = 1;
+
+/// That of the lines of segments.
+pub const SEGMENT_RANK: u8 = 3;
+
+/// That of the line of the entry.
+pub const ENTRY_RANK: u8 = 11;
+
+/// That of the last line.
+pub const END_RANK: u8 = 12;
+
 /// A word as it is written.
 #[tactic(auto, unfolding(crate::specs::Forms::word_text))]
 pub fn text_of(word: Word) -> &'static str
@@ -126,6 +141,133 @@ pub fn text_of(word: Word) -> &'static str
     }
 }
 
+// The fields of each form, in their order.
+
+const LAYOUT_FIELDS: [Field; 1] = [Field::Word(Word::Layout)];
+
+const SECTION_FIELDS: [Field; 16] = [
+    Field::Word(Word::Section),
+    Field::Number,
+    Field::Word(Word::Index),
+    Field::NumberOrNone,
+    Field::Word(Word::Mem),
+    Field::Address,
+    Field::Number,
+    Field::Word(Word::File),
+    Field::Address,
+    Field::Number,
+    Field::Word(Word::Align),
+    Field::Number,
+    Field::Word(Word::Lma),
+    Field::Address,
+    Field::Word(Word::Attrs),
+    Field::Number,
+];
+
+const PART_FIELDS: [Field; 10] = [
+    Field::Word(Word::Part),
+    Field::Number,
+    Field::Word(Word::Mem),
+    Field::Address,
+    Field::Number,
+    Field::Word(Word::File),
+    Field::Address,
+    Field::Number,
+    Field::Word(Word::Align),
+    Field::Number,
+];
+
+const SEGMENT_FIELDS: [Field; 10] = [
+    Field::Word(Word::Segment),
+    Field::Number,
+    Field::Word(Word::Mem),
+    Field::Address,
+    Field::Number,
+    Field::Word(Word::File),
+    Field::Address,
+    Field::Number,
+    Field::Word(Word::Align),
+    Field::Number,
+];
+
+const LIVE_FIELDS: [Field; 6] = [
+    Field::Word(Word::Live),
+    Field::Number,
+    Field::Number,
+    Field::Number,
+    Field::Address,
+    Field::Number,
+];
+
+const SINGLE_FIELDS: [Field; 5] = [
+    Field::Word(Word::Single),
+    Field::Number,
+    Field::Number,
+    Field::Number,
+    Field::Number,
+];
+
+const MERGED_FIELDS: [Field; 7] = [
+    Field::Word(Word::Merged),
+    Field::Number,
+    Field::Number,
+    Field::Number,
+    Field::Number,
+    Field::Number,
+    Field::Address,
+];
+
+const PIECE_FIELDS: [Field; 4] = [
+    Field::Word(Word::Piece),
+    Field::Number,
+    Field::Address,
+    Field::Number,
+];
+
+const BLOCK_FIELDS: [Field; 4] = [
+    Field::Word(Word::Block),
+    Field::Number,
+    Field::Number,
+    Field::Number,
+];
+
+const THUNK_FIELDS: [Field; 4] = [
+    Field::Word(Word::Thunk),
+    Field::Number,
+    Field::Number,
+    Field::AddressOrNone,
+];
+
+const SYMBOL_FIELDS: [Field; 10] = [
+    Field::Word(Word::Symbol),
+    Field::Number,
+    Field::Address,
+    Field::Number,
+    Field::Word(Word::Got),
+    Field::AddressOrNone,
+    Field::Word(Word::Plt),
+    Field::AddressOrNone,
+    Field::Word(Word::Dyn),
+    Field::NumberOrNone,
+];
+
+const ENTRY_FIELDS: [Field; 2] = [Field::Word(Word::Entry), Field::AddressOrNone];
+
+const NOT_LOADED_FIELDS: [Field; 3] = [
+    Field::Word(Word::Entry),
+    Field::Word(Word::Not),
+    Field::Word(Word::Loaded),
+];
+
+const NOT_AN_ADDRESS_FIELDS: [Field; 4] = [
+    Field::Word(Word::Entry),
+    Field::Word(Word::Not),
+    Field::Word(Word::An),
+    Field::Word(Word::Address),
+];
+
+const END_FIELDS: [Field; 1] = [Field::Word(Word::End)];
+
 /// The fields of a form, in their order.
 #[tactic(auto, unfolding(crate::specs::Forms::fields_of))]
 pub fn fields(form: Form) -> &'static [Field]
@@ -133,116 +275,21 @@ pub fn fields(form: Form) -> &'static [Field]
     ensures few { length result.now ≤ 16 }
 {
     match form {
-        Form::Layout => &[Field::Word(Word::Layout)],
-        Form::Section => &[
-            Field::Word(Word::Section),
-            Field::Number,
-            Field::Word(Word::Index),
-            Field::NumberOrNone,
-            Field::Word(Word::Mem),
-            Field::Address,
-            Field::Number,
-            Field::Word(Word::File),
-            Field::Address,
-            Field::Number,
-            Field::Word(Word::Align),
-            Field::Number,
-            Field::Word(Word::Lma),
-            Field::Address,
-            Field::Word(Word::Attrs),
-            Field::Number,
-        ],
-        Form::Part => &[
-            Field::Word(Word::Part),
-            Field::Number,
-            Field::Word(Word::Mem),
-            Field::Address,
-            Field::Number,
-            Field::Word(Word::File),
-            Field::Address,
-            Field::Number,
-            Field::Word(Word::Align),
-            Field::Number,
-        ],
-        Form::Segment => &[
-            Field::Word(Word::Segment),
-            Field::Number,
-            Field::Word(Word::Mem),
-            Field::Address,
-            Field::Number,
-            Field::Word(Word::File),
-            Field::Address,
-            Field::Number,
-            Field::Word(Word::Align),
-            Field::Number,
-        ],
-        Form::Live => &[
-            Field::Word(Word::Live),
-            Field::Number,
-            Field::Number,
-            Field::Number,
-            Field::Address,
-            Field::Number,
-        ],
-        Form::Single => &[
-            Field::Word(Word::Single),
-            Field::Number,
-            Field::Number,
-            Field::Number,
-            Field::Number,
-        ],
-        Form::Merged => &[
-            Field::Word(Word::Merged),
-            Field::Number,
-            Field::Number,
-            Field::Number,
-            Field::Number,
-            Field::Number,
-            Field::Address,
-        ],
-        Form::Piece => &[
-            Field::Word(Word::Piece),
-            Field::Number,
-            Field::Address,
-            Field::Number,
-        ],
-        Form::Block => &[
-            Field::Word(Word::Block),
-            Field::Number,
-            Field::Number,
-            Field::Number,
-        ],
-        Form::Thunk => &[
-            Field::Word(Word::Thunk),
-            Field::Number,
-            Field::Number,
-            Field::AddressOrNone,
-        ],
-        Form::Symbol => &[
-            Field::Word(Word::Symbol),
-            Field::Number,
-            Field::Address,
-            Field::Number,
-            Field::Word(Word::Got),
-            Field::AddressOrNone,
-            Field::Word(Word::Plt),
-            Field::AddressOrNone,
-            Field::Word(Word::Dyn),
-            Field::NumberOrNone,
-        ],
-        Form::Entry => &[Field::Word(Word::Entry), Field::AddressOrNone],
-        Form::NotLoaded => &[
-            Field::Word(Word::Entry),
-            Field::Word(Word::Not),
-            Field::Word(Word::Loaded),
-        ],
-        Form::NotAnAddress => &[
-            Field::Word(Word::Entry),
-            Field::Word(Word::Not),
-            Field::Word(Word::An),
-            Field::Word(Word::Address),
-        ],
-        Form::End => &[Field::Word(Word::End)],
+        Form::Layout => &LAYOUT_FIELDS,
+        Form::Section => &SECTION_FIELDS,
+        Form::Part => &PART_FIELDS,
+        Form::Segment => &SEGMENT_FIELDS,
+        Form::Live => &LIVE_FIELDS,
+        Form::Single => &SINGLE_FIELDS,
+        Form::Merged => &MERGED_FIELDS,
+        Form::Piece => &PIECE_FIELDS,
+        Form::Block => &BLOCK_FIELDS,
+        Form::Thunk => &THUNK_FIELDS,
+        Form::Symbol => &SYMBOL_FIELDS,
+        Form::Entry => &ENTRY_FIELDS,
+        Form::NotLoaded => &NOT_LOADED_FIELDS,
+        Form::NotAnAddress => &NOT_AN_ADDRESS_FIELDS,
+        Form::End => &END_FIELDS,
     }
 }
 
@@ -253,10 +300,10 @@ pub fn rank_of(form: Form) -> u8
     ensures low { result ≤ 12 }
 {
     match form {
-        Form::Layout => 0,
-        Form::Section => 1,
+        Form::Layout => LAYOUT_RANK,
+        Form::Section => SECTION_RANK,
         Form::Part => 2,
-        Form::Segment => 3,
+        Form::Segment => SEGMENT_RANK,
         Form::Live => 4,
         Form::Single => 5,
         Form::Merged => 6,
@@ -264,7 +311,7 @@ pub fn rank_of(form: Form) -> u8
         Form::Block => 8,
         Form::Thunk => 9,
         Form::Symbol => 10,
-        Form::Entry | Form::NotLoaded | Form::NotAnAddress => 11,
-        Form::End => 12,
+        Form::Entry | Form::NotLoaded | Form::NotAnAddress => ENTRY_RANK,
+        Form::End => END_RANK,
     }
 }

@@ -7,7 +7,7 @@ ghost use Rattle.lk_map.specs.Forms.{forms};
 ghost use Rattle.lk_map.specs.MapText.{number_at};
 ghost use Rattle.lk_map.specs.Values.{line_if, shown, values_if, words_at};
 
-use crate::cut::cut;
+use crate::cut::cut_word;
 use crate::forms::{FORMS, Field, Form, MOST_FIELDS, fields, text_of};
 use crate::numbers::{read_address, read_number};
 
@@ -127,7 +127,7 @@ fn next_word(rest: Option<&[u8]>) -> (Option<&[u8]>, Option<&[u8]>)
 {
     match rest {
         Some(line) => {
-            let (word, behind) = cut(line, b' ');
+            let (word, behind) = cut_word(line);
             (Some(word), behind)
         }
         None => (None, None),
@@ -138,7 +138,7 @@ fn next_word(rest: Option<&[u8]>) -> (Option<&[u8]>, Option<&[u8]>)
 fn read_any(values: &mut Values, line: &[u8]) -> Option<Form>
     ensures { line_if result (shown values.new) ≡ line_of line.now }
 {
-    let (first, behind) = cut(line, b' ');
+    let (first, behind) = cut_word(line);
     for form in FORMS {
         if values.take_all(fields(form), first, behind) {
             return Some(form);
@@ -151,7 +151,7 @@ fn read_any(values: &mut Values, line: &[u8]) -> Option<Form>
 pub fn read_line(values: &mut Values, line: &[u8], likely: Form) -> Option<Form>
     ensures { line_if result (shown values.new) ≡ line_of line.now }
 {
-    let (first, behind) = cut(line, b' ');
+    let (first, behind) = cut_word(line);
     let is_likely = values.take_all(fields(likely), first, behind);
     if is_likely {
         return Some(likely);

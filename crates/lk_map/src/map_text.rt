@@ -5,8 +5,8 @@ ghost use Rattle.lk_map.specs.Forms.{follows, is_end};
 ghost use Rattle.lk_map.specs.MapText.{map_of, section_at, section_told, segment_at, segment_told, Gives, LinesRise};
 ghost use Rattle.lk_map.specs.Values.{shown};
 
-use crate::cut::cut;
-use crate::forms::{Form, rank_of};
+use crate::cut::cut_line;
+use crate::forms::{END_RANK, ENTRY_RANK, Form, LAYOUT_RANK, SECTION_RANK, SEGMENT_RANK, rank_of};
 use crate::lines::{Values, read_line};
 use std::alloc::{AllocError, Global};
 
@@ -103,10 +103,10 @@ impl MapText {
         ensures segments { IfOk result (λ _. self.new.segments.items ≡ self.old.segments.items ++ segment_told line form (shown values.now)) }
     {
         let rank = rank_of(form);
-        if rank == 1 {
+        if rank == SECTION_RANK {
             self.sections.push(section_line(line, values))?;
         }
-        if rank == 3 {
+        if rank == SEGMENT_RANK {
             self.segments.push(segment_line(line, values))?;
         }
         Ok(())
@@ -120,12 +120,16 @@ fn goes_on(before: Option<Form>, form: Form) -> bool
 {
     let rank = rank_of(form);
     match before {
-        None => rank == 0,
+        None => rank == LAYOUT_RANK,
         Some(before) => {
             let last = rank_of(before);
-            let is_single = last == 0 || last == 11 || last == 12;
+            let is_single = last == LAYOUT_RANK || last == ENTRY_RANK || last == END_RANK;
             let least = if is_single { last + 1 } else { last };
-            let most = if last == 11 { 12 } else { 11 };
+            let most = if last == ENTRY_RANK {
+                END_RANK
+            } else {
+                ENTRY_RANK
+            };
             least <= rank && rank <= most
         }
     }
@@ -138,7 +142,7 @@ fn is_last(before: Option<Form>) -> bool
 {
     match before {
         None => false,
-        Some(before) => rank_of(before) == 12,
+        Some(before) => rank_of(before) == END_RANK,
     }
 }
 
@@ -156,7 +160,7 @@ pub fn read_map(alloc: Global, text: &[u8]) -> Result<MapText, MapError>
     let mut line = 1;
     let mut rest = text;
     'lines: loop {
-        let (here, behind) = cut(rest, b'\n');
+        let (here, behind) = cut_line(rest);
         let Some(behind) = behind else {
             if here.is_empty() && is_last(before) {
                 return Ok(map);

@@ -31,11 +31,14 @@ mod RefusalLaws
 mod RegionLaws
 mod RegionNames
 mod SecondaryLaws
-mod SectionDistances
+pub mod SectionDistances
 mod SectionEnds
+pub mod SectionRanges
 mod SectionRegions
+pub mod SectionSpans
 mod SegmentAlignments
 mod SegmentFiles
+mod SegmentHulls
 mod ShallowLinks
 mod Steps
 mod Tables

@@ -4,6 +4,7 @@ use Rattle.std.specs.Prelude.{max, min, nat_lt, slice_get}
 use Rattle.std.specs.List.{enumerate_from, slice_index_or}
 use Rattle.std.proofs.lemmas.Bool.{cases_Bool, cases_lt}
 use Rattle.std.proofs.lemmas.List.{get_or-drop, get_or-take, length-drop, length-take}
+use Rattle.std.proofs.lemmas.Option.{slice_get_within}
 use Rattle.lk_link.specs.declared.plan.OrderEvent.TheVariants.{SegmentStart, Section}
 use Rattle.lk_link.specs.declared.plan.PlanSection.{PlanSection}
 use Rattle.lk_link.specs.Parts.{all_parts, first_part}
@@ -11,10 +12,10 @@ use Rattle.lk_link.specs.PlanSections.{is_file_backed, section_at}
 use Rattle.lk_link.proofs.PartNumbers.{first_part-le, first_part-suc}
 use Rattle.lk_place.specs.declared.cursors.Cursors.{Cursors}
 use Rattle.lk_place.specs.declared.cursors.Offsets.{Offsets}
-use Rattle.lk_place.specs.Distance.{HasSectionBytesIn, PlainSectionsKeepDistance}
+use Rattle.lk_place.specs.Distance.{AreEquallyFar, HasSectionBytesIn, PlainBackedSectionsKeepDistance, PlainSectionsKeepDistance}
 use Rattle.lk_place.specs.Laws.{IsSoundlySet}
 use Rattle.lk_place.specs.Placement.{IsPlacedAt, PlacesSection, is_walked, reached, section_start, state_at, walk_alignment}
-use Rattle.lk_place.specs.Plain.{IsPlain}
+use Rattle.lk_place.specs.Plain.{IsPlain, PlacesInLoad}
 use Rattle.lk_place.specs.Ranges.{HasPart}
 use Rattle.lk_expressions.specs.Records.{Record, file_end, has_file_bytes, nowhere, record_at}
 use Rattle.lk_place.specs.Segments.{hull, part_records, section_record, section_records}
@@ -75,7 +76,7 @@ hull_empty c (r ∷ rs) each =
 -- ---- the records of a section's parts
 
 -- as many as parts
-count_is : (setting : Setting) (records : List Record) (s : ℕ) → length records ≡ length (all_parts setting.plan.sections) → s < length setting.plan.sections
+pub count_is : (setting : Setting) (records : List Record) (s : ℕ) → length records ≡ length (all_parts setting.plan.sections) → s < length setting.plan.sections
     → length (part_records setting.plan.sections records s) ≡ part_count setting.plan.sections s
 count_is setting records s each below =
     omega (
@@ -88,7 +89,7 @@ count_is setting records s each below =
     )
 
 -- each is that of its part
-part_is : (setting : Setting) (records : List Record) (s j : ℕ) → s < length setting.plan.sections → j < part_count setting.plan.sections s
+pub part_is : (setting : Setting) (records : List Record) (s j : ℕ) → s < length setting.plan.sections → j < part_count setting.plan.sections s
     → slice_index_or (part_records setting.plan.sections records s) j nowhere ≡ record_at records (part_number setting.plan.sections s j)
 part_is setting records s j below within =
     let first : ℕ = first_part setting.plan.sections s in
@@ -101,7 +102,7 @@ among_all f [] o s below = absurd (omega arith)
 among_all f (x ∷ xs) o zero below = ap (λ n. f (n, x)) (omega arith)
 among_all f (x ∷ xs) o (suc s) below = among_all f xs (o + 1) s (omega arith) ∙ ap (λ n. f (n, section_at xs s)) (omega arith)
 
-section_is : (setting : Setting) (records : List Record) (s : ℕ) → s < length setting.plan.sections
+pub section_is : (setting : Setting) (records : List Record) (s : ℕ) → s < length setting.plan.sections
     → record_at (section_records setting.plan.sections records) s ≡ section_record (section_at setting.plan.sections s) (part_records setting.plan.sections records s)
 section_is setting records s below =
     let sections : List PlanSection = setting.plan.sections in
@@ -137,7 +138,7 @@ walked_file setting s j from to records unbacked h below walked =
     (placed_unbacked setting s j from to records unbacked h below walked).in_file ∙ reached_file setting s j from to records unbacked h (omega arith)
 
 -- all its parts start where the file stands
-part_file : (setting : Setting) (s j : ℕ) (from to : Cursors) (records : List Record) → IsReady setting → s < length setting.plan.sections → is_file_backed setting.plan s ≡ false
+pub part_file : (setting : Setting) (s j : ℕ) (from to : Cursors) (records : List Record) → IsReady setting → s < length setting.plan.sections → is_file_backed setting.plan s ≡ false
     → PlacesSection setting s from records to → j < part_count setting.plan.sections s → (record_at records (part_number setting.plan.sections s j)).file_offset ≡ from.file
 part_file setting s j from to records ready there unbacked h below =
     let p : ℕ = part_number setting.plan.sections s j in
@@ -153,7 +154,7 @@ part_file setting s j from to records ready there unbacked h below =
 -- ---- sections with bytes
 
 -- a section of which all parts are empty in the file has no bytes there
-emptied : (setting : Setting) (records : List Record) (s c : ℕ) → length records ≡ length (all_parts setting.plan.sections) → s < length setting.plan.sections
+pub emptied : (setting : Setting) (records : List Record) (s c : ℕ) → length records ≡ length (all_parts setting.plan.sections) → s < length setting.plan.sections
     → ((j : ℕ) → j < part_count setting.plan.sections s
     → ((record_at records (part_number setting.plan.sections s j)).file_offset ≡ c) × ((record_at records (part_number setting.plan.sections s j)).file_size ≡ 0))
     → has_file_bytes (record_at (section_records setting.plan.sections records) s) ≡ false
@@ -203,15 +204,13 @@ section_takes setting states records i s set h there early =
 
 -- ---- the law
 
-section_stands : (setting : Setting) (states : List Cursors) (records : List Record) (i s : ℕ) → IsSoundlySet setting states records → IsPlain setting.plan setting.output
-    → (h : HasSectionBytesIn setting.plan records i s)
+backed_stands : (setting : Setting) (states : List Cursors) (records : List Record) (i s k : ℕ) → IsSoundlySet setting states records → IsPlain setting.plan setting.output
+    → PlacesInLoad setting.plan i s k → is_file_backed setting.plan s ≡ true → k < length states - 1
     → (a : IsSectionAlong setting states records i s) × StartsAsFar (base_at states a.o) (record_at (section_records setting.plan.sections records) s)
-section_stands setting states records i s set plain h =
-    let there = placed_in_range setting.plan (Section s) s (set.ready.events.in_range h.k (Section s) h.places.places.here) refl in
-    let early = section_early setting states records i s set h there in
-    let backed = section_takes setting states records i s set h there early in
-    let through : IsThrough setting states records i s h.k = record { set = set; plain = plain; places = h.places; backed = backed; early = early } in
-    let a : IsSectionAlong setting states records i s = section_along setting states records i s h.k through in
+backed_stands setting states records i s k set plain places backed early =
+    let there = placed_in_range setting.plan (Section s) s (set.ready.events.in_range k (Section s) places.places.here) refl in
+    let through : IsThrough setting states records i s k = record { set = set; plain = plain; places = places; backed = backed; early = early } in
+    let a : IsSectionAlong setting states records i s = section_along setting states records i s k through in
     let base : Offsets = base_at states a.o in
     let parts : List Record = part_records setting.plan.sections records s in
     let count = count_is setting records s set.placed.each there in
@@ -222,12 +221,36 @@ section_stands setting states records i s set plain h =
     let spans : StartsAsFar base (hull parts) = hull_as_far base parts some all in
     (a, subst (StartsAsFar base) (sym (section_is setting records s there)) spans)
 
-pub plain_sections_keep_distance : PlainSectionsKeepDistance
-plain_sections_keep_distance setting states records set plain i s t a b =
-    let one = section_stands setting states records i s set plain a in
-    let two = section_stands setting states records i t set plain b in
+-- two that stand as far as the base of one segment stand equally far
+both_far : (setting : Setting) (states : List Cursors) (records : List Record) (i s t : ℕ) → IsSoundlySet setting states records
+    → (a : IsSectionAlong setting states records i s) × StartsAsFar (base_at states a.o) (record_at (section_records setting.plan.sections records) s)
+    → (b : IsSectionAlong setting states records i t) × StartsAsFar (base_at states b.o) (record_at (section_records setting.plan.sections records) t)
+    → AreEquallyFar (record_at (section_records setting.plan.sections records) s) (record_at (section_records setting.plan.sections records) t)
+both_far setting states records i s t set one two =
     let same : two.0.o ≡ one.0.o = set.ready.events.once two.0.o one.0.o (SegmentStart i) tt two.0.opens.here one.0.opens.here in
     let base : Offsets = base_at states one.0.o in
     let r : Record = record_at (section_records setting.plan.sections records) s in
     let q : Record = record_at (section_records setting.plan.sections records) t in
     equally r.mem_offset r.file_offset q.mem_offset q.file_offset base.memory base.file one.1 (subst (λ n. StartsAsFar (base_at states n) q) same two.1)
+
+section_stands : (setting : Setting) (states : List Cursors) (records : List Record) (i s : ℕ) → IsSoundlySet setting states records → IsPlain setting.plan setting.output
+    → (h : HasSectionBytesIn setting.plan records i s)
+    → (a : IsSectionAlong setting states records i s) × StartsAsFar (base_at states a.o) (record_at (section_records setting.plan.sections records) s)
+section_stands setting states records i s set plain h =
+    let there = placed_in_range setting.plan (Section s) s (set.ready.events.in_range h.k (Section s) h.places.places.here) refl in
+    let early = section_early setting states records i s set h there in
+    backed_stands setting states records i s h.k set plain h.places (section_takes setting states records i s set h there early) early
+
+pub plain_sections_keep_distance : PlainSectionsKeepDistance
+plain_sections_keep_distance setting states records set plain i s t a b =
+    both_far setting states records i s t set (section_stands setting states records i s set plain a) (section_stands setting states records i t set plain b)
+
+-- where no event is refused, bytes aren't asked for
+placed_early : (setting : Setting) (states : List Cursors) (i s k : ℕ) → length states ≡ length setting.plan.events + 1 → PlacesInLoad setting.plan i s k → k < length states - 1
+placed_early setting states i s k whole places = omega (arith, whole, slice_get_within setting.plan.events k (Section s) places.places.here)
+
+pub plain_backed_sections_keep_distance : PlainBackedSectionsKeepDistance
+plain_backed_sections_keep_distance setting states records set plain whole i s t k m one two backed_one backed_two =
+    both_far setting states records i s t set
+    (backed_stands setting states records i s k set plain one backed_one (placed_early setting states i s k whole one))
+    (backed_stands setting states records i t m set plain two backed_two (placed_early setting states i t m whole two))

@@ -1,6 +1,7 @@
 -- How far memory stands from the file, under plain plans.
-use Rattle.std.specs.Prelude.{◌≡◌, ℕ, ◌+◌, true, List}
+use Rattle.std.specs.Prelude.{◌≡◌, ℕ, ◌+◌, true, List, length}
 use Rattle.lk_link.specs.declared.plan.Plan.{Plan}
+use Rattle.lk_link.specs.PlanSections.{is_file_backed}
 use Rattle.lk_place.specs.declared.cursors.Cursors.{Cursors}
 use Rattle.lk_place.specs.Laws.{IsSoundlySet}
 use Rattle.lk_place.specs.Plain.{IsPlain, PlacesInLoad}
@@ -41,4 +42,12 @@ abbrev pub PlainSectionsKeepDistance : Type 0
 PlainSectionsKeepDistance = (setting : Setting) (states : List Cursors) (records : List Record)
     → IsSoundlySet setting states records → IsPlain setting.plan setting.output
     → (i s t : ℕ) → HasSectionBytesIn setting.plan records i s → HasSectionBytesIn setting.plan records i t
+    → AreEquallyFar (record_at (section_records setting.plan.sections records) s) (record_at (section_records setting.plan.sections records) t)
+
+-- and so it does, where no event is refused, at all sections of the segment that take bytes of the file, with or without any
+abbrev pub PlainBackedSectionsKeepDistance : Type 0
+PlainBackedSectionsKeepDistance = (setting : Setting) (states : List Cursors) (records : List Record)
+    → IsSoundlySet setting states records → IsPlain setting.plan setting.output → length states ≡ length setting.plan.events + 1
+    → (i s t k m : ℕ) → PlacesInLoad setting.plan i s k → PlacesInLoad setting.plan i t m
+    → is_file_backed setting.plan s ≡ true → is_file_backed setting.plan t ≡ true
     → AreEquallyFar (record_at (section_records setting.plan.sections records) s) (record_at (section_records setting.plan.sections records) t)

@@ -21,6 +21,8 @@ pub mod RegionNames
 pub mod Regions
 pub mod Secondaries
 pub mod SecondariesSoFar
+pub mod SectionRanges
+pub mod SegmentHulls
 pub mod Segments
 pub mod Setting
 pub mod Shallow

@@ -19,6 +19,8 @@ pub mod plain;
 mod records_before;
 pub mod regions;
 pub mod secondaries;
+pub mod section_ranges;
+pub mod segment_hulls;
 pub mod segments;
 mod start;
 pub mod walk;

@@ -1,3 +1,6 @@
+mod GoodMaps
+mod GoodReports
 pub mod Read
 pub mod Told
+mod ToldAttributes
 pub mod Whole

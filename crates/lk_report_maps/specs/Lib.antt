@@ -1,2 +1,3 @@
+pub mod GoodReports
 pub mod Laws
 pub mod ToldLines

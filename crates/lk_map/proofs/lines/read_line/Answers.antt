@@ -9,5 +9,5 @@ use Rattle.lk_map.proofs.lines.read_line.Goals as goal
 
 pub returns-then-is_likely : goal.returns-then-is_likely
 returns-then-is_likely c =
-    form_first c.args.likely c.fields.result.now (c.cut.result.0.now ∷ parts_left 32 (option_copied c.cut.result.1)) (shown c.take_all-is_likely.new.self) c.fields.ensures.fields (rw c.if-is_likely.true at c.take_all-is_likely.ensures)
-    ∙ ap (line_among forms) (sym c.cut.ensures.parts)
+    form_first c.args.likely c.fields.result.now (c.cut_word.result.0.now ∷ parts_left 32 (option_copied c.cut_word.result.1)) (shown c.take_all-is_likely.new.self) c.fields.ensures.fields (rw c.if-is_likely.true at c.take_all-is_likely.ensures)
+    ∙ ap (line_among forms) (sym c.cut_word.ensures.parts)

@@ -17,9 +17,9 @@ lines-init c = (
 
 read_to_end : (c : goal.Then-is_last) → map_of c.args.text.now ≡ Ok (c.lines.map.sections.items, c.lines.map.segments.items)
 read_to_end c =
-    reading_ends c.lines.map.sections.items c.lines.map.segments.items c.lines.line c.lines.before c.cut.result.0.now (map_of c.args.text.now)
-    (rw (c.cut.ensures.parts, c.in_default.is) at c.lines.invariant.0)
-    (and_both (is_empty_text c.cut.result.0.now ∙ sym (c.if-is_empty.ensures {u = tt})) (sym (c.if-is_last.ensures {u = tt})))
+    reading_ends c.lines.map.sections.items c.lines.map.segments.items c.lines.line c.lines.before c.cut_line.result.0.now (map_of c.args.text.now)
+    (rw (c.cut_line.ensures.parts, c.in_default.is) at c.lines.invariant.0)
+    (and_both (is_empty_text c.cut_line.result.0.now ∙ sym (c.if-is_empty.ensures {u = tt})) (sym (c.if-is_last.ensures {u = tt})))
 
 pub returns-then-is_last-clause-read : goal.returns-then-is_last-clause-read
 returns-then-is_last-clause-read c = read_to_end c
@@ -29,30 +29,30 @@ returns-then-is_last-clause-rises c = map_rises c.args.text.now c.lines.map.sect
 
 pub returns-in_default-clause-read : goal.returns-in_default-clause-read
 returns-in_default-clause-read c =
-    reading_breaks c.lines.map.sections.items c.lines.map.segments.items c.lines.line c.lines.before c.cut.result.0.now (map_of c.args.text.now)
-    (rw (c.cut.ensures.parts, c.in_default.is) at c.lines.invariant.0)
+    reading_breaks c.lines.map.sections.items c.lines.map.segments.items c.lines.line c.lines.before c.cut_line.result.0.now (map_of c.args.text.now)
+    (rw (c.cut_line.ensures.parts, c.in_default.is) at c.lines.invariant.0)
     (elim c.else-is_empty.branch [
-      | else-is_empty-via-then-is_empty+else-is_last w ↦ and_right (bytes_eq c.cut.result.0.now []) (sym (w.if-is_last.ensures {u = tt}))
-      | else-is_empty-via-else-is_empty w ↦ and_left (is_end c.lines.before) (is_empty_text c.cut.result.0.now ∙ sym (w.if-is_empty.ensures {u = tt}))
+      | else-is_empty-via-then-is_empty+else-is_last w ↦ and_right (bytes_eq c.cut_line.result.0.now []) (sym (w.if-is_last.ensures {u = tt}))
+      | else-is_empty-via-else-is_empty w ↦ and_left (is_end c.lines.before) (is_empty_text c.cut_line.result.0.now ∙ sym (w.if-is_empty.ensures {u = tt}))
     ])
 
 pub returns-in_default-read_line-clause-read : goal.returns-in_default-read_line-clause-read
 returns-in_default-read_line-clause-read c =
-    reading_unread c.lines.map.sections.items c.lines.map.segments.items c.lines.line c.lines.before c.cut.result.0.now (map_of c.args.text.now) c.in-Some.behind.now
+    reading_unread c.lines.map.sections.items c.lines.map.segments.items c.lines.line c.lines.before c.cut_line.result.0.now (map_of c.args.text.now) c.in-Some.behind.now
     (c.in_default-read_line.ensures {u = tt})
-    (rw (c.cut.ensures.parts, c.in-Some.is) at c.lines.invariant.0)
+    (rw (c.cut_line.ensures.parts, c.in-Some.is) at c.lines.invariant.0)
 
 pub returns-then-not-goes_on-clause-read : goal.returns-then-not-goes_on-clause-read
 returns-then-not-goes_on-clause-read c =
-    reading_misplaced c.lines.map.sections.items c.lines.map.segments.items c.lines.line c.lines.before c.cut.result.0.now (map_of c.args.text.now) c.in-Some.behind.now
+    reading_misplaced c.lines.map.sections.items c.lines.map.segments.items c.lines.line c.lines.before c.cut_line.result.0.now (map_of c.args.text.now) c.in-Some.behind.now
     c.in-Some-read_line.form (shown c.read_line.new.values) (c.in-Some-read_line.ensures {u = tt}) (sym c.if-not-goes_on.true ∙ c.goes_on.ensures)
-    (rw (c.cut.ensures.parts, c.in-Some.is) at c.lines.invariant.0)
+    (rw (c.cut_line.ensures.parts, c.in-Some.is) at c.lines.invariant.0)
 
 pub lines-preserved : goal.lines-preserved
 lines-preserved c = (
   rw (c.in_ok-keep.ensures.sections, c.in_ok-keep.ensures.segments)
-      (reading_more c.lines.map.sections.items c.lines.map.segments.items c.lines.line c.lines.before c.cut.result.0.now (map_of c.args.text.now) c.in-Some.behind.now
+      (reading_more c.lines.map.sections.items c.lines.map.segments.items c.lines.line c.lines.before c.cut_line.result.0.now (map_of c.args.text.now) c.in-Some.behind.now
       c.in-Some-read_line.form (shown c.read_line.new.values) (c.in-Some-read_line.ensures {u = tt}) (sym c.if-not-goes_on.false ∙ c.goes_on.ensures)
-      (rw (c.cut.ensures.parts, c.in-Some.is) at c.lines.invariant.0)),
-  (let shorter : length c.in-Some.behind.now < length c.lines.rest.now = rw c.in-Some.is at c.cut.ensures.shorter in omega (arith, c.lines.invariant.1)),
+      (rw (c.cut_line.ensures.parts, c.in-Some.is) at c.lines.invariant.0)),
+  (let shorter : length c.in-Some.behind.now < length c.lines.rest.now = rw c.in-Some.is at c.cut_line.ensures.shorter in omega (arith, c.lines.invariant.1)),
 )
