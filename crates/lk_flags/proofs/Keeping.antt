@@ -23,10 +23,10 @@ or_left a b i h = omega (arith, bit_at_or a b i, bit_at-lt b i)
 or_right : (a b i : ℕ) → bit_at b i ≡ 1 → bit_at (bit_or a b) i ≡ 1
 or_right a b i h = omega (arith, bit_at_or a b i, bit_at-lt a i)
 
-or_cases : (a b i : ℕ) → bit_at (bit_or a b) i ≡ 1 → (bit_at a i ≡ 1) ⊎ (bit_at b i ≡ 1)
+or_cases : (a b i : ℕ) → bit_at (bit_or a b) i ≡ 1 → (bit_at a i ≡ 1) ⊎ ((bit_at a i ≡ 0) × (bit_at b i ≡ 1))
 or_cases a b i h = elim (cases_eq (bit_at a i) 1) [
   | inl is ↦ inl is
-  | inr isnt ↦ inr (omega (arith, bit_at_or a b i, bit_at-lt a i, bit_at-lt b i))
+  | inr isnt ↦ inr (omega (arith, isnt, bit_at-lt a i), omega (arith, isnt, h, bit_at_or a b i, bit_at-lt a i, bit_at-lt b i))
 ]
 
 -- flags are set in the word at a place
@@ -68,7 +68,7 @@ stays words bounds n bits within new m i h = elim (cases_eq m n) [
       let read : get_or (set words n joined) n 0 ≡ joined = get_or-set_same words n joined 0 lt in
       subst (λ k. bit_at (slice_index bounds k) i ≡ 1) (sym same) (elim (or_cases (slice_index words n) bits i (ap (λ w. bit_at w i) (sym read) ∙ there)) [
         | inl old ↦ within n i old
-        | inr fresh ↦ new i fresh
+        | inr fresh ↦ new i fresh.1
       ])
   | inr other ↦ within m i (ap (λ w. bit_at w i) (sym (get_or-set_other words n m (bit_or (slice_index words n) bits) 0 other)) ∙ h)
 ]
@@ -139,7 +139,7 @@ still_set views after handed n i more h = elim h [
   | inr by ↦
       let there = more by.number by.view by.at in
       let x = by.set_there in
-      inr (record { number = there.0; view = there.1; at = there.2; set_there = record { one = x.one; among = there.3 x.one x.among; there = x.there; bit = x.bit } })
+      inr (record { number = there.0; view = there.1; at = there.2; set_there = record { one = x.one; among = there.3 x.one x.among; there = x.there; bit = x.bit; missing = x.missing } })
 ]
 
 -- one view becomes another, whose sets are no fewer
@@ -184,7 +184,7 @@ set_keeps handed bounds slots id me n bits lt new some_part s kept homes at smal
                   number = id;
                   view = w;
                   at = set_here s.views id w (inside s.views id me.0 at);
-                  set_there = record { one = x; among = Contains-push me.0.sets x; there = sym same; bit = fresh };
+                  set_there = record { one = x; among = Contains-push me.0.sets x; there = sym same; bit = fresh.1; missing = fresh.0 };
                 })
               ]
           | inr other ↦ still_set s.views views handed m i among (kept.no_more m i (ap (λ k. bit_at k i) (sym (get_or-set_other s.words n m (bit_or (slice_index s.words n) bits) 0 other)) ∙ h))

@@ -17,7 +17,7 @@ abbrev pub parts_of : List View → ℕ
 parts_of [] = 0
 parts_of (v ∷ views) = v.parts + parts_of views
 
--- a bit of a word is among those that were set in some view
+-- a bit of a word is among those that were set in some view, once by a step that found it missing
 pub record IsSetBySome (views : List View) (n i : ℕ) : Type 0 where
   pub number : ℕ
   pub view : View

@@ -16,8 +16,8 @@ pub use lk_live::{
 };
 pub use lk_reach::{Roots, files_of_inputs, roots, unit_at};
 pub use lk_workers::{
-    Closed, GcLoadRequest, GroupState as WorkerState, LocalWorkQueue, Traversal, WorkItem,
-    WorkerSlot,
+    Closed, GcLoadRequest, GroupState as WorkerState, LocalWorkQueue, Marks, Opened, Sent,
+    Traversal, WorkItem, WorkerSlot,
 };
 pub use states::{
     DynamicLayoutState, EpilogueLayoutState, FileLayoutState, GroupState, HandlerData,

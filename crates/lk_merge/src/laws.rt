@@ -1,6 +1,7 @@
 //! Laws on pieces and on images.
 
-ghost use Rattle.std.specs.Prelude.{◌≡◌};
+ghost use Rattle.std.specs.Prelude.{◌≡◌, fold};
+ghost use Rattle.std.specs.Hash as fed;
 ghost use Rattle.std.specs.Ordering.{nat_cmp};
 ghost use Rattle.lk_merge.specs.Groups.{GroupsCover};
 ghost use Rattle.lk_merge.specs.Matrix.{MatrixMerges};
@@ -16,6 +17,7 @@ ghost use Rattle.lk_merge.specs.Places.{BucketsStart, ImageIsDistinct, OffsetsHa
 
 use crate::offset::LinearInputOffset;
 use std::cmp::Ordering;
+use std::hash::{Hash, Hasher};
 
 /// A law: an input has pieces exactly where it is terminated, and they are the ones that are found.
 pub fn pieces_are_one()
@@ -106,4 +108,13 @@ pub fn offsets_compare_as_numbers(a: LinearInputOffset, b: LinearInputOffset) ->
     ensures { result ≡ nat_cmp a b }
 {
     a.cmp(&b)
+}
+
+/// A law: an offset feeds a hasher its number and nothing else, in one write; so offsets with equal numbers feed the same bytes, and
+/// only these.
+pub fn offsets_hash_as_numbers<H: Hasher>(a: LinearInputOffset, b: LinearInputOffset, state: &mut H)
+    ensures number { state.new ≡ fold H.write state.old (fed.u64 a) }
+    ensures apart { fed.u64 a ≡ fed.u64 b → a ≡ b }
+{
+    a.hash(state);
 }

@@ -462,8 +462,8 @@ fn add_by(
     }
 }
 
-/// How often a group looks for another at most.
-const LOOKS: u32 = 30_000_000;
+/// How often groups look for each other at most, in all.
+const LOOKS: u64 = 30_000_000;
 
 /// A gate at which two groups go in step: each stays there until the other has come as often, for a while.
 #[derive(Drop)]
@@ -471,6 +471,24 @@ struct InStep {
     first: AtomicU64,
     second: AtomicU64,
     met: AtomicU64,
+    looks: AtomicU64,
+}
+
+impl InStep {
+    /// No group has come.
+    fn new() -> InStep {
+        InStep {
+            first: AtomicU64::new(0),
+            second: AtomicU64::new(0),
+            met: AtomicU64::new(0),
+            looks: AtomicU64::new(0),
+        }
+    }
+
+    /// Whether groups have looked for each other as often as they may.
+    fn have_looked_enough(&self) -> bool {
+        self.looks.load(Ordering::SeqCst) >= LOOKS
+    }
 }
 
 impl Gate for InStep {
@@ -486,6 +504,10 @@ impl Gate for InStep {
                 self.met.fetch_add(1, Ordering::SeqCst);
                 return;
             }
+            if self.have_looked_enough() {
+                return;
+            }
+            self.looks.fetch_add(1, Ordering::SeqCst);
             yield_now();
         }
     }
@@ -501,11 +523,7 @@ fn told_in_step(
         return Ok(String::new(alloc));
     }
     let inputs = StringMergeInputs::new(alloc, link)?;
-    let gate = InStep {
-        first: AtomicU64::new(0),
-        second: AtomicU64::new(0),
-        met: AtomicU64::new(0),
-    };
+    let gate = InStep::new();
     let merged = merge_strings(rt, alloc, &inputs, 2, &gate);
     let mut text = told_merged(alloc, &inputs, &merged, &SHOWN)?;
     for count in [&gate.first, &gate.second, &gate.met] {

@@ -7,6 +7,7 @@ ghost use Rattle.lk_live.specs.Reach.{AreLive};
 
 use crate::rows::{Asked, expect_rows};
 use lk_check::check_link;
+use lk_input::read_link;
 use lk_link::{LinkInput, Small64};
 use lk_live::{Live, traverse_alone};
 use lk_sizes::part_owners::plain_owners;
@@ -14,7 +15,7 @@ use lk_sizes::{
     HeaderInfo, PartContents, PartOwners, SizeError, image_addresses, part_sizes, part_sizes_with,
     propagate_section_attributes,
 };
-use lk_test_rows::add;
+use lk_test_rows::{NO_FRAME, add, frame_of, framed};
 use std::alloc::{AllocError, Global};
 use std::test::Fail;
 use std::thread::Threads;
@@ -319,6 +320,44 @@ pub fn add_sums(
         Ok(live) => add_sums_of(rt, alloc, line, link, &live),
         Err(_) => Ok(()),
     }
+}
+
+/// A description with 17 parts in each of 121 sections, and a section of an object in the first part, one in another, and one in the last.
+const MANY_PARTS: &str =
+    r#"{"plan":{"page":16,"sections":[«121 of {"parts":[[65536,false],[32768,false],[16384,false],[8192,false],[4096,false],[2048,false],[1024,false],[512,false],[256,false],[128,false],[64,false],[32,false],[16,false],[8,false],[4,false],[2,false],[1,false]]}»],"events":[...]},"groups":[[{"kind":"prelude"}],[{"kind":"object","sections":[{"slot":"must","size":3},{"slot":"must","part":1024,"size":1},{"slot":"must","part":2056,"size":5}]}]]}"#;
+
+/// The events of 121 sections.
+fn many_events(alloc: Global) -> Result<String, AllocError> {
+    let mut events = String::from_str(alloc, r#"["sec",0]"#)?;
+    for section in 1..121 {
+        write!(events, ",[\"sec\",{section}]")?;
+    }
+    Ok(events)
+}
+
+/// The bytes of the 2,057 parts of that description, as several threads tell them: so many parts are more than one thread's.
+fn told_many_parts(rt: &(impl Threads + Sync), alloc: Global) -> Result<String, AllocError> {
+    let events = many_events(alloc)?;
+    let text = framed(alloc, frame_of(MANY_PARTS), events.as_str())?;
+    let mut line = String::new(alloc);
+    match read_link(alloc, text.as_bytes()) {
+        Ok(link) => add_sums(rt, alloc, &mut line, &link)?,
+        Err(error) => write!(line, "no link: {error}")?,
+    }
+    Ok(line)
+}
+
+#[test]
+fn many_parts_are_told_by_threads(rt: HostRuntime) -> Result<(), Fail> {
+    let alloc = rt.alloc();
+    let line = told_many_parts(&rt, alloc)?;
+    let want = framed(
+        alloc,
+        NO_FRAME,
+        "sizes [65536, «1023 times 0, »4096, «1031 times 0, »5]",
+    )?;
+    assert_eq!(&rt; line.as_str(), want.as_str());
+    Ok(())
 }
 
 #[test]

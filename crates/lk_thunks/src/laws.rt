@@ -1,12 +1,14 @@
 //! Laws on blocks.
 
-ghost use Rattle.std.specs.Prelude.{◌≡◌};
+ghost use Rattle.std.specs.Prelude.{◌≡◌, fold};
+ghost use Rattle.std.specs.Hash as fed;
 ghost use Rattle.std.specs.Ordering.{nat_cmp};
 ghost use Rattle.lk_thunks.specs.SetLaws.{SetsRise};
 ghost use Rattle.lk_thunks.specs.BlockLaws.{BlocksAreStretches, BlocksHaveOneOwner, NumbersNeverFall, ObjectsAreAssigned, ObjectsAreNearOwners};
 
 use crate::blocks::ThunkBlockId;
 use std::cmp::Ordering;
+use std::hash::{Hash, Hasher};
 
 /// A law: blocks are stretches of objects with the owner inside, one behind the other, and each object is in one.
 pub fn blocks_are_stretches()
@@ -39,6 +41,15 @@ pub fn blocks_compare_as_numbers(a: ThunkBlockId, b: ThunkBlockId) -> Ordering
     ensures { result ≡ nat_cmp a b }
 {
     a.cmp(&b)
+}
+
+/// A law: a block feeds a hasher its number and nothing else, in one write; so blocks with equal numbers feed the same bytes, and only
+/// these.
+pub fn blocks_hash_as_numbers<H: Hasher>(a: ThunkBlockId, b: ThunkBlockId, state: &mut H)
+    ensures number { state.new ≡ fold H.write state.old (fed.u32 a) }
+    ensures apart { fed.u32 a ≡ fed.u32 b → a ≡ b }
+{
+    a.hash(state);
 }
 
 /// A law: the definitions that a block has thunks for rise, so each stands there once.

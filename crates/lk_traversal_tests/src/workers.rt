@@ -70,7 +70,8 @@ fn closed_after<J: Reach>(
     for _ in 0..link.groups.input_count() {
         run_groups(&traversal, rt, &mut pass, groups);
     }
-    Ok(traversal.close(pass))
+    let (closed, _opened) = traversal.close(pass);
+    Ok(closed)
 }
 
 /// Adds whether each group is closed, and whether what is done, with its flags, is what one thread finds.

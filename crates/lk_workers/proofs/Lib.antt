@@ -2,7 +2,9 @@ mod Asked
 mod Closing
 mod Covering
 mod Doing
+mod GoingOn
 mod GroupFiles
+mod Handing
 mod Making
 mod Sharing
 mod Stepping

@@ -8,10 +8,12 @@ use Rattle.lk_flags.specs.Lists.{Lists}
 use Rattle.lk_link.specs.declared.link.LinkInput.{LinkInput}
 use Rattle.lk_link.specs.declared.symbol.InputSymbol.{InputSymbol}
 use Rattle.lk_link.specs.Inputs.{NumberedFile}
+use Rattle.lk_link.specs.Marks.{is_marked}
 use Rattle.lk_link.specs.NumberedSymbols.{symbols_of}
 use Rattle.lk_reach.specs.Marks.{IsMarked, all_units}
 use Rattle.lk_slot_link.proofs.Fitting.{lists_fit}
 use Rattle.lk_workers.specs.Asked.{AreListsOf, AreReached}
+use Rattle.lk_workers.specs.Closings.{AreMarksOf}
 
 pub same_count : (l : Lists) (link : LinkInput) → AreListsOf l link → length l.handed ≡ length l.words
 same_count l link of =
@@ -21,11 +23,14 @@ same_count l link of =
 pub handed_within : (l : Lists) (link : LinkInput) → AreListsOf l link → AllWithin l.handed l.words
 handed_within l link of = subst (λ (m : Lists). AllWithin m.handed m.words) (sym of.lists) (lists_fit link of.well_formed).within
 
-none_marked : (count n : ℕ) → IsMarked (replicate count false) n → ⊥
-none_marked count n h = elim (cases_lt n count) [
-  | inl lt ↦ absurd (cc (sym (get_or-replicate count n false false lt) ∙ h))
-  | inr past ↦ absurd (cc (sym (get_or_past (replicate count false) n false (omega (arith, past, length-replicate count false))) ∙ h))
+unmarked : (count n : ℕ) → is_marked (replicate count false) n ≡ false
+unmarked count n = elim (cases_lt n count) [
+  | inl lt ↦ get_or-replicate count n false false lt
+  | inr past ↦ get_or_past (replicate count false) n false (omega (arith, past, length-replicate count false))
 ]
+
+none_marked : (count n : ℕ) → IsMarked (replicate count false) n → ⊥
+none_marked count n h = absurd (cc (sym (unmarked count n) ∙ h))
 
 -- marks of which none is set
 pub none_reached : (l : Lists) (link : LinkInput) (count : ℕ) (marks : List Bool) → AreListsOf l link → count ≡ length (all_units link.groups) → marks ≡ replicate count false → AreReached l marks
@@ -35,6 +40,10 @@ none_reached l link count marks of same e =
       count = length-replicate count false ∙ same ∙ sym fit.marks_count ∙ ap (λ (m : Lists). length m.units) (sym of.lists);
       reached = λ n h. absurd (none_marked count n h);
     })
+
+-- they are those of nothing
+pub none_of : (count : ℕ) (marks : List Bool) → marks ≡ replicate count false → AreMarksOf [] marks
+none_of count marks e n = ap (λ ms. is_marked ms n) e ∙ unmarked count n
 
 -- ---- the groups of symbols
 

@@ -1,6 +1,6 @@
 -- What a traversal came to, and what of it is closed.
-use Rattle.std.specs.Prelude.{ℕ, true, ◌&&◌, ◌||◌, not, Bool, List, ◌++◌, length, map, slice_index}
-use Rattle.std.specs.List.{flat_map, list_all, range_with_len}
+use Rattle.std.specs.Prelude.{◌≡◌, ℕ, true, ◌&&◌, ◌||◌, not, Bool, List, ◌++◌, length, map, slice_index}
+use Rattle.std.specs.List.{list_all, list_any, range_with_len}
 use Rattle.std.specs.Option.{option_map_or}
 use Rattle.lk_link.specs.declared.file.InputFile.{InputFile}
 use Rattle.lk_link.specs.declared.link.LinkInput.{LinkInput}
@@ -14,11 +14,16 @@ use Rattle.lk_reach.specs.declared.units.Unit.TheVariants.{Sec, Sym}
 use Rattle.lk_reach.specs.Marks.{unit_number, word_of}
 use Rattle.lk_reach.specs.Units.{file_roots, flags_of, follows, target_of}
 use Rattle.lk_slot_link.specs.LinkGraphs.{files_of_group}
+use Rattle.lk_workers.specs.States.{Ranged, is_in}
 
 -- which units are done, by number, and the words of flags
 pub record ClosedValue : Type 0 where
   pub done : List Bool
   pub words : List ℕ
+
+-- marks of just the numbers of which one of these has a mark
+abbrev pub AreMarksOf : List Ranged → List Bool → Type 0
+AreMarksOf all marks = (n : ℕ) → is_marked marks n ≡ list_any (λ r. is_in r n) all
 
 -- ---- asks
 

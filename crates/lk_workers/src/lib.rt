@@ -5,7 +5,7 @@
 pub mod closed;
 pub mod laws;
 pub mod marks;
-pub mod sent;
+pub mod opened;
 pub mod slot;
 pub mod state;
 pub mod traversal;
@@ -13,8 +13,9 @@ pub mod work;
 pub mod workers;
 
 pub use closed::Closed;
-pub use sent::Sent;
-pub use slot::WorkerSlot;
+pub use marks::Marks;
+pub use opened::Opened;
+pub use slot::{Sent, WorkerSlot};
 pub use state::GroupState;
 pub use traversal::Traversal;
 pub use work::{GcLoadRequest, LocalWorkQueue, WorkItem};

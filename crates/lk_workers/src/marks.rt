@@ -76,6 +76,7 @@ impl Marks {
         ensures count { length room.new.items ≡ length room.old.items }
         ensures kept { (n : ℕ) → IsMarked room.old.items n → IsMarked room.new.items n }
         ensures only { (n : ℕ) → IsMarked room.new.items n → IsMarked room.old.items n ⊎ (is_in self.now n ≡ true) }
+        ensures all { (n : ℕ) → n < length room.old.items → is_in self.now n ≡ true → IsMarked room.new.items n }
     {
         if room.len() <= self.first {
             return;

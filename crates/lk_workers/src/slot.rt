@@ -1,15 +1,46 @@
-//! What others leave for a group.
+//! What others leave for a group, and what was left.
 
-ghost use Rattle.std.specs.Prelude.{◌≡◌, ◌++◌, ◌∷◌, [], false, IfErr, IfOk, MatchBool, OnErr, OnOk};
+ghost use Rattle.std.specs.Prelude.{◌≡◌, ◌++◌, ◌∷◌, [], false, IfErr, IfOk, List, MatchBool, OnErr, OnOk};
+ghost use Rattle.std.specs.Borrow.{ftrue};
 ghost use Rattle.lk_slots.specs.Machine.{Parks, Receives, Swaps};
 ghost use Rattle.lk_workers.specs.Items.{AreOwn, IsOwn, machine_item, machine_items, slot_of};
+ghost use Rattle.lk_workers.specs.declared.work.WorkItem.{WorkItem};
 
-use crate::sent::Sent;
 use crate::work::{LocalWorkQueue, WorkItem};
 use lk_flags::Reach;
 use std::alloc::{AllocError, AllocFailed, Global};
 use std::marker::{Model, PhantomData};
 use std::mem;
+
+/// The items that a group's steps left in slots of others, in order. It exists in proofs alone and takes no bytes. Only
+/// `WorkerSlot::deposit` adds to it, by a call that no other module has.
+#[derive(Drop)]
+pub struct Sent {
+    ghost items: { List WorkItem },
+}
+
+impl Model for Sent {
+    ghost also_owns = { λ _. ftrue };
+}
+
+// It owns nothing.
+unsafe impl Send for Sent {}
+
+impl Sent {
+    /// Nothing was left.
+    pub fn new() -> Sent
+        ensures { result.items ≡ [] }
+    {
+        Sent {}
+    }
+
+    /// The same items, and one more.
+    fn and(&self, _item: &WorkItem) -> Sent
+        ensures { result.items ≡ self.now.items ++ _item.now ∷ [] }
+    {
+        Sent {}
+    }
+}
 
 /// A group's slot: whether the group is parked, and what others left for it. A parked group has nothing waiting, and all that waits is
 /// the group's own and there is reason for it. It lies behind a lock (libwild: `WorkerSlot`).

@@ -1,7 +1,8 @@
 //! The state of a group, and the steps that it takes.
 
-ghost use Rattle.std.specs.Prelude.{◌≡◌, ◌++◌, ◌∷◌, ℕ, [], false, true, IfNone, IfOk, IfSome, MatchBool, OnErr, OnOk, Some};
+ghost use Rattle.std.specs.Prelude.{◌≡◌, ◌++◌, ◌∷◌, ◌||◌, ℕ, [], false, true, IfNone, IfOk, IfSome, MatchBool, OnErr, OnOk, Some};
 ghost use Rattle.lk_reach.specs.declared.units.Ask.TheVariants as ask;
+ghost use Rattle.lk_link.specs.Marks.{is_marked};
 ghost use Rattle.lk_reach.specs.Marks.{IsMarked, IsUnit, unit_at, unit_number};
 ghost use Rattle.lk_slot_link.specs.LinkGraphs.{group_roots, unit_group};
 ghost use Rattle.lk_workers.specs.Asked.{AreMet, AreReached, IsMet};
@@ -11,8 +12,8 @@ ghost use Rattle.lk_workers.specs.States.{DoesOne, activated, is_done, is_in, wi
 ghost use Rattle.lk_workers.specs.Steps.{DoesAsk, DoesAsks, DoesItem, DoesSome, DoesUnit, GivesItemUp, GivesUnitUp, IsGivenUp, IsStep, IsStepGivenUp, PassesOn, Refers, is_asked};
 
 use crate::marks::Marks;
-use crate::sent::Sent;
-use crate::slot::WorkerSlot;
+use crate::opened::Opened;
+use crate::slot::{Sent, WorkerSlot};
 use crate::traversal::Traversal;
 use crate::work::{GcLoadRequest, LocalWorkQueue, WorkItem};
 use lk_flags::{FlagPass, Reach};
@@ -21,7 +22,7 @@ use lk_link::{SectionGcUnit, SymbolId, ValueFlags};
 use lk_reach::{Ask, Successors, Unit};
 use std::alloc::{AllocError, Global};
 use std::marker::{Model, PhantomData};
-use std::sync::Wait;
+use std::sync::{Mutex, Wait};
 
 /// The state of a group: whether it is activated, its own items, and which of its symbols and sections are done. All of these are the
 /// group's own, and there is reason for them. Contracts also see what its steps left for other groups. It lies behind a lock (libwild:
@@ -351,11 +352,20 @@ impl<J: Reach> GroupState<J> {
         slot.park_or_swap(&mut self.items)
     }
 
+    /// Takes a state out of its lock, and notes what is done in it.
+    pub(crate) fn open(lock: Mutex<GroupState<J>>, opened: &mut Opened) -> GroupState<J>
+        ensures { opened.new.marks ≡ opened.old.marks ++ result.symbols ∷ result.sections ∷ [] }
+    {
+        let state = lock.into_inner();
+        *opened = opened.and(&state.symbols).and(&state.sections);
+        state
+    }
+
     /// Sets the marks of what is done in a list that has one for every unit; those that it has stay.
     pub(crate) fn gather(self, room: &mut Vec<bool>)
         requires { AreReached J.lists room.old.items }
         ensures reached { AreReached J.lists room.new.items }
-        ensures kept { (n : ℕ) → IsMarked room.old.items n → IsMarked room.new.items n }
+        ensures marks { (n : ℕ) → is_marked room.new.items n ≡ is_marked room.old.items n || is_done self n }
     {
         self.symbols.gather(room);
         self.sections.gather(room);

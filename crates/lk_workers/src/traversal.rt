@@ -1,7 +1,7 @@
 //! What workers share: the slots and the states of all groups, each behind a lock of its own, the words of flags, and the groups that
 //! can run. Locks are taken in this order: a state, then a slot, then the groups that can run.
 
-ghost use Rattle.std.specs.Prelude.{◌≡◌, ◌<◌, ◌+◌, ◌-◌, ◌++◌, ◌∷◌, [], true, IfNone, IfOk, IfSome, OnErr, OnOk, SomeIff, map, None, Some, length, slice_get, slice_index};
+ghost use Rattle.std.specs.Prelude.{◌≡◌, ◌<◌, ◌+◌, ◌-◌, ◌*◌, ◌++◌, ◌∷◌, [], true, IfNone, IfOk, IfSome, OnErr, OnOk, SomeIff, map, None, Some, length, slice_get, slice_index};
 ghost use Rattle.lk_flags.specs.Flags.{AreIn, HaveNoMore, IsFound, Within, all_parts};
 ghost use Rattle.lk_reach.specs.Marks.{IsMarked, IsUnit, all_units, symbols_in_all, unit_number, word_of};
 ghost use Rattle.lk_link.specs.NumberedSymbols.{symbols_of};
@@ -10,13 +10,15 @@ ghost use Rattle.lk_link.specs.WellFormed.{IsWellFormed};
 ghost use Rattle.lk_slot_link.specs.LinkGraphs.{files_of_group, unit_group};
 ghost use Rattle.lk_reach.specs.Units.{follows};
 ghost use Rattle.lk_workers.specs.Asked.{AreListsOf, AreMet, AreReached, HasNumber, IsRootsOf, symbol_groups};
+ghost use Rattle.lk_workers.specs.Closings.{AreMarksOf};
 ghost use Rattle.lk_workers.specs.Items.{IsOwn};
 ghost use Rattle.lk_workers.specs.Steps.{flags_set};
+ghost use Rattle.lk_workers.specs.Traversals.{GoesOn};
 
 use crate::closed::Closed;
 use crate::marks::Marks;
-use crate::sent::Sent;
-use crate::slot::WorkerSlot;
+use crate::opened::Opened;
+use crate::slot::{Sent, WorkerSlot};
 use crate::state::GroupState;
 use crate::work::WorkItem;
 use lk_flags::{FlagPass, FlagTable, Reach};
@@ -77,12 +79,13 @@ impl<'l, J: Reach> Model for Traversal<'l, J> {
 
     ghost coded = { Prim.hlevel (codes, link_input.the_row.coded) };
 
-    ghost use Rattle.std.specs.Prelude.{◌≡◌};
+    ghost use Rattle.std.specs.Prelude.{◌≡◌, [], length};
     ghost use Rattle.lk_workers.specs.Asked.{AreListsOf, AreReached, symbol_groups as groups_of_symbols};
+    ghost use Rattle.lk_workers.specs.Closings.{AreMarksOf};
 
     ghost view = { λ t. record { link = t.link.now; table = t.table } };
 
-    ghost invariant = { λ t. AreListsOf J.lists t.link.now × (t.symbol_groups.items ≡ groups_of_symbols J.lists.groups) × AreReached J.lists t.room.items };
+    ghost invariant = { λ t. AreListsOf J.lists t.link.now × (t.symbol_groups.items ≡ groups_of_symbols J.lists.groups) × AreReached J.lists t.room.items × AreMarksOf [] t.room.items × (length t.states.items ≡ length t.link.now.groups) };
 }
 
 impl<'l, J: Reach> Traversal<'l, J> {
@@ -110,12 +113,14 @@ impl<'l, J: Reach> Traversal<'l, J> {
         Ok((traversal, pass))
     }
 
-    /// What the traversal came to: the units that states have as done, and the words of flags, which have all that the pass set, and
-    /// beside what was handed in nothing else, if the pass has all parts. Takes no memory.
-    pub fn close(self, pass: FlagPass) -> Closed<J>
+    /// What the traversal came to: the units that states had as done when they came out of their locks, one for each group, and the words
+    /// of flags, which have all that the pass set, and beside what was handed in nothing else, if the pass has all parts. Takes no memory.
+    pub fn close(self, pass: FlagPass) -> (Closed<J>, Opened)
         requires { pass.table ≡ self.table }
-        ensures sets { AreIn pass.sets result.words }
-        ensures whole { pass.parts ≡ all_parts → HaveNoMore J.lists.handed pass.sets result.words }
+        ensures done { AreMarksOf result.1.marks result.0.done }
+        ensures all { length result.1.marks ≡ 2 * length self.entry.link.groups }
+        ensures sets { AreIn pass.sets result.0.words }
+        ensures whole { pass.parts ≡ all_parts → HaveNoMore J.lists.handed pass.sets result.0.words }
     {
         let Traversal {
             link: _,
@@ -127,23 +132,29 @@ impl<'l, J: Reach> Traversal<'l, J> {
             changed: _,
             mut room,
         } = self;
-        gather(states, &mut room);
-        Closed {
+        let opened = gather(states, &mut room);
+        let closed = Closed {
             done: room,
             words: table.close(pass),
             of: PhantomData,
-        }
+        };
+        (closed, opened)
     }
 }
 
-/// Sets the marks of what is done in states.
-fn gather<J: Reach>(states: Vec<Mutex<GroupState<J>>>, room: &mut Vec<bool>)
-    requires { AreReached J.lists room.old.items }
-    ensures { AreReached J.lists room.new.items }
+/// Sets the marks of what is done in states, in a list without marks, and tells what that is.
+fn gather<J: Reach>(states: Vec<Mutex<GroupState<J>>>, room: &mut Vec<bool>) -> Opened
+    requires reached { AreReached J.lists room.old.items }
+    requires none { AreMarksOf [] room.old.items }
+    ensures reached { AreReached J.lists room.new.items }
+    ensures done { AreMarksOf result.marks room.new.items }
+    ensures all { length result.marks ≡ 2 * length states.items }
 {
+    let mut opened = Opened::new();
     for state in states {
-        state.into_inner().gather(room);
+        GroupState::open(state, &mut opened).gather(room);
     }
+    opened
 }
 
 /// The table of the flags that are handed in.
@@ -161,7 +172,8 @@ fn flag_table<J: Reach>(
 /// A mark for each unit, none of them set.
 fn room_of<J: Reach>(alloc: Global, link: &LinkInput) -> Result<Vec<bool>, AllocError>
     requires { AreListsOf J.lists link.now }
-    ensures { IfOk result (λ room. AreReached J.lists room.items) }
+    ensures reached { IfOk result (λ room. AreReached J.lists room.items) }
+    ensures none { IfOk result (λ room. AreMarksOf [] room.items) }
 {
     let room = unmarked(alloc, unit_count(link))?;
     Ok(room)
@@ -215,7 +227,9 @@ fn slots_of<J: Reach>(
 fn states_of<J: Reach>(
     alloc: Global,
     link: &LinkInput,
-) -> Result<Vec<Mutex<GroupState<J>>>, AllocError> {
+) -> Result<Vec<Mutex<GroupState<J>>>, AllocError>
+    ensures { IfOk result (λ states. length states.items ≡ length link.now.groups) }
+{
     let mut states = Vec::with_capacity(alloc, link.groups.len())?;
     let mut group = 0u32;
     let mut first_symbol = 0usize;
@@ -398,6 +412,7 @@ impl<J: Reach> Traversal<'_, J> {
         requires gate { G.may_enter gate.now }
         ensures table { pass.new.table ≡ pass.old.table }
         ensures parts { pass.new.parts ≡ pass.old.parts }
+        ensures sets { GoesOn pass.old.sets pass.new.sets }
     {
         let Some(state) = self.states.get(group as usize) else {
             return;

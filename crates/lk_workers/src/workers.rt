@@ -4,6 +4,7 @@ ghost use Rattle.std.specs.Prelude.{◌≡◌, ◌<◌, IfOk};
 ghost use Rattle.lk_link.specs.WellFormed.{IsWellFormed};
 ghost use Rattle.lk_reach.specs.Marks.{flag_words, reached_marks};
 ghost use Rattle.lk_workers.specs.Asked.{AreListsOf};
+ghost use Rattle.lk_workers.specs.Traversals.{GoesOn};
 
 use crate::traversal::Traversal;
 use lk_flags::{FlagPass, Reach};
@@ -38,6 +39,7 @@ fn work<J: Reach, R: Wait, G: Gate>(
 
 /// Runs all groups by so many workers, and answers a pass that has set all that theirs set: it has as many parts as the one that is
 /// handed in, of which each worker's has one. Waits for them.
+#[tactic(auto, using(crate::proofs::GoingOn::joined_on))]
 pub fn run_all<J: Reach + Send + Sync, R: Threads + Wait + Sync, G: Gate + Sync>(
     traversal: &Traversal<'_, J>,
     rt: &R,
@@ -51,6 +53,7 @@ pub fn run_all<J: Reach + Send + Sync, R: Threads + Wait + Sync, G: Gate + Sync>
     requires gate { G.may_enter gate.now }
     ensures table { IfOk result (λ p. p.table ≡ traversal.now.table) }
     ensures parts { IfOk result (λ p. p.parts ≡ pass.parts) }
+    ensures sets { IfOk result (λ p. GoesOn pass.sets p.sets) }
 {
     let mut pass = pass;
     let mut passes = Vec::with_capacity(alloc, workers as usize)?;
@@ -89,7 +92,7 @@ fn walk<J: Reach + Send + Sync, R: Threads + Wait + Sync, G: Gate + Sync>(
     // A group is run by one worker at a time, so more than there are groups would only wait.
     let groups = u32::try_from(link.groups.len()).unwrap_or(u32::MAX);
     let pass = run_all(&traversal, rt, alloc, pass, workers.min(groups), gate)?;
-    let closed = traversal.close(pass);
+    let (closed, _opened) = traversal.close(pass);
     match closed.into_whole(rt, alloc, link, workers)? {
         Some(found) => Ok(found),
         None => Err(AllocError),

@@ -1,6 +1,6 @@
 -- What was sent owns nothing, so it may go to another thread.
 use denote.Param.Send.{IsSend, owning_send}
-use Rattle.lk_workers.specs.contracts.sent.Sent.{the_row, the_type}
+use Rattle.lk_workers.specs.contracts.slot.Sent.{the_row, the_type}
 
 pub send : IsSend the_row
 send = owning_send the_type tt (λ d. tt) (λ k x w. tt)
