@@ -27,7 +27,8 @@ use Rattle.lk_tables.specs.Singletons.{partial_link_plan}
 use Rattle.lk_sizes.specs.Emitted.{is_emitted, told_marks}
 use Rattle.lk_sizes.specs.Contents.{size_refusal}
 use Rattle.lk_sizes.specs.Owners.{AreThunkOwners}
-use Rattle.lk_sizes.specs.Sizing.{AreFilled}
+use Rattle.lk_sizes.specs.Sizing.{AreFilled, GivesOwners}
+use Rattle.lk_sizes.specs.OwnersRecord.{OwnersRecord}
 use Rattle.lk_layout.specs.declared.error.LayoutError.{LayoutError}
 use Rattle.lk_resolutions.specs.declared.addresses.Addresses.{Addresses}
 use Rattle.lk_resolutions.specs.declared.images.Images.{Images}
@@ -70,6 +71,11 @@ pub record IsKept (link : LinkInput) (kept : KeptLink) : Type 0 where
   pub merged : IsMerged link kept.images
   pub met : reference_faults link ≡ []
   pub live : AreLive link kept.live
+
+-- and this comes into its parts without thunks, and is told of its headers
+pub record ArePlainOwners (machine : Machine) (link : LinkInput) (live : Live) (plain : OwnersRecord) : Type 0 where
+  pub owners : GivesOwners (output_filling machine.sizes link live) (Ok plain)
+  pub marks : is_marked plain.header.emitted ≡ is_emitted (output_content machine.sizes link live)
 
 -- and this comes into its parts, is told of its headers, and is the plan of its thunks
 pub record IsSized (machine : Machine) (link : LinkInput) (sized : SizedLink) : Type 0 where

@@ -83,33 +83,30 @@ pub(crate) struct ToldLink<'data> {
 }
 
 impl<'data> ToldLink<'data> {
-    /// The layout that these make together.
+    /// The layout that these make together. By a law no two parts share a byte of the file, so that each section takes what its parts take.
     pub(crate) fn into_layout(self, link: &'data LinkInput) -> Layout<'data>
         requires told { (machine : Machine) × IsToldLink machine link.now self }
         ensures { (machine : Machine) (is : IsToldLink machine link.now self.entry) → result ≡ layout_of (made_told is) }
     {
-        // A law, which does nothing: no two parts share a byte of the file, so that each section takes what its parts take.
         file_ranges_are_disjoint();
         let reaching = self.reaching;
         let addressed = reaching.addressed;
         let addresses = addressed.addresses;
-        let SpannedLink {
-            placed,
-            joined,
-            segments,
-        } = addressed.spanned;
+        let spanned = addressed.spanned;
+        let segments = spanned.segments;
+        let placed = spanned.placed;
         let KeptLink { images, live } = placed.kept;
         let records = placed.records;
         let plan = placed.thunks;
         let dynsym_start_index = first_export(link, placed.owners.numbers());
         let (header, sorted) = placed.owners.into_told();
-        let flags = with_late_marks(link, header.told.as_slice(), live.flags);
         Layout {
             link,
             section_layouts: records.sections.into_vec(),
-            merged_section_layouts: joined,
+            merged_section_layouts: spanned.joined,
             section_part_layouts: records.parts.into_vec(),
             section_attributes: self.attributes,
+            flags: with_late_marks(link, header.told.as_slice(), live.flags),
             header_info: header,
             segment_layouts: segments.segments,
             tls_layout: segments.tls_layout,
@@ -119,7 +116,6 @@ impl<'data> ToldLink<'data> {
             merged_strings: images.sections,
             merged_string_start_addresses: addresses.buckets,
             symbol_resolutions: addresses.resolutions,
-            flags,
             entry_symbol_id: entry_symbol(link),
             script_sorted_sections: sorted,
             partial_link: self.partial_link,

@@ -1,8 +1,6 @@
-use Rattle.lk_layout.specs.Machines.{platform_machine}
 use Rattle.lk_layout.proofs.Reaching.{merged}
 use Rattle.lk_layout.proofs.computation.merge.Goals as goal
 
 pub returns : goal.returns
-returns g c =
-    let machine = platform_machine (g.P.Platform.segment_start c.args._platform.now) (g.P.Platform.table_sizes c.args._platform.now) (g.A.Arch.config_of c.args._arch.now) in
+returns c machine =
     merged machine c.args.link.now c.merge_images.result c.requires.checked c.merge_images.ensures

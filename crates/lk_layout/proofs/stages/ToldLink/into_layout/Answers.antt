@@ -43,7 +43,7 @@ returns c machine is =
     ∙ numbers_before c.args.link.now c.numbers.result _ c.numbers.ensures
     ∙ dynsym_is (output_content machine.sizes c.args.link.now c.args.self.reaching.addressed.spanned.placed.kept.live) _ placed.owners.numbers)
     is.starts
-    (c.with_late_marks-flags.ensures
+    (c.with_late_marks.ensures
     ∙ ap (λ (told : List Bool). all_flags c.args.link.now told flags) (c.as_slice.ensures ∙ ap (λ (h : HeaderInfo). h.told) (c.into_told-header.ensures.header ∙ placed.owners.header)))
 
 pub invariant_of-result : goal.invariant_of-result
@@ -51,8 +51,8 @@ invariant_of-result c =
     let told = c.requires.told in
     same_can_move c.args.link.now _ _ _ _ _ _ (told_can_move c.file_ranges_are_disjoint.ensures told.0 c.args.link.now c.args.self told.1) c.into_told-header.ensures.header c.into_vec.ensures c.into_vec-2.ensures
 
-pub with_late_marks-flags-requires : goal.with_late_marks-flags-requires
-with_late_marks-flags-requires c = c.requires.told.1.reaching.branched.addressed.spanned.placed.kept.merged.checked.good
+pub with_late_marks-requires : goal.with_late_marks-requires
+with_late_marks-requires c = c.requires.told.1.reaching.branched.addressed.spanned.placed.kept.merged.checked.good
 
 pub new-requires : goal.new-requires
 new-requires c =
