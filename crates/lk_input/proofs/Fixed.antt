@@ -8,9 +8,10 @@ use Rattle.lk_input.specs.declared.read.fail.Fail.{Fail}
 use Rattle.lk_input.specs.declared.read.fail.Fail.TheVariants.{NotJson, NoMemory}
 use Rattle.lk_input.specs.Plain.{elements_with, no_elements}
 use Rattle.lk_input.specs.ReadingSteps.{Path, ◌>>=◌}
-use Rattle.lk_input.specs.Tokens.{IsDeeper, Stands, as_is, data_at, items_at}
+use Rattle.lk_pieces.specs.Tokens.{data_at, items_at}
+use Rattle.lk_input.specs.Tokens.{IsDeeper, Stands, as_is}
 use Rattle.lk_input.proofs.Lists.{from_items, items-too_deep, made}
-use Rattle.lk_input.proofs.Tokens.{and_next, items_at-next}
+use Rattle.lk_pieces.proofs.Tokens.{and_next, items_at-next}
 
 -- ---- an item
 

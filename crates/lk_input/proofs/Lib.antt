@@ -7,10 +7,10 @@ pub mod KnownSections
 pub mod LargeMembers
 pub mod Lists
 pub mod Objects
+pub mod Pieces
 pub mod Placements
 pub mod Plain
 pub mod Relocations
 pub mod Steps
 pub mod Texts
-pub mod Tokens
 pub mod Values

@@ -11,8 +11,8 @@ use Rattle.serde_json.specs.Find.{as_array}
 use Rattle.serde_json.specs.Read.{number_of}
 use Rattle.lk_input.specs.ReadingSteps.{Path, ◌>>=◌, read_items, list_of, wanted}
 use Rattle.lk_input.proofs.Steps.{with_front}
-use Rattle.lk_input.specs.Tokens.{data_at, items_at, members_at}
-use Rattle.lk_input.proofs.Tokens.{and_next, items_at-next, items_at-over, data_at-nothing, data_at-null, data_at-boolean, data_at-string, data_at-number, data_at-key, data_at-bad, data_at-end_array, data_at-end_object, data_at-array, data_at-object, data_at-deep_array, data_at-deep_object}
+use Rattle.lk_pieces.specs.Tokens.{data_at, items_at, members_at}
+use Rattle.lk_pieces.proofs.Tokens.{and_next, items_at-next, items_at-over, data_at-nothing, data_at-null, data_at-boolean, data_at-string, data_at-number, data_at-key, data_at-bad, data_at-end_array, data_at-end_object, data_at-array, data_at-object, data_at-deep_array, data_at-deep_object}
 
 -- ---- what is no list
 

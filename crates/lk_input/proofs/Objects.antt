@@ -15,8 +15,9 @@ use Rattle.lk_input.specs.declared.read.error.InputError.{InputError}
 use Rattle.lk_input.specs.declared.read.error.InputError.TheVariants as error
 use Rattle.lk_input.specs.Large.{IsSplit}
 use Rattle.lk_input.specs.ReadingSteps.{Path, Reads}
-use Rattle.lk_input.specs.Tokens.{data_at, items_at, members_at, Stands, as_is, settled}
-use Rattle.lk_input.proofs.Tokens.{data_at-nothing, data_at-null, data_at-boolean, data_at-string, data_at-number, data_at-key, data_at-bad, data_at-end_array, data_at-end_object, data_at-array, data_at-object, data_at-deep_array, data_at-deep_object}
+use Rattle.lk_pieces.specs.Tokens.{data_at, items_at, members_at}
+use Rattle.lk_input.specs.Tokens.{Stands, as_is, settled}
+use Rattle.lk_pieces.proofs.Tokens.{data_at-nothing, data_at-null, data_at-boolean, data_at-string, data_at-number, data_at-key, data_at-bad, data_at-end_array, data_at-end_object, data_at-array, data_at-object, data_at-deep_array, data_at-deep_object}
 
 pub differ : (xs ys : List ℕ) → bytes_eq xs ys ≡ false → xs ≡ ys → ⊥
 differ xs ys other same = true≢false (sym ((bytes_eq-Decides xs ys).1 same) ∙ other)

@@ -6,7 +6,7 @@ use Rattle.serde_json.specs.Find.{as_u64}
 use Rattle.serde_json.specs.Read.{number_of as written}
 use Rattle.lk_input.specs.Plain.{IsPlain, Writes}
 use Rattle.lk_input.specs.ReadingSteps.{Path, ◌>>=◌, index_of, one_of, truth_of, wanted, word_of}
-use Rattle.lk_input.proofs.Tokens.{data_at-boolean, data_at-number, data_at-string}
+use Rattle.lk_pieces.proofs.Tokens.{data_at-boolean, data_at-number, data_at-string}
 
 -- a number
 pub plain-number-by : {A : Type 0} (f : Data → Result A Path) (s : List ℕ) (n : Num) (o : Option A) → written s ≡ Some n → f (number n) ≡ wanted o

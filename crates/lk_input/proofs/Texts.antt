@@ -13,7 +13,8 @@ use Rattle.lk_input.specs.declared.read.fail.Fail.{Fail}
 use Rattle.lk_input.specs.declared.read.fail.Fail.TheVariants as fail
 use Rattle.lk_input.specs.Reading.{link_of, shaped, reading_of_json, Answers}
 use Rattle.lk_input.specs.ReadingSteps.{Path}
-use Rattle.lk_input.specs.Tokens.{data_at, Lacks, input_error}
+use Rattle.lk_pieces.specs.Tokens.{data_at}
+use Rattle.lk_input.specs.Tokens.{Lacks, input_error}
 use Rattle.lk_input.proofs.Lists.{made, made-none}
 use Rattle.std.proofs.lemmas.Str.{IsUtf8-from_is_utf8, is_utf8-from_IsUtf8}
 

@@ -9,7 +9,8 @@ use Rattle.serde_json.specs.View.{members_view}
 use Rattle.serde_json.specs.declared.value.Value.{Value}
 use Rattle.lk_input.specs.declared.read.fail.Fail.{Fail}
 use Rattle.lk_input.specs.ReadingSteps.{Path, below}
-use Rattle.lk_input.specs.Tokens.{data_at, members_at, Lacks}
+use Rattle.lk_pieces.specs.Tokens.{data_at, members_at}
+use Rattle.lk_input.specs.Tokens.{Lacks}
 
 -- of all members of an object, what is kept of the large ones, and the others
 pub record IsSplit {L : Type 0} (is_large : List ℕ → Bool) (kept : Members → L) (ms : Members) (large : L) (others : Members) : Type 0 where

@@ -4,6 +4,7 @@ pub mod KnownFiles
 pub mod KnownSections
 pub mod Large
 pub mod LargeMembers
+pub mod Pieces
 pub mod Plain
 pub mod Reading
 pub mod ReadingEvents

@@ -10,7 +10,7 @@ use Rattle.lk_link.specs.declared.symbol.SymbolPlacement.{SymbolPlacement}
 use Rattle.lk_input.specs.declared.read.symbol.PlacementForm.{PlacementForm}
 use Rattle.lk_input.specs.ReadingSteps.{Path, ◌>>=◌, below, found_by, one_of, wanted}
 use Rattle.lk_input.specs.ReadingSymbols.{all_placements, placement_in, placement_text}
-use Rattle.lk_input.specs.Tokens.{data_at}
+use Rattle.lk_pieces.specs.Tokens.{data_at}
 
 -- a token is a value by itself, of which f reads x
 abbrev pub IsPlain : {A : Type 0} → (Data → Result A Path) → Token → A → Type 0

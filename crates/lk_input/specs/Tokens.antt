@@ -1,9 +1,8 @@
--- What stands at a place among the tokens of a JSON text: the words of private contracts.
+-- What was read at a place among the tokens of a JSON text: the words of private contracts.
 use Rattle.std.specs.Prelude.{◌≡◌, ℕ, ◌+◌, ◌<◌, List, length, Option, Some, None, Result, Ok, Err, ⊤}
 use Rattle.json.specs.Token.{Token}
-use Rattle.json.specs.Json.{items, members, value, parse_map}
-use Rattle.serde_json.specs.Data.{Data, Items, no_items, item, Members, put}
-use Rattle.serde_json.specs.Read.{of_json, of_items, of_members, converted}
+use Rattle.json.specs.Json.{parse_map}
+use Rattle.serde_json.specs.Data.{no_items, item, Members, put}
 use Rattle.serde_json.specs.View.{view}
 use Rattle.serde_json.specs.declared.value.Value.{Value}
 use Rattle.lk_input.specs.declared.read.error.InputError.{InputError}
@@ -11,18 +10,7 @@ use Rattle.lk_input.specs.declared.read.error.InputError.TheVariants as error
 use Rattle.lk_input.specs.declared.read.fail.Fail.{Fail}
 use Rattle.lk_input.specs.declared.read.fail.Fail.TheVariants.{NotJson, NoMemory}
 use Rattle.lk_input.specs.ReadingSteps.{Path}
-
--- the value that the tokens begin with, which nests no deeper than the number, and the tokens behind it
-unfoldable pub data_at : ℕ → List Token → Option (Data × List Token)
-data_at depth ts = converted of_json (value depth ts)
-
--- the items up to the end of a list, and the tokens behind it
-unfoldable pub items_at : ℕ → List Token → Option (Items × List Token)
-items_at depth ts = converted of_items (items (value depth) (length ts) ts)
-
--- the members up to the end of an object, put to those that were found before, and the tokens behind it
-unfoldable pub members_at : Members → ℕ → List Token → Option (Members × List Token)
-members_at found depth ts = converted (λ ms. of_members ms found) (members (value depth) (length ts) ts)
+use Rattle.lk_pieces.specs.Tokens.{items_at, members_at}
 
 -- why nothing was returned: nothing stands there, or memory ran out
 abbrev pub Lacks : {B : Type 0} → Fail → Option (B × List Token) → Type 0

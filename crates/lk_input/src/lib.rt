@@ -17,6 +17,9 @@ pub use lk_link::{
     alignment, expression, fault, file, flags, gate, groups, ids, laws, limits, link, list, names,
     options, plan, platform, relocation, resolution, section, symbol, tables, text, walks,
 };
-pub use read::{InputError, read_link};
+pub use read::{
+    InputError, read_link, read_link_by_workers, read_link_in_pieces,
+    read_link_in_pieces_by_workers,
+};
 
 mod read;

@@ -7,6 +7,8 @@
 //! the format, and reads them by a few common steps (a member that must be there, one with a default, an item of a fixed list, a
 //! list, one of these texts). The first value of a wrong shape, in that order, refuses the description, once the text is known to be
 //! JSON to its end. Its path is put together on the way out, one step at each level, so that a good description pays nothing for it.
+//!
+//! A long text is read in pieces, one after the other or by workers, if all of them are well-formed; else it is read whole.
 
 ghost use Rattle.std.specs.Prelude.{◌≡◌, ◌∷◌};
 ghost use Rattle.json.specs.Json.{parse_map};
@@ -16,8 +18,10 @@ ghost use Rattle.serde_json.specs.View.{view};
 ghost use Rattle.lk_input.specs.LargeMembers.{link_large, link_kept, link_from};
 ghost use Rattle.lk_input.specs.Reading.{link_key_text, link_of, reading_of_json, reading_of, Answers};
 ghost use Rattle.lk_input.specs.ReadingSteps.{Reads};
-ghost use Rattle.lk_input.specs.Tokens.{data_at, Stands, as_is};
+ghost use Rattle.lk_pieces.specs.Tokens.{data_at};
+ghost use Rattle.lk_input.specs.Tokens.{Stands, as_is};
 
+mod cuts;
 mod described;
 mod digits;
 mod error;
@@ -32,6 +36,7 @@ mod large;
 mod member;
 mod options;
 mod output_section;
+mod pieces;
 mod placement;
 mod plain;
 mod plan;
@@ -47,6 +52,7 @@ use crate::read::fail::Fail;
 use crate::read::kept::Kept;
 use crate::read::large::{Large, kept_or, reread, stream_members};
 use crate::read::member::{object_or_empty, required};
+use crate::read::pieces::{read_by_workers, read_in_turn};
 use crate::read::stream::{Streamed, misfit_from, settled};
 use crate::read::tokens::deeper;
 use crate::read::word::Word;
@@ -57,9 +63,13 @@ use lk_link::link::LinkInput;
 use lk_link::text::Text;
 use serde_json::Value;
 use std::alloc::Global;
+use std::thread::Threads;
 
 /// How deep lists and objects may nest in a JSON text.
 const MAX_DEPTH: usize = 127;
+
+/// How many bytes a piece has at least that is read by itself.
+const PIECE: usize = 1 << 20;
 
 /// A key of the description.
 #[derive(Clone, Copy, Debug, PartialEq, Eq)]
@@ -182,14 +192,64 @@ fn read_text(alloc: Global, text: &str, scratch: &mut Scratch) -> Result<LinkInp
     }
 }
 
-/// The link description that the bytes are: JSON, with the fields of the format. Refused are bytes that are no JSON
-/// text, and a description with a value that is missing or has a wrong shape; of those the first is told, in the order
-/// of the format. Unknown keys are ignored.
+/// The description that the bytes are, read whole.
 #[tactic(auto, using(crate::proofs::Texts::utf8_tests))]
-pub fn read_link(alloc: Global, bytes: &[u8]) -> Result<LinkInput, InputError>
+fn read_whole(alloc: Global, bytes: &[u8]) -> Result<LinkInput, InputError>
     ensures { Answers result (reading_of bytes.now) }
 {
     let text = str::from_utf8(bytes)?;
     let mut scratch = Scratch::new(alloc);
     read_text(alloc, text, &mut scratch)
+}
+
+/// The link description that the bytes are: JSON, with the fields of the format. Refused are bytes that are no JSON
+/// text, and a description with a value that is missing or has a wrong shape; of those the first is told, in the order
+/// of the format. Unknown keys are ignored.
+pub fn read_link(alloc: Global, bytes: &[u8]) -> Result<LinkInput, InputError>
+    ensures { Answers result (reading_of bytes.now) }
+{
+    read_link_in_pieces(alloc, bytes, PIECE)
+}
+
+/// The same, read in pieces of at least `size` bytes where that is possible: reading then takes memory for a piece beside the text and
+/// what is read of it, not for another text.
+pub fn read_link_in_pieces(
+    alloc: Global,
+    bytes: &[u8],
+    size: usize,
+) -> Result<LinkInput, InputError>
+    ensures { Answers result (reading_of bytes.now) }
+{
+    match read_in_turn(alloc, bytes, size) {
+        Some(link) => Ok(link),
+        None => read_whole(alloc, bytes),
+    }
+}
+
+/// The same, read by so many workers where that is possible.
+pub fn read_link_by_workers<R: Threads + Sync>(
+    rt: &R,
+    alloc: Global,
+    bytes: &[u8],
+    workers: usize,
+) -> Result<LinkInput, InputError>
+    ensures { Answers result (reading_of bytes.now) }
+{
+    read_link_in_pieces_by_workers(rt, alloc, bytes, workers, PIECE)
+}
+
+/// The same, where each worker reads pieces of at least `size` bytes.
+pub fn read_link_in_pieces_by_workers<R: Threads + Sync>(
+    rt: &R,
+    alloc: Global,
+    bytes: &[u8],
+    workers: usize,
+    size: usize,
+) -> Result<LinkInput, InputError>
+    ensures { Answers result (reading_of bytes.now) }
+{
+    match read_by_workers(rt, alloc, bytes, workers, size) {
+        Some(link) => Ok(link),
+        None => read_whole(alloc, bytes),
+    }
 }

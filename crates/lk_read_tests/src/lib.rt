@@ -6,6 +6,8 @@ mod checking;
 #[cfg(test)]
 mod look_ups;
 #[cfg(test)]
+mod pieces;
+#[cfg(test)]
 mod plans;
 #[cfg(test)]
 mod reading;

@@ -7,7 +7,8 @@ ghost use Rattle.lk_input.specs.KnownFiles.{file_from, file_kept, kept_sections}
 ghost use Rattle.lk_input.specs.ReadingFiles.{file_key_text, file_kind_text, all_file_kinds, candidate_of};
 ghost use Rattle.lk_input.specs.ReadingFiles.{file_candidates_of, input_file_of, groups_of};
 ghost use Rattle.lk_input.specs.ReadingSteps.{Reads, one_of};
-ghost use Rattle.lk_input.specs.Tokens.{data_at, Stands, as_is};
+ghost use Rattle.lk_pieces.specs.Tokens.{data_at};
+ghost use Rattle.lk_input.specs.Tokens.{Stands, as_is};
 
 use crate::read::described::{Described, one_of};
 use crate::read::error::InputError;

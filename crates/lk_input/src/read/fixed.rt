@@ -6,7 +6,8 @@ ghost use Rattle.json.specs.Json.{parse_map};
 ghost use Rattle.json.specs.Reads.{token_of};
 ghost use Rattle.serde_json.specs.Data.{Items};
 ghost use Rattle.lk_input.specs.Plain.{elements_with, fixed_of, no_elements};
-ghost use Rattle.lk_input.specs.Tokens.{Stands, anything, as_is, data_at, items_at};
+ghost use Rattle.lk_pieces.specs.Tokens.{data_at, items_at};
+ghost use Rattle.lk_input.specs.Tokens.{Stands, anything, as_is};
 
 use crate::read::error::path_below;
 use crate::read::fail::Fail;

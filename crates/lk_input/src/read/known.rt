@@ -7,7 +7,8 @@ ghost use Rattle.std.specs.Prelude.{◌≡◌, List as Items, ℕ};
 ghost use Rattle.serde_json.specs.Data.{Members, no_members};
 ghost use Rattle.lk_input.specs.Known.{Gathers, Keeps, kept_needed, kept_optional};
 ghost use Rattle.lk_input.specs.ReadingSteps.{Reads};
-ghost use Rattle.lk_input.specs.Tokens.{Stands, anything, data_at};
+ghost use Rattle.lk_pieces.specs.Tokens.{data_at};
+ghost use Rattle.lk_input.specs.Tokens.{Stands, anything};
 ghost use Rattle.json.specs.Json.{parse_map};
 
 use crate::read::error::InputError;

@@ -10,7 +10,8 @@ ghost use Rattle.json.specs.Reads.{token_of};
 ghost use Rattle.serde_json.specs.Data.{Members, no_members};
 ghost use Rattle.serde_json.specs.View.{view, members_view};
 ghost use Rattle.lk_input.specs.ReadingSteps.{Reads};
-ghost use Rattle.lk_input.specs.Tokens.{data_at, members_at, Stands, as_is};
+ghost use Rattle.lk_pieces.specs.Tokens.{data_at, members_at};
+ghost use Rattle.lk_input.specs.Tokens.{Stands, as_is};
 ghost use Rattle.lk_input.specs.Large.{Taken, Rereads, Adds, Splits, kept_or};
 
 use crate::read::error::InputError;

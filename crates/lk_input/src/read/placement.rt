@@ -5,7 +5,8 @@ ghost use Rattle.json.specs.Json.{parse_map};
 ghost use Rattle.lk_input.specs.Plain.{placed_behind, placement_elements};
 ghost use Rattle.lk_input.specs.ReadingSteps.{one_of};
 ghost use Rattle.lk_input.specs.ReadingSymbols.{all_placements, placement_text, symbol_placement_of};
-ghost use Rattle.lk_input.specs.Tokens.{Stands, as_is, items_at};
+ghost use Rattle.lk_pieces.specs.Tokens.{items_at};
+ghost use Rattle.lk_input.specs.Tokens.{Stands, as_is};
 
 use crate::read::error::path_below;
 use crate::read::fail::Fail;

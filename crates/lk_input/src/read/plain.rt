@@ -6,7 +6,8 @@ ghost use Rattle.json.specs.Json.{parse_map};
 ghost use Rattle.json.specs.Reads.{token_of};
 ghost use Rattle.lk_input.specs.Plain.{IsPlain};
 ghost use Rattle.lk_input.specs.ReadingSteps.{index_of, number_of, one_of, signed_of, text_of, truth_of};
-ghost use Rattle.lk_input.specs.Tokens.{Stands, as_is, data_at};
+ghost use Rattle.lk_pieces.specs.Tokens.{data_at};
+ghost use Rattle.lk_input.specs.Tokens.{Stands, as_is};
 
 use crate::read::described::{Described, word_of};
 use crate::read::digits::{plain_number, plain_signed};
@@ -169,7 +170,7 @@ impl Streamed for SymbolId {
 }
 
 /// The text that begins with this token, if it is one.
-#[tactic(auto, using(crate::proofs::Tokens::values))]
+#[tactic(auto, using(lk_pieces::proofs::Tokens::values))]
 fn text_from(
     alloc: Global,
     token: Token<'_>,

@@ -9,7 +9,8 @@ ghost use Rattle.lk_input.specs.KnownSections.{section_from, section_kept};
 ghost use Rattle.lk_input.specs.ReadingSections.{input_section_key_text, slot_text, all_slots, hex_bytes};
 ghost use Rattle.lk_input.specs.ReadingSections.{size_in, input_section_of, input_sections_of};
 ghost use Rattle.lk_input.specs.ReadingSteps.{Reads, one_of, wanted};
-ghost use Rattle.lk_input.specs.Tokens.{data_at, Stands, as_is};
+ghost use Rattle.lk_pieces.specs.Tokens.{data_at};
+ghost use Rattle.lk_input.specs.Tokens.{Stands, as_is};
 
 use crate::read::described::{Described, one_of, wanted};
 use crate::read::error::InputError;

@@ -5,7 +5,8 @@ ghost use Rattle.json.specs.Json.{parse_map};
 ghost use Rattle.json.specs.Reads.{token_of};
 ghost use Rattle.serde_json.specs.Data.{Data};
 ghost use Rattle.lk_input.specs.ReadingSteps.{read_items, list_of};
-ghost use Rattle.lk_input.specs.Tokens.{data_at, items_at, Stands, as_is, anything, settled};
+ghost use Rattle.lk_pieces.specs.Tokens.{data_at, items_at};
+ghost use Rattle.lk_input.specs.Tokens.{Stands, as_is, anything, settled};
 
 use crate::read::described::Described;
 use crate::read::error::{InputError, path_below};
@@ -63,7 +64,7 @@ impl<T: Streamed> Streamed for List<T> {
 
 /// The list that begins with this token, if it begins one.
 #[tactic(auto, using(crate::proofs::Lists::lists))]
-fn stream_list<T: Streamed>(
+pub(crate) fn stream_list<T: Streamed>(
     alloc: Global,
     token: Token<'_>,
     reader: &mut Reader<'_>,

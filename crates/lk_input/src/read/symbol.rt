@@ -8,7 +8,8 @@ ghost use Rattle.lk_input.specs.ReadingSymbols.{symbol_key_text, loc_text, all_l
 ghost use Rattle.lk_input.specs.Known.{symbol_from, symbol_kept};
 ghost use Rattle.lk_input.specs.ReadingSymbols.{redirect_of, placement_in, symbol_placement_of, input_symbol_of};
 ghost use Rattle.lk_input.specs.ReadingSteps.{Reads, one_of};
-ghost use Rattle.lk_input.specs.Tokens.{Stands, as_is, data_at};
+ghost use Rattle.lk_pieces.specs.Tokens.{data_at};
+ghost use Rattle.lk_input.specs.Tokens.{Stands, as_is};
 
 use crate::read::described::{Described, one_of};
 use crate::read::error::InputError;

@@ -6,7 +6,8 @@ ghost use Rattle.json.specs.Reads.{token_of};
 ghost use Rattle.serde_json.specs.Data.{no_members, put};
 ghost use Rattle.serde_json.specs.Read.{number_of, number_from, float_of};
 ghost use Rattle.serde_json.specs.View.{view, number_view, items_view, members_view};
-ghost use Rattle.lk_input.specs.Tokens.{data_at, items_at, members_at, Stands, ItemNext, MemberNext, IsDeeper};
+ghost use Rattle.lk_pieces.specs.Tokens.{data_at, items_at, members_at};
+ghost use Rattle.lk_input.specs.Tokens.{Stands, ItemNext, MemberNext, IsDeeper};
 
 use crate::read::fail::Fail;
 use fast_float::Numeral;
@@ -68,7 +69,7 @@ pub(crate) fn deeper(depth: usize) -> Result<usize, Fail>
 /// The value that begins with this token, of which the reader gives the others.
 #[cycle(value)]
 #[inline(always)]
-#[tactic(auto, using(crate::proofs::Tokens::values))]
+#[tactic(auto, using(lk_pieces::proofs::Tokens::values))]
 pub(crate) fn value_from(
     alloc: Global,
     token: Token<'_>,
@@ -100,7 +101,7 @@ pub(crate) fn value_from(
 /// The value that stands next.
 #[cycle(value)]
 #[inline(always)]
-#[tactic(auto, using(crate::proofs::Tokens::values))]
+#[tactic(auto, using(lk_pieces::proofs::Tokens::values))]
 pub(crate) fn value_at(alloc: Global, reader: &mut Reader<'_>, depth: usize) -> Result<Value, Fail>
     ensures { Stands view result (data_at depth reader.old) reader.new }
 {

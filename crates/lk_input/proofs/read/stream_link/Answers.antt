@@ -7,7 +7,7 @@ use Rattle.serde_json.specs.declared.value.Value.{Object}
 use Rattle.serde_json.proofs.Views.{view-Object}
 use Rattle.lk_input.specs.LargeMembers.{link_from}
 use Rattle.lk_input.specs.Reading.{link_of}
-use Rattle.lk_input.specs.Tokens.{data_at, members_at}
+use Rattle.lk_pieces.specs.Tokens.{data_at, members_at}
 use Rattle.lk_input.proofs.LargeMembers.{link_wants_object, link-split}
 use Rattle.lk_input.proofs.Objects.{object-read, object-none, no_object, settled-stands}
 use Rattle.lk_input.proofs.Values.{fails-so}

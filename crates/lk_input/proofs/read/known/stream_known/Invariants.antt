@@ -1,6 +1,6 @@
 use Rattle.std.proofs.Common.{◌≡◌, length}
 use Rattle.serde_json.specs.Data.{Members}
-use Rattle.lk_input.specs.Tokens.{members_at}
+use Rattle.lk_pieces.specs.Tokens.{members_at}
 use Rattle.lk_input.proofs.read.known.stream_known.Given as goal
 
 abbrev pub invariant-members : goal.invariant-members

@@ -4,8 +4,8 @@ use Rattle.json.proofs.Grammar.{read_key-shorter}
 use Rattle.serde_json.specs.Data.{no_members, put}
 use Rattle.serde_json.specs.View.{members_view}
 use Rattle.lk_input.specs.declared.read.fail.Fail.TheVariants.{NotJson}
-use Rattle.lk_input.specs.Tokens.{data_at, members_at}
-use Rattle.lk_input.proofs.Tokens.{and_next, data_at-shorter, members_at-next, members_at-over, members_at-no_key}
+use Rattle.lk_pieces.specs.Tokens.{data_at, members_at}
+use Rattle.lk_pieces.proofs.Tokens.{and_next, data_at-shorter, members_at-next, members_at-over, members_at-no_key}
 use Rattle.lk_input.proofs.Objects.{split-begin}
 use Rattle.lk_input.proofs.Values.{lacks-so}
 use Rattle.lk_input.proofs.read.large.stream_members.Goals as goal

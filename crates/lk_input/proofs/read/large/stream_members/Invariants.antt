@@ -1,7 +1,7 @@
 use Rattle.std.proofs.Common.{◌≡◌, length}
 use Rattle.serde_json.specs.Data.{Members, no_members}
 use Rattle.serde_json.specs.View.{members_view}
-use Rattle.lk_input.specs.Tokens.{members_at}
+use Rattle.lk_pieces.specs.Tokens.{members_at}
 use Rattle.lk_input.specs.Large.{IsSplit}
 use Rattle.lk_input.proofs.read.large.stream_members.Given as goal
 

@@ -1,7 +1,7 @@
 use Rattle.std.proofs.Common.{Some, ap, ◌∙◌, rules}
 use Rattle.lk_input.specs.declared.read.symbol.PlacementForm.TheVariants as form
 use Rattle.lk_input.specs.Plain.{no_elements, placed_behind}
-use Rattle.lk_input.specs.Tokens.{items_at}
+use Rattle.lk_pieces.specs.Tokens.{items_at}
 use Rattle.lk_input.proofs.Fixed.{fixed-made}
 use Rattle.lk_input.proofs.Placements.{absolute_by, absolute_elements, absolute_from, section_by, section_elements, section_from, undef_by, undef_from}
 use Rattle.lk_input.proofs.read.placement.stream_placed.Goals as goal

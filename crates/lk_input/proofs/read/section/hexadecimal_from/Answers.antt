@@ -5,7 +5,7 @@ use Rattle.hex.specs.Hex.{decode_of}
 use Rattle.lk_input.specs.ReadingSections.{hex_bytes}
 use Rattle.lk_input.specs.ReadingSteps.{wanted}
 use Rattle.lk_input.proofs.Objects.{settled-stands}
-use Rattle.lk_input.proofs.Tokens.{data_at-string}
+use Rattle.lk_pieces.proofs.Tokens.{data_at-string}
 use Rattle.lk_input.proofs.read.section.hexadecimal_from.Goals as goal
 
 pub returns-in-String : goal.returns-in-String

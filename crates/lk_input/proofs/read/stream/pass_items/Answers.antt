@@ -1,7 +1,8 @@
 use Rattle.std.proofs.Common.{◌≡◌, ◌<◌, length, None, Err, refl, ◌∙◌, arith}
 use Rattle.json.specs.Json.{parse_map, after_end_array}
-use Rattle.lk_input.specs.Tokens.{data_at, anything}
-use Rattle.lk_input.proofs.Tokens.{data_at-shorter}
+use Rattle.lk_pieces.specs.Tokens.{data_at}
+use Rattle.lk_input.specs.Tokens.{anything}
+use Rattle.lk_pieces.proofs.Tokens.{data_at-shorter}
 use Rattle.lk_input.proofs.Lists.{made, made-none, list-passed, list-none, list-over}
 use Rattle.lk_input.proofs.Values.{fails-so}
 use Rattle.lk_input.proofs.read.stream.pass_items.Goals as goal

@@ -1,6 +1,7 @@
 use Rattle.std.proofs.Common.{◌≡◌, length}
 use Rattle.json.specs.Json.{parse_map}
-use Rattle.lk_input.specs.Tokens.{items_at, anything}
+use Rattle.lk_pieces.specs.Tokens.{items_at}
+use Rattle.lk_input.specs.Tokens.{anything}
 use Rattle.lk_input.proofs.read.stream.pass_items.Given as goal
 
 abbrev pub invariant-items : goal.invariant-items

@@ -1,8 +1,9 @@
 use Rattle.std.proofs.Common.{◌≡◌, ◌<◌, [], ◌∷◌, ◌++◌, length, Some, None, Ok, Err, sym, ap, ◌∙◌, arith, rules}
 use Rattle.std.specs.Fmt.{decimal}
 use Rattle.json.specs.Json.{parse_map, after_end_array}
-use Rattle.lk_input.specs.Tokens.{data_at, items_at, anything}
-use Rattle.lk_input.proofs.Tokens.{data_at-shorter}
+use Rattle.lk_pieces.specs.Tokens.{data_at, items_at}
+use Rattle.lk_input.specs.Tokens.{anything}
+use Rattle.lk_pieces.proofs.Tokens.{data_at-shorter}
 use Rattle.lk_input.proofs.Lists.{made, made-none, list-passed, list-none, list-over, after_items, item-read, item-fault, items-done}
 use Rattle.lk_input.proofs.Values.{fails-so}
 use Rattle.lk_input.proofs.read.stream.stream_items.Goals as goal

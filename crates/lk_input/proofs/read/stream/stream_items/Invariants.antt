@@ -1,7 +1,7 @@
 use Rattle.std.proofs.Common.{◌≡◌, length}
 use Rattle.json.specs.Json.{parse_map}
 use Rattle.lk_input.specs.ReadingSteps.{read_items}
-use Rattle.lk_input.specs.Tokens.{items_at}
+use Rattle.lk_pieces.specs.Tokens.{items_at}
 use Rattle.lk_input.proofs.Lists.{after_items}
 use Rattle.lk_input.proofs.read.stream.stream_items.Given as goal
 

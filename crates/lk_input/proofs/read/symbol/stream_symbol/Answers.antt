@@ -4,7 +4,7 @@ use Rattle.json.specs.Reads.{token_of}
 use Rattle.serde_json.specs.Data.{no_members}
 use Rattle.lk_input.specs.Known.{symbol_from}
 use Rattle.lk_input.specs.ReadingSymbols.{input_symbol_of}
-use Rattle.lk_input.specs.Tokens.{data_at, members_at}
+use Rattle.lk_pieces.specs.Tokens.{data_at, members_at}
 use Rattle.lk_input.proofs.Known.{symbol-kept, symbol_wants_object}
 use Rattle.lk_input.proofs.Objects.{object-read, object-none, no_object, settled-stands}
 use Rattle.lk_input.proofs.Values.{lacks-so}

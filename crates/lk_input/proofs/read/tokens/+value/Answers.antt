@@ -6,8 +6,8 @@ use Rattle.serde_json.specs.Data.{string, array, object, no_members}
 use Rattle.serde_json.specs.View.{view, items_view}
 use Rattle.serde_json.proofs.Views.{view-Array, view-Object}
 use Rattle.lk_input.specs.declared.read.fail.Fail.TheVariants.{NotJson}
-use Rattle.lk_input.specs.Tokens.{data_at, items_at, members_at}
-use Rattle.lk_input.proofs.Tokens.{data_at-null, data_at-boolean, data_at-number, data_at-string, data_at-array, data_at-object, data_at-shorter, items_at-next, items_at-over, members_at-next, members_at-over, members_at-no_key}
+use Rattle.lk_pieces.specs.Tokens.{data_at, items_at, members_at}
+use Rattle.lk_pieces.proofs.Tokens.{data_at-null, data_at-boolean, data_at-number, data_at-string, data_at-array, data_at-object, data_at-shorter, items_at-next, items_at-over, members_at-next, members_at-over, members_at-no_key}
 use Rattle.lk_input.proofs.Values.{joined, joined-more, joined-over, lacks-so, fails-so, view-Null, view-Bool, view-Number, view-String}
 use Rattle.lk_input.proofs.read.tokens.+value.Goals as goal
 

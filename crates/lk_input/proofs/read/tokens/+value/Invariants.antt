@@ -2,7 +2,7 @@ use Rattle.std.proofs.Common.{◌≡◌, ◌+◌, ◌*◌, length}
 use Rattle.json.specs.Json.{parse_map}
 use Rattle.serde_json.specs.Data.{no_members}
 use Rattle.serde_json.specs.View.{items_view, members_view}
-use Rattle.lk_input.specs.Tokens.{items_at, members_at}
+use Rattle.lk_pieces.specs.Tokens.{items_at, members_at}
 use Rattle.lk_input.proofs.Values.{joined}
 use Rattle.lk_input.proofs.read.tokens.+value.Given as goal
 

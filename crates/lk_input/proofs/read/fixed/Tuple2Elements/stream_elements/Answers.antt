@@ -3,7 +3,8 @@ use Rattle.std.specs.Fmt.{decimal}
 use Rattle.json.specs.Json.{parse_map, after_end_array}
 use Rattle.lk_input.specs.Plain.{elements_with}
 use Rattle.lk_input.specs.ReadingSteps.{◌>>=◌}
-use Rattle.lk_input.specs.Tokens.{data_at, items_at, anything}
+use Rattle.lk_pieces.specs.Tokens.{data_at, items_at}
+use Rattle.lk_input.specs.Tokens.{anything}
 use Rattle.lk_input.proofs.Fixed.{element-fault, element-missing, element-read, fixed-lacks, fixed-made}
 use Rattle.lk_input.proofs.Lists.{made, made-none, list-passed, list-none, list-over}
 use Rattle.lk_input.proofs.Values.{fails-so}

@@ -1,7 +1,8 @@
 use Rattle.std.proofs.Common.{◌≡◌, Some, None, Err, sym, ap, ◌∙◌, arith}
 use Rattle.json.specs.Json.{parse_map, after_end_array}
 use Rattle.lk_input.specs.Plain.{no_elements}
-use Rattle.lk_input.specs.Tokens.{anything, items_at}
+use Rattle.lk_pieces.specs.Tokens.{items_at}
+use Rattle.lk_input.specs.Tokens.{anything}
 use Rattle.lk_input.proofs.Fixed.{elements-more, elements-over}
 use Rattle.lk_input.proofs.Lists.{list-over, made}
 use Rattle.lk_input.proofs.read.fixed.UnitElements.stream_elements.Goals as goal

@@ -4,7 +4,8 @@ use Rattle.json.specs.Json.{parse_map, after_end_array}
 use Rattle.lk_input.specs.Plain.{placed_behind, placement_elements}
 use Rattle.lk_input.specs.ReadingSteps.{one_of}
 use Rattle.lk_input.specs.ReadingSymbols.{all_placements, placement_text}
-use Rattle.lk_input.specs.Tokens.{anything, data_at, items_at}
+use Rattle.lk_pieces.specs.Tokens.{data_at, items_at}
+use Rattle.lk_input.specs.Tokens.{anything}
 use Rattle.lk_input.proofs.Lists.{list-none, list-over, list-passed, made, made-none}
 use Rattle.lk_input.proofs.Placements.{led-fault, led-missing, led-read}
 use Rattle.lk_input.proofs.Values.{fails-so}

@@ -1,7 +1,7 @@
 use Rattle.std.proofs.Common.{sym}
 use Rattle.lk_input.specs.Plain.{fixed_of, placement_elements}
 use Rattle.lk_input.specs.ReadingSymbols.{symbol_placement_of}
-use Rattle.lk_input.specs.Tokens.{data_at}
+use Rattle.lk_pieces.specs.Tokens.{data_at}
 use Rattle.lk_input.proofs.Lists.{parse_map-same}
 use Rattle.lk_input.proofs.Placements.{placement_by}
 use Rattle.lk_input.proofs.read.placement.SymbolPlacementStreamed.stream.Goals as goal

@@ -1,7 +1,7 @@
 use Rattle.std.proofs.Common.{Some, ap, ◌∙◌}
 use Rattle.lk_input.specs.Plain.{fixed_of}
 use Rattle.lk_input.specs.ReadingRelocations.{relax_candidate_of}
-use Rattle.lk_input.specs.Tokens.{data_at}
+use Rattle.lk_pieces.specs.Tokens.{data_at}
 use Rattle.lk_input.proofs.Fixed.{fixed-made}
 use Rattle.lk_input.proofs.Relocations.{relax_by, relax_elements, relax_from}
 use Rattle.lk_input.proofs.read.relocation.RelaxCandidateStreamed.stream.Goals as goal

@@ -1,7 +1,7 @@
 use Rattle.std.proofs.Common.{Some, ap, ◌∙◌, rules}
 use Rattle.lk_input.specs.Plain.{fixed_of}
 use Rattle.lk_input.specs.ReadingRelocations.{relocation_of}
-use Rattle.lk_input.specs.Tokens.{data_at}
+use Rattle.lk_pieces.specs.Tokens.{data_at}
 use Rattle.lk_input.proofs.Fixed.{fixed-made}
 use Rattle.lk_input.proofs.Relocations.{relocation_by, relocation_elements, relocation_from}
 use Rattle.lk_input.proofs.read.relocation.RelocationStreamed.stream.Goals as goal

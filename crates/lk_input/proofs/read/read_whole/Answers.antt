@@ -1,5 +1,5 @@
 use Rattle.std.proofs.lemmas.Str.{is_utf8-from_IsUtf8}
-use Rattle.lk_input.proofs.read.read_link.Goals as goal
+use Rattle.lk_input.proofs.read.read_whole.Goals as goal
 
 pub returns : goal.returns
 returns c =

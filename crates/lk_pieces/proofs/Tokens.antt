@@ -6,7 +6,7 @@ use Rattle.json.specs.Json.{Parse, parse_map, after_end_array, read_key, items_s
 use Rattle.json.proofs.Grammar.{left, Takes, value_is, value-begin_array, value-begin_object, skip_value-shorter, items_end, items_fail, items_more, members_end, members_no_key, members_fail, members_more, read_key-shorter}
 use Rattle.serde_json.specs.Data.{Data, null, boolean, number, string, array, object, Items, no_items, item, Members, no_members, put}
 use Rattle.serde_json.specs.Read.{number_of, of_json, of_items, of_members, converted}
-use Rattle.lk_input.specs.Tokens.{data_at, items_at, members_at}
+use Rattle.lk_pieces.specs.Tokens.{data_at, items_at, members_at}
 
 -- ---- what is read, with the tokens behind it
 

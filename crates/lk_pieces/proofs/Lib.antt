@@ -1,0 +1,12 @@
+pub mod Around
+pub mod Grammar
+pub mod Joined
+pub mod Joining
+pub mod Lexing
+pub mod Members
+pub mod Reading
+pub mod Shares
+pub mod Strings
+pub mod Texts
+pub mod Tokens
+pub mod Words

@@ -1,0 +1,6 @@
+pub mod Around
+pub mod Joining
+pub mod Pieces
+pub mod Reading
+pub mod Tokens
+pub mod Workers

@@ -1,0 +1,18 @@
+//! A list in a JSON text, read in pieces.
+//!
+//! The text is cut at commas between items. Where these are is guessed, and the readers check it: a value that was read ends where a
+//! value may end, and the next piece begins with one, so that the tokens of the pieces are those of the whole text. Where a guess was
+//! a bad one, some piece is no row of values, nothing is answered, and the caller reads the text as a whole.
+#![tactic(auto)]
+
+pub use cuts::{Guess, cut};
+pub use element::{Element, read_items, read_last_items};
+pub use object::{Others, read_object_by_workers, read_object_in_pieces};
+pub use pieces::{read_in_pieces, read_piece};
+
+mod cuts;
+mod element;
+pub mod laws;
+mod object;
+mod pieces;
+mod workers;

@@ -1,0 +1,185 @@
+//! An object with a long list in it, read piece by piece.
+
+ghost use Rattle.std.specs.Prelude.{◌≡◌, ◌∷◌, IfSome};
+ghost use Rattle.json.specs.Token.{Token as SpecToken};
+ghost use Rattle.serde_json.specs.Data.{Members, no_members};
+ghost use Rattle.lk_pieces.specs.Around.{IsAdded, LeadsIn, Completes, OpensObject, ClosesObject, HoldsList, HoldsAround};
+
+use crate::cuts::{Guess, cut};
+use crate::element::{Element, read_items, read_last_items};
+use crate::pieces::read_in_turn;
+use crate::workers::read_by_workers;
+use json::{Reader, Scratch, Token};
+use std::alloc::Global;
+use std::thread::Threads;
+
+/// How deep the members of the object may nest.
+const MEMBER_DEPTH: usize = 126;
+
+/// How deep the items of the list in it may nest.
+const ITEM_DEPTH: usize = 125;
+
+/// What is kept of the members of an object, other than its list.
+pub trait Others: Sized + Drop {
+    /// The members that were added.
+    ghost members: { Self → Members };
+
+    /// No member.
+    fn none(alloc: Global) -> Self
+        ensures { members result ≡ no_members };
+
+    /// Adds the member with this key, the value of which stands next, nested no deeper than `depth`. No answer tells nothing.
+    fn add(&mut self, alloc: Global, key: &str, reader: &mut Reader<'_>, depth: usize) -> Option<()>
+        ensures { IfSome result (λ _. IsAdded key.now depth (members self.old) reader.old (members self.new) reader.new) };
+}
+
+/// The bracket that opens a list.
+fn open_list(reader: &mut Reader<'_>) -> Option<()>
+    ensures { IfSome result (λ _. reader.old ≡ SpecToken.begin_array ∷ reader.new) }
+{
+    match reader.next()? {
+        Token::BeginArray => Some(()),
+        _ => None,
+    }
+}
+
+/// The brace that opens an object.
+fn open_object(reader: &mut Reader<'_>) -> Option<()>
+    ensures { IfSome result (λ _. reader.old ≡ SpecToken.begin_object ∷ reader.new) }
+{
+    match reader.next()? {
+        Token::BeginObject => Some(()),
+        _ => None,
+    }
+}
+
+/// The members up to the list at this key, and the bracket that opens it.
+fn read_up_to_list<M: Others>(
+    alloc: Global,
+    key: &str,
+    others: &mut M,
+    reader: &mut Reader<'_>,
+) -> Option<()>
+    ensures { IfSome result (λ _. LeadsIn key.now 126 (M.members others.old) reader.old (M.members others.new) reader.new) }
+{
+    'members: while let Some(name) = reader.next_key().ok()? {
+        if name == key {
+            open_list(reader)?;
+            return Some(());
+        }
+        others.add(alloc, name, reader, MEMBER_DEPTH)?;
+    }
+    None
+}
+
+/// The members behind the list, up to the end of the object; a second one at its key is refused.
+fn read_behind_list<M: Others>(
+    alloc: Global,
+    key: &str,
+    others: &mut M,
+    reader: &mut Reader<'_>,
+) -> Option<()>
+    ensures { IfSome result (λ _. Completes key.now 126 (M.members others.old) reader.old (M.members others.new) reader.new) }
+{
+    'members: while let Some(name) = reader.next_key().ok()? {
+        if name == key {
+            return None;
+        }
+        others.add(alloc, name, reader, MEMBER_DEPTH)?;
+    }
+    Some(())
+}
+
+/// The items of the first piece, which begins an object with the list at this key, and the members before the list.
+fn read_front<T: Element, M: Others>(
+    alloc: Global,
+    piece: &[u8],
+    key: &str,
+    scratch: &mut Scratch,
+) -> Option<(Vec<T>, M)>
+    ensures { IfSome result (λ r. OpensObject T.described key.now piece.now r.0.items (M.members r.1)) }
+{
+    let text = str::from_utf8(piece).ok()?;
+    let mut reader = Reader::new(text, scratch).ok()?;
+    open_object(&mut reader)?;
+    let mut others = M::none(alloc);
+    read_up_to_list(alloc, key, &mut others, &mut reader)?;
+    let items = read_items(alloc, &mut reader, ITEM_DEPTH)?;
+    Some((items, others))
+}
+
+/// The items of the last piece, which ends the list at this key and the object around it, and the members behind the list, which are
+/// added to the others.
+fn read_back<T: Element, M: Others>(
+    alloc: Global,
+    piece: &[u8],
+    key: &str,
+    others: &mut M,
+    scratch: &mut Scratch,
+) -> Option<Vec<T>>
+    ensures { IfSome result (λ items. ClosesObject T.described key.now piece.now items.items (M.members others.old) (M.members others.new)) }
+{
+    let text = str::from_utf8(piece).ok()?;
+    let mut reader = Reader::new(text, scratch).ok()?;
+    let items = read_last_items(alloc, &mut reader, ITEM_DEPTH)?;
+    read_behind_list(alloc, key, others, &mut reader)?;
+    match reader.next() {
+        Some(_) => None,
+        None => Some(items),
+    }
+}
+
+/// The items of the list at this key of an object of which these are the first piece and the last, with the items that were read of
+/// those between, and the object's other members.
+fn read_object<T: Element, M: Others>(
+    alloc: Global,
+    first: &[u8],
+    mut between: Vec<T>,
+    last: &[u8],
+    key: &str,
+    scratch: &mut Scratch,
+) -> Option<(Vec<T>, M)>
+    ensures { IfSome result (λ r. HoldsAround T.described key.now first.now between.items last.now r.0.items (M.members r.1)) }
+{
+    let (mut items, mut others) = read_front(alloc, first, key, scratch)?;
+    items.append(&mut between).ok()?;
+    let mut ending = read_back(alloc, last, key, &mut others, scratch)?;
+    items.append(&mut ending).ok()?;
+    Some((items, others))
+}
+
+/// The items of the list at this key of an object that is cut where this guesses, and its other members, with room for the unescaped
+/// strings of one piece. No answer tells nothing: the text may be no such object, have two lists at the key, be of one piece, or have
+/// been cut at another comma than one between items, or memory may have run out.
+pub fn read_object_in_pieces<T: Element, M: Others, G: Guess>(
+    alloc: Global,
+    text: &[u8],
+    key: &str,
+    guess: &G,
+) -> Option<(Vec<T>, M)>
+    ensures { IfSome result (λ r. HoldsList T.described key.now text.now r.0.items (M.members r.1)) }
+{
+    let (pieces, last) = cut(alloc, text, guess).ok()?;
+    let (first, pieces) = pieces.as_slice().split_first()?;
+    let mut scratch = Scratch::new(alloc);
+    let between = read_in_turn(alloc, pieces, &mut scratch, ITEM_DEPTH)?;
+    read_object(alloc, first, between, last, key, &mut scratch)
+}
+
+/// The same, read by so many workers side by side, each on a thread of its own; none counts as one.
+pub fn read_object_by_workers<T: Element + Send, M: Others, G: Guess, R: Threads + Sync>(
+    rt: &R,
+    alloc: Global,
+    text: &[u8],
+    key: &str,
+    guess: &G,
+    workers: usize,
+) -> Option<(Vec<T>, M)>
+    ensures { IfSome result (λ r. HoldsList T.described key.now text.now r.0.items (M.members r.1)) }
+{
+    let (pieces, last) = cut(alloc, text, guess).ok()?;
+    let (first, pieces) = pieces.as_slice().split_first()?;
+    let between = read_by_workers(rt, alloc, pieces, ITEM_DEPTH, workers.max(1))?;
+    let mut scratch = Scratch::new(alloc);
+    read_object(alloc, first, between, last, key, &mut scratch)
+}
