@@ -8,6 +8,7 @@ usage: run.py [--merges|--named|--thunks|--relaxed|--plans] [PROGRAM [MEGABYTES.
        run.py --generated [PROGRAM]
        run.py --maps [PROGRAM]
        run.py --why [PROGRAM]
+       run.py --images [PROGRAM]
 
 PROGRAM is crates/lk_program/out/lk_program unless given, the sizes are 1, 10 and 100 MB. Each
 description is given to the program in three forms, several times: with a value of a wrong shape that is
@@ -35,6 +36,9 @@ With --maps, the word `check` is set against `wc -l` over the same map.
 
 With --why, the words `why` ask for one unit of a link, and what comes after reading is set against parsing. The run fails where the unit
 isn't told.
+
+With --images, the words `image 0` write long images to nowhere, and what comes behind the layout is set against a plain copy of as many bytes
+into new memory. The run fails where an image has another length.
 """
 
 import hashlib
@@ -48,6 +52,7 @@ import time
 
 import against_serde
 import generated
+import images
 import long_lists
 import maps
 import memory
@@ -131,6 +136,13 @@ WHY_LEGEND = """\
 parse: ms/MB of making one JSON value of the whole text; rest: ms/MB of all after reading; growth: the power of the number of
 sections by which it grows, from a tenth of them; beside: the peak memory that is more than that of reading, in MB. Aim: rest/parse
 at most 0.15.
+"""
+
+IMAGE_COLUMNS = (("MB", 6), ("image", 7), ("seconds", 8), ("behind", 7), ("a copy", 7), ("ratio", 6), ("beside", 7), ("of it", 6))
+IMAGE_LEGEND = """\
+MB: of the description; image: its MB; behind: the seconds behind the layout, by a run that is refused there; a copy: those of a plain copy
+of the image's bytes into new memory; beside: the peak memory that is more than that of the refused run, in MB, and as a part of the
+image. Aim: ratio at most 1.3, of it at most 1.
 """
 
 BASELINE_COLUMNS = (("ours", 7), ("serde", 7), ("ratio", 6), ("peak MB", 8), ("serde MB", 9), ("ratio", 6))
@@ -497,7 +509,7 @@ def measure_maps(program, folder):
 def why_rests(program, path, output, shape):
     """For each size of a shape the number of sections, the description's bytes, and what parsing, reading and the whole took."""
     for count in why.WHY[shape]:
-        words = [program, *why.put(path, shape, count)]
+        words = [program, *why.put(program, path, shape, count)]
         size = os.path.getsize(path)
         whole = best(words, path, output, b"")
         if whole.status != 0:
@@ -532,6 +544,33 @@ def measure_why(program, folder):
     print(WHY_LEGEND)
 
 
+def measure_images(program, folder):
+    path, output, nowhere = os.path.join(folder, "description"), os.path.join(folder, "output"), os.devnull
+    words = [program, "image", "0"]
+    print_headings(IMAGE_COLUMNS)
+    for shape in images.IMAGES:
+        images.put(path, shape, True)
+        refused = best(words, path, output, images.REFUSED_ANSWER)
+        length = images.put(path, shape, False)
+        written = measure(words, path, output)
+        if (written.status, written.written) != (0, length):
+            sys.exit("%s: status %d, %d bytes" % (words, written.status, written.written))
+        whole, copy = best(words, path, nowhere, b""), images.copy_seconds(length)
+        behind = whole.seconds - refused.seconds
+        line = (
+            "%.1f" % (os.path.getsize(path) / 1e6),
+            "%.1f" % (length / 1e6),
+            "%.2f" % whole.seconds,
+            "%.3f" % behind,
+            "%.3f" % copy,
+            "%.2f" % (behind / copy),
+            "%.1f" % ((whole.peak - refused.peak) / 1e6),
+            "%.2f" % ((whole.peak - refused.peak) / length),
+        )
+        print_line(IMAGE_COLUMNS, (shape, *line))
+    print(IMAGE_LEGEND)
+
+
 SPECIAL_SHAPES = {"--merges": MERGES, "--named": NAMED, "--plans": PLANS, "--thunks": THUNKED, "--relaxed": RELAXED}
 OTHER_MEASURES = {
     "--long": measure_long_lists,
@@ -541,6 +580,7 @@ OTHER_MEASURES = {
     "--baseline": measure_baseline,
     "--maps": measure_maps,
     "--why": measure_why,
+    "--images": measure_images,
 }
 
 

@@ -1,7 +1,15 @@
-"""Links in which one unit is asked for: behind a long chain, in a large section group, among many candidates, and by many scripts."""
+"""Links in which one unit is asked for: behind a long chain, in a large section group, among many candidates, by many scripts, and
+in a link as they are, where nothing leads to it."""
 
-# Names of the shapes, with two sizes for each, of which the second is ten times the first.
-WHY = {"chain": (100_000, 1_000_000), "group": (10_000, 100_000), "edge": (10_000, 100_000), "scripts": (10_000, 100_000)}
+import os
+import re
+import subprocess
+import sys
+
+HERE = os.path.dirname(os.path.abspath(__file__))
+
+# Names of the shapes, with two sizes for each, of which the second is ten times the first: sections, of `linked` bytes.
+WHY = {"linked": (10_000_000, 100_000_000), "chain": (100_000, 1_000_000), "group": (10_000, 100_000), "edge": (10_000, 100_000), "scripts": (10_000, 100_000)}
 
 PLAN_START = '{"plan":{"page":4096,"sections":[{"parts":[[8,false]]}],"segments":[{"kind":"load"}],"events":[["seg",0],["sec",0],\n'
 START = '["endseg",0]]},\n"groups":[\n[{"kind":"prelude"}],\n['
@@ -62,8 +70,24 @@ def script_texts(count):
 TEXTS = {"chain": chain_texts, "group": group_texts, "edge": edge_texts, "scripts": script_texts}
 
 
-def put(path, shape, count):
-    """Writes the description, and gives the words that ask for a unit of it that is found last."""
+def dead_section(program, path):
+    """The words for a section that isn't live, before one that is in the same file."""
+    before = None
+    with open(path, "rb") as source:
+        told = subprocess.run([program, "layout", "0"], stdin=source, stdout=subprocess.PIPE, check=True).stdout
+    for group, file, index in re.findall(rb"^live (\d+) (\d+) (\d+) ", told, re.MULTILINE):
+        if before and before[:2] == (group, file) and int(index) > before[2] + 1:
+            return ["why", group.decode(), file.decode(), str(before[2] + 1)]
+        before = group, file, int(index)
+    sys.exit("all sections are live")
+
+
+def put(program, path, shape, count):
+    """Writes the description, and gives the words that ask for a unit of it that is found last, or not at all."""
+    if shape == "linked":
+        with open(path, "wb") as stream:
+            subprocess.run([sys.executable, os.path.join(HERE, "generate.py"), str(count), "0", shape], stdout=stream, check=True)
+        return dead_section(program, path)
     with open(path, "w", encoding="ascii") as stream:
         stream.write(PLAN_START)
         stream.writelines(LOCATION for _ in range(count if shape == "scripts" else 0))

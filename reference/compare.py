@@ -11,6 +11,7 @@ usage: compare.py PROGRAM COUNT [SEED [FIRST]]
        compare.py PROGRAM --thunks COUNT [SEED]
        compare.py PROGRAM --why COUNT [SEED]
        compare.py PROGRAM --maps COUNT [SEED]
+       compare.py PROGRAM --images COUNT [SEED]
 
 Runs PROGRAM on the random descriptions of the numbers FIRST to FIRST + COUNT - 1, and where FIRST is
 0 on the fixed ones too, on each one with the words `layout 0`, and with 1, 2, 4 and 8 in place of 0. Shows
@@ -24,7 +25,8 @@ words are `gen`, random seeds and numbers of objects up to 300, and there is no 
 of the random descriptions relaxation leaves something out; with --merging, in each of them something is merged; with
 --tls, in each of them a load segment opens behind zero-filled thread-local data; with --thunks, each has a primary part, and
 most of them more code than a branch reaches. With --why, the words are `why` and three sections of each random description, one
-after the other. With --maps, the words are `check`, and the inputs are reports, as they are and changed at one to three places.
+after the other. With --maps, the words are `check`, and the inputs are reports, as they are and changed at one to three places. With
+--images, the words are `image 0`, `image 2` and `image 8`, and most descriptions have data.
 """
 
 import collections
@@ -45,6 +47,7 @@ from rules.refusal import LAID_OUT
 
 # No worker, one, two, four, and more than most of the descriptions have groups.
 WORKERS = (0, 1, 2, 4, 8)
+IMAGE_WORKERS = (0, 2, 8)
 MOST_SHOWN = 2000
 HERE = os.path.dirname(os.path.abspath(__file__))
 # Other answers of status 0, by their first words.
@@ -198,6 +201,15 @@ def compare_maps(program, count, seed=0):
     return comparison
 
 
+def compare_images(program, count, seed=0):
+    comparison = Comparison(program)
+    for number in range(count):
+        data = cases.image_case(seed, number)
+        wanted = reference.answer(["image", "0"], data)
+        comparison.compare_by("images %d:%d" % (seed, number), data, wanted, [["image", str(workers)] for workers in IMAGE_WORKERS])
+    return comparison
+
+
 def compare_random(program, count, seed=0, first=0):
     comparison = Comparison(program)
     if first == 0:
@@ -238,11 +250,12 @@ COUNTED = {
     "--thunks": (compare_thunked, 2),
     "--why": (compare_why, 2),
     "--maps": (compare_maps, 2),
+    "--images": (compare_images, 2),
 }
 USAGE = (
     "usage: compare.py PROGRAM COUNT [SEED [FIRST]], "
     "or compare.py PROGRAM --places|--small|--generated COUNT|--shortened COUNT [SEED]|--merging COUNT [SEED]|--tls COUNT [SEED]|--thunks COUNT [SEED]|"
-    "--why COUNT [SEED]|--maps COUNT [SEED]"
+    "--why COUNT [SEED]|--maps COUNT [SEED]|--images COUNT [SEED]"
 )
 
 

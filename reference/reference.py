@@ -3,14 +3,12 @@
 
 usage: reference.py WORDS.. < DESCRIPTION
        reference.py --reach|--placement < DESCRIPTION
-       reference.py --image < DESCRIPTION
 
-With the words of a command, `layout N`, `gen SEED SIZE`, `why G F I` or `check`, it writes what the program is to
-write and ends with the status that it is to end with; what `check` reads is a map. With --reach it writes what the
+With the words of a command, `layout N`, `gen SEED SIZE`, `why G F I`, `check` or `image N`, it writes what the program is
+to write and ends with the status that it is to end with; what `check` reads is a map. With --reach it writes what the
 traversal answers: the live sections, the flags of all symbols, and the output sections that are kept.
 With --placement it writes what placement answers beside the report: whether the plan is plain, the bytes of
-the headers, the counters, merged records, compacted segments, and the end of thread-local data. With --image it writes
-the bytes of the output file, as far as a layout tells them.
+the headers, the counters, merged records, compacted segments, and the end of thread-local data.
 """
 
 import re
@@ -84,7 +82,14 @@ def checked_lines(words, data):
     return map_lines(whole_input(data))
 
 
-# What each command tells, by its first word.
+def image_bytes(words, data):
+    """The bytes of the output file, as far as a layout tells them."""
+    if len(words) != 2 or words[1] not in WORKERS:
+        raise usage()
+    return image(link_of(data))
+
+
+# What each command that tells lines tells, by its first word.
 COMMANDS = {
     "layout": laid_out_lines,
     "gen": generated_lines,
@@ -93,50 +98,47 @@ COMMANDS = {
 }
 
 
-def command_lines(words, data):
-    """The lines that a command tells."""
+def ended(lines):
+    """Lines, each with its end."""
+    return "".join(line + "\n" for line in lines).encode()
+
+
+def command_bytes(words, data):
+    """The bytes that a command tells."""
+    if words and words[0] == "image":
+        return image_bytes(words, data)
     if not words or words[0] not in COMMANDS:
         raise usage()
-    return COMMANDS[words[0]](words, data)
+    return ended(COMMANDS[words[0]](words, data))
 
 
-def answer_of(make_lines, *inputs):
-    """The status and the bytes of these lines, or of the refusal."""
+def answer_of(make_bytes, *inputs):
+    """The status and these bytes, or those of the refusal."""
     try:
-        status, lines = LAID_OUT, list(make_lines(*inputs))
+        return LAID_OUT, make_bytes(*inputs)
     except Refusal as refusal:
-        status, lines = refusal.status, refusal.lines
-    return status, "".join(line + "\n" for line in lines).encode()
+        return refusal.status, ended(refusal.lines)
 
 
 def answer(words, data):
     """The status and the bytes that these words and this input give."""
-    return answer_of(command_lines, words, data)
+    return answer_of(command_bytes, words, data)
 
 
 def reach_answer(_, data):
     """What the traversal alone answers."""
-    return answer_of(lambda: reach_lines(link_of(data)))
+    return answer_of(lambda: ended(reach_lines(link_of(data))))
 
 
 def placement_answer(_, data):
     """What placement answers beside the report."""
-    return answer_of(lambda: placement_lines(link_of(data)))
-
-
-def image_answer(_, data):
-    """The status, and the bytes of the image or why there is none."""
-    try:
-        return LAID_OUT, image(link_of(data))
-    except Refusal as refusal:
-        return refusal.status, "".join(line + "\n" for line in refusal.lines).encode()
+    return answer_of(lambda: ended(placement_lines(link_of(data))))
 
 
 # What is asked of the reference alone, by the first word.
 OWN_WORDS = {
     "--reach": reach_answer,
     "--placement": placement_answer,
-    "--image": image_answer,
 }
 
 

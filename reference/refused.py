@@ -4,7 +4,7 @@
 usage: refused.py PROGRAM [DESCRIPTION..]
 
 For each of the descriptions, unless told those of examples/ and some random ones in which something is merged in
-several groups, for 0, 2 and 4 workers, and for why its first section is kept: a run in which the first growth is refused,
+several groups, for 0, 2 and 4 workers, for why its first section is kept, and for its image by 0 and 2: a run in which the first growth is refused,
 one in which the second is, and so on to the last. The same of two generated links, and of a check of each map of
 examples/, the reports among them. Each has to write nothing and end with 6, or to do without and
 answer as the run in which none is refused, which with one thread few do. The same where what gives memory back is refused,
@@ -23,7 +23,7 @@ import tempfile
 import cases
 
 HERE = os.path.dirname(os.path.abspath(__file__))
-WORDS = ("layout 0", "layout 2", "layout 4", "why 1 0 0")
+WORDS = ("layout 0", "layout 2", "layout 4", "why 1 0 0", "image 0", "image 2")
 MAPS = ("*.report", "*.map")
 GENERATED = ("gen 3 9", "gen 7 200")
 MERGED = 6

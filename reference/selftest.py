@@ -34,12 +34,12 @@ def main(words):
     for example in written.all_examples():
         if program is not None and example.is_own():
             continue
-        wanted, got = (example.status, example.text.encode()), answer_of(program, example)
+        wanted, got = (example.status, example.text), answer_of(program, example)
         count += 1
         if got != wanted:
             wrong += 1
             print("WRONG: %s, words %r, input\n%s" % (example.place, example.words, example.data[:SHORT]))
-            print("wanted %d\n%s" % (example.status, example.text))
+            print("wanted %d\n%s" % (example.status, example.text.decode("utf-8", "replace")))
             print("got %s\n%s" % (got[0], got[1].decode("utf-8", "replace")))
     print("%d examples, %d wrong" % (count, wrong))
     sys.exit(1 if wrong or not count else 0)

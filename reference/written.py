@@ -5,12 +5,12 @@ gets, and which status it is to end with, from there to the end of the file; wit
 words are `layout 0`. Words that begin with -- are the reference's own. Each other block of lines, up to
 the next empty one, is an example: the line of its input, and the lines of its text. In an input,
 "«65 of X»" stands for 65 times X with commas between, and `quoted` before a JSON text says that the
-input is what the text says.
+input is what the text says. In a text, `bytes` before hexadecimal digits stands for these bytes, without the end of a line.
 
 In documents an example is an indented line that is a JSON list or object, followed by the indented
 lines of its text; a "·" is a space at the end of a line, and what follows it a remark. In examples/
-the description and the text are files of the same name: the report, or a text whose first line is the words; and a map and
-what is told of it.
+the description and the text are files of the same name: the report, or a text whose first line is the words, or the image; and a
+map and what is told of it.
 """
 
 import collections
@@ -24,9 +24,11 @@ HERE = os.path.dirname(os.path.abspath(__file__))
 TOP = os.path.dirname(HERE)
 DOCUMENTS = ("FORMAT.md", "DECISIONS.md")
 LAYOUT_WORDS = ["layout", "0"]
+IMAGE_WORDS = ["image", "0"]
 INDENT = " " * 4
-UNREADABLE_STARTS = ("not JSON", "not a link description:", "not a map:", "input is longer")
-DONE_STARTS = ("layout\n", "why ", "map ok:")
+BYTES = "bytes "
+UNREADABLE_STARTS = (b"not JSON", b"not a link description:", b"not a map:", b"input is longer")
+DONE_STARTS = (b"layout\n", b"why ", b"map ok:")
 
 
 class Example(collections.namedtuple("Example", "place words data status text")):
@@ -42,8 +44,13 @@ def lines_of(path):
         yield from enumerate(file.read().split("\n"), 1)
 
 
+def told(line):
+    """The bytes that a line of a text stands for."""
+    return bytes.fromhex(line[len(BYTES) :]) if line.startswith(BYTES) else line.encode() + b"\n"
+
+
 def joined(lines):
-    return "".join(line + "\n" for line in lines)
+    return b"".join(map(told, lines))
 
 
 # Known answers
@@ -80,7 +87,7 @@ def known_examples(path):
 
 def laid_down(place, data, text, words=LAYOUT_WORDS):
     """An example with this text."""
-    return Example(place, words, data, status_of(text), text)
+    return Example(place, words, data, LAID_OUT if words == IMAGE_WORDS else status_of(text), text)
 
 
 def status_of(text):
@@ -108,21 +115,22 @@ def document_examples(path):
             text.append(line_text + " " if space else line_text)
 
 
-def text_of(path):
-    """The text of a file."""
-    with open(path, encoding="utf-8") as file:
+def bytes_of(path):
+    """The bytes of a file."""
+    with open(path, "rb") as file:
         return file.read()
 
 
 def words_for(ending, text):
     """The words that give a text in a file with this ending."""
     if ending == ".why":
-        return text.split("\n")[0].split(" ")
-    return ["check"] if ending == ".checked" else LAYOUT_WORDS
+        return text.split(b"\n")[0].decode().split(" ")
+    return ENDINGS.get(ending, LAYOUT_WORDS)
 
 
-# The ending of a file with a text, and that of its input.
-INPUTS = {".report": ".json", ".why": ".json", ".checked": ".map"}
+# The ending of a file with a text, and that of its input; and the words, where they are neither those of a report nor in the text.
+INPUTS = {".report": ".json", ".why": ".json", ".image": ".json", ".checked": ".map"}
+ENDINGS = {".checked": ["check"], ".image": IMAGE_WORDS}
 
 
 def file_examples(folder):
@@ -131,8 +139,8 @@ def file_examples(folder):
         start, ending = os.path.splitext(name)
         if ending in INPUTS:
             path = os.path.join(folder, name)
-            text = text_of(path)
-            data = text_of(os.path.join(folder, start + INPUTS[ending]))
+            text = bytes_of(path)
+            data = bytes_of(os.path.join(folder, start + INPUTS[ending])).decode()
             yield laid_down(os.path.relpath(path, TOP), data, text, words_for(ending, text))
 
 

@@ -7,6 +7,7 @@ from .contents import add_contents
 from .faults import break_rules
 from .fixed import fixed_cases
 from .good import good_description, move_to_the_edge
+from .images import image_description
 from .maps import changed_map
 from .merges import add_merges
 from .richer import make_richer
@@ -18,7 +19,7 @@ from .values import objects
 from .thunked import thunked_description
 from .wide import widen
 
-__all__ = ["case", "changed_map", "fixed_cases", "merging_case", "shortened_case", "thread_local_case"]
+__all__ = ["case", "changed_map", "fixed_cases", "image_case", "merging_case", "shortened_case", "thread_local_case"]
 
 # Kinds of random descriptions, with their weights.
 MIX = {
@@ -70,6 +71,12 @@ def thread_local_case(seed, number):
     """The bytes of the random case of that number in which a load segment opens behind zero-filled thread-local data."""
     rng = random.Random("tls %d:%d" % (seed, number))
     return json.dumps(thread_local_description(rng)).encode("utf-8", "surrogatepass")
+
+
+def image_case(seed, number):
+    """The bytes of the random case of that number which mostly has an image."""
+    rng = random.Random("images %d:%d" % (seed, number))
+    return json.dumps(image_description(rng)).encode("utf-8", "surrogatepass")
 
 
 def thunked_case(seed, number):

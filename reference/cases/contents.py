@@ -14,9 +14,9 @@ def random_bytes(rng, length):
     return text.upper() if rng.random() < 0.3 else text
 
 
-def add_contents(rng, description):
+def add_contents(rng, description, shares=SHARES):
     """Gives data to a share of the sections that aren't merged, when their sizes and slots are settled."""
-    share = rng.choice(SHARES)
+    share = rng.choice(shares)
     for entry in all_inputs(description):
         if entry["slot"] != "merge" and length_of(entry) <= LONGEST:
             optional(rng, entry, "data", share, (random_bytes(rng, length_of(entry)),))

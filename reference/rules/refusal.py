@@ -13,7 +13,7 @@ class Refusal(Exception):
 
 
 def usage():
-    return Refusal(USAGE, "usage: lk_program layout N | gen SEED SIZE | why G F I | check")
+    return Refusal(USAGE, "usage: lk_program layout N | gen SEED SIZE | why G F I | check | image N")
 
 
 def not_json():

@@ -1,5 +1,5 @@
 -- Which words are a command.
-use Rattle.std.proofs.Common.{◌≡◌, ◌-◌, ◌^◌, inl, inr, cond, ◌==◌, length-drop, ℕ, zero, suc, ◌<◌, ◌≤◌, List, [], ◌∷◌, length, drop, Bool, true, false, true≢false, ◌&&◌, Option, None, Some, Result, Ok, refl, sym, ap, subst, ◌∙◌, arith, if◌then◌else◌}
+use Rattle.std.proofs.Common.{◌≡◌, ◌⊎◌, ◌-◌, ◌^◌, inl, inr, cond, ◌==◌, length-drop, ℕ, zero, suc, ◌<◌, ◌≤◌, List, [], ◌∷◌, length, drop, Bool, true, false, true≢false, ◌&&◌, Option, None, Some, Result, Ok, refl, sym, ap, subst, ◌∙◌, arith, if◌then◌else◌}
 use Rattle.std.specs.Fmt.{decimal}
 use Rattle.std.specs.Prelude.{◌↔◌, IsTrue, bytes_eq, codes, nat_le, slice_index}
 use Rattle.std.specs.Str.Parse.{digits_value, IsNumeral, ParsesUnsigned, without_leading_plus}
@@ -9,9 +9,9 @@ use Rattle.std.proofs.lemmas.Str.Parse.{numerals_by_value, tells_digits}
 use Rattle.std.proofs.lemmas.Slice.Eq.{bytes_eq-Decides}
 use Rattle.lk_run.specs.RunAlone.{AsksForWorkers}
 use Rattle.lk_run.specs.Steps.{CanBeAsked, IsPadded}
-use Rattle.lk_run.specs.Words.{IsCommand, command_of, number_in, workers_of, seed_of, short_of, size_of, layout_with, gen_with, why_with, workers_for}
+use Rattle.lk_run.specs.Words.{IsCommand, command_of, number_in, workers_of, seed_of, short_of, size_of, layout_with, gen_with, image_with, why_with, workers_for}
 use Rattle.lk_run.specs.declared.words.Command.{Command}
-use Rattle.lk_run.specs.declared.words.Command.TheVariants.{Layout, Gen, Why, Check}
+use Rattle.lk_run.specs.declared.words.Command.TheVariants.{Layout, Gen, Why, Check, Image}
 use Rattle.lk_run.specs.declared.words.TheConstants.{MOST_WORKERS, MOST_OBJECTS}
 
 -- all tests hold where there is a number
@@ -129,13 +129,20 @@ reads_command words (Why file index) is =
     ∙ ap (why_with (Some file.group) (Some file.file)) third
     )
 reads_command words Check is = rw is refl
+reads_command words (Image n) is =
+    rw is.1 (ap image_with (written_numbers 0 MOST_WORKERS (decimal n) n (omega arith) is.0 (omega (arith, is.0)) refl))
 
--- a number that a word behind `layout` was read as
-layout_read : (is_verb : Bool) (workers : Option ℕ) (command : Command) → (if is_verb then layout_with workers else None) ≡ Some command
-    → (is_verb ≡ true) × ((n : ℕ) × (workers ≡ Some n) × (command ≡ Layout n))
-layout_read true (Some m) command read = (refl, (m, refl, cc))
-layout_read true None command read = absurd (cc)
-layout_read false workers command read = absurd (cc)
+-- a number that a word behind `layout` or `image` was read as
+numbered_read : (verb : List ℕ) (is_layout is_image : Bool) (workers : Option ℕ) (command : Command)
+    → (is_layout ≡ true → verb ≡ codes "layout") → (is_image ≡ true → verb ≡ codes "image")
+    → (if is_layout then layout_with workers else if is_image then image_with workers else None) ≡ Some command
+    → ((verb ≡ codes "layout") × ((n : ℕ) × (workers ≡ Some n) × (command ≡ Layout n)))
+    ⊎ ((verb ≡ codes "image") × ((n : ℕ) × (workers ≡ Some n) × (command ≡ Image n)))
+numbered_read verb true is_image (Some m) command layout image read = inl (layout refl, (m, refl, cc))
+numbered_read verb true is_image None command layout image read = absurd (cc)
+numbered_read verb false true (Some m) command layout image read = inr (image refl, (m, refl, cc))
+numbered_read verb false true None command layout image read = absurd (cc)
+numbered_read verb false false workers command layout image read = absurd (cc)
 
 -- the numbers that two words behind `gen` were read as
 gen_read : (is_verb : Bool) (seed size : Option ℕ) (command : Command) → (if is_verb then gen_with seed size else None) ≡ Some command
@@ -174,12 +181,17 @@ command_is_read (verb ∷ []) command read =
     let is_verb = (bytes_eq-Decides verb (codes "check")).0 tests.0 in
     subst (IsCommand (verb ∷ [])) (sym tests.1) (ap (λ v. v ∷ []) is_verb)
 command_is_read (verb ∷ workers ∷ []) command read =
-    let tests = layout_read (bytes_eq verb (codes "layout")) (workers_of workers) command read in
-    let is_verb = (bytes_eq-Decides verb (codes "layout")).0 tests.0 in
-    let n : ℕ = tests.1.0 in
-    let written = numbers_are_written 0 MOST_WORKERS workers n tests.1.1 in
-    subst (IsCommand (verb ∷ workers ∷ [])) (sym tests.1.2)
-    (written.1, ap (λ v. v ∷ workers ∷ []) is_verb ∙ ap (λ w. codes "layout" ∷ w ∷ []) written.2)
+    elim (numbered_read verb (bytes_eq verb (codes "layout")) (bytes_eq verb (codes "image")) (workers_of workers) command
+    (bytes_eq-Decides verb (codes "layout")).0 (bytes_eq-Decides verb (codes "image")).0 read) [
+      | inl layout ↦
+          let written = numbers_are_written 0 MOST_WORKERS workers layout.1.0 layout.1.1 in
+          subst (IsCommand (verb ∷ workers ∷ [])) (sym layout.1.2)
+          (written.1, ap (λ v. v ∷ workers ∷ []) layout.0 ∙ ap (λ w. codes "layout" ∷ w ∷ []) written.2)
+      | inr image ↦
+          let written = numbers_are_written 0 MOST_WORKERS workers image.1.0 image.1.1 in
+          subst (IsCommand (verb ∷ workers ∷ [])) (sym image.1.2)
+          (written.1, ap (λ v. v ∷ workers ∷ []) image.0 ∙ ap (λ w. codes "image" ∷ w ∷ []) written.2)
+    ]
 command_is_read (verb ∷ seed ∷ size ∷ []) command read =
     let tests = gen_read (bytes_eq verb (codes "gen")) (seed_of seed) (size_of size) command read in
     let is_verb = (bytes_eq-Decides verb (codes "gen")).0 tests.0 in

@@ -10,6 +10,8 @@ use Rattle.lk_explain.specs.Faults.{has_unit}
 use Rattle.lk_explain.specs.Laws.{ReachedIsShown, ShownIsOne}
 use Rattle.lk_explain.proofs.NumberLemmas.{reached_by}
 use Rattle.lk_explain.proofs.PathLemmas.{has_is_unit}
+use Rattle.lk_image.specs.declared.error.ImageError.{ImageError}
+use Rattle.lk_image.specs.Refusals.{image_refusal}
 use Rattle.lk_link.specs.declared.fault.LinkFault.{LinkFault}
 use Rattle.lk_link.specs.declared.ids.FileId.{FileId}
 use Rattle.lk_link.specs.declared.link.LinkInput.{LinkInput}
@@ -36,7 +38,7 @@ use Rattle.lk_run.specs.declared.words.Command.TheVariants as commands
 use Rattle.lk_run.specs.Complete.{DescribesLayout, IsAnswerOver, IsFaultless, RunsTellOneAnswer, RunsTellTheAnswer, Tells}
 use Rattle.lk_devices.specs.Device.{SourceState, SinkState}
 use Rattle.lk_report.specs.FaultText.{input_fault_text_of}
-use Rattle.lk_run.specs.Run.{Held, Whole, Longer, Holds, Takes, IsAnswerOf, IsAnswerTo, IsAnswerToReading, IsAnswered, IsGeneratedAnswer, IsLayoutAnswer, IsMapAnswer, IsSectionAnswer, IsWayAnswer, IsWhyAnswer, done, judged, refused, unreadable, Commanded, Uncommanded, Unmoved, Finished, IsRun, Unread, summed_up, told_of}
+use Rattle.lk_run.specs.Run.{Held, Whole, Longer, Holds, Takes, IsAnswerOf, IsAnswerTo, IsAnswerToReading, IsAnswered, IsGeneratedAnswer, IsImageAnswer, IsLayoutAnswer, IsMapAnswer, IsSectionAnswer, IsWayAnswer, IsWhyAnswer, done, judged, refused, unreadable, Commanded, Uncommanded, Unmoved, IsDefinedFor, Finished, IsRun, TellsDefined, Unread, image_told, imaged, summed_up, told_of}
 use Rattle.lk_run.specs.TooLong.{too_long_text}
 use Rattle.lk_run.specs.MapTexts.{no_map_text}
 use Rattle.lk_run.specs.WhyTexts.{IsWay, link_fault_line, no_section_text, why_text}
@@ -69,8 +71,8 @@ reading_answer : (to_link : LinkInput → Answer → Type 0) → ((link : LinkIn
 reading_answer to_link every (Ok link) = every link
 reading_answer to_link every (Err e) = (unreadable (input_fault_text_of e), refl)
 
-layout_answer : AnswersExist → (link : LinkInput) → (answer : Answer) × IsLayoutAnswer link answer
-layout_answer law link = let found = law.layouts small64_machine link in (told_of link found.0, (found.0, found.1, refl))
+defined_answer : AnswersExist → (told : LinkInput → Result LayoutRecord LayoutError → Answer) (link : LinkInput) → (answer : Answer) × TellsDefined told link answer
+defined_answer law told link = let found = law.layouts small64_machine link in (told link found.0, (found.0, found.1, refl))
 
 generated_answer : AnswersExist → (seed size : ℕ) → (answer : Answer) × IsGeneratedAnswer seed size answer
 generated_answer law seed size = let found = law.layouts small64_machine (generated_link seed size) in (summed_up seed size found.0, (found.0, found.1, refl))
@@ -104,11 +106,12 @@ map_answer law text (Err line) is = (unreadable (no_map_text line), refl)
 
 -- a case for each command
 command_answer : AnswersExist → (command : Command) (bytes : List ℕ) → (answer : Answer) × IsAnswerOf command bytes answer
-command_answer law (commands.Layout workers) bytes = reading_answer IsLayoutAnswer (layout_answer law) (reading_of bytes)
+command_answer law (commands.Layout workers) bytes = reading_answer IsLayoutAnswer (defined_answer law told_of) (reading_of bytes)
 command_answer law (commands.Gen seed size) bytes = generated_answer law seed size
 command_answer law (commands.Why file index) bytes =
     reading_answer (IsWhyAnswer file index) (λ link. why_answer law file index link (first_fault link) refl) (reading_of bytes)
 command_answer law commands.Check bytes = map_answer law bytes (map_of bytes) refl
+command_answer law (commands.Image workers) bytes = reading_answer IsImageAnswer (defined_answer law image_told) (reading_of bytes)
 
 held_answer : AnswersExist → (command : Command) (held : Held) → (answer : Answer) × IsAnswerTo command held answer
 held_answer law command (Whole bytes) = command_answer law command bytes
@@ -128,8 +131,8 @@ one_of_reading : (to_link : LinkInput → Answer → Type 0) → ((link : LinkIn
 one_of_reading to_link one (Ok link) a b p q = one link a b p q
 one_of_reading to_link one (Err e) a b p q = p ∙ sym q
 
-one_laid_out : AnswersAreOne → (link : LinkInput) (a b : Answer) → IsLayoutAnswer link a → IsLayoutAnswer link b → a ≡ b
-one_laid_out law link a b p q = p.2 ∙ ap (told_of link) (law.layouts small64_machine link p.0 q.0 p.1 q.1) ∙ sym q.2
+one_defined : AnswersAreOne → (told : LinkInput → Result LayoutRecord LayoutError → Answer) (link : LinkInput) (a b : Answer) → TellsDefined told link a → TellsDefined told link b → a ≡ b
+one_defined law told link a b p q = p.2 ∙ ap (told link) (law.layouts small64_machine link p.0 q.0 p.1 q.1) ∙ sym q.2
 
 one_generated : AnswersAreOne → (seed size : ℕ) (a b : Answer) → IsGeneratedAnswer seed size a → IsGeneratedAnswer seed size b → a ≡ b
 one_generated law seed size a b p q = p.2 ∙ ap (summed_up seed size) (law.layouts small64_machine (generated_link seed size) p.0 q.0 p.1 q.1) ∙ sym q.2
@@ -159,11 +162,12 @@ one_of_map law (Err line) a b p q = p ∙ sym q
 
 -- a case for each command
 one_of_command : AnswersAreOne → (command : Command) (bytes : List ℕ) (a b : Answer) → IsAnswerOf command bytes a → IsAnswerOf command bytes b → a ≡ b
-one_of_command law (commands.Layout workers) bytes a b p q = one_of_reading IsLayoutAnswer (one_laid_out law) (reading_of bytes) a b p q
+one_of_command law (commands.Layout workers) bytes a b p q = one_of_reading IsLayoutAnswer (one_defined law told_of) (reading_of bytes) a b p q
 one_of_command law (commands.Gen seed size) bytes a b p q = one_generated law seed size a b p q
 one_of_command law (commands.Why file index) bytes a b p q =
     one_of_reading (IsWhyAnswer file index) (λ link c d. one_why law file index link (first_fault link) c d refl) (reading_of bytes) a b p q
 one_of_command law commands.Check bytes a b p q = one_of_map law (map_of bytes) a b p q
+one_of_command law (commands.Image workers) bytes a b p q = one_of_reading IsImageAnswer (one_defined law image_told) (reading_of bytes) a b p q
 
 one_of_held : AnswersAreOne → (command : Command) (held : Held) (a b : Answer) → IsAnswerTo command held a → IsAnswerTo command held b → a ≡ b
 one_of_held law command (Whole bytes) a b p q = one_of_command law command bytes a b p q
@@ -238,6 +242,32 @@ runs_tell every one words bytes =
 
 -- ---- a description that meets no refusal
 
+-- a run in which no device failed ends so, if each of its answers does
+completes : (words : List (List ℕ)) (from to : SourceState) (before after : SinkState) (status : Status)
+    → ((s : Status) → Finished words from to before after s → s ≡ Done)
+    → IsRun words from to before after status → IsFaultless from to before after → (status ≡ Done) ⊎ (status ≡ NoMemory)
+completes words from to before after Done ends run faultless = inl refl
+completes words from to before after NoMemory ends run faultless = inr refl
+completes words from to before after Refused ends run faultless = inl (ends Refused run)
+completes words from to before after Usage ends run faultless = inl (ends Usage run)
+completes words from to before after Unreadable ends run faultless = inl (ends Unreadable run)
+completes words from to before after ReadFault ends run faultless = absurd (omega (arith, run.faulty, faultless.source))
+completes words from to before after WriteFault ends run faultless = absurd (omega (arith, run.written.faulty, faultless.sink))
+
+-- the answer to a link that bytes describe
+told_described : (to_link : LinkInput → Answer → Type 0) (bytes held : List ℕ) (answer : Answer) (good : DescribesLayout bytes) → bytes ≡ held
+    → IsAnswerToReading to_link (reading_of held) answer → to_link good.link answer
+told_described to_link bytes held answer good same is =
+    let described : reading_of held ≡ Ok good.link = ap reading_of (sym same) ∙ good.described in
+    subst (λ r. IsAnswerToReading to_link r answer) described is
+
+-- what a command that reads was answered
+read_answer : (words : List (List ℕ)) (command : Command) (from to : SourceState) (answer : Answer) → IsCommand words command → reads command ≡ true
+    → IsDefinedFor words from to answer → Commanded command from to answer
+read_answer words command from to answer asked does given =
+    subst (λ b. MatchBool b (Commanded command from to answer) (Unmoved command from to answer)) does
+    (answered words command from to answer (reads_command words command asked) given)
+
 told_result : (link : LinkInput) (result : Result LayoutRecord LayoutError) (answer : Answer) → ((e : LayoutError) → IsDefined small64_machine link (Err e) → ⊥)
     → IsDefined small64_machine link result → answer ≡ told_of link result → answer.status ≡ Done
 told_result link (Ok layout) answer unrefused defined is = ap (λ (a : Answer). a.status) is
@@ -246,33 +276,44 @@ told_result link (Err e) answer unrefused defined is = absurd (unrefused e defin
 told_done : (workers : ℕ) (bytes : List ℕ) (held : Held) (answer : Answer) → DescribesLayout bytes → Holds (Some bytes) held
     → IsAnswerTo (commands.Layout workers) held answer → answer.status ≡ Done
 told_done workers bytes (Whole b) answer good holds is =
-    let described : reading_of b ≡ Ok good.link = ap reading_of (sym holds.1) ∙ good.described in
-    let answers : IsLayoutAnswer good.link answer = subst (λ r. IsAnswerToReading IsLayoutAnswer r answer) described is in
+    let answers : IsLayoutAnswer good.link answer = told_described IsLayoutAnswer bytes b answer good holds.1 is in
     told_result good.link answers.0 answer good.unrefused answers.1 answers.2
 told_done workers bytes Longer answer good holds is = absurd (omega (arith, good.fits, holds))
-
-finished_laid_out : (words : List (List ℕ)) (workers : ℕ) (from to : SourceState) (before after : SinkState) (status : Status) (bytes : List ℕ)
-    → IsCommand words (commands.Layout workers) → from.left ≡ Some bytes → DescribesLayout bytes → Finished words from to before after status → status ≡ Done
-finished_laid_out words workers from to before after status bytes asked left good run =
-    let command = reads_command words (commands.Layout workers) asked in
-    let given : Commanded (commands.Layout workers) from to run.answer =
-    subst (λ o. MatchOption o (Uncommanded from to run.answer) (λ c. IsAnswered c from to run.answer)) command run.defined in
-    let holds : Holds (Some bytes) given.held = subst (λ o. Holds o given.held) left given.holds in
-    run.same ∙ told_done workers bytes given.held run.answer good holds given.answers
 
 pub complete : (words : List (List ℕ)) (workers : ℕ) (bytes : List ℕ) (from to : SourceState) (before after : SinkState) (status : Status)
     → IsCommand words (commands.Layout workers) → from.left ≡ Some bytes → DescribesLayout bytes
     → IsRun words from to before after status → IsFaultless from to before after → (status ≡ Done) ⊎ (status ≡ NoMemory)
-complete words workers bytes from to before after Done asked left good run faultless = inl refl
-complete words workers bytes from to before after NoMemory asked left good run faultless = inr refl
-complete words workers bytes from to before after Refused asked left good run faultless =
-    inl (finished_laid_out words workers from to before after Refused bytes asked left good run)
-complete words workers bytes from to before after Usage asked left good run faultless =
-    inl (finished_laid_out words workers from to before after Usage bytes asked left good run)
-complete words workers bytes from to before after Unreadable asked left good run faultless =
-    inl (finished_laid_out words workers from to before after Unreadable bytes asked left good run)
-complete words workers bytes from to before after ReadFault asked left good run faultless = absurd (omega (arith, run.faulty, faultless.source))
-complete words workers bytes from to before after WriteFault asked left good run faultless = absurd (omega (arith, run.written.faulty, faultless.sink))
+complete words workers bytes from to before after status asked left good run faultless =
+    completes words from to before after status (λ s finished.
+    let given = read_answer words (commands.Layout workers) from to finished.answer asked refl finished.defined in
+    finished.same ∙ told_done workers bytes given.held finished.answer good (subst (λ o. Holds o given.held) left given.holds) given.answers) run faultless
+
+-- ---- and whose image meets none
+
+-- no layout of the link has an image that is refused
+abbrev HaveImages : LinkInput → Type 0
+HaveImages link = (layout : LayoutRecord) → IsDefined small64_machine link (Ok layout) → image_refusal link layout ≡ None
+
+imaged_result : (link : LinkInput) (result : Result LayoutRecord LayoutError) (answer : Answer) → ((e : LayoutError) → IsDefined small64_machine link (Err e) → ⊥)
+    → HaveImages link → IsDefined small64_machine link result → answer ≡ image_told link result → answer.status ≡ Done
+imaged_result link (Ok layout) answer unrefused clear defined is =
+    ap (λ (a : Answer). a.status) (is ∙ ap (imaged link layout) (clear layout defined))
+imaged_result link (Err e) answer unrefused clear defined is = absurd (unrefused e defined)
+
+imaged_done : (workers : ℕ) (bytes : List ℕ) (held : Held) (answer : Answer) (good : DescribesLayout bytes) → HaveImages good.link → Holds (Some bytes) held
+    → IsAnswerTo (commands.Image workers) held answer → answer.status ≡ Done
+imaged_done workers bytes (Whole b) answer good clear holds is =
+    let answers : IsImageAnswer good.link answer = told_described IsImageAnswer bytes b answer good holds.1 is in
+    imaged_result good.link answers.0 answer good.unrefused clear answers.1 answers.2
+imaged_done workers bytes Longer answer good clear holds is = absurd (omega (arith, good.fits, holds))
+
+pub image_complete : (words : List (List ℕ)) (workers : ℕ) (bytes : List ℕ) (from to : SourceState) (before after : SinkState) (status : Status)
+    → IsCommand words (commands.Image workers) → from.left ≡ Some bytes → (good : DescribesLayout bytes) → HaveImages good.link
+    → IsRun words from to before after status → IsFaultless from to before after → (status ≡ Done) ⊎ (status ≡ NoMemory)
+image_complete words workers bytes from to before after status asked left good clear run faultless =
+    completes words from to before after status (λ s finished.
+    let given = read_answer words (commands.Image workers) from to finished.answer asked refl finished.defined in
+    finished.same ∙ imaged_done workers bytes given.held finished.answer good clear (subst (λ o. Holds o given.held) left given.holds) given.answers) run faultless
 
 -- ---- a generated link that meets no refusal
 

@@ -5,6 +5,8 @@ use Rattle.lk_input.specs.declared.read.error.InputError.{InputError}
 use Rattle.lk_input.specs.Reading.{reading_of}
 use Rattle.lk_check.specs.FirstFault.{first_fault}
 use Rattle.lk_explain.specs.Faults.{has_unit}
+use Rattle.lk_image.specs.declared.error.ImageError.{ImageError}
+use Rattle.lk_image.specs.Refusals.{image_refusal}
 use Rattle.lk_link.specs.declared.fault.LinkFault.{LinkFault}
 use Rattle.lk_link.specs.declared.ids.FileId.{FileId}
 use Rattle.lk_link.specs.declared.link.LinkInput.{LinkInput}
@@ -23,7 +25,7 @@ use Rattle.lk_run.specs.declared.status.Status.TheVariants.{Done, Refused, Usage
 use Rattle.lk_run.specs.declared.words.Command.{Command}
 use Rattle.lk_run.specs.declared.words.Command.TheVariants as commands
 use Rattle.lk_devices.specs.Device.{SourceState, SinkState}
-use Rattle.lk_run.specs.Run.{Held, Whole, Longer, Holds, IsReadUp, IsKept, IsAnswerOf, IsAnswerTo, IsAnswerToReading, IsLayoutAnswer, IsMapAnswer, IsSectionAnswer, IsWayAnswer, IsWhyAnswer, judged, refused, IsAnswered, IsDefinedFor, Commanded, Unmoved, Uncommanded, IsRun, summed_up, told_of}
+use Rattle.lk_run.specs.Run.{Held, Whole, Longer, Holds, IsReadUp, IsKept, IsAnswerOf, IsAnswerTo, IsAnswerToReading, IsImageAnswer, IsLayoutAnswer, IsMapAnswer, IsSectionAnswer, IsWayAnswer, IsWhyAnswer, judged, refused, IsAnswered, IsDefinedFor, Commanded, Unmoved, Uncommanded, IsRun, image_told, imaged, summed_up, told_of}
 use Rattle.lk_run.specs.Steps.{GivesInput, IsCommandRun, IsFailure, IsMadeTold, IsToldBy, IsUsageRun, held_by}
 use Rattle.lk_run.specs.WhyTexts.{link_fault_line, no_section_text}
 use Rattle.lk_run.specs.Words.{command_of, reads, usage}
@@ -39,6 +41,17 @@ told_link link (Err e) = inr (inl refl)
 
 told_laid_out : (link : LinkInput) (answer : Answer) → IsLayoutAnswer link answer → IsTold answer.status
 told_laid_out link answer is = subst (λ (a : Answer). IsTold a.status) (sym is.2) (told_link link is.0)
+
+told_imaged : (link : LinkInput) (layout : LayoutRecord) (refusal : Option ImageError) → IsTold (imaged link layout refusal).status
+told_imaged link layout None = inl refl
+told_imaged link layout (Some e) = inr (inl refl)
+
+told_picture : (link : LinkInput) (result : Result LayoutRecord LayoutError) → IsTold (image_told link result).status
+told_picture link (Ok layout) = told_imaged link layout (image_refusal link layout)
+told_picture link (Err e) = inr (inl refl)
+
+told_image : (link : LinkInput) (answer : Answer) → IsImageAnswer link answer → IsTold answer.status
+told_image link answer is = subst (λ (a : Answer). IsTold a.status) (sym is.2) (told_picture link is.0)
 
 told_reading : (to_link : LinkInput → Answer → Type 0) (reading : Result LinkInput InputError) (answer : Answer)
     → ((link : LinkInput) → to_link link answer → IsTold answer.status) → IsAnswerToReading to_link reading answer → IsTold answer.status
@@ -77,6 +90,7 @@ told_command (commands.Gen seed size) bytes answer is = subst (λ (a : Answer). 
 told_command (commands.Why file index) bytes answer is =
     told_reading (IsWhyAnswer file index) (reading_of bytes) answer (λ link. told_why file index link (first_fault link) answer) is
 told_command commands.Check bytes answer is = told_map (map_of bytes) answer is
+told_command (commands.Image workers) bytes answer is = told_reading IsImageAnswer (reading_of bytes) answer (λ link. told_image link answer) is
 
 told_held : (command : Command) (held : Held) (answer : Answer) → IsAnswerTo command held answer → IsTold answer.status
 told_held command (Whole bytes) answer is = told_command command bytes answer is

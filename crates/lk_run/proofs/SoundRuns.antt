@@ -1,8 +1,13 @@
--- A run that laid out a link has told a sound layout, and one that found no fault of a map has read a good one.
-use Rattle.std.proofs.Common.{◌≡◌, ℕ, List, Result, Ok, Err, refl, subst, ap, ◌∙◌}
+-- A run that laid out a link has told a sound layout, one that found no fault of a map has read a good one, and one that wrote an image wrote
+-- that of a sound layout.
+use Rattle.std.proofs.Common.{◌≡◌, ℕ, List, Option, Some, None, Result, Ok, Err, refl, subst, ap, ◌∙◌}
 use Rattle.lk_generator.specs.Generated.{generated_link}
 use Rattle.lk_input.specs.declared.read.error.InputError.{InputError}
 use Rattle.lk_input.specs.Reading.{reading_of}
+use Rattle.lk_image.specs.declared.error.ImageError.{ImageError}
+use Rattle.lk_image.specs.Laid.{IsLayoutOf}
+use Rattle.lk_image.specs.Laws.{ImagesAreMade}
+use Rattle.lk_image.specs.Refusals.{image_refusal}
 use Rattle.lk_link.specs.declared.link.LinkInput.{LinkInput}
 use Rattle.lk_layout.specs.Machines.{IsLawfulMachine, small64_machine}
 use Rattle.lk_layout.specs.Made.{made_of}
@@ -21,8 +26,8 @@ use Rattle.lk_run.specs.declared.status.Status.{Status}
 use Rattle.lk_run.specs.declared.status.Status.TheVariants.{Done, Refused, Unreadable}
 use Rattle.lk_run.specs.declared.words.Command.TheVariants as commands
 use Rattle.lk_devices.specs.Device.{SourceState, SinkState}
-use Rattle.lk_run.specs.Run.{Held, Whole, Longer, Holds, Takes, IsAnswerTo, IsAnswerToReading, IsLayoutAnswer, Finished, IsMapAnswer, IsRun, judged, summed_up, told_of}
-use Rattle.lk_run.specs.SoundRun.{TellsGoodMap, TellsSoundLayout, TellsSoundSummary, IsSoundRun}
+use Rattle.lk_run.specs.Run.{Held, Whole, Longer, Holds, Takes, IsAnswerTo, IsAnswerToReading, IsImageAnswer, IsLayoutAnswer, Finished, IsMapAnswer, IsRun, image_told, imaged, judged, summed_up, told_of}
+use Rattle.lk_run.specs.SoundRun.{TellsGoodMap, TellsImage, TellsSoundLayout, TellsSoundSummary, IsSoundRun}
 use Rattle.lk_run.specs.Words.{IsCommand}
 use Rattle.lk_run.proofs.Commands.{reads_command}
 use Rattle.lk_run.proofs.RunLaws.{answered}
@@ -52,11 +57,11 @@ told_layout law from before after bytes link (Err e) answer holds described defi
     let refused : Done ≡ Refused = status ∙ ap (λ (a : Answer). a.status) is in
     absurd (cc)
 
-told_reading : SmallLayoutsAreSound → (from : SourceState) (before after : SinkState) (bytes : List ℕ) (reading : Result LinkInput InputError) (answer : Answer)
-    → Holds from.left (Whole bytes) → reading_of bytes ≡ reading → IsAnswerToReading IsLayoutAnswer reading answer → Done ≡ answer.status → Takes before after answer.bytes
-    → TellsSoundLayout from before after
-told_reading law from before after bytes (Ok link) answer holds described is status written = told_layout law from before after bytes link is.0 answer holds described is.1 is.2 status written
-told_reading law from before after bytes (Err e) answer holds described is status written =
+-- an answer with that status to what was read is the answer to a link
+done_reading : (to_link : LinkInput → Answer → Type 0) (reading : Result LinkInput InputError) (answer : Answer) → IsAnswerToReading to_link reading answer → Done ≡ answer.status
+    → (link : LinkInput) × (reading ≡ Ok link) × to_link link answer
+done_reading to_link (Ok link) answer is status = (link, refl, is)
+done_reading to_link (Err e) answer is status =
     let unreadable : Done ≡ Unreadable = status ∙ ap (λ (a : Answer). a.status) is in
     absurd (cc)
 
@@ -64,7 +69,8 @@ told_held : SmallLayoutsAreSound → (from : SourceState) (before after : SinkSt
     → Holds from.left held → IsAnswerTo (commands.Layout workers) held answer → Done ≡ answer.status → Takes before after answer.bytes
     → TellsSoundLayout from before after
 told_held law from before after workers (Whole bytes) answer holds is status written =
-    told_reading law from before after bytes (reading_of bytes) answer holds refl is status written
+    let found = done_reading IsLayoutAnswer (reading_of bytes) answer is status in
+    told_layout law from before after bytes found.0 found.2.0 answer holds found.1 found.2.1 found.2.2 status written
 told_held law from before after workers Longer answer holds is status written =
     let unreadable : Done ≡ Unreadable = status ∙ ap (λ (a : Answer). a.status) is in
     absurd (cc)
@@ -101,6 +107,57 @@ gen_run law words seed size from to before after asked run =
     let read = reads_command words (commands.Gen seed size) asked in
     let given = answered words (commands.Gen seed size) from to run.answer read run.defined in
     told_summary law seed size before after given.answers.0 run.answer given.answers.1 given.answers.2 run.same run.written
+
+-- ---- images
+
+-- what is done is not refused
+unrefused : (link : LinkInput) (layout : LayoutRecord) (refusal : Option ImageError) (answer : Answer) → answer ≡ imaged link layout refusal → Done ≡ answer.status → refusal ≡ None
+unrefused link layout None answer is status = refl
+unrefused link layout (Some e) answer is status =
+    let refused : Done ≡ Refused = status ∙ ap (λ (a : Answer). a.status) is in
+    absurd (cc)
+
+told_image : SmallLayoutsAreSound → ImagesAreMade → (from : SourceState) (before after : SinkState) (bytes : List ℕ) (link : LinkInput) (result : Result LayoutRecord LayoutError) (answer : Answer)
+    → Holds from.left (Whole bytes) → reading_of bytes ≡ Ok link → IsDefined small64_machine link result → answer ≡ image_told link result → Done ≡ answer.status → Takes before after answer.bytes
+    → TellsImage from before after
+told_image law images from before after bytes link (Ok layout) answer holds described defined is status written =
+    let sound = law.0 small64_machine link layout law.1 defined in
+    let none : image_refusal link layout ≡ None = unrefused link layout (image_refusal link layout) answer is status in
+    let laid : IsLayoutOf link layout = record { machine = small64_machine; lawful = law.1; defined = defined } in
+    let made = images link layout laid none in
+    record {
+      bytes = bytes;
+      holds = holds;
+      made = made_of small64_machine link sound.0 sound.1;
+      described = described;
+      machine = refl;
+      layout = layout;
+      defined = defined;
+      sound = sound.2;
+      apart = made.0;
+      written = subst (Takes before after) (ap (λ (a : Answer). a.bytes) (is ∙ ap (imaged link layout) none)) written;
+      stands = made.1;
+    }
+told_image law images from before after bytes link (Err e) answer holds described defined is status written =
+    let refused : Done ≡ Refused = status ∙ ap (λ (a : Answer). a.status) is in
+    absurd (cc)
+
+imaged_held : SmallLayoutsAreSound → ImagesAreMade → (from : SourceState) (before after : SinkState) (workers : ℕ) (held : Held) (answer : Answer)
+    → Holds from.left held → IsAnswerTo (commands.Image workers) held answer → Done ≡ answer.status → Takes before after answer.bytes
+    → TellsImage from before after
+imaged_held law images from before after workers (Whole bytes) answer holds is status written =
+    let found = done_reading IsImageAnswer (reading_of bytes) answer is status in
+    told_image law images from before after bytes found.0 found.2.0 answer holds found.1 found.2.1 found.2.2 status written
+imaged_held law images from before after workers Longer answer holds is status written =
+    let unreadable : Done ≡ Unreadable = status ∙ ap (λ (a : Answer). a.status) is in
+    absurd (cc)
+
+image_run : SmallLayoutsAreSound → ImagesAreMade → (words : List (List ℕ)) (workers : ℕ) (from to : SourceState) (before after : SinkState)
+    → IsCommand words (commands.Image workers) → Finished words from to before after Done → TellsImage from before after
+image_run law images words workers from to before after asked run =
+    let read = reads_command words (commands.Image workers) asked in
+    let given = answered words (commands.Image workers) from to run.answer read run.defined in
+    imaged_held law images from before after workers given.held run.answer given.holds given.answers run.same run.written
 
 -- ---- maps
 
@@ -144,10 +201,11 @@ check_run law words from to before after asked run =
     let given = answered words commands.Check from to run.answer read run.defined in
     checked_held law from before after given.held run.answer given.holds given.answers run.same run.written
 
-pub sound_run : DefinedLayoutsAreSound → IsLawfulMachine small64_machine → ReadsMaps → (words : List (List ℕ)) (from to : SourceState) (before after : SinkState) (status : Status) → IsRun words from to before after status
+pub sound_run : SmallLayoutsAreSound → ImagesAreMade → ReadsMaps → (words : List (List ℕ)) (from to : SourceState) (before after : SinkState) (status : Status) → IsRun words from to before after status
     → IsSoundRun words from before after status
-sound_run law lawful reads words from to before after status run = record {
-  read = λ workers asked laid. read_run (law, lawful) words workers from to before after asked (subst (IsRun words from to before after) laid run);
-  generated = λ seed size asked laid. gen_run (law, lawful) words seed size from to before after asked (subst (IsRun words from to before after) laid run);
+sound_run law images reads words from to before after status run = record {
+  read = λ workers asked laid. read_run law words workers from to before after asked (subst (IsRun words from to before after) laid run);
+  generated = λ seed size asked laid. gen_run law words seed size from to before after asked (subst (IsRun words from to before after) laid run);
   checked = λ asked good. check_run reads words from to before after asked (subst (IsRun words from to before after) good run);
+  imaged = λ workers asked done. image_run law images words workers from to before after asked (subst (IsRun words from to before after) done run);
 }

@@ -3,7 +3,9 @@ use Rattle.std.specs.Prelude.{◌≡◌, ℕ, ◌≤◌, List, [], length, Optio
 use Rattle.lk_generator.specs.Generated.{generated_link}
 use Rattle.lk_input.specs.Reading.{reading_of}
 use Rattle.lk_link.specs.declared.link.LinkInput.{LinkInput}
+use Rattle.lk_image.specs.Refusals.{image_refusal}
 use Rattle.lk_layout.specs.declared.error.LayoutError.{LayoutError}
+use Rattle.lk_layout.specs.LayoutRecord.{LayoutRecord}
 use Rattle.lk_layout.specs.Defined.{IsDefined}
 use Rattle.lk_layout.specs.Machines.{small64_machine}
 use Rattle.lk_run.specs.declared.answer.Answer.{Answer}
@@ -62,6 +64,14 @@ abbrev pub RunsAreComplete : Type 0
 RunsAreComplete =
     (words : List (List ℕ)) (workers : ℕ) (bytes : List ℕ) (from to : SourceState) (before after : SinkState) (status : Status)
     → IsCommand words (commands.Layout workers) → from.left ≡ Some bytes → DescribesLayout bytes
+    → IsRun words from to before after status → IsFaultless from to before after → (status ≡ Done) ⊎ (status ≡ NoMemory)
+
+-- a run of `image N` over such bytes, whose layout's image isn't refused, in which no device failed, wrote it, unless memory ran out
+abbrev pub ImageRunsAreComplete : Type 0
+ImageRunsAreComplete =
+    (words : List (List ℕ)) (workers : ℕ) (bytes : List ℕ) (from to : SourceState) (before after : SinkState) (status : Status)
+    → IsCommand words (commands.Image workers) → from.left ≡ Some bytes → (described : DescribesLayout bytes)
+    → ((layout : LayoutRecord) → IsDefined small64_machine described.link (Ok layout) → image_refusal described.link layout ≡ None)
     → IsRun words from to before after status → IsFaultless from to before after → (status ≡ Done) ⊎ (status ≡ NoMemory)
 
 -- a run of `gen SEED SIZE`, in which the sink didn't fail, laid out the link that these give, if that meets no refusal, unless memory ran out

@@ -1,4 +1,5 @@
 pub mod Complete
+pub mod ImageTexts
 pub mod MapTexts
 pub mod Program
 pub mod Run

@@ -1,11 +1,14 @@
 -- What a run does: the one answer that its words and its input define, or the fault that kept it from that.
-use Rattle.std.specs.Prelude.{◌≡◌, ℕ, ◌+◌, ◌≤◌, ◌<◌, true, List, [], length, drop, Option, Some, Result, Ok, Err, IfSome}
+use Rattle.std.specs.Prelude.{◌≡◌, ℕ, ◌+◌, ◌≤◌, ◌<◌, true, List, [], length, drop, Option, Some, None, Result, Ok, Err, IfSome}
 use Rattle.std.specs.Prelude.{MatchBool, MatchOption}
 use Rattle.lk_input.specs.declared.read.error.InputError.{InputError}
 use Rattle.lk_input.specs.Reading.{reading_of}
 use Rattle.lk_generator.specs.Generated.{generated_link}
 use Rattle.lk_check.specs.FirstFault.{first_fault}
 use Rattle.lk_explain.specs.Faults.{has_unit}
+use Rattle.lk_image.specs.declared.error.ImageError.{ImageError}
+use Rattle.lk_image.specs.Image.{image_of}
+use Rattle.lk_image.specs.Refusals.{image_refusal}
 use Rattle.lk_link.specs.declared.ids.FileId.{FileId}
 use Rattle.lk_link.specs.declared.link.LinkInput.{LinkInput}
 use Rattle.lk_map.specs.declared.check.MapFault.{MapFault}
@@ -29,6 +32,7 @@ use Rattle.lk_devices.specs.Device.{SourceState, SinkState, Appends, AppendsPref
 use Rattle.lk_report.specs.FaultText.{fault_text_of, input_fault_text_of}
 use Rattle.lk_report.specs.Report.{report}
 use Rattle.lk_report.specs.Summary.{summary}
+use Rattle.lk_run.specs.ImageTexts.{no_image_line}
 use Rattle.lk_run.specs.MapTexts.{good_map_text, map_fault_text, no_map_text}
 use Rattle.lk_run.specs.TooLong.{too_long_text}
 use Rattle.lk_run.specs.WhyTexts.{IsWay, link_fault_line, no_section_text, why_text}
@@ -60,9 +64,13 @@ abbrev pub told_of : LinkInput → Result LayoutRecord LayoutError → Answer
 told_of link (Ok layout) = done (report link layout)
 told_of link (Err e) = refused (fault_text_of e)
 
--- the answer to a link: what is told of its defined answer on the small platform
+-- the answer to a link: what this tells of its defined answer on the small platform
+abbrev pub TellsDefined : (LinkInput → Result LayoutRecord LayoutError → Answer) → LinkInput → Answer → Type 0
+TellsDefined told link answer = (result : Result LayoutRecord LayoutError) × IsDefined small64_machine link result × (answer ≡ told link result)
+
+-- the answer to a link that is laid out
 abbrev pub IsLayoutAnswer : LinkInput → Answer → Type 0
-IsLayoutAnswer link answer = (result : Result LayoutRecord LayoutError) × IsDefined small64_machine link result × (answer ≡ told_of link result)
+IsLayoutAnswer link answer = TellsDefined told_of link answer
 
 -- what is told of a generated link's layout, or of why it has none
 abbrev pub summed_up : ℕ → ℕ → Result LayoutRecord LayoutError → Answer
@@ -73,6 +81,22 @@ summed_up seed size (Err e) = refused (fault_text_of e)
 abbrev pub IsGeneratedAnswer : ℕ → ℕ → Answer → Type 0
 IsGeneratedAnswer seed size answer =
     (result : Result LayoutRecord LayoutError) × IsDefined small64_machine (generated_link seed size) result × (answer ≡ summed_up seed size result)
+
+-- ---- of an image
+
+-- what is told of a layout whose image is refused for this reason, if for any
+abbrev pub imaged : LinkInput → LayoutRecord → Option ImageError → Answer
+imaged link layout None = done (image_of link layout)
+imaged link layout (Some e) = refused (no_image_line e)
+
+-- what is told of the image of a link and its layout, or of why it has none
+abbrev pub image_told : LinkInput → Result LayoutRecord LayoutError → Answer
+image_told link (Ok layout) = imaged link layout (image_refusal link layout)
+image_told link (Err e) = refused (fault_text_of e)
+
+-- the answer to a link whose image is written
+abbrev pub IsImageAnswer : LinkInput → Answer → Type 0
+IsImageAnswer link answer = TellsDefined image_told link answer
 
 -- ---- of why a section is kept
 
@@ -109,6 +133,7 @@ IsAnswerOf (commands.Layout workers) bytes answer = IsAnswerToReading IsLayoutAn
 IsAnswerOf (commands.Gen seed size) bytes answer = IsGeneratedAnswer seed size answer
 IsAnswerOf (commands.Why file index) bytes answer = IsAnswerToReading (IsWhyAnswer file index) (reading_of bytes) answer
 IsAnswerOf commands.Check bytes answer = IsMapAnswer (map_of bytes) answer
+IsAnswerOf (commands.Image workers) bytes answer = IsAnswerToReading IsImageAnswer (reading_of bytes) answer
 
 -- what a source holds: all its bytes, or more than are read
 pub data Held : Type 0 where

@@ -1,8 +1,12 @@
 -- What a run that laid out a link has told: the report of a sound layout of the link that its source held, or the line of a sound layout
--- of the link that its words give. And what one has read that found no fault of a map: a good map.
+-- of the link that its words give. What one has read that found no fault of a map: a good map. And what one has written as an image: the
+-- bytes of all that stands in the file, each at its place, and zeros.
 use Rattle.std.specs.Prelude.{◌≡◌, ℕ, List, Ok, length}
 use Rattle.lk_generator.specs.Generated.{generated_link}
 use Rattle.lk_input.specs.Reading.{reading_of}
+use Rattle.lk_image.specs.Image.{image_of, stretches}
+use Rattle.lk_image.specs.Places.{image_length}
+use Rattle.lk_image.specs.Stretches.{AreApart, IsMadeOf}
 use Rattle.lk_layout.specs.LayoutRecord.{LayoutRecord}
 use Rattle.lk_layout.specs.Defined.{IsDefined}
 use Rattle.lk_layout.specs.Machines.{small64_machine}
@@ -53,11 +57,27 @@ pub record TellsGoodMap (from : SourceState) (before after : SinkState) : Type 0
   pub good : IsGood (sections_of 1 lines) (segments_of 1 lines)
   pub written : Takes before after (good_map_text (length (sections_of 1 lines)) (length (segments_of 1 lines)))
 
--- a run that ends with the status of a layout has told a sound one, and one that ends with that of a good map has read one
+-- the source held bytes that describe a link; its defined layout is sound; and the sink took the layout's image, in which the bytes of each
+-- live section and of all that is merged stand at their places, which are apart, and every other byte is zero
+pub record TellsImage (from : SourceState) (before after : SinkState) : Type 0 where
+  pub bytes : List ℕ
+  pub holds : Holds from.left (Whole bytes)
+  pub made : Made
+  pub described : reading_of bytes ≡ Ok made.link
+  pub machine : made.machine ≡ small64_machine
+  pub layout : LayoutRecord
+  pub defined : IsDefined small64_machine made.link (Ok layout)
+  pub sound : IsSound made layout
+  pub apart : AreApart (stretches made.link layout)
+  pub written : Takes before after (image_of made.link layout)
+  pub stands : IsMadeOf (image_length layout) (stretches made.link layout) (image_of made.link layout)
+
+-- a run that ends with the status of what is done has told a sound layout, or read a good map, or written the image of a sound layout
 pub record IsSoundRun (words : List (List ℕ)) (from : SourceState) (before after : SinkState) (status : Status) : Type 0 where
   pub read : (workers : ℕ) → IsCommand words (commands.Layout workers) → status ≡ Done → TellsSoundLayout from before after
   pub generated : (seed size : ℕ) → IsCommand words (commands.Gen seed size) → status ≡ Done → TellsSoundSummary seed size before after
   pub checked : IsCommand words commands.Check → status ≡ Done → TellsGoodMap from before after
+  pub imaged : (workers : ℕ) → IsCommand words (commands.Image workers) → status ≡ Done → TellsImage from before after
 
 -- each run that is one by the run theorem is so
 abbrev pub RunsAreSound : Type 0

@@ -30,6 +30,16 @@ pub(crate) fn done(text: String) -> Answer
     }
 }
 
+/// That of one that is done, and tells these bytes. Copies nothing.
+pub(crate) fn done_with(bytes: Vec<u8>) -> Answer
+    ensures { result ≡ done bytes.items }
+{
+    Answer {
+        status: Status::Done,
+        bytes: List::from_vec(bytes),
+    }
+}
+
 /// That of one that speaks of what is refused, for this reason.
 pub(crate) fn refused(text: String) -> Answer
     ensures { result ≡ refused (string_bytes text) }

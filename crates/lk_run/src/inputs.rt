@@ -1,7 +1,7 @@
 //! What a command is given to answer: what its source holds, and the link that this describes.
 
 ghost use Rattle.std.specs.Prelude.{◌≡◌, IfOk};
-ghost use Rattle.lk_input.specs.Reading.{reading_of};
+ghost use Rattle.lk_input.specs.Reading.{Answers, reading_of};
 ghost use Rattle.lk_run.specs.declared.words.Command.{Command};
 ghost use Rattle.lk_run.specs.Run.{Longer, IsAnswerTo};
 ghost use Rattle.lk_run.specs.Steps.{GivesInput, IsReadAs};
@@ -13,10 +13,11 @@ use crate::words::Command;
 use lk_devices::limit::LONGEST_INPUT;
 use lk_devices::source::Source;
 use lk_devices::transfer::{ReadAllError, read_all};
-use lk_input::{InputError, read_link};
+use lk_input::{InputError, read_link, read_link_by_workers};
 use lk_link::link::LinkInput;
 use lk_report::input_fault_text;
 use std::alloc::{AllocError, Global};
+use std::thread::Threads;
 
 /// What the source of a command was found to hold.
 #[derive(Drop)]
@@ -55,22 +56,46 @@ pub(crate) fn read_for<S: Source>(
     }
 }
 
-/// The link that bytes describe, or the answer that tells why they describe none.
-fn read_bytes(alloc: Global, bytes: &[u8]) -> Result<Reading, AllocError>
-    ensures { IfOk result (IsReadAs (reading_of bytes.now)) }
+/// The link that was read of bytes, or the answer that tells why they describe none.
+fn told_reading(
+    alloc: Global,
+    _bytes: &[u8],
+    read: Result<LinkInput, InputError>,
+) -> Result<Reading, AllocError>
+    requires { Answers read (reading_of _bytes.now) }
+    ensures { IfOk result (IsReadAs (reading_of _bytes.now)) }
 {
-    match read_link(alloc, bytes) {
+    match read {
         Ok(link) => Ok(Reading::Link(link)),
         Err(InputError::NoMemory) => Err(AllocError),
         Err(fault) => Ok(Reading::Fault(unreadable(input_fault_text(alloc, &fault)?))),
     }
 }
 
-/// The same, and lets the bytes go.
+/// The link that bytes describe, or the answer that tells why they describe none. Lets the bytes go.
 pub(crate) fn read_up(alloc: Global, bytes: Vec<u8>) -> Result<Reading, AllocError>
     ensures { IfOk result (IsReadAs (reading_of bytes.items)) }
 {
-    read_bytes(alloc, bytes.as_slice())
+    let text = bytes.as_slice();
+    told_reading(alloc, text, read_link(alloc, text))
+}
+
+/// The same, read by so many workers.
+pub(crate) fn read_up_by_workers<R: Threads + Sync>(
+    rt: &R,
+    alloc: Global,
+    bytes: Vec<u8>,
+    workers: u8,
+) -> Result<Reading, AllocError>
+    ensures { IfOk result (IsReadAs (reading_of bytes.items)) }
+{
+    let text = bytes.as_slice();
+    let read = if workers < 2 {
+        read_link(alloc, text)
+    } else {
+        read_link_by_workers(rt, alloc, text, usize::from(workers))
+    };
+    told_reading(alloc, text, read)
 }
 
 /// The answer to an input that is too long.

@@ -7,7 +7,7 @@ ghost use Rattle.lk_layout.specs.Machines.{small64_machine};
 ghost use Rattle.lk_run.specs.Run.{IsAnswerToReading, IsLayoutAnswer};
 
 use crate::answer::{Answer, done, refused};
-use crate::inputs::{Reading, read_up};
+use crate::inputs::{Reading, read_up, read_up_by_workers};
 use lk_layout::laws::laid_out_links_are_well_formed;
 use lk_layout::{Layout, LayoutError, Small64Arch, compute, compute_alone};
 use lk_link::gate::Gate;
@@ -57,7 +57,7 @@ fn answer_by_workers<R: Threads + Sync>(
 }
 
 /// Lets something go. Where the process ends behind the run, that is left to the system, which takes all memory at once.
-fn let_go<T: Drop>(thing: T, is_last: bool) {
+pub(crate) fn let_go<T: Drop>(thing: T, is_last: bool) {
     if is_last {
         mem::forget(thing);
     } else {
@@ -77,7 +77,7 @@ pub(crate) fn answer_layout<R: Threads + Wait + Sync, G: Gate + Sync>(
     requires gate { 2 ≤ workers → G.may_enter gate.now }
     ensures { IfOk result (IsAnswerToReading IsLayoutAnswer (reading_of bytes.items)) }
 {
-    match read_up(alloc, bytes)? {
+    match read_up_by_workers(rt, alloc, bytes, workers)? {
         Reading::Link(link) => {
             let workers = u32::from(workers);
             let computed = compute(rt, alloc, &link, &Small64, &Small64Arch, workers, gate);

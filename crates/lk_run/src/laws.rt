@@ -1,10 +1,11 @@
 //! Laws of the definitions, each proved as the contract of a function that does nothing.
 
 ghost use Rattle.lk_run.specs.SoundRun.{RunsAreSound};
-ghost use Rattle.lk_run.specs.Complete.{GeneratedRunsAreComplete, RunsAreComplete, RunsTellOneAnswer, RunsTellTheAnswer};
+ghost use Rattle.lk_run.specs.Complete.{GeneratedRunsAreComplete, ImageRunsAreComplete, RunsAreComplete, RunsTellOneAnswer, RunsTellTheAnswer};
 
 use lk_check::well_formed_exactly_unfaulted;
 use lk_explain::laws::{reached_is_shown, shown_is_one};
+use lk_image::laws::images_are_made;
 use lk_layout::laws::{
     defined_answer_exists, defined_answer_is_one, defined_layouts_are_sound,
     small64_machine_is_lawful,
@@ -43,18 +44,26 @@ pub fn runs_are_complete()
     ensures { RunsAreComplete }
 {}
 
+/// A law: the image of a description that meets no refusal, nor its image any, is written by each run in which no device failed, unless
+/// memory ran out.
+pub fn image_runs_are_complete()
+    ensures { ImageRunsAreComplete }
+{}
+
 /// A law: a generated link that meets no refusal is laid out by each run of its words in which the sink didn't fail, unless memory ran
 /// out.
 pub fn generated_runs_are_complete()
     ensures { GeneratedRunsAreComplete }
 {}
 
-/// A law: a run that ends with the status of a layout has told a sound one, and one of `check` that ends so has read a good map, whoever
-/// made it: `run`, `run_alone` or the program.
+/// A law: a run that ends with the status of a layout has told a sound one, one of `check` that ends so has read a good map, and one of
+/// `image N` has written the bytes of all that stands in the file of a sound layout, and zeros; whoever made it: `run`, `run_alone` or the
+/// program.
 pub fn runs_are_sound()
     ensures { RunsAreSound }
 {
     defined_layouts_are_sound();
     small64_machine_is_lawful();
+    images_are_made();
     reads_maps();
 }

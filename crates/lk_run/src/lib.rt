@@ -6,6 +6,7 @@ pub mod answer;
 mod checked_map;
 mod explained;
 mod generated;
+mod imaged;
 mod inputs;
 mod laid_out;
 pub mod laws;

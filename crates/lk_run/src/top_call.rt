@@ -14,6 +14,7 @@ use crate::answer::Answer;
 use crate::checked_map::answer_check;
 use crate::explained::answer_why;
 use crate::generated::answer_gen;
+use crate::imaged::{answer_image, answer_image_alone};
 use crate::inputs::{CommandInput, answer_too_long, read_for};
 use crate::laid_out::{answer_layout, answer_layout_alone};
 use crate::laws::runs_are_sound;
@@ -45,6 +46,7 @@ fn answer_bytes<R: Threads + Wait + Sync, G: Gate + Sync>(
         Command::Gen { seed, size } => answer_gen(alloc, seed, size),
         Command::Why { file, index } => answer_why(alloc, file, index, bytes),
         Command::Check => answer_check(alloc, bytes),
+        Command::Image(workers) => answer_image(rt, alloc, workers, bytes, gate, is_last),
     }
 }
 
@@ -58,6 +60,7 @@ fn answer_bytes_alone(alloc: Global, command: Command, bytes: Vec<u8>) -> Result
         Command::Gen { seed, size } => answer_gen(alloc, seed, size),
         Command::Why { file, index } => answer_why(alloc, file, index, bytes),
         Command::Check => answer_check(alloc, bytes),
+        Command::Image(_) => answer_image_alone(alloc, bytes),
     }
 }
 

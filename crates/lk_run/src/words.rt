@@ -27,6 +27,8 @@ pub enum Command {
     Why { file: FileId, index: u32 },
     /// Check the map that the source holds.
     Check,
+    /// Write the image of the link that the source holds, which so many workers lay out.
+    Image(u8),
 }
 
 impl Command {
@@ -35,7 +37,7 @@ impl Command {
         ensures { result ≡ workers_for self }
     {
         match self {
-            Command::Layout(workers) => workers,
+            Command::Layout(workers) | Command::Image(workers) => workers,
             Command::Gen { .. } | Command::Why { .. } | Command::Check => 0,
         }
     }
@@ -45,7 +47,7 @@ impl Command {
         ensures { result ≡ reads self }
     {
         match self {
-            Command::Layout(_) | Command::Why { .. } | Command::Check => true,
+            Command::Layout(_) | Command::Why { .. } | Command::Check | Command::Image(_) => true,
             Command::Gen { .. } => false,
         }
     }
@@ -152,6 +154,9 @@ pub fn read_words(words: &[String]) -> Option<Command>
             read_why(group.as_str(), file.as_str(), index.as_str())
         }
         [verb] if verb.as_str() == "check" => Some(Command::Check),
+        [verb, workers] if verb.as_str() == "image" => {
+            read_workers(workers.as_str()).map(Command::Image)
+        }
         _ => None,
     }
 }
@@ -160,7 +165,7 @@ pub fn read_words(words: &[String]) -> Option<Command>
 pub fn usage_text() -> &'static str
     ensures { result.now ≡ usage }
 {
-    "usage: lk_program layout N | gen SEED SIZE | why G F I | check\n"
+    "usage: lk_program layout N | gen SEED SIZE | why G F I | check | image N\n"
 }
 
 /// A law: words are read as a command exactly where they are that command's words. It does nothing.

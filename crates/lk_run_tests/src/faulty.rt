@@ -14,15 +14,22 @@ use std::thread::Threads;
 /// More calls than any run here makes.
 const MOST_CALLS: u64 = 10000;
 
-/// How a run of `layout 0` over these devices ends.
+/// Words, and the text over which they run.
+#[derive(Clone, Copy)]
+struct Trial<'a> {
+    words: &'a [String],
+    input: &'a str,
+}
+
+/// How a run of these words over these devices ends.
 fn ended_over(
     rt: &(impl Threads + Wait + Sync),
     alloc: Global,
+    words: &[String],
     source: &mut MemorySource,
     sink: &mut MemorySink,
 ) -> Result<Status, AllocError> {
-    let words = words_of(alloc, "layout 0")?;
-    Ok(run(rt, alloc, &words, source, sink, &NoGate))
+    Ok(run(rt, alloc, words, source, sink, &NoGate))
 }
 
 /// The list of the number of the one call that fails.
@@ -41,12 +48,12 @@ fn slow_source(alloc: Global, input: &[u8], failing: Vec<u64>) -> Result<MemoryS
 fn fails_at_read(
     rt: &(impl Threads + Wait + Sync),
     alloc: Global,
-    input: &str,
+    trial: &Trial<'_>,
     call: u64,
 ) -> Result<bool, AllocError> {
-    let mut source = slow_source(alloc, input.as_bytes(), only(alloc, call)?)?;
+    let mut source = slow_source(alloc, trial.input.as_bytes(), only(alloc, call)?)?;
     let mut sink = MemorySink::new(alloc, ROOM, 1, Vec::new(alloc))?;
-    let status = ended_over(rt, alloc, &mut source, &mut sink)?;
+    let status = ended_over(rt, alloc, trial.words, &mut source, &mut sink)?;
     Ok(status == Status::ReadFault && source.faults() == 1 && sink.written().is_empty())
 }
 
@@ -54,10 +61,10 @@ fn fails_at_read(
 fn failing_reads(
     rt: &(impl Threads + Wait + Sync),
     alloc: Global,
-    input: &str,
+    trial: &Trial<'_>,
 ) -> Result<u64, AllocError> {
     for call in 0..MOST_CALLS {
-        if !fails_at_read(rt, alloc, input, call)? {
+        if !fails_at_read(rt, alloc, trial, call)? {
             return Ok(call);
         }
     }
@@ -68,13 +75,13 @@ fn failing_reads(
 fn fails_at_write(
     rt: &(impl Threads + Wait + Sync),
     alloc: Global,
-    input: &str,
+    trial: &Trial<'_>,
     report: &[u8],
     call: u64,
 ) -> Result<bool, AllocError> {
-    let mut source = slow_source(alloc, input.as_bytes(), Vec::new(alloc))?;
+    let mut source = slow_source(alloc, trial.input.as_bytes(), Vec::new(alloc))?;
     let mut sink = MemorySink::new(alloc, ROOM, 1, only(alloc, call)?)?;
-    let status = ended_over(rt, alloc, &mut source, &mut sink)?;
+    let status = ended_over(rt, alloc, trial.words, &mut source, &mut sink)?;
     let is_front = report.get(..call as usize) == Some(sink.written());
     Ok(status == Status::WriteFault && sink.faults() == 1 && is_front)
 }
@@ -83,11 +90,11 @@ fn fails_at_write(
 fn failing_writes(
     rt: &(impl Threads + Wait + Sync),
     alloc: Global,
-    input: &str,
+    trial: &Trial<'_>,
     report: &[u8],
 ) -> Result<u64, AllocError> {
     for call in 0..MOST_CALLS {
-        if !fails_at_write(rt, alloc, input, report, call)? {
+        if !fails_at_write(rt, alloc, trial, report, call)? {
             return Ok(call);
         }
     }
@@ -98,13 +105,13 @@ fn failing_writes(
 fn is_cut_at(
     rt: &(impl Threads + Wait + Sync),
     alloc: Global,
-    input: &str,
+    trial: &Trial<'_>,
     length: usize,
 ) -> Result<bool, AllocError> {
-    let front = input.as_bytes().get(..length).unwrap_or(&[]);
+    let front = trial.input.as_bytes().get(..length).unwrap_or(&[]);
     let mut source = slow_source(alloc, front, Vec::new(alloc))?;
     let mut sink = MemorySink::new(alloc, ROOM, 7, Vec::new(alloc))?;
-    let status = ended_over(rt, alloc, &mut source, &mut sink)?;
+    let status = ended_over(rt, alloc, trial.words, &mut source, &mut sink)?;
     Ok(status == Status::Unreadable && sink.written() == b"not JSON\n".as_slice())
 }
 
@@ -112,14 +119,14 @@ fn is_cut_at(
 fn cuts(
     rt: &(impl Threads + Wait + Sync),
     alloc: Global,
-    input: &str,
+    trial: &Trial<'_>,
 ) -> Result<usize, AllocError> {
-    for length in 0..input.len() {
-        if !is_cut_at(rt, alloc, input, length)? {
+    for length in 0..trial.input.len() {
+        if !is_cut_at(rt, alloc, trial, length)? {
             return Ok(length);
         }
     }
-    Ok(input.len())
+    Ok(trial.input.len())
 }
 
 /// Adds how a run ends whose source gives and whose sink takes one byte with each call, and the text that was taken; gives that text.
@@ -127,12 +134,12 @@ fn add_slow(
     rt: &(impl Threads + Wait + Sync),
     alloc: Global,
     line: &mut String,
-    input: &str,
+    trial: &Trial<'_>,
     report: &mut Vec<u8>,
 ) -> Result<(), AllocError> {
-    let mut source = slow_source(alloc, input.as_bytes(), Vec::new(alloc))?;
+    let mut source = slow_source(alloc, trial.input.as_bytes(), Vec::new(alloc))?;
     let mut sink = MemorySink::new(alloc, ROOM, 1, Vec::new(alloc))?;
-    let status = ended_over(rt, alloc, &mut source, &mut sink)?;
+    let status = ended_over(rt, alloc, trial.words, &mut source, &mut sink)?;
     report.extend_from_slice(sink.written())?;
     add(
         line,
@@ -146,11 +153,11 @@ fn add_full(
     rt: &(impl Threads + Wait + Sync),
     alloc: Global,
     line: &mut String,
-    input: &str,
+    trial: &Trial<'_>,
 ) -> Result<(), AllocError> {
-    let mut source = slow_source(alloc, input.as_bytes(), Vec::new(alloc))?;
+    let mut source = slow_source(alloc, trial.input.as_bytes(), Vec::new(alloc))?;
     let mut sink = MemorySink::new(alloc, ROOM, 0, Vec::new(alloc))?;
-    let status = ended_over(rt, alloc, &mut source, &mut sink)?;
+    let status = ended_over(rt, alloc, trial.words, &mut source, &mut sink)?;
     add(
         line,
         "full",
@@ -158,30 +165,37 @@ fn add_full(
     )
 }
 
-/// Adds how runs over such devices end.
+/// Adds how runs over such devices end, with the words before the first colon of a row over what is behind it.
 pub fn add_faulty_runs(
     rt: &(impl Threads + Wait + Sync),
     alloc: Global,
     line: &mut String,
-    input: &str,
+    row: &str,
 ) -> Result<(), AllocError> {
+    let (words, input) = row.split_once(':').unwrap_or((row, ""));
+    let words = words_of(alloc, words)?;
+    let trial = &Trial {
+        words: &words,
+        input: input.trim_start(),
+    };
     let mut report = Vec::new(alloc);
-    add_slow(rt, alloc, line, input, &mut report)?;
-    add_full(rt, alloc, line, input)?;
-    add(line, "reads", &failing_reads(rt, alloc, input)?)?;
+    add_slow(rt, alloc, line, trial, &mut report)?;
+    add_full(rt, alloc, line, trial)?;
+    add(line, "reads", &failing_reads(rt, alloc, trial)?)?;
     add(
         line,
         "writes",
-        &failing_writes(rt, alloc, input, report.as_slice())?,
+        &failing_writes(rt, alloc, trial, report.as_slice())?,
     )?;
-    add(line, "cuts", &cuts(rt, alloc, input)?)
+    add(line, "cuts", &cuts(rt, alloc, trial)?)
 }
 
-/// A description: how a run ends whose devices move one byte with each call; and one whose sink takes nothing; at how many reads a run
+/// Words and a description: how a run ends whose devices move one byte with each call; and one whose sink takes nothing; at how many reads a run
 /// fails that is made to, and writes nothing: one for each byte, and one that finds the end; at how many writes, behind just the bytes
-/// before it: one for each byte of the report; and how many fronts of it are no JSON: all.
+/// before it: one for each byte of the report or the image; and how many fronts of it are no JSON: all.
 const FAULTY: &str = r#"
-{"plan":{"page":4096,"base":["num",4096],"sections":[{"name":"A","attrs":1,"parts":[[8,false]]},{"name":"B","attrs":1,"parts":[[1,false]]},{"name":"C","attrs":17,"parts":[[16,false]]}],"segments":[{"kind":"load"}],"events":[["seg",0],["sec",0],["sec",1],["sec",2],["endseg",0]]},"groups":[[{"kind":"prelude"}],[{"kind":"object","name":"a.o","sections":[{"slot":"must","part":0,"size":8},{"slot":"must","part":1,"size":7},{"slot":"must","part":2,"size":16}]}]]} => slow (0, Ok("layout\nsection 0 index 0 mem 0x1000 8 file 0x0 8 align 8 lma 0x1000 attrs 1\nsection 1 index 1 mem 0x1008 7 file 0x8 7 align 1 lma 0x1008 attrs 1\nsection 2 index 2 mem 0x1010 16 file 0xf 0 align 16 lma 0x1010 attrs 17\npart 0 mem 0x1000 8 file 0x0 8 align 8\npart 1 mem 0x1008 7 file 0x8 7 align 1\npart 2 mem 0x1010 16 file 0xf 0 align 16\nsegment 0 mem 0x1000 32 file 0x0 15 align 16\nlive 1 0 0 0x1000 8\nlive 1 0 1 0x1008 7\nlive 1 0 2 0x1010 16\nentry -\nend\n")) full (5, Ok("")) reads 461 writes 454 cuts 460
+layout 0: {"plan":{"page":4096,"base":["num",4096],"sections":[{"name":"A","attrs":1,"parts":[[8,false]]},{"name":"B","attrs":1,"parts":[[1,false]]},{"name":"C","attrs":17,"parts":[[16,false]]}],"segments":[{"kind":"load"}],"events":[["seg",0],["sec",0],["sec",1],["sec",2],["endseg",0]]},"groups":[[{"kind":"prelude"}],[{"kind":"object","name":"a.o","sections":[{"slot":"must","part":0,"size":8},{"slot":"must","part":1,"size":7},{"slot":"must","part":2,"size":16}]}]]} => slow (0, Ok("layout\nsection 0 index 0 mem 0x1000 8 file 0x0 8 align 8 lma 0x1000 attrs 1\nsection 1 index 1 mem 0x1008 7 file 0x8 7 align 1 lma 0x1008 attrs 1\nsection 2 index 2 mem 0x1010 16 file 0xf 0 align 16 lma 0x1010 attrs 17\npart 0 mem 0x1000 8 file 0x0 8 align 8\npart 1 mem 0x1008 7 file 0x8 7 align 1\npart 2 mem 0x1010 16 file 0xf 0 align 16\nsegment 0 mem 0x1000 32 file 0x0 15 align 16\nlive 1 0 0 0x1000 8\nlive 1 0 1 0x1008 7\nlive 1 0 2 0x1010 16\nentry -\nend\n")) full (5, Ok("")) reads 461 writes 454 cuts 460
+image 0: {"plan":{"page":1,"sections":[{"attrs":1,"parts":[[1,false]]}],"segments":[{"kind":"load"}],"events":[["seg",0],["sec",0],["endseg",0]]},"groups":[[{"kind":"prelude"}],[{"kind":"object","sections":[{"slot":"must","size":8,"data":"696d616765206f6e"}]}]]} => slow (0, Ok("image on")) full (5, Ok("")) reads 254 writes 8 cuts 253
 "#;
 
 #[test]
@@ -201,7 +215,7 @@ fn failing_of(alloc: Global, word: &str) -> Result<Vec<u64>, AllocError> {
 }
 
 /// Adds how a run over the smallest description ends whose source gives 20 bytes with each read and whose sink takes 10 with each
-/// write, where the read and the write of the row's numbers fail; and how many bytes were taken.
+/// write, where the read and the write of the row's numbers fail; and what was taken.
 pub fn add_faulty_run(
     rt: &(impl Threads + Wait + Sync),
     alloc: Global,
@@ -212,19 +226,20 @@ pub fn add_faulty_run(
     let input = SMALLEST.as_bytes().to_vec(alloc)?;
     let mut source = MemorySource::new(input, 20, failing_of(alloc, read)?);
     let mut sink = MemorySink::new(alloc, ROOM, 10, failing_of(alloc, write)?)?;
-    let status = ended_over(rt, alloc, &mut source, &mut sink)?;
-    add(line, "run", &(status, sink.written().len()))
+    let words = words_of(alloc, "layout 0")?;
+    let status = ended_over(rt, alloc, &words, &mut source, &mut sink)?;
+    add(line, "run", &(status, str::from_utf8(sink.written())))
 }
 
-/// Which read and which write fails: how a run over the smallest description ends, and how many bytes were taken. Where both fail, the
+/// Which read and which write fails: how a run over the smallest description ends, and what was taken. Where both fail, the
 /// source is named: nothing was written yet.
-const RUNS: &str = "
-- - => run (Done, 19)
-1 - => run (ReadFault, 0)
-- 0 => run (WriteFault, 0)
-- 1 => run (WriteFault, 10)
-0 0 => run (ReadFault, 0)
-";
+const RUNS: &str = r#"
+- - => run (Done, Ok("layout\nentry -\nend\n"))
+1 - => run (ReadFault, Ok(""))
+- 0 => run (WriteFault, Ok(""))
+- 1 => run (WriteFault, Ok("layout\nent"))
+0 0 => run (ReadFault, Ok(""))
+"#;
 
 #[test]
 fn faults_of_devices_are_named(rt: HostRuntime) -> Result<(), Fail> {

@@ -12,6 +12,8 @@ mod groups;
 #[cfg(test)]
 mod hostile;
 #[cfg(test)]
+mod images;
+#[cfg(test)]
 mod maps;
 #[cfg(test)]
 mod merged_links;

@@ -1,7 +1,7 @@
 //! What rows ask here, and that the answers are theirs.
 
 use crate::faulty::{add_faulty_run, add_faulty_runs};
-use crate::runs::{add_end, add_end_by_workers, add_ends, add_lock_step, add_words};
+use crate::runs::{add_end, add_end_by_workers, add_ends, add_image, add_lock_step, add_words};
 use crate::words::{add_both_runs, add_generated};
 use lk_test_rows::{Row, rows_of};
 use std::alloc::{AllocError, Global};
@@ -25,6 +25,8 @@ pub enum Asked {
     BothRuns,
     /// How runs with the words before its first colon end over what is behind that, alone and by workers.
     Ends,
+    /// What image a run over it writes, by none and by two workers.
+    Image,
     /// What a run with its words tells of a generated link.
     Generated,
     /// How runs over it end in which a device fails, or gives and takes little.
@@ -48,6 +50,7 @@ fn add_answer(
         Asked::Words => add_words(alloc, line, text),
         Asked::BothRuns => add_both_runs(rt, alloc, line, text),
         Asked::Ends => add_ends(rt, alloc, line, text),
+        Asked::Image => add_image(rt, alloc, line, text),
         Asked::Generated => add_generated(alloc, line, text),
         Asked::Faulty => add_faulty_runs(rt, alloc, line, text),
         Asked::FaultyRun => add_faulty_run(rt, alloc, line, text),

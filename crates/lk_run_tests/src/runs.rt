@@ -149,6 +149,43 @@ pub fn add_ends(
     add(line, "alike", &(by_workers.as_str() == alone.as_str()))
 }
 
+/// Adds the status of a run, and the bytes that its sink has taken, or the text where it didn't end well.
+fn add_taken(
+    line: &mut String,
+    status: Option<Status>,
+    sink: &MemorySink,
+) -> Result<(), AllocError> {
+    add(line, "status", &status)?;
+    match status {
+        Some(Status::Done) => add(line, "bytes", &sink.written()),
+        _ => add(
+            line,
+            "text",
+            &str::from_utf8(sink.written()).unwrap_or("no text"),
+        ),
+    }
+}
+
+/// Adds the image that `image 0` writes over an input on the caller's own thread, and whether `image 2` does so by workers.
+pub fn add_image(
+    rt: &(impl Threads + Wait + Sync),
+    alloc: Global,
+    line: &mut String,
+    input: &str,
+) -> Result<(), AllocError> {
+    let mut source = MemorySource::new(input.as_bytes().to_vec(alloc)?, 100, Vec::new(alloc));
+    let mut sink = MemorySink::new(alloc, ROOM, 7, Vec::new(alloc))?;
+    let words = words_of(alloc, "image 0")?;
+    let status = run_alone(alloc, &words, &mut source, &mut sink);
+    add_taken(line, status, &sink)?;
+    let mut source = MemorySource::new(input.as_bytes().to_vec(alloc)?, 100, Vec::new(alloc));
+    let mut other = MemorySink::new(alloc, ROOM, 7, Vec::new(alloc))?;
+    let words = words_of(alloc, "image 2")?;
+    let by_workers = run(rt, alloc, &words, &mut source, &mut other, &NoGate);
+    let is_alike = Some(by_workers) == status && sink.written() == other.written();
+    add(line, "alike", &is_alike)
+}
+
 /// A block without the remark above it.
 fn without_remark(block: &'static str) -> &'static str {
     match block.split_once('\n') {

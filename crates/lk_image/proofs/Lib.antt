@@ -1,0 +1,11 @@
+mod AddressPlaces
+mod Apart
+mod EndPlaces
+mod Made
+mod PartPlaces
+mod Pieces
+mod Puts
+mod Putting
+mod RoomLemmas
+mod Standing
+mod Turns

@@ -1,0 +1,12 @@
+pub mod Contents
+pub mod Given
+pub mod Image
+pub mod Laid
+pub mod Laws
+pub mod Places
+pub mod Ready
+pub mod References
+pub mod Refusals
+pub mod Stretches
+pub mod StretchLaws
+pub mod Texts
