@@ -11,9 +11,8 @@ usage: run.py [--merges|--named|--thunks|--relaxed|--plans] [PROGRAM [MEGABYTES.
        run.py --images [PROGRAM]
 
 PROGRAM is crates/lk_program/out/lk_program unless given, the sizes are 1, 10 and 100 MB. Each
-description is given to the program in three forms, several times: with a value of a wrong shape that is
-the last to be read, so that it is read and no more; as it is; and whole as a member that isn't known, so
-that it is parsed and let go. The run fails where an answer isn't of the kind that is wanted or two runs
+description is given to the program in three ways, several times: by the words `why` and a section that isn't there, so that it is read
+and checked and no more; by `layout 0`; and by that, but whole as a member that isn't known, so that it is parsed and let go. The run fails where an answer isn't of the kind that is wanted or two runs
 over the same bytes differ. Seconds are processor seconds, the least of the runs. None of them is judged:
 each is set against others of the same run.
 
@@ -73,13 +72,12 @@ PLAN_MEGABYTES = (1, 4, 16)
 SMALL_SHAPES = ("plan", "files", "single")
 RUNS, MOST_RUNS, SMALL_BYTES = 3, 7, 5_000_000
 BLOCK = 1 << 20
-ENDING = b"\n]}\n"
 LONGEST_START = 100
 STACK_BYTES = 8 << 20
 
-# The end of a description that is read and no more, in place of its ending, and how its answer begins.
-READ_ENDING = b',[{"kind":"prelude","candidates":7}]\n]}\n'
-READ_ANSWER = b"not a link description: /groups/"
+# Words by which a description is read and checked, and no more, and how the answer begins.
+READ_WORDS = ("why", "4294967295", "4294967295", "4294967295")
+READ_ANSWER = b"no such section: "
 LAID_OUT_ANSWER = b"layout\n"
 # What stands round a description that is parsed and let go.
 PARSED_START = b'{"unknown":'
@@ -147,8 +145,8 @@ image. Aim: ratio at most 1.3, of it at most 1.
 
 BASELINE_COLUMNS = (("ours", 7), ("serde", 7), ("ratio", 6), ("peak MB", 8), ("serde MB", 9), ("ratio", 6))
 BASELINE_LEGEND = """\
-ours, serde: processor seconds of reading a description of 100 MB, ours with the answer that its last value has a
-wrong shape; then the peak memory. Aim: 1.1 times serde's, 1.15 on tabled.
+ours, serde: processor seconds of reading a description of 100 MB, ours with its check and the answer that a section isn't there;
+then the peak memory. Aim: 1.1 times serde's, 1.15 on tabled.
 """
 
 WORKERS_COLUMNS = (("workers", 7), ("clock", 6), ("rest", 6), ("of 0 in its round", 18), ("processors of 0", 16), ("peak", 6), ("of 0", 6))
@@ -231,14 +229,6 @@ def count_texts(path, *texts):
     return counts
 
 
-def set_ending(path, size, ending):
-    """Puts an ending in place of that of a description of this size."""
-    with open(path, "r+b") as file:
-        file.truncate(size - len(ENDING))
-        file.seek(0, os.SEEK_END)
-        file.write(ending)
-
-
 def power(later, earlier):
     """The power of the size by which something grows; each of the two is an amount and a size."""
     if later[0] <= 0 or earlier[0] <= 0:
@@ -260,8 +250,7 @@ class Stages:
         surround(path, PARSED_START, PARSED_ENDING, around)
         self.parsed = best(command, around, output, PARSED_ANSWER)
         os.remove(around)
-        set_ending(path, self.size, READ_ENDING)
-        self.read = best(command, path, output, READ_ANSWER)
+        self.read = best([series.program, *READ_WORDS], path, output, READ_ANSWER)
         self.reading = self.read.seconds
         self.rest = self.whole.seconds - self.reading
 
@@ -409,8 +398,7 @@ def measure_baseline(program, folder):
     for shape in against_serde.SHAPES:
         generate(path, against_serde.MEGABYTES * 1_000_000, shape)
         theirs = best([baseline], path, output, b"")
-        set_ending(path, os.path.getsize(path), READ_ENDING)
-        ours = best([program, "layout", "0"], path, output, READ_ANSWER)
+        ours = best([program, *READ_WORDS], path, output, READ_ANSWER)
         line = (
             *("%.2f" % run.seconds for run in (ours, theirs)),
             "%.2f" % (ours.seconds / theirs.seconds),
@@ -518,8 +506,7 @@ def why_rests(program, path, output, shape):
         surround(path, PARSED_START, PARSED_ENDING, around)
         parsed = best([program, "layout", "0"], around, output, PARSED_ANSWER)
         os.remove(around)
-        set_ending(path, size, READ_ENDING)
-        yield count, size, parsed, best(words, path, output, READ_ANSWER), whole
+        yield count, size, parsed, best([program, *READ_WORDS], path, output, READ_ANSWER), whole
 
 
 def measure_why(program, folder):
