@@ -1,6 +1,7 @@
 -- Words of flags that threads share: what each may hold, and what a thread knows of them.
-use Rattle.std.specs.Prelude.{◌≡◌, ◌⊎◌, ℕ, List, All, Contains, length, slice_index}
+use Rattle.std.specs.Prelude.{◌≡◌, ◌⊎◌, ℕ, List, [], ◌∷◌, All, Contains, bit_or, length, slice_index, slice_set}
 use Rattle.std.specs.Int.{bit_at}
+use Rattle.std.specs.List.Sorted.{IsPermutation}
 use Rattle.lk_flags.specs.declared.flags.FlagSet.{FlagSet}
 pub use Rattle.atomic_table.specs.Seated.{TableId}
 
@@ -50,3 +51,14 @@ pub record AreLeft (handed words : List ℕ) (sets : List FlagSet) (left : List 
 -- words have nothing but what was handed in and what was set, each bit once by a step that found it missing
 abbrev pub HaveNoMore : List ℕ → List FlagSet → List ℕ → Type 0
 HaveNoMore handed sets words = (n i : ℕ) → bit_at (slice_index words n) i ≡ 1 → (bit_at (slice_index handed n) i ≡ 1) ⊎ IsSet sets n i
+
+-- words become others by sets, one after the other: each found its word as those before it had left it, and joined its bits to that
+unfoldable pub InTurn : List ℕ → List FlagSet → List ℕ → Type 0
+InTurn first [] last = last ≡ first
+InTurn first (x ∷ sets) last = (x.found ≡ slice_index first x.word) × InTurn (slice_set first x.word (bit_or x.found x.bits)) sets last
+
+-- the same by these sets in some order
+pub record AreInTurn (first : List ℕ) (sets : List FlagSet) (last : List ℕ) : Type 0 where
+  pub order : List FlagSet
+  pub same : IsPermutation sets order
+  pub turns : InTurn first order last

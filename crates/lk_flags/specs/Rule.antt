@@ -1,12 +1,11 @@
 -- Words of private contracts: the rule of a table of flags, and what its steps tell.
-use Rattle.std.specs.Prelude.{◌≡◌, ◌⊎◌, ℕ, ◌+◌, List, [], ◌∷◌, ◌++◌, length, slice_index}
-use Rattle.std.specs.Int.{bit_at}
+use Rattle.std.specs.Prelude.{◌≡◌, ℕ, ◌+◌, List, [], ◌∷◌, ◌++◌, length}
 use mathlib.Core.Option.{some}
 use lib.ListN.{get_elem?}
 use Rattle.atomic_table.specs.Table.{Me, State, Step}
 use Rattle.lk_flags.specs.declared.flags.FlagSet.{FlagSet}
 use Rattle.lk_flags.specs.declared.flags.View.{View}
-use Rattle.lk_flags.specs.Flags.{AllWithin, AreIn, IsFound, IsSet, all_parts}
+use Rattle.lk_flags.specs.Flags.{AllWithin, AreIn, AreInTurn, IsFound, all_parts}
 
 -- a view with so many parts, in which these flags were set
 abbrev pub view_of : ℕ → List FlagSet → View
@@ -17,21 +16,18 @@ abbrev pub parts_of : List View → ℕ
 parts_of [] = 0
 parts_of (v ∷ views) = v.parts + parts_of views
 
--- a bit of a word is among those that were set in some view, once by a step that found it missing
-pub record IsSetBySome (views : List View) (n i : ℕ) : Type 0 where
-  pub number : ℕ
-  pub view : View
-  pub at : get_elem? views number ≡ some view
-  pub set_there : IsSet view.sets n i
+-- the sets of all views
+abbrev pub sets_of : List View → List FlagSet
+sets_of [] = []
+sets_of (v ∷ views) = v.sets ++ sets_of views
 
--- every word has what was handed in and what was set in views, and nothing else, and is within its bound; the views have all parts
--- together, and one that has none has set nothing
+-- the sets of all views turned what was handed in into the words, one after the other; every word is within its bound, and has what was
+-- set in views; the views have all parts together, and one that has none has set nothing
 pub record IsKept (handed bounds words : List ℕ) (views : List View) : Type 0 where
   pub count : length words ≡ length bounds
-  pub handed_in : AllWithin handed words
   pub bounded : AllWithin words bounds
+  pub in_turn : AreInTurn handed (sets_of views) words
   pub views_in : (k : ℕ) (v : View) → get_elem? views k ≡ some v → AreIn v.sets words
-  pub no_more : (n i : ℕ) → bit_at (slice_index words n) i ≡ 1 → (bit_at (slice_index handed n) i ≡ 1) ⊎ IsSetBySome views n i
   pub parts : parts_of views ≡ all_parts
   pub idle : (k : ℕ) (v : View) → get_elem? views k ≡ some v → v.parts ≡ 0 → v.sets ≡ []
 

@@ -1,7 +1,7 @@
 //! A table of flag words, and the passes by which threads set flags in it.
 
 ghost use Rattle.std.specs.Prelude.{◌≡◌, ◌<◌, ◌+◌, ◌-◌, [], ◌∷◌, ◌++◌, IfOk, length, slice_index};
-ghost use Rattle.lk_flags.specs.Flags.{AllWithin, AreLeft, HaveNoMore, IsFound, Within, all_parts};
+ghost use Rattle.lk_flags.specs.Flags.{AllWithin, AreInTurn, AreLeft, HaveNoMore, IsFound, Within, all_parts};
 ghost use Rattle.lk_flags.specs.Rule.{IsKeptBy, SetsFlags, view_of};
 
 use crate::lists::Reach;
@@ -24,7 +24,8 @@ pub struct View {
     sets: LinkedList<FlagSet>,
 }
 
-/// The rule of a table: every word has what was handed in and what is known to be set, and is within its bound.
+/// The rule of a table: all that was set, one after the other, made its words of those that were handed in, and each is within its
+/// bound.
 pub struct Flags<J: Reach> {
     of: PhantomData<J>,
 }
@@ -111,7 +112,8 @@ impl<J: Reach> FlagTable<J> {
         Ok((FlagTable { table, room }, FlagPass { seat }))
     }
 
-    /// Sets flags in a word, and answers the word as it was, which the pass keeps.
+    /// Sets flags in a word, and answers the word as found, which the pass keeps with them: it has what was handed in and what the pass
+    /// had set there, and is within its bound. `close` tells how it goes with what other passes found.
     pub fn set(&self, pass: &mut FlagPass, word: usize, bits: u64) -> u64
         requires own { pass.old.table ≡ self.now }
         requires place { word < length J.lists.words }
@@ -150,11 +152,13 @@ impl<J: Reach> FlagTable<J> {
         self.table.shared.join_seat::<Cut>(&mut pass.seat, seat);
     }
 
-    /// The words at the end, which have all that the pass set; beside what was handed in nothing else, if it has all parts. Takes no
-    /// memory.
+    /// The words at the end, which have what was handed in and all that the pass set, and are within their bounds. If it has all parts,
+    /// there is one order of all that it set in which each word that was found is the one handed in, joined with what was set there
+    /// before; so the words have nothing else. Takes no memory.
     pub fn close(self, pass: FlagPass) -> Vec<u64>
         requires own { pass.table ≡ self }
         ensures left { AreLeft J.lists.handed J.lists.words pass.sets result.items }
+        ensures in_turn { pass.parts ≡ all_parts → AreInTurn J.lists.handed pass.sets result.items }
         ensures whole { pass.parts ≡ all_parts → HaveNoMore J.lists.handed pass.sets result.items }
     {
         let FlagTable { table, mut room } = self;

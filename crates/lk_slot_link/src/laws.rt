@@ -9,18 +9,19 @@ pub fn graphs_are_whole()
     ensures { GraphsAreWhole }
 {}
 
-/// A law: what is reached by numbers and tasks is what is reached in the link, with the same flags.
+/// A law, of a well-formed link: what is reached by numbers and tasks is what is reached in the link, with the same flags.
 pub fn same_reach()
     ensures { IsSameReach }
 {}
 
-/// A law, for every list of steps: what is done is reached in the link, and what is in words are its flags.
+/// A law, of a well-formed link, for every list of steps: what is done is reached in the link, what is in words are its flags, and no
+/// group is parked with something waiting.
 pub fn steps_are_sound_in()
     ensures { StepsAreSoundIn }
 {}
 
-/// A law, for every list of steps in which nothing is given up: a state in which every group is activated and parked with nothing
-/// left has just what is reached in the link, with just its flags.
+/// A law, of a well-formed link, for every list of steps in which nothing is given up: a state in which every group is activated and
+/// parked with nothing left has just what is reached in the link, with just its flags.
 pub fn quiet_states_are_all()
     ensures { QuietStatesAreAll }
 {}

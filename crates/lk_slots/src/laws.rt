@@ -8,8 +8,9 @@ pub fn steps_are_sound()
     ensures { StepsAreSound }
 {}
 
-/// A law, for every list of steps in which nothing is given up: what was asked for is done or stands somewhere, and where every
-/// group is activated and parked with nothing left, what is done is just what is reached, and words are just its flags.
+/// A law, for every list of steps in a graph that is whole, where nothing was given up: what was asked for is done or stands
+/// somewhere, and where every group is activated and parked with nothing left, what is done is just what is reached, and words are just
+/// its flags.
 pub fn steps_are_complete()
     ensures { StepsAreComplete }
 {}

@@ -2,6 +2,7 @@ mod Asked
 mod Closing
 mod Covering
 mod Doing
+mod GivingUp
 mod GoingOn
 mod GroupFiles
 mod Handing

@@ -1,5 +1,5 @@
--- A step of a group's state is steps of the slot machine.
-use Rattle.std.proofs.Common.{◌≡◌, ℕ, Bool, true, false, cond, ◌||◌, List, [], ◌∷◌, ◌++◌, append-nil, map, refl, sym, ap, ◌∙◌, subst, inl, inr, ne_eqb}
+-- A step of a group is, on its own side, steps of the slot machine.
+use Rattle.std.proofs.Common.{◌≡◌, ◌<◌, ℕ, Bool, true, false, cond, ◌||◌, List, [], ◌∷◌, ◌++◌, append-nil, length, map, refl, sym, ap, ◌∙◌, subst, inl, inr, ne_eqb}
 use Rattle.std.specs.Prelude.{◌==◌, MatchBool}
 use Rattle.std.specs.List.{All}
 use Rattle.std.proofs.lemmas.Bool.{cases_eq}
@@ -35,20 +35,20 @@ asks_lead link asks g old new before after same inside does =
     subst (λ n. Leads (graph_of link) n (side_of link.groups (map (task_of link) asks) old before) (side_of link.groups [] new after)) same
     (subst (λ hand. Leads (graph_of link) old.group (side_of link.groups hand old before) (side_of link.groups [] new after)) (append-nil (map (task_of link) asks)) (asks_are_turns link asks [] old new before after inside does))
 
-activated_step : (link : LinkInput) (old new : StateValue) (before after : List FlagSet) → IsWellFormed link → IsActivated link.groups link old new before after → IsMachineStep link old new before after
-activated_step link old new before after wf f =
+activated_step : (link : LinkInput) (old new : StateValue) (before after : List FlagSet) → IsWellFormed link → old.group < length link.groups → IsActivated link.groups link old new before after → IsMachineStep link old new before after
+activated_step link old new before after wf lt f =
     let inside = all_in (IsInside link.groups) (group_roots link old.group) (roots link) (root_of_group link old.group) (asks_are_inside.by_roots link wf) in
     let leads = asks_lead link (group_roots link old.group) old.group (activated old) new before after refl inside f.asks in
     record {
       start = group_of link.groups (map (task_of link) (group_roots link old.group)) (activated old);
-      begins = inl (record { fresh = f.fresh; active = refl; hand = refl; items = refl; done = λ u. refl });
+      begins = inl (lt, record { fresh = f.fresh; active = refl; hand = refl; items = refl; done = λ u. refl });
       count = leads.0;
       turns = leads.1;
     }
 
 -- ---- items
 
-out_of : (link : LinkInput) (old : StateValue) (rest : List WorkItem) (item : WorkItem) → old.items ≡ rest ++ item ∷ []
+pub out_of : (link : LinkInput) (old : StateValue) (rest : List WorkItem) (item : WorkItem) → old.items ≡ rest ++ item ∷ []
     → TakesOut (machine_items link.groups old.items) (machine_item link.groups item) (machine_items link.groups rest)
 out_of link old rest item e = record {
   before = machine_items link.groups rest;
@@ -138,8 +138,8 @@ item_step link (ExportDynamic s) old new rest before after wf is items does =
     }
 
 pub steps_are_machine_steps : StepsAreMachineSteps
-steps_are_machine_steps link old new before after wf units step = elim step [
-  | inl f ↦ activated_step link old new before after wf f
+steps_are_machine_steps link old new before after wf lt units step = elim step [
+  | inl f ↦ activated_step link old new before after wf lt f
   | inr f ↦
       let P : WorkItem → Type 0 = λ item. IsUnit link.groups (unit_of item) in
       let all : All P (f.rest ++ f.item ∷ []) = subst (All P) f.items units in

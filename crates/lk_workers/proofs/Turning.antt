@@ -39,7 +39,7 @@ Leads graph g old new = (n : ℕ) × AreTurns graph g n old new
 first_turn : (graph : Graph) (g : ℕ) (old mid new : Side) → TurnsFlags graph old mid ⊎ TurnsItem graph g old mid → Leads graph g mid new → Leads graph g old new
 first_turn graph g old mid new turn rest = (suc rest.0, one_turn graph g rest.0 old mid new turn rest.1)
 
-last_turn : (graph : Graph) (g : ℕ) (old new : Side) → TurnsFlags graph old new ⊎ TurnsItem graph g old new → Leads graph g old new
+pub last_turn : (graph : Graph) (g : ℕ) (old new : Side) → TurnsFlags graph old new ⊎ TurnsItem graph g old new → Leads graph g old new
 last_turn graph g old new turn = first_turn graph g old new new turn (0, no_turn graph g new)
 
 -- the same where the pass is another one by its name
@@ -117,7 +117,7 @@ item_leads link item task rest old new before after is puts passes same =
 hand_turns : (groups : List (List InputFile)) (first second : List Task) (v : StateValue) → Turns second (group_of groups first v) (group_of groups second v)
 hand_turns groups first second v = record { hand = refl; active = refl; items = refl; done = λ u. refl }
 
-flag_turn : (link : LinkInput) (task : Task) (left rest : List Task) (s : ℕ) (flags : ValueFlags) (found : ℕ) (v : StateValue) (sets : List FlagSet) → SetsFlags task s flags.0
+pub flag_turn : (link : LinkInput) (task : Task) (left rest : List Task) (s : ℕ) (flags : ValueFlags) (found : ℕ) (v : StateValue) (sets : List FlagSet) → SetsFlags task s flags.0
     → left_of (graph_of link) found task ≡ left
     → TurnsFlags (graph_of link) (side_of link.groups (task ∷ rest) v sets) (side_of link.groups (left ++ rest) v (sets ++ flags_set s flags found ∷ []))
 flag_turn link task left rest s flags found v sets does is = record {
@@ -204,7 +204,7 @@ kept_group link (ask.Reference s flags) old new before after does = kept_referen
 kept_group link (ask.Section id i) old new before after does = kept_item link.groups (LoadGcUnit (record { file_id = id; gc_unit = i })) old new does.0
 kept_group link (ask.Mark s flags) old new before after does = ap (λ (v : StateValue). v.group) does.0
 
-leads_both : (graph : Graph) (g n : ℕ) (old mid new : Side) → AreTurns graph g n old mid → Leads graph g mid new → Leads graph g old new
+pub leads_both : (graph : Graph) (g n : ℕ) (old mid new : Side) → AreTurns graph g n old mid → Leads graph g mid new → Leads graph g old new
 unfolding AreTurns
 leads_both graph g zero old mid new first rest = subst (λ x. Leads graph g x new) first rest
 leads_both graph g (suc n) old mid new first rest = first_turn graph g old first.0 new first.1 (leads_both graph g n first.0 mid new first.2 rest)

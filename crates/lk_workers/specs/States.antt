@@ -1,5 +1,5 @@
 -- The state of a group: its own items, and what of its units is done.
-use Rattle.std.specs.Prelude.{◌≡◌, ℕ, ◌-◌, ◌==◌, ◌||◌, Bool, true, false, if◌then◌else◌, List, nat_lt}
+use Rattle.std.specs.Prelude.{◌≡◌, ℕ, ◌+◌, ◌-◌, ◌==◌, ◌&&◌, ◌||◌, not, Bool, true, false, if◌then◌else◌, List, length, nat_lt}
 use Rattle.lk_flags.specs.Lists.{Lists}
 use Rattle.lk_link.specs.declared.file.InputFile.{InputFile}
 use Rattle.lk_link.specs.Marks.{is_marked}
@@ -18,8 +18,12 @@ pub record Ranged : Type 0 where
 abbrev pub is_in : Ranged → ℕ → Bool
 is_in r n = if nat_lt n r.first then false else is_marked r.marks (n - r.first)
 
+-- whether there is a mark for a number
+abbrev pub has_number : Ranged → ℕ → Bool
+has_number r n = not (nat_lt n r.first) && nat_lt n (r.first + length r.marks)
+
 -- what a state shows: its group, whether that is activated, its own items, which of its symbols and sections are done, and the items
--- that its steps left in slots of other groups
+-- that its steps noted as left for other groups
 pub record StateValue : Type 0 where
   pub group : ℕ
   pub active : Bool
@@ -56,10 +60,16 @@ activated v = record { group = v.group; active = true; items = v.items; symbols 
 abbrev pub MarksOne : Ranged → ℕ → Ranged → Type 0
 MarksOne old n new = (u : ℕ) → is_in new u ≡ is_in old u || (u == n)
 
--- one unit more is done, and else all is as it was
+-- there are marks for the same numbers
+abbrev pub HasSameNumbers : Ranged → Ranged → Type 0
+HasSameNumbers old new = (new.first ≡ old.first) × (length new.marks ≡ length old.marks)
+
+-- one unit more is done, there are marks for the same numbers, and else all is as it was
 pub record DoesOne (old : StateValue) (n : ℕ) (new : StateValue) : Type 0 where
   pub group : new.group ≡ old.group
   pub active : new.active ≡ old.active
   pub items : new.items ≡ old.items
   pub sent : new.sent ≡ old.sent
+  pub symbols : HasSameNumbers old.symbols new.symbols
+  pub sections : HasSameNumbers old.sections new.sections
   pub done : (u : ℕ) → is_done new u ≡ is_done old u || (u == n)

@@ -19,7 +19,7 @@ use Rattle.lk_workers.specs.States.{DoesOne, StateValue, activated, is_done, wit
 
 -- ---- one ask
 
--- an item that is passed on goes to the end of the group's own list, if it is the group's own; else it is left for another group, once
+-- an item that is passed on goes to the end of the group's own list, if it is the group's own; else it is noted as left, once
 abbrev pub PassesOn : List (List InputFile) → WorkItem → StateValue → StateValue → Type 0
 PassesOn groups item old new = MatchBool (unit_group groups (Some (unit_of item)) == old.group)
     (new ≡ with_items old (old.items ++ item ∷ []))

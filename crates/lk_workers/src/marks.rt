@@ -1,8 +1,8 @@
 //! Marks of numbers that follow each other.
 
-ghost use Rattle.std.specs.Prelude.{◌≡◌, ◌⊎◌, ◌<◌, ℕ, false, true, IfOk, MatchBool, length, replicate, slice_set};
+ghost use Rattle.std.specs.Prelude.{◌≡◌, ◌⊎◌, ◌<◌, ◌-◌, ℕ, false, true, IfOk, MatchBool, length, replicate, slice_set};
 ghost use Rattle.lk_reach.specs.Marks.{IsMarked};
-ghost use Rattle.lk_workers.specs.States.{MarksOne, is_in};
+ghost use Rattle.lk_workers.specs.States.{HasSameNumbers, MarksOne, has_number, is_in};
 
 use lk_link::marks::is_marked;
 use std::alloc::{AllocError, Global};
@@ -59,9 +59,12 @@ impl Marks {
         is_marked(self.marks.as_slice(), number - self.first)
     }
 
-    /// Marks a number, if it is one of these, and answers whether it is.
+    /// Marks a number, if it is one of these, and answers whether it is. It has marks for the same numbers as before.
     pub fn mark(&mut self, number: usize) -> bool
-        ensures { MatchBool result (MarksOne self.old number self.new) (self.new ≡ self.old) }
+        ensures marks { MatchBool result (self.new ≡ record { first = self.old.first; marks = slice_set self.old.marks (number - self.old.first) true }) (self.new ≡ self.old) }
+        ensures one { MatchBool result (MarksOne self.old number self.new) (self.new ≡ self.old) }
+        ensures numbers { HasSameNumbers self.old self.new }
+        ensures has { result ≡ has_number self.old number }
     {
         if number < self.first || number - self.first >= self.marks.len() {
             return false;

@@ -5,13 +5,16 @@ ghost use Rattle.std.specs.Borrow.{ftrue};
 ghost use Rattle.lk_workers.specs.States.{Ranged};
 
 use crate::marks::Marks;
+use crate::state::GroupState;
+use lk_flags::Reach;
 use std::marker::Model;
+use std::sync::Mutex;
 
-/// The marks of what was done in states that were taken out of their locks, in order: of each those of its symbols, and then those of
-/// its sections. It exists in proofs alone and takes no bytes. Only what takes a state out of its lock adds to it.
+/// Lists of marks. It exists in proofs alone and takes no bytes. Only `Opened::open` adds to it, by a call that no other module has: the
+/// marks of the symbols and of the sections that are done in a state, as it comes out of a lock.
 #[derive(Drop)]
 pub struct Opened {
-    pub ghost marks: { List Ranged },
+    ghost marks: { List Ranged },
 }
 
 impl Model for Opened {
@@ -27,9 +30,18 @@ impl Opened {
     }
 
     /// The same marks, and those of one list more.
-    pub(crate) fn and(&self, _marks: &Marks) -> Opened
+    fn and(&self, _marks: &Marks) -> Opened
         ensures { result.marks ≡ self.now.marks ++ _marks.now ∷ [] }
     {
         Opened {}
+    }
+
+    /// Takes a state out of its lock, and adds what is done in it.
+    pub(crate) fn open<J: Reach>(&mut self, lock: Mutex<GroupState<J>>) -> GroupState<J>
+        ensures { self.new.marks ≡ self.old.marks ++ result.symbols ∷ result.sections ∷ [] }
+    {
+        let state = lock.into_inner();
+        *self = self.and(state.symbols()).and(state.sections());
+        state
     }
 }

@@ -12,8 +12,8 @@ use std::alloc::{AllocError, AllocFailed, Global};
 use std::marker::{Model, PhantomData};
 use std::mem;
 
-/// The items that a group's steps left in slots of others, in order. It exists in proofs alone and takes no bytes. Only
-/// `WorkerSlot::deposit` adds to it, by a call that no other module has.
+/// The items that a group's steps noted as left for others, in order. It exists in proofs alone and takes no bytes. Only
+/// `WorkerSlot::deposit` adds to it, once for each, by a call that no other module has.
 #[derive(Drop)]
 pub struct Sent {
     ghost items: { List WorkItem },

@@ -1,6 +1,7 @@
 //! The state of a group, and the steps that it takes.
 
 ghost use Rattle.std.specs.Prelude.{◌≡◌, ◌++◌, ◌∷◌, ◌||◌, ℕ, [], false, true, IfNone, IfOk, IfSome, MatchBool, OnErr, OnOk, Some};
+ghost use Rattle.std.specs.Option.{is_some};
 ghost use Rattle.lk_reach.specs.declared.units.Ask.TheVariants as ask;
 ghost use Rattle.lk_link.specs.Marks.{is_marked};
 ghost use Rattle.lk_reach.specs.Marks.{IsMarked, IsUnit, unit_at, unit_number};
@@ -8,11 +9,10 @@ ghost use Rattle.lk_slot_link.specs.LinkGraphs.{group_roots, unit_group};
 ghost use Rattle.lk_workers.specs.Asked.{AreMet, AreReached, IsMet};
 ghost use Rattle.lk_slots.specs.Machine.{Parks, Swaps};
 ghost use Rattle.lk_workers.specs.Items.{IsMeant, IsOwn, machine_items, slot_of};
-ghost use Rattle.lk_workers.specs.States.{DoesOne, activated, is_done, is_in, with_items};
+ghost use Rattle.lk_workers.specs.States.{DoesOne, activated, has_number, is_done, is_in, with_items};
 ghost use Rattle.lk_workers.specs.Steps.{DoesAsk, DoesAsks, DoesItem, DoesSome, DoesUnit, GivesItemUp, GivesUnitUp, IsGivenUp, IsStep, IsStepGivenUp, PassesOn, Refers, is_asked};
 
 use crate::marks::Marks;
-use crate::opened::Opened;
 use crate::slot::{Sent, WorkerSlot};
 use crate::traversal::Traversal;
 use crate::work::{GcLoadRequest, LocalWorkQueue, WorkItem};
@@ -22,7 +22,7 @@ use lk_link::{SectionGcUnit, SymbolId, ValueFlags};
 use lk_reach::{Ask, Successors, Unit};
 use std::alloc::{AllocError, Global};
 use std::marker::{Model, PhantomData};
-use std::sync::{Mutex, Wait};
+use std::sync::Wait;
 
 /// The state of a group: whether it is activated, its own items, and which of its symbols and sections are done. All of these are the
 /// group's own, and there is reason for them. Contracts also see what its steps left for other groups. It lies behind a lock (libwild:
@@ -72,6 +72,20 @@ impl<J: Reach> GroupState<J> {
         ensures { result ≡ self.now.group }
     {
         self.group
+    }
+
+    /// Which of its symbols are done.
+    pub(crate) fn symbols(&self) -> &Marks
+        ensures { result.now ≡ self.now.symbols }
+    {
+        &self.symbols
+    }
+
+    /// Which of its sections are done.
+    pub(crate) fn sections(&self) -> &Marks
+        ensures { result.now ≡ self.now.sections }
+    {
+        &self.sections
     }
 
     /// Passes an item on: to the group's own list, or to the slot of the group that it belongs to. Without memory it is given up, and all
@@ -180,12 +194,13 @@ impl<J: Reach> GroupState<J> {
         Ok(())
     }
 
-    /// Marks a unit as done, and answers whether it wasn't; none where it is no unit of the group.
+    /// Marks a unit as done, and answers whether it wasn't; none where the group has no mark for it.
     fn mark(&mut self, number: usize) -> Option<bool>
         requires reached { IsMarked J.lists.units number }
         requires own { unit_group J.lists.groups (unit_at J.lists.groups number) ≡ self.old.group }
         ensures some { IfSome result (λ fresh. MatchBool fresh ((is_done self.old number ≡ false) × DoesOne self.old number self.new) ((is_done self.old number ≡ true) × (self.new ≡ self.old))) }
         ensures none { IfNone result (self.new ≡ self.old) }
+        ensures has { is_some result ≡ has_number self.old.symbols number || has_number self.old.sections number }
         ensures group { self.new.group ≡ self.old.group }
     {
         if self.symbols.is_marked(number) || self.sections.is_marked(number) {
@@ -350,15 +365,6 @@ impl<J: Reach> GroupState<J> {
         ensures group { slot.new.group ≡ slot.old.group }
     {
         slot.park_or_swap(&mut self.items)
-    }
-
-    /// Takes a state out of its lock, and notes what is done in it.
-    pub(crate) fn open(lock: Mutex<GroupState<J>>, opened: &mut Opened) -> GroupState<J>
-        ensures { opened.new.marks ≡ opened.old.marks ++ result.symbols ∷ result.sections ∷ [] }
-    {
-        let state = lock.into_inner();
-        *opened = opened.and(&state.symbols).and(&state.sections);
-        state
     }
 
     /// Sets the marks of what is done in a list that has one for every unit; those that it has stay.

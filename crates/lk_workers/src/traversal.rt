@@ -2,7 +2,7 @@
 //! can run. Locks are taken in this order: a state, then a slot, then the groups that can run.
 
 ghost use Rattle.std.specs.Prelude.{◌≡◌, ◌<◌, ◌+◌, ◌-◌, ◌*◌, ◌++◌, ◌∷◌, [], true, IfNone, IfOk, IfSome, OnErr, OnOk, SomeIff, map, None, Some, length, slice_get, slice_index};
-ghost use Rattle.lk_flags.specs.Flags.{AreIn, HaveNoMore, IsFound, Within, all_parts};
+ghost use Rattle.lk_flags.specs.Flags.{AreIn, AreInTurn, HaveNoMore, IsFound, Within, all_parts};
 ghost use Rattle.lk_reach.specs.Marks.{IsMarked, IsUnit, all_units, symbols_in_all, unit_number, word_of};
 ghost use Rattle.lk_link.specs.NumberedSymbols.{symbols_of};
 ghost use Rattle.lk_link.specs.Walks.{file_of};
@@ -89,8 +89,8 @@ impl<'l, J: Reach> Model for Traversal<'l, J> {
 }
 
 impl<'l, J: Reach> Traversal<'l, J> {
-    /// A traversal in which no group is activated, and the first pass for its flags, which has all parts. Takes a slot, a state and two turns for each group,
-    /// twice a mark for each unit, twice a word and once a number for each symbol.
+    /// A traversal of a link, and the first pass for its flags, which has all parts and has set nothing. Takes a slot, a state and two
+    /// turns for each group, twice a mark for each unit, twice a word and once a number for each symbol.
     pub fn new(
         alloc: Global,
         link: &'l LinkInput,
@@ -113,13 +113,16 @@ impl<'l, J: Reach> Traversal<'l, J> {
         Ok((traversal, pass))
     }
 
-    /// What the traversal came to: the units that states had as done when they came out of their locks, one for each group, and the words
-    /// of flags, which have all that the pass set, and beside what was handed in nothing else, if the pass has all parts. Takes no memory.
+    /// What the traversal came to: just the units that states had as done as they came out of locks, as many states as there are groups;
+    /// and the words of flags, which have all that the pass set. If the pass has all parts, there is one order of all that it set in which
+    /// each word that was found is the one handed in, joined with what was set there before; so the words have nothing else. Takes no
+    /// memory.
     pub fn close(self, pass: FlagPass) -> (Closed<J>, Opened)
         requires { pass.table ≡ self.table }
         ensures done { AreMarksOf result.1.marks result.0.done }
         ensures all { length result.1.marks ≡ 2 * length self.entry.link.groups }
         ensures sets { AreIn pass.sets result.0.words }
+        ensures in_turn { pass.parts ≡ all_parts → AreInTurn J.lists.handed pass.sets result.0.words }
         ensures whole { pass.parts ≡ all_parts → HaveNoMore J.lists.handed pass.sets result.0.words }
     {
         let Traversal {
@@ -152,7 +155,7 @@ fn gather<J: Reach>(states: Vec<Mutex<GroupState<J>>>, room: &mut Vec<bool>) -> 
 {
     let mut opened = Opened::new();
     for state in states {
-        GroupState::open(state, &mut opened).gather(room);
+        opened.open(state).gather(room);
     }
     opened
 }
@@ -338,7 +341,8 @@ impl<J: Reach> Traversal<'_, J> {
         }
     }
 
-    /// Sets flags of a symbol, and answers the word as it was, which the pass keeps.
+    /// Sets flags of a symbol, and answers its word as found, which the pass keeps with them: it has what was handed in and what the pass
+    /// had set there, and is within its bound. `close` tells how it goes with what other passes found.
     pub fn set(&self, pass: &mut FlagPass, symbol: SymbolId, flags: ValueFlags) -> u64
         requires own { pass.old.table ≡ self.now.table }
         requires there { symbol < symbols_in_all J.lists.groups }

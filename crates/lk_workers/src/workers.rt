@@ -75,7 +75,7 @@ pub fn run_all<J: Reach + Send + Sync, R: Threads + Wait + Sync, G: Gate + Sync>
     Ok(pass)
 }
 
-/// What is reached of a link with these lists, and all flags, as so many workers find it.
+/// What is reached of a link with these lists, and all flags, found by so many workers, but one for each group at most.
 fn walk<J: Reach + Send + Sync, R: Threads + Wait + Sync, G: Gate + Sync>(
     rt: &R,
     alloc: Global,
@@ -99,10 +99,10 @@ fn walk<J: Reach + Send + Sync, R: Threads + Wait + Sync, G: Gate + Sync>(
     }
 }
 
-/// What is reached of a link: for each unit whether it is, and behind a spare word the flags of each symbol, as so many workers find it,
-/// each on a thread of its own. The gate is entered before each step. A worker that finds no memory gives up what it was about to do,
-/// and goes on; where anything is open at the end, memory ran out. With no worker nothing is found where anything is asked for
-/// (libwild: `traverse_reference_graph`).
+/// What is reached of a link: for each unit whether it is, and behind a spare word the flags of each symbol, found by so many workers,
+/// but one for each group at most, each on a thread of its own. The gate is entered before each step. A worker that finds no memory
+/// gives up what it was about to do, and goes on; where anything is open at the end, memory ran out. With no worker nothing is found
+/// where anything is asked for, as no clause says (libwild: `traverse_reference_graph`).
 pub fn walk_by_workers<R: Threads + Wait + Sync, G: Gate + Sync>(
     rt: &R,
     alloc: Global,

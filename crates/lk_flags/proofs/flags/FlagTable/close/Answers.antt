@@ -1,7 +1,7 @@
 use Rattle.std.proofs.Common.{rules, ◌≡◌, ◌<◌, ◌≤◌, length, sym, ap, ◌∙◌, subst, arith}
 use Rattle.std.proofs.lemmas.List.{ext_get_or, length-set}
-use Rattle.lk_flags.specs.Flags.{AreLeft, HaveNoMore, Pass, all_parts}
-use Rattle.lk_flags.proofs.Keeping.{left_words, moved_more, none_else}
+use Rattle.lk_flags.specs.Flags.{AreInTurn, AreLeft, HaveNoMore, Pass, all_parts}
+use Rattle.lk_flags.proofs.Keeping.{all_in_turn, left_words, moved_more, turned_no_more}
 use Rattle.lk_flags.proofs.flags.FlagTable.close.Goals as goal
 
 pub loop-place-preserved : goal.loop-place-preserved
@@ -25,8 +25,10 @@ returns g c =
     let end : length room ≤ c.loop-place.place = search rules in
     let same : room ≡ words = ext_get_or 0 room words count (λ k lt. c.loop-place.invariant.1 k (omega (arith, lt, end))) in
     let left : AreLeft lists.handed lists.words me.sets room = left_words lists.handed lists.words c.pass.inside.seat.id me words room final.0 kept final.1.1 final.2 same in
-    let whole : me.parts ≡ all_parts → HaveNoMore lists.handed me.sets room = none_else lists.handed lists.words c.pass.inside.seat.id me words room final.0 kept final.1.1 final.2 same in
+    let in_turn : me.parts ≡ all_parts → AreInTurn lists.handed me.sets room = all_in_turn lists.handed lists.words c.pass.inside.seat.id me words room final.0 kept final.1.1 final.2 same in
+    let whole : me.parts ≡ all_parts → HaveNoMore lists.handed me.sets room = λ all. turned_no_more lists.handed me.sets room (in_turn all) in
     record {
       left = subst (λ (p : Pass). AreLeft lists.handed lists.words p.sets room) c.pass.view_is left;
+      in_turn = subst (λ (p : Pass). p.parts ≡ all_parts → AreInTurn lists.handed p.sets room) c.pass.view_is in_turn;
       whole = subst (λ (p : Pass). p.parts ≡ all_parts → HaveNoMore lists.handed p.sets room) c.pass.view_is whole;
     }
