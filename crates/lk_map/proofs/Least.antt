@@ -175,7 +175,7 @@ from_needs (x ∷ xs) n h = from_case x xs (needs_segment x) n refl h (from_need
 
 -- ---- the first outside
 
-find_none : (test : SectionLine → Bool) (ss : List SectionLine) → All (λ s. test s ≡ false) ss → find test ss ≡ None
+pub find_none : (test : SectionLine → Bool) (ss : List SectionLine) → All (λ s. test s ≡ false) ss → find test ss ≡ None
 find_none test [] h = refl
 find_none test (s ∷ ss) h = ap (λ b. cond b (Some s) (find test ss)) (All-head (λ s. test s ≡ false) s ss h) ∙ find_none test ss (All-tail (λ s. test s ≡ false) s ss h)
 

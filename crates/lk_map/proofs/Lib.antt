@@ -2,7 +2,9 @@ pub mod Among
 pub mod Cuts
 pub mod Digits
 pub mod Fields
+pub mod Following
 pub mod Goodness
+pub mod Holders
 pub mod Least
 pub mod Opening
 pub mod Overlaps

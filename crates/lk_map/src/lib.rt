@@ -5,6 +5,7 @@
 mod check;
 mod cut;
 mod forms;
+mod held;
 pub mod laws;
 mod lines;
 mod map_text;

@@ -1,8 +1,8 @@
 //! Ranges of sections, and the first two that overlap.
 
-ghost use Rattle.std.specs.Prelude.{◌≡◌, ℕ, ◌+◌, ◌<◌, ◌≤◌, length, min, max, slice_index_or, IfOk, MatchOption};
+ghost use Rattle.std.specs.Prelude.{◌≡◌, ℕ, ◌+◌, ◌<◌, ◌≤◌, length, min, max, slice_index_or, true, IfOk, IfSome, MatchOption};
 ghost use Rattle.lk_map.specs.MapText.{LinesRise};
-ghost use Rattle.lk_map.specs.Spans.{counts_in_file, counts_in_memory, file_span, file_spans, memory_span, memory_spans, FindsOverlap, LinesRiseIn};
+ghost use Rattle.lk_map.specs.Spans.{counts_in_file, counts_in_memory, file_span, file_spans, memory_span, memory_spans, AreApart, FindsOverlap, LinesRiseIn};
 ghost use Rattle.lk_map.specs.Spans.{is_allocated as is_allocated_line};
 ghost use Rattle.lk_map.specs.Sorted.{NeighboursApart, StartsBelow};
 
@@ -109,6 +109,49 @@ fn first_overlap(spans: &mut [Span]) -> Option<(usize, usize)>
     Some((one.min(other), one.max(other)))
 }
 
+/// The end of a range that starts at another's end or behind it, if it has 64 bits.
+fn end_behind(end: u64, start: u64, size: u64) -> Option<u64>
+    ensures { IfSome result (λ e. (end ≤ start) × (e ≡ start + size)) }
+{
+    if start < end {
+        return None;
+    }
+    start.checked_add(size)
+}
+
+/// Whether each section that counts in memory ends there before the next one starts, in the order of their lines. So it mostly is, and
+/// then none overlaps another.
+fn follow_in_memory(sections: &[SectionLine]) -> bool
+    ensures { result ≡ true → AreApart (memory_spans sections.now) }
+{
+    let mut end = 0;
+    for section in sections {
+        if counts_in_memory_of(section) {
+            let Some(behind) = end_behind(end, section.mem_offset, section.mem_size) else {
+                return false;
+            };
+            end = behind;
+        }
+    }
+    true
+}
+
+/// Whether each that counts in the file ends there before the next one starts.
+fn follow_in_file(sections: &[SectionLine]) -> bool
+    ensures { result ≡ true → AreApart (file_spans sections.now) }
+{
+    let mut end = 0;
+    for section in sections {
+        if counts_in_file_of(section) {
+            let Some(behind) = end_behind(end, section.file_offset, section.file_size) else {
+                return false;
+            };
+            end = behind;
+        }
+    }
+    true
+}
+
 /// The lines of the first two sections that overlap in memory.
 pub fn overlap_in_memory(
     alloc: Global,
@@ -117,6 +160,9 @@ pub fn overlap_in_memory(
     requires { LinesRise sections.now }
     ensures { IfOk result (λ lines. FindsOverlap (memory_spans sections.now) lines) }
 {
+    if follow_in_memory(sections) {
+        return Ok(None);
+    }
     let mut spans = spans_in_memory(alloc, sections)?;
     Ok(first_overlap(spans.as_mut_slice()))
 }
@@ -129,6 +175,9 @@ pub fn overlap_in_file(
     requires { LinesRise sections.now }
     ensures { IfOk result (λ lines. FindsOverlap (file_spans sections.now) lines) }
 {
+    if follow_in_file(sections) {
+        return Ok(None);
+    }
     let mut spans = spans_in_file(alloc, sections)?;
     Ok(first_overlap(spans.as_mut_slice()))
 }

@@ -13,6 +13,7 @@ ghost use Rattle.lk_map.specs.declared.sweep.Open.{Open};
 ghost use Rattle.lk_map.specs.Sweep.{distance_of, end_of, need_of, needs_of, offer_of, open_cmp, open_of, lesser_line, HasBegun, HasHolder, HasLong, IsBest, IsLeast, IsSpent, LetsGo, NeedsRise, OffersRise, OpensUpTo};
 
 use crate::check::is_in_need;
+use crate::held::are_held_in_order;
 use crate::map_text::{SectionLine, SegmentLine};
 use std::alloc::{AllocError, Global};
 use std::collections::BinaryHeap;
@@ -244,6 +245,9 @@ pub fn unheld_line(
     requires apart { AreApart (file_spans sections.now) }
     ensures { IfOk result (λ line. line ≡ first_outside sections.now segments.now) }
 {
+    if are_held_in_order(sections, segments) {
+        return Ok(None);
+    }
     let mut needs = all_needs(alloc, sections)?;
     let mut offers = all_offers(alloc, segments)?;
     needs.sort_unstable();

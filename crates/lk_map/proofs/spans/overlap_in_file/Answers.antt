@@ -1,8 +1,12 @@
 use Rattle.std.proofs.Common.{refl, sym, ◌∙◌, subst}
-use Rattle.lk_map.specs.Spans.{counts_in_file, file_span, LinesRiseIn}
+use Rattle.lk_map.specs.Spans.{counts_in_file, file_span, FindsOverlap, LinesRiseIn}
 use Rattle.lk_map.proofs.Overlaps.{spans_rise}
 use Rattle.lk_map.proofs.spans.overlap_in_file.Goals as goal
 
 pub first_overlap-requires : goal.first_overlap-requires
 first_overlap-requires c =
     subst LinesRiseIn (sym (c.as_mut_slice.ensures.value ∙ c.in_ok-spans.ensures {u = tt})) (spans_rise counts_in_file file_span (λ s. refl) c.args.sections.now c.requires)
+
+pub returns-then-follow_in_file : goal.returns-then-follow_in_file
+unfolding FindsOverlap
+returns-then-follow_in_file c = c.follow_in_file.ensures c.if-follow_in_file.true
