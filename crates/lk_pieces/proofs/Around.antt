@@ -8,7 +8,7 @@ use Rattle.json.specs.Lex.{Place, fresh, tokens}
 use Rattle.json.specs.Json.{parse_map}
 use Rattle.serde_json.specs.Data.{Data, object, array, Items, Members, no_members, put}
 use Rattle.serde_json.specs.Read.{read}
-use Rattle.lk_pieces.specs.Around.{IsBut, HoldsAround, LeadsIn, Completes, OpensObject, ClosesObject, HoldsList}
+use Rattle.lk_pieces.specs.Around.{IsBut, LeadsIn, Completes, OpensObject, ClosesObject, ReadsEnds, HoldsList}
 use Rattle.lk_pieces.specs.Joining.{left_at}
 use Rattle.lk_pieces.specs.Pieces.{joined, AreHeld, AreLast}
 use Rattle.lk_pieces.specs.Reading.{AreRead, Give}
@@ -16,6 +16,7 @@ use Rattle.lk_pieces.specs.Tokens.{data_at, items_at, members_at}
 use Rattle.lk_pieces.proofs.Joined.{values_join, last_read, comma_utf8, joined_utf8}
 use Rattle.lk_pieces.proofs.Members.{but_put}
 use Rattle.lk_pieces.proofs.Reading.{items_read}
+use Rattle.lk_pieces.proofs.Shares.{held_both}
 use Rattle.lk_pieces.proofs.Texts.{read_whole}
 use Rattle.lk_pieces.proofs.Tokens.{data_at-array, data_at-object}
 
@@ -68,9 +69,24 @@ closes_object f key piece xs before now start us left text is items behind end =
 
 -- ---- what was answered
 
--- where the items between were read of these pieces, it is the list in the object that all pieces are
-pub around_held : {A E O : Type 0} (f : Data → Result A E) (members : O → Members) (key text first : List ℕ) (ps : List (List ℕ)) (last : List ℕ) (between : List A) (answer : Option (Vec A Global × O))
-    → text ≡ joined (first ∷ ps) last → AreHeld f 125 ps between → IfSome answer (λ r. HoldsAround f key first between last r.0.items (members r.1))
-    → IfSome answer (λ r. HoldsList f key text r.0.items (members r.1))
-around_held f members key text first ps last between None is held h = tt
-around_held f members key text first ps last between (Some r) is held h = subst (λ t. HoldsList f key t r.0.items (members r.1)) (sym is) (h ps held)
+-- all pieces but the last were read by one reader
+pub ends_read : {A E : Type 0} (f : Data → Result A E) (key first : List ℕ) (near : List (List ℕ)) (last : List ℕ) (opening ending all : List A) (others : Members)
+    → ReadsEnds f key first near last opening ending others → all ≡ opening ++ ending → HoldsList f key (joined (first ∷ near) last) all others
+ends_read f key first near last opening ending all others h e =
+    object_read f key (joined (first ∷ near) last) first near last h.0 others h.1 h.2 ending all refl h.4 h.5 h.6 (e ∙ ap (λ l. l ++ ending) h.3)
+
+-- other readers read those between
+pub beside_read : {A E : Type 0} (f : Data → Result A E) (key first : List ℕ) (near far : List (List ℕ)) (last : List ℕ) (opening between ending all : List A) (others : Members)
+    → ReadsEnds f key first near last opening ending others → AreHeld f 125 far between → all ≡ (opening ++ between) ++ ending → HoldsList f key (joined (first ∷ (near ++ far)) last) all others
+beside_read f key first near far last opening between ending all others h k e =
+    let xs = h.1 in
+    let ys = h.2 in
+    let same : opening ++ between ≡ xs ++ (ys ++ between) = ap (λ l. l ++ between) h.3 ∙ append_assoc xs ys between in
+    object_read f key (joined (first ∷ (near ++ far)) last) first (near ++ far) last h.0 others xs (ys ++ between) ending all refl h.4 (held_both f 125 near far ys between h.5 k) h.6
+    (e ∙ ap (λ l. l ++ ending) same)
+
+-- the text is that of all pieces
+pub text_holds : {A E O : Type 0} (f : Data → Result A E) (members : O → Members) (key text whole : List ℕ) (answer : Option (Vec A Global × O)) → text ≡ whole
+    → IfSome answer (λ r. HoldsList f key whole r.0.items (members r.1)) → IfSome answer (λ r. HoldsList f key text r.0.items (members r.1))
+text_holds f members key text whole None is h = tt
+text_holds f members key text whole (Some r) is h = subst (λ t. HoldsList f key t r.0.items (members r.1)) (sym is) h

@@ -14,7 +14,7 @@ take_both n m xs = sym (take-append-drop n (take (n + m) xs)) ∙ (λ i. take-ta
 -- ---- pieces that were read in shares
 
 module _ {A E : Type 0} (f : Data → Result A E) (depth : ℕ) where
-  held_both : (ps qs : List (List ℕ)) (xs ys : List A) → AreHeld f depth ps xs → AreHeld f depth qs ys → AreHeld f depth (ps ++ qs) (xs ++ ys)
+  pub held_both : (ps qs : List (List ℕ)) (xs ys : List A) → AreHeld f depth ps xs → AreHeld f depth qs ys → AreHeld f depth (ps ++ qs) (xs ++ ys)
   unfolding AreHeld
   held_both [] qs xs ys h k = subst (λ l. AreHeld f depth qs (l ++ ys)) (sym h) k
   held_both (p ∷ ps) qs xs ys h k = (h.0, h.1 ++ ys, ap (λ l. l ++ ys) h.2 ∙ append_assoc h.0 h.1 ys, h.3, held_both ps qs h.1 ys h.4 k)

@@ -44,6 +44,7 @@ abbrev pub HoldsList : {A E : Type 0} → (Data → Result A E) → List ℕ →
 HoldsList f key text xs others =
     IsUtf8 text × (ms : Members) × (read text ≡ Some (object ms)) × (ds : Items) × IsBut key (array ds) ms others × Give f ds xs
 
--- whatever pieces these items between the first and the last were read of, the text of all is such an object
-abbrev pub HoldsAround : {A E : Type 0} → (Data → Result A E) → List ℕ → List ℕ → List A → List ℕ → List A → Members → Type 0
-HoldsAround f key first between last xs others = (ps : List (List ℕ)) → AreHeld f 125 ps between → HoldsList f key (joined (first ∷ ps) last) xs others
+-- of the first piece, those behind it and the last, items and the other members were read
+abbrev pub ReadsEnds : {A E : Type 0} → (Data → Result A E) → List ℕ → List ℕ → List (List ℕ) → List ℕ → List A → List A → Members → Type 0
+ReadsEnds {A} f key first near last opening ending others =
+    (found : Members) × (xs ys : List A) × (opening ≡ xs ++ ys) × OpensObject f key first xs found × AreHeld f 125 near ys × ClosesObject f key last ending found others

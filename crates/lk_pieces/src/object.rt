@@ -1,9 +1,11 @@
 //! An object with a long list in it, read piece by piece.
 
-ghost use Rattle.std.specs.Prelude.{◌≡◌, ◌∷◌, IfSome};
+ghost use Rattle.std.specs.Prelude.{◌≡◌, ◌<◌, ◌≤◌, ◌∷◌, ◌++◌, IfSome};
+ghost use Rattle.std.specs.Thread.{IsSync};
 ghost use Rattle.json.specs.Token.{Token as SpecToken};
 ghost use Rattle.serde_json.specs.Data.{Members, no_members};
-ghost use Rattle.lk_pieces.specs.Around.{IsAdded, LeadsIn, Completes, OpensObject, ClosesObject, HoldsList, HoldsAround};
+ghost use Rattle.lk_pieces.specs.Around.{IsAdded, LeadsIn, Completes, OpensObject, ClosesObject, ReadsEnds, HoldsList};
+ghost use Rattle.lk_pieces.specs.Pieces.{joined, bytes_of, AreHeld};
 
 use crate::cuts::{Guess, cut};
 use crate::element::{Element, read_items, read_last_items};
@@ -11,7 +13,7 @@ use crate::pieces::read_in_turn;
 use crate::workers::read_by_workers;
 use json::{Reader, Scratch, Token};
 use std::alloc::Global;
-use std::thread::Threads;
+use std::thread::{Threads, join};
 
 /// How deep the members of the object may nest.
 const MEMBER_DEPTH: usize = 126;
@@ -129,23 +131,101 @@ fn read_back<T: Element, M: Others>(
     }
 }
 
-/// The items of the list at this key of an object of which these are the first piece and the last, with the items that were read of
-/// those between, and the object's other members.
-fn read_object<T: Element, M: Others>(
+/// What one reader gives of an object in pieces: the items of its first pieces and of its last one, and the other members.
+#[derive(Drop)]
+struct Ends<T, M> {
+    opening: Vec<T>,
+    ending: Vec<T>,
+    others: M,
+}
+
+/// What is read of the first piece, these behind it, and the last.
+fn read_ends<T: Element, M: Others>(
     alloc: Global,
     first: &[u8],
-    mut between: Vec<T>,
+    near: &[&[u8]],
     last: &[u8],
     key: &str,
-    scratch: &mut Scratch,
-) -> Option<(Vec<T>, M)>
-    ensures { IfSome result (λ r. HoldsAround T.described key.now first.now between.items last.now r.0.items (M.members r.1)) }
+) -> Option<Ends<T, M>>
+    ensures { IfSome result (λ ends. ReadsEnds T.described key.now first.now (bytes_of near.now) last.now ends.opening.items ends.ending.items (M.members ends.others)) }
 {
-    let (mut items, mut others) = read_front(alloc, first, key, scratch)?;
-    items.append(&mut between).ok()?;
-    let mut ending = read_back(alloc, last, key, &mut others, scratch)?;
+    let mut scratch = Scratch::new(alloc);
+    let (mut opening, mut others) = read_front(alloc, first, key, &mut scratch)?;
+    let mut more = read_in_turn(alloc, near, &mut scratch, ITEM_DEPTH)?;
+    opening.append(&mut more).ok()?;
+    let ending = read_back(alloc, last, key, &mut others, &mut scratch)?;
+    Some(Ends {
+        opening,
+        ending,
+        others,
+    })
+}
+
+/// The items and the other members of an object in these pieces, one after the other.
+fn read_alone<T: Element, M: Others>(
+    alloc: Global,
+    first: &[u8],
+    pieces: &[&[u8]],
+    last: &[u8],
+    key: &str,
+) -> Option<(Vec<T>, M)>
+    ensures { IfSome result (λ r. HoldsList T.described key.now (joined (first.now ∷ bytes_of pieces.now) last.now) r.0.items (M.members r.1)) }
+{
+    let ends = read_ends(alloc, first, pieces, last, key)?;
+    let Ends {
+        opening: mut items,
+        mut ending,
+        others,
+    } = ends;
     items.append(&mut ending).ok()?;
     Some((items, others))
+}
+
+/// The same, while so many other workers read the pieces between those and the last.
+fn read_beside<T: Element + Send, M: Others, R: Threads + Sync>(
+    rt: &R,
+    alloc: Global,
+    first: &[u8],
+    near: &[&[u8]],
+    far: &[&[u8]],
+    last: &[u8],
+    key: &str,
+    workers: usize,
+) -> Option<(Vec<T>, M)>
+    requires { 0 < workers }
+    ensures { IfSome result (λ r. HoldsList T.described key.now (joined (first.now ∷ (bytes_of near.now ++ bytes_of far.now)) last.now) r.0.items (M.members r.1)) }
+{
+    let (between, ends) = join(
+        rt,
+        || -> Option<Vec<T>>
+            requires { IsSync R.row × (0 < workers) }
+            ensures { IfSome result (λ items. AreHeld T.described 125 (bytes_of far.entry.now) items.items) }
+        { read_by_workers(rt, alloc, far, ITEM_DEPTH, workers) },
+        || -> Option<Ends<T, M>>
+            ensures { IfSome result (λ ends. ReadsEnds T.described key.entry.now first.entry.now (bytes_of near.entry.now) last.entry.now ends.opening.items ends.ending.items (M.members ends.others)) }
+        { read_ends(alloc, first, near, last, key) },
+    );
+    let ends = ends?;
+    let Ends {
+        opening: mut items,
+        mut ending,
+        others,
+    } = ends;
+    let mut between = between?;
+    items.append(&mut between).ok()?;
+    items.append(&mut ending).ok()?;
+    Some((items, others))
+}
+
+/// How many of so many pieces between the first and the last their reader reads too: with both it has as many as each other worker.
+fn near_count(pieces: usize, workers: usize) -> usize
+    ensures { result ≤ pieces }
+{
+    if workers < 2 {
+        return pieces;
+    }
+    let size = pieces.saturating_add(2) / workers;
+    size.saturating_sub(2).min(pieces)
 }
 
 /// The items of the list at this key of an object that is cut where this guesses, and its other members, with room for the unescaped
@@ -161,12 +241,11 @@ pub fn read_object_in_pieces<T: Element, M: Others, G: Guess>(
 {
     let (pieces, last) = cut(alloc, text, guess).ok()?;
     let (first, pieces) = pieces.as_slice().split_first()?;
-    let mut scratch = Scratch::new(alloc);
-    let between = read_in_turn(alloc, pieces, &mut scratch, ITEM_DEPTH)?;
-    read_object(alloc, first, between, last, key, &mut scratch)
+    read_alone(alloc, first, pieces, last, key)
 }
 
-/// The same, read by so many workers side by side, each on a thread of its own; none counts as one.
+/// The same, read by so many workers side by side, each on a thread of its own, of which the caller's is one; none counts as one, and no
+/// more are started than there are pieces for.
 pub fn read_object_by_workers<T: Element + Send, M: Others, G: Guess, R: Threads + Sync>(
     rt: &R,
     alloc: Global,
@@ -179,7 +258,10 @@ pub fn read_object_by_workers<T: Element + Send, M: Others, G: Guess, R: Threads
 {
     let (pieces, last) = cut(alloc, text, guess).ok()?;
     let (first, pieces) = pieces.as_slice().split_first()?;
-    let between = read_by_workers(rt, alloc, pieces, ITEM_DEPTH, workers.max(1))?;
-    let mut scratch = Scratch::new(alloc);
-    read_object(alloc, first, between, last, key, &mut scratch)
+    let (near, far) = pieces.split_at(near_count(pieces.len(), workers));
+    if far.is_empty() {
+        return read_alone(alloc, first, pieces, last, key);
+    }
+    let others = workers.saturating_sub(1).min(far.len()).max(1);
+    read_beside(rt, alloc, first, near, far, last, key, others)
 }
