@@ -32,6 +32,7 @@ file of it is held at a time. SHAPE says what the bytes go to:
     shortened code of which one relaxation in three is done, all in one pass
     stepwise  code in which each pass of relaxation lets one more of every section be done
     candidates  symbols at the start of one output section, and as many sections that each of them asks for
+    real      a link in the proportions of a large real one: 200 output sections, 53 sections and 150 symbols a file
     moves     output sections, up to the limit, each at a location of an expression of depth 50
     regions   output sections in 64 regions, each with a load address
     secondary output sections of which three in four are secondary
@@ -48,6 +49,7 @@ from forms import GROUPED, LINKED, TABLED, WHOLE
 from merges import MERGES, put_merges
 from named import NAMED, put_named
 from plans import PLANS, put_plans
+from real import put_real
 from relaxed import RELAXED, put_relaxed
 from thunked import THUNKED, put_thunked
 from ways import put_candidates, put_exports, put_ways
@@ -66,7 +68,7 @@ FORMS = {
 MOST_SECTIONS, FEW_SECTIONS = 50, 5
 MOST_GROUPS, BYTES_OF_SMALL_OBJECT = 60_000, 1_390
 WAYS = ("chain", "star")
-SHAPES = ("objects", "plan", "files", "single", *WAYS, "exports", "candidates", *MERGES, *NAMED, *THUNKED, *RELAXED, *FORMS, *PLANS)
+SHAPES = ("objects", "plan", "files", "single", "real", *WAYS, "exports", "candidates", *MERGES, *NAMED, *THUNKED, *RELAXED, *FORMS, *PLANS)
 
 # Share of the output sections, attributes, name, and alignments to choose from. The order is the
 # order in memory: within a segment nothing with file bytes follows a zero-filled section.
@@ -211,6 +213,9 @@ def generate(stream, total, seed, shape):
     if shape in FORMS:
         most = FEW_SECTIONS if shape == "scattered" else MOST_SECTIONS
         put_whole_link(writer, rng, total, files_of_group(total, shape), PAGE, BASE, FORMS[shape], most)
+        return
+    if shape == "real":
+        put_real(writer, rng, total, files_of_group(total, shape), PAGE, BASE)
         return
     if shape in WAYS:
         put_ways(writer, total, files_of_group(total, shape), PAGE, BASE, shape)

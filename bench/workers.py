@@ -8,7 +8,7 @@ import os
 import subprocess
 
 # What has many references, in groups of eight files, in one and in some 60,000; and what is merged.
-SHAPES = ("linked", "gathered", "scattered", "star", "grouped", "tabled", "tenth", "distinct", "equal", "one", "empty", "named")
+SHAPES = ("linked", "real", "gathered", "scattered", "star", "grouped", "tabled", "tenth", "distinct", "equal", "one", "empty", "named")
 WORKERS = (0, 2, 4)
 ROUNDS = 5
 MEGABYTES = 100
