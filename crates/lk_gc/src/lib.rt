@@ -1,11 +1,12 @@
-//! The traversal of a link by any number of workers, and what files and groups are in it. Gives on what `lk_live` and `lk_workers`
-//! offer, and of `lk_reach` and `lk_flags` what their calls are asked or answered with, so a caller needs this crate alone. The state
-//! of a group that a worker steps is called `WorkerState` here.
+//! The traversal of a link by any number of workers, and what files and groups are in it. Gives on the names of `lk_live` and those of
+//! `lk_workers`' traversal, and of `lk_reach` and `lk_flags` what their calls are asked or answered with; contracts on that name words
+//! of `lk_workers`. The state of a group that a worker steps is called `WorkerState` here.
 #![tactic(auto)]
 
 mod faults_by_groups;
 pub mod states;
 pub mod traversal;
+pub mod walkers;
 
 pub use lk_flags::{FlagPass, Reach};
 pub use lk_live::{

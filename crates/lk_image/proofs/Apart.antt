@@ -13,11 +13,11 @@ use Rattle.lk_sizes.specs.Owners.{Filling, ImageOwner, Owner, SectionOwner, owne
 use Rattle.lk_sizes.specs.PartOwners.{LiveSectionsAreOwners, owner_number, owners_of}
 use Rattle.lk_sizes.proofs.LiveByFiles.{number_of}
 use Rattle.lk_sizes.proofs.Placed.{size-le}
-use Rattle.lk_layout.specs.FileBytes.{HasFileByte, IsFileBacked, IsSoundInFile, LaidOutFileHasOneOwner, OwnersShareNoFileByte, file_place}
+use Rattle.lk_soundness.specs.FileBytes.{HasFileByte, IsFileBacked, IsSoundInFile, LaidOutFileHasOneOwner, OwnersShareNoFileByte, file_place}
 use Rattle.lk_layout.specs.LayoutRecord.{LayoutRecord}
 use Rattle.lk_layout.specs.Laws.{LaidOutLinksAreWellFormed}
 use Rattle.lk_layout.specs.Made.{Made, made_filling, made_of}
-use Rattle.lk_layout.specs.Sound.{IsSound, part_record}
+use Rattle.lk_soundness.specs.Sound.{IsSound, part_record}
 use Rattle.lk_image.specs.Contents.{content}
 use Rattle.lk_image.specs.Image.{merged_bytes, merged_stretch, merged_stretches, section_stretch, section_stretches, stretches}
 use Rattle.lk_image.specs.Laws.{ImagesAreMade}

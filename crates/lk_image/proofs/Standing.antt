@@ -36,11 +36,11 @@ use Rattle.lk_sizes.specs.PartOwners.{LiveSectionsAreOwners, owner_number, owner
 use Rattle.lk_sizes.proofs.Placed.{size-le}
 use Rattle.lk_resolutions.specs.Starts.{starts_of}
 use Rattle.lk_resolutions.proofs.Placing.{marked_in}
-use Rattle.lk_layout.specs.FileBytes.{IsFileBacked, IsSoundInFile, LaidOutFileHasOneOwner, StandsInside as OwnerStands, file_place}
+use Rattle.lk_soundness.specs.FileBytes.{IsFileBacked, IsSoundInFile, LaidOutFileHasOneOwner, StandsInside as OwnerStands, file_place}
 use Rattle.lk_layout.specs.LayoutRecord.{LayoutRecord}
 use Rattle.lk_layout.specs.Laws.{LaidOutLinksAreWellFormed}
 use Rattle.lk_layout.specs.Made.{Made, made_deletions, made_filling, made_of}
-use Rattle.lk_layout.specs.Sound.{IsSound, part_record}
+use Rattle.lk_soundness.specs.Sound.{IsSound, part_record}
 use Rattle.lk_image.specs.Contents.{data_of}
 use Rattle.lk_image.specs.Laid.{IsLayoutOf}
 use Rattle.lk_image.specs.Places.{image_length, is_backed_part, is_in_file, merged_file_part, merged_part, merged_place, section_place}

@@ -10,9 +10,9 @@ use Rattle.lk_link.specs.Parts.{first_part, part_sections}
 use Rattle.lk_link.specs.PlanSections.{is_file_backed, section_at}
 use Rattle.lk_expressions.specs.Records.{file_end}
 use Rattle.lk_merge.specs.Addresses.{image_start}
-use Rattle.lk_layout.specs.FileBytes.{file_place}
+use Rattle.lk_soundness.specs.FileBytes.{file_place}
 use Rattle.lk_layout.specs.LayoutRecord.{LayoutRecord}
-use Rattle.lk_layout.specs.Sound.{part_record}
+use Rattle.lk_soundness.specs.Sound.{part_record}
 
 -- the image ends where the last output section ends in the file
 unfoldable pub image_length : LayoutRecord → ℕ

@@ -12,7 +12,7 @@ use Rattle.lk_reach.specs.Units.{local_definition}
 use Rattle.lk_merge.specs.Addresses.{image_start}
 use Rattle.lk_merge.specs.declared.output_address.OffsetPastEnd.{OffsetPastEnd}
 use Rattle.lk_merge.specs.OutputAddresses.{merged_address, plus_addend}
-use Rattle.lk_resolutions.specs.Resolutions.{resolution_at}
+use Rattle.lk_resolution_list.specs.Lists.{resolution_at}
 use Rattle.lk_layout.specs.LayoutRecord.{LayoutRecord}
 
 -- the value of a symbol and an addend; a symbol without a resolution has the value 0

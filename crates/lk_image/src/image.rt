@@ -16,9 +16,10 @@ use crate::places::image_length;
 use crate::room::check_room;
 use crate::sections::write_sections;
 use lk_layout::Layout;
-use lk_layout::laws::{laid_out_file_has_one_owner, laid_out_links_are_well_formed};
+use lk_layout::laws::laid_out_links_are_well_formed;
 use lk_link::link::LinkInput;
 use lk_sizes::laws::live_sections_are_owners;
+use lk_soundness::laws::laid_out_file_has_one_owner;
 use std::alloc::{AllocError, Global};
 
 /// The bytes of the output file, as far as a layout tells them: live sections with what their absolute relocations write, and merged data;

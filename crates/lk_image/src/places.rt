@@ -4,7 +4,7 @@ ghost use Rattle.std.specs.Prelude.{◌≡◌, ◌^◌, ◌<◌, ◌==◌, IfSom
 ghost use Rattle.lk_link.specs.Walks.{input_of};
 ghost use Rattle.lk_link.specs.WellFormed.{IsWellFormed};
 ghost use Rattle.lk_expressions.specs.Records.{file_end, record_at};
-ghost use Rattle.lk_layout.specs.FileBytes.{file_place};
+ghost use Rattle.lk_soundness.specs.FileBytes.{file_place};
 ghost use Rattle.lk_image.specs.Places.{image_length, is_backed_part, is_in_file, merged_file_part, merged_part, merged_place, section_place};
 
 use lk_expressions::OutputRecordLayout;

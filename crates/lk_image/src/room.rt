@@ -3,7 +3,7 @@
 ghost use Rattle.std.specs.Prelude.{◌≡◌, ◌+◌, nat_lt};
 ghost use Rattle.lk_link.specs.Walks.{input_of};
 ghost use Rattle.lk_link.specs.WellFormed.{IsWellFormed};
-ghost use Rattle.lk_resolutions.specs.OutsideWords.{StopsAtFirst};
+ghost use Rattle.lk_stops.specs.Stops.{StopsAtFirst};
 ghost use Rattle.lk_image.specs.Refusals.{relocation_refusals, room_refusals, room_refusals_in};
 
 use crate::contents::is_absolute;

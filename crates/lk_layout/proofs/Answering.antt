@@ -35,7 +35,7 @@ use Rattle.lk_sizes.specs.declared.sorted.InputSortedSection.{InputSortedSection
 use Rattle.lk_sizes.specs.Emitted.{active_segments, is_emitted}
 use Rattle.lk_tables.specs.declared.header_info.HeaderInfo.{HeaderInfo}
 use Rattle.lk_tables.specs.declared.partial_link.PartialLinkPlan.{PartialLinkPlan}
-use Rattle.lk_layout.specs.declared.group_starts.GroupStarts.{GroupStarts}
+use Rattle.lk_group_starts.specs.declared.group_starts.GroupStarts.{GroupStarts}
 use Rattle.lk_layout.specs.Made.{Made, made_content}
 use Rattle.lk_layout.specs.Redirects.{made_redirected, redirects_refusal, refused_by}
 use Rattle.lk_layout.specs.Stages.{Reaches}

@@ -1,51 +1,13 @@
-mod Answering
-mod Branching
-mod BySymbol
-mod CanMoves
-mod CandidatesNear
-mod CommonsStand
+pub mod Answering
+pub mod CanMoves
 mod DynsymStart
-mod Ending
-mod EntriesStand
-mod FewHeaders
-mod FileOwners
-mod FileSections
-mod Fitting
-mod GroupsBegin
-mod HeldParts
-mod ImagesShow
-mod LaidOut
+pub mod HeldParts
+pub mod LaidOut
 mod LateMarks
-mod MemoryStays
 mod MovedEnds
-mod Moving
-mod NamedSymbols
-mod NumbersStand
-mod OneAnswer
-mod OnlyScanned
-mod Oversized
-mod OwnSymbols
-mod PartStarts
-mod PlacedSites
-mod PlacingRefused
-mod Querying
-mod Reaching
-mod Redirecting
-mod ReferencesShow
-mod Resolved
-mod Resolving
-mod SameMemory
-mod Settings
-mod SinglesBehind
-mod SortedLast
-mod SortedTold
-mod Soundness
-mod Starting
-mod TablesAlone
-mod TargetPlaces
-mod ThunkAddresses
-mod ThunksTold
+pub mod Moving
+pub mod OneAnswer
+pub mod PlacedSites
+pub mod SameMemory
+pub mod Settings
 mod UsersFound
-mod ToldSizes
-mod Valued
-mod Valuing

@@ -29,7 +29,7 @@ use Rattle.lk_relax.specs.Stages.{IsRelaxed, Stage, refusal_of, standing_at}
 use Rattle.lk_layout.specs.declared.error.LayoutError.{LayoutError}
 use Rattle.lk_layout.specs.declared.error.LayoutError.TheVariants.{NoMemory, References}
 use Rattle.lk_layout.specs.DynsymStart.{dynsym_start}
-use Rattle.lk_layout.specs.GroupStarts.{group_starts}
+use Rattle.lk_group_starts.specs.GroupStarts.{group_starts}
 use Rattle.lk_layout.specs.LayoutRecord.{LayoutRecord}
 use Rattle.lk_layout.specs.Flags.{made_flags}
 use Rattle.lk_layout.specs.Errors.{branch_error, fault_error, offset_error, place_error, site_error, size_error}

@@ -9,7 +9,7 @@ use Rattle.lk_merge.specs.Pieces.{MergeInput}
 use Rattle.lk_place.specs.declared.segments.SegmentLayout.{SegmentLayout}
 use Rattle.lk_deltas.specs.LinkDeletions.{Deletions}
 use Rattle.lk_sizes.specs.declared.sorted.InputSortedSection.{InputSortedSection}
-use Rattle.lk_layout.specs.declared.group_starts.GroupStarts.{GroupStarts}
+use Rattle.lk_group_starts.specs.declared.group_starts.GroupStarts.{GroupStarts}
 use Rattle.lk_tables.specs.declared.header_info.HeaderInfo.{HeaderInfo}
 use Rattle.lk_tables.specs.declared.partial_link.PartialLinkPlan.{PartialLinkPlan}
 

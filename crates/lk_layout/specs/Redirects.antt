@@ -14,9 +14,10 @@ use Rattle.lk_layout.specs.Errors.{place_error}
 use Rattle.lk_layout.specs.Headers.{header_bytes}
 use Rattle.lk_layout.specs.Made.{Made, made_deletions, made_filling}
 use Rattle.lk_layout.specs.Spans.{made_joined, made_sections, made_segments}
-use Rattle.lk_resolutions.specs.Resolutions.{resolution_at, symbol_resolutions}
+use Rattle.lk_resolutions.specs.Resolutions.{symbol_resolutions}
+use Rattle.lk_resolution_list.specs.Lists.{resolution_at}
 use Rattle.lk_resolutions.specs.Starts.{starts_of}
-use Rattle.lk_resolutions.specs.Stores.{resolution_store}
+use Rattle.lk_resolution_list.specs.Stores.{resolution_store}
 
 -- what the linker's own symbols stand at
 abbrev pub made_edges : Made → Edges

@@ -40,7 +40,7 @@ use Rattle.lk_layout.specs.declared.stages.SizedLink.{SizedLink}
 use Rattle.lk_layout.specs.declared.stages.SpannedLink.{SpannedLink}
 use Rattle.lk_layout.specs.declared.stages.ToldLink.{ToldLink}
 use Rattle.lk_layout.specs.Defined.{Gives, joining_refusal, made_joined, is_memory, made_segments, made_standing, segment_refusal, sites_refusal}
-use Rattle.lk_layout.specs.GroupStarts.{group_starts}
+use Rattle.lk_group_starts.specs.GroupStarts.{group_starts}
 use Rattle.lk_layout.specs.Made.{Made, filling_for, made_filling, made_of, relaxing_for}
 use Rattle.lk_layout.specs.Thunks.{made_branching, made_owners, made_places}
 use Rattle.lk_layout.specs.Merging.{merging_refusal}

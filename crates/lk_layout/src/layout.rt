@@ -2,18 +2,21 @@
 
 ghost use Rattle.std.specs.Prelude.{◌≡◌, ◌-◌, ◌^◌, None, length, map, min, option_map, sum_by};
 ghost use Rattle.std.specs.List.{slice_index_or};
+ghost use Rattle.lk_link.specs.WellFormed.{IsWellFormed};
 ghost use Rattle.lk_layout.specs.Layouts.{resolved_entry, thunk_address, thunk_count};
+ghost use Rattle.lk_layout.specs.ThunkUsers.{block_for, owns_block};
 
-use crate::group_starts::GroupStarts;
 use crate::thunk_users::ThunkUsers;
 use lk_deltas::RelaxDeltaMap;
+use lk_group_starts::GroupStarts;
 use lk_link::ValueFlags;
 use lk_link::ids::{FileId, SymbolId};
 use lk_link::link::LinkInput;
 use lk_link::list::List;
 use lk_merge::{MergedStringStartAddresses, MergedStringsSection};
 use lk_place::{OutputRecordLayout, SegmentLayout};
-use lk_resolutions::{EntryFault, SymbolResolutions, entry_value};
+use lk_resolution_list::SymbolResolutions;
+use lk_resolutions::{EntryFault, entry_value};
 use lk_sizes::{HeaderInfo, InputSortedSection, PartialLinkPlan};
 use lk_thunks::{ThunkBlock, ThunkBlockId};
 use std::marker::Model;
@@ -92,9 +95,10 @@ impl<'data> Model for Layout<'data> {
 }
 
 impl<'data> Layout<'data> {
-    /// The link that is laid out.
+    /// The link that is laid out, which is well formed.
     pub fn link(&self) -> &'data LinkInput
-        ensures { result.now ≡ self.now.link }
+        ensures link { result.now ≡ self.now.link }
+        ensures good { IsWellFormed self.now.link }
     {
         self.link
     }
@@ -198,6 +202,13 @@ impl<'data> Layout<'data> {
         &self.symbol_resolutions
     }
 
+    /// Of each symbol, by number, its own flags, late marks included.
+    pub fn flags(&self) -> &[ValueFlags]
+        ensures { result.now ≡ self.now.flags }
+    {
+        self.flags.as_slice()
+    }
+
     /// The symbol that stands for the one where the program starts; none where the options name none.
     pub fn entry_symbol_id(&self) -> Option<SymbolId>
         ensures { result ≡ self.now.entry_symbol_id }
@@ -259,6 +270,13 @@ impl<'data> Layout<'data> {
         self.thunk_users.as_slice()
     }
 
+    /// The block of a file's thunks, and whether it owns that; `ThunkBlockId::FIRST` and no, where it needs none. Takes logarithmic time.
+    pub fn thunk_block_for(&self, id: FileId) -> (ThunkBlockId, bool)
+        ensures { result ≡ (block_for self.now.thunk_users id, owns_block self.now.thunk_users id) }
+    {
+        self.thunk_users.block_for(id)
+    }
+
     /// The bytes of a thunk; 0 where the architecture makes none.
     pub fn thunk_size(&self) -> u64
         ensures { result ≡ self.now.thunk_size }
@@ -267,10 +285,17 @@ impl<'data> Layout<'data> {
     }
 
     /// Where each group begins in the tables of symbols, and behind all of them that of the epilogue.
-    pub(crate) fn group_starts(&self) -> &GroupStarts
+    pub fn group_starts(&self) -> &GroupStarts
         ensures { result.now ≡ self.now.group_starts }
     {
         &self.group_starts
+    }
+
+    /// How many entries of the dynamic symbol table stand before the exports; 0 where no dynamic linker loads the output.
+    pub fn dynsym_start_index(&self) -> u32
+        ensures { result ≡ self.now.dynsym_start_index }
+    {
+        self.dynsym_start_index
     }
 
     /// The thunks of all blocks together; a sum past 2^64 - 1 is given as that.

@@ -7,11 +7,11 @@ ghost use Rattle.lk_layout.specs.Machines.{Machine};
 ghost use Rattle.lk_thunk_plan.specs.ThunkPlans.{thunk_size};
 ghost use Rattle.lk_layout.specs.Stages.{IsToldLink, made_told};
 
-use crate::group_starts::GroupStarts;
 use crate::late_marks::with_late_marks;
 use crate::layout::Layout;
 use crate::thunk_users::ThunkUsers;
 use lk_deltas::RelaxDeltaMap;
+use lk_group_starts::GroupStarts;
 use lk_link::ids::FileId;
 use lk_link::link::LinkInput;
 use lk_link::list::List;
@@ -25,66 +25,66 @@ use lk_thunks::ThunkConfig;
 
 /// A link that is merged, with what is live of it.
 #[derive(Drop)]
-pub(crate) struct KeptLink<'data> {
-    pub(crate) images: Images<'data>,
-    pub(crate) live: Live,
+pub struct KeptLink<'data> {
+    pub images: Images<'data>,
+    pub live: Live,
 }
 
 /// The same, with what comes into each part, what the headers tell, and the plan of the thunks among that.
 #[derive(Drop)]
-pub(crate) struct SizedLink<'data> {
-    pub(crate) kept: KeptLink<'data>,
-    pub(crate) owners: PartOwners,
-    pub(crate) thunks: ThunkPlan,
+pub struct SizedLink<'data> {
+    pub kept: KeptLink<'data>,
+    pub owners: PartOwners,
+    pub thunks: ThunkPlan,
 }
 
 /// The same behind relaxation, with what is deleted of its sections, by file and index, and where its parts and sections stand.
 #[derive(Drop)]
-pub(crate) struct PlacedLink<'data> {
-    pub(crate) kept: KeptLink<'data>,
-    pub(crate) thunks: ThunkPlan,
+pub struct PlacedLink<'data> {
+    pub kept: KeptLink<'data>,
+    pub thunks: ThunkPlan,
     /// What comes into each part by what is deleted.
-    pub(crate) owners: PartOwners,
-    pub(crate) deltas: List<RelaxDeltaMap>,
-    pub(crate) records: Placed,
+    pub owners: PartOwners,
+    pub deltas: List<RelaxDeltaMap>,
+    pub records: Placed,
 }
 
 /// The same, with what its output sections span together with their secondaries, and its segments.
 #[derive(Drop)]
-pub(crate) struct SpannedLink<'data> {
-    pub(crate) placed: PlacedLink<'data>,
-    pub(crate) joined: List<OutputRecordLayout>,
-    pub(crate) segments: SegmentLayouts,
+pub struct SpannedLink<'data> {
+    pub placed: PlacedLink<'data>,
+    pub joined: List<OutputRecordLayout>,
+    pub segments: SegmentLayouts,
 }
 
 /// The same, with the addresses of what stands in its parts, and what symbols stand for.
 #[derive(Drop)]
-pub(crate) struct AddressedLink<'data> {
-    pub(crate) spanned: SpannedLink<'data>,
-    pub(crate) addresses: Addresses,
+pub struct AddressedLink<'data> {
+    pub spanned: SpannedLink<'data>,
+    pub addresses: Addresses,
 }
 
 /// The same, with where the thunks of each block begin; all branches reach.
 #[derive(Drop)]
-pub(crate) struct ReachingLink<'data> {
-    pub(crate) addressed: AddressedLink<'data>,
-    pub(crate) places: List<Option<u64>>,
+pub struct ReachingLink<'data> {
+    pub addressed: AddressedLink<'data>,
+    pub places: List<Option<u64>>,
 }
 
 /// The same, with the attributes of its output sections, what is known of output that is linked again, the owners of blocks, and where
 /// its groups begin in the tables of symbols.
 #[derive(Drop)]
-pub(crate) struct ToldLink<'data> {
-    pub(crate) reaching: ReachingLink<'data>,
-    pub(crate) attributes: List<u32>,
-    pub(crate) partial_link: Option<PartialLinkPlan>,
-    pub(crate) block_owners: List<Option<FileId>>,
-    pub(crate) group_starts: GroupStarts,
+pub struct ToldLink<'data> {
+    pub reaching: ReachingLink<'data>,
+    pub attributes: List<u32>,
+    pub partial_link: Option<PartialLinkPlan>,
+    pub block_owners: List<Option<FileId>>,
+    pub group_starts: GroupStarts,
 }
 
 impl<'data> ToldLink<'data> {
     /// The layout that these make together. By a law no two parts share a byte of the file, so that each section takes what its parts take.
-    pub(crate) fn into_layout(self, link: &'data LinkInput) -> Layout<'data>
+    pub fn into_layout(self, link: &'data LinkInput) -> Layout<'data>
         requires told { (machine : Machine) × IsToldLink machine link.now self }
         ensures { (machine : Machine) (is : IsToldLink machine link.now self.entry) → result ≡ layout_of (made_told is) }
     {

@@ -1,9 +1,11 @@
 //! Layouts whose sections are moved in the file, and what is told of groups and files.
 
 use crate::rows::{Asked, expect_rows};
-use lk_layout::files::ObjectLayout;
-use lk_layout::section_resolution::SectionResolutions;
-use lk_layout::{FileLayout, GroupLayout, Layout, LayoutError, Small64Arch, compute_alone};
+use lk_answers::files::ObjectLayout;
+use lk_answers::section_resolution::SectionResolutions;
+use lk_answers::{Answers, FileLayout, GroupLayout};
+use lk_compute::compute_alone;
+use lk_layout::{Layout, LayoutError, Small64Arch};
 use lk_link::ids::OutputSectionId;
 use lk_link::{LinkInput, Small64};
 use lk_place::{OutputRecordLayout, SegmentFileLayout};

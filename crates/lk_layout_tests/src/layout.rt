@@ -4,7 +4,8 @@ ghost use Rattle.std.specs.Prelude.{◌≡◌, ◌≤◌, true};
 
 use crate::rows::{Asked, expect_rows};
 use lk_check::check_link;
-use lk_layout::{Layout, LayoutError, Small64Arch, compute};
+use lk_compute::compute;
+use lk_layout::{Layout, LayoutError, Small64Arch};
 use lk_link::{Gate, LinkInput, NoGate, Small64};
 use lk_report::report_text_by_workers;
 use lk_test_rows::add;

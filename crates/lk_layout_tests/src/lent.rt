@@ -8,8 +8,10 @@
 //! told of the linker's own file and of the entry.
 
 use crate::rows::{Asked, expect_rows};
-use lk_layout::files::ObjectLayout;
-use lk_layout::{FileLayout, Layout, LayoutError, SectionResolution, Small64Arch, compute_alone};
+use lk_answers::files::ObjectLayout;
+use lk_answers::{Answers, FileLayout, SectionResolution};
+use lk_compute::compute_alone;
+use lk_layout::{Layout, LayoutError, Small64Arch};
 use lk_link::{LinkInput, Small64};
 use lk_test_rows::add;
 use std::alloc::{AllocError, Global};

@@ -7,8 +7,10 @@
 //! the definition, and the same as an interposable one; and then what the range has.
 
 use crate::rows::{Asked, expect_rows};
+use lk_answers::Answers;
+use lk_compute::compute_alone;
 use lk_input::read_link;
-use lk_layout::{Layout, LayoutError, Resolution, Small64Arch, compute_alone};
+use lk_layout::{Layout, LayoutError, Resolution, Small64Arch};
 use lk_link::{LinkInput, OutputSectionId, Small64, SymbolId, SymbolIdRange, ValueFlags};
 use lk_test_rows::add;
 use std::alloc::{AllocError, Global};

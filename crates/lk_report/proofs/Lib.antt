@@ -1,4 +1,3 @@
-pub mod Digits
 pub mod Lines
 pub mod LiveLines
 pub mod PieceLines

@@ -1,4 +1,3 @@
-pub mod FaultText
 pub mod LiveLines
 pub mod MergedLines
 pub mod Report

@@ -2,7 +2,7 @@
 use Rattle.std.specs.Prelude.{ℕ, suc, ◌+◌, ◌%◌, ◌^◌, ◌==◌, ◌&&◌, ◌||◌, not, nat_lt, Bool, false, if◌then◌else◌, List, [], ◌∷◌, ◌++◌, Option, Some}
 use Rattle.std.specs.Prelude.{None, Result, Ok, Err, codes, length, slice_get, slice_range}
 use Rattle.std.specs.List.{concat, flat_map, list_any}
-use Rattle.std.specs.Fmt.{decimal, digits}
+use Rattle.std.specs.Fmt.{decimal}
 use Rattle.lk_link.specs.declared.ids.FileId.{FileId}
 use Rattle.lk_link.specs.declared.link.LinkInput.{LinkInput}
 use Rattle.lk_link.specs.declared.plan.PlanSection.{PlanSection}
@@ -11,6 +11,7 @@ use Rattle.lk_link.specs.Marks.{is_marked}
 use Rattle.lk_link.specs.Parts.{first_part}
 use Rattle.lk_link.specs.Texts.{joined}
 use Rattle.lk_layout.specs.LayoutRecord.{LayoutRecord}
+use Rattle.lk_line.specs.Hexadecimal.{hexadecimal}
 use Rattle.lk_resolutions.specs.declared.resolution.EntryFault.{EntryFault}
 use Rattle.lk_resolutions.specs.declared.resolution.EntryFault.TheVariants.{NotAnAddress, NotLoaded}
 use Rattle.lk_link.specs.declared.resolution.Resolution.{Resolution}
@@ -24,10 +25,6 @@ use Rattle.lk_place.specs.declared.segments.SegmentLayout.{SegmentLayout}
 use Rattle.lk_expressions.specs.Records.{Record}
 
 -- ---- pieces of a line
-
--- a number behind `0x`
-abbrev pub hexadecimal : ℕ → List ℕ
-hexadecimal n = digits 16 false n
 
 -- an address behind `0x`, or `-` where there is none
 abbrev pub address_text : Option ℕ → List ℕ

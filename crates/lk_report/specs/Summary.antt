@@ -7,7 +7,7 @@ use Rattle.lk_link.specs.Texts.{joined}
 use Rattle.lk_merge.specs.Hash.{fnv64}
 use Rattle.lk_merge.specs.Image.{all_pieces, image}
 use Rattle.lk_merge.specs.Pieces.{MergeInput}
-use Rattle.lk_report.specs.Report.{hexadecimal}
+use Rattle.lk_line.specs.Hexadecimal.{hexadecimal}
 use Rattle.lk_report.specs.declared.summary.TheConstants.{STRINGS_SECTION}
 
 abbrev pub is_live : Bool → Bool

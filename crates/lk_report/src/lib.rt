@@ -1,8 +1,6 @@
-//! What is told of layouts: the report, line kind by line kind, the line of a generated link's layout, and the texts of refusals.
+//! What is told of layouts: the report, line kind by line kind, and the line of a generated link's layout.
 #![tactic(auto)]
 
-pub mod fault_texts;
-mod line;
 mod live_sections;
 mod merged;
 pub mod report;
@@ -11,6 +9,5 @@ pub mod summary;
 mod symbols;
 mod thunks;
 
-pub use fault_texts::{fault_text, input_fault_text};
 pub use report::{report_text, report_text_by_workers};
 pub use summary::summary_text;

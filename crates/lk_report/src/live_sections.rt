@@ -11,9 +11,9 @@ ghost use Rattle.lk_sizes.specs.Tables.{IsInput};
 ghost use Rattle.lk_report.specs.LiveLines.{file_lines, group_lines};
 ghost use Rattle.lk_report.specs.Report.{input_text, live_line, live_lines, told_at};
 
-use crate::line::Line;
 use lk_deltas::{RelaxDeltaMap, deleted_of, opt_input_to_output};
 use lk_layout::Layout;
+use lk_line::Line;
 use lk_link::link::LinkInput;
 use lk_link::marks::is_marked;
 use lk_link::text::Text;

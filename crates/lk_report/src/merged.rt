@@ -7,7 +7,7 @@ ghost use Rattle.lk_merge.specs.Image.{all_pieces};
 ghost use Rattle.lk_report.specs.MergedLines.{behind_all, lines_from};
 ghost use Rattle.lk_report.specs.Report.{bytes_behind, merged_line, merged_text, merged_lines, merged_report, piece_line, piece_lines, all_piece_lines};
 
-use crate::line::Line;
+use lk_line::Line;
 use lk_merge::laws::image_is_distinct;
 use lk_merge::{MergeString, MergedStringStartAddresses, MergedStringsSection};
 use std::alloc::AllocError;

@@ -7,8 +7,8 @@ ghost use Rattle.lk_link.specs.Walks.{input_of};
 ghost use Rattle.lk_link.specs.WellFormed.{IsWellFormed};
 ghost use Rattle.lk_report.specs.Report.{index_behind, single_line, single_lines, single_text};
 
-use crate::line::Line;
 use lk_layout::Layout;
+use lk_line::Line;
 use lk_link::InputRef;
 use lk_link::link::LinkInput;
 use lk_link::marks::is_marked;

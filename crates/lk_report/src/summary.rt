@@ -3,8 +3,8 @@
 ghost use Rattle.std.specs.Prelude.{◌≡◌, ◌≤◌, string_bytes, IfOk};
 ghost use Rattle.lk_report.specs.Summary.{greatest_end, live_count, merged_length, summary};
 
-use crate::line::Line;
 use lk_layout::Layout;
+use lk_line::Line;
 use lk_place::OutputRecordLayout;
 use std::alloc::{AllocError, Global};
 

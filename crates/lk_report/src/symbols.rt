@@ -1,13 +1,13 @@
 //! The lines of the report on symbols: one after the other, or by workers, each of which makes those of symbols that follow each other.
 
 ghost use Rattle.std.specs.Prelude.{◌≡◌, ◌+◌, ◌<◌, ◌≤◌, ◌++◌, string_bytes, length, vec_len, IfOk};
-ghost use Rattle.lk_report.specs.declared.line.TheConstants.{ROOM};
+ghost use Rattle.lk_line.specs.declared.line.TheConstants.{ROOM};
 ghost use Rattle.lk_report.specs.Report.{address_text, index_text, symbol_line, symbol_lines, symbol_text};
 ghost use Rattle.lk_report.specs.SymbolParts.{AreMade, IsMade, lines_from, part_start};
 
-use crate::line::{Line, ROOM};
-use lk_layout::SymbolResolutions;
+use lk_line::{Line, ROOM};
 use lk_link::Resolution;
+use lk_resolution_list::SymbolResolutions;
 use std::alloc::{AllocError, Global};
 use std::thread::{Threads, map_indices};
 

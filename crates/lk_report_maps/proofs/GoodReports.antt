@@ -23,10 +23,11 @@ use Rattle.lk_relax.specs.Stages.{Stage, filling_after, setting_after}
 use Rattle.lk_resolutions.proofs.PartCounts.{length-by_part}
 use Rattle.lk_layout.specs.Defined.{layout_of}
 use Rattle.lk_layout.specs.LayoutRecord.{LayoutRecord}
-use Rattle.lk_layout.specs.Laws.{DefinedLayoutsAreSound, LaidOutLinksAreWellFormed}
+use Rattle.lk_layout.specs.Laws.{LaidOutLinksAreWellFormed}
+use Rattle.lk_soundness.specs.Laws.{DefinedLayoutsAreSound}
 use Rattle.lk_layout.specs.Machines.{IsLawfulMachine, Machine}
 use Rattle.lk_layout.specs.Made.{Made, made_content, made_of, relaxing_for}
-use Rattle.lk_layout.specs.Sound.{PlacementStands}
+use Rattle.lk_soundness.specs.Sound.{PlacementStands}
 use Rattle.lk_map.specs.Good.{IsGood}
 use Rattle.lk_report_maps.specs.GoodReports.{IsCovered, PlainReportsAreGood}
 use Rattle.lk_report_maps.specs.Laws.{first_segment_line, map_sections, map_segments}

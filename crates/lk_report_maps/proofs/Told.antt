@@ -32,7 +32,8 @@ use Rattle.lk_layout.specs.LayoutRecord.{LayoutRecord}
 use Rattle.lk_layout.specs.Layouts.{emitted_count, resolved_entry, thunk_address, told_live, told_singletons}
 use Rattle.lk_resolutions.specs.declared.resolution.EntryFault.{EntryFault}
 use Rattle.lk_resolutions.specs.declared.resolution.EntryFault.TheVariants.{NotAnAddress, NotLoaded}
-use Rattle.lk_report.specs.Report.{address_text, all_piece_lines, block_line, block_lines, block_text, block_thunks, bytes_behind, each, entry_line, hexadecimal, index_text, laid_out_text, live_line, live_lines, merged_line, merged_lines, merged_text, part_line, part_lines, part_text, piece_line, piece_lines, range_text, report, section_line, section_lines, section_part_lines, section_text, segment_line, segment_lines, single_line, single_lines, symbol_line, symbol_lines, symbol_text, takes_memory, thunk_line, thunk_lines, told_lines as told_part_lines}
+use Rattle.lk_line.specs.Hexadecimal.{hexadecimal}
+use Rattle.lk_report.specs.Report.{address_text, all_piece_lines, block_line, block_lines, block_text, block_thunks, bytes_behind, each, entry_line, index_text, laid_out_text, live_line, live_lines, merged_line, merged_lines, merged_text, part_line, part_lines, part_text, piece_line, piece_lines, range_text, report, section_line, section_lines, section_part_lines, section_text, segment_line, segment_lines, single_line, single_lines, symbol_line, symbol_lines, symbol_text, takes_memory, thunk_line, thunk_lines, told_lines as told_part_lines}
 use Rattle.lk_report_maps.specs.ToldLines.{all_parts_say, all_sections_say, AreShort, block_says, block_thunks_say, block_told, each_line, entry_told, inner_lines, laid_out_says, live_told, merged_says, merged_told, part_says, part_told, pieces_say, piece_told, range_values, section_parts_say, section_says, section_told, segment_told, single_told, symbol_says, symbol_told, thunk_told, told_lines, told_parts_say}
 use Rattle.lk_report_maps.specs.Laws.{ReportsAreMaps}
 

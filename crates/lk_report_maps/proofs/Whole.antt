@@ -9,7 +9,7 @@ use Rattle.lk_sizes.specs.Attributes.{section_attributes}
 use Rattle.lk_sizes.specs.Emitted.{output_index}
 use Rattle.lk_layout.specs.Defined.{IsDefined}
 use Rattle.lk_layout.specs.LayoutRecord.{LayoutRecord}
-use Rattle.lk_layout.specs.Laws.{DefinedLayoutsAreSound}
+use Rattle.lk_soundness.specs.Laws.{DefinedLayoutsAreSound}
 use Rattle.lk_layout.specs.Machines.{IsLawfulMachine, Machine}
 use Rattle.lk_layout.specs.Made.{made_filling, made_of}
 use Rattle.lk_report_maps.specs.Laws.{DefinedLayoutsAreWhole, DefinedReportsAreRead, IsWhole, ReportsAreRead}

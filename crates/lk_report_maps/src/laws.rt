@@ -3,13 +3,14 @@
 ghost use Rattle.lk_report_maps.specs.GoodReports.{PlainReportsAreGood};
 ghost use Rattle.lk_report_maps.specs.Laws.{DefinedLayoutsAreWhole, DefinedReportsAreRead, ReportsAreMaps, ReportsAreRead};
 
-use lk_layout::laws::{defined_layouts_are_sound, laid_out_links_are_well_formed};
+use lk_layout::laws::laid_out_links_are_well_formed;
 use lk_map::laws::reads_maps;
 use lk_place::section_ranges::{
     file_sections_are_apart, plain_memory_sections_are_apart, sections_fit,
 };
 use lk_place::segment_hulls::{plain_segments_hold_sections, segments_fit};
 use lk_relax::laws::relaxed_stands;
+use lk_soundness::laws::defined_layouts_are_sound;
 
 /// A law: a report whose numbers are below 2^64 is the map of what it says, line by line.
 pub fn reports_are_maps()

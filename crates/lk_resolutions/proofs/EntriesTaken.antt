@@ -44,7 +44,7 @@ use Rattle.lk_resolutions.specs.declared.entries.NextEntries.{NextEntries}
 use Rattle.lk_resolutions.specs.Entries.{EntrySetting, entry_in, entry_setting, got_table, plt_table, told_flags, with_entries}
 use Rattle.lk_resolutions.specs.EntryWords.{AreNextAt, IsCursor, TableFits, TablesFit, cursor_behind, cursors_behind, first_cursors, made_at, start_of, unplaced_resolution}
 use Rattle.lk_resolutions.specs.Resolutions.{Places, has_resolutions, placed_value, resolution_of, value_of}
-use Rattle.lk_resolutions.specs.Stores.{valued}
+use Rattle.lk_resolution_list.specs.Stores.{valued}
 use Rattle.lk_resolutions.proofs.NothingAsked.{none_among, nothing_allocated}
 
 -- ---- flags

@@ -1,7 +1,5 @@
-mod Keeping
 mod NothingAsked
 mod NothingMerged
-pub mod Stopping
 pub mod CommonsFound
 pub mod EntriesTaken
 pub mod GroupJoining
@@ -9,4 +7,3 @@ pub mod Imaging
 pub mod PartCounts
 pub mod Placing
 pub mod Pushing
-pub mod ValuesSet

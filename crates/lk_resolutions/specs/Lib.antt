@@ -4,13 +4,9 @@ pub mod Entries
 pub mod EntryWords
 pub mod Found
 pub mod Images
-pub mod Kept
 pub mod OutputContent
 pub mod Outside
-pub mod OutsideWords
 pub mod Resolutions
 pub mod Starts
-pub mod StoreLaws
-pub mod Stores
 pub mod Tables
 pub mod Texts

@@ -1,7 +1,7 @@
 -- The values of symbols, and the entry.
 use Rattle.std.specs.Prelude.{ℕ, ◌+◌, ◌&&◌, not, if◌then◌else◌, List, Option, Some}
 use Rattle.std.specs.Prelude.{None, Result, Ok, Err, map, option_and_then, option_map, pos, slice_get, slice_index, true, unwrap_or, Bool}
-use Rattle.std.specs.List.{flat_map, slice_index_or}
+use Rattle.std.specs.List.{flat_map}
 use Rattle.lk_link.specs.declared.file.FileKind.{FileKind}
 use Rattle.lk_link.specs.declared.flags.TheConstants.ValueFlags as flag
 use Rattle.lk_link.specs.declared.link.LinkInput.{LinkInput}
@@ -24,6 +24,7 @@ use Rattle.lk_sizes.specs.Header.{header_info}
 use Rattle.lk_sizes.specs.Images.{image_addresses}
 use Rattle.lk_sizes.specs.Owners.{Filling}
 use Rattle.lk_sizes.specs.PartOwners.{common_address, live_address}
+use Rattle.lk_resolution_list.specs.Lists.{resolution_at}
 use Rattle.lk_resolutions.specs.declared.resolution.EntryFault.{EntryFault}
 use Rattle.lk_resolutions.specs.declared.resolution.EntryFault.TheVariants.{NotAnAddress, NotLoaded}
 use Rattle.lk_resolutions.specs.Entries.{EntrySetting, entry_setting, told_flags, with_entries}
@@ -116,10 +117,6 @@ entries_of filling starts =
 abbrev pub symbol_resolutions : Filling → Deletions → Edges → List ℕ → List (Option Resolution)
 symbol_resolutions filling deletions edges starts =
     flat_map (file_resolutions (places_of filling deletions edges starts) (entries_of filling starts)) (numbered_files filling.content.link.groups)
-
--- the resolution of a symbol, by its number, if it has one
-abbrev pub resolution_at : List (Option Resolution) → ℕ → Option Resolution
-resolution_at resolutions s = slice_index_or resolutions s None
 
 -- ---- the entry
 

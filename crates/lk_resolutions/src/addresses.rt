@@ -25,13 +25,13 @@ ghost use Rattle.lk_resolutions.specs.Tables.{AreMergedOf};
 
 use crate::merged::Merged;
 use crate::resolution::{Tables, resolve_all};
-use crate::symbol_resolutions::SymbolResolutions;
 use lk_deltas::RelaxDeltaMap;
 use lk_link::{LinkInput, Platform};
 use lk_live::Live;
 use lk_merge::{MergedStringStartAddresses, MergedStringsSection};
 use lk_own_symbols::Edges;
 use lk_place::OutputRecordLayout;
+use lk_resolution_list::SymbolResolutions;
 use lk_sizes::{CommonAddress, OwnerAddresses, PartOwners, image_addresses, owner_addresses};
 use std::alloc::{AllocError, Global};
 

@@ -6,17 +6,14 @@ pub mod addresses;
 pub mod by_groups;
 mod entries;
 pub mod images;
-mod kept;
-pub mod laws;
 mod merged;
 pub mod outside;
 pub mod resolution;
-pub mod symbol_resolutions;
 
 pub use crate::addresses::{Addresses, PlacedParts, addresses_of};
 pub use crate::by_groups::addresses_of_by_groups;
 pub use crate::images::{Images, image_lens};
 pub use crate::outside::{MergeOffsetPlace, check_offsets};
 pub use crate::resolution::{EntryFault, entry_symbol, entry_value};
-pub use crate::symbol_resolutions::SymbolResolutions;
 pub use lk_link::Resolution;
+pub use lk_resolution_list::SymbolResolutions;

@@ -14,7 +14,7 @@ ghost use Rattle.lk_merge.specs.LinkInputs.{link_inputs};
 ghost use Rattle.lk_merge.specs.OffsetsOutside.{refers_outside, stands_outside};
 ghost use Rattle.lk_resolutions.specs.Outside.{merge_offsets, outside_in, relocation_outside, relocations_outside};
 ghost use Rattle.lk_resolutions.specs.Outside.{symbol_outside, symbols_outside};
-ghost use Rattle.lk_resolutions.specs.OutsideWords.{StopsAtFirst};
+ghost use Rattle.lk_stops.specs.Stops.{StopsAtFirst};
 
 use crate::resolution::flags_at;
 use lk_link::marks::is_marked;

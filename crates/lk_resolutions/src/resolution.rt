@@ -25,7 +25,6 @@ ghost use Rattle.lk_resolutions.specs.Tables.{AreMergedOf, AreRising, IsInside, 
 
 use crate::entries::{NextEntries, take_entries};
 use crate::merged::{Merged, merged_value};
-use crate::symbol_resolutions::SymbolResolutions;
 use lk_deltas::{RelaxDeltaMap, deleted_in, map_of, opt_input_to_output};
 use lk_link::marks::is_marked;
 use lk_link::{
@@ -34,6 +33,7 @@ use lk_link::{
 };
 use lk_live::Live;
 use lk_own_symbols::Edges;
+use lk_resolution_list::SymbolResolutions;
 use lk_sizes::CommonAddress;
 use lk_tables::DynamicNumbers;
 use lk_tables::symbol_table::late_flags;

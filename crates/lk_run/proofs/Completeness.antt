@@ -37,7 +37,7 @@ use Rattle.lk_run.specs.declared.words.Command.{Command}
 use Rattle.lk_run.specs.declared.words.Command.TheVariants as commands
 use Rattle.lk_run.specs.Complete.{DescribesLayout, IsAnswerOver, IsFaultless, RunsTellOneAnswer, RunsTellTheAnswer, Tells}
 use Rattle.lk_devices.specs.Device.{SourceState, SinkState}
-use Rattle.lk_report.specs.FaultText.{input_fault_text_of}
+use Rattle.lk_run.specs.FaultText.{input_fault_text_of}
 use Rattle.lk_run.specs.Run.{Held, Whole, Longer, Holds, Takes, IsAnswerOf, IsAnswerTo, IsAnswerToReading, IsAnswered, IsGeneratedAnswer, IsImageAnswer, IsLayoutAnswer, IsMapAnswer, IsSectionAnswer, IsWayAnswer, IsWhyAnswer, done, judged, refused, unreadable, Commanded, Uncommanded, Unmoved, IsDefinedFor, Finished, IsRun, TellsDefined, Unread, image_told, imaged, summed_up, told_of}
 use Rattle.lk_run.specs.TooLong.{too_long_text}
 use Rattle.lk_run.specs.MapTexts.{no_map_text}

@@ -14,7 +14,7 @@ use Rattle.lk_layout.specs.Made.{made_of}
 use Rattle.lk_layout.specs.declared.error.LayoutError.{LayoutError}
 use Rattle.lk_layout.specs.LayoutRecord.{LayoutRecord}
 use Rattle.lk_layout.specs.Defined.{IsDefined}
-use Rattle.lk_layout.specs.Laws.{DefinedLayoutsAreSound}
+use Rattle.lk_soundness.specs.Laws.{DefinedLayoutsAreSound}
 use Rattle.lk_map.specs.declared.check.MapFault.{MapFault}
 use Rattle.lk_map.specs.Lines.{Line}
 use Rattle.lk_map.specs.MapText.{map_lines, sections_of, segments_of, told_map}

@@ -29,7 +29,7 @@ use Rattle.lk_run.specs.declared.status.Status.TheVariants.{Done, Refused, Usage
 use Rattle.lk_run.specs.declared.words.Command.{Command}
 use Rattle.lk_run.specs.declared.words.Command.TheVariants as commands
 use Rattle.lk_devices.specs.Device.{SourceState, SinkState, Appends, AppendsPrefix, Keeps}
-use Rattle.lk_report.specs.FaultText.{fault_text_of, input_fault_text_of}
+use Rattle.lk_run.specs.FaultText.{fault_text_of, input_fault_text_of}
 use Rattle.lk_report.specs.Report.{report}
 use Rattle.lk_report.specs.Summary.{summary}
 use Rattle.lk_run.specs.ImageTexts.{no_image_line}

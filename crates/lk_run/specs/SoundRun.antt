@@ -11,7 +11,7 @@ use Rattle.lk_layout.specs.LayoutRecord.{LayoutRecord}
 use Rattle.lk_layout.specs.Defined.{IsDefined}
 use Rattle.lk_layout.specs.Machines.{small64_machine}
 use Rattle.lk_layout.specs.Made.{Made}
-use Rattle.lk_layout.specs.Sound.{IsSound}
+use Rattle.lk_soundness.specs.Sound.{IsSound}
 use Rattle.lk_map.specs.Good.{IsGood}
 use Rattle.lk_map.specs.Lines.{Line}
 use Rattle.lk_map.specs.MapText.{sections_of, segments_of}

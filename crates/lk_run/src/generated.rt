@@ -7,10 +7,12 @@ ghost use Rattle.lk_layout.specs.Machines.{small64_machine};
 ghost use Rattle.lk_run.specs.Run.{IsGeneratedAnswer};
 
 use crate::answer::{Answer, done, refused};
+use crate::fault_texts::fault_text;
+use lk_compute::compute_alone;
 use lk_generator::generate_link;
-use lk_layout::{Layout, LayoutError, Small64Arch, compute_alone};
+use lk_layout::{Layout, LayoutError, Small64Arch};
 use lk_link::platform::Small64;
-use lk_report::{fault_text, summary_text};
+use lk_report::summary_text;
 use std::alloc::{AllocError, Global};
 
 /// The answer to what was computed of a generated link: the line of its layout, or the text of its fault.

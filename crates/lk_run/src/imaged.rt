@@ -10,15 +10,16 @@ ghost use Rattle.lk_run.specs.ImageTexts.{no_image_line};
 ghost use Rattle.lk_run.specs.Run.{IsAnswerToReading, IsImageAnswer, imaged};
 
 use crate::answer::{Answer, done_with, refused};
+use crate::fault_texts::fault_text;
 use crate::inputs::{Reading, read_up, read_up_by_workers};
 use crate::laid_out::let_go;
+use lk_compute::{compute, compute_alone};
 use lk_image::{ImageError, write_image};
 use lk_layout::laws::small64_machine_is_lawful;
-use lk_layout::{Layout, LayoutError, Small64Arch, compute, compute_alone};
+use lk_layout::{Layout, LayoutError, Small64Arch};
 use lk_link::gate::Gate;
 use lk_link::link::LinkInput;
 use lk_link::platform::Small64;
-use lk_report::fault_text;
 use std::alloc::{AllocError, Global};
 use std::sync::Wait;
 use std::thread::Threads;

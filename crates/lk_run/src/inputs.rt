@@ -7,6 +7,7 @@ ghost use Rattle.lk_run.specs.Run.{Longer, IsAnswerTo};
 ghost use Rattle.lk_run.specs.Steps.{GivesInput, IsReadAs};
 
 use crate::answer::{Answer, unreadable};
+use crate::fault_texts::input_fault_text;
 use crate::status::Status;
 use crate::too_long::too_long_text;
 use crate::words::Command;
@@ -15,7 +16,6 @@ use lk_devices::source::Source;
 use lk_devices::transfer::{ReadAllError, read_all};
 use lk_input::{InputError, read_link, read_link_by_workers};
 use lk_link::link::LinkInput;
-use lk_report::input_fault_text;
 use std::alloc::{AllocError, Global};
 use std::thread::Threads;
 

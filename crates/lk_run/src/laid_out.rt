@@ -7,13 +7,15 @@ ghost use Rattle.lk_layout.specs.Machines.{small64_machine};
 ghost use Rattle.lk_run.specs.Run.{IsAnswerToReading, IsLayoutAnswer};
 
 use crate::answer::{Answer, done, refused};
+use crate::fault_texts::fault_text;
 use crate::inputs::{Reading, read_up, read_up_by_workers};
+use lk_compute::{compute, compute_alone};
 use lk_layout::laws::laid_out_links_are_well_formed;
-use lk_layout::{Layout, LayoutError, Small64Arch, compute, compute_alone};
+use lk_layout::{Layout, LayoutError, Small64Arch};
 use lk_link::gate::Gate;
 use lk_link::link::LinkInput;
 use lk_link::platform::Small64;
-use lk_report::{fault_text, report_text, report_text_by_workers};
+use lk_report::{report_text, report_text_by_workers};
 use std::alloc::{AllocError, Global};
 use std::mem;
 use std::sync::Wait;

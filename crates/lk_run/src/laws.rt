@@ -6,12 +6,10 @@ ghost use Rattle.lk_run.specs.Complete.{GeneratedRunsAreComplete, ImageRunsAreCo
 use lk_check::well_formed_exactly_unfaulted;
 use lk_explain::laws::{reached_is_shown, shown_is_one};
 use lk_image::laws::images_are_made;
-use lk_layout::laws::{
-    defined_answer_exists, defined_answer_is_one, defined_layouts_are_sound,
-    small64_machine_is_lawful,
-};
+use lk_layout::laws::{defined_answer_exists, defined_answer_is_one, small64_machine_is_lawful};
 use lk_map::laws::{maps_are_judged, maps_rise, reads_maps, verdicts_agree};
 use lk_reach::laws::marks_are_reached;
+use lk_soundness::laws::defined_layouts_are_sound;
 
 /// A law: the answer that words and bytes define, of whatever command, is told by each run in which no device failed, unless memory ran
 /// out.

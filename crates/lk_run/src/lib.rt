@@ -5,6 +5,7 @@
 pub mod answer;
 mod checked_map;
 mod explained;
+pub mod fault_texts;
 mod generated;
 mod imaged;
 mod inputs;
@@ -17,6 +18,7 @@ mod top_call;
 pub mod words;
 
 pub use answer::Answer;
+pub use fault_texts::{fault_text, input_fault_text};
 pub use lk_devices::{
     Failed, FaultCount, MemorySink, MemorySource, ReadAllError, Sink, Source, StandardInput,
     StandardOutput, SureSink, SureSource, faults, limit, memory, sink, source, standard, sure,
@@ -24,9 +26,7 @@ pub use lk_devices::{
 };
 pub use lk_generator::generate_link;
 pub use lk_link::FileId;
-pub use lk_report::{
-    fault_text, input_fault_text, report_text, report_text_by_workers, summary_text,
-};
+pub use lk_report::{report_text, report_text_by_workers, summary_text};
 pub use status::Status;
 pub use top_call::{run, run_alone};
 pub use words::{Command, read_words};

@@ -99,8 +99,3 @@ pub fn expect_rows(
     }
     Ok(())
 }
-
-/// Wants this text.
-pub fn expect_text(rt: &impl Abort, found: &str, want: &str) {
-    assert_eq!(rt; found, want);
-}

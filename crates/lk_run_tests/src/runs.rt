@@ -1,9 +1,9 @@
 //! Runs over devices in memory.
 
-use crate::rows::expect_text;
 use lk_link::{Gate, NoGate};
 use lk_run::{MemorySink, MemorySource, Status, read_words, run, run_alone};
-use lk_test_rows::{Frame, LockStep, NO_FRAME, add, frame_of, framed};
+use lk_run_rows::{Ended, ROOM, Runs, ended_reports, told_end, without_remark, words_of};
+use lk_test_rows::{LockStep, add};
 use std::alloc::{AllocError, Global};
 use std::process::Abort;
 use std::str;
@@ -11,39 +11,13 @@ use std::sync::Wait;
 use std::test::Fail;
 use std::thread::Threads;
 
-/// More than any text here takes.
-pub const ROOM: usize = 65536;
-
-/// The words of a line.
-pub fn words_of(alloc: Global, line: &str) -> Result<Vec<String>, AllocError> {
-    let mut words = Vec::new(alloc);
-    for word in line.split_whitespace() {
-        words.push(String::from_str(alloc, word)?)?;
-    }
-    Ok(words)
-}
-
-/// The status of a run, and the text that its sink has taken, without the end of its last line.
-fn told_end(
-    alloc: Global,
-    status: Option<Status>,
-    sink: &MemorySink,
-) -> Result<String, AllocError> {
-    let text = str::from_utf8(sink.written()).unwrap_or("no text");
-    let text = text.strip_suffix('\n').unwrap_or("no line");
-    match status {
-        Some(status) => format!(in alloc; "{code} {text}", code = status.code()),
-        None => format!(in alloc; "no end"),
-    }
-}
-
 /// The status with which the words end over an input that is read by 100 bytes, and the text that the sink has taken, seven
 /// bytes at a time, without the end of its last line.
 pub fn told(alloc: Global, words: &[String], input: &str) -> Result<String, AllocError> {
     let mut source = MemorySource::new(input.as_bytes().to_vec(alloc)?, 100, Vec::new(alloc));
     let mut sink = MemorySink::new(alloc, ROOM, 7, Vec::new(alloc))?;
     let status = run_alone(alloc, words, &mut source, &mut sink);
-    told_end(alloc, status, &sink)
+    told_end(alloc, status.map(|status| status.code()), sink.written())
 }
 
 /// The same of a run by as many workers as the words ask for, which enter a gate before each of their steps.
@@ -59,7 +33,7 @@ fn told_through<G: Gate + Sync>(
     let mut source = MemorySource::new(input.as_bytes().to_vec(alloc)?, 100, Vec::new(alloc));
     let mut sink = MemorySink::new(alloc, ROOM, 7, Vec::new(alloc))?;
     let status = run(rt, alloc, words, &mut source, &mut sink, gate);
-    told_end(alloc, Some(status), &sink)
+    told_end(alloc, Some(status.code()), sink.written())
 }
 
 /// The same without a gate.
@@ -186,23 +160,7 @@ pub fn add_image(
     add(line, "alike", &is_alike)
 }
 
-/// A block without the remark above it.
-fn without_remark(block: &'static str) -> &'static str {
-    match block.split_once('\n') {
-        Some((remark, rest)) if remark.starts_with('#') => rest,
-        _ => block,
-    }
-}
-
-/// A block as it is to be: what its first line says, and below it how a run over that, in its frame, ends.
-fn told_block(alloc: Global, frame: Frame, block: &str) -> Result<String, AllocError> {
-    let (front, _) = block.split_once('\n').unwrap_or((block, ""));
-    let input = framed(alloc, frame, front)?;
-    let told = ended(alloc, input.as_str())?;
-    format!(in alloc; "{front}\n{told}")
-}
-
-/// The same of runs that may use workers.
+/// A block as it is to be: what its first line says, and below it how runs over that end that may use workers.
 fn block_told_by_workers(
     rt: &(impl Threads + Wait + Sync),
     alloc: Global,
@@ -214,19 +172,31 @@ fn block_told_by_workers(
     format!(in alloc; "{front}\n{told}")
 }
 
-/// Wants how a run over each description of a text ends. Below the line of a description stand the status and the lines of
-/// its report, and behind them an empty line; above it may stand a remark. A block that begins with `@` is a frame, and holds
-/// for the blocks below it: their first lines stand in place of its dots.
-pub fn expect_reports(rt: &impl Abort, alloc: Global, blocks: &'static str) -> Result<(), Fail> {
-    let mut frame = NO_FRAME;
-    for block in blocks.split("\n\n") {
-        let block = without_remark(block);
-        if let Some(next) = block.strip_prefix("@ ") {
-            frame = frame_of(next);
-        } else {
-            expect_text(rt, told_block(alloc, frame, block)?.as_str(), block);
-        }
+/// Runs on the caller's own thread.
+struct Alone;
+
+impl Runs for Alone {
+    fn ended(&self, alloc: Global, input: &str) -> Result<String, AllocError> {
+        ended(alloc, input)
     }
+}
+
+/// Wants this text.
+pub fn expect_text(rt: &impl Abort, found: &str, want: &str) {
+    assert_eq!(rt; found, want);
+}
+
+/// Wants that each run ended as it is to.
+fn expect_all(rt: &impl Abort, all: &[Ended]) {
+    for ended in all {
+        expect_text(rt, ended.found.as_str(), ended.want);
+    }
+}
+
+/// Wants how a run over each description of a text ends.
+pub fn expect_reports(rt: &impl Abort, alloc: Global, blocks: &'static str) -> Result<(), Fail> {
+    let all = ended_reports(alloc, &Alone, blocks)?;
+    expect_all(rt, all.as_slice());
     Ok(())
 }
 

@@ -1,6 +1,6 @@
 //! The text of a fault that no small input has; the others stand in rows of runs.
 
-use crate::rows::expect_text;
+use crate::runs::expect_text;
 use lk_run::too_long::too_long_text;
 use std::test::Fail;
 

@@ -21,7 +21,7 @@ use Rattle.lk_deltas.specs.Deletions.{mapped_by}
 use Rattle.lk_deltas.specs.LinkDeletions.{Deletions, deleted_of}
 use Rattle.lk_thunks.specs.declared.arch.ThunkConfig.{ThunkConfig}
 use Rattle.lk_thunks.specs.Reach.{reaches}
-use Rattle.lk_resolutions.specs.Resolutions.{resolution_at}
+use Rattle.lk_resolution_list.specs.Lists.{resolution_at}
 use Rattle.lk_thunk_plan.specs.declared.check.BranchPlace.{BranchPlace}
 use Rattle.lk_thunk_plan.specs.declared.thunk_plan.ThunkPlan.{ThunkPlan}
 

@@ -13,7 +13,7 @@ ghost use Rattle.lk_link.specs.Walks.{file_of};
 ghost use Rattle.lk_link.specs.WellFormed.{IsWellFormed};
 ghost use Rattle.lk_thunks.specs.Reach.{is_near};
 ghost use Rattle.lk_thunks.specs.SetLaws.{IsRising};
-ghost use Rattle.lk_resolutions.specs.OutsideWords.{StopsAtFirst};
+ghost use Rattle.lk_stops.specs.Stops.{StopsAtFirst};
 ghost use Rattle.lk_thunk_plan.specs.Branches.{block_of, branch_target, branching, file_unreached, is_given_later, is_reaching, relocation_unreached, section_unreached, standing_of, target_of, thunk_in, thunks_of, unreached};
 ghost use Rattle.lk_thunk_plan.specs.BranchWords.{IsAtHand, SpotRises, block_next, branching_of, standing_at};
 ghost use Rattle.lk_thunk_plan.specs.Orders.{IsInOrder};
@@ -27,7 +27,7 @@ use lk_link::{
 use lk_live::{InputAt, Live};
 use lk_reach::local_definition;
 use lk_reach::reaching::is_primary_section;
-use lk_resolutions::SymbolResolutions;
+use lk_resolution_list::SymbolResolutions;
 use lk_thunks::{ThunkBlock, ThunkBlockId, ThunkConfig};
 use std::fmt;
 

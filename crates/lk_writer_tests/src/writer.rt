@@ -5,11 +5,11 @@
 //! stand in the file, if they do; of each symbol what a relocation that names it computes with: the value of what stands for it, the words of
 //! its entry of the GOT for the value and for the thread-local offset, and its entry of the PLT; where thread-local data ends; and the entry.
 
+use lk_answers::files::ObjectLayout;
+use lk_answers::{Answers, FileLayout, GroupLayout};
+use lk_compute::compute_alone;
 use lk_input::read_link;
-use lk_layout::files::ObjectLayout;
-use lk_layout::{
-    FileLayout, GroupLayout, Layout, LayoutError, Resolution, Small64Arch, compute_alone,
-};
+use lk_layout::{Layout, LayoutError, Resolution, Small64Arch};
 use lk_link::{LinkInput, SectionSlot, Small64, SymbolId};
 use lk_place::OutputRecordLayout;
 use lk_test_rows::{Row, add, rows_of};

@@ -7,7 +7,7 @@ use Rattle.lk_link.proofs.InputLemmas.{inputs_follow}
 use Rattle.lk_reach.proofs.LiveWalk.{finish, turn}
 use Rattle.lk_reach.proofs.Numbered.{are_numbered}
 use Rattle.lk_reach.proofs.SymbolNumbers.{inputs_few}
-use Rattle.lk_resolutions.proofs.Stopping.{exit}
+use Rattle.lk_stops.proofs.Stopping.{exit}
 use Rattle.lk_image.specs.declared.error.ImageError.{ImageError}
 use Rattle.lk_image.specs.Refusals.{room_refusals_in}
 use Rattle.lk_image.proofs.Turns.{first_next, none_more}

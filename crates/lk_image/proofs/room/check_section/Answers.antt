@@ -5,7 +5,7 @@ use Rattle.lk_link.specs.declared.relocation.Relocation.{Relocation}
 use Rattle.lk_link.specs.InputSlots.{is_debug}
 use Rattle.lk_link.specs.Inputs.{Input}
 use Rattle.lk_link.specs.Walks.{input_of}
-use Rattle.lk_resolutions.proofs.Stopping.{all_gone, exit, one_more, stops_at}
+use Rattle.lk_stops.proofs.Stopping.{all_gone, exit, one_more, stops_at}
 use Rattle.lk_image.specs.declared.error.ImageError.{ImageError}
 use Rattle.lk_image.specs.Places.{is_in_file}
 use Rattle.lk_image.specs.Refusals.{relocation_refusals}

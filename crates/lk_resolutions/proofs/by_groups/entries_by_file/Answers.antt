@@ -15,7 +15,7 @@ use Rattle.lk_resolutions.specs.Entries.{EntrySetting}
 use Rattle.lk_resolutions.specs.EntryWords.{AreNextAt}
 use Rattle.lk_resolutions.proofs.EntriesTaken.{first_next}
 use Rattle.lk_resolutions.proofs.Pushing.{first_is}
-use Rattle.lk_resolutions.proofs.Stopping.{files_so_far}
+use Rattle.lk_stops.proofs.Stopping.{files_so_far}
 use Rattle.lk_resolutions.proofs.by_groups.entries_by_file.Goals as goal
 
 pub files-file-items-requires : goal.files-file-items-requires

@@ -8,7 +8,7 @@ use Rattle.lk_link.specs.Walks.{file_of}
 use Rattle.lk_reach.proofs.SymbolNumbers.{first_within, inputs_few, sections_few, symbols_few}
 use Rattle.lk_resolutions.specs.declared.outside.MergeOffsetPlace.{MergeOffsetPlace}
 use Rattle.lk_resolutions.specs.Outside.{outside_in, section_outside}
-use Rattle.lk_resolutions.proofs.Stopping.{all_gone, exit, one_more, stops_at}
+use Rattle.lk_stops.proofs.Stopping.{all_gone, exit, one_more, stops_at}
 use Rattle.lk_resolutions.proofs.outside.check_file.Goals as goal
 
 pub input_start-requires : goal.input_start-requires

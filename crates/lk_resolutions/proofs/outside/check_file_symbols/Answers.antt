@@ -9,7 +9,7 @@ use Rattle.lk_link.proofs.SymbolLemmas.{symbols_within}
 use Rattle.lk_reach.proofs.SymbolNumbers.{symbols_few}
 use Rattle.lk_resolutions.specs.declared.outside.MergeOffsetPlace.{MergeOffsetPlace}
 use Rattle.lk_resolutions.specs.Outside.{symbol_outside}
-use Rattle.lk_resolutions.proofs.Stopping.{all_gone, exit, one_more, stops_at}
+use Rattle.lk_stops.proofs.Stopping.{all_gone, exit, one_more, stops_at}
 use Rattle.lk_resolutions.proofs.outside.check_file_symbols.Goals as goal
 
 pub symbol_id_range-requires : goal.symbol_id_range-requires

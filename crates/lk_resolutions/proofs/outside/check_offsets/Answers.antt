@@ -8,7 +8,7 @@ use Rattle.lk_merge.specs.Pieces.{MergeInput}
 use Rattle.lk_resolutions.specs.declared.outside.MergeOffsetPlace.{MergeOffsetPlace}
 use Rattle.lk_resolutions.specs.Outside.{relocations_outside, symbols_outside}
 use Rattle.lk_resolutions.proofs.NothingMerged.{no_offsets}
-use Rattle.lk_resolutions.proofs.Stopping.{exit}
+use Rattle.lk_stops.proofs.Stopping.{exit}
 use Rattle.lk_resolutions.proofs.outside.check_offsets.Goals as goal
 
 pub returns-then-not-has_merged : goal.returns-then-not-has_merged

@@ -8,7 +8,7 @@ use Rattle.lk_link.proofs.GoodInputs.{lists_of}
 use Rattle.lk_reach.proofs.SymbolNumbers.{relocations_from}
 use Rattle.lk_resolutions.specs.declared.outside.MergeOffsetPlace.{MergeOffsetPlace}
 use Rattle.lk_resolutions.specs.Outside.{relocation_outside}
-use Rattle.lk_resolutions.proofs.Stopping.{all_gone, exit, one_more, stops_at}
+use Rattle.lk_stops.proofs.Stopping.{all_gone, exit, one_more, stops_at}
 use Rattle.lk_resolutions.proofs.outside.check_section.Goals as goal
 
 pub overflow_cast-number : goal.overflow_cast-number

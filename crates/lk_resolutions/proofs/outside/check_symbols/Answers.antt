@@ -5,7 +5,7 @@ use Rattle.lk_reach.proofs.Numbered.{are_numbered, file_at}
 use Rattle.lk_reach.proofs.WalkLemmas.{file_turn}
 use Rattle.lk_resolutions.specs.declared.outside.MergeOffsetPlace.{MergeOffsetPlace}
 use Rattle.lk_resolutions.specs.Outside.{symbols_outside}
-use Rattle.lk_resolutions.proofs.Stopping.{exit, file_stops}
+use Rattle.lk_stops.proofs.Stopping.{exit, file_stops}
 use Rattle.lk_resolutions.proofs.outside.check_symbols.Goals as goal
 
 pub files-file-items-requires : goal.files-file-items-requires

@@ -5,7 +5,7 @@ use Rattle.lk_link.specs.declared.symbol.InputSymbol.{InputSymbol}
 use Rattle.lk_resolutions.specs.AtHand.{places_at_hand, setting_at_hand}
 use Rattle.lk_resolutions.specs.Entries.{EntrySetting}
 use Rattle.lk_resolutions.specs.Resolutions.{Places}
-use Rattle.lk_resolutions.specs.Stores.{valued}
+use Rattle.lk_resolution_list.specs.Stores.{valued}
 use Rattle.lk_resolutions.proofs.EntriesTaken.{placed_is}
 use Rattle.lk_resolutions.proofs.resolution.resolve.Goals as goal
 

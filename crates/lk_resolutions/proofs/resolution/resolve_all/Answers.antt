@@ -14,7 +14,7 @@ use Rattle.lk_resolutions.specs.EntryWords.{AreNextAt}
 use Rattle.lk_resolutions.specs.Resolutions.{file_resolutions}
 use Rattle.lk_resolutions.proofs.EntriesTaken.{first_next}
 use Rattle.lk_resolutions.proofs.Pushing.{first_is}
-use Rattle.lk_resolutions.proofs.Stopping.{files_so_far}
+use Rattle.lk_stops.proofs.Stopping.{files_so_far}
 use Rattle.lk_resolutions.proofs.resolution.resolve_all.Goals as goal
 
 pub files-file-items-requires : goal.files-file-items-requires

@@ -4,7 +4,7 @@ use Rattle.std.proofs.lemmas.Option.{slice_get-get_or}
 use Rattle.lk_link.specs.declared.section.InputSection.{InputSection}
 use Rattle.lk_link.specs.Walks.{file_of}
 use Rattle.lk_reach.proofs.SymbolNumbers.{inputs_few, sections_few, symbols_few}
-use Rattle.lk_resolutions.proofs.Stopping.{all_gone, exit, one_more, stops_at}
+use Rattle.lk_stops.proofs.Stopping.{all_gone, exit, one_more, stops_at}
 use Rattle.lk_thunk_plan.specs.declared.check.BranchPlace.{BranchPlace}
 use Rattle.lk_thunk_plan.specs.Branches.{section_unreached}
 use Rattle.lk_thunk_plan.specs.BranchWords.{branching_of}

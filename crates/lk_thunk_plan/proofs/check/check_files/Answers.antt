@@ -7,7 +7,7 @@ use Rattle.lk_link.specs.Walks.{file_of}
 use Rattle.lk_reach.proofs.Numbered.{are_numbered, file_at}
 use Rattle.lk_reach.proofs.WalkLemmas.{file_turn, one_file_more}
 use Rattle.lk_sizes.proofs.LiveNumbers.{place_is_number}
-use Rattle.lk_resolutions.proofs.Stopping.{exit, file_stops}
+use Rattle.lk_stops.proofs.Stopping.{exit, file_stops}
 use Rattle.lk_thunk_plan.specs.declared.check.BranchPlace.{BranchPlace}
 use Rattle.lk_thunk_plan.specs.Branches.{file_unreached}
 use Rattle.lk_thunk_plan.specs.BranchWords.{IsNextUser, block_next, branching_of}

@@ -9,7 +9,7 @@ use Rattle.lk_link.specs.Marks.{is_marked}
 use Rattle.lk_link.specs.Walks.{file_of}
 use Rattle.lk_link.proofs.GoodInputs.{lists_of}
 use Rattle.lk_reach.proofs.SymbolNumbers.{first_within, inputs_few, relocations_from, sections_few}
-use Rattle.lk_resolutions.proofs.Stopping.{all_gone, exit, one_more, stops_at}
+use Rattle.lk_stops.proofs.Stopping.{all_gone, exit, one_more, stops_at}
 use Rattle.lk_thunk_plan.specs.declared.check.BranchPlace.{BranchPlace}
 use Rattle.lk_thunk_plan.specs.Branches.{Branching, Standing, relocation_unreached, standing_of}
 use Rattle.lk_thunk_plan.specs.BranchWords.{branching_of, standing_at}

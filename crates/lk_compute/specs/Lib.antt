@@ -1,0 +1,2 @@
+pub mod MergingWords
+pub mod RedirectWords

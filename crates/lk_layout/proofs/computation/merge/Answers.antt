@@ -1,6 +1,0 @@
-use Rattle.lk_layout.proofs.Reaching.{merged}
-use Rattle.lk_layout.proofs.computation.merge.Goals as goal
-
-pub returns : goal.returns
-returns c machine =
-    merged machine c.args.link.now c.merge_images.result c.requires.checked c.merge_images.ensures

@@ -1,6 +1,0 @@
-use Rattle.std.proofs.Common.{◌≡◌, ◌++◌, take}
-use Rattle.lk_resolutions.proofs.symbol_resolutions.SymbolResolutions.append.Given as goal
-
--- those of the symbols so far are added
-abbrev pub invariant-loop-number : goal.invariant-loop-number
-invariant-loop-number l = l.self ≡ l.initial.self ++ take l.number l.others

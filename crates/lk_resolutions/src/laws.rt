@@ -1,8 +1,0 @@
-//! Laws, each proved as the contract of a function that does nothing.
-
-ghost use Rattle.lk_resolutions.specs.StoreLaws.{RedirectsChangeValuesAlone};
-
-/// A law: where redirects come to values, what symbols stand for changes in the values of redirects alone.
-pub fn redirects_change_values_alone()
-    ensures { RedirectsChangeValuesAlone }
-{}

@@ -1,0 +1,5 @@
+pub mod FileBytes
+pub mod GroupPlaces
+pub mod Laws
+pub mod Sound
+pub mod ToldMemory

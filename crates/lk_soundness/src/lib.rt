@@ -1,0 +1,4 @@
+//! Soundness: what holds of each defined layout, by laws.
+#![tactic(auto)]
+
+pub mod laws;
