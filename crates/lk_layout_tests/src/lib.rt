@@ -11,3 +11,5 @@ mod lent;
 mod queries;
 #[cfg(test)]
 mod rows;
+#[cfg(test)]
+mod writer;

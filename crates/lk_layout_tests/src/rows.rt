@@ -4,6 +4,7 @@ use crate::files::{add_moved, add_told};
 use crate::layout::{add_shared, add_workers};
 use crate::lent::add_lent;
 use crate::queries::add_queries;
+use crate::writer::add_written;
 use lk_input::read_link;
 use lk_test_rows::{Row, rows_of};
 use std::alloc::{AllocError, Global};
@@ -29,6 +30,8 @@ pub enum Asked {
     Groups,
     /// What its layout lends.
     Lent,
+    /// What it answers a writer of output files.
+    Written,
 }
 
 /// Adds what is answered where the text stands for a link.
@@ -87,6 +90,7 @@ fn add_answer(
         Asked::Moved => add_worded(alloc, line, text),
         Asked::Groups => add_all_groups(alloc, line, text),
         Asked::Lent => add_all_lent(alloc, line, text),
+        Asked::Written => add_written(alloc, line, text),
     }
 }
 

@@ -1,9 +1,9 @@
 //! Runs whose devices give and take little, or fail at one of their calls, and runs over a description that is cut.
 
+use crate::ends::{ROOM, words_of};
 use crate::rows::{Asked, expect_rows};
 use lk_link::NoGate;
 use lk_run::{MemorySink, MemorySource, Status, run};
-use lk_run_rows::{ROOM, words_of};
 use lk_test_rows::add;
 use std::alloc::{AllocError, Global};
 use std::str;

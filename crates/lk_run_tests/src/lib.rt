@@ -1,6 +1,8 @@
-//! Tests of runs: words and inputs in, texts and statuses out. There is nothing else here.
+//! Tests of runs: words and inputs in, texts, reports and statuses out. There is nothing else here.
 #![tactic(auto)]
 
+#[cfg(test)]
+mod ends;
 #[cfg(test)]
 mod explained;
 #[cfg(test)]
@@ -12,9 +14,13 @@ mod images;
 #[cfg(test)]
 mod maps;
 #[cfg(test)]
+mod reports;
+#[cfg(test)]
 mod rows;
 #[cfg(test)]
 mod runs;
+#[cfg(test)]
+mod symbols;
 #[cfg(test)]
 mod texts;
 #[cfg(test)]

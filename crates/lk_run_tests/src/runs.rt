@@ -1,9 +1,9 @@
 //! Runs over devices in memory.
 
+use crate::ends::{ROOM, told_end, without_remark, words_of};
 use lk_link::{Gate, NoGate};
 use lk_run::{MemorySink, MemorySource, Status, read_words, run, run_alone};
-use lk_run_rows::{Ended, ROOM, Runs, ended_reports, told_end, without_remark, words_of};
-use lk_test_rows::{LockStep, add};
+use lk_test_rows::{Frame, LockStep, NO_FRAME, add, frame_of, framed};
 use std::alloc::{AllocError, Global};
 use std::process::Abort;
 use std::str;
@@ -172,31 +172,32 @@ fn block_told_by_workers(
     format!(in alloc; "{front}\n{told}")
 }
 
-/// Runs on the caller's own thread.
-struct Alone;
-
-impl Runs for Alone {
-    fn ended(&self, alloc: Global, input: &str) -> Result<String, AllocError> {
-        ended(alloc, input)
-    }
-}
-
 /// Wants this text.
 pub fn expect_text(rt: &impl Abort, found: &str, want: &str) {
     assert_eq!(rt; found, want);
 }
 
-/// Wants that each run ended as it is to.
-fn expect_all(rt: &impl Abort, all: &[Ended]) {
-    for ended in all {
-        expect_text(rt, ended.found.as_str(), ended.want);
-    }
+/// A block as it is to be: what its first line says, and below it how a run over that, in its frame, ends.
+fn told_block(alloc: Global, frame: Frame, block: &str) -> Result<String, AllocError> {
+    let (front, _) = block.split_once('\n').unwrap_or((block, ""));
+    let input = framed(alloc, frame, front)?;
+    let told = ended(alloc, input.as_str())?;
+    format!(in alloc; "{front}\n{told}")
 }
 
-/// Wants how a run over each description of a text ends.
+/// Wants how a run over each description of a text ends. Below the line of a description stand the status and the lines of its report,
+/// and behind them an empty line; above it may stand a remark. A block that begins with `@` is a frame, and holds for the blocks below
+/// it: their first lines stand in place of its dots.
 pub fn expect_reports(rt: &impl Abort, alloc: Global, blocks: &'static str) -> Result<(), Fail> {
-    let all = ended_reports(alloc, &Alone, blocks)?;
-    expect_all(rt, all.as_slice());
+    let mut frame = NO_FRAME;
+    for block in blocks.split("\n\n") {
+        let block = without_remark(block);
+        if let Some(next) = block.strip_prefix("@ ") {
+            frame = frame_of(next);
+        } else {
+            expect_text(rt, told_block(alloc, frame, block)?.as_str(), block);
+        }
+    }
     Ok(())
 }
 

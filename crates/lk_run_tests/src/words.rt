@@ -1,9 +1,9 @@
 //! Words, statuses, and runs whose words or input are no good.
 
+use crate::ends::words_of;
 use crate::rows::{Asked, expect_rows};
 use crate::runs::{expect_text, told, told_by_workers};
 use lk_run::{Status, SureSink, SureSource, run_alone};
-use lk_run_rows::words_of;
 use lk_test_rows::add;
 use std::alloc::{AllocError, Global};
 use std::sync::Wait;

@@ -1,6 +1,0 @@
-use Rattle.std.proofs.Common.{◌≡◌}
-use Rattle.lk_traversal_tests.proofs.workers.run_groups.Given as goal
-
--- the pass stays one of the table
-abbrev pub invariant-loop-group : goal.invariant-loop-group
-invariant-loop-group g l = l.pass.table ≡ l.traversal.table
