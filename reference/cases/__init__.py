@@ -4,6 +4,7 @@ import json
 import random
 
 from .contents import add_contents
+from .cut import cut_text
 from .faults import break_rules
 from .fixed import fixed_cases
 from .good import good_description, move_to_the_edge
@@ -19,7 +20,7 @@ from .values import objects
 from .thunked import thunked_description
 from .wide import widen
 
-__all__ = ["case", "changed_map", "fixed_cases", "image_case", "merging_case", "shortened_case", "thread_local_case"]
+__all__ = ["case", "changed_map", "cut_case", "fixed_cases", "image_case", "merging_case", "shortened_case", "thread_local_case"]
 
 # Kinds of random descriptions, with their weights.
 MIX = {
@@ -83,6 +84,11 @@ def thunked_case(seed, number):
     """The bytes of the random case of that number with a primary part, and mostly more code than a branch reaches."""
     rng = random.Random("thunks %d:%d" % (seed, number))
     return json.dumps(thunked_description(rng)).encode("utf-8", "surrogatepass")
+
+
+def cut_case(seed, number):
+    """The bytes of the random case of that number which has several groups and is small, or has a fault between these."""
+    return cut_text(random.Random("cut %d:%d" % (seed, number)))
 
 
 def merging_case(seed, number):

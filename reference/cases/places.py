@@ -70,6 +70,21 @@ DESCRIPTIONS = (
         ],
     },
 )
+# Several groups, so that the text is cut also into pieces that aren't small.
+GROUPED = (
+    {
+        "plan": {"page": 1},
+        "groups": [
+            [{"kind": "prelude"}],
+            [{"kind": "object", "symbols": [{"at": ["undef"]}]}],
+            [{"kind": "object", "sections": [{"slot": "must", "size": 1}]}, {"kind": "dynamic"}],
+            [],
+            [{"name": "\u00e9],[{", "kind": "script"}],
+            [{"kind": "synthetic"}],
+        ],
+        "options": {"gc": False},
+    },
+)
 WRONG_TEXTS = ("7", '"x"', "[]", "{}", "null", "[{}]", "[[{}]]", '[{"kind":7}]', "1e999")
 
 
@@ -138,8 +153,8 @@ def text_changes(text):
         yield text + stray
 
 
-def changed_at_every_place():
-    for description in DESCRIPTIONS:
+def changed_at_every_place(descriptions=DESCRIPTIONS):
+    for description in descriptions:
         yield text_of(description).encode()
         yield from (text.encode() for text in member_changes(description))
         yield from text_changes(text_of(description).encode())
