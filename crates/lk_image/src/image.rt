@@ -18,7 +18,7 @@ use crate::sections::write_sections;
 use lk_layout::Layout;
 use lk_layout::laws::laid_out_links_are_well_formed;
 use lk_link::link::LinkInput;
-use lk_sizes::laws::live_sections_are_owners;
+use lk_size_laws::laws::live_sections_are_owners;
 use lk_soundness::laws::laid_out_file_has_one_owner;
 use std::alloc::{AllocError, Global};
 

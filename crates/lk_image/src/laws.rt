@@ -4,7 +4,7 @@ ghost use Rattle.lk_image.specs.Laws.{ImagesAreMade};
 ghost use Rattle.lk_image.specs.StretchLaws.{LaidOutIsMade, MadeIsOne};
 
 use lk_layout::laws::laid_out_links_are_well_formed;
-use lk_sizes::laws::live_sections_are_owners;
+use lk_size_laws::laws::live_sections_are_owners;
 use lk_soundness::laws::laid_out_file_has_one_owner;
 
 /// A law: what is laid out over zeros is made of its stretches, where these are apart and end within it.

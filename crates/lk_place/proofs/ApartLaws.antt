@@ -1,24 +1,20 @@
--- Parts share nothing: neither in the file nor in memory.
-use Rattle.std.proofs.Common.{◌≡◌, ◌≢◌, ℕ, ◌+◌, ◌-◌, ◌≤◌, ◌<◌, true, List, length, Some, sym, ap, subst, ◌∙◌, inl, inr, arith}
+-- Parts share nothing in the file, nor in anything else along which a cursor goes and never falls.
+use Rattle.std.proofs.Common.{◌≡◌, ◌≢◌, ℕ, ◌+◌, ◌-◌, ◌≤◌, ◌<◌, List, length, Some, sym, ap, subst, ◌∙◌, inl, inr, arith}
 use Rattle.std.specs.Prelude.{slice_get}
 use Rattle.std.proofs.lemmas.Bool.{cases_lt}
-use Rattle.lk_link.specs.declared.options.OutputKind.TheVariants as output
 use Rattle.lk_link.specs.declared.plan.Plan.{Plan}
 use Rattle.lk_link.specs.declared.plan.PlanSection.{PlanSection}
 use Rattle.lk_link.specs.declared.plan.OrderEvent.TheVariants.{Section}
 use Rattle.lk_link.specs.Parts.{first_part}
-use Rattle.lk_link.specs.PlanSections.{has_memory}
-use Rattle.lk_link.proofs.PartNumbers.{first_part-rises, first_part-suc}
+use Rattle.lk_link.proofs.PartNumbers.{first_part-rises}
 use Rattle.lk_place.specs.declared.cursors.Cursors.{Cursors}
-use Rattle.lk_place.specs.Laws.{FileRangesAreDisjoint, IsSoundlySet, MemoryRangesAreDisjoint, PlainMemoryIsDisjoint}
+use Rattle.lk_place.specs.Laws.{FileRangesAreDisjoint}
 use Rattle.lk_place.specs.Placement.{IsPlaced, IsPlacedBefore, state_at}
-use Rattle.lk_place.specs.Ranges.{MemoryIsDisjoint, HasPart, TakesMemory}
-use Rattle.lk_expressions.specs.Records.{Record, file_end, mem_end, nowhere, record_at}
-use Rattle.lk_place.specs.Setting.{IsReady, Setting, part_count}
-use Rattle.lk_place.specs.ThreadLocal.{free_memory}
-use Rattle.lk_place.proofs.Insides.{placed_in_range}
+use Rattle.lk_place.specs.Ranges.{HasPart}
+use Rattle.lk_expressions.specs.Records.{Record, file_end, nowhere, record_at}
+use Rattle.lk_place.specs.Setting.{Setting, part_count}
 use Rattle.lk_place.proofs.Ranges.{Follow, IsWithin, follow-disjoint, follow-within, rises}
-use Rattle.lk_place.proofs.Steps.{MovesNothing, file_follows, file_rises, memory_follows, memory_rises, plain_plan, unmoved_plan}
+use Rattle.lk_place.proofs.Steps.{file_follows, file_rises}
 
 -- ---- the section of a part
 
@@ -35,19 +31,13 @@ section_one plan s t p h g =
       ]
     ]
 
--- the part that an event places is one of its section
-pub placed_of : (setting : Setting) (n p : ℕ) → IsReady setting → (a : IsPlacedBefore setting n p) → HasPart setting.plan a.s p
-placed_of setting n p ready a =
-    let below = placed_in_range setting.plan (Section a.s) a.s (ready.events.in_range a.k (Section a.s) a.places) (λ i. Some a.s) in
-    record { from = omega (arith, a.is); below = omega (arith, a.is, a.within, first_part-suc setting.plan.sections a.s below) }
-
 -- ---- two parts
 
 -- ranges of one kind that events place, of the sections that have them: the cursor goes along them and never falls
-record AreWalked (begin end : Record → ℕ) (setting : Setting) (states : List Cursors) (records : List Record) (at : ℕ → ℕ) (Has : ℕ → Type 0) : Type 0 where
-  none : end nowhere ≤ begin nowhere
-  rises : (k : ℕ) → k < length states - 1 → at k ≤ at (k + 1)
-  follows : (k s : ℕ) → k < length states - 1 → slice_get setting.plan.events k ≡ Some (Section s) → Has s
+pub record AreWalked (begin end : Record → ℕ) (setting : Setting) (states : List Cursors) (records : List Record) (at : ℕ → ℕ) (Has : ℕ → Type 0) : Type 0 where
+  pub none : end nowhere ≤ begin nowhere
+  pub rises : (k : ℕ) → k < length states - 1 → at k ≤ at (k + 1)
+  pub follows : (k s : ℕ) → k < length states - 1 → slice_get setting.plan.events k ≡ Some (Section s) → Has s
       → Follow begin end records (first_part setting.plan.sections s) (part_count setting.plan.sections s) (at k) (at (k + 1))
 
 -- an earlier event's part shares nothing with a later one's
@@ -94,7 +84,7 @@ vanishes begin end o r none is here =
     let there : IsWithin begin end o nowhere = subst (IsWithin begin end o) is here in
     omega (arith, none, there.0, there.1)
 
-apart : (begin end : Record → ℕ) (setting : Setting) (states : List Cursors) (records : List Record) (at : ℕ → ℕ) (Has : ℕ → Type 0)
+pub apart : (begin end : Record → ℕ) (setting : Setting) (states : List Cursors) (records : List Record) (at : ℕ → ℕ) (Has : ℕ → Type 0)
     → IsPlaced setting states records → AreWalked begin end setting states records at Has
     → (p q o : ℕ) → p ≢ q → ((a : IsPlacedBefore setting (length states - 1) p) → Has a.s) → ((b : IsPlacedBefore setting (length states - 1) q) → Has b.s)
     → IsWithin begin end o (record_at records p) → IsWithin begin end o (record_at records q) → ⊥
@@ -110,18 +100,3 @@ file_ranges_are_disjoint setting states records ready is p q o other here there 
     apart (λ r. r.file_offset) file_end setting states records (λ k. (state_at states k).file) (λ s. Unit {0}) is
     (record { none = omega arith; rises = file_rises setting states records is; follows = λ k s less event has. file_follows setting states records is k s less event })
     p q o other (λ a. tt) (λ b. tt) (here.begins, here.ends) (there.begins, there.ends)
-
-memory_is_disjoint : (setting : Setting) (states : List Cursors) (records : List Record) → IsSoundlySet setting states records → MovesNothing setting.plan → setting.output ≢ output.Partial → MemoryIsDisjoint setting.plan records
-memory_is_disjoint setting states records set unmoved whole p q o other one two here there =
-    let n : ℕ = length states - 1 in
-    let has : (m : ℕ) → TakesMemory setting.plan m → (a : IsPlacedBefore setting n m) → has_memory setting.plan a.s ≡ true
-    = λ m h a. ap (has_memory setting.plan) (section_one setting.plan a.s h.section m (placed_of setting n m set.ready a) h.part) ∙ h.memory in
-    apart (λ r. r.mem_offset) mem_end setting states records (λ k. free_memory (state_at states k)) (λ s. has_memory setting.plan s ≡ true) set.placed
-    (record { none = omega arith; rises = memory_rises setting states records set unmoved; follows = memory_follows setting states records set unmoved whole })
-    p q o other (has p one) (has q two) (here.begins, here.ends) (there.begins, there.ends)
-
-pub memory_ranges_are_disjoint : MemoryRangesAreDisjoint
-memory_ranges_are_disjoint setting states records set may = memory_is_disjoint setting states records set (unmoved_plan setting.plan setting.output may) may.whole
-
-pub plain_memory_is_disjoint : PlainMemoryIsDisjoint
-plain_memory_is_disjoint setting states records set plain = memory_is_disjoint setting states records set (plain_plan setting.plan setting.output plain) plain.whole

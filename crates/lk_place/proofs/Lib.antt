@@ -1,48 +1,36 @@
 pub mod AlignmentLaws
-mod ApartLaws
+pub mod ApartLaws
 mod AtHand
-mod BaseLaws
 mod Beginnings
-mod Checked
+pub mod Checked
 mod Computing
-mod CongruenceLaws
-mod Congruent
-mod DistanceLaws
 mod GivenLists
 mod HullLaws
-mod InsideLaws
-mod Insides
-mod KeptAlignments
+pub mod Insides
 mod Knowing
 mod LastOnes
-mod LoadLaws
-mod Loading
-mod MassLaws
-mod Moves
-mod Multiples
-mod OpenSegments
-mod PlacedParts
-mod PlacedSections
+pub mod Loading
+pub mod MassLaws
+pub mod Moves
+pub mod Multiples
+pub mod OpenSegments
+pub mod PlacedParts
+pub mod PlacedSections
 mod PlacedTables
-mod PlainLaws
 mod PlainScanLaws
-mod Ranges
-mod RefusalLaws
+pub mod Ranges
 mod RegionLaws
 mod RegionNames
 mod SecondaryLaws
-pub mod SectionDistances
-mod SectionEnds
-pub mod SectionRanges
+pub mod SectionEnds
 mod SectionRegions
-pub mod SectionSpans
 mod SegmentAlignments
 mod SegmentFiles
-mod SegmentHulls
 mod ShallowLinks
-mod Steps
+pub mod Steps
 mod Tables
 mod WalkLaws
-mod WalkRecords
-mod WalkSteps
+pub mod WalkRecords
+pub mod WalkSteps
+pub mod WalkedAlignments
 mod WithoutPositions

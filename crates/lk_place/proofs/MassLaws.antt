@@ -1,6 +1,5 @@
--- Each part's record takes the part's bytes in memory, and in the file where they stand there.
-use Rattle.std.proofs.Common.{◌≡◌, ℕ, suc, ◌+◌, ◌-◌, ◌<◌, Bool, true, false, List, [], ◌∷◌, length, take, map, None, refl, sym, ap, ◌∙◌, arith, inl, inr, length-append}
-use Rattle.std.specs.Prelude.{if◌then◌else◌}
+-- Each part's record takes the part's bytes in memory.
+use Rattle.std.proofs.Common.{◌≡◌, ℕ, suc, ◌+◌, ◌-◌, ◌<◌, false, List, [], ◌∷◌, length, take, map, None, sym, ap, ◌∙◌, arith, inl, inr, length-append}
 use Rattle.std.proofs.Math.ListN.{get_or-map}
 use Rattle.std.proofs.lemmas.Bool.{cases_Bool, cases_lt}
 use Rattle.std.proofs.lemmas.Bool.Decides.{nat_tests}
@@ -9,10 +8,9 @@ use Rattle.std.proofs.lemmas.Option.{slice_get_within}
 use Rattle.lk_link.specs.declared.plan.OrderEvent.TheVariants.{Section}
 use Rattle.lk_link.specs.declared.plan.PlanSection.{PlanSection}
 use Rattle.lk_link.specs.Parts.{all_parts}
-use Rattle.lk_link.specs.PlanSections.{is_file_backed}
 use Rattle.lk_place.specs.declared.cursors.Cursors.{Cursors}
 use Rattle.lk_place.specs.Placement.{IsPlaced, known_before, PlacesSection, CarriesOut, is_walked, placement_refusal, state_at}
-use Rattle.lk_place.specs.PlacementLaws.{PartsTakeFileBytes, PartsTakeTheirBytes}
+use Rattle.lk_place.specs.PlacementLaws.{PartsTakeTheirBytes}
 use Rattle.lk_expressions.specs.Records.{Record, nowhere, record_at}
 use Rattle.lk_place.specs.Setting.{IsReady, Setting, part_count, part_number, size_at}
 
@@ -41,7 +39,7 @@ part_place (x ∷ xs) p below =
 -- ---- the bytes of a part
 
 -- a part that isn't walked has none
-no_bytes : (setting : Setting) (s p : ℕ) → is_walked setting s p ≡ false → size_at setting.sizes p ≡ 0
+pub no_bytes : (setting : Setting) (s p : ℕ) → is_walked setting s p ≡ false → size_at setting.sizes p ≡ 0
 no_bytes setting s p h = grind (arith, nat_tests)
 
 section_takes : (setting : Setting) (s j : ℕ) (from to : Cursors) (records : List Record) → PlacesSection setting s from records to → j < part_count setting.plan.sections s
@@ -51,21 +49,6 @@ section_takes setting s j from to records places less =
     elim (cases_Bool (is_walked setting s p)) [
       | inl walked ↦ (places.walked j less walked).takes
       | inr rests ↦ (places.resting j less rests).takes ∙ sym (no_bytes setting s p rests)
-    ]
-
--- what has no bytes takes none in the file, whether bytes stand there or not
-none_there : (backed : Bool) (size : ℕ) → size ≡ 0 → (if backed then size else 0) ≡ 0
-none_there true size none = none
-none_there false size none = refl
-
-section_takes_file : (setting : Setting) (s j : ℕ) (from to : Cursors) (records : List Record) → PlacesSection setting s from records to → j < part_count setting.plan.sections s
-    → (record_at records (part_number setting.plan.sections s j)).file_size
-    ≡ (if is_file_backed setting.plan s then size_at setting.sizes (part_number setting.plan.sections s j) else 0)
-section_takes_file setting s j from to records places less =
-    let p : ℕ = part_number setting.plan.sections s j in
-    elim (cases_Bool (is_walked setting s p)) [
-      | inl walked ↦ (places.walked j less walked).takes_file
-      | inr rests ↦ (places.resting j less rests).takes_file ∙ sym (none_there (is_file_backed setting.plan s) (size_at setting.sizes p) (no_bytes setting s p rests))
     ]
 
 part_takes : (setting : Setting) (states : List Cursors) (records : List Record) → IsReady setting → IsPlaced setting states records → placement_refusal setting states records ≡ None
@@ -88,11 +71,3 @@ parts_take_their_bytes setting states records ready is unrefused =
     let count : length (map (λ (r : Record). r.mem_size) records) ≡ length records = length-map records (λ (r : Record). r.mem_size) in
     ext_get_or 0 (map (λ (r : Record). r.mem_size) records) setting.sizes (omega (arith, count, is.each, ready.sizes))
     (λ p below. get_or-map (λ (r : Record). r.mem_size) records p nowhere ∙ part_takes setting states records ready is unrefused p (omega (arith, count, is.each)))
-
-pub parts_take_file_bytes : PartsTakeFileBytes
-parts_take_file_bytes setting states records ready is unrefused s j there within =
-    let event = ready.events.placed s there in
-    let k : ℕ = event.0 in
-    let early : k < length setting.plan.events = slice_get_within setting.plan.events k (Section s) event.1 in
-    let steps : CarriesOut setting (known_before setting states records k) (Section s) (state_at states k) records (state_at states (k + 1)) = (is.steps k (Section s) (omega (arith, is.ends unrefused)) event.1).steps in
-    section_takes_file setting s j steps.entered (state_at states (k + 1)) records steps.places.placed within

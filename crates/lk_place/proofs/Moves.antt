@@ -1,6 +1,6 @@
--- What one event does to the cursors.
-use Rattle.std.proofs.Common.{◌≡◌, ℕ, ◌+◌, ◌-◌, ◌^◌, ◌≤◌, ◌<◌, Bool, Option, arith, true, false, Some, None, refl, sym, ap, subst, ◌∙◌, ◌⊎◌, inl, inr}
-use Rattle.std.specs.Prelude.{◌&&◌, not, if◌then◌else◌, is_some, nat_lt, unwrap_or, Result, Ok, Err}
+-- Whatever one event does to the cursors, the file never goes back.
+use Rattle.std.proofs.Common.{◌≡◌, ℕ, ◌+◌, ◌-◌, ◌^◌, ◌≤◌, ◌<◌, Bool, Option, arith, true, false, Some, None, refl, ap, subst}
+use Rattle.std.specs.Prelude.{◌&&◌, not, if◌then◌else◌, is_some, nat_lt, Result, Ok, Err}
 use Rattle.std.specs.Int.{next_multiple_of}
 use Rattle.lk_link.specs.declared.plan.OrderEvent.{OrderEvent}
 use Rattle.lk_link.specs.declared.plan.OrderEvent.TheVariants.{SegmentStart, SegmentEnd, Section, SetLocation, SetLocationRelative, SetSectionAddress}
@@ -8,7 +8,6 @@ use Rattle.lk_link.specs.declared.plan.Plan.{Plan}
 use Rattle.lk_link.specs.Alignments.{next_congruent}
 use Rattle.lk_link.specs.PlanSections.{is_file_backed, is_zero_fill_thread_local, primary_of}
 use Rattle.lk_link.specs.SegmentKinds.{is_load, segment_at}
-use Rattle.lk_link.specs.WellFormed.{IsAboutPlace}
 use Rattle.lk_place.specs.declared.cursors.Cursors.{Cursors}
 use Rattle.lk_place.specs.declared.error.Refusal.{Refusal}
 use Rattle.lk_place.specs.declared.error.Refusal.TheVariants.{Backwards, Outside, Overflow}
@@ -20,24 +19,13 @@ use Rattle.lk_place.specs.InRegions.{in_region, inside_region, lies_outside, spa
 use Rattle.lk_place.specs.Locations.{awaiting, behind_start, moved_along, moves_file, taken, within_64}
 use Rattle.lk_place.specs.PlacedBefore.{Known, value_at}
 use Rattle.lk_place.specs.Placement.{begun_section, memory_moved, moved, opened}
-use Rattle.lk_place.specs.Plain.{IsLoadSegment}
 use Rattle.lk_place.specs.Setting.{Setting}
-use Rattle.lk_place.specs.ThreadLocal.{begins_run, free_memory, is_in_run, padded, restoring, run_begun, saved_or_restored, saving}
+use Rattle.lk_place.specs.ThreadLocal.{begins_run, is_in_run, padded, restoring, run_begun, saved_or_restored, saving}
 use Rattle.lk_place.proofs.AlignmentLaws.{greatest_of-least}
 use Rattle.lk_link.proofs.Starts.{next_multiple_is_least}
 
--- a load segment opens: memory goes on where it was saved, and begins where the machine lets it
-pub record Opens (setting : Setting) (e : OrderEvent) (from entered : Cursors) : Type 0 where
-  pub segment : ℕ
-  pub load : IsLoadSegment setting.plan segment
-  pub is : e ≡ SegmentStart segment
-  pub file : entered.file ≡ from.file
-  pub memory : entered.memory ≡ setting.target.segment_start (place_alignment setting segment) from.file (free_memory from)
-  pub saved : entered.saved ≡ None
-  pub pending : entered.pending ≡ from.pending
-
 -- memory that is moved is where it is moved to
-moved_to : (from entered : Cursors) (m : ℕ) → memory_moved from m ≡ Ok entered
+pub moved_to : (from entered : Cursors) (m : ℕ) → memory_moved from m ≡ Ok entered
     → (entered.file ≡ from.file) × (entered.memory ≡ m) × (entered.saved ≡ from.saved) × (entered.pending ≡ from.pending)
 moved_to from entered m =
     let there : Cursors = record from { memory = m } in
@@ -47,31 +35,8 @@ moved_to from entered m =
       | false ↦ λ h. absurd (cc)
     ]
 
-same_of : (from entered : Cursors) (there : Result Cursors Refusal) → there ≡ Ok from → there ≡ Ok entered → entered ≡ from
+pub same_of : (from entered : Cursors) (there : Result Cursors Refusal) → there ≡ Ok from → there ≡ Ok entered → entered ≡ from
 same_of from entered there h g = cc
-
--- where no location waits, an opening is what the machine says of memory that goes on where it was saved
-opens_quietly : (setting : Setting) (known : Known) (i : ℕ) (from : Cursors) → from.pending ≡ None
-    → moved setting known (SegmentStart i) from
-    ≡ (if is_load (segment_at setting.plan.segments i).kind then memory_moved (restoring from) (setting.target.segment_start (place_alignment setting i) from.file (free_memory from)) else Ok from)
-opens_quietly setting known i from quiet = ap (λ (o : Option ℕ). if is_load (segment_at setting.plan.segments i).kind then opened setting i (restoring from) o else Ok from) quiet
-
-opens_so : (setting : Setting) (i : ℕ) (from entered : Cursors)
-    → (if is_load (segment_at setting.plan.segments i).kind then memory_moved (restoring from) (setting.target.segment_start (place_alignment setting i) from.file (free_memory from)) else Ok from) ≡ Ok entered → (entered ≡ from) ⊎ Opens setting (SegmentStart i) from entered
-opens_so setting i from entered =
-    let start : ℕ = setting.target.segment_start (place_alignment setting i) from.file (free_memory from) in
-    elim (is_load (segment_at setting.plan.segments i).kind) as (λ b. is_load (segment_at setting.plan.segments i).kind ≡ b
-    → (if b then memory_moved (restoring from) start else Ok from) ≡ Ok entered → (entered ≡ from) ⊎ Opens setting (SegmentStart i) from entered) [
-      | true ↦ λ load h. let there = moved_to (restoring from) entered start h in inr (record { segment = i; load = load; is = refl; file = there.0; memory = there.1; saved = there.2; pending = there.3 })
-      | false ↦ λ load h. inl (same_of from entered (Ok from) refl h)
-    ] refl
-
--- where a load segment opens
-pub opens_load : (setting : Setting) (known : Known) (i : ℕ) (from entered : Cursors) → from.pending ≡ None → IsLoadSegment setting.plan i → moved setting known (SegmentStart i) from ≡ Ok entered
-    → (entered.file ≡ from.file) × (entered.memory ≡ setting.target.segment_start (place_alignment setting i) from.file (free_memory from)) × (entered.saved ≡ None) × (entered.pending ≡ from.pending)
-opens_load setting known i from entered quiet load h =
-    let start : ℕ = setting.target.segment_start (place_alignment setting i) from.file (free_memory from) in
-    moved_to (restoring from) entered start (sym (opens_quietly setting known i from quiet ∙ ap (λ b. if b then memory_moved (restoring from) start else Ok from) load) ∙ h)
 
 -- ---- a section begins
 
@@ -112,7 +77,7 @@ unpadded setting s from = record {
   pending = refl;
 }
 
-run_pads : (setting : Setting) (in_run : Bool) (s : ℕ) (took : Bool) (from entered : Cursors) → run_begun setting in_run s took from ≡ Ok entered → Pads setting s from entered
+pub run_pads : (setting : Setting) (in_run : Bool) (s : ℕ) (took : Bool) (from entered : Cursors) → run_begun setting in_run s took from ≡ Ok entered → Pads setting s from entered
 run_pads setting in_run s took from entered =
     let a : ℕ = thread_local_alignment setting.plan setting.sizes in
     let to : Cursors = padded (is_file_backed setting.plan s) a from in
@@ -120,78 +85,6 @@ run_pads setting in_run s took from entered =
     elim (begins_run setting in_run s && not took) as (λ b. (if b then within_64 to else Ok from) ≡ Ok entered → Pads setting s from entered) [
       | true ↦ λ h. subst (Pads setting s from) (given_within to entered h) (rounds setting s a from positive)
       | false ↦ λ h. let same : from ≡ entered = cc in subst (Pads setting s from) same (unpadded setting s from)
-    ]
-
--- memory is saved before zero-fill thread-local data, and goes on where it was saved before any other; then it may be padded
-pub record Enters (setting : Setting) (s : ℕ) (from entered : Cursors) : Type 0 where
-  pub padding : ℕ
-  pub file : entered.file ≡ from.file + (if is_file_backed setting.plan s then padding else 0)
-  pub free : free_memory from ≤ free_memory entered
-  pub taken : is_zero_fill_thread_local setting.plan s ≡ false → (entered.memory ≡ free_memory from + padding) × (entered.saved ≡ None)
-  pub kept : is_zero_fill_thread_local setting.plan s ≡ true → entered.saved ≡ Some (free_memory from)
-  pub pending : entered.pending ≡ from.pending
-
-saves : (setting : Setting) (s : ℕ) (from entered : Cursors) → is_zero_fill_thread_local setting.plan s ≡ true → Pads setting s (saving from) entered → Enters setting s from entered
-saves setting s from entered fills pads =
-    let along : free_memory entered ≡ free_memory from = ap (λ (o : Option ℕ). unwrap_or o entered.memory) pads.saved in
-    record { padding = pads.padding; file = pads.file; free = omega (arith, along); taken = λ none. absurd (cc); kept = λ is. pads.saved; pending = pads.pending }
-
-restores : (setting : Setting) (s : ℕ) (from entered : Cursors) → is_zero_fill_thread_local setting.plan s ≡ false → Pads setting s (restoring from) entered → Enters setting s from entered
-restores setting s from entered filled pads =
-    let along : free_memory entered ≡ entered.memory = ap (λ (o : Option ℕ). unwrap_or o entered.memory) pads.saved in
-    record { padding = pads.padding; file = pads.file; free = omega (arith, along, pads.memory); taken = λ none. (pads.memory, pads.saved); kept = λ is. absurd (cc); pending = pads.pending }
-
--- no section stands in a region
-abbrev pub IsFree : Plan → Type 0
-IsFree plan = (s r : ℕ) → stands_in plan s ≡ Within r → ⊥
-
--- a section that stands in none begins where memory goes on
-begins_freely : (setting : Setting) (goes_on : ℕ → ℕ) (in_run : Bool) (s : ℕ) (from entered : Cursors) → IsFree setting.plan → begun_section setting goes_on in_run s from ≡ Ok entered
-    → (taken setting.plan s (saved_or_restored setting.plan s from) from.pending >>= run_begun setting in_run s (is_some from.pending)) ≡ Ok entered
-begins_freely setting goes_on in_run s from entered free h =
-    let saved : Cursors = saved_or_restored setting.plan s from in
-    let begun : SectionRegion → Result Cursors Refusal
-    = λ room. in_region goes_on s room saved >>= λ there. inside_region setting room there from.pending >>= λ inside. taken setting.plan s inside from.pending >>= run_begun setting in_run s (is_some from.pending) in
-    elim (stands_in setting.plan s) as (λ room. stands_in setting.plan s ≡ room → begun room ≡ Ok entered
-    → (taken setting.plan s saved from.pending >>= run_begun setting in_run s (is_some from.pending)) ≡ Ok entered) [
-      | Free ↦ λ is g. g
-      | Undeclared ↦ λ is g. absurd (cc)
-      | (Within r) ↦ λ is g. absurd (free s r is)
-    ] refl h
-
-pub enters : (setting : Setting) (known : Known) (s : ℕ) (from entered : Cursors) → IsFree setting.plan → from.pending ≡ None → moved setting known (Section s) from ≡ Ok entered → Enters setting s from entered
-enters setting known s from entered free quiet h =
-    let saved : Cursors = saved_or_restored setting.plan s from in
-    let plainly : run_begun setting (is_in_run setting.plan known.last) s false saved ≡ Ok entered =
-    sym (ap (λ (o : Option ℕ). taken setting.plan s saved o >>= run_begun setting (is_in_run setting.plan known.last) s (is_some o)) quiet) ∙ begins_freely setting known.goes_on (is_in_run setting.plan known.last) s from entered free h in
-    let pads : Pads setting s saved entered = run_pads setting (is_in_run setting.plan known.last) s false saved entered plainly in
-    elim (is_zero_fill_thread_local setting.plan s) as (λ b. is_zero_fill_thread_local setting.plan s ≡ b → Pads setting s (if b then saving from else restoring from) entered → Enters setting s from entered) [
-      | true ↦ λ fills padded_too. saves setting s from entered fills padded_too
-      | false ↦ λ filled padded_too. restores setting s from entered filled padded_too
-    ] refl pads
-
--- an event that moves no location, where none waits, moves nothing before it places its section, or opens a load segment, or begins a
--- section
-pub data Moves (setting : Setting) (e : OrderEvent) (from entered : Cursors) : Type 0 where
-  Stays : entered ≡ from → Moves setting e from entered
-  Opened : Opens setting e from entered → Moves setting e from entered
-  Entered : (s : ℕ) → e ≡ Section s → Enters setting s from entered → Moves setting e from entered
-
-pub moves : (setting : Setting) (known : Known) (e : OrderEvent) (from entered : Cursors) → IsFree setting.plan → IsAboutPlace e → from.pending ≡ None → moved setting known e from ≡ Ok entered → Moves setting e from entered
-moves setting known (SegmentStart i) from entered free about quiet h = elim (opens_so setting i from entered (sym (opens_quietly setting known i from quiet) ∙ h)) [ inl same ↦ Stays same | inr opens ↦ Opened opens ]
-moves setting known (SegmentEnd i) from entered free about quiet h = Stays (same_of from entered (Ok from) refl h)
-moves setting known (Section s) from entered free about quiet h = Entered s refl (enters setting known s from entered free quiet h)
-moves setting known (SetLocation x) from entered free about quiet h = absurd about
-moves setting known (SetLocationRelative x s) from entered free about quiet h = absurd about
-moves setting known (SetSectionAddress x) from entered free about quiet h = absurd about
-
--- no location waits behind it
-pub stays_quiet : (setting : Setting) (known : Known) (e : OrderEvent) (from entered : Cursors) → IsFree setting.plan → IsAboutPlace e → from.pending ≡ None → moved setting known e from ≡ Ok entered → entered.pending ≡ None
-stays_quiet setting known e from entered free about quiet h =
-    elim (moves setting known e from entered free about quiet h) [
-      | Stays same ↦ ap (λ (c : Cursors). c.pending) same ∙ quiet
-      | Opened opens ↦ opens.pending ∙ quiet
-      | Entered s is begun ↦ begun.pending ∙ quiet
     ]
 
 -- ---- whatever an event does, the file never goes back

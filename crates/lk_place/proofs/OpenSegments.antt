@@ -4,29 +4,16 @@ use Rattle.std.specs.Prelude.{◌&&◌, ◌||◌, not, slice_get}
 use Rattle.std.specs.List.{list_any}
 use Rattle.std.proofs.Math.Bool.{and-false, or-false, or-true}
 use Rattle.lk_link.specs.declared.plan.OrderEvent.{OrderEvent}
-use Rattle.lk_link.specs.declared.plan.OrderEvent.TheVariants.{SegmentStart, SegmentEnd, Section, SetLocation, SetLocationRelative, SetSectionAddress}
+use Rattle.lk_link.specs.declared.plan.OrderEvent.TheVariants.{SegmentStart, SegmentEnd}
 use Rattle.lk_link.specs.declared.plan.Plan.{Plan}
-use Rattle.lk_link.specs.Inside.{is_open, placed_section}
+use Rattle.lk_link.specs.Inside.{is_open}
 use Rattle.lk_link.specs.Rules.{is_start, is_end}
 use Rattle.lk_link.specs.WellFormed.{IsEventOrder}
 use Rattle.lk_link.proofs.Events.{is_that_end, is_that_start}
 use Rattle.lk_link.proofs.Places.{found}
 
--- ---- events
-
--- an event that places a section is that of the section
-pub section_event : (e : OrderEvent) (u : ℕ) → placed_section e ≡ Some u → e ≡ Section u
-section_event (Section t) u h = let same : t ≡ u = cc in ap (λ n. Section n) same
-section_event (SegmentStart j) u h = absurd (cc)
-section_event (SegmentEnd j) u h = absurd (cc)
-section_event (SetLocation x) u h = absurd (cc)
-section_event (SetLocationRelative x t) u h = absurd (cc)
-section_event (SetSectionAddress x) u h = absurd (cc)
-
--- ---- open segments
-
 -- a test of one event more
-any_more : (p : OrderEvent → Bool) (es : List OrderEvent) (n : ℕ) (e : OrderEvent) → slice_get es n ≡ Some e → list_any p (take (suc n) es) ≡ (list_any p (take n es) || p e)
+pub any_more : (p : OrderEvent → Bool) (es : List OrderEvent) (n : ℕ) (e : OrderEvent) → slice_get es n ≡ Some e → list_any p (take (suc n) es) ≡ (list_any p (take n es) || p e)
 any_more p [] n e h = absurd (cc)
 any_more p (x ∷ xs) zero e h =
     let same : x ≡ e = cc in
@@ -40,18 +27,6 @@ any_more p (x ∷ xs) (suc n) e h =
       | true ↦ refl
       | false ↦ rest
     ]
-
--- open behind an event that does not open it: open before the event
-was_open : (a b c d : Bool) → ((a || c) && not (b || d)) ≡ true → c ≡ false → (a && not b) ≡ true
-was_open true false c d h unopened = refl
-was_open true true c d h unopened = absurd (cc)
-was_open false b c d h unopened = absurd (cc)
-
-pub open_before : (i n : ℕ) (es : List OrderEvent) (e : OrderEvent) → slice_get es n ≡ Some e → is_start i e ≡ false → is_open i (take (suc n) es) ≡ true → is_open i (take n es) ≡ true
-open_before i n es e here unopened h =
-    was_open (list_any (is_start i) (take n es)) (list_any (is_end i) (take n es)) (is_start i e) (is_end i e)
-    (sym (ap (λ b. b && not (list_any (is_end i) (take (suc n) es))) (any_more (is_start i) es n e here) ∙ ap (λ b. (list_any (is_start i) (take n es) || is_start i e) && not b) (any_more (is_end i) es n e here)) ∙ h)
-    unopened
 
 any_same : (p : OrderEvent → Bool) (es : List OrderEvent) (k : ℕ) (e : OrderEvent) → slice_get es k ≡ Some e → p e ≡ false → list_any p (take (suc k) es) ≡ list_any p (take k es)
 any_same p es k e here unmet = any_more p es k e here ∙ ap (λ b. list_any p (take k es) || b) unmet ∙ or-false (list_any p (take k es))

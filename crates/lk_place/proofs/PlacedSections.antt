@@ -13,7 +13,7 @@ use Rattle.lk_place.specs.Placement.{IsPlacedAt, IsRestingAt, PlacesSection, beh
 use Rattle.lk_expressions.specs.Records.{Record, record_at}
 use Rattle.lk_place.specs.Setting.{IsReady, Setting, part_count, part_number, size_at}
 use Rattle.lk_place.specs.Walk.{loaded_by}
-use Rattle.lk_place.proofs.Congruent.{walk_aligned}
+use Rattle.lk_place.proofs.WalkedAlignments.{walk_aligned}
 use Rattle.lk_place.proofs.Multiples.{least_one}
 use Rattle.lk_place.proofs.PlacedParts.{behind_placed}
 use Rattle.lk_place.proofs.SectionEnds.{IsFirstWalked, first_alignment, first_is_walked, first_walked_place, none_before}

@@ -1,9 +1,8 @@
 -- Where memory begins: at the base, or below it where headers are to stand there.
-use Rattle.std.specs.Prelude.{◌≡◌, ℕ, ◌-◌, ◌%◌, ◌<◌, ◌≤◌, ◌&&◌, ◌||◌, not, Bool, true, if◌then◌else◌, nat_le, nat_lt, List, [], None, Option, Result, Ok, Err}
+use Rattle.std.specs.Prelude.{ℕ, ◌-◌, ◌%◌, ◌&&◌, ◌||◌, not, Bool, if◌then◌else◌, nat_le, nat_lt, List, [], None, Option, Result, Ok, Err}
 use Rattle.lk_link.specs.declared.fault.Place.TheVariants as place
 use Rattle.lk_link.specs.declared.file.InputFile.{InputFile}
 use Rattle.lk_link.specs.declared.plan.Plan.{Plan}
-use Rattle.lk_link.specs.Alignments.{IsGreatestMultiple}
 use Rattle.lk_place.specs.declared.error.PlaceError.{PlaceError}
 use Rattle.lk_place.specs.declared.error.PlaceError.TheVariants.{BaseTooLow, Expression}
 use Rattle.lk_expressions.specs.Expressions.{Valued}
@@ -41,10 +40,3 @@ memory_begun plan headers base = if is_too_low plan headers base then Err (BaseT
 abbrev pub first_memory : Plan → ℕ → Valued → Result ℕ PlaceError
 first_memory plan headers (Ok base) = memory_begun plan headers base
 first_memory plan headers (Err cause) = Err (Expression place.Base cause)
-
--- ---- a law
-
--- where headers are to stand below the base and have room there, memory begins at the last page that leaves it to them
-abbrev pub MemoryLeavesRoom : Type 0
-MemoryLeavesRoom = (plan : Plan) (headers base : ℕ) → 0 < plan.page → (plan.custom_base || plan.phdrs_headers) ≡ true → headers ≤ base
-    → IsGreatestMultiple plan.page (base - headers) (memory_start plan headers base)

@@ -3,7 +3,6 @@ pub mod Answers
 pub mod AtHand
 pub mod Base
 pub mod Counters
-pub mod Distance
 pub mod FileRange
 pub mod Hulls
 pub mod InRegions
@@ -14,15 +13,12 @@ pub mod Placement
 pub mod PlacementLaws
 pub mod Plain
 pub mod PlainScan
-pub mod Plans
 pub mod PositionLaws
 pub mod Ranges
 pub mod RegionNames
 pub mod Regions
 pub mod Secondaries
 pub mod SecondariesSoFar
-pub mod SectionRanges
-pub mod SegmentHulls
 pub mod Segments
 pub mod Setting
 pub mod Shallow

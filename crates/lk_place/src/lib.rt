@@ -5,7 +5,6 @@
 pub mod alignments;
 pub mod base;
 pub mod cursors;
-pub mod distance;
 pub mod error;
 pub mod file_range;
 pub mod hulls;
@@ -19,8 +18,6 @@ pub mod plain;
 mod records_before;
 pub mod regions;
 pub mod secondaries;
-pub mod section_ranges;
-pub mod segment_hulls;
 pub mod segments;
 mod start;
 pub mod walk;

@@ -14,7 +14,7 @@ use lk_link::options::OutputKind;
 use lk_link::plan::{OrderEvent, Plan};
 
 /// What is known of the events so far.
-#[derive(Clone, Copy, Debug, PartialEq, Eq)]
+#[derive(Clone, Copy)]
 struct Scan {
     /// The load segment that is open, if one is.
     inside: Option<SegmentId>,

@@ -27,7 +27,7 @@ use Rattle.lk_sizes.proofs.LiveByFiles.{live_input, number_of, unsorted_is_live}
 use Rattle.lk_sizes.proofs.Resizing.{capacities_rise}
 use Rattle.lk_sizes.proofs.SortedOnes.{sorted_at}
 use Rattle.lk_sizes.proofs.Takers.{bytes_in-append, bytes_in_here, bytes_in_other}
-use Rattle.lk_sizes.proofs.Tiling.{part_is_aligned}
+use Rattle.lk_sizes.proofs.PartAlignments.{part_is_aligned}
 use Rattle.lk_tables.specs.TableLists.{table_of}
 use Rattle.lk_sizes.specs.Sorted.{sorted_inputs}
 use Rattle.lk_deltas.specs.LinkDeletions.{Deletions, size_after, sizes_after}

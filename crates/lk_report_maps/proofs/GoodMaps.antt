@@ -19,11 +19,11 @@ use Rattle.lk_map.specs.Spans.{counts_in_file, counts_in_memory, file_span, memo
 use Rattle.lk_place.specs.declared.cursors.Cursors.{Cursors}
 use Rattle.lk_place.specs.declared.segments.SegmentFileLayout.TheVariants.{FromSections}
 use Rattle.lk_place.specs.declared.segments.SegmentLayout.{SegmentLayout}
-use Rattle.lk_place.specs.Distance.{AreEquallyFar}
-use Rattle.lk_place.specs.Laws.{IsSoundlySet}
+use Rattle.lk_place_laws.specs.Distance.{AreEquallyFar}
+use Rattle.lk_place_laws.specs.Laws.{IsSoundlySet}
 use Rattle.lk_place.specs.Plain.{IsPlain, PlacesInLoad}
-use Rattle.lk_place.specs.SectionRanges.{AreApartInFile, AreApartInMemory, FileSectionsAreApart, PlainMemorySectionsAreApart, SectionsFit, span_of}
-use Rattle.lk_place.specs.SegmentHulls.{HoldsRecord, PlainSegmentsHoldSections, SegmentsFit, segment_span}
+use Rattle.lk_place_laws.specs.SectionRanges.{AreApartInFile, AreApartInMemory, FileSectionsAreApart, PlainMemorySectionsAreApart, SectionsFit, span_of}
+use Rattle.lk_place_laws.specs.SegmentHulls.{HoldsRecord, PlainSegmentsHoldSections, SegmentsFit, segment_span}
 use Rattle.lk_place.specs.Segments.{section_records, segment_layout}
 use Rattle.lk_place.specs.Setting.{Setting}
 

@@ -10,10 +10,10 @@ use Rattle.lk_link.specs.PlanSections.{is_set, no_section, own_attributes}
 use Rattle.lk_link.specs.WellFormed.{IsWellFormed}
 use Rattle.lk_live.specs.declared.live.Live.{Live}
 use Rattle.lk_live.specs.Reach.{AreLive}
-use Rattle.lk_place.specs.Laws.{IsSoundlySet}
+use Rattle.lk_place_laws.specs.Laws.{IsSoundlySet}
 use Rattle.lk_place.specs.Plain.{IsPlain}
-use Rattle.lk_place.specs.SectionRanges.{FileSectionsAreApart, PlainMemorySectionsAreApart, SectionsFit}
-use Rattle.lk_place.specs.SegmentHulls.{PlainSegmentsHoldSections, SegmentsFit}
+use Rattle.lk_place_laws.specs.SectionRanges.{FileSectionsAreApart, PlainMemorySectionsAreApart, SectionsFit}
+use Rattle.lk_place_laws.specs.SegmentHulls.{PlainSegmentsHoldSections, SegmentsFit}
 use Rattle.lk_place.specs.Setting.{Setting}
 use Rattle.lk_sizes.specs.Attributes.{all_section_attributes, section_attributes}
 use Rattle.lk_sizes.specs.Emitted.{active_segments, is_emitted}

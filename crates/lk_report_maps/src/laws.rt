@@ -5,10 +5,10 @@ ghost use Rattle.lk_report_maps.specs.Laws.{DefinedLayoutsAreWhole, DefinedRepor
 
 use lk_layout::laws::laid_out_links_are_well_formed;
 use lk_map::laws::reads_maps;
-use lk_place::section_ranges::{
+use lk_place_laws::section_ranges::{
     file_sections_are_apart, plain_memory_sections_are_apart, sections_fit,
 };
-use lk_place::segment_hulls::{plain_segments_hold_sections, segments_fit};
+use lk_place_laws::segment_hulls::{plain_segments_hold_sections, segments_fit};
 use lk_relax::laws::relaxed_stands;
 use lk_soundness::laws::defined_layouts_are_sound;
 

@@ -17,7 +17,8 @@ use Rattle.lk_sizes.specs.PartOwners.{LiveSectionsAreOwners, has_key, live_addre
 use Rattle.lk_tables.specs.TableLists.{table_of}
 use Rattle.lk_sizes.specs.Tables.{behind_leading, bytes_in}
 pub use Rattle.lk_sizes.proofs.Keys.{same_number}
-use Rattle.lk_sizes.proofs.Keys.{NoneTwice, found_there}
+use Rattle.lk_ranks.proofs.Rising.{NoneTwice}
+use Rattle.lk_sizes.proofs.Keys.{found_there}
 pub use Rattle.lk_sizes.proofs.LiveByFiles.{number_of}
 use Rattle.lk_sizes.proofs.LiveByFiles.{unsorted_by_files}
 use Rattle.lk_sizes.proofs.OwnerKeys.{number_in, sections_once}

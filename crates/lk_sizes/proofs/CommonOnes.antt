@@ -39,7 +39,8 @@ use Rattle.lk_sizes.specs.Owners.{Filling, IsCommonIn, Taker, all_commons, all_f
 use Rattle.lk_sizes.specs.PartOwners.{CommonsAreOwners, common_address, common_key, owners_of}
 use Rattle.lk_sizes.specs.Tables.{AreLeft, CommonsGo, behind_leading, bytes_in, reach_from}
 use Rattle.lk_sizes.proofs.Addressing.{IsAmong, StandsBehind, address_behind, among, stands_behind, stands_there}
-use Rattle.lk_sizes.proofs.Keys.{IsRising, NoneTwice, all_keys, made_keys, no_keys, rise_flat, rising_at, rising_below, rising_lower, rising_order}
+use Rattle.lk_ranks.proofs.Rising.{IsRising, NoneTwice, rise_flat, rising_at, rising_below, rising_lower, rising_order}
+use Rattle.lk_sizes.proofs.Keys.{all_keys, made_keys, no_keys}
 use Rattle.lk_sizes.proofs.OwnerKeys.{FilesRise, file_more, files_rise, keys_once, once_in_part, place_is_number, taker_keys}
 use Rattle.lk_sizes.proofs.Takers.{mapped_flat}
 use Rattle.lk_sizes.proofs.ThunkTakers.{no_block_keys}

@@ -14,7 +14,7 @@ use Rattle.lk_link.proofs.InputLemmas.{file_stands, files_from_are}
 use Rattle.lk_live.specs.declared.live.Live.{Live}
 use Rattle.lk_live.specs.Reach.{live_inputs}
 use Rattle.lk_reach.proofs.Numbered.{file_at, sections_of}
-use Rattle.lk_sizes.proofs.Keys.{IsRising, NoneTwice, rise_flat, rising_lower, rising_once}
+use Rattle.lk_ranks.proofs.Rising.{IsRising, NoneTwice, rise_flat, rising_lower, rising_once}
 use Rattle.lk_sizes.proofs.LiveByFiles.{is_live_input, live_by_files}
 use Rattle.lk_sizes.proofs.Takers.{mapped_flat}
 

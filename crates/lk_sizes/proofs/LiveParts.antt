@@ -17,7 +17,7 @@ use Rattle.lk_reach.proofs.LiveWalk.{turn}
 use Rattle.lk_sizes.specs.Kept.{kept_inputs}
 use Rattle.lk_sizes.proofs.KeptOnes.{kept_goes}
 use Rattle.lk_sizes.proofs.LiveOnes.{live_goes}
-use Rattle.lk_sizes.proofs.Tiling.{part_is_aligned}
+use Rattle.lk_sizes.proofs.PartAlignments.{part_is_aligned}
 
 -- a part that is read is the part with that number
 pub read_part : (link : LinkInput) (parts : List PlanPart) (p : ℕ) (d : PlanPart) → parts ≡ all_parts link.plan.sections → p < length parts → slice_index_or parts p d ≡ part_at link.plan.sections p

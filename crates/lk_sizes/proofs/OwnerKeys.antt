@@ -21,7 +21,8 @@ use Rattle.lk_sizes.specs.Owners.{EntryOwner, Filling, IdentityOwner, ImageOwner
 use Rattle.lk_sizes.specs.Sorted.{sorted_inputs}
 use Rattle.lk_sizes.specs.PartOwners.{owners_of, section_key, tables_of, thunk_key}
 pub use Rattle.lk_sizes.proofs.LiveNumbers.{FilesRise, file_more, files_rise, number_in, place_is_number}
-use Rattle.lk_sizes.proofs.Keys.{IsRising, NoneTwice, all_keys, flat_keys, made_keys, no_keys, rising_once, some_once}
+use Rattle.lk_ranks.proofs.Rising.{IsRising, NoneTwice, rising_once}
+use Rattle.lk_sizes.proofs.Keys.{all_keys, flat_keys, made_keys, no_keys, some_once}
 use Rattle.lk_sizes.proofs.Lists.{flat_alike}
 use Rattle.lk_sizes.proofs.LiveByFiles.{unsorted_by_files, unsorted_ones}
 use Rattle.lk_sizes.proofs.SortedOnes.{parted_once}

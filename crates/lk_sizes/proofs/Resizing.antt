@@ -40,7 +40,7 @@ use Rattle.lk_sizes.proofs.SortedFits.{takes_some}
 use Rattle.lk_sizes.proofs.SortedOnes.{sorted_at}
 use Rattle.lk_sizes.proofs.Takers.{bytes_in-append, bytes_in_here, bytes_in_other, mapped_flat}
 use Rattle.lk_sizes.proofs.ThunkBytes.{sizes_apart}
-use Rattle.lk_sizes.proofs.Tiling.{part_is_aligned}
+use Rattle.lk_sizes.proofs.PartAlignments.{part_is_aligned}
 use Rattle.lk_sizes.proofs.Wholes.{live_apart}
 
 -- ---- capacities

@@ -21,7 +21,7 @@ use Rattle.lk_link.proofs.InputLemmas.{inputs_follow}
 use Rattle.lk_live.specs.declared.live.Live.{Live}
 use Rattle.lk_live.specs.Reach.{live_inputs, marked}
 use Rattle.lk_reach.proofs.SymbolNumbers.{inputs_few}
-use Rattle.lk_sizes.specs.Ranks.{AreKeys, AreRanks, AreSortedKeys, StandByKeys, sort_key}
+use Rattle.lk_ranks.specs.Ranks.{AreKeys, AreRanks, AreSortedKeys, StandByKeys, sort_key}
 use Rattle.lk_sizes.specs.Sorted.{before, name_cmp, sorted_inputs, sorted_ones}
 use Rattle.lk_sizes.proofs.Earlier.{Earlier, place_cmp, sorted_rise}
 use Rattle.lk_sizes.proofs.LiveOnes.{Pairwise}

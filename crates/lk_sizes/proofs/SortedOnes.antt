@@ -17,11 +17,12 @@ use Rattle.lk_link.proofs.Elements.{at_contained, contains_at, filter_at, filter
 use Rattle.lk_live.specs.declared.live.Live.{Live}
 use Rattle.lk_live.specs.Reach.{live_inputs}
 use Rattle.lk_sizes.specs.Sorted.{NoOtherOrder, SortedStandByName, before, by_name, insert_by_name, name_cmp, sorted_inputs, sorted_ones}
-use Rattle.lk_sizes.proofs.Keys.{NoneTwice, all_keys, some_once}
+use Rattle.lk_ranks.proofs.Rising.{NoneTwice}
+use Rattle.lk_sizes.proofs.Keys.{all_keys, some_once}
 use Rattle.lk_sizes.proofs.LiveByFiles.{unsorted_ones}
 use Rattle.lk_sizes.proofs.LiveNumbers.{live_once, number_in}
 use Rattle.lk_sizes.proofs.LiveOnes.{Pairwise}
-use Rattle.lk_sizes.proofs.Tallies.{once_moved}
+use Rattle.lk_ranks.proofs.Tallies.{once_moved}
 
 -- ---- the same ones
 

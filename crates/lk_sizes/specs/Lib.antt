@@ -2,7 +2,6 @@ pub mod Addresses
 pub mod Attributes
 pub mod Contents
 pub mod Emitted
-pub mod GroupRanges
 pub mod Harvest
 pub mod Header
 pub mod Images
@@ -10,10 +9,8 @@ pub mod Kept
 pub mod Owners
 pub mod OwnersRecord
 pub mod PartOwners
-pub mod Ranks
 pub mod Resized
 pub mod Sizing
 pub mod Sorted
 pub mod Tables
 pub mod ThunkSums
-pub mod Tiles

@@ -10,10 +10,8 @@ pub mod header;
 pub mod images;
 mod kept;
 mod kept_symbols;
-pub mod laws;
 pub mod owners;
 pub mod part_owners;
-mod ranks;
 mod resized;
 pub mod sorted;
 

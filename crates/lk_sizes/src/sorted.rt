@@ -9,15 +9,15 @@ ghost use Rattle.lk_link.specs.Walks.{input_of};
 ghost use Rattle.lk_link.specs.WellFormed.{IsWellFormed};
 ghost use Rattle.lk_live.specs.Reach.{AreLive};
 ghost use Rattle.lk_sizes.specs.Harvest.{SortedFit, capacity_by, sorted_section, sorted_sections};
-ghost use Rattle.lk_sizes.specs.Ranks.{AreSortedKeys};
+ghost use Rattle.lk_ranks.specs.Ranks.{AreSortedKeys};
 ghost use Rattle.lk_sizes.specs.Sorted.{sorted_ones};
 ghost use Rattle.lk_sizes.specs.Owners.{own_sizes};
 ghost use Rattle.lk_sizes.specs.Tables.{IsInput};
 
 use crate::owners::len_at;
-use crate::ranks::{in_order, keys_by_name};
 use lk_link::{FileId, InputRef, LinkInput, PartId, Section};
 use lk_live::Live;
+use lk_ranks::{in_order, sorted_keys};
 use std::alloc::{AllocError, Global};
 
 /// A sorted section that is live, in its part (libwild: `InputSortedSection`).
@@ -82,8 +82,7 @@ fn tell_with_keys(
 {
     let found = find_sorted(alloc, link, live)?;
     let told = tell_all(alloc, link, sizes, found.as_slice())?;
-    let mut keys = keys_by_name(alloc, found.as_slice())?;
-    keys.sort_unstable();
+    let keys = sorted_keys(alloc, found.as_slice())?;
     Ok((told, keys))
 }
 

@@ -39,7 +39,8 @@ use Rattle.lk_link.proofs.NumberedSymbolLemmas.{numbered_count}
 use Rattle.lk_link.proofs.SymbolLemmas.{symbols_follow}
 use Rattle.lk_reach.proofs.Numbered.{file_of_input, one_place}
 use Rattle.lk_reach.proofs.UnitLemmas.{symbols_length}
-use Rattle.lk_place.specs.PlacementLaws.{PartsTakeTheirBytes, RefusedExactlyPast}
+use Rattle.lk_place.specs.PlacementLaws.{PartsTakeTheirBytes}
+use Rattle.lk_place_laws.specs.PlacementLaws.{RefusedExactlyPast}
 use Rattle.lk_deltas.specs.Candidates.{goes, is_gone, range_of, shrunk}
 use Rattle.lk_deltas.specs.Deletions.{RiseWithin}
 use Rattle.lk_deltas.proofs.CandidateLemmas.{gone_again}

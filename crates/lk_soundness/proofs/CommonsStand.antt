@@ -24,7 +24,7 @@ use Rattle.lk_live.specs.declared.live.Live.{Live}
 use Rattle.lk_expressions.specs.Records.{Record, nowhere, record_at}
 use Rattle.lk_sizes.specs.Owners.{CommonOwner, IsCommonIn, Owner, owner_address, Filling}
 use Rattle.lk_sizes.specs.PartOwners.{common_address, common_number, owners_of, part_size, part_sizes}
-use Rattle.lk_sizes.specs.Tiles.{HasByte, OwnersAreAligned, OwnersTileTheirPart}
+use Rattle.lk_size_laws.specs.Tiles.{HasByte, OwnersAreAligned, OwnersTileTheirPart}
 use Rattle.lk_sizes.proofs.CommonOnes.{common_is_placed, commons_are_owners}
 use Rattle.lk_layout.specs.LayoutRecord.{LayoutRecord}
 use Rattle.lk_link.specs.declared.resolution.Resolution.{Resolution}

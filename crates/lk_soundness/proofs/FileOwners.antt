@@ -12,14 +12,15 @@ use Rattle.lk_link.specs.Parts.{all_parts, first_part, part_at}
 use Rattle.lk_link.specs.PlanSections.{is_file_backed}
 use Rattle.lk_link.proofs.PartNumbers.{first_part-cons, first_part-le, first_part-suc}
 use Rattle.lk_expressions.specs.Records.{Record, file_end, nowhere, record_at}
-use Rattle.lk_place.specs.PlacementLaws.{PartsTakeFileBytes, PartsTakeTheirBytes}
+use Rattle.lk_place.specs.PlacementLaws.{PartsTakeTheirBytes}
+use Rattle.lk_place_laws.specs.PlacementLaws.{PartsTakeFileBytes}
 use Rattle.lk_place.specs.Ranges.{FileIsDisjoint, HasPart, IsInFile}
 use Rattle.lk_place.specs.Segments.{greatest, least, part_records, section_records}
 use Rattle.lk_place.specs.Setting.{Setting, part_count, part_number, size_at}
 use Rattle.lk_relax.specs.RelaxedLaws.{RelaxedStands}
 use Rattle.lk_sizes.specs.Owners.{Owner, SectionOwner, bytes_of, owner_bytes, size_of}
 use Rattle.lk_sizes.specs.PartOwners.{LiveSectionsAreOwners, owner_number, owners_of}
-use Rattle.lk_sizes.specs.Tiles.{HasByte}
+use Rattle.lk_size_laws.specs.Tiles.{HasByte}
 use Rattle.lk_soundness.specs.FileBytes.{FileBytesHaveOwners, HasFileByte, IsFileBacked, LaidOutFileHasOneOwner, LiveSectionsOwnTheirFileBytes, LiveSectionsShareNoFileByte, OwnersShareNoFileByte, OwnersStandInTheirSections, PartsTakeTheirOwners}
 use Rattle.lk_soundness.specs.Laws.{DefinedLayoutsAreSound}
 use Rattle.lk_layout.specs.LayoutRecord.{LayoutRecord}

@@ -17,7 +17,8 @@ use Rattle.lk_place.specs.declared.error.Refusal.{Refusal}
 use Rattle.lk_place.specs.InRegions.{past_region, stands_in}
 use Rattle.lk_place.specs.PlacedBefore.{Standing}
 use Rattle.lk_place.specs.Placement.{either_refusal, event_refusal, known_before, load_given, load_refusal, numbered, placing_refusal, refusal_behind_move, section_left, section_overflow, section_refusal, state_at}
-use Rattle.lk_place.specs.PlacementLaws.{PartsTakeTheirBytes, RefusedExactlyPast}
+use Rattle.lk_place.specs.PlacementLaws.{PartsTakeTheirBytes}
+use Rattle.lk_place_laws.specs.PlacementLaws.{RefusedExactlyPast}
 use Rattle.lk_expressions.specs.Records.{Record, mem_end, nowhere, record_at}
 use Rattle.lk_place.specs.Setting.{Setting}
 use Rattle.lk_sizes.specs.Images.{image_addresses}

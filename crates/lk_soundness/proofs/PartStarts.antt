@@ -18,7 +18,7 @@ use Rattle.lk_place.specs.Alignments.{greatest_of, section_alignment}
 use Rattle.lk_place.specs.Placement.{first_walked, is_walked}
 use Rattle.lk_expressions.specs.Records.{record_at}
 use Rattle.lk_place.specs.Setting.{Setting, has_bytes, part_count, part_number, size_at}
-use Rattle.lk_sizes.proofs.Tiling.{part_is_aligned}
+use Rattle.lk_sizes.proofs.PartAlignments.{part_is_aligned}
 use Rattle.lk_link.proofs.Powers.{alignment_divides}
 use Rattle.lk_place.proofs.AlignmentLaws.{greatest_of-least, section_aligned}
 use Rattle.lk_live.specs.declared.live.Live.{Live}

@@ -15,10 +15,13 @@ use Rattle.lk_link.specs.declared.plan.PlanPart.{PlanPart}
 use Rattle.lk_link.specs.Inputs.{Input}
 use Rattle.lk_link.specs.Parts.{all_parts, part_at}
 use Rattle.lk_link.specs.WellFormed.{IsWellFormed}
-use Rattle.lk_place.specs.Laws.{FileRangesAreDisjoint, IsSoundlySet, KeepAlignments, MemoryRangesAreDisjoint, PlainMemoryIsCongruent, PlainMemoryIsDisjoint, RecordsKeepAlignments}
-use Rattle.lk_place.specs.PlacementLaws.{PartsTakeTheirBytes, RefusedExactlyPast}
+use Rattle.lk_place.specs.Laws.{FileRangesAreDisjoint}
+use Rattle.lk_place_laws.specs.Laws.{IsSoundlySet, KeepAlignments, MemoryRangesAreDisjoint, PlainMemoryIsCongruent, PlainMemoryIsDisjoint, RecordsKeepAlignments}
+use Rattle.lk_place.specs.PlacementLaws.{PartsTakeTheirBytes}
+use Rattle.lk_place_laws.specs.PlacementLaws.{RefusedExactlyPast}
 use Rattle.lk_place.specs.Plain.{IsPlain}
-use Rattle.lk_place.specs.Ranges.{FileIsDisjoint, MemoryIsDisjoint}
+use Rattle.lk_place.specs.Ranges.{FileIsDisjoint}
+use Rattle.lk_place_laws.specs.MemoryRanges.{MemoryIsDisjoint}
 use Rattle.lk_expressions.specs.Records.{Record, nowhere, record_at}
 use Rattle.lk_place.specs.Segments.{alignment_inside, first_outside}
 use Rattle.lk_sizes.specs.declared.addresses.LiveSection.{LiveSection}
@@ -26,7 +29,7 @@ use Rattle.lk_sizes.specs.Addresses.{live_section, live_sections}
 use Rattle.lk_sizes.specs.Emitted.{is_emitted}
 use Rattle.lk_sizes.specs.Owners.{Owner, SectionOwner, bytes_of, owner_address, size_of}
 use Rattle.lk_sizes.specs.PartOwners.{LiveSectionsAreOwners, owner_number, owners_of, part_size, part_sizes}
-use Rattle.lk_sizes.specs.Tiles.{HasByte, IsTiled, OwnersAreAligned, OwnersTileTheirPart}
+use Rattle.lk_size_laws.specs.Tiles.{HasByte, IsTiled, OwnersAreAligned, OwnersTileTheirPart}
 use Rattle.lk_sizes.proofs.LiveOnes.{Differ, Pairwise, live_differ, live_goes, live_good}
 use Rattle.lk_relax.specs.RelaxedLaws.{RelaxedIsShrunk, RelaxedStands}
 use Rattle.lk_relax.specs.Sites.{DeletedSitesAreNear}

@@ -8,7 +8,7 @@ use Rattle.lk_link.specs.declared.link.LinkInput.{LinkInput}
 use Rattle.lk_link.specs.PartRules.{is_part, is_table_part, table_parts}
 use Rattle.lk_link.specs.WellFormed.{IsWellFormed}
 use Rattle.lk_live.specs.Reach.{AreLive}
-use Rattle.lk_sizes.proofs.TableParts.{table_parts_have_entries_alone}
+use Rattle.lk_size_laws.proofs.TableParts.{table_parts_have_entries_alone}
 use Rattle.lk_sizes.specs.Owners.{Filling}
 use Rattle.lk_soundness.specs.Sound.{TablesStandAlone}
 

@@ -29,7 +29,8 @@ use Rattle.lk_link.specs.WellFormed.{IsWellFormed}
 use Rattle.lk_link.proofs.Elements.{map_in}
 use Rattle.lk_link.proofs.GoodInputs.{inputs_are_good}
 use Rattle.lk_link.proofs.InputLemmas.{inputs_follow, numbered_get}
-use Rattle.lk_place.specs.PlacementLaws.{PartsTakeTheirBytes, RefusedExactlyPast}
+use Rattle.lk_place.specs.PlacementLaws.{PartsTakeTheirBytes}
+use Rattle.lk_place_laws.specs.PlacementLaws.{RefusedExactlyPast}
 use Rattle.lk_deltas.specs.Candidates.{AreOf, is_gone, range_of, ranges_in}
 use Rattle.lk_deltas.specs.Deletions.{RiseWithin, bytes_before, mapped, mapped_by}
 use Rattle.lk_deltas.proofs.CandidateLemmas.{kept_rise, rise_by}

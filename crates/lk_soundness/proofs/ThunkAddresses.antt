@@ -14,11 +14,12 @@ use Rattle.lk_link.specs.declared.link.LinkInput.{LinkInput}
 use Rattle.lk_link.specs.declared.plan.PlanPart.{PlanPart}
 use Rattle.lk_link.specs.Parts.{all_parts, part_at}
 use Rattle.lk_link.proofs.GoodPartFields.{good_part_fields}
-use Rattle.lk_place.specs.PlacementLaws.{PartsTakeTheirBytes, RefusedExactlyPast}
+use Rattle.lk_place.specs.PlacementLaws.{PartsTakeTheirBytes}
+use Rattle.lk_place_laws.specs.PlacementLaws.{RefusedExactlyPast}
 use Rattle.lk_relax.specs.Scan.{as_address}
 use Rattle.lk_sizes.specs.Owners.{Filling, Owner, ThunkOwner, bytes_of, owner_address, owner_bytes}
 use Rattle.lk_sizes.specs.PartOwners.{owners_of, thunk_number}
-use Rattle.lk_sizes.proofs.Tiling.{whole}
+use Rattle.lk_size_laws.proofs.Tiling.{whole}
 use Rattle.lk_resolutions.specs.Starts.{starts_of}
 use Rattle.lk_layout.specs.LayoutRecord.{LayoutRecord}
 use Rattle.lk_layout.specs.Layouts.{thunk_address}

@@ -20,8 +20,8 @@ use Rattle.lk_link.specs.Parts.{part_at}
 use Rattle.lk_link.proofs.Elements.{filter_in, map_at, map_in, numbered_at}
 use Rattle.lk_sizes.specs.Owners.{Filling, ThunkOwner, owner_address}
 use Rattle.lk_sizes.specs.Sizing.{with_sizes}
-use Rattle.lk_sizes.proofs.OwnersLive.{owners_are_live}
-use Rattle.lk_sizes.proofs.OwnersOnce.{thunks_are_owners}
+use Rattle.lk_size_laws.proofs.OwnersLive.{owners_are_live}
+use Rattle.lk_sizes.proofs.ThunkOwners.{thunks_are_owners}
 use Rattle.lk_sizes.specs.Addresses.{primary_address}
 use Rattle.lk_sizes.specs.PartOwners.{block_address, owners_of, thunk_number}
 use Rattle.lk_thunks.specs.declared.arch.ThunkConfig.{ThunkConfig}

@@ -12,7 +12,7 @@ use Rattle.lk_relax.specs.Stages.{Stage}
 use Rattle.lk_sizes.specs.declared.addresses.LiveSection.{LiveSection}
 use Rattle.lk_sizes.specs.Owners.{Owner, bytes_of, owner_address, owner_bytes}
 use Rattle.lk_sizes.specs.PartOwners.{owner_number, owners_of}
-use Rattle.lk_sizes.specs.Tiles.{HasByte}
+use Rattle.lk_size_laws.specs.Tiles.{HasByte}
 use Rattle.lk_layout.specs.Defined.{IsDefined}
 use Rattle.lk_layout.specs.LayoutRecord.{LayoutRecord}
 use Rattle.lk_layout.specs.Machines.{IsLawfulMachine, Machine}

@@ -5,8 +5,8 @@ use Rattle.lk_link.specs.WellFormed.{IsWellFormed}
 use Rattle.lk_live.specs.declared.live.Live.{Live}
 use Rattle.lk_live.specs.Faults.{reference_faults}
 use Rattle.lk_live.specs.Reach.{AreLive}
-use Rattle.lk_place.specs.Plans.{IsUnmoved}
-use Rattle.lk_place.specs.Ranges.{MemoryIsDisjoint}
+use Rattle.lk_place_laws.specs.Plans.{IsUnmoved}
+use Rattle.lk_place_laws.specs.MemoryRanges.{MemoryIsDisjoint}
 use Rattle.lk_relax.specs.Stages.{Stage}
 use Rattle.lk_layout.specs.LayoutRecord.{LayoutRecord}
 use Rattle.lk_layout.specs.Defined.{IsDefined}

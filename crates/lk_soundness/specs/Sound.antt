@@ -40,7 +40,8 @@ use Rattle.lk_merge.specs.MergedReferences.{IsShownAt}
 use Rattle.lk_merge.specs.OutputAddresses.{MergePlace, Shows, merged_address, offset_place, symbol_place}
 use Rattle.lk_merge.specs.Pieces.{Piece, MergeInput}
 use Rattle.lk_place.specs.Plain.{IsPlain, PlacesInLoad}
-use Rattle.lk_place.specs.Ranges.{FileIsDisjoint, HasPart, MemoryIsDisjoint, TakesMemory}
+use Rattle.lk_place.specs.Ranges.{FileIsDisjoint, HasPart}
+use Rattle.lk_place_laws.specs.MemoryRanges.{MemoryIsDisjoint, TakesMemory}
 use Rattle.lk_expressions.specs.Records.{Record, record_at}
 use Rattle.lk_deltas.specs.Candidates.{AreOf, is_gone}
 use Rattle.lk_deltas.specs.LinkDeletions.{output_offset}
@@ -60,7 +61,7 @@ use Rattle.lk_tables.specs.TableLaws.{HasLastEntry}
 use Rattle.lk_tables.specs.TableLists.{table_of}
 use Rattle.lk_sizes.specs.Harvest.{sorted_section}
 use Rattle.lk_sizes.specs.Sorted.{IsByName, before}
-use Rattle.lk_sizes.specs.Tiles.{HasByte, IsTiled}
+use Rattle.lk_size_laws.specs.Tiles.{HasByte, IsTiled}
 use Rattle.lk_tables.specs.SymbolEntries.{is_resolved}
 use Rattle.lk_layout.specs.LayoutRecord.{LayoutRecord}
 use Rattle.lk_resolutions.specs.Starts.{starts_of}

@@ -7,16 +7,16 @@ ghost use Rattle.lk_soundness.specs.ToldMemory.{MemoryStays};
 use lk_check::well_formed_exactly_unfaulted;
 use lk_layout::laws::laid_out_links_are_well_formed;
 use lk_own_symbols::laws::others_are_no_redirects;
-use lk_place::laws::{
-    file_ranges_are_disjoint, memory_ranges_are_disjoint, parts_take_file_bytes,
-    parts_take_their_bytes, plain_memory_is_congruent, plain_memory_is_disjoint,
-    records_keep_alignments, refused_exactly_past,
+use lk_place::laws::{file_ranges_are_disjoint, parts_take_their_bytes};
+use lk_place_laws::laws::{
+    memory_ranges_are_disjoint, parts_take_file_bytes, plain_memory_is_congruent,
+    plain_memory_is_disjoint, records_keep_alignments, refused_exactly_past,
 };
 use lk_relax::laws::{
     deleted_sites_are_near, deletions_are_read, relaxed_is_shrunk, relaxed_stands,
 };
 use lk_resolution_list::laws::redirects_change_values_alone;
-use lk_sizes::laws::{live_sections_are_owners, owners_are_aligned, owners_tile_their_part};
+use lk_size_laws::laws::{live_sections_are_owners, owners_are_aligned, owners_tile_their_part};
 use lk_thunk_plan::laws::{branches_reach, thunks_have_ranges};
 
 /// A law: a defined layout is sound, on a lawful machine.

@@ -16,7 +16,7 @@ use Rattle.lk_link.proofs.Elements.{filter_in, map_in}
 use Rattle.lk_link.proofs.GoodLinks.{part_alignment-pos}
 use Rattle.lk_link.proofs.GoodPartFields.{good_part_fields}
 use Rattle.lk_sizes.specs.Owners.{AreThunkOwners, thunk_bytes}
-use Rattle.lk_sizes.proofs.OwnersOnce.{thunks_are_owners}
+use Rattle.lk_sizes.proofs.ThunkOwners.{thunks_are_owners}
 use Rattle.lk_thunks.specs.SetLaws.{IsRising}
 use Rattle.lk_thunks.proofs.Places.{found_there}
 use Rattle.lk_thunk_plan.specs.BranchLaws.{ThunksHaveRanges}

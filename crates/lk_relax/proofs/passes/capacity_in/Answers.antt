@@ -2,7 +2,7 @@ use Rattle.std.proofs.Common.{◌≡◌, true, ap, sym, subst, ◌∙◌}
 use Rattle.lk_link.specs.Sizes.{capacity}
 use Rattle.lk_link.specs.declared.plan.PlanPart.{PlanPart}
 use Rattle.lk_link.specs.Alignments.{is_alignment}
-use Rattle.lk_sizes.proofs.Tiling.{part_is_aligned}
+use Rattle.lk_sizes.proofs.PartAlignments.{part_is_aligned}
 use Rattle.lk_relax.proofs.Falling.{no_part, part_there}
 use Rattle.lk_relax.proofs.passes.capacity_in.Goals as goal
 

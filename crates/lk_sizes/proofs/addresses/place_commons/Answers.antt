@@ -8,7 +8,8 @@ use Rattle.lk_sizes.specs.Tables.{ArePassed, HaveSpace}
 use Rattle.lk_sizes.proofs.LiveParts.{read_alignment, read_part}
 use Rattle.lk_sizes.proofs.Placed.{AreTold, all_told, one_told}
 use Rattle.lk_sizes.proofs.Takers.{one_passed, room_for}
-use Rattle.lk_sizes.proofs.Turns.{all_so_far, around, so_far, there}
+use Rattle.lk_reach.proofs.LiveWalk.{split_at}
+use Rattle.lk_ranks.proofs.Turns.{all_so_far, so_far, there}
 use Rattle.lk_sizes.proofs.addresses.place_commons.Goals as goal
 
 pub bounds-next-part : goal.bounds-next-part
@@ -39,7 +40,7 @@ take_next-address-requires-clause-room c =
     let common : Common = c.common-item.result in
     let p : ℕ = c.as_usize-part.result in
     let at = there commons i common c.loop-common-test.true c.common-item.is in
-    let rest = around commons i common at in
+    let rest = split_at commons i common at in
     let below : p < length (all_parts link.plan.sections) = omega (arith, c.requires.goes i common at, c.as_usize-part.ensures) in
     let part = read_part link c.parts-parts.result.now p (record { alignment = 0; packed = false }) c.parts-parts.ensures (rw c.parts-parts.ensures below) in
     let all : map common_taker commons ≡ map common_taker done ++ common_taker common ∷ map common_taker rest.0
@@ -59,7 +60,7 @@ loop-common-preserved c =
     let next : List ℕ = c.loop-common.next in
     let old : List ℕ = c.args.next.now in
     let at = there all i common c.loop-common-test.true c.common-item.is in
-    let rest = around all i common at in
+    let rest = split_at all i common at in
     let below : p < length (all_parts link.plan.sections) = omega (arith, c.requires.goes i common at, c.as_usize-part.ensures) in
     let inside : p < length old = omega (arith, below, c.requires.count) in
     let part = read_part link c.parts-parts.result.now p (record { alignment = 0; packed = false }) c.parts-parts.ensures (rw c.parts-parts.ensures below) in

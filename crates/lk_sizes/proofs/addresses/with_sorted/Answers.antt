@@ -5,7 +5,8 @@ use Rattle.std.proofs.lemmas.List.{length-set}
 use Rattle.lk_sizes.specs.declared.sorted.InputSortedSection.{InputSortedSection}
 use Rattle.lk_sizes.specs.Tables.{AreBehind, AreWritten, HaveSortedSpace, sorted_bytes}
 use Rattle.lk_sizes.proofs.SortedPlaces.{none_behind, none_written, one_behind, one_written, room_behind}
-use Rattle.lk_sizes.proofs.Turns.{all_so_far, around, so_far, there}
+use Rattle.lk_reach.proofs.LiveWalk.{split_at}
+use Rattle.lk_ranks.proofs.Turns.{all_so_far, so_far, there}
 use Rattle.lk_sizes.proofs.addresses.with_sorted.Goals as goal
 
 pub loop-section-init : goal.loop-section-init
@@ -24,7 +25,7 @@ overflow_add-address c =
     let p : ℕ = c.as_usize-part.result in
     let next : List ℕ = c.loop-section.next.items in
     let at = there all i s c.loop-section-test.true c.section-item.is in
-    let rest = around all i s at in
+    let rest = split_at all i s at in
     let within : p < length c.args.next.items = omega (arith, (c.requires.there i s at).part, c.as_usize-part.ensures) in
     let inside : p < length next = omega (arith, within, c.loop-section.invariant.behind.count) in
     let read : slice_index next p ≡ c.index-address.result.now = sym (c.index-address.ensures ∙ get_or_default_zero next p c.index-address.result.now inside) in

@@ -3,7 +3,7 @@ use Rattle.std.proofs.lemmas.List.Sums.{sum_by_more}
 use Rattle.lk_link.specs.declared.ids.FileId.{FileId}
 use Rattle.lk_link.specs.Sizes.{capacity}
 use Rattle.lk_sizes.specs.ThunkSums.{block_bytes}
-use Rattle.lk_sizes.proofs.Turns.{all_so_far}
+use Rattle.lk_ranks.proofs.Turns.{all_so_far}
 use Rattle.lk_sizes.proofs.blocks.block_bytes.Goals as goal
 
 pub loop-owner-preserved : goal.loop-owner-preserved

@@ -6,7 +6,7 @@ use Rattle.lk_tables.specs.declared.commons.Common.{Common}
 use Rattle.lk_sizes.specs.Tables.{AreAdded}
 use Rattle.lk_sizes.proofs.CommonAdding.{one_added}
 use Rattle.lk_sizes.proofs.LiveParts.{read_alignment, read_part}
-use Rattle.lk_sizes.proofs.Turns.{so_far, there}
+use Rattle.lk_ranks.proofs.Turns.{so_far, there}
 use Rattle.lk_sizes.proofs.owners.add_commons.Goals as goal
 
 pub bounds-parts-part : goal.bounds-parts-part

@@ -1,5 +1,5 @@
 use Rattle.lk_sizes.specs.declared.sorted.InputSortedSection.{InputSortedSection}
-use Rattle.lk_sizes.proofs.Turns.{there}
+use Rattle.lk_ranks.proofs.Turns.{there}
 use Rattle.lk_sizes.proofs.resized.resize_sections.Goals as goal
 
 pub resize_section-requires-clause-there : goal.resize_section-requires-clause-there

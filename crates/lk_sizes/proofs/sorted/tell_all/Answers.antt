@@ -9,7 +9,7 @@ use Rattle.lk_link.proofs.Elements.{map_in}
 use Rattle.lk_sizes.specs.declared.sorted.InputSortedSection.{InputSortedSection}
 use Rattle.lk_sizes.specs.Harvest.{sorted_section}
 use Rattle.lk_sizes.specs.Owners.{own_sizes}
-use Rattle.lk_sizes.proofs.Turns.{all_so_far, so_far, there}
+use Rattle.lk_ranks.proofs.Turns.{all_so_far, so_far, there}
 use Rattle.lk_sizes.proofs.sorted.tell_all.Goals as goal
 
 -- the one that comes next is the next section

@@ -7,7 +7,7 @@ use Rattle.lk_link.specs.Inputs.{Input}
 use Rattle.lk_sizes.specs.declared.sorted.InputSortedSection.{InputSortedSection}
 use Rattle.lk_sizes.specs.Harvest.{sorted_section}
 use Rattle.lk_sizes.specs.Owners.{own_sizes}
-use Rattle.lk_sizes.specs.Ranks.{StandByKeys}
+use Rattle.lk_ranks.specs.Ranks.{StandByKeys}
 use Rattle.lk_sizes.specs.Sorted.{sorted_ones}
 use Rattle.lk_sizes.proofs.SortedKeys.{keys_within, told_by_keys}
 use Rattle.lk_sizes.proofs.sorted.tell_sorted.Goals as goal

@@ -46,8 +46,8 @@ tell_all-requires-clause-fit c k x at =
     let told = sorted_in link live lives.place x lives.there lives.sorted in
     c.requires.fit told.0 x told.1
 
-pub keys_by_name-requires : goal.keys_by_name-requires
-keys_by_name-requires c =
+pub sorted_keys-requires : goal.sorted_keys-requires
+sorted_keys-requires c =
     let link = c.args.link.now in
     let live = c.args.live.now in
     let found : List InputRef = c.in_ok-found.found.items in

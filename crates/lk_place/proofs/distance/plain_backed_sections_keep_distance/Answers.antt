@@ -1,5 +1,0 @@
-use Rattle.lk_place.proofs.SectionDistances.{plain_backed_sections_keep_distance}
-use Rattle.lk_place.proofs.distance.plain_backed_sections_keep_distance.Goals as goal
-
-pub returns : goal.returns
-returns c = plain_backed_sections_keep_distance

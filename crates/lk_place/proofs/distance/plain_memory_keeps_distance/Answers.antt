@@ -1,5 +1,0 @@
-use Rattle.lk_place.proofs.DistanceLaws.{plain_memory_keeps_distance}
-use Rattle.lk_place.proofs.distance.plain_memory_keeps_distance.Goals as goal
-
-pub returns : goal.returns
-returns c = plain_memory_keeps_distance

@@ -1,5 +1,0 @@
-use Rattle.lk_place.proofs.LoadLaws.{loads_go_by_what_stands}
-use Rattle.lk_place.proofs.laws.loads_go_by_what_stands.Goals as goal
-
-pub returns : goal.returns
-returns c = loads_go_by_what_stands

@@ -1,5 +1,0 @@
-use Rattle.lk_place.proofs.MassLaws.{parts_take_file_bytes}
-use Rattle.lk_place.proofs.laws.parts_take_file_bytes.Goals as goal
-
-pub returns : goal.returns
-returns c = parts_take_file_bytes

@@ -1,5 +1,0 @@
-use Rattle.lk_place.proofs.KeptAlignments.{records_keep_alignments}
-use Rattle.lk_place.proofs.laws.records_keep_alignments.Goals as goal
-
-pub returns : goal.returns
-returns c = records_keep_alignments

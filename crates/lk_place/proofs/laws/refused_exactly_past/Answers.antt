@@ -1,5 +1,0 @@
-use Rattle.lk_place.proofs.RefusalLaws.{refused_exactly_past}
-use Rattle.lk_place.proofs.laws.refused_exactly_past.Goals as goal
-
-pub returns : goal.returns
-returns c = refused_exactly_past

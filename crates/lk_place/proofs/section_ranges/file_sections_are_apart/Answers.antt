@@ -1,5 +1,0 @@
-use Rattle.lk_place.proofs.SectionRanges.{file_sections_are_apart}
-use Rattle.lk_place.proofs.section_ranges.file_sections_are_apart.Goals as goal
-
-pub returns : goal.returns
-returns c = file_sections_are_apart

@@ -1,5 +1,0 @@
-use Rattle.lk_place.proofs.SectionRanges.{plain_memory_sections_rise}
-use Rattle.lk_place.proofs.section_ranges.plain_memory_sections_rise.Goals as goal
-
-pub returns : goal.returns
-returns c = plain_memory_sections_rise

@@ -1,5 +1,0 @@
-use Rattle.lk_place.proofs.SectionSpans.{sections_fit}
-use Rattle.lk_place.proofs.section_ranges.sections_fit.Goals as goal
-
-pub returns : goal.returns
-returns c = sections_fit

@@ -1,0 +1,5 @@
+use Rattle.lk_place_laws.proofs.SectionDistances.{plain_backed_sections_keep_distance}
+use Rattle.lk_place_laws.proofs.distance.plain_backed_sections_keep_distance.Goals as goal
+
+pub returns : goal.returns
+returns c = plain_backed_sections_keep_distance

@@ -1,0 +1,3 @@
+pub mod GroupRanges
+pub mod OwnerLaws
+pub mod Tiles

@@ -1,5 +1,0 @@
-use Rattle.lk_sizes.proofs.CommonOnes.{commons_rise}
-use Rattle.lk_sizes.proofs.laws.commons_rise.Goals as goal
-
-pub returns : goal.returns
-returns c = commons_rise

@@ -1,5 +1,0 @@
-use Rattle.lk_sizes.proofs.OwnerPlaces.{identity_is_owner}
-use Rattle.lk_sizes.proofs.laws.identity_is_owner.Goals as goal
-
-pub returns : goal.returns
-returns c = identity_is_owner

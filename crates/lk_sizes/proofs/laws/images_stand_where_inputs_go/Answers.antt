@@ -1,5 +1,0 @@
-use Rattle.lk_sizes.proofs.ImagePlaces.{images_stand_where_inputs_go}
-use Rattle.lk_sizes.proofs.laws.images_stand_where_inputs_go.Goals as goal
-
-pub returns : goal.returns
-returns c = images_stand_where_inputs_go

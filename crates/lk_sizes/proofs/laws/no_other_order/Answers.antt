@@ -1,5 +1,0 @@
-use Rattle.lk_sizes.proofs.SortedOnes.{no_other_order}
-use Rattle.lk_sizes.proofs.laws.no_other_order.Goals as goal
-
-pub returns : goal.returns
-returns c = no_other_order

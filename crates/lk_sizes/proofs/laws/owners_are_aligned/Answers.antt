@@ -1,5 +1,0 @@
-use Rattle.lk_sizes.proofs.Tiling.{owners_are_aligned}
-use Rattle.lk_sizes.proofs.laws.owners_are_aligned.Goals as goal
-
-pub returns : goal.returns
-returns c = owners_are_aligned

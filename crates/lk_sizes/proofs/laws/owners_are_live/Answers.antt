@@ -1,5 +1,0 @@
-use Rattle.lk_sizes.proofs.OwnersLive.{owners_are_live}
-use Rattle.lk_sizes.proofs.laws.owners_are_live.Goals as goal
-
-pub returns : goal.returns
-returns c = owners_are_live

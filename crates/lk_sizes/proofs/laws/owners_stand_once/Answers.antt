@@ -1,5 +1,0 @@
-use Rattle.lk_sizes.proofs.OwnersOnce.{owners_stand_once}
-use Rattle.lk_sizes.proofs.laws.owners_stand_once.Goals as goal
-
-pub returns : goal.returns
-returns c = owners_stand_once

@@ -1,5 +1,0 @@
-use Rattle.lk_sizes.proofs.Tiling.{owners_tile}
-use Rattle.lk_sizes.proofs.laws.owners_tile_their_part.Goals as goal
-
-pub returns : goal.returns
-returns c = owners_tile
