@@ -27,7 +27,7 @@ pub record Pass : Type 0 where
   pub parts : ℕ
   pub sets : List FlagSet
 
--- a bit of a word is among those that were set, once by a step that found it missing
+-- a bit of a word is among those that were set, by a step that found it missing
 pub record IsSet (sets : List FlagSet) (n i : ℕ) : Type 0 where
   pub one : FlagSet
   pub among : Contains sets one
@@ -35,7 +35,7 @@ pub record IsSet (sets : List FlagSet) (n i : ℕ) : Type 0 where
   pub bit : bit_at one.bits i ≡ 1
   pub missing : bit_at one.found i ≡ 0
 
--- a word as it is found: it has what was handed in and what was set before, and nothing beyond its bound
+-- a word as it is found: it has what was handed in and the bits that these sets gave it, and nothing beyond its bound
 pub record IsFound (handed words : List ℕ) (sets : List FlagSet) (word found : ℕ) : Type 0 where
   pub handed_in : Within (slice_index handed word) found
   pub bounded : Within found (slice_index words word)
@@ -48,7 +48,7 @@ pub record AreLeft (handed words : List ℕ) (sets : List FlagSet) (left : List 
   pub bounded : AllWithin left words
   pub own : AreIn sets left
 
--- words have nothing but what was handed in and what was set, each bit once by a step that found it missing
+-- words have nothing but what was handed in and what was set; each bit that wasn't handed in was set by a step that found it missing
 abbrev pub HaveNoMore : List ℕ → List FlagSet → List ℕ → Type 0
 HaveNoMore handed sets words = (n i : ℕ) → bit_at (slice_index words n) i ≡ 1 → (bit_at (slice_index handed n) i ≡ 1) ⊎ IsSet sets n i
 

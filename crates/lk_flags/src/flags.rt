@@ -58,7 +58,7 @@ impl Join<View> for Cut {
     ghost spent = { view_of 0 [] };
 }
 
-/// Words of flags, the first of them spare. Contracts see which table it is (libwild: `AtomicPerSymbolFlags`).
+/// Words of flags, at least one. Contracts see which table it is (libwild: `AtomicPerSymbolFlags`).
 #[derive(Drop)]
 pub struct FlagTable<J: Reach> {
     table: Table<u8, View, (), Flags<J>, Global>,
@@ -77,8 +77,8 @@ impl<J: Reach> Model for FlagTable<J> {
     ghost invariant = { λ t. (t.table.shared.table_id.words ≡ length J.lists.words) × (t.table.shared.table_id.slots ≡ 0) × (0 < length J.lists.words) × (length t.room.items ≡ length J.lists.words) };
 }
 
-/// The right to set flags in a table. Contracts see which table, how many parts of the right it is, and what was set and found. One that
-/// has all parts has set all that was ever set there. It takes no bytes.
+/// The right to set flags in a table. Contracts see which table, how many parts of the right it is, and what was set and found. Of one
+/// that has all parts `close` tells that words have nothing else. That it takes no bytes no clause says.
 #[derive(Drop)]
 pub struct FlagPass {
     seat: Seat<u8, View>,
@@ -96,8 +96,8 @@ impl Model for FlagPass {
 }
 
 impl<J: Reach> FlagTable<J> {
-    /// A table of these words, the flags that are handed in, with the first pass for it, which has all parts. Takes room for the words
-    /// twice.
+    /// A table of these words, the flags that are handed in, with the first pass for it, which has all parts and has set nothing. It
+    /// keeps room for the words twice, which no clause says.
     pub fn new(alloc: Global, words: &[u64]) -> Result<(FlagTable<J>, FlagPass), AllocError>
         requires handed { words.now ≡ J.lists.handed }
         requires count { length J.lists.handed ≡ length J.lists.words }

@@ -1,5 +1,5 @@
-//! Words of flags that threads share, one for each symbol behind a spare one. A word only ever gains flags; it never has any beyond
-//! its bound, and what a thread set it finds again.
+//! Words of flags that threads share. A word as it is found has what was handed in and what the pass that finds it had set there, and
+//! nothing beyond its bound. How all that was set goes together is told once all passes are joined and the table is closed.
 #![tactic(auto)]
 
 pub mod flags;

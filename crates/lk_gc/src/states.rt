@@ -126,8 +126,9 @@ impl<'data> FileLayoutState<'data> {
     ghost use Rattle.lk_link.specs.WellFormed.{IsWellFormed};
     ghost use Rattle.lk_gc.specs.States.{IsStateOf};
 
-    /// The state of a file of a link, by its kind, with the numbers of its symbols and its name, lent; none where there is no
-    /// such file. Takes constant time and no memory. No file is the epilogue.
+    /// The state of a file of a link, by its kind: its number and those of its symbols, unless it isn't loaded, and the name of an
+    /// object, a shared object or a script, lent; none where there is no such file. No file is the epilogue. Takes constant time,
+    /// which no clause says, and no memory.
     pub fn of_file(link: &'data LinkInput, file_id: FileId) -> Option<FileLayoutState<'data>>
         requires { IsWellFormed link.now }
         ensures { MatchOption result (file_in link.now.groups file_id ≡ None) (IsStateOf link.now file_id) }
@@ -178,7 +179,8 @@ fn state_of(
 }
 
 impl<'data> GroupState<'data> {
-    /// The state of the group of a link that has this number, if there is one. Takes constant time and no memory.
+    /// The state of the group of a link that has this number: the number, and the group's files, lent; none where there is no such
+    /// group. Takes constant time, which no clause says, and no memory.
     pub fn of_group(link: &'data LinkInput, group: u32) -> Option<GroupState<'data>>
         ensures { MatchOption result (slice_get link.now.groups group ≡ None) (IsGroupStateOf link.now group) }
     {

@@ -3,23 +3,25 @@
 //! A worker goes through a list of asks once for each unit that asks for it; a walk on one thread goes through it for the first one alone.
 //! Where a long list is shared by many units, workers would take the product of the two numbers, so such a link is walked on one thread.
 
-ghost use Rattle.std.specs.Prelude.{◌≤◌};
+ghost use Rattle.std.specs.Prelude.{◌≡◌, ◌≤◌, ◌⊎◌, min};
 
 use lk_link::{Candidates, InputFile, InputSections, InputSymbol, LinkInput};
 
-/// `walkers` answers no more than these; a greater number counts as this.
+/// `walkers` answers no more than these.
 pub const MOST_WORKERS: u32 = 64;
 
 /// A list that so many units at most share, or that has so many items at most, counts as short: workers then take at most so many times
 /// what one thread takes.
 const SHORT: usize = 64;
 
-/// How many workers look for what is reached of a link, where so many are asked for: 64 at most, and 1 at most where many units share a
-/// long list of asks (that no clause says). Looks once at each file, and at symbols and sections of those whose lists may be long; takes
-/// no memory.
+/// How many workers look for what is reached of a link, where so many are asked for: these, but 64 at most; or 1 at most, where many
+/// units share a long list of asks. Which of both it is no clause says. Looks once at each file, and at symbols and sections of those
+/// whose lists may be long; takes no memory.
 pub fn walkers(link: &LinkInput, workers: u32) -> u32
     ensures few { result ≤ 64 }
     ensures asked { result ≤ workers }
+    ensures some { 1 ≤ workers → 1 ≤ result }
+    ensures either { (result ≡ min workers 64) ⊎ (result ≡ min workers 1) }
 {
     if shares_long_lists(link) {
         workers.min(1)

@@ -2,7 +2,7 @@
 
 use crate::traversal::kept::{add_exports, add_states, add_traversals};
 use crate::traversal::reached::{add_asks, add_reached};
-use crate::traversal::workers::{add_by_turns, add_in_lock_step};
+use crate::traversal::workers::{add_by_turns, add_in_lock_step, add_walks};
 use lk_input::{InputError, read_link};
 use lk_link::LinkInput;
 use std::alloc::{AllocError, Global};
@@ -30,6 +30,8 @@ pub enum OfTraversal {
     Turns,
     /// What two workers find in lock step.
     LockStep,
+    /// Whether no, one and four workers answer what is reached.
+    Walks,
 }
 
 /// Adds what is answered of a link.
@@ -48,6 +50,7 @@ fn add_of(
         OfTraversal::Traversals => add_traversals(rt, alloc, line, link),
         OfTraversal::Turns => add_by_turns(rt, alloc, line, link),
         OfTraversal::LockStep => add_in_lock_step(rt, alloc, line, link),
+        OfTraversal::Walks => add_walks(rt, alloc, line, link),
     }
 }
 

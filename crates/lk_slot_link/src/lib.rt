@@ -1,4 +1,4 @@
-//! The slot machine over a link: what workers do to its units, in any order, and what they come to.
+//! The slot machine over a link: what its steps do to the link's units, in any order, and what they come to.
 #![tactic(auto)]
 
 pub mod laws;

@@ -6,6 +6,7 @@ mod GivingUp
 mod GoingOn
 mod GroupFiles
 mod Handing
+mod Idle
 mod Making
 mod Sharing
 mod Stepping

@@ -1,6 +1,6 @@
 //! What a traversal came to, and whether that is all: a group is closed where none of its asks is open.
 
-ghost use Rattle.std.specs.Prelude.{◌≡◌, ◌<◌, ℕ, All, Bool, false, IfNone, IfOk, IfSome, Some, length, slice_index, slice_index_or};
+ghost use Rattle.std.specs.Prelude.{◌≡◌, ◌<◌, ℕ, All, Bool, false, IfNone, IfOk, IfSome, Some, length, slice_index, slice_index_or, true};
 ghost use Rattle.std.specs.List.{list_all};
 ghost use Rattle.lk_link.specs.Files.{file_in};
 ghost use Rattle.lk_link.specs.Flags.{has_flag};
@@ -293,8 +293,8 @@ impl<J: Reach + Send + Sync> Closed<J> {
         self.are_shares_closed(rt, alloc, link, workers.max(1) as usize)
     }
 
-    /// The marks and the words, where no group has an open ask: then they are all that is reached, and all flags. So many workers
-    /// look for one side by side, each on a thread of its own; none counts as one. Takes a mark for each worker.
+    /// The marks and the words, as they are, exactly where no group has an open ask: then they are all that is reached, and all flags.
+    /// So many workers look for an open ask side by side, each on a thread of its own; none counts as one. Takes a mark for each worker.
     pub fn into_whole<R: Threads + Sync>(
         self,
         rt: &R,
@@ -305,6 +305,8 @@ impl<J: Reach + Send + Sync> Closed<J> {
         requires { AreListsOf J.lists link.now }
         ensures marks { IfOk result (λ whole. IfSome whole (λ r. r.0.items ≡ J.lists.units)) }
         ensures words { IfOk result (λ whole. IfSome whole (λ r. r.1.items ≡ J.lists.words)) }
+        ensures own { IfOk result (λ whole. IfSome whole (λ r. (r.0.items ≡ self.done) × (r.1.items ≡ self.words))) }
+        ensures some { IfOk result (λ whole. IfSome whole (λ _. are_groups_closed self link.now ≡ true)) }
         ensures none { IfOk result (λ whole. IfNone whole (are_groups_closed self link.now ≡ false)) }
     {
         if !self.is_whole_by_workers(rt, alloc, link, workers)? {

@@ -25,8 +25,8 @@ use std::marker::{Model, PhantomData};
 use std::sync::Wait;
 
 /// The state of a group: whether it is activated, its own items, and which of its symbols and sections are done. All of these are the
-/// group's own, and there is reason for them. Contracts also see what its steps left for other groups. It lies behind a lock (libwild:
-/// `GroupState`).
+/// group's own, and there is reason for them. Contracts also see what its steps noted as left for other groups. In a traversal it lies
+/// behind a lock (libwild: `GroupState`).
 #[derive(Drop)]
 pub struct GroupState<J: Reach> {
     group: u32,
@@ -88,8 +88,8 @@ impl<J: Reach> GroupState<J> {
         &self.sections
     }
 
-    /// Passes an item on: to the group's own list, or to the slot of the group that it belongs to. Without memory it is given up, and all
-    /// stays as it is.
+    /// Passes an item on: to the group's own list, or, noted as left, to a slot of the group that it belongs to. Without memory it is given
+    /// up, and all stays as it is.
     fn pass_on<R: Wait>(
         &mut self,
         traversal: &Traversal<'_, J>,

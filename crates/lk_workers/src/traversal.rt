@@ -85,12 +85,13 @@ impl<'l, J: Reach> Model for Traversal<'l, J> {
 
     ghost view = { λ t. record { link = t.link.now; table = t.table } };
 
-    ghost invariant = { λ t. AreListsOf J.lists t.link.now × (t.symbol_groups.items ≡ groups_of_symbols J.lists.groups) × AreReached J.lists t.room.items × AreMarksOf [] t.room.items × (length t.states.items ≡ length t.link.now.groups) };
+    ghost invariant = { λ t. AreListsOf J.lists t.link.now × (t.symbol_groups.items ≡ groups_of_symbols J.lists.groups) × AreReached J.lists t.room.items × AreMarksOf [] t.room.items × (length t.states.items ≡ length t.link.now.groups) × (length t.slots.items ≡ length t.link.now.groups) };
 }
 
 impl<'l, J: Reach> Traversal<'l, J> {
-    /// A traversal of a link, and the first pass for its flags, which has all parts and has set nothing. Takes a slot, a state and two
-    /// turns for each group, twice a mark for each unit, twice a word and once a number for each symbol.
+    /// A traversal of a link, and the first pass for its flags, which has all parts and has set nothing. What it takes no clause says: a
+    /// slot, a state and two turns for each group, two marks for each unit, a number and two words for each symbol, and a third such
+    /// word while the table is made.
     pub fn new(
         alloc: Global,
         link: &'l LinkInput,
@@ -216,7 +217,9 @@ fn push_group(groups: &mut Vec<u32>, file: FileRef<'_>) -> Result<(), AllocError
 fn slots_of<J: Reach>(
     alloc: Global,
     link: &LinkInput,
-) -> Result<Vec<Mutex<WorkerSlot<J>>>, AllocError> {
+) -> Result<Vec<Mutex<WorkerSlot<J>>>, AllocError>
+    ensures { IfOk result (λ slots. length slots.items ≡ length link.now.groups) }
+{
     let mut slots = Vec::with_capacity(alloc, link.groups.len())?;
     let mut group = 0u32;
     for _ in link.groups.as_slice() {
@@ -356,9 +359,9 @@ impl<J: Reach> Traversal<'_, J> {
             .set(pass, symbol.as_usize() + 1, u64::from(flags.0))
     }
 
-    /// Leaves an item in the slot of its group, which can run from then on, and adds it to what was sent. Without memory, or without such
-    /// a slot, the item is given up, and what was sent stays as it is. Where there is no memory to note that the group can run, what it
-    /// was left stays undone.
+    /// Leaves an item in a slot of its group, and adds it to what was sent. Without memory, or without such a slot, the item is given up,
+    /// and what was sent stays as it is. No clause says that the slot is the one that the group looks into, nor that a group that had
+    /// parked can run from then on; where there is no memory to note that it can, what it was left stays undone.
     pub fn send<R: Wait>(
         &self,
         rt: &R,
@@ -410,7 +413,8 @@ impl<J: Reach> Traversal<'_, J> {
     }
 
     /// Runs a group, step by step, until it has nothing left to do and nothing waits for it. The gate is entered before each step.
-    /// What is given up for want of memory stays undone, and the group goes on (libwild: `do_pending_work`).
+    /// What is given up for want of memory stays undone, and the group goes on. All that clauses say of this is that the pass keeps its
+    /// table, its parts and what it had set (libwild: `do_pending_work`).
     pub fn run_group<R: Wait, G: Gate>(&self, rt: &R, pass: &mut FlagPass, gate: &G, group: u32)
         requires own { pass.old.table ≡ self.now.table }
         requires gate { G.may_enter gate.now }

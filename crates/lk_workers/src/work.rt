@@ -1,4 +1,4 @@
-//! What waits to be loaded on one thread.
+//! Items, each of which loads a unit or exports a symbol, and lists of them.
 
 ghost use Rattle.std.specs.Prelude.{◌≡◌, ◌==◌, ◌++◌, ◌∷◌, [], IfNone, IfSome, OnErr, OnOk, length, take};
 ghost use Rattle.std.specs.Option.{option_to_list};

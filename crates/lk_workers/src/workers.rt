@@ -2,7 +2,7 @@
 
 ghost use Rattle.std.specs.Prelude.{◌≡◌, ◌<◌, IfOk};
 ghost use Rattle.lk_link.specs.WellFormed.{IsWellFormed};
-ghost use Rattle.lk_reach.specs.Marks.{flag_words, reached_marks};
+ghost use Rattle.lk_reach.specs.Marks.{flag_words, handed_in, reached_marks};
 ghost use Rattle.lk_workers.specs.Asked.{AreListsOf};
 ghost use Rattle.lk_workers.specs.Traversals.{GoesOn};
 
@@ -37,8 +37,8 @@ fn work<J: Reach, R: Wait, G: Gate>(
     unreachable!()
 }
 
-/// Runs all groups by so many workers, and answers a pass that has set all that theirs set: it has as many parts as the one that is
-/// handed in, of which each worker's has one. Waits for them.
+/// Has so many workers run all groups, and waits for them, of which no clause tells. Answers a pass that has set all that theirs set: it
+/// has as many parts as the one that is handed in, of which each worker's has one. With no worker nothing is set.
 #[tactic(auto, using(crate::proofs::GoingOn::joined_on))]
 pub fn run_all<J: Reach + Send + Sync, R: Threads + Wait + Sync, G: Gate + Sync>(
     traversal: &Traversal<'_, J>,
@@ -54,7 +54,11 @@ pub fn run_all<J: Reach + Send + Sync, R: Threads + Wait + Sync, G: Gate + Sync>
     ensures table { IfOk result (λ p. p.table ≡ traversal.now.table) }
     ensures parts { IfOk result (λ p. p.parts ≡ pass.parts) }
     ensures sets { IfOk result (λ p. GoesOn pass.sets p.sets) }
+    ensures idle { workers ≡ 0 → IfOk result (λ p. p.sets ≡ pass.sets) }
 {
+    if workers == 0 {
+        return Ok(pass);
+    }
     let mut pass = pass;
     let mut passes = Vec::with_capacity(alloc, workers as usize)?;
     for index in 0..workers {
@@ -87,6 +91,7 @@ fn walk<J: Reach + Send + Sync, R: Threads + Wait + Sync, G: Gate + Sync>(
     requires gate { G.may_enter gate.now }
     ensures marks { IfOk result (λ r. r.0.items ≡ J.lists.units) }
     ensures words { IfOk result (λ r. r.1.items ≡ J.lists.words) }
+    ensures idle { workers ≡ 0 → IfOk result (λ r. r.1.items ≡ J.lists.handed) }
 {
     let (traversal, pass) = Traversal::<J>::new(alloc, link)?;
     // A group is run by one worker at a time, so more than there are groups would only wait.
@@ -99,10 +104,11 @@ fn walk<J: Reach + Send + Sync, R: Threads + Wait + Sync, G: Gate + Sync>(
     }
 }
 
-/// What is reached of a link: for each unit whether it is, and behind a spare word the flags of each symbol, found by so many workers,
-/// but one for each group at most, each on a thread of its own. The gate is entered before each step. A worker that finds no memory
-/// gives up what it was about to do, and goes on; where anything is open at the end, memory ran out. With no worker nothing is found
-/// where anything is asked for, as no clause says (libwild: `traverse_reference_graph`).
+/// What is reached of a link: for each unit whether it is, and behind a spare word the flags of each symbol. How that is found no clause
+/// says: by so many workers, but one for each group at most, each on a thread of its own, which enter the gate before each step. A
+/// worker that finds no memory gives up what it was about to do, and goes on; where anything is open at the end, the answer is that
+/// memory ran out. So it is with no worker where anything is asked for; of that a clause says that then it answers `Ok` only where all
+/// flags are those that are handed in (libwild: `traverse_reference_graph`).
 pub fn walk_by_workers<R: Threads + Wait + Sync, G: Gate + Sync>(
     rt: &R,
     alloc: Global,
@@ -114,6 +120,7 @@ pub fn walk_by_workers<R: Threads + Wait + Sync, G: Gate + Sync>(
     requires gate { G.may_enter gate.now }
     ensures marks { IfOk result (λ r. r.0.items ≡ reached_marks link.now) }
     ensures words { IfOk result (λ r. r.1.items ≡ flag_words link.now) }
+    ensures idle { workers ≡ 0 → IfOk result (λ r. r.1.items ≡ handed_in link.now) }
 {
     walk::<Brand, R, G>(rt, alloc, link, workers, gate)
 }

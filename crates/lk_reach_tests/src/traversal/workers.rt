@@ -1,4 +1,4 @@
-//! Workers by their own calls: groups that run in turn, what the slot of a group answers, and two workers in lock step.
+//! Workers by their own calls: groups that run in turn, what the slot of a group answers, two workers in lock step, and a walk by none.
 
 ghost use Rattle.std.specs.Prelude.{◌≡◌, IfOk, Some};
 ghost use Rattle.lk_link.specs.WellFormed.{IsWellFormed};
@@ -17,7 +17,7 @@ use lk_link::marks::is_marked;
 use lk_link::{LinkInput, NoGate, SymbolId};
 use lk_reach::{Unit, Walk};
 use lk_test_rows::{LockStep, add};
-use lk_workers::{Closed, LocalWorkQueue, Traversal, WorkItem, WorkerSlot};
+use lk_workers::{Closed, LocalWorkQueue, Traversal, WorkItem, WorkerSlot, walk_by_workers};
 use std::alloc::{AllocError, Global};
 use std::marker::Brand;
 use std::sync::Wait;
@@ -38,6 +38,13 @@ const TURNS: &str = r#"
 /// the other has had as many.
 const LOCK_STEP: &str = r#"
 {"plan":{"page":16,"sections":[{"attrs":1,"parts":[[1,false]]}],"events":[["sec",0]]},"groups":[[{"kind":"prelude"}],[{"kind":"object","sections":[«100 of {"slot":"must"}»]}],[{"kind":"object","sections":[«100 of {"slot":"must"}»]}]]} => live 200 in step true
+"#;
+
+/// Whether no, one and four workers answer what is reached: none does where anything is asked for, since nothing is done then.
+const WALKS: &str = r#"
+@ {"plan":{"page":16,"sections":[{"attrs":1,"parts":[[1,false]]}],"events":[["sec",0]]},"groups":[[{"kind":"prelude"}],[...]]}
+{"kind":"object","sections":[{"slot":"must","size":1}]} => workers 0 answer false workers 1 answer true workers 4 answer true
+{"kind":"object","sections":[{"slot":"unloaded","size":1}]} => workers 0 answer true workers 1 answer true workers 4 answer true
 "#;
 
 /// Runs so many groups, one after the other.
@@ -206,6 +213,35 @@ fn add_lock_step(
     add(line, "in step", &gate.was_kept())
 }
 
+/// Adds whether so many workers answer what is reached of a link.
+fn add_walk(
+    rt: &(impl Threads + Wait + Sync),
+    alloc: Global,
+    line: &mut String,
+    link: &LinkInput,
+    workers: u32,
+) -> Result<(), AllocError>
+    requires { IsWellFormed link.now }
+{
+    let walked = walk_by_workers(rt, alloc, link, workers, &NoGate);
+    add(line, "workers", &workers)?;
+    add(line, "answer", &walked.is_ok())
+}
+
+/// Adds whether no, one and four workers answer what is reached.
+fn add_all_walks(
+    rt: &(impl Threads + Wait + Sync),
+    alloc: Global,
+    line: &mut String,
+    link: &LinkInput,
+) -> Result<(), AllocError>
+    requires { IsWellFormed link.now }
+{
+    add_walk(rt, alloc, line, link, 0)?;
+    add_walk(rt, alloc, line, link, 1)?;
+    add_walk(rt, alloc, line, link, 4)
+}
+
 /// Adds what groups come to that run in turn, of a link that is well formed.
 pub fn add_by_turns(
     rt: &impl Wait,
@@ -232,6 +268,19 @@ pub fn add_in_lock_step(
     add_lock_step(rt, alloc, line, link)
 }
 
+/// Adds whether so many workers answer what is reached of a link that is well formed.
+pub fn add_walks(
+    rt: &(impl Threads + Wait + Sync),
+    alloc: Global,
+    line: &mut String,
+    link: &LinkInput,
+) -> Result<(), AllocError> {
+    if check_link(link).is_err() {
+        return Ok(());
+    }
+    add_all_walks(rt, alloc, line, link)
+}
+
 #[test]
 fn groups_run_in_turn(rt: HostRuntime) -> Result<(), Fail> {
     expect_rows(&rt, rt.alloc(), Asked::Traversal(OfTraversal::Turns), TURNS)
@@ -245,4 +294,9 @@ fn two_workers_run_in_lock_step(rt: HostRuntime) -> Result<(), Fail> {
         Asked::Traversal(OfTraversal::LockStep),
         LOCK_STEP,
     )
+}
+
+#[test]
+fn no_worker_finds_nothing(rt: HostRuntime) -> Result<(), Fail> {
+    expect_rows(&rt, rt.alloc(), Asked::Traversal(OfTraversal::Walks), WALKS)
 }
