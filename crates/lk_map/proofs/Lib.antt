@@ -1,3 +1,4 @@
+pub mod Ahead
 pub mod Among
 pub mod Cuts
 pub mod Digits

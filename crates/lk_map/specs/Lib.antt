@@ -1,3 +1,4 @@
+pub mod Ahead
 pub mod Checking
 pub mod Cutting
 pub mod Digits

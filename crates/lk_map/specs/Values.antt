@@ -1,8 +1,7 @@
 -- Private: what the values of a line are, as the code holds them.
-use Rattle.std.specs.Prelude.{ℕ, Bool, true, false, List, [], ◌∷◌, Option, Some, None, take}
+use Rattle.std.specs.Prelude.{ℕ, Bool, true, false, List, Option, Some, None, take}
 use Rattle.lk_map.specs.declared.forms.Form.{Form}
 use Rattle.lk_map.specs.declared.lines.Values.{Values}
-use Rattle.lk_map.specs.Cutting.{parts_left}
 use Rattle.lk_map.specs.Lines.{Line}
 
 -- the values
@@ -18,8 +17,3 @@ values_if false values = None
 abbrev pub line_if : Option Form → List (Option ℕ) → Option Line
 line_if None values = None
 line_if (Some form) values = Some (record { form = form; values = values })
-
--- a word, and those of what is left behind it; or no word
-abbrev pub words_at : Option (List ℕ) → Option (List ℕ) → List (List ℕ)
-words_at None rest = []
-words_at (Some word) rest = word ∷ parts_left 32 rest

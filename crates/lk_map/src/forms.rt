@@ -106,7 +106,8 @@ pub const ENTRY_RANK: u8 = 11;
 /// That of the last line.
 pub const END_RANK: u8 = 12;
 
-/// A word as it is written.
+/// A word as it is written. Kept apart, where it is a look into a table: within its caller each word would be a branch of its own.
+#[inline(never)]
 #[tactic(auto, unfolding(crate::specs::Forms::word_text))]
 pub fn text_of(word: Word) -> &'static str
     ensures { result.now ≡ word_text word }

@@ -1,8 +1,9 @@
 //! Numbers as a map writes them.
 
-ghost use Rattle.std.specs.Prelude.{◌≡◌, ℕ, ◌≤◌, ◌<◌, ◌^◌, ◌+◌, ◌*◌, nat_lt, Some, None, MatchOption, if◌then◌else◌};
+ghost use Rattle.std.specs.Prelude.{◌≡◌, ℕ, ◌≤◌, ◌<◌, ◌^◌, ◌+◌, ◌*◌, nat_lt, Some, None, IfSome, MatchOption, if◌then◌else◌, length, option_copied, take};
 ghost use Rattle.std.specs.Str.Parse.{digits_value};
 ghost use Rattle.std.specs.Char.{digit_value};
+ghost use Rattle.lk_map.specs.Ahead.{Begins};
 ghost use Rattle.lk_map.specs.Digits.{AreDigitsIn, IsDigitIn};
 ghost use Rattle.lk_map.specs.Numbers.{address_in, number_in};
 
@@ -64,6 +65,121 @@ pub fn read_address(word: &[u8]) -> Option<u64>
 {
     if word.len() >= 2 && word[0] == b'0' && word[1] == b'x' {
         read_number(16, &word[2..])
+    } else {
+        None
+    }
+}
+
+// ---- numbers where they stand
+
+/// What each byte counts as a digit below 16, in lower case: 16 where it is none. A table, since a branch can't foresee a digit.
+const DIGITS: [u8; 256] = [
+    16, 16, 16, 16, 16, 16, 16, 16, 16, 16, 16, 16, 16, 16, 16, 16, 16, 16, 16, 16, 16, 16, 16, 16,
+    16, 16, 16, 16, 16, 16, 16, 16, 16, 16, 16, 16, 16, 16, 16, 16, 16, 16, 16, 16, 16, 16, 16, 16,
+    0, 1, 2, 3, 4, 5, 6, 7, 8, 9, 16, 16, 16, 16, 16, 16, 16, 16, 16, 16, 16, 16, 16, 16, 16, 16,
+    16, 16, 16, 16, 16, 16, 16, 16, 16, 16, 16, 16, 16, 16, 16, 16, 16, 16, 16, 16, 16, 16, 16, 10,
+    11, 12, 13, 14, 15, 16, 16, 16, 16, 16, 16, 16, 16, 16, 16, 16, 16, 16, 16, 16, 16, 16, 16, 16,
+    16, 16, 16, 16, 16, 16, 16, 16, 16, 16, 16, 16, 16, 16, 16, 16, 16, 16, 16, 16, 16, 16, 16, 16,
+    16, 16, 16, 16, 16, 16, 16, 16, 16, 16, 16, 16, 16, 16, 16, 16, 16, 16, 16, 16, 16, 16, 16, 16,
+    16, 16, 16, 16, 16, 16, 16, 16, 16, 16, 16, 16, 16, 16, 16, 16, 16, 16, 16, 16, 16, 16, 16, 16,
+    16, 16, 16, 16, 16, 16, 16, 16, 16, 16, 16, 16, 16, 16, 16, 16, 16, 16, 16, 16, 16, 16, 16, 16,
+    16, 16, 16, 16, 16, 16, 16, 16, 16, 16, 16, 16, 16, 16, 16, 16, 16, 16, 16, 16, 16, 16, 16, 16,
+    16, 16, 16, 16, 16, 16, 16, 16, 16, 16, 16, 16, 16, 16,
+];
+
+/// What a byte counts as a digit below 16, by the table.
+#[inline(always)]
+fn hex_digit(byte: u8) -> u64
+    ensures { (base : ℕ) → base ≤ 16 → result < base → IsDigitIn base byte × (digit_value byte ≡ result) }
+{
+    u64::from(DIGITS[usize::from(byte)])
+}
+
+/// What a byte counts as a digit below 10: 16 where it is none.
+#[inline(always)]
+fn decimal_digit(byte: u8) -> u64
+    ensures { (base : ℕ) → base ≤ 16 → result < base → IsDigitIn base byte × (digit_value byte ≡ result) }
+{
+    match byte {
+        b'0'..=b'9' => u64::from(byte - b'0'),
+        _ => 16,
+    }
+}
+
+/// What a byte counts as a digit of a base: no less than the base where it is none.
+#[inline(always)]
+fn digit_in(base: u64, byte: u8) -> u64
+    requires { base ≤ 16 }
+    ensures { result < base → IsDigitIn base byte × (digit_value byte ≡ result) }
+{
+    if base <= 10 {
+        decimal_digit(byte)
+    } else {
+        hex_digit(byte)
+    }
+}
+
+/// The number that the first digits of a text write in a base, and how many they are: all that stand there, but no more than so many.
+#[inline(always)]
+fn first_digits(base: u64, most: usize, text: &[u8]) -> (u64, usize)
+    requires high { base ≤ 16 }
+    requires fits { base ^ most ≤ 2 ^ 64 }
+    ensures within { result.1 ≤ length text.now }
+    ensures digits { AreDigitsIn base (take result.1 text.now) }
+    ensures value { digits_value base (take result.1 text.now) ≡ result.0 }
+{
+    let mut value: u64 = 0;
+    let end = text.len().min(most);
+    for count in 0..end {
+        let digit = digit_in(base, text[count]);
+        if digit >= base {
+            return (value, count);
+        }
+        value = value * base + digit;
+    }
+    (value, end)
+}
+
+/// The number that a text's first word writes in a base, if it has no more than so many digits, and what stands behind that word's blank.
+/// Each byte is looked at once, and no sum is tested, so this is faster than to cut the word off and read it.
+#[inline(always)]
+fn number_ahead(base: u64, most: usize, text: &[u8]) -> Option<(u64, Option<&[u8]>)>
+    requires low { 2 ≤ base }
+    requires high { base ≤ 16 }
+    requires fits { base ^ most ≤ 2 ^ 64 }
+    ensures { IfSome result (λ found. Begins text.now (option_copied found.1) (λ word. number_in base word ≡ Some found.0)) }
+{
+    let (number, count) = first_digits(base, most, text);
+    if count == 0 {
+        return None;
+    }
+    if count > 1 && text[0] == b'0' {
+        return None;
+    }
+    if count == text.len() {
+        return Some((number, None));
+    }
+    if text[count] != b' ' {
+        return None;
+    }
+    Some((number, Some(&text[count + 1..])))
+}
+
+/// The same in decimal. One of 20 digits is left to be cut off.
+#[inline(always)]
+pub fn decimal_ahead(text: &[u8]) -> Option<(u64, Option<&[u8]>)>
+    ensures { IfSome result (λ found. Begins text.now (option_copied found.1) (λ word. number_in 10 word ≡ Some found.0)) }
+{
+    number_ahead(10, 19, text)
+}
+
+/// The same of an address.
+#[inline(always)]
+pub fn address_ahead(text: &[u8]) -> Option<(u64, Option<&[u8]>)>
+    ensures { IfSome result (λ found. Begins text.now (option_copied found.1) (λ word. address_in word ≡ Some found.0)) }
+{
+    if text.len() >= 2 && text[0] == b'0' && text[1] == b'x' {
+        number_ahead(16, 16, &text[2..])
     } else {
         None
     }
